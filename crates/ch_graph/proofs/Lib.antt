@@ -1,1 +1,3 @@
 pub mod HeaviestArc
+pub mod LabelSteps
+pub mod Entries

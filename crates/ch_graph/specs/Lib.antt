@@ -1,2 +1,4 @@
 pub mod Walk
 pub mod Graph
+pub mod Labels
+pub mod Queue

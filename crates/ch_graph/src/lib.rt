@@ -6,7 +6,9 @@
 //! answer of the workspace is compared with.
 #![tactic(auto)]
 
+mod frontier;
 mod graph;
+mod label;
 mod road;
 
 pub use graph::Graph;

@@ -1,0 +1,84 @@
+ghost use Rattle.std.specs.Prelude.{◌≡◌, ◌<◌, length, replicate, slice_set, IfOk, OnOk, IfSome, IfNone};
+ghost use Rattle.ch_graph.specs.Labels.{IsOffered, IsLeastOpen, NoneOpen};
+ghost use Rattle.ch_graph.specs.declared.label.Label.TheVariants as label;
+
+use crate::label::Label;
+use ch_cost::Cost;
+use std::alloc::{AllocError, Global};
+use std::cmp::Reverse;
+use std::collections::BinaryHeap;
+use std::marker::Model;
+
+/// The labels of a search, and which open node has the least cost.
+///
+/// The queue may hold older, dearer entries of a node; they are passed over when they come up. It holds one entry
+/// at most for each offer.
+#[derive(Drop)]
+pub struct Frontier {
+    labels: Vec<Label>,
+    queue: BinaryHeap<Reverse<(Cost, u32)>>,
+}
+
+impl Model for Frontier {
+    ghost use Rattle.std.specs.Prelude.{List};
+    ghost use Rattle.std.specs.BinaryHeap.{heap_items};
+    ghost use Rattle.ch_graph.specs.declared.label.Label.{Label};
+    ghost use Rattle.ch_graph.specs.Queue.{IsQueue};
+
+    ghost Value = { List Label };
+
+    ghost view = { λ f. f.labels.items };
+
+    ghost invariant = { λ f. IsQueue f.labels.items (heap_items f.queue) };
+}
+
+/// A node that was settled, and the cost of the least walk to it.
+#[derive(Clone, Copy, Debug)]
+pub struct Reached {
+    /// The node, numbered from 0.
+    pub node: u32,
+    /// What the least walk to it costs.
+    pub cost: Cost,
+}
+
+impl Frontier {
+    /// Labels for so many nodes, none of them seen.
+    pub fn new(alloc: Global, nodes: u32) -> Result<Frontier, AllocError>
+        ensures { IfOk result (λ f. f ≡ replicate nodes label.Unseen) }
+    {
+        Ok(Frontier {
+            labels: vec![in alloc; Label::Unseen; nodes as usize]?,
+            queue: BinaryHeap::new(alloc),
+        })
+    }
+
+    /// Tells of a walk of this cost to a node. It opens the node where it is better than what is known of it.
+    ///
+    /// Takes time by the logarithm of the number of entries.
+    pub fn offer(&mut self, node: u32, cost: Cost) -> Result<(), AllocError>
+        requires { node < length self.old }
+        ensures { OnOk result (IsOffered self.old node cost self.new) }
+    {
+        if self.labels[node as usize].is_improved_by(cost) {
+            self.queue.push(Reverse((cost, node)))?;
+            self.labels[node as usize] = Label::Open(cost);
+        }
+        Ok(())
+    }
+
+    /// Settles an open node of the least cost, of equal costs the one with the smallest number. None where no
+    /// node is open.
+    pub fn settle_next(&mut self) -> Option<Reached>
+        ensures none { IfNone result (NoneOpen self.old) }
+        ensures least { IfSome result (λ r. IsLeastOpen self.old r.node r.cost) }
+        ensures settled { IfSome result (λ r. self.new ≡ slice_set self.old r.node (label.Settled r.cost)) }
+    {
+        'entries: while let Some(Reverse((cost, node))) = self.queue.pop() {
+            if let Label::Open(known) = self.labels[node as usize] {
+                self.labels[node as usize] = Label::Settled(known);
+                return Some(Reached { node, cost: known });
+            }
+        }
+        None
+    }
+}
