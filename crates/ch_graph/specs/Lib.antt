@@ -2,3 +2,5 @@ pub mod Walk
 pub mod Graph
 pub mod Labels
 pub mod Queue
+pub mod Outgoing
+pub mod Search

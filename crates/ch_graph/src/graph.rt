@@ -3,6 +3,7 @@ ghost use Rattle.ch_cost.specs.Cost.{IsWithin};
 ghost use Rattle.ch_graph.specs.Graph.{IsGraph, IsDistance, IsWalkThrough, bound_of};
 
 use crate::road::Road;
+use crate::search;
 use ch_cost::Cost;
 use std::alloc::{AllocError, Global};
 use std::marker::Model;
@@ -58,7 +59,8 @@ impl Graph {
 
     /// The arcs, in the order that they were given in.
     pub fn arcs(&self) -> &[Road]
-        ensures { result.now ≡ self.now.arcs }
+        ensures list { result.now ≡ self.now.arcs }
+        ensures graph { IsGraph self.now }
     {
         self.arcs.as_slice()
     }
@@ -78,10 +80,6 @@ impl Graph {
         ensures distance { IfOk result (IsDistance self.now source target) }
         ensures bounded { IfOk result (λ found. IfSome found (λ c. IsWithin c (bound_of self.now))) }
     {
-        let _ = self;
-        let _ = alloc;
-        let _ = source;
-        let _ = target;
-        Err(AllocError)
+        search::least_cost(alloc, self, source, target)
     }
 }

@@ -9,7 +9,9 @@
 mod frontier;
 mod graph;
 mod label;
+mod outgoing;
 mod road;
+mod search;
 
 pub use graph::Graph;
 pub use road::Road;

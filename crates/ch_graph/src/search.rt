@@ -1,0 +1,61 @@
+ghost use Rattle.std.specs.Prelude.{◌≡◌, ◌<◌, length, IfOk, OnOk};
+ghost use Rattle.ch_cost.specs.Cost.{IsInLimit};
+ghost use Rattle.ch_graph.specs.Graph.{IsDistance};
+ghost use Rattle.ch_graph.specs.Outgoing.{IsLinked};
+ghost use Rattle.ch_graph.specs.Search.{IsLatest, IsOpenedFrom, IsFollowed};
+
+use crate::frontier::{Frontier, Reached};
+use crate::graph::Graph;
+use crate::outgoing::Outgoing;
+use ch_cost::Cost;
+use std::alloc::{AllocError, Global};
+
+/// The least cost over all walks from `source` to `target`, or none where there is no walk.
+///
+/// Dijkstra's algorithm (1959): nodes are settled in the order of their costs, until the target is.
+pub fn least_cost(
+    alloc: Global,
+    graph: &Graph,
+    source: u32,
+    target: u32,
+) -> Result<Option<Cost>, AllocError>
+    requires source_in { source < graph.now.nodes }
+    ensures { IfOk result (IsDistance graph.now source target) }
+{
+    let outgoing = Outgoing::new(alloc, graph)?;
+    let mut frontier = Frontier::new(alloc, graph.nodes())?;
+    frontier.offer(source, Cost::ZERO)?;
+    'nodes: while let Some(reached) = frontier.settle_next() {
+        if reached.node == target {
+            return Ok(Some(reached.cost));
+        }
+        follow(graph, &outgoing, reached, &mut frontier)?;
+    }
+    Ok(None)
+}
+
+/// Follows each arc that leaves the node that was settled last.
+fn follow(
+    graph: &Graph,
+    outgoing: &Outgoing,
+    reached: Reached,
+    frontier: &mut Frontier,
+) -> Result<(), AllocError>
+    requires node_in { reached.node < graph.now.nodes }
+    requires links { IsLinked graph.now outgoing.now.last.items outgoing.now.before.items }
+    requires labels { length frontier.old ≡ graph.now.nodes }
+    requires latest { IsLatest frontier.old reached.cost }
+    requires fits { IsInLimit reached.cost }
+    ensures opened { OnOk result (IsOpenedFrom graph.now reached.node reached.cost frontier.old frontier.new) }
+    ensures followed { OnOk result (IsFollowed graph.now reached.node reached.cost frontier.new) }
+{
+    let arcs = graph.arcs();
+    let cost = reached.cost;
+    let mut next = outgoing.last[reached.node as usize];
+    'arcs: while let Some(at) = next {
+        let arc = arcs[at as usize];
+        frontier.offer(arc.to, cost.plus(Cost::of_weight(arc.weight)))?;
+        next = outgoing.before[at as usize];
+    }
+    Ok(())
+}
