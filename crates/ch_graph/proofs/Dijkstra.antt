@@ -12,7 +12,7 @@ use Rattle.ch_graph.specs.Walk.{Walk, stay, go}
 use Rattle.ch_graph.specs.Graph.{Graph, IsGraph, IsRoad, ArcOf, IsDistance}
 use Rattle.ch_graph.specs.Labels.{label, HasCost, IsAtMost, Improves, IsOffered, IsLeastOpen, NoneOpen, settled, settled_count}
 use Rattle.ch_graph.specs.Search.{IsLatest, LeadsTo, IsOpenedFrom, IsFollowed, IsSearch}
-use Rattle.ch_graph.proofs.Joins.{walk-extend}
+use Rattle.ch_graph.proofs.Walks.{one_arc, join}
 use Rattle.ch_graph.proofs.LabelSteps.{cases_write, unseen-open, unseen-settled, open-settled, open-open, settled-settled, count-settle}
 
 -- The start
@@ -129,7 +129,7 @@ module _ (g : Graph) (s t : ℕ) (old : List Label) (v : ℕ) (c : Cost) (search
     turn-walks : (u : ℕ) (d : Cost) → HasCost (label new u) d → Walk (ArcOf g) s u d
     turn-walks u d has = elim (came_from u d has) [
       | inl there ↦ search.walks u d there
-      | inr leads ↦ subst (Walk (ArcOf g) s u) leads.sum (walk-extend (search.walks v c (has_cost-from_open (label old v) c next.opens)) leads.goes)
+      | inr leads ↦ subst (Walk (ArcOf g) s u) leads.sum (join (search.walks v c (has_cost-from_open (label old v) c next.opens)) (one_arc leads.goes))
     ]
 
     turn-new_count : settled_count new ≡ settled_count old + 1

@@ -1,7 +1,10 @@
 pub mod HeaviestArc
-pub mod Joins
+pub mod Walks
+pub mod Bound
 pub mod LabelSteps
 pub mod Entries
 pub mod Linking
 pub mod Following
 pub mod Dijkstra
+pub mod Through
+pub mod LeastArc

@@ -1,9 +1,10 @@
-ghost use Rattle.std.specs.Prelude.{◌≡◌, ◌<◌, ◌↔◌, IfOk, IfSome, IsTrue};
+ghost use Rattle.std.specs.Prelude.{◌≡◌, ◌<◌, ◌↔◌, All, IfOk, IfSome, IsTrue};
 ghost use Rattle.ch_cost.specs.Cost.{IsWithin};
 ghost use Rattle.ch_graph.specs.Graph.{IsGraph, IsDistance, IsWalkThrough, bound_of};
 
 use crate::road::Road;
 use crate::search;
+use crate::step;
 use ch_cost::Cost;
 use std::alloc::{AllocError, Global};
 use std::marker::Model;
@@ -81,5 +82,26 @@ impl Graph {
         ensures bounded { IfOk result (λ found. IfSome found (λ c. IsWithin c (bound_of self.now))) }
     {
         search::least_cost(alloc, self, source, target)
+    }
+
+    /// Whether these nodes are a walk of this cost, where each step takes the least arc between its two nodes.
+    ///
+    /// The list of one node is a walk that costs nothing, and the empty list is none. The nodes and the cost may be
+    /// any. Takes no memory, and looks at each arc once for each step.
+    pub fn is_walk(&self, nodes: &[u32], cost: Cost) -> bool
+        ensures { IsTrue result ↔ IsWalkThrough self.now nodes.now cost }
+    {
+        let Some((first, rest)) = nodes.split_first() else {
+            return false;
+        };
+        self.has_nodes(nodes) && step::lead_through(self, *first, rest, cost)
+    }
+
+    /// Whether each of these is a node.
+    fn has_nodes(&self, nodes: &[u32]) -> bool
+        ensures { IsTrue result ↔ All (λ x. x < self.now.nodes) nodes.now }
+    {
+        let count = self.nodes;
+        nodes.iter().all(|node| *node < count)
     }
 }

@@ -9,9 +9,12 @@
 mod frontier;
 mod graph;
 mod label;
+mod laws;
 mod outgoing;
 mod road;
 mod search;
+mod step;
 
 pub use graph::Graph;
+pub use laws::{distance_is_unique, distance_is_within_bound};
 pub use road::Road;

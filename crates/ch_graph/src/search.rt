@@ -1,6 +1,6 @@
-ghost use Rattle.std.specs.Prelude.{◌≡◌, ◌<◌, length, IfOk, OnOk};
-ghost use Rattle.ch_cost.specs.Cost.{IsInLimit};
-ghost use Rattle.ch_graph.specs.Graph.{IsDistance};
+ghost use Rattle.std.specs.Prelude.{◌≡◌, ◌<◌, length, IfOk, IfSome, OnOk};
+ghost use Rattle.ch_cost.specs.Cost.{IsInLimit, IsWithin};
+ghost use Rattle.ch_graph.specs.Graph.{IsDistance, bound_of};
 ghost use Rattle.ch_graph.specs.Outgoing.{IsLinked};
 ghost use Rattle.ch_graph.specs.Search.{IsLatest, IsOpenedFrom, IsFollowed};
 
@@ -20,7 +20,8 @@ pub fn least_cost(
     target: u32,
 ) -> Result<Option<Cost>, AllocError>
     requires source_in { source < graph.now.nodes }
-    ensures { IfOk result (IsDistance graph.now source target) }
+    ensures distance { IfOk result (IsDistance graph.now source target) }
+    ensures bounded { IfOk result (λ found. IfSome found (λ c. IsWithin c (bound_of graph.now))) }
 {
     let outgoing = Outgoing::new(alloc, graph)?;
     let mut frontier = Frontier::new(alloc, graph.nodes())?;
