@@ -67,21 +67,27 @@ queue-open labels entries new v c queue h improves moved heap = record {
 } where
   written : List Label
   written = set labels v (Open c)
+
   waits : (u : ℕ) (d : Cost) → label (set labels v (Open c)) u ≡ Open d → Contains (entry c v ∷ entries) (entry d u)
   waits u d is = elim (cases_write labels v (Open c) u h) [
     | inl w ↦ subst (λ k. Contains (entry c v ∷ entries) (entry k u)) (open-open (sym w.reads ∙ is)) (subst (λ k. Contains (entry c v ∷ entries) (entry c k)) (sym w.at) (contains_head (entry c v) entries))
     | inr k ↦ contains_tail (entry c v) (entry d u) entries (queue.waits u d (sym k.reads ∙ is))
   ]
+
   first : IsAtMost (label (set labels v (Open c)) v) c
   first = elim (cases_write labels v (Open c) v h) [
     | inl w ↦ subst (λ l. IsAtMost l c) (sym w.reads) (at_most_refl c)
     | inr k ↦ absurd (k.other refl)
   ]
+
   stays : (e : Entry) → IsEntryOf labels e → IsEntryOf (set labels v (Open c)) e
-  stays e k = (omega (arith, k.0, length-set labels v (Open c)), elim (cases_write labels v (Open c) e.0.1 h) [
-    | inl w ↦ subst (λ l. IsAtMost l e.0.0) (sym w.reads) (improves-below (label labels v) c e.0.0 improves (subst (λ u. IsAtMost (label labels u) e.0.0) w.at k.1))
-    | inr o ↦ subst (λ l. IsAtMost l e.0.0) (sym o.reads) k.1
-  ])
+  stays e k = (
+    omega (arith, k.0, length-set labels v (Open c)),
+    elim (cases_write labels v (Open c) e.0.1 h) [
+      | inl w ↦ subst (λ l. IsAtMost l e.0.0) (sym w.reads) (improves-below (label labels v) c e.0.0 improves (subst (λ u. IsAtMost (label labels u) e.0.0) w.at k.1))
+      | inr o ↦ subst (λ l. IsAtMost l e.0.0) (sym o.reads) k.1
+    ],
+  )
 
 -- the entry of a node that isn't open is passed over
 pub queue-pass : (labels : List Label) (entries new : List Entry) (x : Entry) → IsQueue labels entries → IsPermutation entries (x ∷ new) → IsHeap entry_cmp new → ((c : Cost) → label labels x.0.1 ≡ Open c → ⊥) → IsQueue labels new
@@ -108,10 +114,13 @@ queue-settle labels entries new x c queue moved heap opens h = record {
   known = All-weaker (IsEntryOf labels) (IsEntryOf (set labels x.0.1 (Settled c))) stays new (All-tail (IsEntryOf labels) x new (All-permutation (IsEntryOf labels) entries (x ∷ new) moved queue.known));
 } where
   stays : (e : Entry) → IsEntryOf labels e → IsEntryOf (set labels x.0.1 (Settled c)) e
-  stays e k = (omega (arith, k.0, length-set labels x.0.1 (Settled c)), elim (cases_write labels x.0.1 (Settled c) e.0.1 h) [
-    | inl w ↦ subst (λ l. IsAtMost l e.0.0) (sym w.reads) (subst (λ l. IsAtMost l e.0.0) opens (subst (λ u. IsAtMost (label labels u) e.0.0) w.at k.1))
-    | inr o ↦ subst (λ l. IsAtMost l e.0.0) (sym o.reads) k.1
-  ])
+  stays e k = (
+    omega (arith, k.0, length-set labels x.0.1 (Settled c)),
+    elim (cases_write labels x.0.1 (Settled c) e.0.1 h) [
+      | inl w ↦ subst (λ l. IsAtMost l e.0.0) (sym w.reads) (subst (λ l. IsAtMost l e.0.0) opens (subst (λ u. IsAtMost (label labels u) e.0.0) w.at k.1))
+      | inr o ↦ subst (λ l. IsAtMost l e.0.0) (sym o.reads) k.1
+    ],
+  )
 
 -- what is popped is in range
 pub queue-in : (labels : List Label) (entries new : List Entry) (x : Entry) → IsQueue labels entries → IsPermutation entries (x ∷ new) → x.0.1 < length labels
@@ -122,8 +131,10 @@ pub queue-least : (labels : List Label) (entries new : List Entry) (x : Entry) (
 queue-least labels entries new x c queue moved top opens = record { opens = opens; least = least } where
   known : IsAtMost (label labels x.0.1) x.0.0
   known = (All-head (IsEntryOf labels) x new (All-permutation (IsEntryOf labels) entries (x ∷ new) moved queue.known)).1
+
   below : (u : ℕ) (d : Cost) → label labels u ≡ Open d → x.0.0 ≼ d
   below u d is = All-contains (λ e. x.0.0 ≼ e.0.0) entries (entry d u) (greatest-least x entries top) (queue.waits u d is)
+
   least : (u : ℕ) (d : Cost) → label labels u ≡ Open d → c ≼ d
   least u d is = at_most_trans (subst (λ l. IsAtMost l x.0.0) opens known) (below u d is)
 

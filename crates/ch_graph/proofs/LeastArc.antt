@@ -25,10 +25,10 @@ module _ (n : ℕ) (rs : List Road) (r : Road) (x y : ℕ) where
   cases_arc {c} a = elim (Contains-push_cases rs r a.road a.among) [
     | inl old ↦ inl (record { road = a.road; among = old; from = a.from; to = a.to; costs = a.costs })
     | inr is ↦ inr (record {
-        from = ap (λ (q : Road). q.from) is ∙ a.from;
-        to = ap (λ (q : Road). q.to) is ∙ a.to;
-        costs = ap (λ (q : Road). of_weight q.weight) is ∙ a.costs;
-      })
+      from = ap (λ (q : Road). q.from) is ∙ a.from;
+      to = ap (λ (q : Road). q.to) is ∙ a.to;
+      costs = ap (λ (q : Road). of_weight q.weight) is ∙ a.costs;
+    })
   ]
 
   -- an arc between other nodes changes nothing

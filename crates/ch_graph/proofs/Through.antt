@@ -4,7 +4,7 @@ use Rattle.ch_cost.specs.declared.cost.Cost.{Cost}
 use Rattle.ch_cost.specs.Cost.{zero_cost, ◌⊕◌, IsWithin}
 use Rattle.ch_cost.specs.Cost.Laws.{sum_assoc, sum-zero_cost, zero_cost-sum, at_most_antisym, within_refl, within-left}
 use Rattle.ch_graph.specs.Walk.{Walk, stay, go, visited, Along}
-use Rattle.ch_graph.specs.Graph.{Graph, IsLeastArc, LeadThrough}
+use Rattle.ch_graph.specs.Graph.{Graph, IsLeastArc, LeastArcsCost}
 
 -- what was spent and the least arcs between these nodes cost this together
 pub record GoesOn (g : Graph) (spent : Cost) (nodes : List ℕ) (cost : Cost) : Type 0 where
@@ -15,10 +15,10 @@ pub record GoesOn (g : Graph) (spent : Cost) (nodes : List ℕ) (cost : Cost) : 
   pub sum : spent ⊕ rest ≡ cost
 
 module _ (g : Graph) where
-  pub goes_on-from : (nodes : List ℕ) (cost : Cost) → LeadThrough g nodes cost → GoesOn g zero_cost nodes cost
+  pub goes_on-from : (nodes : List ℕ) (cost : Cost) → LeastArcsCost g nodes cost → GoesOn g zero_cost nodes cost
   goes_on-from nodes cost h = record { first = h.0; last = h.1; rest = cost; along = h.2; sum = zero_cost-sum cost }
 
-  pub goes_on-to : (nodes : List ℕ) (cost : Cost) → GoesOn g zero_cost nodes cost → LeadThrough g nodes cost
+  pub goes_on-to : (nodes : List ℕ) (cost : Cost) → GoesOn g zero_cost nodes cost → LeastArcsCost g nodes cost
   goes_on-to nodes cost h = (h.first, h.last, subst (λ c. Along (IsLeastArc g) nodes h.first h.last c) (sym (zero_cost-sum h.rest) ∙ h.sum) h.along)
 
   -- two costs of the least arc are the same

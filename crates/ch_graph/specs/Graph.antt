@@ -48,12 +48,12 @@ abbrev pub IsLeastArc : Graph → ℕ → ℕ → Cost → Type 0
 IsLeastArc g x y = IsLeast (ArcOf g x y)
 
 -- The list isn't empty, each two nodes that follow each other have an arc, and the least such arcs cost c together.
-abbrev pub LeadThrough : Graph → List ℕ → Cost → Type 0
-LeadThrough g nodes c = (x : ℕ) × (z : ℕ) × Along (IsLeastArc g) nodes x z c
+abbrev pub LeastArcsCost : Graph → List ℕ → Cost → Type 0
+LeastArcsCost g nodes c = (x : ℕ) × (z : ℕ) × Along (IsLeastArc g) nodes x z c
 
 -- and the nodes are in range
 abbrev pub IsWalkThrough : Graph → List ℕ → Cost → Type 0
-IsWalkThrough g nodes c = All (λ x. x < g.nodes) nodes × LeadThrough g nodes c
+IsWalkThrough g nodes c = All (λ x. x < g.nodes) nodes × LeastArcsCost g nodes c
 
 -- every distance is within the bound
 abbrev pub DistanceIsWithinBound : Type 0

@@ -35,7 +35,7 @@ pub fn least_cost(
     Ok(None)
 }
 
-/// Follows each arc that leaves the node that was settled last.
+/// Follows each arc that leaves the node that was settled last: it tells the frontier of the walks over that node.
 fn follow(
     graph: &Graph,
     outgoing: &Outgoing,

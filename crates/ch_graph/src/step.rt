@@ -1,9 +1,9 @@
 ghost use Rattle.std.specs.Prelude.{◌≡◌, ◌↔◌, ℕ, List, [], ◌∷◌, ◌++◌, IsTrue, IfSome, IfNone};
-ghost use Rattle.ch_cost.specs.declared.cost.Cost.{Cost as Amount};
+ghost use Rattle.ch_cost.specs.declared.cost.Cost.{Cost};
 ghost use Rattle.ch_cost.specs.Cost.{◌⊕◌, IsWithin};
-ghost use Rattle.ch_graph.specs.declared.road.Road.{Road as Arc};
+ghost use Rattle.ch_graph.specs.declared.road.Road.{Road};
 ghost use Rattle.ch_graph.specs.Walk.{IsLeastOrNone};
-ghost use Rattle.ch_graph.specs.Graph.{ArcOf, IsLeastArc, LeadThrough};
+ghost use Rattle.ch_graph.specs.Graph.{ArcOf, IsLeastArc, LeastArcsCost};
 
 use crate::graph::Graph;
 use crate::road::Road;
@@ -11,8 +11,8 @@ use ch_cost::Cost;
 
 /// Whether the least arcs from each of these nodes to the next have this cost together. Looks at each arc once for
 /// each step.
-pub fn lead_through(graph: &Graph, first: u32, rest: &[u32], cost: Cost) -> bool
-    ensures { IsTrue result ↔ LeadThrough graph.now (first ∷ rest.now) cost }
+pub fn least_arcs_cost(graph: &Graph, first: u32, rest: &[u32], cost: Cost) -> bool
+    ensures { IsTrue result ↔ LeastArcsCost graph.now (first ∷ rest.now) cost }
 {
     let mut at = first;
     let mut spent = Cost::ZERO;
@@ -29,8 +29,8 @@ pub fn lead_through(graph: &Graph, first: u32, rest: &[u32], cost: Cost) -> bool
 /// What was spent and the least arc from one node to another cost together, or none where there is no arc or the
 /// sum isn't within the limit.
 fn step(graph: &Graph, from: u32, to: u32, spent: Cost, limit: Cost) -> Option<Cost>
-    ensures sum { IfSome result (λ sum. (arc : Amount) × IsLeastArc graph.now from to arc × (sum ≡ spent ⊕ arc)) }
-    ensures none { IfNone result ((arc : Amount) → IsLeastArc graph.now from to arc → IsWithin (spent ⊕ arc) limit → ⊥) }
+    ensures sum { IfSome result (λ sum. (arc : Cost) × IsLeastArc graph.now from to arc × (sum ≡ spent ⊕ arc)) }
+    ensures none { IfNone result ((arc : Cost) → IsLeastArc graph.now from to arc → IsWithin (spent ⊕ arc) limit → ⊥) }
 {
     let arc = least_arc(graph, from, to)?;
     spent.plus_within(arc, limit)
@@ -49,7 +49,7 @@ fn least_arc(graph: &Graph, from: u32, to: u32) -> Option<Cost>
 
 /// The least cost once an arc is counted too, where it goes from the one node to the other.
 fn with_arc(least: Option<Cost>, arc: Road, from: u32, to: u32) -> Option<Cost>
-    ensures { (nodes : ℕ) (arcs : List Arc) → IsLeastOrNone (ArcOf (record { nodes = nodes; arcs = arcs }) from to) least → IsLeastOrNone (ArcOf (record { nodes = nodes; arcs = arcs ++ arc ∷ [] }) from to) result }
+    ensures { (nodes : ℕ) (arcs : List Road) → IsLeastOrNone (ArcOf (record { nodes = nodes; arcs = arcs }) from to) least → IsLeastOrNone (ArcOf (record { nodes = nodes; arcs = arcs ++ arc ∷ [] }) from to) result }
 {
     if arc.from != from || arc.to != to {
         return least;

@@ -21,7 +21,7 @@ returns-else-is_improved_by c =
     let read : c.index.result.now ≡ label labels c.args.node = get_or_read labels c.args.node c.index.result.now place c.index.ensures Unseen in
     subst (λ (xs : List Label). IsOffered xs c.args.node c.args.cost xs) c.self.view_is (inr (
       λ improves.
-        let yes : c.is_improved_by.result ≡ true = c.is_improved_by.ensures.1 (subst (Improves c.args.cost) (sym read) improves) in
-        cc (yes, c.if-is_improved_by.false),
-      refl
+          let yes : c.is_improved_by.result ≡ true = c.is_improved_by.ensures.1 (subst (Improves c.args.cost) (sym read) improves) in
+          cc (yes, c.if-is_improved_by.false),
+      refl,
     ))

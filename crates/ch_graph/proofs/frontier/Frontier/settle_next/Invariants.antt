@@ -7,7 +7,7 @@ use Rattle.ch_graph.proofs.frontier.Frontier.settle_next.Given as goal
 abbrev pub invariant-entries : goal.invariant-entries
 invariant-entries l = record {
   same : l.self-inside.labels.items ≡ l.initial.self-inside.labels.items;
-  queue : IsQueue l.self-inside.labels.items (heap_items l.self-inside.queue)
+  queue : IsQueue l.self-inside.labels.items (heap_items l.self-inside.queue);
 }
 
 abbrev pub decreases-entries : goal.decreases-entries

@@ -8,5 +8,5 @@ invariant-loop-at l = record {
   nodes : length l.last.items ≡ l.graph.nodes;
   arcs : length l.before.items ≡ length l.arcs;
   lasts : (v : ℕ) → v < l.graph.nodes → IsLastFrom l.arcs v l.at (get_or l.last.items v None);
-  befores : (j : ℕ) → j < l.at → IsLastFrom l.arcs (road_at l.arcs j).from j (get_or l.before.items j None)
+  befores : (j : ℕ) → j < l.at → IsLastFrom l.arcs (road_at l.arcs j).from j (get_or l.before.items j None);
 }

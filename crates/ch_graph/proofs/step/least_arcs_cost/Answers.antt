@@ -3,9 +3,9 @@ use Rattle.std.proofs.lemmas.List.{drop_more, drop_all}
 use Rattle.ch_cost.specs.declared.cost.Cost.{Cost}
 use Rattle.ch_cost.specs.Cost.{zero_cost, ◌⊕◌}
 use Rattle.ch_cost.specs.Cost.Laws.{ZERO-is, equal-from_same, same-from_equal}
-use Rattle.ch_graph.specs.Graph.{LeadThrough}
+use Rattle.ch_graph.specs.Graph.{LeastArcsCost}
 use Rattle.ch_graph.proofs.Through.{GoesOn, goes_on-from, goes_on-to, goes_on-end, goes_on-stop, goes_on-step, goes_on-onward, goes_on-blocked}
-use Rattle.ch_graph.proofs.step.lead_through.Goals as goal
+use Rattle.ch_graph.proofs.step.least_arcs_cost.Goals as goal
 
 pub loop-node-init : goal.loop-node-init
 loop-node-init c = record {
@@ -34,8 +34,7 @@ loop-node-preserved c =
 pub returns : goal.returns
 returns c =
     let nodes : List ℕ = c.args.rest.now in
-    let over : drop c.loop-node.node-index nodes ≡ [] = drop_all c.loop-node.node-index nodes (omega (arith, c.loop-node-test.false)) in
-    (
+    let over : drop c.loop-node.node-index nodes ≡ [] = drop_all c.loop-node.node-index nodes (omega (arith, c.loop-node-test.false)) in (
       λ e. goes_on-to c.args.graph.now (c.args.first ∷ nodes) c.args.cost (c.loop-node.invariant.whole (subst (λ (ns : List ℕ). GoesOn c.args.graph.now c.loop-node.spent (c.loop-node.at ∷ ns) c.args.cost) (sym over) (goes_on-stop c.args.graph.now c.loop-node.spent c.args.cost c.loop-node.at (equal-from_same c.loop-node.spent c.args.cost (sym c.eq.ensures ∙ e))))),
-      λ through. c.eq.ensures ∙ same-from_equal c.loop-node.spent c.args.cost (goes_on-end c.args.graph.now c.loop-node.spent c.args.cost c.loop-node.at (subst (λ (ns : List ℕ). GoesOn c.args.graph.now c.loop-node.spent (c.loop-node.at ∷ ns) c.args.cost) over (c.loop-node.invariant.left (goes_on-from c.args.graph.now (c.args.first ∷ nodes) c.args.cost through))))
+      λ through. c.eq.ensures ∙ same-from_equal c.loop-node.spent c.args.cost (goes_on-end c.args.graph.now c.loop-node.spent c.args.cost c.loop-node.at (subst (λ (ns : List ℕ). GoesOn c.args.graph.now c.loop-node.spent (c.loop-node.at ∷ ns) c.args.cost) over (c.loop-node.invariant.left (goes_on-from c.args.graph.now (c.args.first ∷ nodes) c.args.cost through)))),
     )
