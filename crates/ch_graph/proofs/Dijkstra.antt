@@ -1,11 +1,11 @@
 -- Dijkstra's algorithm over a list of labels: the start, a turn, and the end.
-use Rattle.std.proofs.Common.{◌≡◌, ℕ, ◌+◌, ◌<◌, ◌≤◌, ◌⊎◌, List, length, set, get_or, replicate, Option, Some, None, refl, sym, subst, ap, ◌∙◌, inl, inr, arith}
+use Rattle.std.proofs.Common.{◌≡◌, ℕ, ◌+◌, ◌<◌, ◌⊎◌, List, length, set, replicate, Some, None, refl, sym, subst, ap, ◌∙◌, inl, inr, arith}
 use Rattle.std.proofs.lemmas.Bool.{cases_lt}
 use Rattle.std.proofs.lemmas.List.{get_or-replicate, get_or_past, length-set, length-replicate}
 use Rattle.std.proofs.lemmas.List.Elements.{All-contains}
 use Rattle.ch_cost.specs.declared.cost.Cost.{Cost}
-use Rattle.ch_cost.specs.Cost.{zero_cost, ◌⊕◌, of_weight, ◌≼◌, IsOfArcs}
-use Rattle.ch_cost.specs.Cost.Laws.{sum_assoc, sum-zero_cost, zero_cost-sum, at_most_refl, at_most_trans, at_most_sum_left, sum_at_most, of_arcs_zero_cost, of_arcs_arc, of_arcs_sum, of_arcs_more}
+use Rattle.ch_cost.specs.Cost.{zero_cost, ◌⊕◌, ◌≼◌, IsOfArcs}
+use Rattle.ch_cost.specs.Cost.Laws.{sum_assoc, zero_cost-sum, at_most_refl, at_most_trans, at_most_sum_left, sum_at_most, of_arcs_zero_cost, of_arcs_arc, of_arcs_sum, of_arcs_more}
 use Rattle.ch_graph.specs.declared.label.Label.{Label}
 use Rattle.ch_graph.specs.declared.label.Label.TheVariants.{Unseen, Open, Settled}
 use Rattle.ch_graph.specs.Walk.{Walk, stay, go}
@@ -13,7 +13,7 @@ use Rattle.ch_graph.specs.Graph.{Graph, IsGraph, IsRoad, ArcOf, IsDistance}
 use Rattle.ch_graph.specs.Labels.{label, HasCost, IsAtMost, Improves, IsOffered, IsLeastOpen, NoneOpen, settled, settled_count}
 use Rattle.ch_graph.specs.Search.{IsLatest, LeadsTo, IsOpenedFrom, IsFollowed, IsSearch}
 use Rattle.ch_graph.proofs.Walks.{one_arc, join}
-use Rattle.ch_graph.proofs.LabelSteps.{cases_write, unseen-open, unseen-settled, open-settled, open-open, settled-settled, count-settle}
+use Rattle.ch_graph.proofs.LabelSteps.{cases_write, unseen-open, unseen-settled, open-settled, settled-settled, count-settle}
 
 -- The start
 

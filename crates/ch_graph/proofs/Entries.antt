@@ -1,9 +1,8 @@
 -- The queue of a search, as its entries come and go.
-use Rattle.std.proofs.Common.{◌≡◌, ℕ, ◌+◌, ◌<◌, ◌⊎◌, Bool, true, false, List, [], ◌∷◌, length, set, get_or, replicate, zero, suc, refl, sym, subst, ap, ◌∙◌, inl, inr, arith}
-use Rattle.std.proofs.lemmas.List.{get_or-replicate, length-set, get_or_past, length-replicate}
-use Rattle.std.proofs.lemmas.List.Elements.{All-nil, All-cons, All-head, All-tail, All-weaker, All-contains, All-from_recursion}
+use Rattle.std.proofs.Common.{◌≡◌, ℕ, ◌<◌, ◌⊎◌, false, List, ◌∷◌, length, set, zero, suc, refl, sym, subst, ap, ◌∙◌, inl, inr, arith}
+use Rattle.std.proofs.lemmas.List.{length-set}
+use Rattle.std.proofs.lemmas.List.Elements.{All-cons, All-head, All-tail, All-weaker, All-contains, All-from_recursion}
 use Rattle.std.proofs.lemmas.List.Sorted.{All-permutation, Contains-permutation}
-use Rattle.std.proofs.lemmas.Bool.{cases_lt}
 use Rattle.std.specs.List.{All, Contains}
 use Rattle.std.specs.List.Sorted.{IsPermutation}
 use Rattle.std.specs.Ordering.{is_lt, ordering_then, nat_cmp}
@@ -11,13 +10,13 @@ use Rattle.std.specs.declared.cmp.Ordering.{Ordering}
 use Rattle.std.specs.declared.cmp.Ordering.TheVariants.{Less, Equal, Greater}
 use Rattle.std.specs.BinaryHeap.{IsHeap, IsUpperBound}
 use Rattle.ch_cost.specs.declared.cost.Cost.{Cost}
-use Rattle.ch_cost.specs.Cost.{◌≼◌, ◌≺◌, compare}
+use Rattle.ch_cost.specs.Cost.{◌≼◌, compare}
 use Rattle.ch_cost.specs.Cost.Laws.{at_most_refl, at_most_trans, at_most-from_not_less}
 use Rattle.ch_graph.specs.declared.label.Label.{Label}
-use Rattle.ch_graph.specs.declared.label.Label.TheVariants.{Unseen, Open, Settled}
-use Rattle.ch_graph.specs.Labels.{label, IsAtMost, Improves, IsLeastOpen, NoneOpen}
+use Rattle.ch_graph.specs.declared.label.Label.TheVariants.{Open, Settled}
+use Rattle.ch_graph.specs.Labels.{label, IsAtMost, Improves, IsLeastOpen}
 use Rattle.ch_graph.specs.Queue.{Entry, entry, entry_cmp, IsEntryOf, IsQueue}
-use Rattle.ch_graph.proofs.LabelSteps.{cases_write, improves-below, unseen-open, open-settled, open-open}
+use Rattle.ch_graph.proofs.LabelSteps.{cases_write, improves-below, open-settled, open-open}
 
 -- Membership
 
@@ -31,9 +30,6 @@ contains_cases : (x y : Entry) (xs : List Entry) → Contains (x ∷ xs) y → (
 contains_cases x y xs (zero, h, e) = inl e
 contains_cases x y xs (suc k, h, e) = inr (k, omega (arith, h), e)
 
-contains_nothing : (y : Entry) → Contains [] y → ⊥
-contains_nothing y (k, h, e) = omega (arith, h)
-
 -- The order of entries
 
 not_less-first : (a b : Ordering) → is_lt (ordering_then a b) ≡ false → is_lt a ≡ false
@@ -46,17 +42,6 @@ greatest-least : (x : Entry) (xs : List Entry) → IsUpperBound entry_cmp x xs �
 greatest-least x xs top = All-weaker (λ e. is_lt (entry_cmp x e) ≡ false) (λ e. x.0.0 ≼ e.0.0) (λ e h. at_most-from_not_less e.0.0 x.0.0 (not_less-first (compare e.0.0 x.0.0) (nat_cmp e.0.1 x.0.1) h)) xs (All-from_recursion (λ e. is_lt (entry_cmp x e) ≡ false) xs top)
 
 -- Steps
-
--- at first nothing is seen and nothing waits
-pub queue-start : (n : ℕ) (entries : List Entry) → entries ≡ [] → IsHeap entry_cmp entries → IsQueue (replicate n Unseen) entries
-queue-start n entries e heap = record {
-  heap = heap;
-  waits = λ v c is. elim (cases_lt v n) [
-    | inl h ↦ absurd (unseen-open (sym (get_or-replicate n v Unseen Unseen h) ∙ is))
-    | inr h ↦ absurd (unseen-open (sym (get_or_past (replicate n Unseen) v Unseen (omega (arith, h, length-replicate n Unseen))) ∙ is))
-  ];
-  known = subst (All (IsEntryOf (replicate n Unseen))) (sym e) (All-nil (IsEntryOf (replicate n Unseen)));
-}
 
 -- a node is opened with a cost that improves its label, and put into the queue
 pub queue-open : (labels : List Label) (entries new : List Entry) (v : ℕ) (c : Cost) → IsQueue labels entries → v < length labels → Improves c (label labels v) → IsPermutation (entry c v ∷ entries) new → IsHeap entry_cmp new → IsQueue (set labels v (Open c)) new
@@ -137,7 +122,3 @@ queue-least labels entries new x c queue moved top opens = record { opens = open
 
   least : (u : ℕ) (d : Cost) → label labels u ≡ Open d → c ≼ d
   least u d is = at_most_trans (subst (λ l. IsAtMost l x.0.0) opens known) (below u d is)
-
--- where the queue is empty, no node is open
-pub queue-empty : (labels : List Label) (entries : List Entry) → IsQueue labels entries → entries ≡ [] → NoneOpen labels
-queue-empty labels entries queue e v c is = contains_nothing (entry c v) (subst (λ xs. Contains xs (entry c v)) e (queue.waits v c is))

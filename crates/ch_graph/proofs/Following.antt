@@ -1,18 +1,17 @@
 -- The arcs that leave the node that was settled last, followed one by one.
-use Rattle.std.proofs.Common.{◌≡◌, ℕ, ◌+◌, ◌<◌, ◌≤◌, ◌⊎◌, List, length, set, get_or, Option, Some, None, refl, sym, subst, ◌∙◌, inl, inr, arith}
+use Rattle.std.proofs.Common.{◌≡◌, ℕ, ◌<◌, ◌≤◌, ◌⊎◌, List, length, Some, refl, sym, subst, ◌∙◌, inl, inr, arith}
 use Rattle.std.proofs.lemmas.Bool.{cases_lt}
-use Rattle.std.proofs.lemmas.List.{length-set, get_or_default}
+use Rattle.std.proofs.lemmas.List.{length-set}
 use Rattle.std.proofs.lemmas.List.Elements.{Contains-get_or}
 use Rattle.ch_cost.specs.declared.cost.Cost.{Cost}
 use Rattle.ch_cost.specs.Cost.{◌⊕◌, of_weight, ◌≼◌}
-use Rattle.ch_cost.specs.Cost.Laws.{at_most_refl, at_most_trans, at_most_sum_left}
+use Rattle.ch_cost.specs.Cost.Laws.{at_most_refl}
 use Rattle.ch_graph.specs.declared.label.Label.{Label}
-use Rattle.ch_graph.specs.declared.label.Label.TheVariants.{Unseen, Open, Settled}
-use Rattle.ch_graph.specs.declared.road.Road.{Road}
-use Rattle.ch_graph.specs.Graph.{Graph, ArcOf}
+use Rattle.ch_graph.specs.declared.label.Label.TheVariants.{Open, Settled}
+use Rattle.ch_graph.specs.Graph.{Graph}
 use Rattle.ch_graph.specs.Labels.{label, IsAtMost, IsOffered, settled_count}
 use Rattle.ch_graph.specs.Outgoing.{road_at, IsLastFrom}
-use Rattle.ch_graph.specs.Search.{IsLatest, LeadsTo, IsOpenedFrom, IsFollowed}
+use Rattle.ch_graph.specs.Search.{LeadsTo, IsOpenedFrom}
 use Rattle.ch_graph.proofs.LabelSteps.{cases_write, open-settled, open-open, improves-below, improves-unsettled, not_improves-at_most, count-open}
 
 -- no arc was followed yet
@@ -103,17 +102,3 @@ followed-more g v c from j mid new last kept this before k later h leaves = elim
   | inl below ↦ let same : j ≡ k = omega (arith, last.latest k below leaves) in subst (λ i. IsAtMost (label new (road_at g.arcs i).to) (c ⊕ of_weight (road_at g.arcs i).weight)) same this
   | inr above ↦ kept (road_at g.arcs k).to (c ⊕ of_weight (road_at g.arcs k).weight) (before k above h leaves)
 ]
-
--- no arc is left
-pub followed-all : (g : Graph) (v : ℕ) (c : Cost) (from : ℕ) (labels : List Label) → IsLastFrom g.arcs v from None → ((k : ℕ) → from ≤ k → k < length g.arcs → (road_at g.arcs k).from ≡ v → IsAtMost (label labels (road_at g.arcs k).to) (c ⊕ of_weight (road_at g.arcs k).weight)) → IsFollowed g v c labels
-followed-all g v c from labels last all u d leads =
-    let k : ℕ = leads.goes.among.0 in
-    let h : k < length g.arcs = leads.goes.among.1 in
-    let is : road_at g.arcs k ≡ leads.goes.road = get_or_default g.arcs k (record { from = 0; to = 0; weight = 0 }) leads.goes.road h ∙ leads.goes.among.2 in
-    let leaves : (road_at g.arcs k).from ≡ v = subst (λ (r : Road). r.from ≡ v) (sym is) leads.goes.from in
-    elim (cases_lt k from) [
-      | inl below ↦ absurd (last.latest k below leaves)
-      | inr above ↦
-          let most : IsAtMost (label labels leads.goes.road.to) (c ⊕ of_weight leads.goes.road.weight) = subst (λ (r : Road). IsAtMost (label labels r.to) (c ⊕ of_weight r.weight)) is (all k above h leaves) in
-          subst (IsAtMost (label labels u)) leads.sum (subst (λ a. IsAtMost (label labels u) (c ⊕ a)) leads.goes.costs (subst (λ n. IsAtMost (label labels n) (c ⊕ of_weight leads.goes.road.weight)) leads.goes.to most))
-    ]

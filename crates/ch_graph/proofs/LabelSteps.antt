@@ -1,15 +1,15 @@
 -- Labels, one of which is written.
-use Rattle.std.proofs.Common.{◌≡◌, ℕ, ◌+◌, ◌*◌, ◌<◌, ◌≤◌, ◌⊎◌, List, length, set, get_or, refl, sym, subst, ap, ◌∙◌, inl, inr, arith, sum_by}
+use Rattle.std.proofs.Common.{◌≡◌, ℕ, ◌+◌, ◌<◌, ◌≤◌, ◌⊎◌, List, length, set, refl, sym, subst, inl, inr, arith}
 use Rattle.std.proofs.lemmas.Bool.{cases_eq}
-use Rattle.std.proofs.lemmas.List.{get_or-set_same, get_or-set_other, length-set}
+use Rattle.std.proofs.lemmas.List.{get_or-set_same, get_or-set_other}
 use Rattle.std.proofs.lemmas.List.Elements.{All-from_get_or}
 use Rattle.std.proofs.lemmas.List.Sums.{sum_by-set, sum_by-le}
 use Rattle.ch_cost.specs.declared.cost.Cost.{Cost}
-use Rattle.ch_cost.specs.Cost.{◌≼◌, ◌≺◌}
-use Rattle.ch_cost.specs.Cost.Laws.{at_most_refl, at_most_trans, at_most-from_below, below_trans_at_most, cases_cost}
+use Rattle.ch_cost.specs.Cost.{◌≼◌}
+use Rattle.ch_cost.specs.Cost.Laws.{at_most_trans, at_most-from_below, below_trans_at_most, cases_cost}
 use Rattle.ch_graph.specs.declared.label.Label.{Label}
 use Rattle.ch_graph.specs.declared.label.Label.TheVariants.{Unseen, Open, Settled}
-use Rattle.ch_graph.specs.Labels.{label, HasCost, IsAtMost, Improves, settled, settled_count}
+use Rattle.ch_graph.specs.Labels.{label, IsAtMost, Improves, settled, settled_count}
 
 -- the label that is read after one was written: the new one, or another node's
 pub record IsWritten (labels : List Label) (v : ℕ) (l : Label) (u : ℕ) : Type 0 where

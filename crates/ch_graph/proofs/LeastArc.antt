@@ -1,12 +1,12 @@
 -- The least arc between two nodes, as one more arc is counted.
-use Rattle.std.proofs.Common.{ℕ, ◌≡◌, ◌⊎◌, List, [], ◌∷◌, ◌++◌, Option, Some, None, refl, ap, sym, subst, ◌∙◌, inl, inr}
+use Rattle.std.proofs.Common.{ℕ, ◌≡◌, ◌⊎◌, List, [], ◌∷◌, ◌++◌, Option, Some, None, refl, ap, subst, ◌∙◌, inl, inr}
 use Rattle.std.proofs.lemmas.List.Elements.{Contains-append_left, Contains-push, Contains-push_cases}
 use Rattle.ch_cost.specs.declared.cost.Cost.{Cost}
-use Rattle.ch_cost.specs.Cost.{of_weight, ◌≼◌, ◌≺◌}
+use Rattle.ch_cost.specs.Cost.{of_weight, ◌≼◌}
 use Rattle.ch_cost.specs.Cost.Laws.{at_most_refl, at_most_trans}
 use Rattle.ch_graph.specs.declared.road.Road.{Road}
 use Rattle.ch_graph.specs.Walk.{IsLeastOrNone}
-use Rattle.ch_graph.specs.Graph.{Graph, ArcOf}
+use Rattle.ch_graph.specs.Graph.{ArcOf}
 
 -- the arc goes from x to y and costs c
 pub record Goes (r : Road) (x y : ℕ) (c : Cost) : Type 0 where

@@ -3,7 +3,7 @@ use Rattle.std.proofs.Common.{◌≡◌, ℕ, ◌+◌, ◌<◌, ◌≤◌, List,
 use Rattle.std.proofs.lemmas.Bool.{cases_eq, cases_lt}
 use Rattle.std.proofs.lemmas.List.{get_or-set_same, get_or-set_other}
 use Rattle.ch_graph.specs.declared.road.Road.{Road}
-use Rattle.ch_graph.specs.Outgoing.{road_at, IsAtOrAfter, IsLastFrom}
+use Rattle.ch_graph.specs.Outgoing.{road_at, IsLastFrom}
 
 -- how many places there are up to this one
 abbrev pub places_to : Option ℕ → ℕ

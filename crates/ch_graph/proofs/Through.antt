@@ -41,9 +41,6 @@ module _ (g : Graph) where
   pub goes_on-stop : (spent cost : Cost) (u : ℕ) → spent ≡ cost → GoesOn g spent (u ∷ []) cost
   goes_on-stop spent cost u e = record { first = u; last = u; rest = zero_cost; along = (stay, refl); sum = sum-zero_cost spent ∙ e }
 
-  pub goes_on-nothing : (spent cost : Cost) → GoesOn g spent [] cost → ⊥
-  goes_on-nothing spent cost h = let e = h.along.1 in cc (e)
-
   -- a step
 
   pub goes_on-step : (spent cost arc : Cost) (u v : ℕ) (nodes : List ℕ) → IsLeastArc g u v arc → GoesOn g (spent ⊕ arc) (v ∷ nodes) cost → GoesOn g spent (u ∷ v ∷ nodes) cost

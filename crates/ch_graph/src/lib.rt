@@ -3,7 +3,8 @@
 //! Stands on `ch_cost`, of which it uses the laws of costs alone. Its main type is [`Graph`], a list of arcs
 //! between numbered nodes. The promise of the layer is the contract of [`Graph::least`]: the least cost over all
 //! walks from one node to another, or none where there is no walk. It is the plain program that every faster
-//! answer of the workspace is compared with.
+//! answer of the workspace is compared with. [`Graph::is_walk`] tells a route of a given cost from any other list
+//! of nodes.
 #![tactic(auto)]
 
 mod frontier;

@@ -1,14 +1,14 @@
-use Rattle.std.proofs.Common.{ℕ, ◌≡◌, ◌+◌, ◌<◌, ◌≤◌, ◌∙◌, List, length, All, Option, Some, None, get_or, refl, ap, subst, sym, arith}
+use Rattle.std.proofs.Common.{ℕ, ◌≡◌, ◌<◌, ◌≤◌, ◌∙◌, List, length, Option, Some, None, get_or, refl, ap, subst, sym, arith}
 use Rattle.std.proofs.lemmas.List.{get_or_read}
-use Rattle.ch_cost.specs.Cost.{◌⊕◌, of_weight, IsInLimit}
+use Rattle.ch_cost.specs.Cost.{◌⊕◌, of_weight}
 use Rattle.ch_cost.specs.Cost.Laws.{of_arcs_arc, in_limit-from_arcs, at_most_trans, at_most_sum_left}
 use Rattle.ch_graph.specs.declared.road.Road.{Road}
-use Rattle.ch_graph.specs.Graph.{Graph, IsRoad}
+use Rattle.ch_graph.specs.Graph.{Graph}
 use Rattle.ch_graph.specs.Labels.{label, IsAtMost, IsOffered}
 use Rattle.ch_graph.specs.Outgoing.{road_at, IsLastFrom}
 use Rattle.ch_cost.specs.declared.cost.Cost.{Cost}
 use Rattle.ch_graph.proofs.Linking.{places_to, last_from-below}
-use Rattle.ch_graph.proofs.Following.{opened-start, opened-more, leads-road, offer-kept, offer-at_most, followed-more, followed-all}
+use Rattle.ch_graph.proofs.Following.{opened-start, opened-more, leads-road, offer-kept, offer-at_most, followed-more}
 use Rattle.ch_graph.proofs.search.follow.Goals as goal
 
 pub arcs-init : goal.arcs-init

@@ -1,8 +1,8 @@
-use Rattle.std.proofs.Common.{ℕ, ◌≡◌, ◌+◌, ◌<◌, ◌≤◌, length, Option, Some, None}
+use Rattle.std.proofs.Common.{ℕ, ◌≡◌, ◌<◌, ◌≤◌, length}
 use Rattle.ch_cost.specs.Cost.{◌⊕◌, of_weight}
 use Rattle.ch_graph.specs.Labels.{label, IsAtMost}
 use Rattle.ch_graph.specs.Outgoing.{road_at, IsLastFrom}
-use Rattle.ch_graph.specs.Search.{IsLatest, IsOpenedFrom}
+use Rattle.ch_graph.specs.Search.{IsOpenedFrom}
 use Rattle.ch_graph.proofs.Linking.{places_to}
 use Rattle.ch_graph.proofs.search.follow.Given as goal
 

@@ -1,4 +1,4 @@
-use Rattle.std.proofs.Common.{ℕ, ◌≡◌, ◌+◌, ◌<◌, ◌≤◌, ◌∙◌, List, length, replicate, set, Some, None, refl, ap, subst, sym, arith}
+use Rattle.std.proofs.Common.{ℕ, List, length, replicate, set, Some, ap, subst, sym, arith}
 use Rattle.std.proofs.lemmas.List.{length-set}
 use Rattle.ch_cost.specs.declared.cost.Cost.{Cost}
 use Rattle.ch_cost.specs.Cost.{zero_cost}
@@ -7,7 +7,7 @@ use Rattle.ch_graph.specs.declared.label.Label.{Label}
 use Rattle.ch_graph.specs.declared.label.Label.TheVariants.{Unseen, Settled}
 use Rattle.ch_graph.specs.Graph.{IsDistance}
 use Rattle.ch_graph.specs.Labels.{IsOffered, IsLeastOpen, settled_count}
-use Rattle.ch_graph.specs.Search.{IsLatest, IsOpenedFrom, IsFollowed, IsSearch}
+use Rattle.ch_graph.specs.Search.{IsLatest, IsOpenedFrom}
 use Rattle.ch_graph.proofs.Bound.{distance_within_bound}
 use Rattle.ch_graph.proofs.LabelSteps.{count-most}
 use Rattle.ch_graph.proofs.Dijkstra.{search-start, search-turn, search-found, search-not_found, turn-latest, turn-fits, turn-count}

@@ -1,4 +1,4 @@
-use Rattle.std.proofs.Common.{◌≡◌, ◌≤◌, List, [], ◌∷◌, ◌++◌, length, take, subst, sym, ◌∙◌, arith}
+use Rattle.std.proofs.Common.{List, take, subst, sym, ◌∙◌, arith}
 use Rattle.std.proofs.lemmas.List.{take_more, take_all}
 use Rattle.ch_graph.specs.declared.road.Road.{Road}
 use Rattle.ch_graph.specs.Walk.{IsLeastOrNone}

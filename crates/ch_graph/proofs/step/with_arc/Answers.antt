@@ -1,8 +1,7 @@
-use Rattle.std.proofs.Common.{ℕ, ◌≡◌, List, [], ◌∷◌, ◌++◌, true, Option, Some, None, refl, subst, sym, ◌∙◌, inl, inr}
+use Rattle.std.proofs.Common.{◌≡◌, [], ◌∷◌, ◌++◌, true, Option, Some, subst, sym, inl, inr}
 use Rattle.ch_cost.specs.declared.cost.Cost.{Cost}
 use Rattle.ch_cost.specs.Cost.{of_weight, ◌≼◌}
 use Rattle.ch_cost.specs.Cost.Laws.{cases_cost, at_most-from_below}
-use Rattle.ch_graph.specs.declared.road.Road.{Road}
 use Rattle.ch_graph.specs.Walk.{IsLeastOrNone}
 use Rattle.ch_graph.specs.Graph.{ArcOf}
 use Rattle.ch_graph.proofs.LeastArc.{Goes, least-other, least-known, least-this}

@@ -1,9 +1,8 @@
-use Rattle.std.proofs.Common.{◌≡◌, ◌<◌, ◌∙◌, List, length, set, subst, sym}
+use Rattle.std.proofs.Common.{◌≡◌, ◌<◌, ◌∙◌, List, length, subst, sym}
 use Rattle.std.proofs.lemmas.List.{get_or_read}
 use Rattle.std.specs.BinaryHeap.{heap_items}
-use Rattle.ch_cost.specs.declared.cost.Cost.{Cost}
 use Rattle.ch_graph.specs.declared.label.Label.{Label}
-use Rattle.ch_graph.specs.declared.label.Label.TheVariants.{Unseen, Open}
+use Rattle.ch_graph.specs.declared.label.Label.TheVariants.{Unseen}
 use Rattle.ch_graph.specs.Labels.{label, IsLeastOpen}
 use Rattle.ch_graph.proofs.Entries.{queue-in, queue-pass, queue-settle, queue-least}
 use Rattle.ch_graph.proofs.frontier.Frontier.settle_next.Goals as goal

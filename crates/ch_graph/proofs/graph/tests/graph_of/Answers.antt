@@ -1,4 +1,4 @@
-use Rattle.std.proofs.Common.{All, arith}
+use Rattle.std.proofs.Common.{arith}
 use Rattle.std.proofs.lemmas.List.Elements.{All-push}
 use Rattle.ch_graph.specs.Graph.{IsRoad}
 use Rattle.ch_graph.proofs.graph.tests.graph_of.Goals as goal

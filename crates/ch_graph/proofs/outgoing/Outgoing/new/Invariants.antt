@@ -1,4 +1,4 @@
-use Rattle.std.proofs.Common.{◌≡◌, ◌<◌, ℕ, length, get_or, Option, None}
+use Rattle.std.proofs.Common.{◌≡◌, ◌<◌, ℕ, length, get_or, None}
 use Rattle.ch_graph.specs.Outgoing.{road_at, IsLastFrom}
 use Rattle.ch_graph.proofs.outgoing.Outgoing.new.Given as goal
 
