@@ -1,1 +1,3 @@
 pub mod HeaviestArc
+pub mod Walks
+pub mod Bound

@@ -7,7 +7,9 @@
 #![tactic(auto)]
 
 mod graph;
+mod laws;
 mod road;
 
 pub use graph::Graph;
+pub use laws::{distance_is_unique, distance_is_within_bound};
 pub use road::Road;

@@ -73,6 +73,11 @@ pub sum_below_right : {a b c d : Cost} → a ≼ b → c ≺ d → a ⊕ c ≺ b
 unfolding ◌⊕◌
 sum_below_right h k = record { weight = omega (arith, h.weight, k.weight) }
 
+-- a cost above nothing makes a sum greater
+pub below_sum_left : (a b : Cost) → zero_cost ≺ a → b ≺ a ⊕ b
+unfolding ◌⊕◌ zero_cost
+below_sum_left a b h = record { weight = omega (arith, h.weight) }
+
 pub zero_cost_at_most : (a : Cost) → zero_cost ≼ a
 unfolding zero_cost
 zero_cost_at_most a = record { weight = omega arith }

@@ -1,0 +1,73 @@
+-- No least walk repeats a node, so each distance is within the bound; and there is one distance at most.
+use Rattle.std.proofs.Common.{ℕ, ◌≡◌, ◌+◌, ◌-◌, ◌<◌, ◌≤◌, ◌⊎◌, List, [], ◌∷◌, length, Option, Some, None, max, All, arith, add-one, ap, subst, refl, inl, inr}
+use Rattle.std.proofs.lemmas.List.Elements.{All-nil, All-cons, All-weaker, All-contains}
+use Rattle.ch_cost.specs.declared.cost.Cost.{Cost}
+use Rattle.ch_cost.specs.Cost.{zero_cost, ◌⊕◌, of_weight, cost_of_arcs, ◌≺◌, IsWithin}
+use Rattle.ch_cost.specs.Cost.Laws.{arc_above, arc_and_arcs_within, at_most_antisym, below_not_at_most, more_arcs_within, within_trans, zero_cost_within}
+use Rattle.ch_graph.specs.declared.road.Road.{Road}
+use Rattle.ch_graph.specs.Walk.{Walk, Walk.stay, Walk.go, IsLeastOrNone, visited}
+use Rattle.ch_graph.specs.Graph.{Graph, IsRoad, IsGraph, ArcOf, heaviest, bound_of, DistanceIsWithinBound, DistanceIsUnique}
+use Rattle.ch_graph.proofs.Walks.{Cheaper, short_or_cheaper}
+
+-- no arc is heavier than the heaviest
+no_heavier : (rs : List Road) → All (λ (r : Road). r.weight ≤ heaviest rs) rs
+no_heavier [] = All-nil (λ (r : Road). r.weight ≤ 0)
+no_heavier (q ∷ rs) =
+    All-cons (λ (r : Road). r.weight ≤ max q.weight (heaviest rs)) q rs (omega arith)
+    (All-weaker (λ (r : Road). r.weight ≤ heaviest rs) (λ (r : Road). r.weight ≤ max q.weight (heaviest rs)) (λ r h. omega (arith, h)) rs (no_heavier rs))
+
+-- What an arc of a graph is: it costs more than nothing, and its ends are nodes.
+pub record IsSound (g : Graph) (x y : ℕ) (c : Cost) : Type 0 where
+  pub above : zero_cost ≺ c
+  pub from_in : x < g.nodes
+  pub to_in : y < g.nodes
+
+pub arc-sound : (g : Graph) → IsGraph g → (x y : ℕ) (c : Cost) → ArcOf g x y c → IsSound g x y c
+arc-sound g is x y c arc =
+    let road : IsRoad g.nodes arc.road = All-contains (IsRoad g.nodes) g.arcs arc.road is.roads arc.among in
+    record {
+      above = subst (λ (d : Cost). zero_cost ≺ d) arc.costs (arc_above road.weighs);
+      from_in = subst (λ n. n < g.nodes) arc.from road.from_in;
+      to_in = subst (λ n. n < g.nodes) arc.to road.to_in;
+    }
+
+-- a walk costs at most its number of arcs at the greatest weight
+walk-within : (g : Graph) {x z : ℕ} {c : Cost} (w : Walk (ArcOf g) x z c) → IsWithin c (cost_of_arcs (length (visited w)) (heaviest g.arcs))
+walk-within g stay = zero_cost_within (cost_of_arcs 0 (heaviest g.arcs))
+walk-within g (go {c = c} {d = d} arc rest) =
+    let n : ℕ = length (visited rest) in
+    let heavy : arc.road.weight ≤ heaviest g.arcs = All-contains (λ (r : Road). r.weight ≤ heaviest g.arcs) g.arcs arc.road (no_heavier g.arcs) arc.among in
+    let more : IsWithin (of_weight arc.road.weight ⊕ d) (cost_of_arcs (n + 1) (heaviest g.arcs)) = arc_and_arcs_within arc.road.weight n (heaviest g.arcs) d heavy (walk-within g rest) in
+    subst (λ (e : Cost). IsWithin (e ⊕ d) (cost_of_arcs (length (visited (go arc rest))) (heaviest g.arcs))) arc.costs (rw (← add-one) more)
+
+-- a walk has fewer arcs than there are nodes, or there is a cheaper one
+pub few_arcs_or_cheaper : (g : Graph) → IsGraph g → {x z : ℕ} {c : Cost} (w : Walk (ArcOf g) x z c) → (length (visited w) ≤ g.nodes - 1) ⊎ Cheaper (ArcOf g) x z c
+few_arcs_or_cheaper g is stay = inl (omega arith)
+few_arcs_or_cheaper g is (go {x = x} {y = y} {c = c} arc rest) =
+    elim (short_or_cheaper g.nodes (λ a b d other. ((arc-sound g is a b d other).above, (arc-sound g is a b d other).to_in)) (go arc rest) (arc-sound g is x y c arc).from_in) [
+      | inl few ↦ inl (omega (arith, few))
+      | inr less ↦ inr less
+    ]
+
+-- a walk is within the bound, or there is a cheaper one
+pub within_or_cheaper : (g : Graph) → IsGraph g → {x z : ℕ} {c : Cost} → Walk (ArcOf g) x z c → IsWithin c (bound_of g) ⊎ Cheaper (ArcOf g) x z c
+within_or_cheaper g is w = elim (few_arcs_or_cheaper g is w) [
+  | inl few ↦ inl (within_trans (walk-within g w) (more_arcs_within (length (visited w)) (g.nodes - 1) (heaviest g.arcs) few))
+  | inr less ↦ inr less
+]
+
+pub distance_within_bound : DistanceIsWithinBound
+distance_within_bound g s t c is distance = elim (within_or_cheaper g is distance.0) [
+  | inl within ↦ within
+  | inr less ↦ absurd (below_not_at_most less.below (distance.1 less.cost less.walk))
+]
+
+-- there is one least cost, or none
+least_unique : (P : Cost → Type 0) (a b : Option Cost) → IsLeastOrNone P a → IsLeastOrNone P b → a ≡ b
+least_unique P (Some c) (Some d) least other = ap (λ (e : Cost). Some e) (at_most_antisym (least.1 d other.0) (other.1 c least.0))
+least_unique P (Some c) None least none_is = absurd (none_is c least.0)
+least_unique P None (Some d) none_is least = absurd (none_is d least.0)
+least_unique P None None none_is other = refl
+
+pub distance_unique : DistanceIsUnique
+distance_unique g s t a b first second = least_unique (Walk (ArcOf g) s t) a b first second

@@ -1,0 +1,12 @@
+ghost use Rattle.ch_graph.specs.Graph.{DistanceIsWithinBound, DistanceIsUnique};
+
+/// Every distance is within the bound of its graph: a least walk repeats no node, so it has fewer arcs than there
+/// are nodes. It does nothing when it runs.
+pub fn distance_is_within_bound()
+    ensures { DistanceIsWithinBound }
+{}
+
+/// Two nodes have one distance, or none. It does nothing when it runs.
+pub fn distance_is_unique()
+    ensures { DistanceIsUnique }
+{}
