@@ -8,8 +8,10 @@
 
 mod graph;
 mod laws;
+mod link;
 mod road;
 
 pub use graph::Graph;
 pub use laws::{distance_is_unique, distance_is_within_bound};
+pub use link::Link;
 pub use road::Road;
