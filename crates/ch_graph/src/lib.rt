@@ -7,11 +7,13 @@
 #![tactic(auto)]
 
 mod graph;
+mod hierarchy;
 mod laws;
 mod link;
 mod road;
 
 pub use graph::Graph;
+pub use hierarchy::{Hierarchy, LinkId};
 pub use laws::{distance_is_unique, distance_is_within_bound};
 pub use link::Link;
 pub use road::Road;
