@@ -1,3 +1,4 @@
 pub mod Order
 pub mod Steps
 pub mod Sound
+pub mod Detour
