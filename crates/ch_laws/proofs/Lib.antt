@@ -2,3 +2,4 @@ pub mod Order
 pub mod Steps
 pub mod Sound
 pub mod Detour
+pub mod Passage
