@@ -3,3 +3,4 @@ pub mod Steps
 pub mod Sound
 pub mod Detour
 pub mod Passage
+pub mod Made
