@@ -1,3 +1,5 @@
 pub mod HeaviestArc
 pub mod Walks
 pub mod Bound
+pub mod Chains
+pub mod Unfolding

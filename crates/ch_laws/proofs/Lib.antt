@@ -1,0 +1,6 @@
+pub mod Order
+pub mod Steps
+pub mod Sound
+pub mod Detour
+pub mod Passage
+pub mod Made
