@@ -8,7 +8,8 @@ use Rattle.ch_cost.specs.Cost.Laws.{sum_assoc, zero_cost-sum, sum-zero_cost, at_
 use Rattle.ch_graph.specs.Walk.{Walk, Walk.stay, Walk.go}
 use Rattle.ch_graph.specs.Graph.{Graph, ArcOf, bound_of}
 use Rattle.ch_graph.proofs.Walks.{Cheaper, one_arc, join, along_walks, cheaper-after, cheaper-before}
-use Rattle.ch_laws.specs.Contraction.{State, StateArc, Before, HasArc, Remains, Through, Avoids, HasWitness, Shortcut, NoShortcut, Puts}
+use Rattle.ch_laws.specs.declared.shortcut.Shortcut.{Shortcut}
+use Rattle.ch_laws.specs.Contraction.{State, StateArc, Before, HasArc, Remains, Through, Avoids, HasWitness, NoShortcut, Puts}
 use Rattle.ch_laws.proofs.Steps.{IsPut, one_cost, has_arc-same, pair_cases, alive-next}
 use Rattle.ch_laws.proofs.Sound.{IsSound, arc-walk, arc-above, arc-apart, remaining-walk, avoiding-walk, kept_into, contracted-before, puts-sound}
 

@@ -9,7 +9,8 @@ use Rattle.ch_graph.specs.Walk.{Walk, Walk.stay, Walk.go}
 use Rattle.ch_graph.specs.Graph.{Graph, IsGraph, ArcOf, bound_of}
 use Rattle.ch_graph.proofs.Walks.{Cheaper, one_arc, join, along_arcs, cheaper-after, cheaper-before}
 use Rattle.ch_graph.proofs.Bound.{arc-sound}
-use Rattle.ch_laws.specs.Contraction.{State, StateArc, IsAlive, HasArc, Remains, IsStartArc, IsStart, Shortcut, Puts, Contraction, Step, Run, Run.rest, Run.next, IsOver}
+use Rattle.ch_laws.specs.declared.shortcut.Shortcut.{Shortcut}
+use Rattle.ch_laws.specs.Contraction.{State, StateArc, IsAlive, HasArc, Remains, IsStartArc, IsStart, Puts, Contraction, Step, Run, Run.rest, Run.next, IsOver}
 use Rattle.ch_laws.proofs.Order.{before_not_alive}
 use Rattle.ch_laws.proofs.Steps.{has_arc-same, kept_from, kept_to}
 use Rattle.ch_laws.proofs.Sound.{IsSound, arc-apart, kept_out_of, before-next, contracted-before, puts-sound}

@@ -10,7 +10,8 @@ use Rattle.ch_graph.specs.Walk.{Walk, Walk.stay, Walk.go}
 use Rattle.ch_graph.specs.Graph.{Graph, IsGraph, ArcOf, bound_of}
 use Rattle.ch_graph.proofs.Walks.{one_arc, join, along_walks}
 use Rattle.ch_graph.proofs.Bound.{arc-sound, arc-within}
-use Rattle.ch_laws.specs.Contraction.{State, StateArc, Before, IsAlive, HasArc, Remains, IsStartArc, IsStart, Through, Avoids, Shortcut, Puts, Contraction, Step, Run, Run.rest, Run.next, IsReached}
+use Rattle.ch_laws.specs.declared.shortcut.Shortcut.{Shortcut}
+use Rattle.ch_laws.specs.Contraction.{State, StateArc, Before, IsAlive, HasArc, Remains, IsStartArc, IsStart, Through, Avoids, Puts, Contraction, Step, Run, Run.rest, Run.next, IsReached}
 use Rattle.ch_laws.proofs.Order.{before_not_alive, before-push, before-last}
 use Rattle.ch_laws.proofs.Steps.{IsPut, one_arc_there, has_arc-same, pair_cases, kept_unless_through, kept_from, kept_to}
 

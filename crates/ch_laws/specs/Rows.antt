@@ -1,13 +1,9 @@
 -- The rows of a state: what it has of each node, as lists.
 use Rattle.std.specs.Prelude.{ℕ, ◌≡◌, ◌≢◌, ◌<◌, ◌≤◌, ◌⊎◌, ◌↔◌, cond, nat_eq, List, [], ◌∷◌, length, Option, Some, None, AllPairs, Contains, slice_index}
 use Rattle.ch_cost.specs.declared.cost.Cost.{Cost}
-use Rattle.ch_laws.specs.Contraction.{State, StateArc, Before, Shortcut, IsFor, NoShortcut}
-
--- an arc between the row's node and another
-pub record Entry : Type 0 where
-  pub other : ℕ
-  pub cost : Cost
-  pub middle : Option ℕ
+use Rattle.ch_laws.specs.declared.entry.Entry.{Entry}
+use Rattle.ch_laws.specs.declared.shortcut.Shortcut.{Shortcut}
+use Rattle.ch_laws.specs.Contraction.{State, StateArc, Before, IsFor, NoShortcut}
 
 -- the arcs out of a node, those into it, and its rank where it is contracted
 pub record Row : Type 0 where
