@@ -4,3 +4,5 @@ pub mod Sound
 pub mod Detour
 pub mod Passage
 pub mod Made
+pub mod Values
+pub mod LeastRoutes

@@ -4,3 +4,9 @@
 //! anything: its definitions say what a state, a lawful contraction, a row and a made hierarchy are, and each law is
 //! the contract of a function with an empty body.
 #![tactic(auto)]
+
+mod right;
+mod routes;
+
+pub use right::{reached_hierarchy_is_right, reached_hierarchy_is_well_made};
+pub use routes::{least_route_is_a_least_walk, least_route_is_never_too_long};
