@@ -6,3 +6,4 @@ pub mod Passage
 pub mod Made
 pub mod Values
 pub mod LeastRoutes
+pub mod Lawful
