@@ -7,3 +7,4 @@ pub mod Made
 pub mod Values
 pub mod LeastRoutes
 pub mod Lawful
+pub mod RowChanges
