@@ -4,7 +4,7 @@ use Rattle.ch_cost.specs.declared.cost.Cost.{Cost}
 use Rattle.ch_cost.specs.Cost.{zero_cost, ◌⊕◌}
 use Rattle.ch_cost.specs.Cost.Laws.{sum_assoc, zero_cost-sum, sum-zero_cost}
 use Rattle.ch_graph.specs.declared.link.Link.{Link}
-use Rattle.ch_graph.specs.Walk.{Walk, Walk.stay, Walk.go, visited, Along}
+use Rattle.ch_graph.specs.Walk.{Walk, Walk.stay, Walk.go, Along}
 use Rattle.ch_graph.specs.Hierarchy.{Chain, Chain.nothing, Chain.then}
 use Rattle.ch_graph.proofs.Walks.{join}
 

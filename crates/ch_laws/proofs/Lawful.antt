@@ -1,10 +1,9 @@
 -- Lawful contractions: one more after a run, and what a plan makes of a state.
-use Rattle.std.proofs.Common.{ℕ, suc, ◌≡◌, ◌<◌, ◌⊎◌, true, false, ◌&&◌, nat_eq, cond, List, [], ◌∷◌, ◌++◌, length, Option, Some, None, AllPairs, Contains, arith, refl, sym, ◌∙◌, ap, subst, inl, inr}
-use Rattle.std.proofs.lemmas.Bool.{cases_Bool, cases_eq}
+use Rattle.std.proofs.Common.{ℕ, suc, ◌≡◌, true, false, nat_eq, List, [], ◌∷◌, ◌++◌, Option, Some, None, AllPairs, Contains, arith, refl, sym, ◌∙◌, ap, subst, inl, inr}
+use Rattle.std.proofs.lemmas.Bool.{cases_eq}
 use Rattle.std.proofs.lemmas.Bool.Decides.{nat_tests}
 use Rattle.ch_cost.specs.declared.cost.Cost.{Cost}
-use Rattle.ch_graph.specs.Graph.{Graph, bound_of}
-use Rattle.ch_laws.specs.Contraction.{State, StateArc, Shortcut, IsFor, NoShortcut, IsPlan, IsWitnessed, Puts, shortcut_arc, or_else, contracted, Contraction, Step, Run, Run.rest, Run.next, IsReached}
+use Rattle.ch_laws.specs.Contraction.{State, StateArc, Shortcut, IsFor, NoShortcut, shortcut_arc, or_else, Contraction, Step, Run, Run.rest, Run.next}
 use Rattle.ch_laws.specs.Theorems.{ReachesOn, PlanIsLawful}
 use Rattle.ch_laws.proofs.Order.{contains_first, contains_later, contains_cases}
 

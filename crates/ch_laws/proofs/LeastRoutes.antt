@@ -1,13 +1,13 @@
 -- The unfolded links of a least rise-fall walk: a least walk of the graph, with fewer arcs than there are nodes.
-use Rattle.std.proofs.Common.{ℕ, suc, ◌≡◌, ◌-◌, ◌<◌, ◌≤◌, List, [], ◌∷◌, ◌++◌, length, map, Option, Some, Contains, arith, refl, sym, ◌∙◌, ap, subst, inl, inr}
+use Rattle.std.proofs.Common.{ℕ, suc, ◌≡◌, ◌-◌, ◌<◌, ◌≤◌, List, [], ◌∷◌, length, map, Some, Contains, arith, sym, ap, subst, inl, inr}
 use Rattle.std.proofs.lemmas.List.{length-map}
 use Rattle.ch_cost.specs.declared.cost.Cost.{Cost}
-use Rattle.ch_cost.specs.Cost.{zero_cost, ◌⊕◌}
+use Rattle.ch_cost.specs.Cost.{◌⊕◌}
 use Rattle.ch_cost.specs.Cost.Laws.{below_not_at_most}
 use Rattle.ch_graph.specs.declared.link.Link.{Link}
 use Rattle.ch_graph.specs.Walk.{Walk, visited, Along}
 use Rattle.ch_graph.specs.Graph.{Graph, IsGraph, ArcOf, IsDistance}
-use Rattle.ch_graph.specs.Hierarchy.{Hierarchy, Chain, Chain.nothing, Chain.then, IsRising, IsFalling, IsRiseFall, IsValue, Unfolds, UnfoldsAll, UnfoldsAll.done, UnfoldsAll.more, IsArcOf, IsRight}
+use Rattle.ch_graph.specs.Hierarchy.{Hierarchy, Chain, Chain.nothing, IsRiseFall, UnfoldsAll, UnfoldsAll.done, UnfoldsAll.more, IsArcOf, IsRight}
 use Rattle.ch_graph.proofs.Bound.{few_arcs_or_cheaper}
 use Rattle.ch_graph.proofs.Chains.{chain-same, chain-join, chain-along, chain-weaker, chain-view}
 use Rattle.ch_laws.specs.Theorems.{IsLeastRoute, NeverTooLong, RouteIsLeast}

@@ -8,3 +8,4 @@ pub mod Values
 pub mod LeastRoutes
 pub mod Lawful
 pub mod RowChanges
+pub mod RowsShown

@@ -1,9 +1,9 @@
 -- What a contraction does to rows.
-use Rattle.std.proofs.Common.{ℕ, ◌≡◌, ◌≢◌, ◌<◌, ◌⊎◌, ◌↔◌, List, [], ◌∷◌, ◌++◌, length, get_or, Option, Some, None, Contains, arith, refl, sym, ◌∙◌, ap, subst, inl, inr}
+use Rattle.std.proofs.Common.{ℕ, ◌≡◌, ◌≢◌, ◌<◌, ◌⊎◌, ◌↔◌, List, length, get_or, Option, Some, Contains, arith, refl, sym, ◌∙◌, ap, subst, inl, inr}
 use Rattle.ch_cost.specs.declared.cost.Cost.{Cost}
-use Rattle.ch_graph.specs.Graph.{Graph, IsGraph, bound_of}
-use Rattle.ch_laws.specs.Contraction.{State, StateArc, Before, IsAlive, HasArc, Through, Shortcut, IsFor, NoShortcut, Puts, IsNeighbour}
-use Rattle.ch_laws.specs.Rows.{Entry, Row, Rises, arc_of, IsRow, IsOfShortcut, IsEntryAfter, IsChanged}
+use Rattle.ch_graph.specs.Graph.{Graph, bound_of}
+use Rattle.ch_laws.specs.Contraction.{State, StateArc, Before, IsAlive, HasArc, Shortcut, Puts, IsNeighbour}
+use Rattle.ch_laws.specs.Rows.{Entry, Row, arc_of, IsRow, IsOfShortcut, IsEntryAfter, IsChanged}
 use Rattle.ch_laws.specs.Theorems.{RowKept, RowsChange}
 use Rattle.ch_laws.proofs.Order.{before-back, before_not_alive, place-kept, place-last}
 use Rattle.ch_laws.proofs.Steps.{one_arc_there, HasShortcut, find_shortcut, kept_unless_through}
@@ -80,19 +80,29 @@ module _ {g : Graph} {old new : State} {v : ℕ} {put : List Shortcut} (sound : 
 
   out-kept : (x : ℕ) → (IsNeighbour old v x → ⊥) → (e : Entry) → OutIs old x e ↔ OutIs new x e
   out-kept x far e =
-      let same : new.arc x e.other ≡ old.arc x e.other = kept_unless_through puts x e.other (λ c through. far (record { alive = through.first.from_alive; joined = inr (through.into, through.first.arc) })) in
-      (λ is. (same ∙ is.0, λ b. elim (before-cases x e.other b) [
-        | inl before ↦ is.1 before
-        | inr last ↦ far (out_neighbour x e.other e is.0 last.0 last.1)
-      ]), λ is. (sym same ∙ is.0, λ b. is.1 (before-next sound puts b)))
+      let same : new.arc x e.other ≡ old.arc x e.other = kept_unless_through puts x e.other (λ c through. far (record { alive = through.first.from_alive; joined = inr (through.into, through.first.arc) })) in (
+        λ is. (
+          same ∙ is.0,
+          λ b. elim (before-cases x e.other b) [
+            | inl before ↦ is.1 before
+            | inr last ↦ far (out_neighbour x e.other e is.0 last.0 last.1)
+          ],
+        ),
+        λ is. (sym same ∙ is.0, λ b. is.1 (before-next sound puts b)),
+      )
 
   inn-kept : (x : ℕ) → (IsNeighbour old v x → ⊥) → (e : Entry) → InnIs old x e ↔ InnIs new x e
   inn-kept x far e =
-      let same : new.arc e.other x ≡ old.arc e.other x = kept_unless_through puts e.other x (λ c through. far (record { alive = through.second.to_alive; joined = inl (through.out, through.second.arc) })) in
-      (λ is. (same ∙ is.0, λ b. elim (before-cases x e.other b) [
-        | inl before ↦ is.1 before
-        | inr last ↦ far (inn_neighbour x e.other e is.0 last.0 last.1)
-      ]), λ is. (sym same ∙ is.0, λ b. is.1 (before-next sound puts b)))
+      let same : new.arc e.other x ≡ old.arc e.other x = kept_unless_through puts e.other x (λ c through. far (record { alive = through.second.to_alive; joined = inl (through.out, through.second.arc) })) in (
+        λ is. (
+          same ∙ is.0,
+          λ b. elim (before-cases x e.other b) [
+            | inl before ↦ is.1 before
+            | inr last ↦ far (inn_neighbour x e.other e is.0 last.0 last.1)
+          ],
+        ),
+        λ is. (sym same ∙ is.0, λ b. is.1 (before-next sound puts b)),
+      )
 
   row-kept : (x : ℕ) (r : Row) → x ≢ v → (IsNeighbour old v x → ⊥) → IsRow old x r → IsRow new x r
   row-kept x r apart far is = record {
@@ -119,10 +129,12 @@ module _ {g : Graph} {old new : State} {v : ℕ} {put : List Shortcut} (sound : 
     inn_rises = is.inn_rises;
     out = λ e. chain_iff (is.out e) (
       λ h. (kept_out_of sound puts e.other ∙ h.0, λ b. h.1 (before-contracted e.other b)),
-      λ h. (sym (kept_out_of sound puts e.other) ∙ h.0, λ b. h.1 (before-next sound puts b)));
+      λ h. (sym (kept_out_of sound puts e.other) ∙ h.0, λ b. h.1 (before-next sound puts b)),
+    );
     inn = λ e. chain_iff (is.inn e) (
       λ h. (kept_into sound puts e.other ∙ h.0, λ b. h.1 (before-contracted e.other b)),
-      λ h. (sym (kept_into sound puts e.other) ∙ h.0, λ b. h.1 (before-next sound puts b)));
+      λ h. (sym (kept_into sound puts e.other) ∙ h.0, λ b. h.1 (before-next sound puts b)),
+    );
   }
 
   -- The row of a neighbour
@@ -176,33 +188,35 @@ module _ {g : Graph} {old new : State} {v : ℕ} {put : List Shortcut} (sound : 
 
   out-changed : (x : ℕ) (r : Row) → IsAlive old x → x ≢ v → IsRow old x r → (e : Entry) → IsEntryAfter put v x e.other r.out e ↔ OutIs new x e
   out-changed x r alive apart is e = (
-      λ after. elim after [
-        | inl shortcut ↦ (shortcut-arc x e.other e shortcut, to_not_before x e.other x e shortcut)
-        | inr kept ↦
-            let was = (is.out e).0 kept.2 in
-            (puts.others x e.other kept.0 ∙ was.0, before-alive x e.other kept.1 was.1)
-      ],
-      λ h. elim (find_shortcut put x e.other) [
-        | inl found ↦ inl (entry-of_shortcut x e.other e found h.0)
-        | inr none ↦
-            let other : e.other ≢ v = λ is_v. h.1 (subst (λ n. Before new.order n x) (sym is_v) (contracted-before sound puts alive apart)) in
-            inr (none, other, (is.out e).1 (sym (puts.others x e.other none) ∙ h.0, λ b. h.1 (before-next sound puts b)))
-      ])
+    λ after. elim after [
+      | inl shortcut ↦ (shortcut-arc x e.other e shortcut, to_not_before x e.other x e shortcut)
+      | inr kept ↦
+          let was = (is.out e).0 kept.2 in
+          (puts.others x e.other kept.0 ∙ was.0, before-alive x e.other kept.1 was.1)
+    ],
+    λ h. elim (find_shortcut put x e.other) [
+      | inl found ↦ inl (entry-of_shortcut x e.other e found h.0)
+      | inr none ↦
+          let other : e.other ≢ v = λ is_v. h.1 (subst (λ n. Before new.order n x) (sym is_v) (contracted-before sound puts alive apart)) in
+          inr (none, other, (is.out e).1 (sym (puts.others x e.other none) ∙ h.0, λ b. h.1 (before-next sound puts b)))
+    ],
+  )
 
   inn-changed : (x : ℕ) (r : Row) → IsAlive old x → x ≢ v → IsRow old x r → (e : Entry) → IsEntryAfter put v e.other x r.inn e ↔ InnIs new x e
   inn-changed x r alive apart is e = (
-      λ after. elim after [
-        | inl shortcut ↦ (shortcut-arc e.other x e shortcut, from_not_before e.other x x e shortcut)
-        | inr kept ↦
-            let was = (is.inn e).0 kept.2 in
-            (puts.others e.other x kept.0 ∙ was.0, before-alive x e.other kept.1 was.1)
-      ],
-      λ h. elim (find_shortcut put e.other x) [
-        | inl found ↦ inl (entry-of_shortcut e.other x e found h.0)
-        | inr none ↦
-            let other : e.other ≢ v = λ is_v. h.1 (subst (λ n. Before new.order n x) (sym is_v) (contracted-before sound puts alive apart)) in
-            inr (none, other, (is.inn e).1 (sym (puts.others e.other x none) ∙ h.0, λ b. h.1 (before-next sound puts b)))
-      ])
+    λ after. elim after [
+      | inl shortcut ↦ (shortcut-arc e.other x e shortcut, from_not_before e.other x x e shortcut)
+      | inr kept ↦
+          let was = (is.inn e).0 kept.2 in
+          (puts.others e.other x kept.0 ∙ was.0, before-alive x e.other kept.1 was.1)
+    ],
+    λ h. elim (find_shortcut put e.other x) [
+      | inl found ↦ inl (entry-of_shortcut e.other x e found h.0)
+      | inr none ↦
+          let other : e.other ≢ v = λ is_v. h.1 (subst (λ n. Before new.order n x) (sym is_v) (contracted-before sound puts alive apart)) in
+          inr (none, other, (is.inn e).1 (sym (puts.others e.other x none) ∙ h.0, λ b. h.1 (before-next sound puts b)))
+    ],
+  )
 
   row-changed : (x : ℕ) (r q : Row) → IsAlive old x → x ≢ v → IsRow old x r → IsChanged put v x r q → IsRow new x q
   row-changed x r q alive apart is changed = record {

@@ -1,17 +1,17 @@
 -- A reached hierarchy is right: each walk of the graph has a rise-fall walk that costs no more, and the other way round.
-use Rattle.std.proofs.Common.{ℕ, ◌≡◌, ◌<◌, ◌⊎◌, ◌↔◌, List, [], ◌∷◌, ◌++◌, Option, Some, None, Contains, arith, refl, sym, ◌∙◌, ap, subst, inl, inr}
+use Rattle.std.proofs.Common.{ℕ, ◌≡◌, ◌<◌, ◌↔◌, List, [], ◌∷◌, ◌++◌, Option, Some, None, Contains, arith, refl, sym, ◌∙◌, ap, subst, inl, inr}
 use Rattle.ch_cost.specs.declared.cost.Cost.{Cost}
-use Rattle.ch_cost.specs.Cost.{zero_cost, ◌⊕◌, ◌≼◌, ◌≺◌, IsWithin, IsNoLonger}
+use Rattle.ch_cost.specs.Cost.{◌⊕◌, ◌≼◌, IsWithin, IsNoLonger}
 use Rattle.ch_cost.specs.Cost.Laws.{at_most_refl, at_most_trans, at_most_antisym, at_most-from_below, no_longer-from_within, cost-induction}
 use Rattle.ch_graph.specs.declared.link.Link.{Link}
-use Rattle.ch_graph.specs.Walk.{Walk, Walk.stay, Walk.go, IsLeastOrNone}
+use Rattle.ch_graph.specs.Walk.{Walk, Walk.stay, Walk.go}
 use Rattle.ch_graph.specs.Graph.{Graph, IsGraph, ArcOf, bound_of, IsDistance}
-use Rattle.ch_graph.specs.Hierarchy.{Hierarchy, rank_of, Chain, Chain.nothing, Chain.then, IsRising, IsFalling, IsRiseFall, HasRiseFall, IsValue, IsLink, Unfolds, Unfolds.whole, Unfolds.halves, IsArcOf, IsRight}
+use Rattle.ch_graph.specs.Hierarchy.{Hierarchy, Chain, Chain.nothing, Chain.then, IsRising, IsFalling, HasRiseFall, IsValue, Unfolds, Unfolds.whole, Unfolds.halves, IsArcOf}
 use Rattle.ch_graph.proofs.Walks.{Cheaper, join}
 use Rattle.ch_graph.proofs.Bound.{within_or_cheaper}
 use Rattle.ch_graph.proofs.Chains.{chain-same, chain-join, one_link, chain-walk}
-use Rattle.ch_graph.proofs.Unfolding.{HasUnfolding, link-unfolds}
-use Rattle.ch_laws.specs.Contraction.{State, StateArc, Before, HasArc, Contraction, IsReached, IsOver, IsMade}
+use Rattle.ch_graph.proofs.Unfolding.{link-unfolds}
+use Rattle.ch_laws.specs.Contraction.{State, Contraction, IsReached, IsOver, IsMade}
 use Rattle.ch_laws.specs.Theorems.{AlwaysRight, AlwaysWellMade}
 use Rattle.ch_laws.proofs.Steps.{one_cost}
 use Rattle.ch_laws.proofs.Sound.{IsSound, IsSplit, start-sound, reached-sound}
@@ -90,8 +90,8 @@ module _ {g : Graph} {log : List Contraction} {s : State} {h : Hierarchy} (is : 
   no_dearer : (c : Cost) (x z : ℕ) → Walk (ArcOf g) x z c → HasNoDearer h x z c
   no_dearer = cost-induction (λ c. (x z : ℕ) → Walk (ArcOf g) x z c → HasNoDearer h x z c) (λ c smaller x z w.
       let by_cheaper : Cheaper (ArcOf g) x z c → HasNoDearer h x z c = λ less.
-          let found = smaller less.cost less.below x z less.walk in
-          record { cost = found.cost; rise_fall = found.rise_fall; at_most = at_most_trans found.at_most (at_most-from_below less.below) } in
+      let found = smaller less.cost less.below x z less.walk in
+      record { cost = found.cost; rise_fall = found.rise_fall; at_most = at_most_trans found.at_most (at_most-from_below less.below) } in
       elim (within_or_cheaper g is w) [
         | inr less ↦ by_cheaper less
         | inl within ↦ elim (over-progress over (run-progress reached.run (start-sound g reached.start is reached.starts) within (start-progress is reached.starts w))) [
@@ -102,17 +102,21 @@ module _ {g : Graph} {log : List Contraction} {s : State} {h : Hierarchy} (is : 
 
   value-same : (x z : ℕ) (c : Option Cost) → IsDistance g x z c ↔ IsValue h x z c
   value-same x z (Some c) = (
-      λ distance.
+    λ distance.
         let found = no_dearer c x z distance.0 in
         let same : found.cost ≡ c = at_most_antisym found.at_most (distance.1 found.cost (rise_fall-walk (reached-sound is reached) over made found.rise_fall)) in
         (subst (λ (d : Cost). HasRiseFall h x z d) same found.rise_fall, λ d has. distance.1 d (rise_fall-walk (reached-sound is reached) over made has)),
-      λ value.
-        (rise_fall-walk (reached-sound is reached) over made value.0, λ d w.
+    λ value. (
+      rise_fall-walk (reached-sound is reached) over made value.0,
+      λ d w.
           let found = no_dearer d x z w in
-          at_most_trans (value.1 found.cost found.rise_fall) found.at_most))
+          at_most_trans (value.1 found.cost found.rise_fall) found.at_most,
+    ),
+  )
   value-same x z None = (
-      λ none c has. none c (rise_fall-walk (reached-sound is reached) over made has),
-      λ none c w. let found = no_dearer c x z w in none found.cost found.rise_fall)
+    λ none c has. none c (rise_fall-walk (reached-sound is reached) over made has),
+    λ none c w. let found = no_dearer c x z w in none found.cost found.rise_fall,
+  )
 
 pub always_right : AlwaysRight
 always_right g log s h is reached over made =

@@ -1,5 +1,5 @@
 -- The rows of a state: what it has of each node, as lists.
-use Rattle.std.specs.Prelude.{ℕ, ◌≡◌, ◌≢◌, ◌<◌, ◌≤◌, ◌⊎◌, ◌↔◌, cond, nat_eq, List, [], ◌∷◌, length, Option, Some, None, AllPairs, Contains, slice_index, slice_index_or}
+use Rattle.std.specs.Prelude.{ℕ, ◌≡◌, ◌≢◌, ◌<◌, ◌⊎◌, ◌↔◌, cond, nat_eq, List, [], ◌∷◌, length, Option, Some, None, AllPairs, Contains, slice_index, slice_index_or}
 use Rattle.ch_cost.specs.declared.cost.Cost.{Cost}
 use Rattle.ch_laws.specs.Contraction.{State, StateArc, Before, Shortcut, IsFor, NoShortcut, or_else}
 
