@@ -4,7 +4,7 @@ use Rattle.ch_cost.specs.declared.cost.Cost.{Cost}
 use Rattle.ch_cost.specs.Cost.{zero_cost, ◌⊕◌}
 use Rattle.ch_cost.specs.Cost.Laws.{sum_assoc, zero_cost-sum, sum-zero_cost}
 use Rattle.ch_graph.specs.declared.link.Link.{Link}
-use Rattle.ch_graph.specs.Walk.{Walk, Walk.stay, Walk.go, visited, Along}
+use Rattle.ch_graph.specs.Walk.{Walk, Walk.stay, Walk.go, Along}
 use Rattle.ch_graph.specs.Hierarchy.{Chain, Chain.nothing, Chain.then}
 use Rattle.ch_graph.proofs.Walks.{join}
 
@@ -33,3 +33,17 @@ module _ {IsKind : Link → Type 0} where
   chain-along {Arc = Arc} each (then {l = l} {x = x} kind from rest) =
       let more = chain-along each rest in
       (go (subst (λ n. Arc n l.to l.cost) from (each l kind)) more.0, ap (λ (nodes : List ℕ). x ∷ nodes) more.1)
+
+-- a chain of links of one kind is one of another where each link is
+pub chain-weaker : {IsKind IsOther : Link → Type 0} → ((l : Link) → IsKind l → IsOther l) → {ls : List Link} {x z : ℕ} {c : Cost} → Chain IsKind ls x z c → Chain IsOther ls x z c
+chain-weaker each nothing = nothing
+chain-weaker each (then {l = l} kind from rest) = then (each l kind) from (chain-weaker each rest)
+
+-- what a chain of these links is, by the list
+abbrev pub ChainView : (Link → Type 0) → List Link → ℕ → ℕ → Cost → Type 0
+ChainView IsKind [] x z c = (x ≡ z) × (zero_cost ≡ c)
+ChainView IsKind (l ∷ ls) x z c = (d : Cost) × IsKind l × (l.from ≡ x) × Chain IsKind ls l.to z d × (l.cost ⊕ d ≡ c)
+
+pub chain-view : {IsKind : Link → Type 0} {ls : List Link} {x z : ℕ} {c : Cost} → Chain IsKind ls x z c → ChainView IsKind ls x z c
+chain-view nothing = (refl, refl)
+chain-view (then {d = d} kind from rest) = (d, kind, from, rest, refl)

@@ -2,7 +2,7 @@
 use Rattle.std.proofs.Common.{ℕ, zero, suc, ◌≡◌, ◌+◌, ◌<◌, min, List, [], ◌∷◌, ◌++◌, Option, Some, None, Contains, arith, refl, sym, subst}
 use Rattle.std.proofs.lemmas.List.Elements.{All-contains}
 use Rattle.ch_graph.specs.declared.link.Link.{Link}
-use Rattle.ch_graph.specs.Hierarchy.{Hierarchy, rank_of, IsLink, Unfolds, Unfolds.whole, Unfolds.halves, AreHalves, IsLinkWellMade, IsWellMade}
+use Rattle.ch_graph.specs.Hierarchy.{Hierarchy, rank_of, Unfolds, Unfolds.whole, Unfolds.halves, AreHalves, IsLinkWellMade, IsWellMade}
 
 -- the rank of the lower end
 abbrev lower : Hierarchy → Link → ℕ

@@ -3,14 +3,14 @@
 use Rattle.std.proofs.Common.{ℕ, ◌≡◌, ◌≢◌, ◌⊎◌, List, refl, sym, ◌∙◌, ap, subst, inl, inr}
 use Rattle.std.proofs.lemmas.Bool.{cases_eq}
 use Rattle.ch_cost.specs.declared.cost.Cost.{Cost}
-use Rattle.ch_cost.specs.Cost.{zero_cost, ◌⊕◌, ◌≼◌, ◌≺◌, IsWithin}
+use Rattle.ch_cost.specs.Cost.{zero_cost, ◌⊕◌, IsWithin}
 use Rattle.ch_cost.specs.Cost.Laws.{sum_assoc, zero_cost-sum, sum-zero_cost, at_most_antisym, at_most_sum_right, at_most_trans_below, below_sum_left, cases_cost, within-left, within-right}
 use Rattle.ch_graph.specs.Walk.{Walk, Walk.stay, Walk.go}
 use Rattle.ch_graph.specs.Graph.{Graph, ArcOf, bound_of}
 use Rattle.ch_graph.proofs.Walks.{Cheaper, one_arc, join, along_walks, cheaper-after, cheaper-before}
 use Rattle.ch_laws.specs.declared.shortcut.Shortcut.{Shortcut}
-use Rattle.ch_laws.specs.Contraction.{State, StateArc, Before, HasArc, Remains, Through, Avoids, HasWitness, NoShortcut, Puts}
-use Rattle.ch_laws.proofs.Steps.{IsPut, one_cost, has_arc-same, pair_cases, alive-next}
+use Rattle.ch_laws.specs.Contraction.{State, Before, HasArc, Remains, Through, Avoids, HasWitness, Puts}
+use Rattle.ch_laws.proofs.Steps.{one_cost, has_arc-same, pair_cases, alive-next}
 use Rattle.ch_laws.proofs.Sound.{IsSound, arc-walk, arc-above, arc-apart, remaining-walk, avoiding-walk, kept_into, contracted-before, puts-sound}
 
 -- an arc to a node that comes later in the order, and one to a node that came earlier

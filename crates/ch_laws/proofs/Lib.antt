@@ -4,3 +4,8 @@ pub mod Sound
 pub mod Detour
 pub mod Passage
 pub mod Made
+pub mod Values
+pub mod LeastRoutes
+pub mod Lawful
+pub mod RowChanges
+pub mod RowsShown

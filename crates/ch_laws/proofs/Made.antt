@@ -1,6 +1,5 @@
 -- The hierarchy that is made of a state: its ranks, its links, and why it is well made.
-use Rattle.std.specs.List.{list_any}
-use Rattle.std.proofs.Common.{ℕ, ◌≡◌, ◌≢◌, ◌+◌, ◌-◌, ◌^◌, ◌<◌, ◌≤◌, true, eqb, List, length, Option, Some, None, get_or, All, AllPairs, Contains, arith, lt_trans, refl, sym, ◌∙◌, ap, subst, inl, inr}
+use Rattle.std.proofs.Common.{ℕ, ◌≡◌, ◌≢◌, ◌-◌, ◌^◌, ◌<◌, ◌≤◌, eqb, List, length, Some, get_or, AllPairs, Contains, arith, lt_trans, refl, sym, ◌∙◌, ap, subst, inl, inr}
 use Rattle.std.proofs.lemmas.Bool.{cases_lt}
 use Rattle.std.proofs.lemmas.Bool.Decides.{nat_tests, Decides-eqb}
 use Rattle.std.proofs.lemmas.List.{get_or_default}
@@ -11,12 +10,11 @@ use Rattle.std.proofs.lemmas.Map.Steps.{length-le_from_distinct_below}
 use Rattle.ch_cost.specs.declared.cost.Cost.{Cost}
 use Rattle.ch_cost.specs.Cost.{◌⊕◌, cost_of_arcs, IsWithin}
 use Rattle.ch_graph.specs.declared.link.Link.{Link}
-use Rattle.ch_graph.specs.Walk.{Walk}
-use Rattle.ch_graph.specs.Graph.{Graph, IsGraph, ArcOf, bound_of}
+use Rattle.ch_graph.specs.Graph.{Graph, IsGraph, bound_of}
 use Rattle.ch_graph.specs.Hierarchy.{Hierarchy, rank_of, IsLink, AreHalves, IsLinkWellMade, IsWellMade}
 use Rattle.ch_graph.proofs.Bound.{bound-within}
 use Rattle.ch_laws.specs.Contraction.{State, StateArc, Before, HasArc, IsOver, IsMade}
-use Rattle.ch_laws.proofs.Order.{contains_place, place_of}
+use Rattle.ch_laws.proofs.Order.{place_of}
 use Rattle.ch_laws.proofs.Sound.{IsSound, IsSoundArc, IsSplit}
 
 -- numbers below n, each once, are n at most
@@ -96,14 +94,17 @@ module _ {g : Graph} {s : State} {h : Hierarchy} (sound : IsSound g s) (over : I
       let first = half-link l.from m split.into split.first in
       let second = half-link m l.to split.out split.second in
       let into : first.0.cost ≡ split.into = first.2 in
-      let out : second.0.cost ≡ split.out = second.2 in
-      (first.0, second.0, record {
-        first = first.1;
-        second = second.1;
-        sum = split.adds ∙ ap (λ (c : Cost). c ⊕ split.out) (sym into) ∙ ap (λ (c : Cost). first.0.cost ⊕ c) (sym out);
-        below_from = before-rank split.before_from from_in;
-        below_to = before-rank split.before_to to_in;
-      })
+      let out : second.0.cost ≡ split.out = second.2 in (
+        first.0,
+        second.0,
+        record {
+          first = first.1;
+          second = second.1;
+          sum = split.adds ∙ ap (λ (c : Cost). c ⊕ split.out) (sym into) ∙ ap (λ (c : Cost). first.0.cost ⊕ c) (sym out);
+          below_from = before-rank split.before_from from_in;
+          below_to = before-rank split.before_to to_in;
+        },
+      )
 
   link-well : (l : Link) → Contains h.links l → IsLinkWellMade h l
   link-well l among =

@@ -1,8 +1,7 @@
 -- The order of contraction: what stands before what, also after one more node.
-use Rattle.std.proofs.Common.{ℕ, zero, suc, ◌≡◌, ◌≢◌, ◌+◌, ◌<◌, ◌≤◌, ◌⊎◌, List, [], ◌∷◌, ◌++◌, length, get_or, length-append, AllPairs, Contains, arith, refl, sym, ◌∙◌, subst, inl, inr}
+use Rattle.std.proofs.Common.{ℕ, zero, suc, ◌≡◌, ◌≢◌, ◌<◌, ◌≤◌, ◌⊎◌, ◌↔◌, List, [], ◌∷◌, ◌++◌, length, get_or, Contains, arith, refl, sym, ◌∙◌, inl, inr}
 use Rattle.std.proofs.lemmas.Bool.{cases_lt}
 use Rattle.std.proofs.lemmas.List.{get_or_default, get_or_append_left, get_or_push, length_push}
-use Rattle.std.proofs.lemmas.List.Elements.{Contains-append_left, Contains-push, Contains-push_cases}
 use Rattle.ch_laws.specs.Contraction.{State, Before, IsAlive}
 
 -- Members of lists
@@ -44,8 +43,8 @@ before-push {order} {x} {y} v b = record {
   within = omega (arith, length_push order v, b.within);
   here = get_or_append_left order (v ∷ []) 0 b.place b.within ∙ b.here;
   not_yet = λ k low is.
-    let inside : k < length order = omega (arith, low, b.within) in
-    b.not_yet k low (sym (get_or_append_left order (v ∷ []) 0 k inside) ∙ is);
+      let inside : k < length order = omega (arith, low, b.within) in
+      b.not_yet k low (sym (get_or_append_left order (v ∷ []) 0 k inside) ∙ is);
 }
 
 -- the node that is added stands before each that isn't in the order
@@ -61,6 +60,50 @@ before-last order v y out apart = record {
         apart (sym (get_or_push order v 0 k last) ∙ is)
   ];
 }
+
+-- what stands before a node when one is added did so already, or is the one that is added
+pub before-back : (order : List ℕ) (v x y : ℕ) → Before (order ++ v ∷ []) x y → Before order x y ⊎ ((x ≡ v) × (Contains order y → ⊥) × (x ≢ y))
+before-back order v x y b = elim (cases_lt b.place (length order)) [
+  | inl inside ↦ inl (record {
+    place = b.place;
+    within = inside;
+    here = sym (get_or_append_left order (v ∷ []) 0 b.place inside) ∙ b.here;
+    not_yet = λ k low is.
+        let in_order : k < length order = omega (arith, low, inside) in
+        b.not_yet k low (get_or_append_left order (v ∷ []) 0 k in_order ∙ is);
+  })
+  | inr past ↦
+      let last : length order ≡ b.place = omega (arith, past, b.within, length_push order v) in
+      inr (
+        sym b.here ∙ get_or_push order v 0 b.place last,
+        λ among.
+            let low : among.0 ≤ b.place = omega (arith, among.1, past) in
+            b.not_yet among.0 low (get_or_append_left order (v ∷ []) 0 among.0 among.1 ∙ place_of order y among),
+        λ same. b.not_yet b.place (omega arith) (b.here ∙ same),
+      )
+]
+
+-- the places of a node other than the one that is added stay
+pub place-kept : (order : List ℕ) (v x k : ℕ) → x ≢ v → ((k < length order) × (get_or order k 0 ≡ x)) ↔ ((k < length (order ++ v ∷ [])) × (get_or (order ++ v ∷ []) k 0 ≡ x))
+place-kept order v x k apart = (
+  λ h. (omega (arith, h.0, length_push order v), get_or_append_left order (v ∷ []) 0 k h.0 ∙ h.1),
+  λ h. elim (cases_lt k (length order)) [
+    | inl inside ↦ (inside, sym (get_or_append_left order (v ∷ []) 0 k inside) ∙ h.1)
+    | inr past ↦
+        let last : length order ≡ k = omega (arith, past, h.0, length_push order v) in
+        absurd (apart (sym h.1 ∙ get_or_push order v 0 k last))
+  ],
+)
+
+-- the place of the node that is added, where it wasn't there before
+pub place-last : (order : List ℕ) (v k : ℕ) → (Contains order v → ⊥) → (length order ≡ k) ↔ ((k < length (order ++ v ∷ [])) × (get_or (order ++ v ∷ []) k 0 ≡ v))
+place-last order v k out = (
+  λ is. (omega (arith, is, length_push order v), get_or_push order v 0 k is),
+  λ h. elim (cases_lt k (length order)) [
+    | inl inside ↦ absurd (out (contains_place order k v inside (sym (get_or_append_left order (v ∷ []) 0 k inside) ∙ h.1)))
+    | inr past ↦ omega (arith, past, h.0, length_push order v)
+  ],
+)
 
 -- Alive nodes
 

@@ -1,20 +1,20 @@
 -- How a walk of the graph fares along a run of contractions: it stays a passage of the same cost, or becomes a crest,
 -- or a cheaper walk of the graph is there.
-use Rattle.std.proofs.Common.{ℕ, ◌≡◌, ◌≢◌, ◌<◌, ◌⊎◌, List, [], ◌∷◌, Option, Some, None, Contains, refl, arith, sym, ◌∙◌, ap, subst, inl, inr}
+use Rattle.std.proofs.Common.{ℕ, ◌≡◌, ◌<◌, ◌⊎◌, List, Option, Some, None, Contains, refl, arith, sym, ◌∙◌, ap, subst, inl, inr}
 use Rattle.std.proofs.lemmas.Bool.{cases_eq}
 use Rattle.ch_cost.specs.declared.cost.Cost.{Cost}
-use Rattle.ch_cost.specs.Cost.{zero_cost, ◌⊕◌, ◌≼◌, ◌≺◌, IsWithin}
+use Rattle.ch_cost.specs.Cost.{zero_cost, ◌⊕◌, IsWithin}
 use Rattle.ch_cost.specs.Cost.Laws.{sum_assoc, zero_cost-sum, sum-zero_cost, at_most_antisym, cases_cost, within-left, within-right}
 use Rattle.ch_graph.specs.Walk.{Walk, Walk.stay, Walk.go}
 use Rattle.ch_graph.specs.Graph.{Graph, IsGraph, ArcOf, bound_of}
 use Rattle.ch_graph.proofs.Walks.{Cheaper, one_arc, join, along_arcs, cheaper-after, cheaper-before}
 use Rattle.ch_graph.proofs.Bound.{arc-sound}
 use Rattle.ch_laws.specs.declared.shortcut.Shortcut.{Shortcut}
-use Rattle.ch_laws.specs.Contraction.{State, StateArc, IsAlive, HasArc, Remains, IsStartArc, IsStart, Puts, Contraction, Step, Run, Run.rest, Run.next, IsOver}
+use Rattle.ch_laws.specs.Contraction.{State, StateArc, IsAlive, Remains, IsStartArc, IsStart, Puts, Contraction, Run, Run.rest, Run.next, IsOver}
 use Rattle.ch_laws.proofs.Order.{before_not_alive}
 use Rattle.ch_laws.proofs.Steps.{has_arc-same, kept_from, kept_to}
 use Rattle.ch_laws.proofs.Sound.{IsSound, arc-apart, kept_out_of, before-next, contracted-before, puts-sound}
-use Rattle.ch_laws.proofs.Detour.{Climbs, Drops, Lead, Detour, Detour.dearer, Detour.beside, Detour.stands, Detour.leaves, climbing-walk, dropping-walk, detour}
+use Rattle.ch_laws.proofs.Detour.{Climbs, Drops, Detour, Detour.dearer, Detour.beside, Detour.stands, Detour.leaves, climbing-walk, dropping-walk, detour}
 
 -- A walk that rises through contracted nodes, goes on in the remaining graph, and falls through contracted nodes.
 pub record Passage (s : State) (x z : ℕ) (c : Cost) : Type 0 where
@@ -89,8 +89,14 @@ module _ {g : Graph} {s : State} (is : IsGraph g) (start : IsStart g s) where
   start-progress {x} {z} {c} w = elim (start-walk w) [
     | inr less ↦ cheaper less
     | inl walk ↦ passes (record {
-      first = x; last = z; up = zero_cost; mid = c; down = zero_cost;
-      rise = stay; walk = walk; fall = stay;
+      first = x;
+      last = z;
+      up = zero_cost;
+      mid = c;
+      down = zero_cost;
+      rise = stay;
+      walk = walk;
+      fall = stay;
       sum = sym (zero_cost-sum (c ⊕ zero_cost) ∙ sum-zero_cost c);
     })
   ]
@@ -116,12 +122,20 @@ module _ {g : Graph} {old new : State} {v : ℕ} {put : List Shortcut} (sound : 
   by_detour {x} {z} p (dearer less) =
       cheaper (subst (λ (c : Cost). Cheaper (ArcOf g) x z c) (sym p.sum) (cheaper-after (climbing-walk sound p.rise) (cheaper-before less (dropping-walk sound p.fall))))
   by_detour p (beside apart lead) = passes (record {
-    first = p.first; last = lead.turn; up = p.up; mid = lead.mid; down = lead.down ⊕ p.down;
-    rise = rise-next p.rise; walk = lead.walk; fall = join lead.fall (fall-next p.fall);
+    first = p.first;
+    last = lead.turn;
+    up = p.up;
+    mid = lead.mid;
+    down = lead.down ⊕ p.down;
+    rise = rise-next p.rise;
+    walk = lead.walk;
+    fall = join lead.fall (fall-next p.fall);
     sum = p.sum ∙ ap (λ (c : Cost). p.up ⊕ c) (ap (λ (c : Cost). c ⊕ p.down) lead.sum ∙ sum_assoc lead.mid lead.down p.down);
   })
   by_detour {z = z} p (stands at_v ends free) = crests (record {
-    top = p.first; up = p.up; down = p.down;
+    top = p.first;
+    up = p.up;
+    down = p.down;
     rise = rise-next p.rise;
     fall = subst (λ n. Walk (Drops new) n z p.down) (ends ∙ sym at_v) (fall-next p.fall);
     sum = p.sum ∙ ap (λ (c : Cost). p.up ⊕ c) (ap (λ (c : Cost). c ⊕ p.down) free ∙ zero_cost-sum p.down);
@@ -131,8 +145,14 @@ module _ {g : Graph} {old new : State} {v : ℕ} {put : List Shortcut} (sound : 
       let rise : Walk (Climbs new) x v p.up = subst (λ n. Walk (Climbs new) x n p.up) at_v (rise-next p.rise) in
       let mid : p.mid ≡ a ⊕ (lead.mid ⊕ lead.down) = sum ∙ ap (λ (c : Cost). a ⊕ c) lead.sum in
       passes (record {
-        first = y; last = lead.turn; up = p.up ⊕ a; mid = lead.mid; down = lead.down ⊕ p.down;
-        rise = join rise (one_arc climb); walk = lead.walk; fall = join lead.fall (fall-next p.fall);
+        first = y;
+        last = lead.turn;
+        up = p.up ⊕ a;
+        mid = lead.mid;
+        down = lead.down ⊕ p.down;
+        rise = join rise (one_arc climb);
+        walk = lead.walk;
+        fall = join lead.fall (fall-next p.fall);
         sum = p.sum ∙ ap (λ (c : Cost). p.up ⊕ (c ⊕ p.down)) mid ∙ regroup p.up a lead.mid lead.down p.down;
       })
 

@@ -1,17 +1,17 @@
 -- What holds of every state that contractions reach: each arc costs what some walk of the graph costs.
-use Rattle.std.proofs.Common.{ℕ, ◌≡◌, ◌≢◌, ◌<◌, ◌≤◌, ◌⊎◌, List, [], ◌∷◌, ◌++◌, length, Option, Some, None, AllPairs, Contains, arith, refl, sym, ◌∙◌, ap, subst, inl, inr}
+use Rattle.std.proofs.Common.{ℕ, ◌≡◌, ◌≢◌, ◌<◌, List, Option, Some, None, AllPairs, Contains, arith, refl, sym, ◌∙◌, subst, inl, inr}
 use Rattle.std.proofs.lemmas.Bool.{cases_eq}
 use Rattle.std.proofs.lemmas.List.Elements.{Contains-push_cases, Contains-get_or}
 use Rattle.std.proofs.lemmas.List.Quantifiers.{all_pairs_push}
 use Rattle.ch_cost.specs.declared.cost.Cost.{Cost}
 use Rattle.ch_cost.specs.Cost.{zero_cost, ◌⊕◌, ◌≺◌, IsWithin}
 use Rattle.ch_cost.specs.Cost.Laws.{at_most_sum_left, below_trans_at_most}
-use Rattle.ch_graph.specs.Walk.{Walk, Walk.stay, Walk.go}
+use Rattle.ch_graph.specs.Walk.{Walk}
 use Rattle.ch_graph.specs.Graph.{Graph, IsGraph, ArcOf, bound_of}
 use Rattle.ch_graph.proofs.Walks.{one_arc, join, along_walks}
 use Rattle.ch_graph.proofs.Bound.{arc-sound, arc-within}
 use Rattle.ch_laws.specs.declared.shortcut.Shortcut.{Shortcut}
-use Rattle.ch_laws.specs.Contraction.{State, StateArc, Before, IsAlive, HasArc, Remains, IsStartArc, IsStart, Through, Avoids, Puts, Contraction, Step, Run, Run.rest, Run.next, IsReached}
+use Rattle.ch_laws.specs.Contraction.{State, StateArc, Before, IsAlive, HasArc, Remains, IsStartArc, IsStart, Through, Avoids, Puts, Contraction, Run, Run.rest, Run.next, IsReached}
 use Rattle.ch_laws.proofs.Order.{before_not_alive, before-push, before-last}
 use Rattle.ch_laws.proofs.Steps.{IsPut, one_arc_there, has_arc-same, pair_cases, kept_unless_through, kept_from, kept_to}
 
@@ -165,9 +165,9 @@ module _ {g : Graph} {old new : State} {v : ℕ} {put : List Shortcut} (sound : 
         within = is_put.within;
         whole = λ none. let some : is_put.arc.middle ≡ Some v = is_put.middle in absurd (cc);
         split = λ m some.
-          let is_v : is_put.arc.middle ≡ Some v = is_put.middle in
-          let same : v ≡ m = cc in
-          subst (λ n. IsSplit new x y n is_put.arc.cost) same (put-split through);
+            let is_v : is_put.arc.middle ≡ Some v = is_put.middle in
+            let same : v ≡ m = cc in
+            subst (λ n. IsSplit new x y n is_put.arc.cost) same (put-split through);
       }
 
   -- a lawful contraction keeps a state sound

@@ -1,11 +1,11 @@
 -- One contraction: which arcs it changes, and which nodes stay alive.
-use Rattle.std.proofs.Common.{ℕ, ◌≡◌, ◌≢◌, ◌⊎◌, List, [], ◌∷◌, ◌++◌, Option, Some, None, Contains, arith, refl, sym, ◌∙◌, ap, subst, inl, inr}
+use Rattle.std.proofs.Common.{ℕ, ◌≡◌, ◌≢◌, ◌⊎◌, List, [], ◌∷◌, Option, Some, Contains, arith, refl, sym, ◌∙◌, ap, subst, inl, inr}
 use Rattle.std.proofs.lemmas.Bool.{cases_eq}
 use Rattle.std.proofs.lemmas.List.Elements.{Contains-append_left, Contains-push, Contains-push_cases}
 use Rattle.ch_cost.specs.declared.cost.Cost.{Cost}
-use Rattle.ch_cost.specs.Cost.{◌⊕◌, ◌≺◌, IsWithin}
+use Rattle.ch_cost.specs.Cost.{◌≺◌, IsWithin}
 use Rattle.ch_laws.specs.declared.shortcut.Shortcut.{Shortcut}
-use Rattle.ch_laws.specs.Contraction.{State, StateArc, Before, IsAlive, HasArc, Remains, Through, IsFor, NoShortcut, Puts}
+use Rattle.ch_laws.specs.Contraction.{State, StateArc, IsAlive, HasArc, Through, IsFor, NoShortcut, Puts}
 use Rattle.ch_laws.proofs.Order.{contains_first, contains_later, contains_cases}
 
 -- a pair has one arc

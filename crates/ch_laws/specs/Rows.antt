@@ -1,9 +1,9 @@
 -- The rows of a state: what it has of each node, as lists.
-use Rattle.std.specs.Prelude.{ℕ, ◌≡◌, ◌≢◌, ◌<◌, ◌≤◌, ◌⊎◌, ◌↔◌, cond, nat_eq, List, [], ◌∷◌, length, Option, Some, None, AllPairs, Contains, slice_index}
+use Rattle.std.specs.Prelude.{ℕ, ◌≡◌, ◌≢◌, ◌<◌, ◌⊎◌, ◌↔◌, cond, nat_eq, List, [], ◌∷◌, length, Option, Some, None, AllPairs, Contains, slice_index, slice_index_or}
 use Rattle.ch_cost.specs.declared.cost.Cost.{Cost}
 use Rattle.ch_laws.specs.declared.entry.Entry.{Entry}
 use Rattle.ch_laws.specs.declared.shortcut.Shortcut.{Shortcut}
-use Rattle.ch_laws.specs.Contraction.{State, StateArc, Before, IsFor, NoShortcut}
+use Rattle.ch_laws.specs.Contraction.{State, StateArc, Before, IsFor, NoShortcut, or_else}
 
 -- the arcs out of a node, those into it, and its rank where it is contracted
 pub record Row : Type 0 where
@@ -31,6 +31,18 @@ pub record IsRow (s : State) (x : ℕ) (r : Row) : Type 0 where
 abbrev pub arc_to : ℕ → List Entry → Option StateArc
 arc_to y [] = None
 arc_to y (e ∷ es) = cond (nat_eq e.other y) (arc_of e) (arc_to y es)
+
+-- the arc from x to y by their rows: an arc out of x, or else an arc into y
+abbrev pub shown : Row → Row → ℕ → ℕ → Option StateArc
+shown q r x y = or_else (arc_to y q.out) (arc_to x r.inn)
+
+-- the row of a node in a list of all rows
+abbrev pub row_at : List Row → ℕ → Row
+row_at rows x = slice_index_or rows x (record { out = []; inn = []; rank = None })
+
+-- the state that these rows and this order show
+abbrev pub state_of : List Row → List ℕ → State
+state_of rows order = record { nodes = length rows; order = order; arc = λ x y. shown (row_at rows x) (row_at rows y) x y }
 
 -- the entry tells of a shortcut from u to w with the middle v
 pub record IsOfShortcut (put : List Shortcut) (v u w : ℕ) (e : Entry) : Type 0 where
