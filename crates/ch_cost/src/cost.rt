@@ -49,13 +49,11 @@ impl Cost {
     pub fn plus_within(self, other: Cost, bound: Cost) -> Option<Cost>
         ensures { SomeIff result (IsWithin (self ⊕ other) bound) (self ⊕ other) }
     {
-        if other.weight <= bound.weight && self.weight <= bound.weight - other.weight {
-            Some(Cost {
-                weight: self.weight + other.weight,
-            })
-        } else {
-            None
+        let weight = self.weight.checked_add(other.weight)?;
+        if weight > bound.weight {
+            return None;
         }
+        Some(Cost { weight })
     }
 
     /// Whether this cost is at most the other.
@@ -83,7 +81,7 @@ impl Cost {
     pub fn is_no_longer(self, bound: Cost) -> bool
         ensures { IsTrue result ↔ IsNoLonger self bound }
     {
-        self.weight <= bound.weight
+        self.length() <= bound.length()
     }
 
     /// Whether this cost may be a summand of [`Cost::plus`].
@@ -97,7 +95,8 @@ impl Cost {
     pub fn length(self) -> u64
         ensures { result ≡ length_of self }
     {
-        self.weight
+        let Cost { weight } = self;
+        weight
     }
 }
 
@@ -136,5 +135,53 @@ impl PartialOrd for Cost {
 
     fn partial_cmp(&self, other: &Cost) -> Option<Ordering> {
         Some(self.cmp(other))
+    }
+}
+
+#[cfg(test)]
+mod tests {
+    use super::*;
+
+    fn sum(a: Cost, b: Cost) -> Option<Cost> {
+        if a.is_in_limit() && b.is_in_limit() {
+            Some(a.plus(b))
+        } else {
+            None
+        }
+    }
+
+    #[test]
+    fn sums_and_order(rt: HostRuntime) {
+        let seven = Cost::of_weight(7);
+        let nine = Cost::of_weight(9);
+        assert!(rt; sum(Cost::of_weight(2), seven) == Some(nine));
+        assert!(rt; sum(Cost::ZERO, nine) == Some(nine));
+        assert!(rt; nine == nine && nine != seven);
+        assert!(rt; seven.is_below(nine) && seven.is_at_most(nine));
+        assert!(rt; !nine.is_below(nine) && nine.is_at_most(nine));
+        assert!(rt; seven < nine && seven.max(nine) == nine);
+        assert_eq!(rt; seven.cmp(&nine), Ordering::Less);
+        assert_eq!(rt; nine.length(), 9);
+    }
+
+    #[test]
+    fn bounds(rt: HostRuntime) {
+        let bound = Cost::of_arcs(3, u32::MAX);
+        assert_eq!(rt; bound.length(), 12_884_901_885);
+        assert_eq!(rt; Cost::of_arcs(0, u32::MAX).length(), 0);
+        let heaviest = Cost::of_arcs(1, u32::MAX);
+        let two = Cost::of_arcs(2, u32::MAX);
+        assert!(rt; two.plus_within(heaviest, bound) == Some(bound));
+        assert!(rt; two.plus_within(two, bound).is_none());
+        assert!(rt; bound.is_within(bound) && !bound.is_within(two));
+        assert!(rt; two.is_no_longer(bound) && !bound.is_no_longer(two));
+    }
+
+    #[test]
+    fn limit_of_summands(rt: HostRuntime) {
+        let most = Cost::of_arcs((1 << 25) - 1, u32::MAX);
+        let twice = sum(most, most);
+        assert_eq!(rt; twice.map(Cost::length), Some(288_230_367_494_668_290));
+        assert!(rt; !twice.is_some_and(Cost::is_in_limit));
     }
 }

@@ -1,6 +1,8 @@
 pub mod HeaviestArc
 pub mod Walks
 pub mod Bound
+pub mod Chains
+pub mod Unfolding
 pub mod LabelSteps
 pub mod Entries
 pub mod Linking

@@ -1,5 +1,6 @@
 pub mod Walk
 pub mod Graph
+pub mod Hierarchy
 pub mod Labels
 pub mod Queue
 pub mod Outgoing

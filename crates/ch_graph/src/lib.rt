@@ -9,13 +9,17 @@
 
 mod frontier;
 mod graph;
+mod hierarchy;
 mod label;
 mod laws;
+mod link;
 mod outgoing;
 mod road;
 mod search;
 mod step;
 
 pub use graph::Graph;
+pub use hierarchy::{Hierarchy, LinkId};
 pub use laws::{distance_is_unique, distance_is_within_bound};
+pub use link::Link;
 pub use road::Road;

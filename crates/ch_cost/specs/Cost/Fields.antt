@@ -45,7 +45,8 @@ below-test a b = (λ e. record { weight = ltb-true a.weight b.weight e }, λ h. 
 pub within-test : (c bound : Cost) → IsTrue (nat_le c.weight bound.weight) ↔ IsWithin c bound
 within-test c bound = (λ e. record { weight = leb-true c.weight bound.weight e }, λ h. le-leb c.weight bound.weight h.weight)
 
-pub no_longer-test : (c bound : Cost) → IsTrue (nat_le c.weight bound.weight) ↔ IsNoLonger c bound
+pub no_longer-test : (c bound : Cost) → IsTrue (nat_le (length_of c) (length_of bound)) ↔ IsNoLonger c bound
+unfolding length_of
 no_longer-test c bound = (λ e. record { weight = leb-true c.weight bound.weight e }, λ h. le-leb c.weight bound.weight h.weight)
 
 pub in_limit-test : (c : Cost) → IsTrue (nat_le c.weight (2 ^ 57)) ↔ IsInLimit c

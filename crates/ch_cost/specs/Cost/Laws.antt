@@ -144,6 +144,10 @@ pub more_arcs_within : (m n heaviest : ℕ) → m ≤ n → IsWithin (cost_of_ar
 unfolding cost_of_arcs
 more_arcs_within m n heaviest h = record { weight = grind (arith, h) }
 
+pub heavier_arcs_within : (n v w : ℕ) → v ≤ w → IsWithin (cost_of_arcs n v) (cost_of_arcs n w)
+unfolding cost_of_arcs
+heavier_arcs_within n v w h = record { weight = grind (arith, h) }
+
 pub no_longer-from_within : {c bound : Cost} → IsWithin c bound → IsNoLonger c bound
 no_longer-from_within h = record { weight = h.weight }
 

@@ -1,16 +1,16 @@
 use Rattle.std.proofs.Common.{arith}
 use Rattle.ch_cost.specs.Cost.Fields.{sum-is, within-sum, sum-within}
-use Rattle.ch_cost.proofs.cost.Cost.plus_within.Goals.{else-other-bound-via-then-other-bound+else-self-bound, else-other-bound-via-else-other-bound}
 use Rattle.ch_cost.proofs.cost.Cost.plus_within.Goals as goal
 
-pub returns-then-self-bound : goal.returns-then-self-bound
-returns-then-self-bound c =
-    (within-sum c.args.self c.args.other c.args.bound (omega arith), sum-is c.args.self c.args.other)
+pub returns-in_err-weight : goal.returns-in_err-weight
+returns-in_err-weight c =
+    rw c.from_residual.ensures (λ h. c.in_err-weight.ensures (omega (arith, sum-within c.args.self c.args.other c.args.bound h)))
 
-pub returns-else-other-bound : goal.returns-else-other-bound
-returns-else-other-bound c = λ h.
-    let small = sum-within c.args.self c.args.other c.args.bound h in
-    elim c.else-other-bound.branch [
-      | else-other-bound-via-then-other-bound+else-self-bound w ↦ omega (arith, small)
-      | else-other-bound-via-else-other-bound w ↦ omega (arith, small)
-    ]
+pub returns-then-weight-bound : goal.returns-then-weight-bound
+returns-then-weight-bound c = λ h.
+    omega (arith, c.in_ok-weight.ensures.1, sum-within c.args.self c.args.other c.args.bound h)
+
+pub returns : goal.returns
+returns c =
+    let sum = c.in_ok-weight.ensures.1 in
+    (within-sum c.args.self c.args.other c.args.bound (omega (arith, sum)), rw sum (sum-is c.args.self c.args.other))

@@ -1,0 +1,76 @@
+ghost use Rattle.std.specs.Prelude.{◌≡◌, ◌<◌, length, slice_index};
+ghost use Rattle.ch_graph.specs.Hierarchy.{IsWellMade};
+
+use crate::link::Link;
+use ch_cost::Cost;
+use std::marker::Model;
+
+/// The place of a link in [`Hierarchy::links`].
+#[derive(Clone, Copy, Debug, PartialEq, Eq, PartialOrd, Ord, Hash)]
+pub struct LinkId(pub usize);
+
+/// A contraction hierarchy (Geisberger, Sanders, Schultes, Delling 2008): a rank for each node, and links, which are
+/// arcs of a graph and shortcuts for two links by way of a node of lower rank.
+///
+/// Every hierarchy is well made, so that a file can hold it. Whether it is right for a graph is said where it is
+/// made. It holds 4 bytes a node and about 32 a link, and no call takes memory.
+#[derive(Drop)]
+pub struct Hierarchy {
+    ranks: Vec<u32>,
+    links: Vec<Link>,
+    bound: Cost,
+}
+
+impl Model for Hierarchy {
+    ghost use Rattle.ch_graph.specs.Hierarchy as hierarchies;
+
+    ghost Value = { hierarchies.Hierarchy };
+
+    ghost view = { λ h. record { ranks = h.ranks.items; links = h.links.items; bound = h.bound } };
+
+    ghost invariant = { λ h. hierarchies.IsWellMade (record { ranks = h.ranks.items; links = h.links.items; bound = h.bound }) };
+}
+
+impl Hierarchy {
+    /// The hierarchy of these ranks, one for each node, these links, in rising order of their ends, and this bound.
+    pub fn new(ranks: Vec<u32>, links: Vec<Link>, bound: Cost) -> Hierarchy
+        requires { IsWellMade (record { ranks = ranks.items; links = links.items; bound = bound }) }
+        ensures { result ≡ record { ranks = ranks.items; links = links.items; bound = bound } }
+    {
+        Hierarchy {
+            ranks,
+            links,
+            bound,
+        }
+    }
+
+    /// How many nodes there are.
+    pub fn nodes(&self) -> u32
+        ensures count { result ≡ length self.now.ranks }
+        ensures made { IsWellMade self.now }
+    {
+        self.ranks.len() as u32
+    }
+
+    /// The greatest length of an answer: no longer walk is needed.
+    pub fn bound(&self) -> Cost
+        ensures { result ≡ self.now.bound }
+    {
+        self.bound
+    }
+
+    /// The rank of a node: how many nodes were contracted before it.
+    pub fn rank(&self, node: u32) -> u32
+        requires { node < length self.now.ranks }
+        ensures { result ≡ slice_index self.now.ranks node }
+    {
+        self.ranks[node as usize]
+    }
+
+    /// The links, by the node that they leave and then by the one that they come to; at most one for each pair.
+    pub fn links(&self) -> &[Link]
+        ensures { result.now ≡ self.now.links }
+    {
+        self.links.as_slice()
+    }
+}
