@@ -1,0 +1,71 @@
+ghost use Rattle.std.specs.Prelude.{◌≡◌, List, ℕ, MatchOption, [], ◌∷◌, drop};
+ghost use Rattle.std.specs.List.{slice_split};
+ghost use Rattle.grfile.specs.Lines.{is_blank, fields_of};
+ghost use Rattle.grfile.specs.Grammar.{kind_of};
+
+use bstr::{ByteSlice, Split};
+use std::marker::Model;
+
+/// What a line is, by its first field.
+#[derive(Clone, Copy, Debug, PartialEq, Eq)]
+pub(crate) enum LineKind {
+    /// A comment, or a line without fields.
+    Skipped,
+    /// A problem line.
+    Problem,
+    /// A line of an entry: an arc, or a pair.
+    Entry,
+    /// No line of this text.
+    Unknown,
+}
+
+/// The fields of a line that are still to come. The line is cut at its spaces, and each piece at its tabs.
+#[derive(Drop)]
+pub(crate) struct Fields<'a> {
+    words: Split<'a, 'static>,
+    parts: Split<'a, 'static>,
+}
+
+impl<'a> Model for Fields<'a> {
+    ghost use Rattle.std.specs.Prelude.{List, ℕ, ◌++◌, filter, ◌==◌};
+    ghost use Rattle.std.specs.List.{slice_split, flat_map};
+    ghost use Rattle.grfile.specs.Lines.{is_field};
+
+    ghost Value = { List (List ℕ) };
+
+    ghost view = { λ f. filter is_field (f.parts ++ flat_map (λ word. slice_split (λ b. b == 9) word) f.words) };
+}
+
+/// The fields of a line: its longest runs of bytes that aren't blanks.
+pub(crate) fn fields_of(line: &[u8]) -> Fields<'_>
+    ensures { result ≡ fields_of line.now }
+{
+    let nothing: &[u8] = b"";
+    let mut parts = nothing.split_str(b"\t");
+    parts.next();
+    Fields {
+        words: line.split_str(b" "),
+        parts,
+    }
+}
+
+impl<'a> Fields<'a> {
+    /// The next field, or none after the last.
+    pub(crate) fn next_field(&mut self) -> Option<&'a [u8]>
+        ensures { MatchOption result (self.old ≡ []) (λ field. self.old ≡ field.now ∷ self.new) }
+    {
+        loop {
+            match self.parts.next() {
+                Some(part) => {
+                    if !part.is_empty() {
+                        return Some(part);
+                    }
+                }
+                None => match self.words.next() {
+                    Some(word) => self.parts = word.split_str(b"\t"),
+                    None => return None,
+                },
+            }
+        }
+    }
+}
