@@ -41,11 +41,9 @@ pub(crate) fn fields_of(line: &[u8]) -> Fields<'_>
     ensures { result ≡ fields_of line.now }
 {
     let nothing: &[u8] = b"";
-    let mut parts = nothing.split_str(b"\t");
-    parts.next();
     Fields {
         words: line.split_str(b" "),
-        parts,
+        parts: nothing.split_str(b"\t"),
     }
 }
 
@@ -67,5 +65,29 @@ impl<'a> Fields<'a> {
                 },
             }
         }
+    }
+}
+
+/// The kind of a line by its first field, where entries have this letter.
+pub(crate) fn kind_of(letter: u8, first: &[u8]) -> LineKind
+    ensures { (more : List (List ℕ)) → result ≡ kind_of letter (first.now ∷ more) }
+{
+    match first {
+        [b'c', ..] => LineKind::Skipped,
+        [b'p'] => LineKind::Problem,
+        [byte] if *byte == letter => LineKind::Entry,
+        _ => LineKind::Unknown,
+    }
+}
+
+/// The fields that are left if there are exactly two.
+pub(crate) fn two_fields<'a>(mut fields: Fields<'a>) -> Option<[&'a [u8]; 2]>
+    ensures { IsFields 2 (fields.entry) (option_map (λ a. map (λ f. f.now) a) result) }
+{
+    let first = fields.next_field()?;
+    let second = fields.next_field()?;
+    match fields.next_field() {
+        None => Some([first, second]),
+        Some(_) => None,
     }
 }
