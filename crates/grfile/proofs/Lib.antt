@@ -1,3 +1,4 @@
 pub mod LineCuts
 pub mod Blanks
 pub mod Digits
+pub mod Caps

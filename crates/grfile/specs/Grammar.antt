@@ -6,7 +6,7 @@ use Rattle.grfile.specs.declared.fields.LineKind.{LineKind}
 use Rattle.grfile.specs.declared.fields.LineKind.TheVariants.{Skipped, Problem, Entry, Unknown}
 use Rattle.grfile.specs.declared.form.Size.{Size}
 use Rattle.grfile.specs.Lines.{fields_of, number_of}
-use Rattle.grfile.specs.Outcome.{◌>>=◌, fault, next_line}
+use Rattle.grfile.specs.Outcome.{◌>>=◌, fault, capped, next_line}
 
 -- The kind of a line with these fields: it is skipped if there is none or the first begins with c, and else the
 -- first field is p, or the letter of the entries.
@@ -19,6 +19,10 @@ kind_of letter ((b ∷ c ∷ bs) ∷ more) = if b == 99 then Skipped else Unknow
 -- the number in a field of this line
 abbrev pub number_in : ℕ → List ℕ → Result ℕ GrError
 number_in line field = elim (number_of field) [ Some n ↦ Ok n | None ↦ fault NotANumber line ]
+
+-- the same, as the code keeps it: a number that would pass 2^64 - 1 stays there
+abbrev pub capped_in : ℕ → List ℕ → Result ℕ GrError
+capped_in line field = elim (number_of field) [ Some n ↦ Ok (capped n) | None ↦ fault NotANumber line ]
 
 -- What a text has of its own: the letter of its entries, what its problem line says, and what a line of an entry
 -- says. Both take the number of the line and the fields after the first.

@@ -1,4 +1,4 @@
-ghost use Rattle.std.specs.Prelude.{Some};
+ghost use Rattle.std.specs.Prelude.{◌≡◌, Some};
 ghost use Rattle.grfile.specs.Names.{kind_name, error_text};
 
 use std::error::Error;
@@ -44,6 +44,15 @@ pub struct GrError {
     /// For a failed read, and for want of memory outside an entry's line, one more than the line feeds that were
     /// taken. A number that would pass 2^64 - 1 stays there.
     pub line: u64,
+}
+
+impl GrErrorKind {
+    /// This fault, of that line.
+    pub(crate) fn at(self, line: u64) -> GrError
+        ensures { result ≡ record { kind = self; line = line } }
+    {
+        GrError { kind: self, line }
+    }
 }
 
 impl fmt::Display for GrErrorKind {

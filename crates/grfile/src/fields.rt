@@ -1,6 +1,5 @@
-ghost use Rattle.std.specs.Prelude.{◌≡◌, List, ℕ, MatchOption, [], ◌∷◌, drop};
-ghost use Rattle.std.specs.List.{slice_split};
-ghost use Rattle.grfile.specs.Lines.{is_blank, fields_of};
+ghost use Rattle.std.specs.Prelude.{◌≡◌, ◌≢◌, List, ℕ, MatchOption, [], ◌∷◌, length};
+ghost use Rattle.grfile.specs.Lines.{fields_of};
 ghost use Rattle.grfile.specs.Grammar.{kind_of};
 
 use bstr::{ByteSlice, Split};
@@ -66,6 +65,36 @@ impl<'a> Fields<'a> {
             }
         }
     }
+
+    /// The fields that are left, if there are exactly two.
+    pub(crate) fn two(mut self) -> Option<(&'a [u8], &'a [u8])>
+        ensures { MatchOption result (length self.entry ≢ 2) (λ f. self.entry ≡ f.0.now ∷ f.1.now ∷ []) }
+    {
+        let first = self.next_field()?;
+        let second = self.next_field()?;
+        match self.next_field() {
+            None => Some((first, second)),
+            Some(_) => None,
+        }
+    }
+
+    /// The fields that are left, if there are exactly three.
+    pub(crate) fn three(mut self) -> Option<(&'a [u8], &'a [u8], &'a [u8])>
+        ensures { MatchOption result (length self.entry ≢ 3) (λ f. self.entry ≡ f.0.now ∷ f.1.now ∷ f.2.now ∷ []) }
+    {
+        let first = self.next_field()?;
+        let (second, third) = self.two()?;
+        Some((first, second, third))
+    }
+
+    /// The fields that are left, if there are exactly four.
+    pub(crate) fn four(mut self) -> Option<(&'a [u8], &'a [u8], &'a [u8], &'a [u8])>
+        ensures { MatchOption result (length self.entry ≢ 4) (λ f. self.entry ≡ f.0.now ∷ f.1.now ∷ f.2.now ∷ f.3.now ∷ []) }
+    {
+        let first = self.next_field()?;
+        let (second, third, fourth) = self.three()?;
+        Some((first, second, third, fourth))
+    }
 }
 
 /// The kind of a line by its first field, where entries have this letter.
@@ -77,17 +106,5 @@ pub(crate) fn kind_of(letter: u8, first: &[u8]) -> LineKind
         [b'p'] => LineKind::Problem,
         [byte] if *byte == letter => LineKind::Entry,
         _ => LineKind::Unknown,
-    }
-}
-
-/// The fields that are left if there are exactly two.
-pub(crate) fn two_fields<'a>(mut fields: Fields<'a>) -> Option<[&'a [u8]; 2]>
-    ensures { IsFields 2 (fields.entry) (option_map (λ a. map (λ f. f.now) a) result) }
-{
-    let first = fields.next_field()?;
-    let second = fields.next_field()?;
-    match fields.next_field() {
-        None => Some([first, second]),
-        Some(_) => None,
     }
 }

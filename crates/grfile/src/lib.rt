@@ -11,5 +11,6 @@ mod fields;
 mod form;
 mod line;
 mod number;
+mod roads;
 
 pub use error::{GrError, GrErrorKind};

@@ -2,6 +2,9 @@ ghost use Rattle.std.specs.Prelude.{◌≡◌};
 ghost use Rattle.std.specs.Option.{option_map};
 ghost use Rattle.grfile.specs.Lines.{number_of};
 ghost use Rattle.grfile.specs.Outcome.{capped};
+ghost use Rattle.grfile.specs.Grammar.{capped_in};
+
+use crate::error::{GrError, GrErrorKind};
 
 /// The number that a field spells, or none where it isn't one decimal digit or more. A number above 2^64 - 1
 /// counts as that.
@@ -21,4 +24,14 @@ pub(crate) fn number(field: &[u8]) -> Option<u64>
             .saturating_add(u64::from(*digit - b'0'));
     }
     Some(value)
+}
+
+/// The number in a field of this line, where it is one.
+pub(crate) fn number_in(line: u64, field: &[u8]) -> Result<u64, GrError>
+    ensures { result ≡ capped_in line field.now }
+{
+    match number(field) {
+        Some(value) => Ok(value),
+        None => Err(GrErrorKind::NotANumber.at(line)),
+    }
 }
