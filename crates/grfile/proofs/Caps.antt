@@ -94,3 +94,39 @@ road_of-other nodes line (a ∷ []) other = refl
 road_of-other nodes line (a ∷ b ∷ []) other = refl
 road_of-other nodes line (a ∷ b ∷ c ∷ []) other = absurd (other refl)
 road_of-other nodes line (a ∷ b ∷ c ∷ d ∷ more) other = refl
+
+count-capped : (nodes line count : ℕ) → count_in_range nodes line count ≡ count_in_range nodes line (capped count)
+count-capped nodes line count = elim (cases_lt (2 ^ 27) count) [
+  | inl many ↦ let still : 2 ^ 27 < capped count = omega arith in
+    rw (lt-ltb (2 ^ 27) count many, lt-ltb (2 ^ 27) (capped count) still) refl
+  | inr few ↦ let same : capped count ≡ count = omega arith in
+    rw same refl
+]
+
+pair-capped : (nodes line source target : ℕ) → nodes < 2 ^ 32 → pair_in_range nodes line source target ≡ pair_in_range nodes line (capped source) (capped target)
+pair-capped nodes line source target h =
+    node-capped nodes line source (λ source. if is_outside nodes target then fault NodeRange line else Ok (source - 1, target - 1)) (λ source. if is_outside nodes (capped target) then fault NodeRange line else Ok (source - 1, capped target - 1)) h (λ _. node-capped nodes line target (λ target. Ok (source - 1, target - 1)) (λ target. Ok (source - 1, target - 1)) h (λ _. refl))
+
+pub pairs_size-four : (nodes line : ℕ) (fields : List (List ℕ)) (first second third k : List ℕ) → fields ≡ first ∷ second ∷ third ∷ k ∷ [] → pairs_size nodes line fields ≡ (if bytes_eq first (codes "aux") && bytes_eq second (codes "sp") && bytes_eq third (codes "p2p") then capped_in line k >>= (λ count. count_in_range nodes line count) else fault UnknownLine line)
+unfolding pairs_size
+pairs_size-four nodes line fields first second third k are = rw are (ap (λ (read : Result Size GrError). if bytes_eq first (codes "aux") && bytes_eq second (codes "sp") && bytes_eq third (codes "p2p") then read else fault UnknownLine line) (capped_step line k (λ count. count_in_range nodes line count) (λ count. count_in_range nodes line count) (λ count. count-capped nodes line count)))
+
+pub pairs_size-other : (nodes line : ℕ) (fields : List (List ℕ)) → length fields ≢ 4 → pairs_size nodes line fields ≡ fault FieldCount line
+unfolding pairs_size
+pairs_size-other nodes line [] other = refl
+pairs_size-other nodes line (a ∷ []) other = refl
+pairs_size-other nodes line (a ∷ b ∷ []) other = refl
+pairs_size-other nodes line (a ∷ b ∷ c ∷ []) other = refl
+pairs_size-other nodes line (a ∷ b ∷ c ∷ d ∷ []) other = absurd (other refl)
+pairs_size-other nodes line (a ∷ b ∷ c ∷ d ∷ e ∷ more) other = refl
+
+pub pair_of-two : (nodes line : ℕ) (fields : List (List ℕ)) (s t : List ℕ) → nodes < 2 ^ 32 → fields ≡ s ∷ t ∷ [] → pair_of nodes line fields ≡ (capped_in line s >>= (λ source. capped_in line t >>= (λ target. pair_in_range nodes line source target)))
+unfolding pair_of
+pair_of-two nodes line fields s t h are = rw are (capped_step line s (λ source. number_in line t >>= (λ target. pair_in_range nodes line source target)) (λ source. capped_in line t >>= (λ target. pair_in_range nodes line source target)) (λ source. capped_step line t (λ target. pair_in_range nodes line source target) (λ target. pair_in_range nodes line (capped source) target) (λ target. pair-capped nodes line source target h)))
+
+pub pair_of-other : (nodes line : ℕ) (fields : List (List ℕ)) → length fields ≢ 2 → pair_of nodes line fields ≡ fault FieldCount line
+unfolding pair_of
+pair_of-other nodes line [] other = refl
+pair_of-other nodes line (a ∷ []) other = refl
+pair_of-other nodes line (a ∷ b ∷ []) other = absurd (other refl)
+pair_of-other nodes line (a ∷ b ∷ c ∷ more) other = refl

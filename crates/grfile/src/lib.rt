@@ -11,6 +11,7 @@ mod fields;
 mod form;
 mod line;
 mod number;
+mod pairs;
 mod roads;
 
 pub use error::{GrError, GrErrorKind};
