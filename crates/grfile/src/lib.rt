@@ -10,6 +10,7 @@ mod error;
 mod fields;
 mod form;
 mod line;
+mod listing;
 mod number;
 mod pairs;
 mod roads;
