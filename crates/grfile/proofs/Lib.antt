@@ -2,3 +2,4 @@ pub mod LineCuts
 pub mod Blanks
 pub mod Digits
 pub mod Caps
+pub mod Steps

@@ -5,6 +5,7 @@ ghost use Rattle.grfile.specs.Lines.{cut_lines};
 use bstr::ByteSlice;
 
 /// The first line of a text, and what follows it.
+#[derive(Clone, Copy)]
 pub(crate) struct Cut<'a> {
     /// The line, without its line feed.
     pub(crate) line: &'a [u8],
