@@ -3,3 +3,5 @@ pub mod Blanks
 pub mod Digits
 pub mod Caps
 pub mod Steps
+pub mod Sound
+pub mod Readings

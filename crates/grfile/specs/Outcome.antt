@@ -27,6 +27,10 @@ FromText OutOfMemory P = Unit {0}
 FromText Read P = Unit {0}
 FromText kind P = P
 
+-- a refusal for want of memory or a failed read
+abbrev pub SaysNothing : GrError → Type 0
+SaysNothing e = FromText e.kind ⊥
+
 -- The answer, seen by view, is what was told of the text: the same value, or the same fault of the same line.
 abbrev pub Answers : {A B : Type 0} → (A → B) → Result A GrError → Result B GrError → Type 0
 Answers view (Ok x) told = told ≡ Ok (view x)

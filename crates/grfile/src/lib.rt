@@ -9,10 +9,15 @@
 mod error;
 mod fields;
 mod form;
+mod graph_reader;
 mod line;
 mod listing;
 mod number;
 mod pairs;
+mod query_reader;
 mod roads;
+mod taken;
 
+pub use graph_reader::{GrReader, read_graph};
 pub use error::{GrError, GrErrorKind};
+pub use query_reader::{QueryReader, read_queries};
