@@ -65,11 +65,11 @@ split_from hay c i last zero n_is h =
     rw (part_all hay last i (omega arith), drop_all i hay (omega arith)) (ap (λ (xs : List ℕ). xs ∷ []) (sym (append-nil (drop last hay))))
 split_from hay c i last (suc n) n_is h = elim (cases_lt i (length hay)) [
   | inl inside ↦ let cut = split_from hay c (i + 1) (i + 1) n (omega arith) (omega arith) in
-    let on = split_from hay c (i + 1) last n (omega arith) (omega arith) in
-    let nothing : (i + 1) - (i + 1) ≡ 0 = omega arith in
-    rw (occurs-inside hay c i inside, drop_more hay i 0 inside) (split_step hay last i (get_or hay i 0) (matches_from hay (c ∷ []) 0 (i + 1) n) (slice_split (λ b. eqb b c) (drop (i + 1) hay)) (eqb (get_or hay i 0) c) (rw nothing at cut ∙ onto_front-nil (λ b. eqb b c) (drop (i + 1) hay)) on (part_more hay last i h inside))
+      let on = split_from hay c (i + 1) last n (omega arith) (omega arith) in
+      let nothing : (i + 1) - (i + 1) ≡ 0 = omega arith in
+      rw (occurs-inside hay c i inside, drop_more hay i 0 inside) (split_step hay last i (get_or hay i 0) (matches_from hay (c ∷ []) 0 (i + 1) n) (slice_split (λ b. eqb b c) (drop (i + 1) hay)) (eqb (get_or hay i 0) c) (rw nothing at cut ∙ onto_front-nil (λ b. eqb b c) (drop (i + 1) hay)) on (part_more hay last i h inside))
   | inr outside ↦ let on = split_from hay c (i + 1) last n (omega arith) (omega arith) in
-    rw (occurs-outside hay c i outside, drop_all i hay outside, part_all hay last i outside) (rw (part_all hay last (i + 1) (omega arith), drop_all (i + 1) hay (omega arith)) at on)
+      rw (occurs-outside hay c i outside, drop_all i hay outside, part_all hay last i outside) (rw (part_all hay last (i + 1) (omega arith), drop_all (i + 1) hay (omega arith)) at on)
 ]
 
 pub split_at-byte : (hay : List ℕ) (c : ℕ) → split_at hay 1 0 (matches hay (c ∷ []) 0) ≡ slice_split (λ b. eqb b c) hay
@@ -98,8 +98,8 @@ slice_split-again p q [] = refl
 slice_split-again p q (x ∷ xs) = elim (p x) as (λ b. flat_map (slice_split q) (cond b ([] ∷ slice_split p xs) (onto_first x (slice_split p xs))) ≡ cond (b || q x) ([] ∷ slice_split (λ b. p b || q b) xs) (onto_first x (slice_split (λ b. p b || q b) xs))) [
   | true ↦ ap (λ parts. [] ∷ parts) (slice_split-again p q xs)
   | false ↦ let parts = first_part p xs in
-    subst (λ (ps : List (List ℕ)). flat_map (slice_split q) (onto_first x (slice_split p xs)) ≡ cond (q x) ([] ∷ ps) (onto_first x ps)) (slice_split-again p q xs)
-    (subst (λ (ps : List (List ℕ)). flat_map (slice_split q) (onto_first x ps) ≡ cond (q x) ([] ∷ flat_map (slice_split q) ps) (onto_first x (flat_map (slice_split q) ps))) (sym parts.2) (cut_again q x parts.0 parts.1))
+      subst (λ (ps : List (List ℕ)). flat_map (slice_split q) (onto_first x (slice_split p xs)) ≡ cond (q x) ([] ∷ ps) (onto_first x ps)) (slice_split-again p q xs)
+      (subst (λ (ps : List (List ℕ)). flat_map (slice_split q) (onto_first x ps) ≡ cond (q x) ([] ∷ flat_map (slice_split q) ps) (onto_first x (flat_map (slice_split q) ps))) (sym parts.2) (cut_again q x parts.0 parts.1))
 ]
 
 -- the fields of a line, by its words and their parts

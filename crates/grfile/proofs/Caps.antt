@@ -27,14 +27,14 @@ capped_step line field f g blind = cap_after line (number_of field) f g blind
 size-capped : (line nodes arcs : ℕ) → size_in_range line nodes arcs ≡ size_in_range line (capped nodes) (capped arcs)
 size-capped line nodes arcs = elim (cases_lt (2 ^ 25) nodes) [
   | inl many ↦ let still : 2 ^ 25 < capped nodes = omega arith in
-    rw (lt-ltb (2 ^ 25) nodes many, lt-ltb (2 ^ 25) (capped nodes) still) refl
+      rw (lt-ltb (2 ^ 25) nodes many, lt-ltb (2 ^ 25) (capped nodes) still) refl
   | inr few ↦ let same : capped nodes ≡ nodes = omega arith in
-    rw (same, le-ltb (2 ^ 25) nodes few) (elim (cases_lt (2 ^ 27) arcs) [
-      | inl many ↦ let still : 2 ^ 27 < capped arcs = omega arith in
-        rw (lt-ltb (2 ^ 27) arcs many, lt-ltb (2 ^ 27) (capped arcs) still) refl
-      | inr few ↦ let same : capped arcs ≡ arcs = omega arith in
-        rw same refl
-    ])
+      rw (same, le-ltb (2 ^ 25) nodes few) (elim (cases_lt (2 ^ 27) arcs) [
+        | inl many ↦ let still : 2 ^ 27 < capped arcs = omega arith in
+            rw (lt-ltb (2 ^ 27) arcs many, lt-ltb (2 ^ 27) (capped arcs) still) refl
+        | inr few ↦ let same : capped arcs ≡ arcs = omega arith in
+            rw same refl
+      ])
 ]
 
 outside-capped : (nodes n : ℕ) → nodes < 2 ^ 32 → is_outside nodes n ≡ is_outside nodes (capped n)
@@ -60,9 +60,9 @@ road_weighed line from to weight =
 weight-capped : (line from to weight : ℕ) → road_weighed line from to weight ≡ road_weighed line from to (capped weight)
 weight-capped line from to weight = elim (cases_lt (2 ^ 32 - 1) weight) [
   | inl heavy ↦ let still : 2 ^ 32 - 1 < capped weight = omega arith in
-    rw (ne_eqb weight 0 (omega arith), ne_eqb (capped weight) 0 (omega arith), lt-ltb (2 ^ 32 - 1) weight heavy, lt-ltb (2 ^ 32 - 1) (capped weight) still) refl
+      rw (ne_eqb weight 0 (omega arith), ne_eqb (capped weight) 0 (omega arith), lt-ltb (2 ^ 32 - 1) weight heavy, lt-ltb (2 ^ 32 - 1) (capped weight) still) refl
   | inr light ↦ let same : capped weight ≡ weight = omega arith in
-    rw same refl
+      rw same refl
 ]
 
 road-capped : (nodes line from to weight : ℕ) → nodes < 2 ^ 32 → road_in_range nodes line from to weight ≡ road_in_range nodes line (capped from) (capped to) (capped weight)
@@ -98,9 +98,9 @@ road_of-other nodes line (a ∷ b ∷ c ∷ d ∷ more) other = refl
 count-capped : (nodes line count : ℕ) → count_in_range nodes line count ≡ count_in_range nodes line (capped count)
 count-capped nodes line count = elim (cases_lt (2 ^ 27) count) [
   | inl many ↦ let still : 2 ^ 27 < capped count = omega arith in
-    rw (lt-ltb (2 ^ 27) count many, lt-ltb (2 ^ 27) (capped count) still) refl
+      rw (lt-ltb (2 ^ 27) count many, lt-ltb (2 ^ 27) (capped count) still) refl
   | inr few ↦ let same : capped count ≡ count = omega arith in
-    rw same refl
+      rw same refl
 ]
 
 pair-capped : (nodes line source target : ℕ) → nodes < 2 ^ 32 → pair_in_range nodes line source target ≡ pair_in_range nodes line (capped source) (capped target)

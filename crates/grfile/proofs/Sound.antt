@@ -100,7 +100,7 @@ road_in_range_ok nodes line from to weight =
     test_ok (is_outside nodes from) _ _ (IsRoad nodes) (λ from_in. test_ok (is_outside nodes to) _ _ (IsRoad nodes) (λ to_in. test_ok (eqb weight 0) _ _ (IsRoad nodes) (λ some. test_ok (ltb (2 ^ 32 - 1) weight) _ _ (IsRoad nodes) (λ light. record {
       from_in = below nodes from from_in;
       to_in = below nodes to to_in;
-      weighs = let above = eqb-false weight 0 some in weight-from weight (omega arith) (omega (arith, ltb-false (2 ^ 32 - 1) weight light))
+      weighs = let above = eqb-false weight 0 some in weight-from weight (omega arith) (omega (arith, ltb-false (2 ^ 32 - 1) weight light));
     }))))
 
 road_ok : (size : Size) (line : ℕ) (fields : List (List ℕ)) → IfOk (road_of size.nodes line fields) (IsRoad size.nodes)
@@ -115,7 +115,7 @@ pub graph_listed : (n : ℕ) (lines : List (List ℕ)) → IfOk (listing_after g
 graph_listed n lines = IfOk-weaker (listing_after graph_grammar n lines) _ _ (λ listing whole. record {
   few_nodes = whole.0.0;
   few_arcs = omega (arith, whole.0.1, whole.1);
-  roads = All-from_recursion _ listing.entries whole.2
+  roads = All-from_recursion _ listing.entries whole.2;
 }) (listing_ok graph_grammar IsSmall (λ size. IsRoad size.nodes) graph_size_ok road_ok n lines)
 
 -- The pairs

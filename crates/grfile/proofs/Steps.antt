@@ -41,7 +41,7 @@ read_first grammar line letter fields more first found kind letter_is fields_are
     let whole : fields_of line ≡ first ∷ more = sym fields_are ∙ parts in
     record {
       kind_is = rw whole (subst (λ (l : ℕ). kind_of l (first ∷ more) ≡ kind) letter_is (sym (found_is more) ∙ kind_is));
-      more_are = ap (drop 1) whole
+      more_are = ap (drop 1) whole;
     }
 
 pub read_nothing : {E : Type 0} (grammar : Grammar E) (line : List ℕ) (fields : List (List ℕ)) → fields ≡ fields_of line → fields ≡ [] → IsRead grammar line Skipped []

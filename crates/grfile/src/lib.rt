@@ -18,6 +18,9 @@ mod query_reader;
 mod roads;
 mod taken;
 
-pub use graph_reader::{GrReader, read_graph};
 pub use error::{GrError, GrErrorKind};
+pub use graph_reader::{GrReader, read_graph};
 pub use query_reader::{QueryReader, read_queries};
+
+#[cfg(test)]
+mod tests;

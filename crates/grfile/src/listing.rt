@@ -87,9 +87,7 @@ fn end<E: Drop>(progress: Progress<E>) -> Result<Listed<E>, GrError>
     ensures { (grammar : Grammar E) → Answers listing_of result (told_from grammar progress []) }
 {
     let line = progress.line;
-    let listed = progress
-        .listed
-        .ok_or(GrErrorKind::NoProblemLine.at(line))?;
+    let listed = progress.listed.ok_or(GrErrorKind::NoProblemLine.at(line))?;
     whole(listed, line)
 }
 
@@ -111,7 +109,10 @@ pub(crate) fn listing<F: Form>(
 ) -> Result<Listed<F::Entry>, GrError>
     ensures { Answers listing_of result (listing_after (F.grammar form) 0 (lines_of text.now)) }
 {
-    let mut progress = Progress { line: 0, listed: None };
+    let mut progress = Progress {
+        line: 0,
+        listed: None,
+    };
     let mut rest = text;
     while let Some(cut) = first_line(rest) {
         take_line(&mut progress, alloc, form, without_return(cut.line))?;

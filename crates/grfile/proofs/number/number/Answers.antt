@@ -9,7 +9,7 @@ loop-digit-preserved c =
     let same : capped c.saturating_add-value.result ≡ capped (10 * c.loop-digit.value + c.from.result) = omega (arith, c.saturating_mul.ensures, c.saturating_add-value.ensures) in
     record {
       fits = c.saturating_add-value.type_inv;
-      told = capped_after-more c.loop-digit.value c.saturating_add-value.result c.args.field.now c.loop-digit.digit-index c.loop-digit-test.true (sym c.is_ascii_digit.ensures.value ∙ c.if-not-is_ascii_digit.false) (rw c.from.ensures at same) ∙ c.loop-digit.invariant.told
+      told = capped_after-more c.loop-digit.value c.saturating_add-value.result c.args.field.now c.loop-digit.digit-index c.loop-digit-test.true (sym c.is_ascii_digit.ensures.value ∙ c.if-not-is_ascii_digit.false) (rw c.from.ensures at same) ∙ c.loop-digit.invariant.told;
     }
 
 pub returns-then-not-is_ascii_digit : goal.returns-then-not-is_ascii_digit
