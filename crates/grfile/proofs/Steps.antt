@@ -49,30 +49,35 @@ read_nothing grammar line fields fields_are none =
     let whole : fields_of line ≡ [] = sym fields_are ∙ none in
     record { kind_is = rw whole refl; more_are = ap (drop 1) whole }
 
-bind_assoc : {A B C : Type 0} (r : Result A GrError) (f : A → Result B GrError) (h : B → Result C GrError) → ((r >>= f) >>= h) ≡ (r >>= (λ a. f a >>= h))
-bind_assoc (Ok x) f h = refl
-bind_assoc (Err e) f h = refl
+-- entries after those in front
+abbrev joined : {E : Type 0} → Size → List E → List E → Result (Listing E) GrError
+joined size front entries = Ok (record { size = size; entries = front ++ entries })
 
-bind_same : {A B : Type 0} (r : Result A GrError) (f h : A → Result B GrError) → ((a : A) → f a ≡ h a) → (r >>= f) ≡ (r >>= h)
-bind_same (Ok x) f h same = same x
-bind_same (Err e) f h same = refl
+push_front : {E : Type 0} (size : Size) (front : List E) (entry : E) (read : Result (List E) GrError) → ((read >>= (λ entries. Ok (entry ∷ entries))) >>= joined size front) ≡ (read >>= joined size (front ++ entry ∷ []))
+push_front {E} size front entry (Ok entries) = ap (λ (all : List E). joined size [] all) (sym (append_assoc front (entry ∷ []) entries))
+push_front size front entry (Err e) = refl
 
--- the entries after one more
-push_step : {E : Type 0} (grammar : Grammar E) (n : ℕ) (listing : Listing E) (entry : E) (rest : List (List ℕ)) → ((entries_after grammar listing.size (listing.size.entries - length listing.entries - 1) n rest >>= (λ entries. Ok (entry ∷ entries))) >>= (λ entries. Ok (record { size = listing.size; entries = listing.entries ++ entries }))) ≡ listing_from grammar n (Some (record { size = listing.size; entries = listing.entries ++ entry ∷ [] })) rest
-push_step {E} grammar n listing entry rest =
-    let size = listing.size in
-    let left = size.entries - length listing.entries - 1 in
-    let fewer : left ≡ size.entries - length (listing.entries ++ entry ∷ []) = omega (arith, length_push listing.entries entry) in
-    bind_assoc (entries_after grammar size left n rest) (λ entries. Ok (entry ∷ entries)) (λ entries. Ok (record { size = size; entries = listing.entries ++ entries }))
-    ∙ bind_same (entries_after grammar size left n rest) (λ entries. Ok (record { size = size; entries = listing.entries ++ entry ∷ entries })) (λ entries. Ok (record { size = size; entries = (listing.entries ++ entry ∷ []) ++ entries })) (λ entries. ap (λ (all : List E). Ok (record { size = size; entries = all })) (sym (append_assoc listing.entries (entry ∷ []) entries)))
-    ∙ ap (λ (k : ℕ). entries_after grammar size k n rest >>= (λ entries. Ok (record { size = size; entries = (listing.entries ++ entry ∷ []) ++ entries }))) fewer
+module _ {E : Type 0} (grammar : Grammar E) (n : ℕ) (rest : List (List ℕ)) where
+  -- what is said once an entry was read, with so many left
+  abbrev said_after : Listing E → ℕ → E → Result (Listing E) GrError
+  said_after listing left entry = (entries_after grammar listing.size left n rest >>= (λ entries. Ok (entry ∷ entries))) >>= joined listing.size listing.entries
 
--- the line of an entry, where there is room for it or not
-entry_step : {E : Type 0} (grammar : Grammar E) (n : ℕ) (listing : Listing E) (fields : List (List ℕ)) (rest : List (List ℕ)) (is_full : Bool) → ((if is_full then fault ArcCount n else (grammar.entry_of listing.size n fields >>= (λ entry. entries_after grammar listing.size (listing.size.entries - length listing.entries - 1) n rest >>= (λ entries. Ok (entry ∷ entries))))) >>= (λ entries. Ok (record { size = listing.size; entries = listing.entries ++ entries }))) ≡ (if is_full then fault ArcCount n else (grammar.entry_of listing.size n fields >>= (λ entry. listing_from grammar n (Some (record { size = listing.size; entries = listing.entries ++ entry ∷ [] })) rest)))
-entry_step grammar n listing fields rest true = refl
-entry_step grammar n listing fields rest false =
-    bind_assoc (grammar.entry_of listing.size n fields) (λ entry. entries_after grammar listing.size (listing.size.entries - length listing.entries - 1) n rest >>= (λ entries. Ok (entry ∷ entries))) (λ entries. Ok (record { size = listing.size; entries = listing.entries ++ entries }))
-    ∙ bind_same (grammar.entry_of listing.size n fields) (λ entry. (entries_after grammar listing.size (listing.size.entries - length listing.entries - 1) n rest >>= (λ entries. Ok (entry ∷ entries))) >>= (λ entries. Ok (record { size = listing.size; entries = listing.entries ++ entries }))) (λ entry. listing_from grammar n (Some (record { size = listing.size; entries = listing.entries ++ entry ∷ [] })) rest) (λ entry. push_step grammar n listing entry rest)
+  push_step : (listing : Listing E) (entry : E) → said_after listing (listing.size.entries - length listing.entries - 1) entry ≡ listing_from grammar n (Some (record { size = listing.size; entries = listing.entries ++ entry ∷ [] })) rest
+  push_step listing entry =
+      let fewer : listing.size.entries - length listing.entries - 1 ≡ listing.size.entries - length (listing.entries ++ entry ∷ []) = omega (arith, length_push listing.entries entry) in
+      ap (λ (left : ℕ). said_after listing left entry) fewer ∙ push_front listing.size listing.entries entry (entries_after grammar listing.size (listing.size.entries - length (listing.entries ++ entry ∷ [])) n rest)
+
+  -- the line of an entry that says this, where there is room for it or not
+  entry_step : (listing : Listing E) (is_full : Bool) (says : Result E GrError) → ((if is_full then fault ArcCount n else (says >>= (λ entry. entries_after grammar listing.size (listing.size.entries - length listing.entries - 1) n rest >>= (λ entries. Ok (entry ∷ entries))))) >>= joined listing.size listing.entries) ≡ (if is_full then fault ArcCount n else (says >>= (λ entry. listing_from grammar n (Some (record { size = listing.size; entries = listing.entries ++ entry ∷ [] })) rest)))
+  entry_step listing true says = refl
+  entry_step listing false (Ok entry) = push_step listing entry
+  entry_step listing false (Err e) = refl
+
+  -- a problem line that says this
+  size_step : (says : Result Size GrError) → (says >>= (λ size. entries_after grammar size size.entries n rest >>= (λ entries. Ok (record { size = size; entries = entries })))) ≡ (says >>= (λ size. listing_from grammar n (Some (record { size = size; entries = [] })) rest))
+  size_step (Ok size) = let all : size.entries ≡ size.entries - 0 = omega arith in
+    ap (λ (left : ℕ). entries_after grammar size left n rest >>= (λ entries. Ok (record { size = size; entries = entries }))) all
+  size_step (Err e) = refl
 
 module _ {E : Type 0} (grammar : Grammar E) (n : ℕ) (line : List ℕ) (more : List (List ℕ)) (rest : List (List ℕ)) where
   pub step-skipped : (o : Option (Listing E)) → IsRead grammar line Skipped more → listing_from grammar (next_line n) o rest ≡ listing_from grammar n o (line ∷ rest)
@@ -95,35 +100,32 @@ module _ {E : Type 0} (grammar : Grammar E) (n : ℕ) (line : List ℕ) (more : 
 
   pub step-problem : IsRead grammar line Problem more → listing_from grammar n None (line ∷ rest) ≡ (grammar.size_of (next_line n) more >>= (λ size. listing_from grammar (next_line n) (Some (record { size = size; entries = [] })) rest))
   unfolding entries_after listing_after
-  step-problem read =
-      let all : (size : Size) → size.entries ≡ size.entries - 0 = λ size. omega arith in
-      rw (read.kind_is, read.more_are, listing_after) (bind_same (grammar.size_of (next_line n) more) (λ size. entries_after grammar size size.entries (next_line n) rest >>= (λ entries. Ok (record { size = size; entries = entries }))) (λ size. entries_after grammar size (size.entries - 0) (next_line n) rest >>= (λ entries. Ok (record { size = size; entries = entries }))) (λ size. ap (λ (k : ℕ). entries_after grammar size k (next_line n) rest >>= (λ entries. Ok (record { size = size; entries = entries }))) (all size)))
+  step-problem read = rw (read.kind_is, read.more_are, listing_after) (size_step grammar (next_line n) rest (grammar.size_of (next_line n) more))
 
   pub step-entry : (listing : Listing E) → IsRead grammar line Entry more → listing_from grammar n (Some listing) (line ∷ rest) ≡ entry_then grammar (next_line n) listing more rest
   unfolding entries_after listing_after
-  step-entry listing read = rw (read.kind_is, read.more_are, entries_after) (entry_step grammar (next_line n) listing more rest (eqb (listing.size.entries - length listing.entries) 0))
+  step-entry listing read = rw (read.kind_is, read.more_are, entries_after) (entry_step grammar (next_line n) rest listing (eqb (listing.size.entries - length listing.entries) 0) (grammar.entry_of listing.size (next_line n) more))
+
+none_of : {A : Type 0} (o : Option A) → is_some o ≡ false → o ≡ None
+none_of None none = refl
+none_of (Some x) none = absurd (true≢false none)
+
+some_of : {A : Type 0} (o : Option A) → is_some o ≡ true → (x : A) × (o ≡ Some x)
+some_of None some = absurd (false≢true some)
+some_of (Some x) some = (x, refl)
 
 module _ {E : Type 0} (grammar : Grammar E) (n : ℕ) (line : List ℕ) (more : List (List ℕ)) (o : Option (Listed E)) (rest : List (List ℕ)) where
   pub step-opens : (size : Size) (entries : List E) → is_some o ≡ false → IsRead grammar line Problem more → grammar.size_of (next_line n) more ≡ Ok size → entries ≡ [] → listing_from grammar (next_line n) (Some (record { size = size; entries = entries })) rest ≡ listing_from grammar n (option_map listing_of o) (line ∷ rest)
-  step-opens size entries none read says empty = go o none
-    where
-      go : (o : Option (Listed E)) → is_some o ≡ false → listing_from grammar (next_line n) (Some (record { size = size; entries = entries })) rest ≡ listing_from grammar n (option_map listing_of o) (line ∷ rest)
-      go None none = rw empty (sym (step-problem grammar n line more rest read ∙ ap (λ (r : Result Size GrError). r >>= (λ size. listing_from grammar (next_line n) (Some (record { size = size; entries = [] })) rest)) says))
-      go (Some listed) none = absurd (true≢false none)
+  step-opens size entries none read says empty =
+      rw (empty, none_of o none) (sym (step-problem grammar n line more rest read ∙ ap (λ (r : Result Size GrError). r >>= (λ size. listing_from grammar (next_line n) (Some (record { size = size; entries = [] })) rest)) says))
 
   pub step-refuses : (e : GrError) → is_some o ≡ false → IsRead grammar line Problem more → grammar.size_of (next_line n) more ≡ Err e → listing_from grammar n (option_map listing_of o) (line ∷ rest) ≡ Err e
-  step-refuses e none read says = go o none
-    where
-      go : (o : Option (Listed E)) → is_some o ≡ false → listing_from grammar n (option_map listing_of o) (line ∷ rest) ≡ Err e
-      go None none = step-problem grammar n line more rest read ∙ ap (λ (r : Result Size GrError). r >>= (λ size. listing_from grammar (next_line n) (Some (record { size = size; entries = [] })) rest)) says
-      go (Some listed) none = absurd (true≢false none)
+  step-refuses e none read says =
+      rw (none_of o none) (step-problem grammar n line more rest read ∙ ap (λ (r : Result Size GrError). r >>= (λ size. listing_from grammar (next_line n) (Some (record { size = size; entries = [] })) rest)) says)
 
   pub step-again : is_some o ≡ true → IsRead grammar line Problem more → listing_from grammar n (option_map listing_of o) (line ∷ rest) ≡ fault SecondProblemLine (next_line n)
-  step-again some read = go o some
-    where
-      go : (o : Option (Listed E)) → is_some o ≡ true → listing_from grammar n (option_map listing_of o) (line ∷ rest) ≡ fault SecondProblemLine (next_line n)
-      go None some = absurd (false≢true some)
-      go (Some listed) some = step-second grammar n line more rest (listing_of listed) read
+  step-again some read = let listed = some_of o some in
+    rw listed.1 (step-second grammar n line more rest (listing_of listed.0) read)
 
   pub step-before : o ≡ None → IsRead grammar line Entry more → listing_from grammar n (option_map listing_of o) (line ∷ rest) ≡ fault NoProblemLine (next_line n)
   step-before none read = ap (λ (p : Option (Listed E)). listing_from grammar n (option_map listing_of p) (line ∷ rest)) none ∙ step-early grammar n line more rest read
