@@ -1,9 +1,8 @@
 -- Pieces between the matches of one byte, and pieces of pieces, are the parts between bytes that pass a test.
 use Rattle.std.proofs.Common.{ℕ, ◌≡◌, ◌+◌, ◌-◌, ◌<◌, ◌≤◌, Bool, true, false, ◌&&◌, ◌||◌, eqb, leb, cond, List, [], ◌∷◌, ◌++◌, length, take, drop, get_or, arith, refl, ap, sym, subst, ◌∙◌, zero, suc, inl, inr}
-use Rattle.std.proofs.lemmas.Bool.{cond-true, cond-false, cases_Bool, cases_lt, and_from, and_left, and_right, le-leb, lt-leb}
+use Rattle.std.proofs.lemmas.Bool.{cases_lt, le-leb, lt-leb}
 use Rattle.std.proofs.lemmas.List.{drop_more, drop_all, take_all, append-nil, append_assoc, length-drop, get_or-drop, take_more}
 use Rattle.std.specs.List.{onto_first, slice_split, flat_map, filter}
-use Rattle.std.specs.Str.{bytes_eq}
 use Rattle.bstr.specs.Find.{matches, matches_from, occurs_at}
 use Rattle.bstr.specs.Text.{split_at, part}
 use Rattle.grfile.specs.Lines.{is_field, fields_of}

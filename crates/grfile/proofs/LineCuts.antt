@@ -1,5 +1,5 @@
 -- The first line of a text, by the place of the first line feed.
-use Rattle.std.proofs.Common.{ℕ, ◌≡◌, ◌+◌, ◌<◌, Bool, true, false, eqb, cond, List, [], ◌∷◌, length, take, drop, get_or, arith, refl, ap, ◌∙◌, zero, suc}
+use Rattle.std.proofs.Common.{ℕ, ◌≡◌, ◌+◌, ◌<◌, true, false, eqb, List, [], ◌∷◌, length, take, drop, get_or, arith, ap, ◌∙◌, zero, suc}
 use Rattle.std.proofs.lemmas.Bool.{cond-true, cond-false}
 use Rattle.std.specs.List.{onto_first}
 use Rattle.grfile.specs.Lines.{cut_lines}

@@ -1,18 +1,15 @@
 -- From what the lines of a text say to what the text says.
-use Rattle.std.proofs.Common.{ℕ, ◌≡◌, ◌++◌, List, [], ◌∷◌, Option, Some, None, Result, Ok, Err, refl, ap, sym, subst, ◌∙◌, append_assoc}
-use Rattle.std.specs.Prelude.{⊤}
+use Rattle.std.proofs.Common.{ℕ, ◌≡◌, List, Ok, Err, refl}
 use Rattle.ch_graph.specs.declared.road.Road.{Road}
 use Rattle.grfile.specs.declared.error.GrError.{GrError}
 use Rattle.grfile.specs.declared.error.GrErrorKind.{GrErrorKind}
 use Rattle.grfile.specs.declared.error.GrErrorKind.TheVariants.{OutOfMemory, Read, UnknownLine, NoProblemLine, SecondProblemLine, FieldCount, NotANumber, NodeRange, ZeroWeight, WeightTooBig, TooManyNodes, TooManyArcs, ArcCount}
 use Rattle.grfile.specs.Lines.{lines_of}
-use Rattle.grfile.specs.Outcome.{◌>>=◌, FromText, SaysNothing, Takes}
+use Rattle.grfile.specs.Outcome.{FromText, SaysNothing}
 use Rattle.grfile.specs.Grammar.{Listing, listing_after}
 use Rattle.grfile.specs.Roads.{graph_grammar}
 use Rattle.grfile.specs.Pairs.{pair_grammar}
 use Rattle.grfile.specs.Reading.{graph_of, pairs_of}
-use Rattle.grfile.specs.Taken.{Taken, told_with}
-use Rattle.grfile.proofs.Steps.{from_text}
 
 pub from_text_map : (kind : GrErrorKind) {P Q : Type 0} → (P → Q) → FromText kind P → FromText kind Q
 from_text_map OutOfMemory f p = tt

@@ -1,5 +1,5 @@
 -- What is read of a text is within its limits.
-use Rattle.std.proofs.Common.{ℕ, ◌≡◌, ◌+◌, ◌-◌, ◌^◌, ◌<◌, ◌≤◌, Bool, true, false, cond, if◌then◌else◌, ◌&&◌, eqb, ltb, List, [], ◌∷◌, length, drop, Option, Some, None, Result, Ok, Err, All, codes, arith, refl, ap, sym, subst, ◌∙◌, zero, suc}
+use Rattle.std.proofs.Common.{ℕ, ◌≡◌, ◌-◌, ◌^◌, ◌<◌, ◌≤◌, Bool, true, false, if◌then◌else◌, ◌&&◌, eqb, ltb, List, [], ◌∷◌, length, drop, Result, Ok, Err, All, codes, arith, refl, sym, subst}
 use Rattle.std.specs.List.{AllByRecursion}
 use Rattle.std.specs.Result.{IfOk}
 use Rattle.std.specs.Str.{bytes_eq}
@@ -7,18 +7,16 @@ use Rattle.std.proofs.lemmas.Bool.{cond_both, ltb-false, or_parts, eqb-true, eqb
 use Rattle.std.proofs.lemmas.Result.{IfOk-weaker}
 use Rattle.std.proofs.lemmas.List.Elements.{All-from_recursion}
 use Rattle.ch_cost.specs.Cost.Laws.{weight-from}
-use Rattle.ch_graph.specs.declared.road.Road.{Road}
 use Rattle.ch_graph.specs.Graph.{IsRoad, IsGraph}
 use Rattle.grfile.specs.declared.error.GrError.{GrError}
-use Rattle.grfile.specs.declared.error.GrErrorKind.TheVariants.{UnknownLine, FieldCount, NoProblemLine, SecondProblemLine, NodeRange, ZeroWeight, WeightTooBig, TooManyNodes, TooManyArcs, ArcCount}
-use Rattle.grfile.specs.declared.fields.LineKind.{LineKind}
+use Rattle.grfile.specs.declared.error.GrErrorKind.TheVariants.{UnknownLine, NoProblemLine, SecondProblemLine, ArcCount}
 use Rattle.grfile.specs.declared.fields.LineKind.TheVariants.{Skipped, Problem, Entry, Unknown}
 use Rattle.grfile.specs.declared.form.Size.{Size}
 use Rattle.grfile.specs.Lines.{fields_of}
 use Rattle.grfile.specs.Outcome.{◌>>=◌, fault, next_line}
 use Rattle.grfile.specs.Grammar.{Grammar, Listing, kind_of, number_in, entries_after, listing_after}
 use Rattle.grfile.specs.Roads.{graph_grammar, graph_size, size_in_range, road_of, road_in_range, is_outside}
-use Rattle.grfile.specs.Pairs.{pair_grammar, pairs_size, count_in_range, pair_of, pair_in_range}
+use Rattle.grfile.specs.Pairs.{pair_grammar, pairs_size, count_in_range, pair_of}
 use Rattle.grfile.specs.Reading.{IsPair}
 
 bind_ok : {A B : Type 0} (r : Result A GrError) (f : A → Result B GrError) (P : A → Type 0) (Q : B → Type 0) → IfOk r P → ((a : A) → P a → IfOk (f a) Q) → IfOk (r >>= f) Q

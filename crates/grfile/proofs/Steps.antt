@@ -1,5 +1,5 @@
 -- What one more line does to what a text says.
-use Rattle.std.proofs.Common.{ℕ, ◌≡◌, ◌+◌, ◌-◌, ◌<◌, ◌≤◌, Bool, true, false, cond, if◌then◌else◌, eqb, List, [], ◌∷◌, ◌++◌, length, drop, Option, Some, None, Result, Ok, Err, arith, refl, ap, sym, subst, ◌∙◌}
+use Rattle.std.proofs.Common.{ℕ, ◌≡◌, ◌-◌, ◌<◌, ◌≤◌, Bool, true, false, if◌then◌else◌, eqb, List, [], ◌∷◌, ◌++◌, length, drop, Option, Some, None, Result, Ok, Err, arith, refl, ap, sym, subst, ◌∙◌}
 use Rattle.std.proofs.lemmas.List.{append_assoc, append-nil, length_push}
 use Rattle.grfile.specs.declared.error.GrError.{GrError}
 use Rattle.grfile.specs.declared.error.GrErrorKind.{GrErrorKind}
@@ -76,7 +76,7 @@ module _ {E : Type 0} (grammar : Grammar E) (n : ℕ) (rest : List (List ℕ)) w
   -- a problem line that says this
   size_step : (says : Result Size GrError) → (says >>= (λ size. entries_after grammar size size.entries n rest >>= (λ entries. Ok (record { size = size; entries = entries })))) ≡ (says >>= (λ size. listing_from grammar n (Some (record { size = size; entries = [] })) rest))
   size_step (Ok size) = let all : size.entries ≡ size.entries - 0 = omega arith in
-    ap (λ (left : ℕ). entries_after grammar size left n rest >>= (λ entries. Ok (record { size = size; entries = entries }))) all
+      ap (λ (left : ℕ). entries_after grammar size left n rest >>= (λ entries. Ok (record { size = size; entries = entries }))) all
   size_step (Err e) = refl
 
 module _ {E : Type 0} (grammar : Grammar E) (n : ℕ) (line : List ℕ) (more : List (List ℕ)) (rest : List (List ℕ)) where
@@ -125,7 +125,7 @@ module _ {E : Type 0} (grammar : Grammar E) (n : ℕ) (line : List ℕ) (more : 
 
   pub step-again : is_some o ≡ true → IsRead grammar line Problem more → listing_from grammar n (option_map listing_of o) (line ∷ rest) ≡ fault SecondProblemLine (next_line n)
   step-again some read = let listed = some_of o some in
-    rw listed.1 (step-second grammar n line more rest (listing_of listed.0) read)
+      rw listed.1 (step-second grammar n line more rest (listing_of listed.0) read)
 
   pub step-before : o ≡ None → IsRead grammar line Entry more → listing_from grammar n (option_map listing_of o) (line ∷ rest) ≡ fault NoProblemLine (next_line n)
   step-before none read = ap (λ (p : Option (Listed E)). listing_from grammar n (option_map listing_of p) (line ∷ rest)) none ∙ step-early grammar n line more rest read

@@ -1,5 +1,5 @@
 -- The grammar that the texts share: comments, a problem line, and then so many lines of entries.
-use Rattle.std.specs.Prelude.{ℕ, ◌-◌, ◌==◌, if◌then◌else◌, List, [], ◌∷◌, drop, Option, Some, None, Result, Ok}
+use Rattle.std.specs.Prelude.{ℕ, ◌-◌, ◌==◌, if◌then◌else◌, List, [], ◌∷◌, drop, Some, None, Result, Ok}
 use Rattle.grfile.specs.declared.error.GrError.{GrError}
 use Rattle.grfile.specs.declared.error.GrErrorKind.TheVariants.{UnknownLine, NoProblemLine, SecondProblemLine, NotANumber, ArcCount}
 use Rattle.grfile.specs.declared.fields.LineKind.{LineKind}

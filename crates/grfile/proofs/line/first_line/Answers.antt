@@ -1,4 +1,4 @@
-use Rattle.std.proofs.Common.{◌≡◌, ◌∙◌, ◌+◌, ◌<◌, sym, ℕ, length, drop, eqb, get_or, arith, add-one}
+use Rattle.std.proofs.Common.{◌∙◌, ◌+◌, ◌<◌, sym, length, eqb, get_or, arith, add-one}
 use Rattle.std.proofs.lemmas.Bool.{eqb-false, false_from_ne_true}
 use Rattle.std.proofs.lemmas.List.{take_rest}
 use Rattle.grfile.proofs.LineCuts.{cut_at, cut_one}

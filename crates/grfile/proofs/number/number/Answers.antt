@@ -1,5 +1,5 @@
-use Rattle.std.proofs.Common.{◌≡◌, ◌∙◌, ◌<◌, ◌+◌, ◌*◌, Bool, true, ℕ, length, Some, sym, ap, arith}
-use Rattle.std.proofs.lemmas.Bool.{eqb-false, not-true, not-false}
+use Rattle.std.proofs.Common.{◌≡◌, ◌∙◌, ◌<◌, ◌+◌, ◌*◌, ℕ, length, Some, sym, ap, arith}
+use Rattle.std.proofs.lemmas.Bool.{eqb-false}
 use Rattle.grfile.specs.Outcome.{capped}
 use Rattle.grfile.proofs.Digits.{capped_after-more, capped_after-stop, capped_after-end, capped_after-start}
 use Rattle.grfile.proofs.number.number.Goals as goal

@@ -1,4 +1,3 @@
-use Rattle.std.proofs.Common.{◌∙◌}
 use Rattle.std.proofs.lemmas.Result.{err_from_is_err_and, IfOk-at_ok}
 use Rattle.grfile.specs.Lines.{lines_of}
 use Rattle.grfile.proofs.Sound.{pairs_listed}

@@ -1,5 +1,5 @@
-use Rattle.std.proofs.Common.{◌≡◌, ◌++◌, ◌∙◌, List, ℕ, length, eqb, ap, arith}
-use Rattle.std.specs.List.{slice_split, flat_map, filter}
+use Rattle.std.proofs.Common.{◌∙◌, length, ap, arith}
+use Rattle.std.specs.List.{filter}
 use Rattle.grfile.specs.Lines.{is_field}
 use Rattle.grfile.proofs.Blanks.{next_word}
 use Rattle.grfile.proofs.fields.Fields.next_field.Goals as goal
