@@ -1,5 +1,4 @@
-ghost use Rattle.std.specs.Prelude.{◌≡◌, ◌∷◌, [], Option};
-ghost use Rattle.std.specs.Option.{option_map};
+ghost use Rattle.std.specs.Prelude.{◌∷◌, []};
 ghost use Rattle.grfile.specs.Outcome.{Answers, Takes};
 ghost use Rattle.grfile.specs.Progress.{listing_of, listing_from, entry_then, told_from};
 ghost use Rattle.grfile.specs.Grammar.{Grammar, listing_after};
@@ -50,8 +49,8 @@ pub(crate) struct Progress<E> {
 
 /// Takes the next line of a text, which has neither its line feed nor the carriage return at its end.
 fn take_line<F: Form>(
-    progress: &mut Progress<F::Entry>,
     alloc: Global,
+    progress: &mut Progress<F::Entry>,
     form: F,
     line: &[u8],
 ) -> Result<(), GrError>
@@ -115,7 +114,7 @@ pub(crate) fn listing<F: Form>(
     };
     let mut rest = text;
     while let Some(cut) = first_line(rest) {
-        take_line(&mut progress, alloc, form, without_return(cut.line))?;
+        take_line(alloc, &mut progress, form, without_return(cut.line))?;
         rest = cut.rest;
     }
     end(progress)

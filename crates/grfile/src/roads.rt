@@ -1,4 +1,4 @@
-ghost use Rattle.std.specs.Prelude.{◌≡◌, ◌^◌, ◌<◌};
+ghost use Rattle.std.specs.Prelude.{◌≡◌};
 ghost use Rattle.grfile.specs.Roads.{graph_grammar, graph_size, size_in_range, road_of, road_in_range};
 
 use crate::error::{GrError, GrErrorKind};
