@@ -1,0 +1,22 @@
+-- The reading of a text: the graph, or the pairs, or the first fault, by cases on the list of its lines.
+use Rattle.std.specs.Prelude.{ℕ, ◌<◌, List, Result, Ok}
+use Rattle.ch_graph.specs.declared.road.Road.{Road}
+use Rattle.ch_graph.specs.Graph.{Graph}
+use Rattle.grfile.specs.declared.error.GrError.{GrError}
+use Rattle.grfile.specs.Lines.{lines_of}
+use Rattle.grfile.specs.Outcome.{◌>>=◌}
+use Rattle.grfile.specs.Grammar.{Listing, listing_after}
+use Rattle.grfile.specs.Roads.{graph_grammar}
+use Rattle.grfile.specs.Pairs.{pair_grammar}
+
+-- the graph that a text spells, or the text's first fault
+unfoldable pub graph_of : List ℕ → Result Graph GrError
+graph_of text = listing_after graph_grammar 0 (lines_of text) >>= (λ (read : Listing Road). Ok (record { nodes = read.size.nodes; arcs = read.entries }))
+
+-- the pairs of nodes that a text spells for a graph of so many nodes, or the text's first fault
+unfoldable pub pairs_of : ℕ → List ℕ → Result (List (ℕ × ℕ)) GrError
+pairs_of nodes text = listing_after (pair_grammar nodes) 0 (lines_of text) >>= (λ (read : Listing (ℕ × ℕ)). Ok read.entries)
+
+-- two of so many nodes
+abbrev pub IsPair : ℕ → ℕ × ℕ → Type 0
+IsPair nodes p = (p.0 < nodes) × (p.1 < nodes)

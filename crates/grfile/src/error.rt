@@ -1,0 +1,92 @@
+ghost use Rattle.std.specs.Prelude.{◌≡◌, Some};
+ghost use Rattle.grfile.specs.Names.{kind_name, error_text};
+
+use std::error::Error;
+use std::fmt;
+
+/// Why a text wasn't read.
+#[derive(Clone, Copy, Debug, PartialEq, Eq)]
+pub enum GrErrorKind {
+    /// A growth was refused.
+    OutOfMemory = 1,
+    /// The reader failed.
+    Read,
+    /// A line of no known kind, or a problem line of another problem.
+    UnknownLine,
+    /// No problem line stands before the entries, or none at all.
+    NoProblemLine,
+    /// A second problem line.
+    SecondProblemLine,
+    /// Too few or too many fields for the line's kind.
+    FieldCount,
+    /// A field that isn't a number of decimal digits.
+    NotANumber,
+    /// A node that is 0, or above the number of nodes.
+    NodeRange,
+    /// An arc of weight 0.
+    ZeroWeight,
+    /// A weight above 4,294,967,295.
+    WeightTooBig,
+    /// More than 33,554,432 nodes.
+    TooManyNodes,
+    /// More than 134,217,728 arcs or pairs.
+    TooManyArcs,
+    /// More or fewer entries than the problem line says.
+    ArcCount,
+}
+
+/// The first fault of a text, or what kept it from being read.
+#[derive(Clone, Copy, Debug, PartialEq, Eq)]
+pub struct GrError {
+    /// What is wrong.
+    pub kind: GrErrorKind,
+    /// The line that has the fault, numbered from 1; of a fault at the end of the text, the number of its lines.
+    /// For a failed read, and for want of memory outside an entry's line, one more than the line feeds that were
+    /// taken. A number that would pass 2^64 - 1 stays there.
+    pub line: u64,
+}
+
+impl GrErrorKind {
+    /// This fault, of that line.
+    pub(crate) fn at(self, line: u64) -> GrError
+        ensures { result ≡ record { kind = self; line = line } }
+    {
+        GrError { kind: self, line }
+    }
+}
+
+impl fmt::Display for GrErrorKind {
+    ghost output = { λ kind. Some (kind_name kind) };
+
+    fn fmt<W: fmt::Write>(&self, f: &mut fmt::Formatter<W>) -> fmt::Result {
+        match self {
+            GrErrorKind::OutOfMemory => write!(f, "OutOfMemory"),
+            GrErrorKind::Read => write!(f, "Read"),
+            GrErrorKind::UnknownLine => write!(f, "UnknownLine"),
+            GrErrorKind::NoProblemLine => write!(f, "NoProblemLine"),
+            GrErrorKind::SecondProblemLine => write!(f, "SecondProblemLine"),
+            GrErrorKind::FieldCount => write!(f, "FieldCount"),
+            GrErrorKind::NotANumber => write!(f, "NotANumber"),
+            GrErrorKind::NodeRange => write!(f, "NodeRange"),
+            GrErrorKind::ZeroWeight => write!(f, "ZeroWeight"),
+            GrErrorKind::WeightTooBig => write!(f, "WeightTooBig"),
+            GrErrorKind::TooManyNodes => write!(f, "TooManyNodes"),
+            GrErrorKind::TooManyArcs => write!(f, "TooManyArcs"),
+            GrErrorKind::ArcCount => write!(f, "ArcCount"),
+        }
+    }
+}
+
+impl fmt::Display for GrError {
+    ghost output = { λ e. Some (error_text e) };
+
+    fn fmt<W: fmt::Write>(&self, f: &mut fmt::Formatter<W>) -> fmt::Result {
+        let kind = self.kind;
+        let line = self.line;
+        write!(f, "{kind} line {line}")
+    }
+}
+
+impl Error for GrErrorKind {}
+
+impl Error for GrError {}

@@ -1,0 +1,34 @@
+ghost use Rattle.std.specs.Prelude.{◌≡◌};
+ghost use Rattle.grfile.specs.Grammar.{Grammar};
+
+use crate::error::GrError;
+use crate::fields::Fields;
+
+/// What a problem line says: how many nodes there are, and how many entries follow.
+#[derive(Clone, Copy, Debug, PartialEq, Eq)]
+pub(crate) struct Size {
+    /// The nodes, numbered from 1 in the text.
+    pub(crate) nodes: u32,
+    /// The lines of entries that have to follow.
+    pub(crate) entries: u32,
+}
+
+/// What a text has of its own: the letter of its entries, its problem line and its lines of entries.
+pub(crate) trait Form: Copy {
+    /// What a line of an entry says.
+    type Entry: Copy;
+
+    ghost grammar: { Self → Grammar Self.Entry };
+
+    /// The first field of a line of an entry.
+    fn letter(self) -> u8
+        ensures { result ≡ (grammar self).letter };
+
+    /// What the problem line with this number says, by its fields after the first.
+    fn size(self, line: u64, fields: Fields<'_>) -> Result<Size, GrError>
+        ensures { result ≡ (grammar self).size_of line fields.entry };
+
+    /// What the line of an entry with this number says, by its fields after the first.
+    fn entry(self, size: Size, line: u64, fields: Fields<'_>) -> Result<Self::Entry, GrError>
+        ensures { result ≡ (grammar self).entry_of size line fields.entry };
+}
