@@ -1,7 +1,7 @@
 -- The labels of one side, as nodes are finished in the order of their ranks.
 use Rattle.std.specs.Prelude.{ℕ, ◌≡◌, ◌<◌, ◌⊎◌, List, length, slice_index_or, Option, Some, None}
 use Rattle.ch_cost.specs.declared.cost.Cost.{Cost}
-use Rattle.ch_cost.specs.Cost.{zero_cost, ◌⊕◌, IsNoLonger, IsOfWalks}
+use Rattle.ch_cost.specs.Cost.{zero_cost, ◌⊕◌, ◌≺◌, IsNoLonger, IsOfWalks}
 use Rattle.ch_graph.specs.Hierarchy.{Hierarchy, rank_of}
 use Rattle.ch_query.specs.declared.label.Label.{Label}
 use Rattle.ch_query.specs.declared.side.Side.{Side}
@@ -38,7 +38,7 @@ IsFrom h side start rank labels x c None = (x ≡ start) × (c ≡ zero_cost)
 -- The labels once each node of a rank below this one is finished: each link that climbs from such a node was followed.
 pub record IsLabelling (h : Hierarchy) (side : Side) (start rank : ℕ) (labels : List (Option Label)) : Type 0 where
   pub nodes : length labels ≡ length h.ranks
-  pub start : costs_of labels start ≡ Some zero_cost
+  pub first : costs_of labels start ≡ Some zero_cost
   pub origin : (x : ℕ) (e : Label) → label_of labels x ≡ Some e → IsFrom h side start rank labels x e.cost e.link
   pub fits : (x : ℕ) (c : Cost) → costs_of labels x ≡ Some c → IsOfWalks (rank_of h x) c
   pub short : (x : ℕ) (c : Cost) → costs_of labels x ≡ Some c → IsNoLonger c h.bound
@@ -67,3 +67,18 @@ pub record IsSpread (h : Hierarchy) (side : Side) (v : ℕ) (c : Cost) (old new 
 -- the link at k was followed from a node of cost c
 abbrev pub IsFollowed : Hierarchy → Side → Cost → List (Option Label) → ℕ → Type 0
 IsFollowed h side c labels k = IsNoLonger (c ⊕ cost_at h k) h.bound → HasAtMost (costs_of labels) (head_at h side k) (c ⊕ cost_at h k)
+
+-- a cost was passed on over each link that climbs from v
+pub record IsPassedOn (h : Hierarchy) (side : Side) (v : ℕ) (c : Cost) (old new : List (Option Label)) : Type 0 where
+  pub spread : IsSpread h side v c old new
+  pub followed : (k : ℕ) → ClimbsFrom h side v k → IsFollowed h side c new k
+
+-- a node without a label has nothing to pass on
+abbrev pub IsFinished : Hierarchy → Side → ℕ → List (Option Label) → List (Option Label) → Option Label → Type 0
+IsFinished h side v old new (Some e) = IsPassedOn h side v e.cost old new
+IsFinished h side v old new None = new ≡ old
+
+-- there is no label, or one of more than this cost
+abbrev pub IsAbove : Option Label → Cost → Type 0
+IsAbove None c = Unit {0}
+IsAbove (Some e) c = c ≺ e.cost

@@ -2,7 +2,11 @@
 #![tactic(auto)]
 
 mod label;
+mod labels;
+mod ladder;
 mod laws;
+mod order;
+mod position;
 mod search;
 mod side;
 

@@ -30,6 +30,11 @@ pub sum-zero_cost : (a : Cost) → a ⊕ zero_cost ≡ a
 unfolding ◌⊕◌ zero_cost
 sum-zero_cost a = alike _ _ (omega arith)
 
+-- the constant `Cost::ZERO`, as a clause reads it
+pub ZERO-is : record { weight = 0 } ≡ zero_cost
+unfolding zero_cost
+ZERO-is = refl
+
 -- The order is total
 
 pub at_most_refl : (a : Cost) → a ≼ a
