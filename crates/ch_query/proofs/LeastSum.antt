@@ -54,8 +54,8 @@ module _ (h : Hierarchy) (Counts : Cost → Type 0) (counts_less : (c d : Cost) 
       }
 
 -- two labels of a node are the two parts of a rise-fall walk
-meeting_walk : {h : Hierarchy} {s t : ℕ} {up down : ℕ → Option Cost} {Counts : Cost → Type 0} → AreUpLabels h Counts s up → AreDownLabels h Counts t down → {x : ℕ} {c : Cost} → Meets h up down x c → HasRiseFall h s t c
-meeting_walk rises falls {x} {c} meeting =
+meeting_walk : {h : Hierarchy} {s t : ℕ} {up down : ℕ → Option Cost} {Counts : Cost → Type 0} → AreUpLabels h Counts s up → AreDownLabels h Counts t down → (x : ℕ) (c : Cost) → Meets h up down x c → HasRiseFall h s t c
+meeting_walk rises falls x c meeting =
     let rise = rises.reached x meeting.rise meeting.risen in
     let fall = falls.reached x meeting.fall meeting.fallen in
     record {
@@ -84,7 +84,7 @@ short_meeting {h} {up = up} {down = down} rises falls {c} walk =
 pub labels_right : LabelsAreRight
 labels_right h s t up down rises falls = record {
   value = λ x c meeting least.
-    (meeting_walk rises falls meeting,
+    (meeting_walk rises falls x c meeting,
     λ d walk. let other = short_meeting rises falls walk in at_most_trans (least other.0 other.1 other.2) other.3);
   none = λ never c walk. let other = short_meeting rises falls walk in never other.0 other.1 other.2;
 }

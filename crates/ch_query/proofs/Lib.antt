@@ -4,3 +4,4 @@ pub mod Ladders
 pub mod Sides
 pub mod Passing
 pub mod Finishing
+pub mod Descents

@@ -1,9 +1,10 @@
 -- The labels of one side, as nodes are finished in the order of their ranks.
-use Rattle.std.specs.Prelude.{ℕ, ◌≡◌, ◌<◌, ◌⊎◌, List, length, slice_index_or, Option, Some, None}
+use Rattle.std.specs.Prelude.{ℕ, ◌≡◌, ◌<◌, ◌⊎◌, List, length, slice_index_or, Option, Some, None, IfSome}
 use Rattle.ch_cost.specs.declared.cost.Cost.{Cost}
-use Rattle.ch_cost.specs.Cost.{zero_cost, ◌⊕◌, ◌≺◌, IsNoLonger, IsOfWalks}
-use Rattle.ch_graph.specs.Hierarchy.{Hierarchy, rank_of}
+use Rattle.ch_cost.specs.Cost.{zero_cost, ◌⊕◌, ◌≺◌, IsNoLonger, IsInLimit, IsOfWalks}
+use Rattle.ch_graph.specs.Hierarchy.{Hierarchy, IsWellMade, rank_of}
 use Rattle.ch_query.specs.declared.label.Label.{Label}
+use Rattle.ch_query.specs.declared.labels.Climb.{Climb}
 use Rattle.ch_query.specs.declared.side.Side.{Side}
 use Rattle.ch_query.specs.Labels.{HasAtMost}
 use Rattle.ch_query.specs.Climb.{ClimbsFrom, head_at, cost_at}
@@ -82,3 +83,18 @@ IsFinished h side v old new None = new ≡ old
 abbrev pub IsAbove : Option Label → Cost → Type 0
 IsAbove None c = Unit {0}
 IsAbove (Some e) c = c ≺ e.cost
+
+-- the link that a label came by
+abbrev pub option_link : Option Label → Option ℕ
+option_link None = None
+option_link (Some e) = e.link
+
+-- each label costs little enough to be a summand
+abbrev pub FitAll : List (Option Label) → Type 0
+FitAll labels = (x : ℕ) → IfSome (label_of labels x) (λ e. IsInLimit e.cost)
+
+-- the labels of a side from its start
+pub record IsClimb (h : Hierarchy) (climb : Climb) : Type 0 where
+  pub made : IsWellMade h
+  pub start_in : climb.start < length h.ranks
+  pub labelled : IsLabelled h climb.side climb.start climb.labels.items

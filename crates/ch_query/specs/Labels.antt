@@ -23,14 +23,18 @@ pub record AreDownLabels (h : Hierarchy) (Counts : Cost → Type 0) (t : ℕ) (l
   pub reached : (x : ℕ) (a : Cost) → label x ≡ Some a → (links : List Link) × Chain (IsFalling h) links x t a
   pub closed : (l : Link) (a : Cost) → IsFalling h l → label l.to ≡ Some a → Counts (l.cost ⊕ a) → HasAtMost label l.from (l.cost ⊕ a)
 
--- the two labels of a node cost c together, and the length of c is at most the bound
-pub record Meets (h : Hierarchy) (up down : ℕ → Option Cost) (x : ℕ) (c : Cost) : Type 0 where
+-- two labels cost c together, and the length of c is at most the bound
+pub record AreShort (h : Hierarchy) (up down : Option Cost) (c : Cost) : Type 0 where
   pub rise : Cost
   pub fall : Cost
-  pub risen : up x ≡ Some rise
-  pub fallen : down x ≡ Some fall
+  pub risen : up ≡ Some rise
+  pub fallen : down ≡ Some fall
   pub sum : c ≡ rise ⊕ fall
   pub short : IsNoLonger c h.bound
+
+-- the two labels of a node do so
+abbrev pub Meets : Hierarchy → (ℕ → Option Cost) → (ℕ → Option Cost) → ℕ → Cost → Type 0
+Meets h up down x c = AreShort h (up x) (down x) c
 
 -- The least sum of two labels is the value, and where no node has two labels there is none.
 pub record LabelsGive (h : Hierarchy) (s t : ℕ) (up down : ℕ → Option Cost) : Type 0 where

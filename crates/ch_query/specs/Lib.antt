@@ -3,3 +3,4 @@ pub mod Positions
 pub mod Climb
 pub mod Ladder
 pub mod Labelling
+pub mod Meeting

@@ -3,7 +3,7 @@ ghost use Rattle.ch_cost.specs.Cost.{IsInLimit};
 ghost use Rattle.ch_graph.specs.Hierarchy.{IsWellMade};
 ghost use Rattle.ch_query.specs.Climb.{ClimbsFrom};
 ghost use Rattle.ch_query.specs.Ladder.{IsByRank, IsLadder};
-ghost use Rattle.ch_query.specs.Labelling.{label_of, IsLabelled, IsSpread, IsFollowed, IsPassedOn, IsFinished, IsAbove};
+ghost use Rattle.ch_query.specs.Labelling.{label_of, IsClimb, IsSpread, IsFollowed, IsPassedOn, IsFinished, IsAbove};
 
 use crate::label::Label;
 use crate::ladder::Ladder;
@@ -13,31 +13,50 @@ use ch_cost::Cost;
 use ch_graph::Hierarchy;
 use std::alloc::{AllocError, Global};
 
-/// The labels of one side from its start: each node, in the order of ranks, passes its cost on over each link that
-/// climbs from it. Lengths above the bound are left out.
-pub fn labels_from(
-    alloc: Global,
-    hierarchy: &Hierarchy,
-    order: &[u32],
-    ladder: &Ladder,
-    side: Side,
-    start: u32,
-) -> Result<Vec<Option<Label>>, AllocError>
-    requires start_in { start < length hierarchy.now.ranks }
-    requires by_rank { IsByRank hierarchy.now order.now }
-    requires ladder { IsLadder hierarchy.now side ladder.now.last.items ladder.now.before.items }
-    ensures { IfOk result (λ labels. IsLabelled hierarchy.now side start labels.items) }
-{
-    let nodes = hierarchy.nodes() as usize;
-    let mut labels = unlabelled(alloc, nodes)?;
-    labels[start as usize] = Some(Label {
-        cost: Cost::ZERO,
-        link: None,
-    });
-    for rank in 0..nodes {
-        finish(hierarchy, ladder, side, order[rank], &mut labels);
+/// The labels of one side of a query.
+#[derive(Drop)]
+pub struct Climb {
+    /// The side.
+    pub side: Side,
+    /// The node where it begins.
+    pub start: u32,
+    /// For each node what is known of it.
+    pub labels: Vec<Option<Label>>,
+}
+
+impl Climb {
+    /// Labels the nodes from a start: each node, in the order of ranks, passes its cost on over each link that
+    /// climbs from it. Lengths above the bound are left out.
+    pub fn new(
+        alloc: Global,
+        hierarchy: &Hierarchy,
+        order: &[u32],
+        ladder: &Ladder,
+        side: Side,
+        start: u32,
+    ) -> Result<Climb, AllocError>
+        requires start_in { start < length hierarchy.now.ranks }
+        requires by_rank { IsByRank hierarchy.now order.now }
+        requires ladder { IsLadder hierarchy.now side ladder.now.last.items ladder.now.before.items }
+        ensures side { IfOk result (λ climb. climb.side ≡ side) }
+        ensures start { IfOk result (λ climb. climb.start ≡ start) }
+        ensures climb { IfOk result (λ climb. IsClimb hierarchy.now climb) }
+    {
+        let nodes = hierarchy.nodes() as usize;
+        let mut labels = unlabelled(alloc, nodes)?;
+        labels[start as usize] = Some(Label {
+            cost: Cost::ZERO,
+            link: None,
+        });
+        for rank in 0..nodes {
+            finish(hierarchy, ladder, side, order[rank], &mut labels);
+        }
+        Ok(Climb {
+            side,
+            start,
+            labels,
+        })
     }
-    Ok(labels)
 }
 
 /// No label for each of so many nodes.

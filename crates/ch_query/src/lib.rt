@@ -1,10 +1,12 @@
 //! Queries of a contraction hierarchy.
 #![tactic(auto)]
 
+mod descent;
 mod label;
 mod labels;
 mod ladder;
 mod laws;
+mod meeting;
 mod order;
 mod position;
 mod search;

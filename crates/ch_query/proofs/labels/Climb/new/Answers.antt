@@ -7,7 +7,7 @@ use Rattle.ch_graph.specs.Hierarchy.{rank_of}
 use Rattle.ch_query.specs.declared.label.Label.{Label}
 use Rattle.ch_query.specs.Labelling.{IsLabelling, IsFinished, label_of}
 use Rattle.ch_query.proofs.Finishing.{labels_fit, labelling-none, labelling-start, labelling-more}
-use Rattle.ch_query.proofs.labels.labels_from.Goals as goal
+use Rattle.ch_query.proofs.labels.Climb.new.Goals as goal
 
 pub finish-requires-clause-fits : goal.finish-requires-clause-fits
 finish-requires-clause-fits c =
@@ -32,8 +32,12 @@ loop-rank-preserved c =
     let whole : take c.loop-rank.labels.len (c.finish.new.labels ++ drop (length c.finish.new.labels) old) ≡ c.finish.new.labels = take_at c.finish.new.labels (drop (length c.finish.new.labels) old) c.loop-rank.labels.len (omega (arith, c.finish.auto.labels, c.deref_mut.ensures.len, ap (λ (ls : List (Option Label)). length ls) c.deref_mut.ensures.value, c.loop-rank.labels.ok)) in
     subst (λ n. IsLabelling h c.args.side c.args.start n (take c.loop-rank.labels.len (c.finish.new.labels ++ drop (length c.finish.new.labels) old))) (ap (λ n. n + 1) here) (subst (λ (ls : List (Option Label)). IsLabelling h c.args.side c.args.start (rank_of h v + 1) ls) (sym whole) more)
 
-pub returns : goal.returns
-returns c =
+pub returns-clause-climb : goal.returns-clause-climb
+returns-clause-climb c =
     let h = c.args.hierarchy.now in
     let all : c.loop-rank.rank ≡ length h.ranks = omega (arith, c.loop-rank-test.false, c.loop-rank.auto.rank-end, c.nodes-nodes.ensures.count) in
-    subst (λ n. IsLabelling h c.args.side c.args.start n c.loop-rank.labels.items) all c.loop-rank.invariant
+    record {
+      made = c.nodes-nodes.ensures.made;
+      start_in = c.requires.start_in;
+      labelled = subst (λ n. IsLabelling h c.args.side c.args.start n c.loop-rank.labels.items) all c.loop-rank.invariant;
+    }
