@@ -1,7 +1,7 @@
 -- The links of a climb, from its top back to its start.
 use Rattle.std.proofs.Common.{ℕ, ◌≡◌, ◌+◌, ◌<◌, ◌≤◌, List, [], ◌∷◌, ◌++◌, length, reverse, map, get_or, Option, Some, None, All, Contains, arith, ap, refl, sym, subst, ◌∙◌, append_assoc}
 use Rattle.std.proofs.lemmas.List.{append-nil, map-append, reverse-append, get_or_default}
-use Rattle.std.proofs.lemmas.List.Elements.{All-nil, All-cons, All-append}
+use Rattle.std.proofs.lemmas.List.Elements.{All-nil, All-cons, All-same, All-push, All-head, All-tail}
 use Rattle.ch_cost.specs.declared.cost.Cost.{Cost}
 use Rattle.ch_cost.specs.Cost.{zero_cost, ◌⊕◌, IsNoLonger}
 use Rattle.ch_cost.specs.Cost.Laws.{sum_assoc, sum_comm, zero_cost-sum, sum-zero_cost}
@@ -49,7 +49,7 @@ descends-positions {h} (down {id = id} {ids = ids} climbs rest) = All-cons (IsPo
 
 pub all-reverse : (P : LinkId → Type 0) (ids : List LinkId) → All P ids → All P (reverse ids)
 all-reverse P [] all = All-nil P
-all-reverse P (id ∷ ids) all = ?
+all-reverse P (id ∷ ids) all = All-same P (reverse (id ∷ ids)) (reverse ids ++ id ∷ []) (reverse-append (id ∷ []) ids) (All-push P (reverse ids) id (all-reverse P ids (All-tail P id ids all)) (All-head P id ids all))
 
 -- a label that came by a link is that of the node below and of the link
 pub came_from : {h : Hierarchy} {side : Side} {start rank : ℕ} {labels : List (Option Label)} → IsLabelling h side start rank labels → (x k : ℕ) → option_link (label_of labels x) ≡ Some k → (e : Label) × (label_of labels x ≡ Some e) × ComesBy h side rank labels x e.cost k

@@ -5,3 +5,5 @@ pub mod Sides
 pub mod Passing
 pub mod Finishing
 pub mod Descents
+pub mod LeastMeetings
+pub mod Values

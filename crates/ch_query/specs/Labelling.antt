@@ -98,3 +98,8 @@ pub record IsClimb (h : Hierarchy) (climb : Climb) : Type 0 where
   pub made : IsWellMade h
   pub start_in : climb.start < length h.ranks
   pub labelled : IsLabelled h climb.side climb.start climb.labels.items
+
+-- those of this side
+pub record AreLabels (h : Hierarchy) (side : Side) (climb : Climb) : Type 0 where
+  pub side_is : climb.side ≡ side
+  pub climb_is : IsClimb h climb

@@ -1,7 +1,16 @@
 ghost use Rattle.std.specs.Prelude.{◌≡◌, ◌<◌, length, option_map, All, IfOk, IfSome};
 ghost use Rattle.ch_graph.specs.Hierarchy.{IsValue, IsRiseFall};
+ghost use Rattle.ch_query.specs.declared.side.Side.TheVariants.{Rise, Fall};
+ghost use Rattle.ch_query.specs.Labels.{Meets};
+ghost use Rattle.ch_query.specs.Labelling.{costs_of, AreLabels};
 ghost use Rattle.ch_query.specs.Positions.{links_at};
 
+use crate::descent::descent;
+use crate::labels::Climb;
+use crate::ladder::Ladder;
+use crate::meeting::{Meeting, least_meeting};
+use crate::order::nodes_by_rank;
+use crate::side::Side;
 use ch_cost::Cost;
 use ch_graph::{Hierarchy, LinkId};
 use std::alloc::{AllocError, Global};
@@ -18,31 +27,50 @@ pub struct Found {
 }
 
 /// Answers queries of one hierarchy.
+///
+/// Each label is that of a node of the hierarchy, and each link is looked at once for a query at most, so a query
+/// takes time and memory linear in nodes and links. A search is the same before and after each call, and after a
+/// call that ran out of memory too.
 #[derive(Drop)]
 pub struct Search<'a> {
     hierarchy: &'a Hierarchy,
     order: Vec<u32>,
+    rising: Ladder,
+    falling: Ladder,
 }
 
 impl<'a> Model for Search<'a> {
     ghost use Rattle.ch_graph.specs.Hierarchy as hierarchies;
-    ghost use Rattle.ch_query.specs.Ladder.{IsByRank};
+    ghost use Rattle.ch_query.specs.Ladder.{IsReady};
 
     ghost Value = { hierarchies.Hierarchy };
 
     ghost view = { λ s. s.hierarchy.now };
 
-    ghost invariant = { λ s. IsByRank s.hierarchy.now s.order.items };
+    ghost invariant = { λ s. IsReady s.hierarchy.now s.order.items s.rising s.falling };
 }
 
 impl<'a> Search<'a> {
+    /// A search of a hierarchy. Takes 4 bytes a node, and 32 a node and 32 a link for the lists of links, and time
+    /// linear in both.
     pub fn new(alloc: Global, hierarchy: &'a Hierarchy) -> Result<Search<'a>, AllocError>
         ensures { IfOk result (λ search. search ≡ hierarchy.now) }
     {
-        let order = Vec::new(alloc);
-        Ok(Search { hierarchy, order })
+        let order = nodes_by_rank(alloc, hierarchy)?;
+        let rising = Ladder::new(alloc, hierarchy, Side::Rise)?;
+        let falling = Ladder::new(alloc, hierarchy, Side::Fall)?;
+        Ok(Search {
+            hierarchy,
+            order,
+            rising,
+            falling,
+        })
     }
 
+    /// The least cost of a walk of links from `source` to `target` that rises first and then falls, of a length
+    /// within the hierarchy's bound, and the links of such a walk; or none where there is none.
+    ///
+    /// The links of a node to itself are none, at no cost.
     pub fn distance(
         &mut self,
         alloc: Global,
@@ -56,10 +84,69 @@ impl<'a> Search<'a> {
         ensures positions { IfOk result (λ found. IfSome found (λ f. All (λ id. id.0 < length self.old.links) f.links.items)) }
         ensures kept { self.new ≡ self.old }
     {
-        let _ = alloc;
-        let _ = source;
-        let _ = target;
-        let _ = self.hierarchy;
-        Err(AllocError)
+        let hierarchy = self.hierarchy;
+        let up = Climb::new(
+            alloc,
+            hierarchy,
+            &self.order,
+            &self.rising,
+            Side::Rise,
+            source,
+        )?;
+        let down = Climb::new(
+            alloc,
+            hierarchy,
+            &self.order,
+            &self.falling,
+            Side::Fall,
+            target,
+        )?;
+        least_walk(alloc, hierarchy, &up, &down)
     }
+}
+
+/// The least walk over a node where the two sides meet.
+fn least_walk(
+    alloc: Global,
+    hierarchy: &Hierarchy,
+    up: &Climb,
+    down: &Climb,
+) -> Result<Option<Found>, AllocError>
+    requires up { AreLabels hierarchy.now Rise up.now }
+    requires down { AreLabels hierarchy.now Fall down.now }
+    ensures value { IfOk result (λ found. IsValue hierarchy.now up.now.start down.now.start (option_map (λ f. f.cost) found)) }
+    ensures walk { IfOk result (λ found. IfSome found (λ f. IsRiseFall hierarchy.now (links_at hierarchy.now f.links.items) up.now.start down.now.start f.cost)) }
+    ensures positions { IfOk result (λ found. IfSome found (λ f. All (λ id. id.0 < length hierarchy.now.links) f.links.items)) }
+{
+    let Some(meeting) = least_meeting(hierarchy, &up.labels, &down.labels) else {
+        return Ok(None);
+    };
+    let found = walk_over(alloc, hierarchy, up, down, meeting)?;
+    Ok(Some(found))
+}
+
+/// The walk up to a node where the sides meet, and down from it.
+fn walk_over(
+    alloc: Global,
+    hierarchy: &Hierarchy,
+    up: &Climb,
+    down: &Climb,
+    meeting: Meeting,
+) -> Result<Found, AllocError>
+    requires up { AreLabels hierarchy.now Rise up.now }
+    requires down { AreLabels hierarchy.now Fall down.now }
+    requires meets { Meets hierarchy.now (costs_of up.now.labels.items) (costs_of down.now.labels.items) meeting.node meeting.cost }
+    requires node_in { meeting.node < length hierarchy.now.ranks }
+    ensures cost { IfOk result (λ f. f.cost ≡ meeting.cost) }
+    ensures walk { IfOk result (λ f. IsRiseFall hierarchy.now (links_at hierarchy.now f.links.items) up.now.start down.now.start meeting.cost) }
+    ensures positions { IfOk result (λ f. All (λ id. id.0 < length hierarchy.now.links) f.links.items) }
+{
+    let mut links = descent(alloc, hierarchy, up, meeting.node)?;
+    links.reverse();
+    let falling = descent(alloc, hierarchy, down, meeting.node)?;
+    links.extend_from_slice(&falling)?;
+    Ok(Found {
+        cost: meeting.cost,
+        links,
+    })
 }
