@@ -1,7 +1,7 @@
 ghost use Rattle.std.specs.Prelude.{◌≡◌, ◌<◌, ◌↔◌, length, replicate, IfOk, IfSome, IsTrue};
 ghost use Rattle.ch_cost.specs.Cost.{IsInLimit};
 ghost use Rattle.ch_graph.specs.Hierarchy.{IsWellMade};
-ghost use Rattle.ch_query.specs.Climb.{ClimbsFrom};
+ghost use Rattle.ch_query.specs.Climb.{foot_at, ClimbsFrom};
 ghost use Rattle.ch_query.specs.Ladder.{IsByRank, IsLadder};
 ghost use Rattle.ch_query.specs.Labelling.{label_of, IsClimb, IsSpread, IsFollowed, IsPassedOn, IsFinished, IsAbove};
 
@@ -104,28 +104,26 @@ fn pass_on(
 {
     let mut next = ladder.last[node as usize];
     'links: while let Some(at) = next {
-        follow(hierarchy, side, node, at, cost, labels);
+        follow(hierarchy, side, at, cost, labels);
         next = ladder.before[at];
     }
 }
 
-/// Follows one link from a node of this cost: the node at its head is labelled, if that makes its label less.
+/// Follows one link that climbs, from a foot of this cost: the node at its head is labelled, if its label gets less.
 fn follow(
     hierarchy: &Hierarchy,
     side: Side,
-    node: u32,
     at: usize,
     cost: Cost,
     labels: &mut [Option<Label>],
 )
     requires made { IsWellMade hierarchy.now }
-    requires climbs { ClimbsFrom hierarchy.now side node at }
+    requires climbs { ClimbsFrom hierarchy.now side (foot_at hierarchy.now side at) at }
     requires nodes { length labels.old ≡ length hierarchy.now.ranks }
     requires fits { IsInLimit cost }
-    ensures spread { IsSpread hierarchy.now side node cost labels.old labels.new }
+    ensures spread { IsSpread hierarchy.now side (foot_at hierarchy.now side at) cost labels.old labels.new }
     ensures followed { IsFollowed hierarchy.now side cost labels.new at }
 {
-    let _ = node;
     let link = link_at(hierarchy, at);
     let head = side.head(link) as usize;
     let sum = cost.plus(link.cost);
