@@ -1,13 +1,13 @@
 -- The links of a climb, from its top back to its start.
-use Rattle.std.proofs.Common.{ℕ, ◌≡◌, ◌+◌, ◌<◌, ◌≤◌, List, [], ◌∷◌, ◌++◌, length, reverse, map, get_or, Option, Some, None, All, Contains, arith, ap, refl, sym, subst, ◌∙◌, append_assoc}
-use Rattle.std.proofs.lemmas.List.{append-nil, map-append, reverse-append, get_or_default}
+use Rattle.std.proofs.Common.{ℕ, ◌≡◌, ◌<◌, List, [], ◌∷◌, ◌++◌, length, reverse, Option, Some, None, All, ap, refl, sym, subst, ◌∙◌, append_assoc}
+use Rattle.std.proofs.lemmas.List.{append-nil, map-append, reverse-append}
 use Rattle.std.proofs.lemmas.List.Elements.{All-nil, All-cons, All-same, All-push, All-head, All-tail}
 use Rattle.ch_cost.specs.declared.cost.Cost.{Cost}
-use Rattle.ch_cost.specs.Cost.{zero_cost, ◌⊕◌, IsNoLonger}
+use Rattle.ch_cost.specs.Cost.{◌⊕◌}
 use Rattle.ch_cost.specs.Cost.Laws.{sum_assoc, sum_comm, zero_cost-sum, sum-zero_cost}
 use Rattle.ch_graph.specs.declared.link.Link.{Link}
 use Rattle.ch_graph.specs.declared.hierarchy.LinkId.{LinkId}
-use Rattle.ch_graph.specs.Hierarchy.{Hierarchy, Chain, Chain.nothing, Chain.then, IsWellMade, IsLinkWellMade, IsRising, IsFalling, rank_of}
+use Rattle.ch_graph.specs.Hierarchy.{Hierarchy, Chain, Chain.nothing, Chain.then, IsWellMade, IsRising, IsFalling, rank_of}
 use Rattle.ch_query.specs.declared.label.Label.{Label}
 use Rattle.ch_query.specs.declared.side.Side.{Side}
 use Rattle.ch_query.specs.declared.side.Side.TheVariants.{Rise, Fall}
@@ -54,10 +54,10 @@ all-reverse P (id ∷ ids) all = All-same P (reverse (id ∷ ids)) (reverse ids 
 -- a label that came by a link is that of the node below and of the link
 pub came_from : {h : Hierarchy} {side : Side} {start rank : ℕ} {labels : List (Option Label)} → IsLabelling h side start rank labels → (x k : ℕ) → option_link (label_of labels x) ≡ Some k → (e : Label) × (label_of labels x ≡ Some e) × ComesBy h side rank labels x e.cost k
 came_from {h} {side} {start} {rank} {labels} is x k by = pick (label_of labels x) refl by
- where
-  pick : (o : Option Label) → label_of labels x ≡ o → option_link o ≡ Some k → (e : Label) × (label_of labels x ≡ Some e) × ComesBy h side rank labels x e.cost k
-  pick None e by = absurd (cc)
-  pick (Some l) e by = (l, e, subst (λ (o : Option ℕ). IsFrom h side start rank labels x l.cost o) by (is.origin x l e))
+  where
+    pick : (o : Option Label) → label_of labels x ≡ o → option_link o ≡ Some k → (e : Label) × (label_of labels x ≡ Some e) × ComesBy h side rank labels x e.cost k
+    pick None e by = absurd (cc)
+    pick (Some l) e by = (l, e, subst (λ (o : Option ℕ). IsFrom h side start rank labels x l.cost o) by (is.origin x l e))
 
 -- The links so far lead from the top down to a node.
 pub record IsDescending (h : Hierarchy) (side : Side) (start : ℕ) (labels : List (Option Label)) (top node : ℕ) (ids : List LinkId) : Type 0 where
@@ -78,21 +78,22 @@ descending-more {h} {side} {start} {labels = labels} made is top node k ids by f
     record {
       node_in = foot_in;
       joins = λ c at_top.
-        let old = so_far.joins c at_top in
-        let same : old.0 ≡ comes.cost ⊕ cost_at h k = label_cost (label_of labels node) from.0 old.0 from.1 old.1 ∙ comes.sum in
-        (comes.cost,
-        subst (λ y. costs_of labels y ≡ Some comes.cost) (sym foot) comes.labelled,
-        λ rest below.
-          let id : LinkId = record { 0 = k } in
-          let climbs : ClimbsFrom h side (foot_at h side k) k = subst (λ y. ClimbsFrom h side y k) (sym foot) comes.climbs in
-          let step : Descends h side start (id ∷ rest) (head_at h side k) (comes.cost ⊕ cost_at h k) = down climbs below in
-          let here : Descends h side start (id ∷ rest) node old.0 = subst (λ (d : Cost). Descends h side start (id ∷ rest) node d) (sym same) (subst (λ y. Descends h side start (id ∷ rest) y (comes.cost ⊕ cost_at h k)) comes.head step) in
-          subst (λ (is : List LinkId). Descends h side start is top c) (sym (append_assoc ids (id ∷ []) rest)) (old.2 (id ∷ rest) here));
+          let old = so_far.joins c at_top in
+          let same : old.0 ≡ comes.cost ⊕ cost_at h k = label_cost (label_of labels node) from.0 old.0 from.1 old.1 ∙ comes.sum in (
+            comes.cost,
+            subst (λ y. costs_of labels y ≡ Some comes.cost) (sym foot) comes.labelled,
+            λ rest below.
+                let id : LinkId = record { 0 = k } in
+                let climbs : ClimbsFrom h side (foot_at h side k) k = subst (λ y. ClimbsFrom h side y k) (sym foot) comes.climbs in
+                let step : Descends h side start (id ∷ rest) (head_at h side k) (comes.cost ⊕ cost_at h k) = down climbs below in
+                let here : Descends h side start (id ∷ rest) node old.0 = subst (λ (d : Cost). Descends h side start (id ∷ rest) node d) (sym same) (subst (λ y. Descends h side start (id ∷ rest) y (comes.cost ⊕ cost_at h k)) comes.head step) in
+                subst (λ (is : List LinkId). Descends h side start is top c) (sym (append_assoc ids (id ∷ []) rest)) (old.2 (id ∷ rest) here),
+          );
     }
- where
-  label_cost : (o : Option Label) (e : Label) (d : Cost) → o ≡ Some e → option_cost o ≡ Some d → d ≡ e.cost
-  label_cost None e d is cost = absurd (cc)
-  label_cost (Some l) e d is cost = let same : l ≡ e = cc in let equal : l.cost ≡ d = cc in sym equal ∙ ap (λ (m : Label). m.cost) same
+  where
+    label_cost : (o : Option Label) (e : Label) (d : Cost) → o ≡ Some e → option_cost o ≡ Some d → d ≡ e.cost
+    label_cost None e d is cost = absurd (cc)
+    label_cost (Some l) e d is cost = let same : l ≡ e = cc in let equal : l.cost ≡ d = cc in sym equal ∙ ap (λ (m : Label). m.cost) same
 
 pub descended : {h : Hierarchy} {side : Side} {start rank : ℕ} {labels : List (Option Label)} → IsLabelling h side start rank labels → (top node : ℕ) (ids : List LinkId) → option_link (label_of labels node) ≡ None → IsDescending h side start labels top node ids → (c : Cost) → costs_of labels top ≡ Some c → Descends h side start ids top c
 descended {h} {side} {start} {rank} {labels} is top node ids by so_far c at_top =

@@ -1,16 +1,16 @@
 -- The labels of a side while nodes are finished in the order of their ranks.
-use Rattle.std.proofs.Common.{ℕ, ◌≡◌, ◌+◌, ◌-◌, ◌<◌, ◌≤◌, ◌^◌, ◌⊎◌, List, length, get_or, set, replicate, Option, Some, None, IfSome, arith, ap, refl, sym, subst, ◌∙◌, inl, inr}
+use Rattle.std.proofs.Common.{ℕ, ◌≡◌, ◌+◌, ◌-◌, ◌<◌, ◌≤◌, ◌^◌, List, length, set, replicate, Option, Some, None, IfSome, arith, ap, refl, sym, subst, ◌∙◌, inl, inr}
 use Rattle.std.proofs.lemmas.Bool.{cases_eq, cases_lt}
 use Rattle.std.proofs.lemmas.List.{get_or-set_same, get_or-set_other, get_or-replicate, get_or_past, length-set, length-replicate}
 use Rattle.ch_cost.specs.declared.cost.Cost.{Cost}
-use Rattle.ch_cost.specs.Cost.{zero_cost, ◌⊕◌, ◌≼◌, IsNoLonger, IsInLimit, IsOfWalks}
+use Rattle.ch_cost.specs.Cost.{zero_cost, ◌⊕◌, IsNoLonger, IsInLimit, IsOfWalks}
 use Rattle.ch_cost.specs.Cost.Laws.{at_most_refl, at_most_antisym, zero_cost_at_most, zero_cost_within, no_longer-from_within, of_walks_zero_cost, of_walks_one, of_walks_sum, of_walks_more, in_limit-from_walks, cost_of_arcs_in_limit, in_limit-from_within}
 use Rattle.ch_graph.specs.Hierarchy.{Hierarchy, IsWellMade, rank_of}
 use Rattle.ch_query.specs.declared.label.Label.{Label}
 use Rattle.ch_query.specs.declared.side.Side.{Side}
 use Rattle.ch_query.specs.Labels.{HasAtMost}
 use Rattle.ch_query.specs.Climb.{head_at, cost_at, ClimbsFrom}
-use Rattle.ch_query.specs.Labelling.{label_of, option_cost, costs_of, ComesBy, IsFrom, IsLabelling, ClimbsTo, IsSpread, IsPassedOn, IsFinished}
+use Rattle.ch_query.specs.Labelling.{label_of, option_cost, costs_of, IsFrom, IsLabelling, ClimbsTo, IsPassedOn, IsFinished}
 use Rattle.ch_query.proofs.Sides.{link-made, foot_in}
 use Rattle.ch_query.proofs.Ranks.{rank_below, same_node}
 
@@ -57,10 +57,10 @@ module _ (h : Hierarchy) (made : IsWellMade h) (side : Side) where
 
     pub labels_fit : (x : ℕ) → IfSome (label_of labels x) (λ (e : Label). IsInLimit e.cost)
     labels_fit x = pick (label_of labels x) refl
-     where
-      pick : (o : Option Label) → label_of labels x ≡ o → IfSome o (λ (e : Label). IsInLimit e.cost)
-      pick None e = tt
-      pick (Some l) e = label_in_limit x l.cost (ap option_cost e)
+      where
+        pick : (o : Option Label) → label_of labels x ≡ o → IfSome o (λ (e : Label). IsInLimit e.cost)
+        pick None e = tt
+        pick (Some l) e = label_in_limit x l.cost (ap option_cost e)
 
   -- at first the start alone has a label
   module _ (start : ℕ) (labels : List (Option Label)) (nodes : length labels ≡ length h.ranks) (here : label_of labels start ≡ Some (record { cost = zero_cost; link = None })) (others : (x : ℕ) → (x ≡ start → ⊥) → label_of labels x ≡ None) where
@@ -93,7 +93,7 @@ module _ (h : Hierarchy) (made : IsWellMade h) (side : Side) where
       let size : length none ≡ count = ap length is ∙ length-replicate count None in
       labelling-none start (set none start given) (length-set none start given ∙ size ∙ nodes) (get_or-set_same none start given None (omega (arith, size, nodes, start_in)))
       (λ x other. get_or-set_other none start x given None other ∙ unlabelled x)
-     where
+    where
       unlabelled : (x : ℕ) → label_of none x ≡ None
       unlabelled x = subst (λ (ls : List (Option Label)). label_of ls x ≡ None) (sym is) (elim (cases_lt x count) [
         | inl low ↦ get_or-replicate count x None None low
@@ -207,7 +207,7 @@ module _ (h : Hierarchy) (made : IsWellMade h) (side : Side) where
 
     pub labelling-more : (new : List (Option Label)) → IsFinished h side v old new (label_of old v) → IsLabelling h side start (rank_of h v + 1) new
     labelling-more new finished = pick (label_of old v) refl finished
-     where
-      pick : (o : Option Label) → label_of old v ≡ o → IsFinished h side v old new o → IsLabelling h side start (rank_of h v + 1) new
-      pick None none_is same = subst (λ (labels : List (Option Label)). IsLabelling h side start (rank_of h v + 1) labels) (sym same) (more-unlabelled none_is)
-      pick (Some e) label passed = more-labelled e label new passed
+      where
+        pick : (o : Option Label) → label_of old v ≡ o → IsFinished h side v old new o → IsLabelling h side start (rank_of h v + 1) new
+        pick None none_is same = subst (λ (labels : List (Option Label)). IsLabelling h side start (rank_of h v + 1) labels) (sym same) (more-unlabelled none_is)
+        pick (Some e) label passed = more-labelled e label new passed

@@ -1,11 +1,11 @@
 -- The last link that climbs from a node, among ever more links.
-use Rattle.std.proofs.Common.{ℕ, ◌≡◌, ◌+◌, ◌<◌, ◌≤◌, List, length, set, get_or, Option, Some, None, arith, refl, sym, subst, ◌∙◌, inl, inr}
+use Rattle.std.proofs.Common.{ℕ, ◌≡◌, ◌+◌, ◌<◌, ◌≤◌, List, length, set, get_or, Option, Some, None, arith, sym, subst, ◌∙◌, inl, inr}
 use Rattle.std.proofs.lemmas.Bool.{cases_eq, cases_lt}
 use Rattle.std.proofs.lemmas.List.{get_or-set_same, get_or-set_other, length-set}
 use Rattle.ch_graph.specs.Hierarchy.{Hierarchy, rank_of}
 use Rattle.ch_query.specs.declared.side.Side.{Side}
 use Rattle.ch_query.specs.Climb.{foot_at, head_at, ClimbsFrom}
-use Rattle.ch_query.specs.Ladder.{IsUpTo, IsLast, IsLadderOf}
+use Rattle.ch_query.specs.Ladder.{IsLast, IsLadderOf}
 
 -- the link itself climbs from the node
 last-this : {h : Hierarchy} {side : Side} {v : ℕ} (n : ℕ) → ClimbsFrom h side v n → IsLast h side v (n + 1) (Some n)

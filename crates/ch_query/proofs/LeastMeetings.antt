@@ -2,7 +2,7 @@
 use Rattle.std.proofs.Common.{ℕ, ◌≡◌, ◌+◌, ◌<◌, ◌≤◌, Option, Some, None, arith, ap, sym, subst, ◌∙◌, inl, inr}
 use Rattle.std.proofs.lemmas.Bool.{cases_lt}
 use Rattle.ch_cost.specs.declared.cost.Cost.{Cost}
-use Rattle.ch_cost.specs.Cost.{◌⊕◌, ◌≼◌, ◌≺◌}
+use Rattle.ch_cost.specs.Cost.{◌⊕◌, ◌≼◌}
 use Rattle.ch_cost.specs.Cost.Laws.{at_most_refl, at_most_trans, at_most-from_below, cases_cost}
 use Rattle.ch_graph.specs.Hierarchy.{Hierarchy}
 use Rattle.ch_query.specs.declared.meeting.Meeting.{Meeting}
@@ -49,10 +49,10 @@ module _ (h : Hierarchy) (up down : ℕ → Option Cost) (n : ℕ) where
         | inr after ↦ subst (λ (e : Cost). c ≼ e) (next_is y d after below meets) (at_most_refl c)
       ]);
     }
-     where
-      no_dearer : (least : Option Meeting) → IsLess c least → IsLeastMeeting h up down n least → (y : ℕ) (d : Cost) → y < n → Meets h up down y d → c ≼ d
-      no_dearer None less is y d before meets = absurd (is y d before meets)
-      no_dearer (Some k) less is y d before meets = at_most_trans (at_most-from_below less) (is.least y d before meets)
+      where
+        no_dearer : (least : Option Meeting) → IsLess c least → IsLeastMeeting h up down n least → (y : ℕ) (d : Cost) → y < n → Meets h up down y d → c ≼ d
+        no_dearer None less is y d before meets = absurd (is y d before meets)
+        no_dearer (Some k) less is y d before meets = at_most_trans (at_most-from_below less) (is.least y d before meets)
 
     -- what was the least stays so
     pub meeting-stays : (least : Option Meeting) → (IsLess c least → ⊥) → IsLeastMeeting h up down n least → IsLeastMeeting h up down (n + 1) least

@@ -1,11 +1,11 @@
 -- Labels that no link improves: every rise-fall walk has a node whose two labels cost no more than the walk.
-use Rattle.std.proofs.Common.{ℕ, ◌≡◌, List, [], ◌∷◌, ◌++◌, Option, Some, None, refl, sym, subst, ap}
+use Rattle.std.proofs.Common.{ℕ, ◌≡◌, List, ◌++◌, Option, Some, refl, sym, subst}
 use Rattle.ch_cost.specs.declared.cost.Cost.{Cost}
 use Rattle.ch_cost.specs.Cost.{zero_cost, ◌⊕◌, ◌≼◌, IsNoLonger}
 use Rattle.ch_cost.specs.Cost.Laws.{sum_assoc, zero_cost-sum, at_most_refl, at_most_trans, at_most_sum_left, at_most_sum_right, sum_at_most, no_longer_at_most}
 use Rattle.ch_graph.specs.declared.link.Link.{Link}
-use Rattle.ch_graph.specs.Hierarchy.{Hierarchy, Chain, Chain.nothing, Chain.then, IsRising, IsFalling, IsRiseFall, HasRiseFall, IsValue}
-use Rattle.ch_query.specs.Labels.{HasAtMost, AreUpLabels, AreDownLabels, Meets, LabelsGive, LabelsAreRight}
+use Rattle.ch_graph.specs.Hierarchy.{Hierarchy, Chain, Chain.nothing, Chain.then, IsRising, IsFalling, IsRiseFall, HasRiseFall}
+use Rattle.ch_query.specs.Labels.{HasAtMost, AreUpLabels, AreDownLabels, Meets, LabelsAreRight}
 
 module _ (h : Hierarchy) (Counts : Cost → Type 0) (counts_less : (c d : Cost) → c ≼ d → Counts d → Counts c) where
   -- the end of a rise from a labelled node has a label that costs no more
@@ -83,8 +83,9 @@ short_meeting {h} {up = up} {down = down} rises falls {c} walk =
 
 pub labels_right : LabelsAreRight
 labels_right h s t up down rises falls = record {
-  value = λ x c meeting least.
-    (meeting_walk rises falls x c meeting,
-    λ d walk. let other = short_meeting rises falls walk in at_most_trans (least other.0 other.1 other.2) other.3);
+  value = λ x c meeting least. (
+    meeting_walk rises falls x c meeting,
+    λ d walk. let other = short_meeting rises falls walk in at_most_trans (least other.0 other.1 other.2) other.3,
+  );
   none = λ never c walk. let other = short_meeting rises falls walk in never other.0 other.1 other.2;
 }

@@ -1,16 +1,16 @@
 -- A node's cost is passed on over its links, from the last one to the first.
-use Rattle.std.proofs.Common.{ℕ, ◌≡◌, ◌+◌, ◌<◌, ◌≤◌, ◌⊎◌, ◌↔◌, Bool, true, false, List, length, get_or, set, Option, Some, None, IsTrue, arith, ap, refl, sym, subst, ◌∙◌, inl, inr}
+use Rattle.std.proofs.Common.{ℕ, ◌≡◌, ◌+◌, ◌<◌, ◌≤◌, ◌⊎◌, List, length, set, Option, Some, None, arith, ap, refl, sym, subst, ◌∙◌, inl, inr}
 use Rattle.std.proofs.lemmas.Bool.{cases_eq, cases_lt}
 use Rattle.std.proofs.lemmas.List.{get_or-set_same, get_or-set_other, length-set}
 use Rattle.ch_cost.specs.declared.cost.Cost.{Cost}
-use Rattle.ch_cost.specs.Cost.{◌⊕◌, ◌≼◌, ◌≺◌, IsNoLonger, IsInLimit, IsWithin, cost_of_arcs}
+use Rattle.ch_cost.specs.Cost.{◌⊕◌, ◌≼◌, IsNoLonger, IsInLimit}
 use Rattle.ch_cost.specs.Cost.Laws.{at_most_refl, at_most_trans, at_most-from_below, cases_cost, in_limit-from_within, within_trans, cost_of_arcs_in_limit}
 use Rattle.ch_graph.specs.Hierarchy.{Hierarchy, IsWellMade}
 use Rattle.ch_query.specs.declared.label.Label.{Label}
 use Rattle.ch_query.specs.declared.side.Side.{Side}
 use Rattle.ch_query.specs.Labels.{HasAtMost}
 use Rattle.ch_query.specs.Climb.{head_at, cost_at, ClimbsFrom}
-use Rattle.ch_query.specs.Ladder.{IsUpTo, IsLast}
+use Rattle.ch_query.specs.Ladder.{IsLast}
 use Rattle.ch_query.specs.Labelling.{label_of, option_cost, costs_of, ClimbsTo, IsSpread, IsFollowed, IsPassedOn, IsAbove}
 use Rattle.ch_query.proofs.Sides.{link-made}
 

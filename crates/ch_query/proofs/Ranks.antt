@@ -1,15 +1,14 @@
 -- The ranks of a hierarchy: each number below the number of nodes is the rank of one node.
-use Rattle.std.proofs.Common.{ℕ, ◌≡◌, ◌≢◌, ◌+◌, ◌<◌, ◌≤◌, ◌⊎◌, suc, Bool, true, false, eqb, List, [], ◌∷◌, length, get_or, set, All, AllPairs, Contains, slice_index, arith, sym, ap, subst, refl, ◌∙◌, inl, inr}
+use Rattle.std.proofs.Common.{ℕ, ◌≡◌, ◌≢◌, ◌+◌, ◌<◌, ◌≤◌, ◌⊎◌, suc, true, false, eqb, List, [], ◌∷◌, length, get_or, set, All, slice_index, arith, sym, ap, subst, ◌∙◌, inl, inr}
 use Rattle.std.specs.List.{list_any}
-use Rattle.std.proofs.lemmas.Bool.{cases_eq, cases_lt, cases_Bool}
+use Rattle.std.proofs.lemmas.Bool.{cases_eq, cases_lt}
 use Rattle.std.proofs.lemmas.Bool.Decides.{nat_tests, Decides-eqb}
-use Rattle.std.proofs.lemmas.List.{get_or-set_same, get_or-set_other, length-set, get_or_default}
-use Rattle.std.proofs.lemmas.List.Elements.{All-nil, All-cons, All-tail, All-head, All-contains}
+use Rattle.std.proofs.lemmas.List.{get_or-set_same, get_or-set_other, length-set}
+use Rattle.std.proofs.lemmas.List.Elements.{All-nil, All-cons, All-tail, All-head}
 use Rattle.std.proofs.lemmas.List.Kept.{AllPairs-cons}
 use Rattle.std.proofs.lemmas.Map.Made.{IsDistinct-from_AllPairs}
 use Rattle.std.proofs.lemmas.Map.Steps.{length-le_from_distinct_below}
-use Rattle.ch_graph.specs.declared.link.Link.{Link}
-use Rattle.ch_graph.specs.Hierarchy.{Hierarchy, IsWellMade, IsLinkWellMade, rank_of}
+use Rattle.ch_graph.specs.Hierarchy.{Hierarchy, IsWellMade, rank_of}
 use Rattle.ch_query.specs.Ladder.{IsByRank}
 
 pub rank_below : (h : Hierarchy) → IsWellMade h → (x : ℕ) → x < length h.ranks → rank_of h x < length h.ranks
@@ -75,9 +74,9 @@ pub by_rank-from_ordered : (h : Hierarchy) → IsWellMade h → (n : ℕ) (order
 by_rank-from_ordered h made n order all is = record {
   nodes = is.nodes;
   node_in = λ r low. let x = rank_taken h made r low in
-    let place : slice_index order r ≡ x.0 = subst (λ q. slice_index order q ≡ x.0) x.2 (is.placed x.0 (omega (arith, all, x.1))) in
-    subst (λ y. y < length h.ranks) (sym place) x.1;
+      let place : slice_index order r ≡ x.0 = subst (λ q. slice_index order q ≡ x.0) x.2 (is.placed x.0 (omega (arith, all, x.1))) in
+      subst (λ y. y < length h.ranks) (sym place) x.1;
   ranked = λ r low. let x = rank_taken h made r low in
-    let place : slice_index order r ≡ x.0 = subst (λ q. slice_index order q ≡ x.0) x.2 (is.placed x.0 (omega (arith, all, x.1))) in
-    ap (rank_of h) place ∙ x.2;
+      let place : slice_index order r ≡ x.0 = subst (λ q. slice_index order q ≡ x.0) x.2 (is.placed x.0 (omega (arith, all, x.1))) in
+      ap (rank_of h) place ∙ x.2;
 }

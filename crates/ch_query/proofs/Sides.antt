@@ -1,13 +1,11 @@
 -- The ends of links on either side.
-use Rattle.std.proofs.Common.{ℕ, ◌<◌, length, All, Contains, refl, sym, subst}
+use Rattle.std.proofs.Common.{ℕ, ◌<◌, length, Contains}
 use Rattle.std.proofs.lemmas.List.Elements.{All-contains, Contains-get_or}
-use Rattle.ch_cost.specs.Cost.{zero_cost}
-use Rattle.ch_graph.specs.declared.link.Link.{Link}
-use Rattle.ch_graph.specs.Hierarchy.{Hierarchy, IsWellMade, IsLinkWellMade, IsRising, IsFalling, rank_of}
+use Rattle.ch_graph.specs.Hierarchy.{Hierarchy, IsWellMade, IsLinkWellMade}
 use Rattle.ch_query.specs.declared.side.Side.{Side}
 use Rattle.ch_query.specs.declared.side.Side.TheVariants.{Rise, Fall}
 use Rattle.ch_query.specs.Positions.{link_at}
-use Rattle.ch_query.specs.Climb.{foot_at, head_at, cost_at, ClimbsFrom}
+use Rattle.ch_query.specs.Climb.{foot_at, head_at}
 
 pub link-among : (h : Hierarchy) (k : ℕ) → k < length h.links → Contains h.links (link_at h k)
 link-among h k within = Contains-get_or h.links k _ within

@@ -1,23 +1,23 @@
 -- The labels of the two sides give the value, and walks of that cost.
-use Rattle.std.proofs.Common.{ℕ, zero, suc, ◌≡◌, ◌+◌, ◌<◌, ◌≤◌, List, [], ◌∷◌, ◌++◌, length, reverse, get_or, Option, Some, None, All, Contains, arith, ap, refl, sym, subst, ◌∙◌, inl, inr}
+use Rattle.std.proofs.Common.{ℕ, zero, suc, ◌≡◌, ◌+◌, ◌<◌, List, [], ◌∷◌, ◌++◌, length, reverse, Option, Some, None, All, Contains, arith, ap, sym, subst, ◌∙◌, inl, inr}
 use Rattle.std.proofs.lemmas.Bool.{cases_lt}
 use Rattle.std.proofs.lemmas.List.{get_or_default, get_or_past, map-append}
-use Rattle.std.proofs.lemmas.List.Elements.{All-contains, All-append}
+use Rattle.std.proofs.lemmas.List.Elements.{All-append}
 use Rattle.ch_cost.specs.declared.cost.Cost.{Cost}
-use Rattle.ch_cost.specs.Cost.{zero_cost, ◌⊕◌, IsNoLonger}
+use Rattle.ch_cost.specs.Cost.{◌⊕◌, IsNoLonger}
 use Rattle.ch_cost.specs.Cost.Laws.{sum_comm}
 use Rattle.ch_graph.specs.declared.link.Link.{Link}
 use Rattle.ch_graph.specs.declared.hierarchy.LinkId.{LinkId}
-use Rattle.ch_graph.specs.Hierarchy.{Hierarchy, Chain, IsWellMade, IsLinkWellMade, IsRising, IsFalling, IsRiseFall, IsValue, rank_of}
+use Rattle.ch_graph.specs.Hierarchy.{Hierarchy, IsWellMade, IsRiseFall, IsValue, rank_of}
 use Rattle.ch_query.specs.declared.label.Label.{Label}
 use Rattle.ch_query.specs.declared.labels.Climb.{Climb}
 use Rattle.ch_query.specs.declared.meeting.Meeting.{Meeting}
 use Rattle.ch_query.specs.declared.side.Side.{Side}
 use Rattle.ch_query.specs.declared.side.Side.TheVariants.{Rise, Fall}
-use Rattle.ch_query.specs.Labels.{HasAtMost, AreUpLabels, AreDownLabels, AreShort, Meets}
+use Rattle.ch_query.specs.Labels.{HasAtMost, AreUpLabels, AreDownLabels, Meets}
 use Rattle.ch_query.specs.Positions.{link_at, links_at}
 use Rattle.ch_query.specs.Climb.{foot_of, head_of, head_at, cost_at, ClimbsFrom, Descends, Descends.there, Descends.down}
-use Rattle.ch_query.specs.Labelling.{label_of, option_cost, costs_of, ComesBy, IsFrom, IsLabelling, IsLabelled, AreLabels}
+use Rattle.ch_query.specs.Labelling.{label_of, option_cost, costs_of, IsFrom, IsLabelling, IsLabelled, AreLabels}
 use Rattle.ch_query.specs.Meeting.{IsLeastOf, IsLeastMeeting}
 use Rattle.ch_query.proofs.LeastSum.{labels_right}
 use Rattle.ch_query.proofs.Ranks.{rank_below}
@@ -34,9 +34,9 @@ labelled_in {h} {labels = labels} is x c label = elim (cases_lt x (length h.rank
   | inl low ↦ low
   | inr past ↦ absurd (none_past (get_or_past labels x None (omega (arith, is.nodes, past))) label)
 ]
- where
-  none_past : label_of labels x ≡ None → option_cost (label_of labels x) ≡ Some c → ⊥
-  none_past none_is some_is = let none_cost : option_cost (label_of labels x) ≡ None = ap option_cost none_is in absurd (cc)
+  where
+    none_past : label_of labels x ≡ None → option_cost (label_of labels x) ≡ Some c → ⊥
+    none_past none_is some_is = let none_cost : option_cost (label_of labels x) ≡ None = ap option_cost none_is in absurd (cc)
 
 module _ (h : Hierarchy) (made : IsWellMade h) (side : Side) (start : ℕ) (labels : List (Option Label)) (is : IsLabelled h side start labels) where
   -- some links of a climb lead to the node at this cost
@@ -87,8 +87,8 @@ down_labels h made start labels is = record {
   start = is.first;
   reached = λ x a label. let back = descent_to h made Fall start labels is x a label in (links_at h back.0, fall-chain h start back.1);
   closed = λ l a falling label short.
-    let over = closed_over h made Fall start labels is l a falling.among falling.falls label (subst (λ (c : Cost). IsNoLonger c h.bound) (sum_comm l.cost a) short) in
-    subst (λ (c : Cost). HasAtMost (costs_of labels) l.from c) (sum_comm a l.cost) over;
+      let over = closed_over h made Fall start labels is l a falling.among falling.falls label (subst (λ (c : Cost). IsNoLonger c h.bound) (sum_comm l.cost a) short) in
+      subst (λ (c : Cost). HasAtMost (costs_of labels) l.from c) (sum_comm a l.cost) over;
 }
 
 module _ (h : Hierarchy) (made : IsWellMade h) (s t : ℕ) (up down : List (Option Label)) (rises : IsLabelled h Rise s up) (falls : IsLabelled h Fall t down) where

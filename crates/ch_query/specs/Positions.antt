@@ -1,6 +1,5 @@
 -- Links by their positions in a hierarchy.
-use Rattle.std.specs.Prelude.{ℕ, List, map, Option, Some, None, slice_index_or}
-use Rattle.ch_cost.specs.declared.cost.Cost.{Cost}
+use Rattle.std.specs.Prelude.{ℕ, List, map, None, slice_index_or}
 use Rattle.ch_cost.specs.Cost.{zero_cost}
 use Rattle.ch_graph.specs.declared.link.Link.{Link}
 use Rattle.ch_graph.specs.declared.hierarchy.LinkId.{LinkId}

@@ -110,13 +110,7 @@ fn pass_on(
 }
 
 /// Follows one link that climbs, from a foot of this cost: the node at its head is labelled, if its label gets less.
-fn follow(
-    hierarchy: &Hierarchy,
-    side: Side,
-    at: usize,
-    cost: Cost,
-    labels: &mut [Option<Label>],
-)
+fn follow(hierarchy: &Hierarchy, side: Side, at: usize, cost: Cost, labels: &mut [Option<Label>])
     requires made { IsWellMade hierarchy.now }
     requires climbs { ClimbsFrom hierarchy.now side (foot_at hierarchy.now side at) at }
     requires nodes { length labels.old ≡ length hierarchy.now.ranks }

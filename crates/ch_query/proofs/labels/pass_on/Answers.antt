@@ -1,9 +1,9 @@
-use Rattle.std.proofs.Common.{ℕ, ◌≡◌, ◌+◌, ◌<◌, length, get_or, Option, Some, None, ap, ◌∙◌, sym, subst, arith}
+use Rattle.std.proofs.Common.{ℕ, ◌≡◌, ◌+◌, ◌<◌, length, Option, None, ap, sym, subst, arith}
 use Rattle.std.proofs.lemmas.List.{get_or_read}
 use Rattle.ch_query.specs.Climb.{ClimbsFrom}
 use Rattle.ch_query.specs.Ladder.{IsLast}
 use Rattle.ch_query.specs.Labelling.{IsSpread}
-use Rattle.ch_query.proofs.Passing.{IsPassing, steps_left, fewer_left, passing-none, passing-more, passed_on}
+use Rattle.ch_query.proofs.Passing.{IsPassing, steps_left, fewer_left, passing-more}
 use Rattle.ch_query.proofs.labels.pass_on.Goals as goal
 
 pub follow-requires-clause-climbs : goal.follow-requires-clause-climbs

@@ -1,7 +1,3 @@
-use Rattle.std.proofs.Common.{ℕ, ◌+◌, ◌≡◌, ◌⊎◌, Option, Some, None}
-use Rattle.ch_query.specs.Climb.{ClimbsFrom}
-use Rattle.ch_query.specs.Ladder.{IsLast, IsUpTo}
-use Rattle.ch_query.specs.Labelling.{IsSpread, IsFollowed}
 use Rattle.ch_query.proofs.Passing.{IsPassing, steps_left}
 use Rattle.ch_query.proofs.labels.pass_on.Given as goal
 

@@ -1,4 +1,4 @@
-use Rattle.std.proofs.Common.{◌≡◌, ◌+◌, ◌<◌, length, set, get_or, Some, None, subst, sym, ap, ◌∙◌, refl, arith}
+use Rattle.std.proofs.Common.{◌≡◌, ◌+◌, set, get_or, Some, None, subst, sym, ap, ◌∙◌, refl, arith}
 use Rattle.ch_graph.specs.declared.link.Link.{Link}
 use Rattle.ch_graph.specs.Hierarchy.{rank_of}
 use Rattle.ch_query.specs.Climb.{foot_of, head_of, foot_at, head_at, ClimbsFrom}

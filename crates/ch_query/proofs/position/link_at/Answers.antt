@@ -1,4 +1,4 @@
-use Rattle.std.proofs.Common.{ap, subst, sym, ◌≡◌, get_or, List, ◌∙◌, None, ◌<◌, length}
+use Rattle.std.proofs.Common.{ap, subst, sym, get_or, List, ◌∙◌, None, ◌<◌, length}
 use Rattle.std.proofs.lemmas.List.{get_or_default}
 use Rattle.ch_cost.specs.Cost.{zero_cost}
 use Rattle.ch_graph.specs.declared.link.Link.{Link}

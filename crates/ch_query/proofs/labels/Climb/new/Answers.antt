@@ -1,12 +1,12 @@
-use Rattle.std.proofs.Common.{ℕ, ◌≡◌, ◌+◌, ◌<◌, length, get_or, set, replicate, take, drop, ◌++◌, List, Option, Some, None, IfSome, ap, ◌∙◌, sym, subst, arith}
-use Rattle.std.proofs.lemmas.List.{get_or-set_same, get_or-set_other, length-set, length-replicate, take_at}
+use Rattle.std.proofs.Common.{ℕ, ◌≡◌, ◌+◌, ◌<◌, length, get_or, set, take, drop, ◌++◌, List, Option, Some, None, IfSome, ap, sym, subst, arith}
+use Rattle.std.proofs.lemmas.List.{take_at}
 use Rattle.ch_cost.specs.declared.cost.Cost.{Cost}
-use Rattle.ch_cost.specs.Cost.{zero_cost, IsInLimit}
+use Rattle.ch_cost.specs.Cost.{IsInLimit}
 use Rattle.ch_cost.specs.Cost.Laws.{ZERO-is}
 use Rattle.ch_graph.specs.Hierarchy.{rank_of}
 use Rattle.ch_query.specs.declared.label.Label.{Label}
 use Rattle.ch_query.specs.Labelling.{IsLabelling, IsFinished, label_of}
-use Rattle.ch_query.proofs.Finishing.{labels_fit, labelling-none, labelling-start, labelling-more}
+use Rattle.ch_query.proofs.Finishing.{labels_fit, labelling-start, labelling-more}
 use Rattle.ch_query.proofs.labels.Climb.new.Goals as goal
 
 pub finish-requires-clause-fits : goal.finish-requires-clause-fits
