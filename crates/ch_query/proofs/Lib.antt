@@ -7,3 +7,4 @@ pub mod Finishing
 pub mod Descents
 pub mod LeastMeetings
 pub mod Values
+pub mod SmallHierarchies

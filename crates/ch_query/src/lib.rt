@@ -22,3 +22,6 @@ mod side;
 
 pub use laws::labels_are_right;
 pub use search::{Found, Search};
+
+#[cfg(test)]
+mod tests;
