@@ -68,9 +68,9 @@ impl<'a> Search<'a> {
     /// The least rise-fall walk from `source` to `target`: links that first rise in rank and then fall, of a length
     /// within the hierarchy's bound. None where there is no such walk.
     ///
-    /// From a node to itself it is the walk of no link, at no cost. Both nodes are numbered from 0. Takes time and
-    /// memory linear in nodes and links: this is the plain program, which labels every node that either side
-    /// comes to.
+    /// From a node to itself it is the walk of no link, at no cost. Both nodes are numbered from 0. Takes time linear
+    /// in nodes and links, and memory linear in nodes: this is the plain program, which labels every node that
+    /// either side comes to.
     pub fn distance(
         &mut self,
         alloc: Global,
