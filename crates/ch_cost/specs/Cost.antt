@@ -65,3 +65,8 @@ pub record IsInLimit (c : Cost) : Type 0 where
 -- at most what so many arcs can cost
 pub record IsOfArcs (count : ℕ) (c : Cost) : Type 0 where
   weight : c.weight ≤ count * 2 ^ 32
+
+-- At most what so many walks can cost that have fewer than 2^25 arcs each. A cost that is no longer than a bound
+-- and of not too many walks is small enough to be a summand.
+pub record IsOfWalks (count : ℕ) (c : Cost) : Type 0 where
+  weight : c.weight ≤ count * 2 ^ 57

@@ -6,7 +6,7 @@ use Rattle.std.proofs.Common.{zero, suc, arith, ap, subst, inl, inr}
 use Rattle.std.proofs.lemmas.Bool.{cases_lt}
 use Rattle.std.proofs.lemmas.Bool.Decides.{nat_tests}
 use Rattle.ch_cost.specs.declared.cost.Cost.{Cost}
-use Rattle.ch_cost.specs.Cost.{zero_cost, ◌⊕◌, of_weight, cost_of_arcs, length_of, IsWeight, ◌≼◌, ◌≺◌, compare, same, IsWithin, IsNoLonger, IsInLimit, IsOfArcs}
+use Rattle.ch_cost.specs.Cost.{zero_cost, ◌⊕◌, of_weight, cost_of_arcs, length_of, IsWeight, ◌≼◌, ◌≺◌, compare, same, IsWithin, IsNoLonger, IsInLimit, IsOfArcs, IsOfWalks}
 
 -- two costs are the same where their numbers are
 alike : (a b : Cost) → a.weight ≡ b.weight → a ≡ b
@@ -188,6 +188,26 @@ in_limit-from_within h k = record { weight = omega (arith, h.weight, k.weight) }
 pub cost_of_arcs_in_limit : (n heaviest : ℕ) → n ≤ 2 ^ 25 → heaviest < 2 ^ 32 → IsInLimit (cost_of_arcs n heaviest)
 unfolding cost_of_arcs
 cost_of_arcs_in_limit n heaviest h k = record { weight = grind (arith, h, k) }
+
+pub of_walks_zero_cost : (n : ℕ) → IsOfWalks n zero_cost
+unfolding zero_cost
+of_walks_zero_cost n = record { weight = omega arith }
+
+pub of_walks_one : {c bound : Cost} (n heaviest : ℕ) → n ≤ 2 ^ 25 → heaviest < 2 ^ 32 → IsWithin bound (cost_of_arcs n heaviest) → IsWithin c bound → IsOfWalks 1 c
+of_walks_one {c} n heaviest h k b w =
+    let small : IsInLimit c = in_limit-from_within (within_trans w b) (cost_of_arcs_in_limit n heaviest h k) in
+    record { weight = omega (arith, small.weight) }
+
+pub of_walks_sum : {m n : ℕ} {a b : Cost} → IsOfWalks m a → IsOfWalks n b → IsOfWalks (m + n) (a ⊕ b)
+unfolding ◌⊕◌
+of_walks_sum h k = record { weight = omega (arith, h.weight, k.weight) }
+
+pub of_walks_more : {m n : ℕ} {a : Cost} → m ≤ n → IsOfWalks m a → IsOfWalks n a
+of_walks_more h k = record { weight = omega (arith, h, k.weight) }
+
+-- the length is bounded by the one fact, and any count of arcs by the other
+pub in_limit-from_walks : {n : ℕ} {c bound : Cost} → n ≤ 2 ^ 25 → IsOfWalks n c → IsNoLonger c bound → IsInLimit bound → IsInLimit c
+in_limit-from_walks h k short small = record { weight = omega (arith, short.weight, small.weight) }
 
 -- Lengths
 

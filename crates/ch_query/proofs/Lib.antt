@@ -1,0 +1,10 @@
+pub mod LeastSum
+pub mod Ranks
+pub mod Ladders
+pub mod Sides
+pub mod Passing
+pub mod Finishing
+pub mod Descents
+pub mod LeastMeetings
+pub mod Values
+pub mod SmallHierarchies

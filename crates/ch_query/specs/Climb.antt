@@ -1,0 +1,41 @@
+-- Both sides of a query climb in rank: the one from s along rising links, the other from t against falling ones.
+use Rattle.std.specs.Prelude.{ℕ, ◌≡◌, ◌<◌, List, [], ◌∷◌, length}
+use Rattle.ch_cost.specs.declared.cost.Cost.{Cost}
+use Rattle.ch_cost.specs.Cost.{zero_cost, ◌⊕◌}
+use Rattle.ch_graph.specs.declared.link.Link.{Link}
+use Rattle.ch_graph.specs.declared.hierarchy.LinkId.{LinkId}
+use Rattle.ch_graph.specs.Hierarchy.{Hierarchy, rank_of}
+use Rattle.ch_query.specs.declared.side.Side.{Side}
+use Rattle.ch_query.specs.declared.side.Side.TheVariants.{Rise, Fall}
+use Rattle.ch_query.specs.Positions.{link_at}
+
+-- the end where a side comes to a link
+abbrev pub foot_of : Side → Link → ℕ
+foot_of Rise l = l.from
+foot_of Fall l = l.to
+
+-- the end where it leaves the link
+abbrev pub head_of : Side → Link → ℕ
+head_of Rise l = l.to
+head_of Fall l = l.from
+
+-- the ends of the link at a position, and its cost
+abbrev pub foot_at : Hierarchy → Side → ℕ → ℕ
+foot_at h side k = foot_of side (link_at h k)
+
+abbrev pub head_at : Hierarchy → Side → ℕ → ℕ
+head_at h side k = head_of side (link_at h k)
+
+abbrev pub cost_at : Hierarchy → ℕ → Cost
+cost_at h k = (link_at h k).cost
+
+-- the link at this position leads from the node v to one of higher rank
+pub record ClimbsFrom (h : Hierarchy) (side : Side) (v k : ℕ) : Type 0 where
+  pub within : k < length h.links
+  pub foot : foot_at h side k ≡ v
+  pub climbs : rank_of h v < rank_of h (head_at h side k)
+
+-- The links at these positions lead from a node back down to where a side began, and cost c together.
+pub data Descends (h : Hierarchy) (side : Side) (start : ℕ) : List LinkId → ℕ → Cost → Type 0 where
+  there : Descends h side start [] start zero_cost
+  down : {id : LinkId} {ids : List LinkId} {v : ℕ} {c : Cost} → ClimbsFrom h side v id.0 → Descends h side start ids v c → Descends h side start (id ∷ ids) (head_at h side id.0) (c ⊕ cost_at h id.0)

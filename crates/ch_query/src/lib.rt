@@ -1,0 +1,27 @@
+//! Queries of a contraction hierarchy: least rise-fall walks.
+//!
+//! Stands on `ch_graph`, of which it uses that a hierarchy is well made, and on the laws of costs of `ch_cost`. Its
+//! main type is [`Search`]. The promise of the layer is the contract of [`Search::distance`]: the cost is the value
+//! of the hierarchy for the two nodes, none exactly where it has none, and the links are a rise-fall walk of that
+//! cost. A query has two sides, one from the source along links that rise, and one from the target against links
+//! that fall. Both climb in rank, so one program serves them: [`labels::Climb`] labels the nodes of a side, and
+//! [`meeting::least_meeting`] finds where the sides meet. Why that gives the value is the law
+//! [`labels_are_right`], which any other way to label has to meet too.
+#![tactic(auto)]
+
+mod descent;
+mod label;
+mod labels;
+mod ladder;
+mod laws;
+mod meeting;
+mod order;
+mod position;
+mod search;
+mod side;
+
+pub use laws::labels_are_right;
+pub use search::{Found, Search};
+
+#[cfg(test)]
+mod tests;
