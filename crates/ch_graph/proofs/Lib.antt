@@ -3,3 +3,4 @@ pub mod Walks
 pub mod Bound
 pub mod Chains
 pub mod Unfolding
+pub mod Meetings

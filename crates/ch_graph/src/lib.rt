@@ -12,6 +12,6 @@ mod link;
 mod road;
 
 pub use graph::Graph;
-pub use laws::{distance_is_unique, distance_is_within_bound};
+pub use laws::{distance_is_unique, distance_is_within_bound, labels_are_right};
 pub use link::Link;
 pub use road::Road;
