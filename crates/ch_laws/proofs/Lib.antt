@@ -9,3 +9,4 @@ pub mod LeastRoutes
 pub mod Lawful
 pub mod RowChanges
 pub mod RowsShown
+pub mod NextStep

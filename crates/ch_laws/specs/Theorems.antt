@@ -53,3 +53,7 @@ RowsShow = (g : Graph) (log : List Contraction) (s : State) (x y : ℕ) (q r : R
 -- so the rows of all nodes, with the order, are the state
 abbrev pub RowsAreState : Type 0
 RowsAreState = (g : Graph) (log : List Contraction) (s : State) (rows : List Row) → IsGraph g → IsReached g log s → length rows ≡ g.nodes → ((x : ℕ) → x < g.nodes → IsRow s x (row_at rows x)) → state_of rows s.order ≡ s
+
+-- each alive node of a reached state can be contracted next
+abbrev pub GoesOn : Type 0
+GoesOn = (g : Graph) (log : List Contraction) (s : State) (v : ℕ) → IsGraph g → IsReached g log s → IsAlive s v → (e : Contraction) × (new : State) × Step (bound_of g) s e new × (e.node ≡ v)
