@@ -9,4 +9,7 @@ pub mod LeastRoutes
 pub mod Lawful
 pub mod RowChanges
 pub mod RowsShown
+pub mod Pairs
 pub mod NextStep
+pub mod Start
+pub mod WholeRun

@@ -18,7 +18,7 @@ use Rattle.ch_laws.proofs.Order.{place_of}
 use Rattle.ch_laws.proofs.Sound.{IsSound, IsSoundArc, IsSplit}
 
 -- numbers below n, each once, are n at most
-few_below : (n : ℕ) (xs : List ℕ) → AllPairs (λ x y. x ≢ y) xs → ((x : ℕ) → Contains xs x → x < n) → length xs ≤ n
+pub few_below : (n : ℕ) (xs : List ℕ) → AllPairs (λ x y. x ≢ y) xs → ((x : ℕ) → Contains xs x → x < n) → length xs ≤ n
 few_below n xs once low = length-le_from_distinct_below xs n (IsDistinct-from_AllPairs Decides-eqb xs once) (λ q among.
     let found = Any-from_list_any (λ x. eqb q x) xs among in
     let same : q ≡ found.1 = grind (arith, nat_tests, found.4) in

@@ -1,6 +1,6 @@
 -- Each alive node of a state can be contracted: a pair by way of it gets a shortcut, unless that is heavy or the arc
 -- between the pair is a witness.
-use Rattle.std.proofs.Common.{ℕ, zero, suc, ◌≡◌, ◌≢◌, ◌+◌, ◌<◌, ◌≤◌, ◌⊎◌, ◌↔◌, List, [], ◌∷◌, ◌++◌, length, get_or, Option, Some, None, AllPairs, Contains, arith, refl, sym, ◌∙◌, ap, subst, inl, inr}
+use Rattle.std.proofs.Common.{ℕ, zero, suc, ◌≡◌, ◌<◌, ◌⊎◌, ◌↔◌, List, [], ◌∷◌, ◌++◌, length, get_or, Option, Some, None, AllPairs, Contains, arith, refl, sym, ◌∙◌, subst, inl, inr}
 use Rattle.std.proofs.lemmas.Bool.{cases_eq, cases_lt}
 use Rattle.std.proofs.lemmas.List.Elements.{Contains-append_left, Contains-push, Contains-push_cases, Contains-get_or, All-weaker, All-contains_itself}
 use Rattle.std.proofs.lemmas.List.Kept.{AllPairs-cons}
@@ -8,10 +8,11 @@ use Rattle.std.proofs.lemmas.List.Quantifiers.{all_pairs_push}
 use Rattle.ch_cost.specs.declared.cost.Cost.{Cost}
 use Rattle.ch_cost.specs.Cost.{◌⊕◌, ◌≼◌, ◌≺◌, IsWithin}
 use Rattle.ch_cost.specs.Cost.Laws.{cases_cost, cases_within}
-use Rattle.ch_graph.specs.Graph.{Graph, IsGraph, bound_of}
+use Rattle.ch_graph.specs.Graph.{Graph, bound_of}
 use Rattle.ch_graph.proofs.Walks.{one_arc}
-use Rattle.ch_laws.specs.Contraction.{State, StateArc, IsAlive, HasArc, Remains, Through, Avoids, HasWitness, Shortcut, IsFor, NoShortcut, IsAllowed, IsPlan, IsWitnessed, Puts, contracted, IsNeighbour, Contraction, Step, IsReached}
+use Rattle.ch_laws.specs.Contraction.{State, StateArc, IsAlive, HasArc, Remains, Through, HasWitness, Shortcut, IsFor, NoShortcut, IsAllowed, IsPlan, IsWitnessed, contracted, IsNeighbour, Contraction, Step}
 use Rattle.ch_laws.specs.Theorems.{GoesOn}
+use Rattle.ch_laws.proofs.Pairs.{IsCovered, covered_more, covered_cases}
 use Rattle.ch_laws.proofs.Order.{contains_first, contains_later, contains_cases}
 use Rattle.ch_laws.proofs.Steps.{one_cost}
 use Rattle.ch_laws.proofs.Sound.{IsSound, arc-apart, reached-sound}
@@ -125,22 +126,6 @@ module _ {g : Graph} {s : State} (bound : Cost) (sound : IsSound g s) where
 
 -- All pairs
 
--- the pairs from nodes below m, and those from m to nodes below k
-abbrev IsCovered : ℕ → ℕ → ℕ → ℕ → Type 0
-IsCovered m k u w = (u < m) ⊎ ((u ≡ m) × (w < k))
-
-covered_more : {m k u w : ℕ} → IsCovered m k u w → IsCovered m (suc k) u w
-covered_more is = elim is [ inl low ↦ inl low | inr here ↦ inr (here.0, omega (arith, here.1)) ]
-
-covered_cases : (m k u w : ℕ) → IsCovered m (suc k) u w → IsCovered m k u w ⊎ ((u ≡ m) × (w ≡ k))
-covered_cases m k u w is = elim is [
-  | inl low ↦ inl (inl low)
-  | inr here ↦ elim (cases_eq w k) [
-    | inl last ↦ inr (here.0, last)
-    | inr other ↦ inl (inr (here.0, omega (arith, here.1, other)))
-  ]
-]
-
 -- the shortcuts for the pairs so far
 record PlanSoFar (bound : Cost) (s : State) (v m k : ℕ) : Type 0 where
   put : List Shortcut
@@ -163,7 +148,7 @@ with_shortcut {bound} {s} {v} {m} {k} plan wanted =
     record {
       put = p ∷ plan.put;
       once = AllPairs-cons (λ p q. IsFor p q.from q.to → ⊥) p plan.put
-        (All-weaker (λ q. Contains plan.put q) (λ q. IsFor p q.from q.to → ⊥) (not_yet_for plan p refl refl) plan.put (All-contains_itself plan.put)) plan.once;
+          (All-weaker (λ q. Contains plan.put q) (λ q. IsFor p q.from q.to → ⊥) (not_yet_for plan p refl refl) plan.put (All-contains_itself plan.put)) plan.once;
       allowed = λ q among. elim (contains_cases p plan.put q among) [
         | inl same ↦ subst (λ (r : Shortcut). IsAllowed bound s v r) same wanted.allowed
         | inr later ↦ plan.allowed q later
@@ -199,15 +184,15 @@ next_row {bound} {s} {v} {m} plan = record {
   allowed = plan.allowed;
   covered = λ q among. elim (plan.covered q among) [ inl low ↦ inl (omega (arith, low)) | inr here ↦ inl (omega (arith, here.0)) ];
   cared = λ u w is none c through within.
-    let w_in : w < s.nodes = through.second.to_alive.in_range in
-    let now : IsCovered m s.nodes u w = elim is [
-      | inr here ↦ absurd (omega (arith, here.1))
-      | inl low ↦ elim (cases_eq u m) [
-        | inl same ↦ inr (same, w_in)
-        | inr other ↦ inl (omega (arith, low, other))
-      ]
-    ] in
-    plan.cared u w now none c through within;
+      let w_in : w < s.nodes = through.second.to_alive.in_range in
+      let now : IsCovered m s.nodes u w = elim is [
+        | inr here ↦ absurd (omega (arith, here.1))
+        | inl low ↦ elim (cases_eq u m) [
+          | inl same ↦ inr (same, w_in)
+          | inr other ↦ inl (omega (arith, low, other))
+        ]
+      ] in
+      plan.cared u w now none c through within;
 }
 
 module _ {g : Graph} {s : State} (bound : Cost) (sound : IsSound g s) (v : ℕ) where
@@ -269,7 +254,8 @@ with_neighbour {s} {v} {k} below is = record {
     λ h. elim (cases_eq k x) [
       | inl last ↦ subst (λ n. Contains (below.nodes ++ k ∷ []) n) last (Contains-push below.nodes k)
       | inr other ↦ Contains-append_left below.nodes (k ∷ []) x ((below.are x).1 (omega (arith, h.0, other), h.1))
-    ]);
+    ],
+  );
 }
 
 without_neighbour : {s : State} {v k : ℕ} → NeighboursBelow s v k → (IsNeighbour s v k → ⊥) → NeighboursBelow s v (suc k)
@@ -281,7 +267,8 @@ without_neighbour {s} {v} {k} below not = record {
     λ h. elim (cases_eq x k) [
       | inl last ↦ absurd (not (subst (λ n. IsNeighbour s v n) last h.1))
       | inr other ↦ (below.are x).1 (omega (arith, h.0, other), h.1)
-    ]);
+    ],
+  );
 }
 
 neighbours_below : (s : State) (v k : ℕ) → NeighboursBelow s v k
@@ -302,15 +289,19 @@ next-step {g} {s} sound v alive =
     let plan = plan_rows (bound_of g) sound v s.nodes in
     let neighbours = neighbours_below s v s.nodes in
     let e : Contraction = record { node = v; rank = length s.order; neighbours = neighbours.nodes; shortcuts = length plan.put } in
-    let lawful : IsPlan (bound_of g) s v plan.put = record { alive = alive; once = plan.once; allowed = plan.allowed } in
-    (e, contracted s v plan.put, record {
-      put = plan.put;
-      puts = plan_is_lawful (bound_of g) s v plan.put lawful (plan-witnessed (bound_of g) sound v);
-      rank = refl;
-      shortcuts = refl;
-      rising = neighbours.rising;
-      neighbours = λ x. (λ among. ((neighbours.are x).0 among).1, λ is. (neighbours.are x).1 (is.alive.in_range, is));
-    }, refl)
+    let lawful : IsPlan (bound_of g) s v plan.put = record { alive = alive; once = plan.once; allowed = plan.allowed } in (
+      e,
+      contracted s v plan.put,
+      record {
+        put = plan.put;
+        puts = plan_is_lawful (bound_of g) s v plan.put lawful (plan-witnessed (bound_of g) sound v);
+        rank = refl;
+        shortcuts = refl;
+        rising = neighbours.rising;
+        neighbours = λ x. (λ among. ((neighbours.are x).0 among).1, λ is. (neighbours.are x).1 (is.alive.in_range, is));
+      },
+      refl,
+    )
 
 pub goes_on : GoesOn
 goes_on g log s v is reached alive = next-step (reached-sound is reached) v alive

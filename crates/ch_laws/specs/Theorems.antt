@@ -57,3 +57,7 @@ RowsAreState = (g : Graph) (log : List Contraction) (s : State) (rows : List Row
 -- each alive node of a reached state can be contracted next
 abbrev pub GoesOn : Type 0
 GoesOn = (g : Graph) (log : List Contraction) (s : State) (v : ℕ) → IsGraph g → IsReached g log s → IsAlive s v → (e : Contraction) × (new : State) × Step (bound_of g) s e new × (e.node ≡ v)
+
+-- contractions of each graph go on to the end, and a hierarchy is made
+abbrev pub HasRun : Type 0
+HasRun = (g : Graph) → IsGraph g → (log : List Contraction) × (s : State) × (h : Hierarchy) × IsReached g log s × IsOver s × IsMade g s h
