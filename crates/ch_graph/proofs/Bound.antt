@@ -82,7 +82,7 @@ distance_within_bound g s t c is distance = elim (within_or_cheaper g is distanc
 ]
 
 -- there is one least cost, or none
-least_unique : (P : Cost → Type 0) (a b : Option Cost) → IsLeastOrNone P a → IsLeastOrNone P b → a ≡ b
+pub least_unique : (P : Cost → Type 0) (a b : Option Cost) → IsLeastOrNone P a → IsLeastOrNone P b → a ≡ b
 least_unique P (Some c) (Some d) least other = ap (λ (e : Cost). Some e) (at_most_antisym (least.1 d other.0) (other.1 c least.0))
 least_unique P (Some c) None least none_is = absurd (none_is c least.0)
 least_unique P None (Some d) none_is least = absurd (none_is d least.0)

@@ -6,7 +6,8 @@ use Rattle.ch_cost.specs.Cost.{zero_cost, ◌⊕◌, ◌≼◌}
 use Rattle.ch_cost.specs.Cost.Laws.{sum_assoc, zero_cost-sum, at_most_refl, at_most_trans, at_most_trans_below, at_most_sum_left, at_most_sum_right, sum_at_most, below_not_at_most, no_longer_at_most, cases_cost}
 use Rattle.ch_graph.specs.declared.link.Link.{Link}
 use Rattle.ch_graph.specs.Walk.{IsLeastOrNone}
-use Rattle.ch_graph.specs.Hierarchy.{Hierarchy, Chain, Chain.nothing, Chain.then, IsRising, IsFalling, HasRiseFall, IsValue, IsLinkWellMade, IsWellMade}
+use Rattle.ch_graph.specs.Hierarchy.{Hierarchy, Chain, Chain.nothing, Chain.then, IsRising, IsFalling, HasRiseFall, IsValue, IsLinkWellMade, IsWellMade, ValueIsUnique}
+use Rattle.ch_graph.proofs.Bound.{least_unique}
 use Rattle.ch_graph.specs.Labels.{IsLabelled, CouldBetter, AreUpLabels, AreDownLabels, HasMeeting, LabelsAreRight}
 
 -- what is at most a cost that could better the answer could do so too
@@ -103,3 +104,6 @@ least-is_value h s t (Some best) up down well low ups downs least = (
 
 pub labels_are_right : LabelsAreRight
 labels_are_right h s t answer up down well from_in ups downs least = least-is_value h s t answer up down well from_in ups downs least
+
+pub value_is_unique : ValueIsUnique
+value_is_unique h s t a b first second = least_unique (HasRiseFall h s t) a b first second

@@ -118,3 +118,16 @@ pub record IsRight (g : Graph) (h : Hierarchy) : Type 0 where
   pub value : (s t : ℕ) (c : Option Cost) → s < g.nodes → t < g.nodes → IsDistance g s t c ↔ IsValue h s t c
   pub unfolds : (l : Link) → Contains h.links l → (arcs : List Link) × Unfolds h l arcs
   pub unfolded : (l : Link) (arcs : List Link) → Contains h.links l → Unfolds h l arcs → Chain (IsArcOf g) arcs l.from l.to l.cost
+
+-- Laws
+
+-- two nodes have one value, or none
+abbrev pub ValueIsUnique : Type 0
+ValueIsUnique = (h : Hierarchy) (s t : ℕ) (a b : Option Cost) → IsValue h s t a → IsValue h s t b → a ≡ b
+
+-- the links of a well made hierarchy unfold, in one way alone
+abbrev pub LinksUnfold : Type 0
+LinksUnfold = (h : Hierarchy) (links : List Link) → IsWellMade h → All (λ l. Contains h.links l) links → (arcs : List Link) × UnfoldsAll h links arcs
+
+abbrev pub UnfoldingIsUnique : Type 0
+UnfoldingIsUnique = (h : Hierarchy) (links us vs : List Link) → IsWellMade h → UnfoldsAll h links us → UnfoldsAll h links vs → us ≡ vs

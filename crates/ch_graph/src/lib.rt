@@ -12,6 +12,9 @@ mod link;
 mod road;
 
 pub use graph::Graph;
-pub use laws::{distance_is_unique, distance_is_within_bound, labels_are_right};
+pub use laws::{
+    distance_is_unique, distance_is_within_bound, labels_are_right, links_unfold,
+    unfolding_is_unique, value_is_unique,
+};
 pub use link::Link;
 pub use road::Road;
