@@ -13,3 +13,4 @@ pub mod Pairs
 pub mod NextStep
 pub mod Start
 pub mod WholeRun
+pub mod AliveRows

@@ -36,6 +36,15 @@ place_of xs x h = get_or_default xs h.0 0 x h.1 ∙ h.2
 pub before-contains : {order : List ℕ} {x y : ℕ} → Before order x y → Contains order x
 before-contains {order} {x} b = contains_place order b.place x b.within b.here
 
+-- and it stands before each node that isn't in the order
+pub before-out : (order : List ℕ) (x y : ℕ) → Contains order x → (Contains order y → ⊥) → Before order x y
+before-out order x y among out = record {
+  place = among.0;
+  within = among.1;
+  here = place_of order x among;
+  not_yet = λ k low is. out (contains_place order k y (omega (arith, low, among.1)) is);
+}
+
 -- it stays before when a node is added
 pub before-push : {order : List ℕ} {x y : ℕ} (v : ℕ) → Before order x y → Before (order ++ v ∷ []) x y
 before-push {order} {x} {y} v b = record {

@@ -1,7 +1,7 @@
 -- The rows of a state: what it has of each node, as lists.
 use Rattle.std.specs.Prelude.{ℕ, ◌≡◌, ◌≢◌, ◌<◌, ◌⊎◌, ◌↔◌, cond, nat_eq, List, [], ◌∷◌, length, Option, Some, None, AllPairs, Contains, slice_index, slice_index_or}
 use Rattle.ch_cost.specs.declared.cost.Cost.{Cost}
-use Rattle.ch_laws.specs.Contraction.{State, StateArc, Before, Shortcut, IsFor, NoShortcut, or_else}
+use Rattle.ch_laws.specs.Contraction.{State, StateArc, Before, Remains, IsNeighbour, Shortcut, IsFor, NoShortcut, or_else}
 
 -- an arc between the row's node and another
 pub record Entry : Type 0 where
@@ -30,6 +30,21 @@ pub record IsRow (s : State) (x : ℕ) (r : Row) : Type 0 where
   pub inn_rises : Rises r.inn
   pub out : (e : Entry) → Contains r.out e ↔ ((s.arc x e.other ≡ arc_of e) × (Before s.order e.other x → ⊥))
   pub inn : (e : Entry) → Contains r.inn e ↔ ((s.arc e.other x ≡ arc_of e) × (Before s.order e.other x → ⊥))
+
+-- an entry of the list is for y and costs c
+pub record Lists (entries : List Entry) (y : ℕ) (c : Cost) : Type 0 where
+  pub entry : Entry
+  pub among : Contains entries entry
+  pub other : entry.other ≡ y
+  pub costs : entry.cost ≡ c
+
+-- The row shows the remaining graph at x: it has no rank, and its entries are the arcs to and from alive nodes, so
+-- those that it names are the neighbours.
+pub record ShowsRemaining (s : State) (x : ℕ) (r : Row) : Type 0 where
+  pub unranked : r.rank ≡ None
+  pub out : (y : ℕ) (c : Cost) → Remains s x y c ↔ Lists r.out y c
+  pub inn : (y : ℕ) (c : Cost) → Remains s y x c ↔ Lists r.inn y c
+  pub neighbours : (y : ℕ) → IsNeighbour s x y ↔ (((c : Cost) × Lists r.out y c) ⊎ ((c : Cost) × Lists r.inn y c))
 
 -- the arc that a list of entries has for this other node
 abbrev pub arc_to : ℕ → List Entry → Option StateArc

@@ -1,12 +1,12 @@
 -- The laws of contraction, as statements.
-use Rattle.std.specs.Prelude.{ℕ, ◌≡◌, ◌≢◌, ◌-◌, ◌<◌, ◌≤◌, List, [], ◌∷◌, ◌++◌, length, Some, map}
+use Rattle.std.specs.Prelude.{ℕ, ◌≡◌, ◌≢◌, ◌-◌, ◌<◌, ◌≤◌, List, [], ◌∷◌, ◌++◌, length, Some, None, map}
 use Rattle.ch_cost.specs.declared.cost.Cost.{Cost}
 use Rattle.ch_graph.specs.declared.link.Link.{Link}
 use Rattle.ch_graph.specs.Walk.{Along}
 use Rattle.ch_graph.specs.Graph.{Graph, IsGraph, ArcOf, IsDistance, bound_of}
 use Rattle.ch_graph.specs.Hierarchy.{Hierarchy, Chain, IsRiseFall, IsValue, UnfoldsAll, IsWellMade, IsArcOf, IsRight}
 use Rattle.ch_laws.specs.Contraction.{State, IsAlive, Shortcut, IsPlan, IsWitnessed, Puts, contracted, IsNeighbour, Contraction, Step, IsReached, IsOver, IsMade}
-use Rattle.ch_laws.specs.Rows.{Row, IsRow, IsChanged, shown, row_at, state_of}
+use Rattle.ch_laws.specs.Rows.{Row, IsRow, ShowsRemaining, IsChanged, shown, row_at, state_of}
 
 -- the hierarchy of a reached state is right
 abbrev pub AlwaysRight : Type 0
@@ -45,6 +45,14 @@ RowKept = (g : Graph) (log : List Contraction) (old new : State) (v : ℕ) (put 
 -- the row of the contracted node keeps its arcs and gets its rank; that of a neighbour, changed, is its row afterwards
 abbrev pub RowsChange : Type 0
 RowsChange = (g : Graph) (log : List Contraction) (old new : State) (v : ℕ) (put : List Shortcut) → IsGraph g → IsReached g log old → Puts (bound_of g) old v put new → ((r : Row) → IsRow old v r → IsRow new v (record r { rank = Some (length old.order) })) × ((x : ℕ) (r q : Row) → IsAlive old x → x ≢ v → IsRow old x r → IsChanged put v x r q → IsRow new x q)
+
+-- the row of an alive node shows the remaining graph there
+abbrev pub RowOfAlive : Type 0
+RowOfAlive = (g : Graph) (log : List Contraction) (s : State) (x : ℕ) (r : Row) → IsGraph g → IsReached g log s → IsRow s x r → IsAlive s x → ShowsRemaining s x r
+
+-- and a node whose row has no rank is alive
+abbrev pub RowTellsAlive : Type 0
+RowTellsAlive = (s : State) (x : ℕ) (r : Row) → x < s.nodes → IsRow s x r → r.rank ≡ None → IsAlive s x
 
 -- the rows of two nodes show the arc between them
 abbrev pub RowsShow : Type 0

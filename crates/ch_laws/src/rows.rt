@@ -1,4 +1,4 @@
-ghost use Rattle.ch_laws.specs.Theorems.{RowKept, RowsAreState, RowsChange, RowsShow};
+ghost use Rattle.ch_laws.specs.Theorems.{RowKept, RowOfAlive, RowTellsAlive, RowsAreState, RowsChange, RowsShow};
 
 /// A contraction leaves the row of each node but the contracted one and its neighbours. It does nothing when it runs.
 pub fn row_of_others_stays()
@@ -9,6 +9,17 @@ pub fn row_of_others_stays()
 /// node. It does nothing when it runs.
 pub fn rows_of_neighbours_change()
     ensures { RowsChange }
+{}
+
+/// The row of an alive node has no rank, and its entries are the arcs of the remaining graph there. It does nothing
+/// when it runs.
+pub fn rows_of_alive_nodes_show_what_remains()
+    ensures { RowOfAlive }
+{}
+
+/// A node whose row has no rank is alive. It does nothing when it runs.
+pub fn rows_without_rank_are_of_alive_nodes()
+    ensures { RowTellsAlive }
 {}
 
 /// Two nodes' rows show whether there is an arc between them, and which. It does nothing when it runs.
