@@ -1,9 +1,9 @@
 -- The rows of alive nodes show the remaining graph.
-use Rattle.std.proofs.Common.{ℕ, ◌≡◌, ◌<◌, ◌⊎◌, ◌↔◌, List, length, get_or, Option, Some, None, Contains, arith, refl, sym, ◌∙◌, subst, inl, inr}
+use Rattle.std.proofs.Common.{ℕ, ◌≡◌, ◌<◌, ◌⊎◌, Option, Some, None, Contains, arith, refl, subst, inl, inr}
 use Rattle.ch_cost.specs.declared.cost.Cost.{Cost}
-use Rattle.ch_graph.specs.Graph.{Graph, IsGraph}
-use Rattle.ch_laws.specs.Contraction.{State, StateArc, Before, IsAlive, HasArc, Remains, IsNeighbour}
-use Rattle.ch_laws.specs.Rows.{Entry, Row, arc_of, IsRow, Lists, ShowsRemaining}
+use Rattle.ch_graph.specs.Graph.{Graph}
+use Rattle.ch_laws.specs.Contraction.{State, Before, IsAlive, HasArc, Remains, IsNeighbour}
+use Rattle.ch_laws.specs.Rows.{Entry, Row, IsRow, Lists, ShowsRemaining}
 use Rattle.ch_laws.specs.Theorems.{RowOfAlive, RowTellsAlive}
 use Rattle.ch_laws.proofs.Order.{before-out, before_not_alive, contains_place, place_of}
 use Rattle.ch_laws.proofs.Sound.{IsSound, reached-sound}
@@ -17,8 +17,8 @@ pub row_tells_alive : RowTellsAlive
 row_tells_alive s x r low row none = record {
   in_range = low;
   waits = λ among.
-    let some : r.rank ≡ Some among.0 = (row.rank among.0).1 (among.1, place_of s.order x among) in
-    absurd (cc);
+      let some : r.rank ≡ Some among.0 = (row.rank among.0).1 (among.1, place_of s.order x among) in
+      absurd (cc);
 }
 
 module _ {g : Graph} {s : State} {x : ℕ} {r : Row} (sound : IsSound g s) (row : IsRow s x r) (alive : IsAlive s x) where

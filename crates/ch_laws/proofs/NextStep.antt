@@ -222,7 +222,8 @@ module _ {g : Graph} {s : State} (bound : Cost) (sound : IsSound g s) (v : ℕ) 
 
 -- Neighbours
 
-cases_neighbour : (s : State) (v x : ℕ) → IsNeighbour s v x ⊎ (IsNeighbour s v x → ⊥)
+-- a node is a neighbour or not
+pub cases_neighbour : (s : State) (v x : ℕ) → IsNeighbour s v x ⊎ (IsNeighbour s v x → ⊥)
 cases_neighbour s v x = elim (cases_alive s x) [
   | inr gone ↦ inr (λ is. gone is.alive)
   | inl alive ↦ elim (cases_arc s v x) [

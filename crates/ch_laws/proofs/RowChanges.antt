@@ -3,8 +3,10 @@ use Rattle.std.proofs.Common.{ℕ, ◌≡◌, ◌≢◌, ◌<◌, ◌⊎◌, ◌
 use Rattle.ch_cost.specs.declared.cost.Cost.{Cost}
 use Rattle.ch_graph.specs.Graph.{Graph, bound_of}
 use Rattle.ch_laws.specs.Contraction.{State, StateArc, Before, IsAlive, HasArc, Shortcut, Puts, IsNeighbour}
-use Rattle.ch_laws.specs.Rows.{Entry, Row, arc_of, IsRow, IsOfShortcut, IsEntryAfter, IsChanged}
-use Rattle.ch_laws.specs.Theorems.{RowKept, RowsChange}
+use Rattle.ch_laws.specs.Rows.{Entry, Row, arc_of, IsRow, IsOfShortcut, IsEntryAfter, IsChanged, AreRows, AreUpdated, row_at}
+use Rattle.ch_laws.proofs.NextStep.{cases_neighbour}
+use Rattle.std.proofs.lemmas.Bool.{cases_eq}
+use Rattle.ch_laws.specs.Theorems.{RowKept, RowsChange, RowsGoOn}
 use Rattle.ch_laws.proofs.Order.{before-back, before_not_alive, place-kept, place-last}
 use Rattle.ch_laws.proofs.Steps.{one_arc_there, HasShortcut, find_shortcut, kept_unless_through}
 use Rattle.ch_laws.proofs.Sound.{IsSound, arc-apart, kept_out_of, kept_into, before-next, contracted-before, reached-sound}
@@ -232,3 +234,25 @@ row_kept g log old new v put x r is reached puts apart far row = row-kept (reach
 
 pub rows_change : RowsChange
 rows_change g log old new v put is reached puts = (λ r row. row-contracted (reached-sound is reached) puts r row, λ x r q alive apart row changed. row-changed (reached-sound is reached) puts x r q alive apart row changed)
+
+-- all rows
+rows-next : {g : Graph} {s next : State} {v : ℕ} {put : List Shortcut} {old new : List Row} → IsSound g s → Puts (bound_of g) s v put next → AreRows s old → AreUpdated s put v old new → AreRows next new
+rows-next {g} {s} {next} {v} {put} {old} {new} sound puts are updated = record {
+  many = updated.many ∙ are.many ∙ sym puts.nodes;
+  each = λ x low.
+      let was : IsRow s x (row_at old x) = are.each x (omega (arith, low, puts.nodes)) in
+      elim (cases_eq v x) [
+        | inl same ↦
+            let row : IsRow next v (record (row_at old v) { rank = Some (length s.order) }) = row-contracted sound puts (row_at old v) (are.each v puts.plan.alive.in_range) in
+            subst (λ n. IsRow next n (row_at new n)) same (subst (λ (r : Row). IsRow next v r) (sym updated.contracted) row)
+        | inr other ↦
+            let apart : x ≢ v = λ same. other (sym same) in
+            elim (cases_neighbour s v x) [
+              | inl near ↦ row-changed sound puts x (row_at old x) (row_at new x) near.alive apart was (updated.neighbours x near)
+              | inr far ↦ subst (λ (r : Row). IsRow next x r) (sym (updated.others x apart far)) (row-kept sound puts x (row_at old x) apart far was)
+            ]
+      ];
+}
+
+pub rows_go_on : RowsGoOn
+rows_go_on g log s next v put old new is reached puts are updated = rows-next (reached-sound is reached) puts are updated

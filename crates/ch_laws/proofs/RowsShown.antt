@@ -1,11 +1,11 @@
 -- The rows of a state show each of its arcs.
-use Rattle.std.proofs.Common.{ℕ, ◌≡◌, ◌≢◌, ◌<◌, ◌≤◌, ◌⊎◌, true, false, nat_eq, List, [], ◌∷◌, length, Option, Some, None, Contains, arith, refl, sym, ◌∙◌, ap, subst, inl, inr}
+use Rattle.std.proofs.Common.{ℕ, ◌≡◌, ◌≢◌, ◌≤◌, ◌⊎◌, true, false, nat_eq, List, [], ◌∷◌, length, Option, Some, None, Contains, arith, refl, sym, ◌∙◌, ap, subst, inl, inr}
 use Rattle.std.proofs.lemmas.Bool.{cases_eq, cases_lt}
 use Rattle.std.proofs.lemmas.Bool.Decides.{nat_tests}
 use Rattle.std.proofs.lemmas.List.{get_or_past}
 use Rattle.ch_graph.specs.Graph.{Graph}
 use Rattle.ch_laws.specs.Contraction.{State, StateArc, Before, or_else}
-use Rattle.ch_laws.specs.Rows.{Entry, Row, arc_of, arc_to, shown, row_at, IsRow}
+use Rattle.ch_laws.specs.Rows.{Entry, Row, arc_of, arc_to, shown, row_at, IsRow, AreRows}
 use Rattle.ch_laws.specs.Theorems.{RowsShow, RowsAreState}
 use Rattle.ch_laws.proofs.Order.{contains_first, contains_later, contains_cases, contains_place}
 use Rattle.ch_laws.proofs.Sound.{IsSound, reached-sound}
@@ -105,10 +105,10 @@ empty-row {g} {s} sound x past = record {
   inn = λ e. (λ among. absurd (omega (arith, among.1)), λ h. absurd (omega (arith, past, (sound.arcs e.other x (record { cost = e.cost; middle = e.middle }) h.0).to_in)));
 }
 
-every-row : {g : Graph} {s : State} → IsSound g s → (rows : List Row) → length rows ≡ g.nodes → ((x : ℕ) → x < g.nodes → IsRow s x (row_at rows x)) → (x : ℕ) → IsRow s x (row_at rows x)
-every-row {g} {s} sound rows many are x = elim (cases_lt x g.nodes) [
-  | inl low ↦ are x low
-  | inr past ↦ subst (λ (r : Row). IsRow s x r) (sym (get_or_past rows x (record { out = []; inn = []; rank = None }) (omega (arith, past, many)))) (empty-row sound x past)
+every-row : {g : Graph} {s : State} {rows : List Row} → IsSound g s → AreRows s rows → (x : ℕ) → IsRow s x (row_at rows x)
+every-row {g} {s} {rows} sound are x = elim (cases_lt x s.nodes) [
+  | inl low ↦ are.each x low
+  | inr past ↦ subst (λ (r : Row). IsRow s x r) (sym (get_or_past rows x (record { out = []; inn = []; rank = None }) (omega (arith, past, are.many)))) (empty-row sound x (omega (arith, past, sound.nodes)))
 ]
 
 -- states with the same nodes, order and arcs are the same
@@ -116,7 +116,7 @@ same_state : (nodes : ℕ) (arc : ℕ → ℕ → Option StateArc) (s : State) �
 same_state nodes arc s same arcs = λ i. record { nodes = same i; order = s.order; arc = λ x y. (sym (arcs x y)) i }
 
 pub rows_are_state : RowsAreState
-rows_are_state g log s rows is reached many are =
+rows_are_state g log s rows is reached are =
     let sound = reached-sound is reached in
-    let every = every-row sound rows many are in
-    same_state (length rows) (λ x y. shown (row_at rows x) (row_at rows y) x y) s (many ∙ sym sound.nodes) (λ x y. arc-shown (every x) (every y))
+    let every = every-row sound are in
+    same_state (length rows) (λ x y. shown (row_at rows x) (row_at rows y) x y) s are.many (λ x y. arc-shown (every x) (every y))

@@ -63,6 +63,11 @@ row_at rows x = slice_index_or rows x (record { out = []; inn = []; rank = None 
 abbrev pub state_of : List Row → List ℕ → State
 state_of rows order = record { nodes = length rows; order = order; arc = λ x y. shown (row_at rows x) (row_at rows y) x y }
 
+-- the list has the row of each node
+pub record AreRows (s : State) (rows : List Row) : Type 0 where
+  pub many : length rows ≡ s.nodes
+  pub each : (x : ℕ) → x < s.nodes → IsRow s x (row_at rows x)
+
 -- the entry tells of a shortcut from u to w with the middle v
 pub record IsOfShortcut (put : List Shortcut) (v u w : ℕ) (e : Entry) : Type 0 where
   pub shortcut : Shortcut
@@ -82,3 +87,11 @@ pub record IsChanged (put : List Shortcut) (v x : ℕ) (old new : Row) : Type 0 
   pub inn_rises : Rises new.inn
   pub out : (e : Entry) → Contains new.out e ↔ IsEntryAfter put v x e.other old.out e
   pub inn : (e : Entry) → Contains new.inn e ↔ IsEntryAfter put v e.other x old.inn e
+
+-- How a contraction of v changes the list of all rows: v gets its rank, its neighbours' rows change, and the others
+-- stay.
+pub record AreUpdated (s : State) (put : List Shortcut) (v : ℕ) (old new : List Row) : Type 0 where
+  pub many : length new ≡ length old
+  pub contracted : row_at new v ≡ record (row_at old v) { rank = Some (length s.order) }
+  pub neighbours : (x : ℕ) → IsNeighbour s v x → IsChanged put v x (row_at old x) (row_at new x)
+  pub others : (x : ℕ) → x ≢ v → (IsNeighbour s v x → ⊥) → row_at new x ≡ row_at old x

@@ -6,7 +6,7 @@ use Rattle.ch_graph.specs.Walk.{Along}
 use Rattle.ch_graph.specs.Graph.{Graph, IsGraph, ArcOf, IsDistance, bound_of}
 use Rattle.ch_graph.specs.Hierarchy.{Hierarchy, Chain, IsRiseFall, IsValue, UnfoldsAll, IsWellMade, IsArcOf, IsRight}
 use Rattle.ch_laws.specs.Contraction.{State, IsAlive, Shortcut, IsPlan, IsWitnessed, Puts, contracted, IsNeighbour, Contraction, Step, IsReached, IsOver, IsMade}
-use Rattle.ch_laws.specs.Rows.{Row, IsRow, ShowsRemaining, IsChanged, shown, row_at, state_of}
+use Rattle.ch_laws.specs.Rows.{Row, IsRow, ShowsRemaining, IsChanged, AreRows, AreUpdated, shown, state_of}
 
 -- the hierarchy of a reached state is right
 abbrev pub AlwaysRight : Type 0
@@ -60,7 +60,11 @@ RowsShow = (g : Graph) (log : List Contraction) (s : State) (x y : ℕ) (q r : R
 
 -- so the rows of all nodes, with the order, are the state
 abbrev pub RowsAreState : Type 0
-RowsAreState = (g : Graph) (log : List Contraction) (s : State) (rows : List Row) → IsGraph g → IsReached g log s → length rows ≡ g.nodes → ((x : ℕ) → x < g.nodes → IsRow s x (row_at rows x)) → state_of rows s.order ≡ s
+RowsAreState = (g : Graph) (log : List Contraction) (s : State) (rows : List Row) → IsGraph g → IsReached g log s → AreRows s rows → state_of rows s.order ≡ s
+
+-- and rows that are updated are those of the next state
+abbrev pub RowsGoOn : Type 0
+RowsGoOn = (g : Graph) (log : List Contraction) (s next : State) (v : ℕ) (put : List Shortcut) (old new : List Row) → IsGraph g → IsReached g log s → Puts (bound_of g) s v put next → AreRows s old → AreUpdated s put v old new → AreRows next new
 
 -- each alive node of a reached state can be contracted next
 abbrev pub GoesOn : Type 0

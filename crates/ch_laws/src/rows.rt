@@ -1,4 +1,4 @@
-ghost use Rattle.ch_laws.specs.Theorems.{RowKept, RowOfAlive, RowTellsAlive, RowsAreState, RowsChange, RowsShow};
+ghost use Rattle.ch_laws.specs.Theorems.{RowKept, RowOfAlive, RowTellsAlive, RowsAreState, RowsChange, RowsGoOn, RowsShow};
 
 /// A contraction leaves the row of each node but the contracted one and its neighbours. It does nothing when it runs.
 pub fn row_of_others_stays()
@@ -30,4 +30,10 @@ pub fn rows_show_arcs()
 /// The rows of all nodes and the order of contraction are the state. It does nothing when it runs.
 pub fn rows_are_the_state()
     ensures { RowsAreState }
+{}
+
+/// The rows of all nodes, changed as told where a contraction touches them, are the rows of the next state. It does
+/// nothing when it runs.
+pub fn updated_rows_are_the_next()
+    ensures { RowsGoOn }
 {}
