@@ -14,3 +14,4 @@ pub mod NextStep
 pub mod Start
 pub mod WholeRun
 pub mod AliveRows
+pub mod StartRows

@@ -27,19 +27,19 @@ arc_to-later : (y : ℕ) (e : Entry) (es : List Entry) → e.other ≢ y → arc
 arc_to-later y e es other = let test : nat_eq e.other y ≡ false = grind (arith, nat_tests, other) in rw test refl
 
 -- entries of other nodes have no arc for the node
-arc_to-none : (y : ℕ) (es : List Entry) → ((e : Entry) → Contains es e → e.other ≢ y) → arc_to y es ≡ None
+pub arc_to-none : (y : ℕ) (es : List Entry) → ((e : Entry) → Contains es e → e.other ≢ y) → arc_to y es ≡ None
 arc_to-none y [] apart = refl
 arc_to-none y (e ∷ es) apart = arc_to-later y e es (apart e (contains_first e es)) ∙ arc_to-none y es (λ d among. apart d (contains_later e es d among))
 
 -- an entry for the node, whose arc is what the list has for it
-record HasEntry (y : ℕ) (es : List Entry) : Type 0 where
-  entry : Entry
-  among : Contains es entry
-  other : entry.other ≡ y
-  here : arc_to y es ≡ arc_of entry
+pub record HasEntry (y : ℕ) (es : List Entry) : Type 0 where
+  pub entry : Entry
+  pub among : Contains es entry
+  pub other : entry.other ≡ y
+  pub here : arc_to y es ≡ arc_of entry
 
 -- a list has an entry for the node, or none
-find_entry : (y : ℕ) (es : List Entry) → HasEntry y es ⊎ ((e : Entry) → Contains es e → e.other ≢ y)
+pub find_entry : (y : ℕ) (es : List Entry) → HasEntry y es ⊎ ((e : Entry) → Contains es e → e.other ≢ y)
 find_entry y [] = inr (λ e among. absurd (omega (arith, among.1)))
 find_entry y (e ∷ es) = elim (cases_eq e.other y) [
   | inl same ↦ inl (record { entry = e; among = contains_first e es; other = same; here = arc_to-first y e es same })

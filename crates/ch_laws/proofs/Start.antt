@@ -85,6 +85,9 @@ start-arc n (r ∷ rs) x y =
       ]
     ]
 
+pub least_arc : (g : Graph) (x y : ℕ) → (o : Option StateArc) × IsStartArc g x y o
+least_arc g x y = start-arc g.nodes g.arcs x y
+
 -- of a node and itself none is taken
 start-pair : (g : Graph) (x y : ℕ) → (o : Option StateArc) × (x ≡ y → o ≡ None) × (x ≢ y → IsStartArc g x y o)
 start-pair g x y = elim (cases_eq x y) [

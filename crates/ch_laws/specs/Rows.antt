@@ -1,6 +1,7 @@
 -- The rows of a state: what it has of each node, as lists.
 use Rattle.std.specs.Prelude.{ℕ, ◌≡◌, ◌≢◌, ◌<◌, ◌⊎◌, ◌↔◌, cond, nat_eq, List, [], ◌∷◌, length, Option, Some, None, AllPairs, Contains, slice_index, slice_index_or}
 use Rattle.ch_cost.specs.declared.cost.Cost.{Cost}
+use Rattle.ch_graph.specs.Graph.{Graph, IsLeastArc}
 use Rattle.ch_laws.specs.Contraction.{State, StateArc, Before, Remains, IsNeighbour, Shortcut, IsFor, NoShortcut, or_else}
 
 -- an arc between the row's node and another
@@ -67,6 +68,15 @@ state_of rows order = record { nodes = length rows; order = order; arc = λ x y.
 pub record AreRows (s : State) (rows : List Row) : Type 0 where
   pub many : length rows ≡ s.nodes
   pub each : (x : ℕ) → x < s.nodes → IsRow s x (row_at rows x)
+
+-- The row of x before any contraction: the least arc to each other node that it has an arc to, and the least from each
+-- that it has one from, all without a middle.
+pub record IsStartRow (g : Graph) (x : ℕ) (r : Row) : Type 0 where
+  pub rank : r.rank ≡ None
+  pub out_rises : Rises r.out
+  pub inn_rises : Rises r.inn
+  pub out : (e : Entry) → Contains r.out e ↔ ((x ≢ e.other) × IsLeastArc g x e.other e.cost × (e.middle ≡ None))
+  pub inn : (e : Entry) → Contains r.inn e ↔ ((x ≢ e.other) × IsLeastArc g e.other x e.cost × (e.middle ≡ None))
 
 -- the entry tells of a shortcut from u to w with the middle v
 pub record IsOfShortcut (put : List Shortcut) (v u w : ℕ) (e : Entry) : Type 0 where

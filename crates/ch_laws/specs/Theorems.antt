@@ -5,8 +5,8 @@ use Rattle.ch_graph.specs.declared.link.Link.{Link}
 use Rattle.ch_graph.specs.Walk.{Along}
 use Rattle.ch_graph.specs.Graph.{Graph, IsGraph, ArcOf, IsDistance, bound_of}
 use Rattle.ch_graph.specs.Hierarchy.{Hierarchy, Chain, IsRiseFall, IsValue, UnfoldsAll, IsWellMade, IsArcOf, IsRight}
-use Rattle.ch_laws.specs.Contraction.{State, IsAlive, Shortcut, IsPlan, IsWitnessed, Puts, contracted, IsNeighbour, Contraction, Step, IsReached, IsOver, IsMade}
-use Rattle.ch_laws.specs.Rows.{Row, IsRow, ShowsRemaining, IsChanged, AreRows, AreUpdated, shown, state_of}
+use Rattle.ch_laws.specs.Contraction.{State, IsAlive, Shortcut, IsPlan, IsWitnessed, Puts, contracted, IsNeighbour, Contraction, Step, IsStart, IsReached, IsOver, IsMade}
+use Rattle.ch_laws.specs.Rows.{Row, IsRow, ShowsRemaining, IsChanged, AreRows, AreUpdated, IsStartRow, shown, row_at, state_of}
 
 -- the hierarchy of a reached state is right
 abbrev pub AlwaysRight : Type 0
@@ -61,6 +61,10 @@ RowsShow = (g : Graph) (log : List Contraction) (s : State) (x y : ℕ) (q r : R
 -- so the rows of all nodes, with the order, are the state
 abbrev pub RowsAreState : Type 0
 RowsAreState = (g : Graph) (log : List Contraction) (s : State) (rows : List Row) → IsGraph g → IsReached g log s → AreRows s rows → state_of rows s.order ≡ s
+
+-- the rows of least arcs are those of a start
+abbrev pub RowsStart : Type 0
+RowsStart = (g : Graph) (rows : List Row) → IsGraph g → length rows ≡ g.nodes → ((x : ℕ) → x < g.nodes → IsStartRow g x (row_at rows x)) → IsStart g (state_of rows []) × AreRows (state_of rows []) rows
 
 -- and rows that are updated are those of the next state
 abbrev pub RowsGoOn : Type 0

@@ -1,4 +1,4 @@
-ghost use Rattle.ch_laws.specs.Theorems.{RowKept, RowOfAlive, RowTellsAlive, RowsAreState, RowsChange, RowsGoOn, RowsShow};
+ghost use Rattle.ch_laws.specs.Theorems.{RowKept, RowOfAlive, RowTellsAlive, RowsAreState, RowsChange, RowsGoOn, RowsShow, RowsStart};
 
 /// A contraction leaves the row of each node but the contracted one and its neighbours. It does nothing when it runs.
 pub fn row_of_others_stays()
@@ -30,6 +30,12 @@ pub fn rows_show_arcs()
 /// The rows of all nodes and the order of contraction are the state. It does nothing when it runs.
 pub fn rows_are_the_state()
     ensures { RowsAreState }
+{}
+
+/// Rows of least arcs, without middles, are the rows of the state before any contraction. It does nothing when it
+/// runs.
+pub fn rows_of_least_arcs_are_the_start()
+    ensures { RowsStart }
 {}
 
 /// The rows of all nodes, changed as told where a contraction touches them, are the rows of the next state. It does
