@@ -5,7 +5,8 @@ use Rattle.ch_graph.specs.Graph.{Graph}
 use Rattle.ch_laws.specs.Contraction.{State, Before, IsAlive, HasArc, Remains, IsNeighbour}
 use Rattle.ch_laws.specs.Rows.{Entry, Row, IsRow, Lists, ShowsRemaining}
 use Rattle.ch_laws.specs.Theorems.{RowOfAlive, RowTellsAlive}
-use Rattle.ch_laws.proofs.Order.{before-out, before_not_alive, contains_place, place_of}
+use Rattle.ch_laws.proofs.Order.{before-out, before_not_alive}
+use Rattle.ch_laws.proofs.Members.{contains_place, place_of}
 use Rattle.ch_laws.proofs.Sound.{IsSound, reached-sound}
 
 -- a node has a rank where it is in the order

@@ -1,11 +1,11 @@
 -- Lawful contractions: one more after a run, and what a plan makes of a state.
-use Rattle.std.proofs.Common.{ℕ, suc, ◌≡◌, true, false, nat_eq, List, [], ◌∷◌, ◌++◌, Option, Some, None, AllPairs, Contains, arith, refl, sym, ◌∙◌, ap, subst, inl, inr}
+use Rattle.std.proofs.Common.{ℕ, ◌≡◌, true, false, nat_eq, List, [], ◌∷◌, ◌++◌, Option, Some, None, AllPairs, Contains, arith, refl, ◌∙◌, ap, subst, inl, inr}
 use Rattle.std.proofs.lemmas.Bool.{cases_eq}
 use Rattle.std.proofs.lemmas.Bool.Decides.{nat_tests}
 use Rattle.ch_cost.specs.declared.cost.Cost.{Cost}
 use Rattle.ch_laws.specs.Contraction.{State, StateArc, Shortcut, IsFor, NoShortcut, shortcut_arc, or_else, Contraction, Step, Run, Run.rest, Run.next}
 use Rattle.ch_laws.specs.Theorems.{ReachesOn, PlanIsLawful}
-use Rattle.ch_laws.proofs.Order.{contains_first, contains_later, contains_cases}
+use Rattle.ch_laws.proofs.Members.{pairs_first, pairs_later, contains_first, contains_later, contains_cases}
 
 -- One more contraction
 
@@ -49,19 +49,12 @@ no_shortcut_arc [] v u w none = refl
 no_shortcut_arc (p ∷ put) v u w none =
     at_later p put v u w (none p (contains_first p put)) ∙ no_shortcut_arc put v u w (λ q among. none q (contains_later p put q among))
 
--- no shortcut of the rest is for the pair of the first, where there is one for each pair
-first_alone : (p : Shortcut) (put : List Shortcut) → AllPairs (λ p q. IsFor p q.from q.to → ⊥) (p ∷ put) → (q : Shortcut) → Contains put q → IsFor p q.from q.to → ⊥
-first_alone p put once q among joins = once 0 (suc among.0) q (omega arith) (omega (arith, among.1)) (subst (λ (r : Shortcut). IsFor p r.from r.to) (sym among.2) joins)
-
-later_once : (p : Shortcut) (put : List Shortcut) → AllPairs (λ p q. IsFor p q.from q.to → ⊥) (p ∷ put) → AllPairs (λ p q. IsFor p q.from q.to → ⊥) put
-later_once p put once i j d less low = once (suc i) (suc j) d (omega (arith, less)) (omega (arith, low))
-
 -- the pair of a shortcut has its arc
 pub its_shortcut_arc : (put : List Shortcut) (v : ℕ) (q : Shortcut) → AllPairs (λ p q. IsFor p q.from q.to → ⊥) put → Contains put q → shortcut_arc put v q.from q.to ≡ Some (arc_of_shortcut v q)
 its_shortcut_arc [] v q once among = absurd (omega (arith, among.1))
 its_shortcut_arc (p ∷ put) v q once among = elim (contains_cases p put q among) [
   | inl same ↦ subst (λ (r : Shortcut). shortcut_arc (p ∷ put) v r.from r.to ≡ Some (arc_of_shortcut v r)) same (at_first p put v p.from p.to (refl, refl))
-  | inr later ↦ at_later p put v q.from q.to (first_alone p put once q later) ∙ its_shortcut_arc put v q (later_once p put once) later
+  | inr later ↦ at_later p put v q.from q.to (pairs_first (λ p q. IsFor p q.from q.to → ⊥) p put once q later) ∙ its_shortcut_arc put v q (pairs_later (λ p q. IsFor p q.from q.to → ⊥) p put once) later
 ]
 
 -- A plan

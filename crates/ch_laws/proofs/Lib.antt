@@ -1,3 +1,4 @@
+pub mod Members
 pub mod Order
 pub mod Steps
 pub mod Sound
@@ -15,3 +16,4 @@ pub mod Start
 pub mod WholeRun
 pub mod AliveRows
 pub mod StartRows
+pub mod OneMade

@@ -14,7 +14,7 @@ use Rattle.ch_graph.specs.Graph.{Graph, IsGraph, bound_of}
 use Rattle.ch_graph.specs.Hierarchy.{Hierarchy, rank_of, IsLink, AreHalves, IsLinkWellMade, IsWellMade}
 use Rattle.ch_graph.proofs.Bound.{bound-within}
 use Rattle.ch_laws.specs.Contraction.{State, StateArc, Before, HasArc, IsOver, IsMade}
-use Rattle.ch_laws.proofs.Order.{place_of}
+use Rattle.ch_laws.proofs.Members.{place_of}
 use Rattle.ch_laws.proofs.Sound.{IsSound, IsSoundArc, IsSplit}
 
 -- numbers below n, each once, are n at most
@@ -29,7 +29,7 @@ module _ {g : Graph} {s : State} {h : Hierarchy} (sound : IsSound g s) (over : I
   -- Ranks
 
   -- a node's rank is its place in the order
-  rank-place : (x : ℕ) (k : ℕ) → k < length s.order → get_or s.order k 0 ≡ x → rank_of h x ≡ k
+  pub rank-place : (x : ℕ) (k : ℕ) → k < length s.order → get_or s.order k 0 ≡ x → rank_of h x ≡ k
   rank-place x k low here = subst (λ n. rank_of h n ≡ k) here (made.ranks k low)
 
   -- what stands before another node ranks below it

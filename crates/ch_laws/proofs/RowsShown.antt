@@ -7,7 +7,7 @@ use Rattle.ch_graph.specs.Graph.{Graph}
 use Rattle.ch_laws.specs.Contraction.{State, StateArc, Before, or_else}
 use Rattle.ch_laws.specs.Rows.{Entry, Row, arc_of, arc_to, shown, row_at, IsRow, AreRows}
 use Rattle.ch_laws.specs.Theorems.{RowsShow, RowsAreState}
-use Rattle.ch_laws.proofs.Order.{contains_first, contains_later, contains_cases, contains_place}
+use Rattle.ch_laws.proofs.Members.{contains_first, contains_later, contains_cases, contains_place}
 use Rattle.ch_laws.proofs.Sound.{IsSound, reached-sound}
 
 -- two nodes don't both stand before each other

@@ -1,6 +1,7 @@
 -- Contractions go on until every node is contracted, and then a hierarchy is made.
 use Rattle.std.proofs.Common.{ℕ, zero, suc, ◌≡◌, ◌≢◌, ◌+◌, ◌<◌, ◌≤◌, ◌⊎◌, ◌↔◌, List, [], ◌∷◌, ◌++◌, length, get_or, Option, Some, None, AllPairs, Contains, arith, refl, sym, ◌∙◌, ap, subst, inl, inr}
 use Rattle.std.proofs.lemmas.Bool.{cases_eq, cases_lt}
+use Rattle.std.proofs.lemmas.Option.{same_Some}
 use Rattle.std.proofs.lemmas.List.{get_or_append_left, get_or_push, length_push}
 use Rattle.std.proofs.lemmas.List.Elements.{Contains-append_left, Contains-push, Contains-push_cases, Contains-get_or}
 use Rattle.std.proofs.lemmas.List.Quantifiers.{all_pairs_push}
@@ -9,7 +10,7 @@ use Rattle.ch_graph.specs.Graph.{Graph, IsGraph, bound_of}
 use Rattle.ch_graph.specs.Hierarchy.{Hierarchy, ComesBefore}
 use Rattle.ch_laws.specs.Contraction.{State, StateArc, IsAlive, Contraction, Step, Run.rest, IsReached, IsOver, IsMade}
 use Rattle.ch_laws.specs.Theorems.{HasRun}
-use Rattle.ch_laws.proofs.Order.{place_of}
+use Rattle.ch_laws.proofs.Members.{place_of}
 use Rattle.ch_laws.proofs.Pairs.{IsCovered, covered_more, covered_cases}
 use Rattle.ch_laws.proofs.Sound.{IsSound, reached-sound}
 use Rattle.ch_laws.proofs.Made.{few_below}
@@ -121,12 +122,9 @@ before_next m k l n is from to = elim is [
   | inr here ↦ inr (here.0 ∙ sym from, omega (arith, here.1, to))
 ]
 
-some_same : (a b : StateArc) → Some a ≡ Some b → a ≡ b
-some_same a b same = cc
-
 same_link : (m k : ℕ) (a : StateArc) (l : Link) → l.from ≡ m → l.to ≡ k → Some a ≡ Some (record { cost = l.cost; middle = l.middle }) → record { from = m; to = k; cost = a.cost; middle = a.middle } ≡ l
 same_link m k a l from to same =
-    let arcs : a ≡ record { cost = l.cost; middle = l.middle } = some_same a (record { cost = l.cost; middle = l.middle }) same in
+    let arcs : a ≡ record { cost = l.cost; middle = l.middle } = same_Some a (record { cost = l.cost; middle = l.middle }) same in
     λ i. record { from = (sym from) i; to = (sym to) i; cost = (arcs i).cost; middle = (arcs i).middle }
 
 with_link : {s : State} {m k : ℕ} (a : StateArc) → s.arc m k ≡ Some a → LinksSoFar s m k → LinksSoFar s m (suc k)

@@ -13,7 +13,9 @@ mod rows;
 pub use contraction::{
     alive_nodes_can_be_contracted, each_graph_has_a_run, plan_is_lawful, reached_goes_on,
 };
-pub use right::{reached_hierarchy_is_right, reached_hierarchy_is_well_made};
+pub use right::{
+    made_hierarchy_is_unique, reached_hierarchy_is_right, reached_hierarchy_is_well_made,
+};
 pub use routes::{least_route_is_a_least_walk, least_route_is_never_too_long};
 pub use rows::{
     row_of_others_stays, rows_are_the_state, rows_of_alive_nodes_show_what_remains,
