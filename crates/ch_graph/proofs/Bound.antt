@@ -33,6 +33,7 @@ pub record IsSound (g : Graph) (x y : ℕ) (c : Cost) : Type 0 where
   pub from_in : x < g.nodes
   pub to_in : y < g.nodes
 
+-- every arc is so
 pub arc-sound : (g : Graph) → IsGraph g → (x y : ℕ) (c : Cost) → ArcOf g x y c → IsSound g x y c
 arc-sound g is x y c arc =
     let road : IsRoad g.nodes arc.road = All-contains (IsRoad g.nodes) g.arcs arc.road is.roads arc.among in
@@ -75,6 +76,7 @@ within_or_cheaper g is w = elim (few_arcs_or_cheaper g is w) [
   | inr less ↦ inr less
 ]
 
+-- so a distance is within the bound, since nothing is cheaper than it
 pub distance_within_bound : DistanceIsWithinBound
 distance_within_bound g s t c is distance = elim (within_or_cheaper g is distance.0) [
   | inl within ↦ within
@@ -88,5 +90,6 @@ least_unique P (Some c) None least none_is = absurd (none_is c least.0)
 least_unique P None (Some d) none_is least = absurd (none_is d least.0)
 least_unique P None None none_is other = refl
 
+-- and two nodes have one
 pub distance_unique : DistanceIsUnique
 distance_unique g s t a b first second = least_unique (Walk (ArcOf g) s t) a b first second

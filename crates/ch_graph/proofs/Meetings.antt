@@ -102,8 +102,10 @@ least-is_value h s t (Some best) up down well low ups downs least = (
   ],
 )
 
+-- the law of labels
 pub labels_are_right : LabelsAreRight
 labels_are_right h s t answer up down well from_in ups downs least = least-is_value h s t answer up down well from_in ups downs least
 
+-- and a hierarchy has one value for two nodes
 pub value_is_unique : ValueIsUnique
 value_is_unique h s t a b first second = least_unique (HasRiseFall h s t) a b first second

@@ -16,12 +16,14 @@ pub record HasUnfolding (h : Hierarchy) (l : Link) : Type 0 where
   pub arcs : List Link
   pub unfolds : Unfolds h l arcs
 
+-- the halves have a lower end that ranks below that of the link
 first_below : (h : Hierarchy) (n m : ℕ) (l a : Link) → lower h l < suc n → rank_of h m < rank_of h l.from → rank_of h m < rank_of h l.to → a.to ≡ m → lower h a < n
 first_below h n m l a low below_from below_to to =
     let at_m : rank_of h a.to < rank_of h l.from = subst (λ k. rank_of h k < rank_of h l.from) (sym to) below_from in
     let at_m_too : rank_of h a.to < rank_of h l.to = subst (λ k. rank_of h k < rank_of h l.to) (sym to) below_to in
     omega (arith, low, at_m, at_m_too)
 
+-- the same of the second half
 second_below : (h : Hierarchy) (n m : ℕ) (l b : Link) → lower h l < suc n → rank_of h m < rank_of h l.from → rank_of h m < rank_of h l.to → b.from ≡ m → lower h b < n
 second_below h n m l b low below_from below_to from =
     let at_m : rank_of h b.from < rank_of h l.from = subst (λ k. rank_of h k < rank_of h l.from) (sym from) below_from in
@@ -29,6 +31,7 @@ second_below h n m l b low below_from below_to from =
     omega (arith, low, at_m, at_m_too)
 
 module _ (h : Hierarchy) (well : IsWellMade h) where
+  -- a link unfolds where links with a lower end of smaller rank do
   unfold_middle : (n : ℕ) → ((l : Link) → Contains h.links l → lower h l < n → HasUnfolding h l) → (l : Link) → Contains h.links l → lower h l < suc n → (o : Option ℕ) → l.middle ≡ o → HasUnfolding h l
   unfold_middle n smaller l among low None none = record { arcs = l ∷ []; unfolds = whole none }
   unfold_middle n smaller l among low (Some m) some =
@@ -40,10 +43,12 @@ module _ (h : Hierarchy) (well : IsWellMade h) where
       let right : HasUnfolding h b = smaller b halves_of.second.among (second_below h n m l b low halves_of.below_from halves_of.below_to halves_of.second.from) in
       record { arcs = left.arcs ++ right.arcs; unfolds = halves some halves_of.first halves_of.second left.unfolds right.unfolds }
 
+  -- so it does by induction on the rank of its lower end
   unfold_below : (n : ℕ) (l : Link) → Contains h.links l → lower h l < n → HasUnfolding h l
   unfold_below zero l among low = absurd (omega (arith, low))
   unfold_below (suc n) l among low = unfold_middle n (unfold_below n) l among low l.middle refl
 
+  -- whatever that rank is
   pub link-unfolds : (l : Link) → Contains h.links l → HasUnfolding h l
   link-unfolds l among = unfold_below (lower h l + 1) l among (omega arith)
 
@@ -55,6 +60,7 @@ unfold_list h well (l ∷ links) among =
     let others = unfold_list h well links (All-tail (λ l. Contains h.links l) l links among) in
     (first.arcs ++ others.0, more first.unfolds others.1)
 
+-- the law of unfolding
 pub links_unfold : LinksUnfold
 links_unfold h links well among = unfold_list h well links among
 
@@ -100,6 +106,7 @@ record IsHalved (h : Hierarchy) (l : Link) (us : List Link) : Type 0 where
   right : Unfolds h second rs
   parts : us ≡ ls ++ rs
 
+-- an unfolding is of a link without a middle, or of one with halves
 unfolds-view : {h : Hierarchy} {l : Link} {us : List Link} → Unfolds h l us → ((l.middle ≡ None) × (us ≡ l ∷ [])) ⊎ IsHalved h l us
 unfolds-view (whole none) = inl (none, refl)
 unfolds-view (halves {a = a} {b = b} {m = m} {ls = ls} {rs = rs} some first second left right) = inr (record {
@@ -116,9 +123,11 @@ unfolds-view (halves {a = a} {b = b} {m = m} {ls = ls} {rs = rs} some first seco
   parts = refl;
 })
 
+-- a link has a middle or none
 middle-not_both : (o : Option ℕ) (m : ℕ) → o ≡ None → o ≡ Some m → ⊥
 middle-not_both o m none some = cc
 
+-- and one middle alone
 one_middle : (o : Option ℕ) (m n : ℕ) → o ≡ Some m → o ≡ Some n → n ≡ m
 one_middle o m n first second = cc
 
@@ -129,11 +138,13 @@ module _ (h : Hierarchy) (well : IsWellMade h) where
       let same : other.first ≡ a = one_link_of_pair h well (subst (λ n. IsLink h l.from n other.first) (one_middle l.middle m other.middle some other.some) other.is_first) first in
       subst (λ (k : Link). Unfolds h k other.ls) same other.left
 
+  -- the same of the second half
   same_second : {l b : Link} {m : ℕ} {us : List Link} → l.middle ≡ Some m → IsLink h m l.to b → (other : IsHalved h l us) → Unfolds h b other.rs
   same_second {l} {b} {m} some second other =
       let same : other.second ≡ b = one_link_of_pair h well (subst (λ n. IsLink h n l.to other.second) (one_middle l.middle m other.middle some other.some) other.is_second) second in
       subst (λ (k : Link). Unfolds h k other.rs) same other.right
 
+  -- so two unfoldings of a link are the same
   one_unfolding : {l : Link} {us : List Link} → Unfolds h l us → (vs : List Link) → Unfolds h l vs → us ≡ vs
   one_unfolding (whole {l} none) vs other = elim (unfolds-view other) [
     | inl is ↦ sym is.1
@@ -152,10 +163,12 @@ module _ (h : Hierarchy) (well : IsWellMade h) where
   AllView [] vs = vs ≡ []
   AllView (l ∷ links) vs = (ps : List Link) × (qs : List Link) × Unfolds h l ps × UnfoldsAll h links qs × (vs ≡ ps ++ qs)
 
+  -- and it is that
   all-view : {links vs : List Link} → UnfoldsAll h links vs → AllView links vs
   all-view done = refl
   all-view (more {us = us} {vs = vs} first others) = (us, vs, first, others, refl)
 
+  -- two unfoldings of a list are the same
   one_unfolding_of_all : {links us : List Link} → UnfoldsAll h links us → (vs : List Link) → UnfoldsAll h links vs → us ≡ vs
   one_unfolding_of_all done vs other = sym (all-view other)
   one_unfolding_of_all (more {us = us} {vs = rest} first others) vs other =
@@ -164,5 +177,6 @@ module _ (h : Hierarchy) (well : IsWellMade h) where
       let rests : rest ≡ view.1 = one_unfolding_of_all others view.1 view.3 in
       ap₂ (λ (p q : List Link). p ++ q) firsts rests ∙ sym view.4
 
+-- the law that there is one
 pub unfolding_is_unique : UnfoldingIsUnique
 unfolding_is_unique h links us vs well first second = one_unfolding_of_all h well first vs second

@@ -12,6 +12,7 @@ pub record Hierarchy : Type 0 where
   pub links : List Link
   pub bound : Cost
 
+-- the rank of a node
 abbrev pub rank_of : Hierarchy → ℕ → ℕ
 rank_of h x = slice_index h.ranks x
 
@@ -129,5 +130,6 @@ ValueIsUnique = (h : Hierarchy) (s t : ℕ) (a b : Option Cost) → IsValue h s 
 abbrev pub LinksUnfold : Type 0
 LinksUnfold = (h : Hierarchy) (links : List Link) → IsWellMade h → All (λ l. Contains h.links l) links → (arcs : List Link) × UnfoldsAll h links arcs
 
+-- and that one way is the only one
 abbrev pub UnfoldingIsUnique : Type 0
 UnfoldingIsUnique = (h : Hierarchy) (links us vs : List Link) → IsWellMade h → UnfoldsAll h links us → UnfoldsAll h links vs → us ≡ vs

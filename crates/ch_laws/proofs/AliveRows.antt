@@ -14,6 +14,7 @@ no_rank : {s : State} {x : ℕ} {r : Row} → IsRow s x r → (Contains s.order 
 no_rank row out None is = refl
 no_rank {s} {x} row out (Some k) is = let place = (row.rank k).0 is in absurd (out (contains_place s.order k x place.0 place.1))
 
+-- a node without a rank is alive
 pub row_tells_alive : RowTellsAlive
 row_tells_alive s x r low row none = record {
   in_range = low;
@@ -29,6 +30,7 @@ module _ {g : Graph} {s : State} {x : ℕ} {r : Row} (sound : IsSound g s) (row 
       let e : Entry = record { other = y; cost = arc.arc.arc.cost; middle = arc.arc.arc.middle } in
       record { entry = e; among = (row.out e).1 (arc.arc.here, λ b. before_not_alive b arc.to_alive); other = refl; costs = arc.arc.costs }
 
+  -- the same of the arcs into x
   inn-listed : (y : ℕ) (c : Cost) → Remains s y x c → Lists r.inn y c
   inn-listed y c arc =
       let e : Entry = record { other = y; cost = arc.arc.arc.cost; middle = arc.arc.arc.middle } in
@@ -38,6 +40,7 @@ module _ {g : Graph} {s : State} {x : ℕ} {r : Row} (sound : IsSound g s) (row 
   other-alive : (y : ℕ) → y < s.nodes → (Before s.order y x → ⊥) → IsAlive s y
   other-alive y low out = record { in_range = low; waits = λ among. out (before-out s.order y x among alive.waits) }
 
+  -- an entry is an arc of the remaining graph
   out-remains : (y : ℕ) (c : Cost) → Lists r.out y c → Remains s x y c
   out-remains y c lists =
       let e : Entry = lists.entry in
@@ -46,6 +49,7 @@ module _ {g : Graph} {s : State} {x : ℕ} {r : Row} (sound : IsSound g s) (row 
       let has : HasArc s x e.other c = record { arc = record { cost = e.cost; middle = e.middle }; here = is.0; costs = lists.costs } in
       subst (λ n. Remains s x n c) lists.other (record { from_alive = alive; to_alive = other-alive e.other low is.1; arc = has })
 
+  -- the same of the arcs into x
   inn-remains : (y : ℕ) (c : Cost) → Lists r.inn y c → Remains s y x c
   inn-remains y c lists =
       let e : Entry = lists.entry in
@@ -61,6 +65,7 @@ module _ {g : Graph} {s : State} {x : ℕ} {r : Row} (sound : IsSound g s) (row 
     | inr into ↦ inr (into.0, inn-listed y into.0 (record { from_alive = is.alive; to_alive = alive; arc = into.1 }))
   ]
 
+  -- and the neighbours are the nodes named
   listed-neighbour : (y : ℕ) → ((c : Cost) × Lists r.out y c) ⊎ ((c : Cost) × Lists r.inn y c) → IsNeighbour s x y
   listed-neighbour y lists = elim lists [
     | inl out ↦
@@ -71,6 +76,7 @@ module _ {g : Graph} {s : State} {x : ℕ} {r : Row} (sound : IsSound g s) (row 
         record { alive = arc.from_alive; joined = inr (into.0, arc.arc) }
   ]
 
+  -- so the row shows the remaining graph
   shows-remaining : ShowsRemaining s x r
   shows-remaining = record {
     unranked = no_rank row alive.waits r.rank refl;
@@ -79,5 +85,6 @@ module _ {g : Graph} {s : State} {x : ℕ} {r : Row} (sound : IsSound g s) (row 
     neighbours = λ y. (neighbour-listed y, listed-neighbour y);
   }
 
+-- the law of rows of alive nodes
 pub row_of_alive : RowOfAlive
 row_of_alive g log s x r is reached row alive = shows-remaining (reached-sound is reached) row alive

@@ -9,10 +9,12 @@ use Rattle.ch_laws.proofs.Members.{pairs_first, pairs_later, contains_first, con
 
 -- One more contraction
 
+-- a run and one more step
 run-push : {bound : Cost} {old mid new : State} {e : Contraction} {log : List Contraction} → Run bound old log mid → Step bound mid e new → Run bound old (log ++ e ∷ []) new
 run-push rest step = next step rest
 run-push (next first more) step = next first (run-push more step)
 
+-- so what is reached goes on
 pub reaches_on : ReachesOn
 reaches_on g log s e new reached step = record { start = reached.start; starts = reached.starts; run = run-push reached.run step }
 
@@ -29,6 +31,7 @@ at_first p put v u w joins =
     let to : nat_eq p.to w ≡ true = grind (arith, nat_tests, joins.1) in
     rw (from, to) refl
 
+-- the same where it isn't
 at_later : (p : Shortcut) (put : List Shortcut) (v u w : ℕ) → (IsFor p u w → ⊥) → shortcut_arc (p ∷ put) v u w ≡ shortcut_arc put v u w
 at_later p put v u w apart = elim (cases_eq p.from u) [
   | inr other ↦
@@ -59,6 +62,7 @@ its_shortcut_arc (p ∷ put) v q once among = elim (contains_cases p put q among
 
 -- A plan
 
+-- so a plan with witnesses is a lawful contraction
 pub plan_is_lawful : PlanIsLawful
 plan_is_lawful bound s v put plan witnessed = record {
   plan = plan;

@@ -48,6 +48,7 @@ module _ {g : Graph} {s : State} {h : Hierarchy} (sound : IsSound g s) (over : I
   order-few : length s.order ≤ s.nodes
   order-few = few_below s.nodes s.order sound.once (λ x among. omega (arith, sound.in_range x among, sound.nodes))
 
+  -- a rank is below the number of nodes
   rank-in_range : (x : ℕ) → x < length h.ranks → rank_of h x < length h.ranks
   rank-in_range x low =
       let inside : x < s.nodes = omega (arith, low, made.nodes) in
@@ -56,6 +57,7 @@ module _ {g : Graph} {s : State} {h : Hierarchy} (sound : IsSound g s) (over : I
       let early : place.0 < length s.order = place.1 in
       omega (arith, rank, early, order-few, made.nodes)
 
+  -- and no two nodes share one
   rank-once : (x y : ℕ) → x < y → y < length h.ranks → rank_of h x ≢ rank_of h y
   rank-once x y less low same =
       let x_in : x < s.nodes = omega (arith, less, low, made.nodes) in
@@ -89,6 +91,7 @@ module _ {g : Graph} {s : State} {h : Hierarchy} (sound : IsSound g s) (over : I
   half-link : (x y : ℕ) (c : Cost) (has : HasArc s x y c) → (l : Link) × IsLink h x y l × (l.cost ≡ c)
   half-link x y c has = (record { from = x; to = y; cost = has.arc.cost; middle = has.arc.middle }, record { among = arc-link x y has.arc has.here; from = refl; to = refl }, has.costs)
 
+  -- a link with a middle has halves
   link-halves : (l : Link) (m : ℕ) → l.from < s.nodes → l.to < s.nodes → IsSplit s l.from l.to m l.cost → (a : Link) × (b : Link) × AreHalves h l m a b
   link-halves l m from_in to_in split =
       let first = half-link l.from m split.into split.first in
@@ -106,6 +109,7 @@ module _ {g : Graph} {s : State} {h : Hierarchy} (sound : IsSound g s) (over : I
         },
       )
 
+  -- so each link is well made
   link-well : (l : Link) → Contains h.links l → IsLinkWellMade h l
   link-well l among =
       let is = link-sound l among in

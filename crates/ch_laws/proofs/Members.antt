@@ -15,6 +15,7 @@ contains_at : {X : Type 0} (x : X) (xs : List X) (y : X) (k : ℕ) → k < lengt
 contains_at x xs y zero h is = inl is
 contains_at x xs y (suc k) h is = inr (k, omega (arith, h), is)
 
+-- the same without the place
 pub contains_cases : {X : Type 0} (x : X) (xs : List X) (y : X) → Contains (x ∷ xs) y → (x ≡ y) ⊎ Contains xs y
 contains_cases x xs y h = contains_at x xs y h.0 h.1 h.2
 

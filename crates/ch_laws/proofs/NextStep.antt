@@ -46,6 +46,7 @@ arc_at : (s : State) (x y : ℕ) (o : Option StateArc) → s.arc x y ≡ o → (
 arc_at s x y None none = inr (λ c has. let some : s.arc x y ≡ Some has.arc = has.here in absurd (cc))
 arc_at s x y (Some arc) here = inl (arc.cost, record { arc = arc; here = here; costs = refl })
 
+-- the same at the state's own arc
 pub cases_arc : (s : State) (x y : ℕ) → ((c : Cost) × HasArc s x y c) ⊎ ((c : Cost) → HasArc s x y c → ⊥)
 cases_arc s x y = arc_at s x y (s.arc x y) refl
 
@@ -115,6 +116,7 @@ module _ {g : Graph} {s : State} (bound : Cost) (sound : IsSound g s) where
     ]
   ]
 
+  -- any pair gets a shortcut or needs none
   cases_wanted : (v u w : ℕ) → IsWanted bound s v u w ⊎ IsCared bound s v u w
   cases_wanted v u w = elim (cases_through s v u w) [
     | inr none ↦ inr (λ c through within. absurd (none c through))
@@ -196,16 +198,19 @@ next_row {bound} {s} {v} {m} plan = record {
 }
 
 module _ {g : Graph} {s : State} (bound : Cost) (sound : IsSound g s) (v : ℕ) where
+  -- one more pair, whichever it is
   next_pair : (m k : ℕ) → PlanSoFar bound s v m k → PlanSoFar bound s v m (suc k)
   next_pair m k plan = elim (cases_wanted bound sound v m k) [
     | inl wanted ↦ with_shortcut plan wanted
     | inr is_cared ↦ without_shortcut plan is_cared
   ]
 
+  -- all pairs from m
   plan_row : (m k : ℕ) → PlanSoFar bound s v m 0 → PlanSoFar bound s v m k
   plan_row m zero plan = plan
   plan_row m (suc k) plan = next_pair m k (plan_row m k plan)
 
+  -- all pairs from nodes below m
   plan_rows : (m : ℕ) → PlanSoFar bound s v m 0
   plan_rows zero = record {
     put = [];
@@ -241,6 +246,7 @@ record NeighboursBelow (s : State) (v k : ℕ) : Type 0 where
   rising : AllPairs (λ x y. x < y) nodes
   are : (x : ℕ) → Contains nodes x ↔ ((x < k) × IsNeighbour s v x)
 
+-- one more node, which is a neighbour
 with_neighbour : {s : State} {v k : ℕ} → NeighboursBelow s v k → IsNeighbour s v k → NeighboursBelow s v (suc k)
 with_neighbour {s} {v} {k} below is = record {
   nodes = below.nodes ++ k ∷ [];
@@ -259,6 +265,7 @@ with_neighbour {s} {v} {k} below is = record {
   );
 }
 
+-- and one that isn't
 without_neighbour : {s : State} {v k : ℕ} → NeighboursBelow s v k → (IsNeighbour s v k → ⊥) → NeighboursBelow s v (suc k)
 without_neighbour {s} {v} {k} below not = record {
   nodes = below.nodes;
@@ -272,6 +279,7 @@ without_neighbour {s} {v} {k} below not = record {
   );
 }
 
+-- so the neighbours can be listed
 neighbours_below : (s : State) (v k : ℕ) → NeighboursBelow s v k
 neighbours_below s v zero = record {
   nodes = [];
@@ -285,6 +293,7 @@ neighbours_below s v (suc k) = elim (cases_neighbour s v k) [
 
 -- The contraction
 
+-- a plan for all pairs and the list of neighbours make a step
 pub next-step : {g : Graph} {s : State} → IsSound g s → (v : ℕ) → IsAlive s v → (e : Contraction) × (new : State) × Step (bound_of g) s e new × (e.node ≡ v)
 next-step {g} {s} sound v alive =
     let plan = plan_rows (bound_of g) sound v s.nodes in
@@ -304,5 +313,6 @@ next-step {g} {s} sound v alive =
       refl,
     )
 
+-- the law that contraction goes on
 pub goes_on : GoesOn
 goes_on g log s v is reached alive = next-step (reached-sound is reached) v alive

@@ -47,6 +47,7 @@ same_sorted (x ∷ xs) (y ∷ ys) x_sorted y_sorted within back =
     let rest : xs ≡ ys = same_sorted xs ys (pairs_later ComesBefore x xs x_sorted) (pairs_later ComesBefore y ys y_sorted) (among_rest x y xs ys x_sorted first within) (among_rest y x ys xs y_sorted (sym first) back) in
     ap₂ (λ (l : Link) (ls : List Link). l ∷ ls) first rest
 
+-- so two hierarchies of a state are the same
 one_made : {g : Graph} {s : State} {h k : Hierarchy} → IsSound g s → IsOver s → IsMade g s h → IsMade g s k → h ≡ k
 one_made {g} {s} {h} {k} sound over first second =
     let ranks : h.ranks ≡ k.ranks = ext_get_or 0 h.ranks k.ranks (first.nodes ∙ sym second.nodes) (λ x low.
@@ -56,5 +57,6 @@ one_made {g} {s} {h} {k} sound over first second =
     let links : h.links ≡ k.links = same_sorted h.links k.links first.sorted second.sorted (λ l among. (second.links l).1 ((first.links l).0 among)) (λ l among. (first.links l).1 ((second.links l).0 among)) in
     λ i. record { ranks = ranks i; links = links i; bound = (first.bound ∙ sym second.bound) i }
 
+-- the law that there is one
 pub made_is_unique : MadeIsUnique
 made_is_unique g log s h k is reached over first second = one_made (reached-sound is reached) over first second

@@ -23,6 +23,7 @@ before_not_both first second = elim (cases_lt second.place first.place) [
 arc_to-first : (y : ℕ) (e : Entry) (es : List Entry) → e.other ≡ y → arc_to y (e ∷ es) ≡ arc_of e
 arc_to-first y e es same = let test : nat_eq e.other y ≡ true = grind (arith, nat_tests, same) in rw test refl
 
+-- the same where it is for another
 arc_to-later : (y : ℕ) (e : Entry) (es : List Entry) → e.other ≢ y → arc_to y (e ∷ es) ≡ arc_to y es
 arc_to-later y e es other = let test : nat_eq e.other y ≡ false = grind (arith, nat_tests, other) in rw test refl
 
@@ -62,6 +63,7 @@ module _ {s : State} {x y : ℕ} {q r : Row} (row_x : IsRow s x q) (row_y : IsRo
       let at_y : s.arc x y ≡ arc_of found.entry = subst (λ n. s.arc x n ≡ arc_of found.entry) found.other here in
       at_y ∙ sym (ap (λ (o : Option StateArc). or_else o (arc_to x r.inn)) found.here)
 
+  -- and so is what the row of y has for x, where that of x has none
   by_inn : arc_to y q.out ≡ None → HasEntry x r.inn → s.arc x y ≡ shown q r x y
   by_inn none found =
       let here : s.arc found.entry.other y ≡ arc_of found.entry = ((row_y.inn found.entry).0 found.among).0 in
@@ -77,6 +79,7 @@ module _ {s : State} {x y : ℕ} {q r : Row} (row_x : IsRow s x q) (row_y : IsRo
       let not_x : Before s.order x y → ⊥ = λ b. no_out out ((row_x.out out).1 (here, λ back. before_not_both b back)) refl in
       absurd (no_inn into ((row_y.inn into).1 (here, not_x)) refl)
 
+  -- so the rows show the arc
   pub arc-shown : s.arc x y ≡ shown q r x y
   arc-shown = elim (find_entry y q.out) [
     | inl found ↦ by_out found
@@ -90,6 +93,7 @@ module _ {s : State} {x y : ℕ} {q r : Row} (row_x : IsRow s x q) (row_y : IsRo
         ]
   ]
 
+-- the law of two rows
 pub rows_show : RowsShow
 rows_show g log s x y q r is reached row_x row_y = arc-shown row_x row_y
 
@@ -105,6 +109,7 @@ empty-row {g} {s} sound x past = record {
   inn = λ e. (λ among. absurd (omega (arith, among.1)), λ h. absurd (omega (arith, past, (sound.arcs e.other x (record { cost = e.cost; middle = e.middle }) h.0).to_in)));
 }
 
+-- so each number has the row that the list has for it
 every-row : {g : Graph} {s : State} {rows : List Row} → IsSound g s → AreRows s rows → (x : ℕ) → IsRow s x (row_at rows x)
 every-row {g} {s} {rows} sound are x = elim (cases_lt x s.nodes) [
   | inl low ↦ are.each x low
@@ -115,6 +120,7 @@ every-row {g} {s} {rows} sound are x = elim (cases_lt x s.nodes) [
 same_state : (nodes : ℕ) (arc : ℕ → ℕ → Option StateArc) (s : State) → nodes ≡ s.nodes → ((x y : ℕ) → s.arc x y ≡ arc x y) → record { nodes = nodes; order = s.order; arc = arc } ≡ s
 same_state nodes arc s same arcs = λ i. record { nodes = same i; order = s.order; arc = λ x y. (sym (arcs x y)) i }
 
+-- the law of all rows
 pub rows_are_state : RowsAreState
 rows_are_state g log s rows is reached are =
     let sound = reached-sound is reached in

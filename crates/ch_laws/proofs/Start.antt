@@ -22,6 +22,7 @@ module _ (n : ℕ) (rs : List Road) (r : Road) (x y : ℕ) where
   arc-later : {c : Cost} → ArcOf (graph_of n rs) x y c → ArcOf (graph_of n (r ∷ rs)) x y c
   arc-later arc = record { road = arc.road; among = contains_later r rs arc.road arc.among; from = arc.from; to = arc.to; costs = arc.costs }
 
+  -- the first, where it joins them
   arc-first : Joins r x y → ArcOf (graph_of n (r ∷ rs)) x y (of_weight r.weight)
   arc-first joins = record { road = r; among = contains_first r rs; from = joins.0; to = joins.1; costs = refl }
 
@@ -85,6 +86,7 @@ start-arc n (r ∷ rs) x y =
       ]
     ]
 
+-- the same of a graph
 pub least_arc : (g : Graph) (x y : ℕ) → (o : Option StateArc) × IsStartArc g x y o
 least_arc g x y = start-arc g.nodes g.arcs x y
 

@@ -39,6 +39,7 @@ module _ (g : Graph) (rows : List Row) (is : IsGraph g) (each : (x : ℕ) → Is
       let least = ((each x).out found.entry).0 found.among in
       (subst (λ n. IsLeastArc g x n found.entry.cost) found.other least.1, least.2)
 
+  -- the same of the row of the second node
   entry-least_into : {x y : ℕ} → x ≢ y → (found : HasEntry x (row_at rows y).inn) → IsStartArc g x y (arc_of found.entry)
   entry-least_into {x} {y} apart found =
       let least = ((each y).inn found.entry).0 found.among in
@@ -75,6 +76,7 @@ module _ (g : Graph) (rows : List Row) (is : IsGraph g) (each : (x : ℕ) → Is
   shown-entry x y apart e least None none = absurd (none e.cost least.0.0)
   shown-entry x y apart e least (Some arc) is_least = one_least (record { other = y; cost = arc.cost; middle = arc.middle }) e is_least.0 least.0 is_least.1 least.1
 
+  -- and where it is shown the entry says so
   entry-of_shown : (x y : ℕ) (e : Entry) → shown (row_at rows x) (row_at rows y) x y ≡ arc_of e → (x ≢ y) × IsLeastArc g x y e.cost × (e.middle ≡ None)
   entry-of_shown x y e here =
       let apart : x ≢ y = λ same.
@@ -83,6 +85,7 @@ module _ (g : Graph) (rows : List Row) (is : IsGraph g) (each : (x : ℕ) → Is
       let least : IsStartArc g x y (arc_of e) = subst (λ (o : Option StateArc). IsStartArc g x y o) here (shown-least x y apart) in
       (apart, least.0, least.1)
 
+  -- so each row is a row of the state
   start-row : (x : ℕ) → IsRow (state_of rows []) x (row_at rows x)
   start-row x = record {
     rank = λ k. (λ some. let none : (row_at rows x).rank ≡ None = (each x).rank in absurd (cc), λ h. absurd (omega (arith, h.0)));
@@ -112,6 +115,7 @@ every-start_row g is rows many are x = elim (cases_lt x g.nodes) [
   | inr past ↦ subst (λ (r : Row). IsStartRow g x r) (sym (get_or_past rows x (record { out = []; inn = []; rank = None }) (omega (arith, past, many)))) (no_start-row g is x past)
 ]
 
+-- the law of rows at the start
 pub rows_start : RowsStart
 rows_start g rows is many are =
     let each = every-start_row g is rows many are in (

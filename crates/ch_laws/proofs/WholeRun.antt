@@ -51,6 +51,7 @@ record IsDone (g : Graph) : Type 0 where
   reached : IsReached g log state
   over : IsOver state
 
+-- so contraction ends after as many steps as nodes are left
 run_on : (g : Graph) → IsGraph g → (fuel : ℕ) (log : List Contraction) (s : State) → IsReached g log s → s.nodes ≤ length s.order + fuel → IsDone g
 run_on g is zero log s reached enough = elim (find_alive s s.nodes (omega arith)) [
   | inr all ↦ record { log = log; state = s; reached = reached; over = all }
@@ -85,6 +86,7 @@ one_place {s = s} sound p q p_in q_in same = elim (cases_lt p q) [
   ]
 ]
 
+-- each node below k has its place as rank
 ranks_below : {g : Graph} {s : State} → IsSound g s → IsOver s → (k : ℕ) → k ≤ s.nodes → RanksBelow s k
 ranks_below sound over zero low = record { ranks = []; many = refl; are = λ x p less p_in here. absurd (omega (arith, less)) }
 ranks_below {g} {s} sound over (suc k) low =
@@ -122,11 +124,13 @@ before_next m k l n is from to = elim is [
   | inr here ↦ inr (here.0 ∙ sym from, omega (arith, here.1, to))
 ]
 
+-- a link between two nodes, known by its arc
 same_link : (m k : ℕ) (a : StateArc) (l : Link) → l.from ≡ m → l.to ≡ k → Some a ≡ Some (record { cost = l.cost; middle = l.middle }) → record { from = m; to = k; cost = a.cost; middle = a.middle } ≡ l
 same_link m k a l from to same =
     let arcs : a ≡ record { cost = l.cost; middle = l.middle } = same_Some a (record { cost = l.cost; middle = l.middle }) same in
     λ i. record { from = (sym from) i; to = (sym to) i; cost = (arcs i).cost; middle = (arcs i).middle }
 
+-- one more pair, which has an arc
 with_link : {s : State} {m k : ℕ} (a : StateArc) → s.arc m k ≡ Some a → LinksSoFar s m k → LinksSoFar s m (suc k)
 with_link {s} {m} {k} a here sofar =
     let n : Link = record { from = m; to = k; cost = a.cost; middle = a.middle } in
@@ -149,6 +153,7 @@ with_link {s} {m} {k} a here sofar =
       );
     }
 
+-- and one that has none
 without_link : {s : State} {m k : ℕ} → s.arc m k ≡ None → LinksSoFar s m k → LinksSoFar s m (suc k)
 without_link {s} {m} {k} none sofar = record {
   links = sofar.links;
@@ -164,10 +169,12 @@ without_link {s} {m} {k} none sofar = record {
   );
 }
 
+-- whichever it is
 next_link : {s : State} {m k : ℕ} (o : Option StateArc) → s.arc m k ≡ o → LinksSoFar s m k → LinksSoFar s m (suc k)
 next_link None none sofar = without_link none sofar
 next_link (Some a) here sofar = with_link a here sofar
 
+-- all links from m
 link_row : (s : State) (m k : ℕ) → LinksSoFar s m 0 → LinksSoFar s m k
 link_row s m zero sofar = sofar
 link_row s m (suc k) sofar = next_link (s.arc m k) refl (link_row s m k sofar)
@@ -194,6 +201,7 @@ next_link_row {g} {s} sound m sofar = record {
   );
 }
 
+-- all links from nodes below m
 link_rows : {g : Graph} {s : State} → IsSound g s → (m : ℕ) → LinksSoFar s m 0
 link_rows sound zero = record {
   links = [];
@@ -204,6 +212,7 @@ link_rows {s = s} sound (suc m) = next_link_row sound m (link_row s m s.nodes (l
 
 -- The hierarchy
 
+-- so a state that is over has a hierarchy
 pub has_made : {g : Graph} {s : State} → IsSound g s → IsOver s → (h : Hierarchy) × IsMade g s h
 has_made {g} {s} sound over =
     let below = ranks_below sound over s.nodes (omega arith) in
@@ -221,6 +230,7 @@ has_made {g} {s} sound over =
       },
     )
 
+-- the law that each graph has a run to the end
 pub has_run : HasRun
 has_run g is =
     let start = has_start g in

@@ -84,6 +84,7 @@ pub record Shortcut : Type 0 where
   pub to : ℕ
   pub cost : Cost
 
+-- the shortcut is from u to w
 abbrev pub IsFor : Shortcut → ℕ → ℕ → Type 0
 IsFor p u w = (p.from ≡ u) × (p.to ≡ w)
 
