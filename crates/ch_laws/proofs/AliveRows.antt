@@ -77,7 +77,7 @@ module _ {g : Graph} {s : State} {x : ℕ} {r : Row} (sound : IsSound g s) (row 
   ]
 
   -- so the row shows the remaining graph
-  shows-remaining : ShowsRemaining s x r
+  pub shows-remaining : ShowsRemaining s x r
   shows-remaining = record {
     unranked = no_rank row alive.waits r.rank refl;
     out = λ y c. (out-listed y c, out-remains y c);

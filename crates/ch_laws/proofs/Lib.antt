@@ -17,3 +17,4 @@ pub mod WholeRun
 pub mod AliveRows
 pub mod StartRows
 pub mod OneMade
+pub mod ByVerdicts

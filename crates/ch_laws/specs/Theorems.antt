@@ -1,5 +1,5 @@
 -- The laws of contraction, as statements.
-use Rattle.std.specs.Prelude.{ℕ, ◌≡◌, ◌≢◌, ◌-◌, ◌<◌, ◌≤◌, List, [], ◌∷◌, ◌++◌, length, Some, None, map}
+use Rattle.std.specs.Prelude.{ℕ, ◌≡◌, ◌≢◌, ◌-◌, ◌<◌, ◌≤◌, List, [], ◌∷◌, ◌++◌, length, Option, Some, None, map}
 use Rattle.ch_cost.specs.declared.cost.Cost.{Cost}
 use Rattle.ch_graph.specs.declared.link.Link.{Link}
 use Rattle.ch_graph.specs.Walk.{Along}
@@ -7,6 +7,7 @@ use Rattle.ch_graph.specs.Graph.{Graph, IsGraph, ArcOf, IsDistance, bound_of}
 use Rattle.ch_graph.specs.Hierarchy.{Hierarchy, Chain, IsRiseFall, IsValue, UnfoldsAll, IsWellMade, IsArcOf, IsRight}
 use Rattle.ch_laws.specs.Contraction.{State, IsAlive, Shortcut, IsPlan, IsWitnessed, Puts, contracted, IsNeighbour, Contraction, Step, IsStart, IsReached, IsOver, IsMade}
 use Rattle.ch_laws.specs.Rows.{Row, IsRow, ShowsRemaining, IsChanged, AreRows, AreUpdated, IsStartRow, shown, row_at, state_of}
+use Rattle.ch_laws.specs.Verdicts.{AreRead, AreVerdicts}
 
 -- the hierarchy of a reached state is right
 abbrev pub AlwaysRight : Type 0
@@ -37,6 +38,10 @@ ReachesOn = (g : Graph) (log : List Contraction) (s : State) (e : Contraction) (
 -- shortcuts that may be put in, with a witness for each other pair, make a lawful contraction
 abbrev pub PlanIsLawful : Type 0
 PlanIsLawful = (bound : Cost) (s : State) (v : ℕ) (put : List Shortcut) → IsPlan bound s v put → IsWitnessed bound s v put → Puts bound s v put (contracted s v put)
+
+-- verdicts by rows that are still those of the state are a plan with its witnesses
+abbrev pub VerdictsAreLawful : Type 0
+VerdictsAreLawful = (g : Graph) (log : List Contraction) (s : State) (seen : ℕ → Option Row) (v : ℕ) (put : List Shortcut) → IsGraph g → IsReached g log s → v < s.nodes → AreRead s seen → AreVerdicts (bound_of g) seen v put → IsPlan (bound_of g) s v put × IsWitnessed (bound_of g) s v put
 
 -- the row of a node that is neither contracted nor an alive neighbour of the contracted one stays
 abbrev pub RowKept : Type 0

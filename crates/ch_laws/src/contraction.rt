@@ -1,9 +1,15 @@
-ghost use Rattle.ch_laws.specs.Theorems.{GoesOn, HasRun, PlanIsLawful, ReachesOn};
+ghost use Rattle.ch_laws.specs.Theorems.{GoesOn, HasRun, PlanIsLawful, ReachesOn, VerdictsAreLawful};
 
 /// Shortcuts that may be put in are a lawful contraction where each other pair has a witness. A caller that has tested
 /// them, as the overlay does, has the next state by this. It does nothing when it runs.
 pub fn plan_is_lawful()
     ensures { PlanIsLawful }
+{}
+
+/// Verdicts that were made by rows, however long ago, are a plan with its witnesses where those rows are still the
+/// rows of their nodes; no other row matters. It does nothing when it runs.
+pub fn verdicts_are_lawful()
+    ensures { VerdictsAreLawful }
 {}
 
 /// A reached state stays reached by one more lawful contraction, and the log grows by its entry. It does nothing when

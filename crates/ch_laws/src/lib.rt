@@ -12,6 +12,7 @@ mod rows;
 
 pub use contraction::{
     alive_nodes_can_be_contracted, each_graph_has_a_run, plan_is_lawful, reached_goes_on,
+    verdicts_are_lawful,
 };
 pub use right::{
     made_hierarchy_is_unique, reached_hierarchy_is_right, reached_hierarchy_is_well_made,
