@@ -2,13 +2,8 @@
 use Rattle.std.specs.Prelude.{ℕ, ◌≡◌, ◌≢◌, ◌<◌, ◌⊎◌, ◌↔◌, cond, nat_eq, List, [], ◌∷◌, length, Option, Some, None, AllPairs, Contains, slice_index, slice_index_or}
 use Rattle.ch_cost.specs.declared.cost.Cost.{Cost}
 use Rattle.ch_graph.specs.Graph.{Graph, IsLeastArc}
+pub use Rattle.ch_laws.specs.declared.entry.Entry.{Entry}
 use Rattle.ch_laws.specs.Contraction.{State, StateArc, Before, Remains, IsNeighbour, Shortcut, IsFor, NoShortcut, or_else}
-
--- an arc between the row's node and another
-pub record Entry : Type 0 where
-  pub other : ℕ
-  pub cost : Cost
-  pub middle : Option ℕ
 
 -- the arcs out of a node, those into it, and its rank where it is contracted
 pub record Row : Type 0 where

@@ -6,14 +6,17 @@
 #![tactic(auto)]
 
 mod contraction;
+mod entry;
 mod right;
 mod routes;
 mod rows;
+mod shortcut;
 
 pub use contraction::{
     alive_nodes_can_be_contracted, each_graph_has_a_run, plan_is_lawful, reached_goes_on,
     verdicts_are_lawful,
 };
+pub use entry::Entry;
 pub use right::{
     made_hierarchy_is_unique, reached_hierarchy_is_right, reached_hierarchy_is_well_made,
 };
@@ -23,3 +26,4 @@ pub use rows::{
     rows_of_least_arcs_are_the_start, rows_of_neighbours_change, rows_show_arcs,
     rows_without_rank_are_of_alive_nodes, updated_rows_are_the_next,
 };
+pub use shortcut::Shortcut;
