@@ -1,4 +1,4 @@
--- No least walk repeats a node, so each distance is within the bound; and there is one distance at most.
+-- No least walk repeats a node, so each distance is within the bound; and there is one distance, and one value, at most.
 use Rattle.std.proofs.Common.{ℕ, ◌≡◌, ◌≢◌, ◌+◌, ◌-◌, ◌^◌, ◌<◌, ◌≤◌, ◌⊎◌, List, [], ◌∷◌, length, Option, Some, None, max, All, arith, add-one, ap, subst, refl, inl, inr}
 use Rattle.std.proofs.lemmas.List.Elements.{All-nil, All-cons, All-head, All-tail, All-weaker, All-contains}
 use Rattle.ch_cost.specs.declared.cost.Cost.{Cost}
@@ -7,6 +7,7 @@ use Rattle.ch_cost.specs.Cost.Laws.{arc_above, arc_and_arcs_within, at_most_anti
 use Rattle.ch_graph.specs.declared.road.Road.{Road}
 use Rattle.ch_graph.specs.Walk.{Walk, Walk.stay, Walk.go, IsLeastOrNone, visited}
 use Rattle.ch_graph.specs.Graph.{Graph, IsRoad, IsGraph, ArcOf, heaviest, bound_of, DistanceIsWithinBound, DistanceIsUnique}
+use Rattle.ch_graph.specs.Hierarchy.{HasRiseFall, ValueIsUnique}
 use Rattle.ch_graph.proofs.Walks.{Cheaper, short_or_cheaper}
 
 -- no arc is heavier than the heaviest
@@ -33,6 +34,7 @@ pub record IsSound (g : Graph) (x y : ℕ) (c : Cost) : Type 0 where
   pub from_in : x < g.nodes
   pub to_in : y < g.nodes
 
+-- every arc is so
 pub arc-sound : (g : Graph) → IsGraph g → (x y : ℕ) (c : Cost) → ArcOf g x y c → IsSound g x y c
 arc-sound g is x y c arc =
     let road : IsRoad g.nodes arc.road = All-contains (IsRoad g.nodes) g.arcs arc.road is.roads arc.among in
@@ -75,6 +77,7 @@ within_or_cheaper g is w = elim (few_arcs_or_cheaper g is w) [
   | inr less ↦ inr less
 ]
 
+-- so a distance is within the bound, since nothing is cheaper than it
 pub distance_within_bound : DistanceIsWithinBound
 distance_within_bound g s t c is distance = elim (within_or_cheaper g is distance.0) [
   | inl within ↦ within
@@ -82,11 +85,15 @@ distance_within_bound g s t c is distance = elim (within_or_cheaper g is distanc
 ]
 
 -- there is one least cost, or none
-least_unique : (P : Cost → Type 0) (a b : Option Cost) → IsLeastOrNone P a → IsLeastOrNone P b → a ≡ b
+pub least_unique : (P : Cost → Type 0) (a b : Option Cost) → IsLeastOrNone P a → IsLeastOrNone P b → a ≡ b
 least_unique P (Some c) (Some d) least other = ap (λ (e : Cost). Some e) (at_most_antisym (least.1 d other.0) (other.1 c least.0))
 least_unique P (Some c) None least none_is = absurd (none_is c least.0)
 least_unique P None (Some d) none_is least = absurd (none_is d least.0)
 least_unique P None None none_is other = refl
 
+-- and two nodes have one
 pub distance_unique : DistanceIsUnique
 distance_unique g s t a b first second = least_unique (Walk (ArcOf g) s t) a b first second
+
+pub value_unique : ValueIsUnique
+value_unique h s t a b first second = least_unique (HasRiseFall h s t) a b first second

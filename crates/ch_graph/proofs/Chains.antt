@@ -44,6 +44,7 @@ abbrev pub ChainView : (Link → Type 0) → List Link → ℕ → ℕ → Cost 
 ChainView IsKind [] x z c = (x ≡ z) × (zero_cost ≡ c)
 ChainView IsKind (l ∷ ls) x z c = (d : Cost) × IsKind l × (l.from ≡ x) × Chain IsKind ls l.to z d × (l.cost ⊕ d ≡ c)
 
+-- and each chain is that
 pub chain-view : {IsKind : Link → Type 0} {ls : List Link} {x z : ℕ} {c : Cost} → Chain IsKind ls x z c → ChainView IsKind ls x z c
 chain-view nothing = (refl, refl)
 chain-view (then {d = d} kind from rest) = (d, kind, from, rest, refl)

@@ -38,6 +38,7 @@ module _ {Arc : ℕ → ℕ → Cost → Type 0} where
   pub cheaper-after : {x y z : ℕ} {c d : Cost} → Walk Arc x y c → Cheaper Arc y z d → Cheaper Arc x z (c ⊕ d)
   cheaper-after {c = c} w less = record { cost = c ⊕ less.cost; walk = join w less.walk; below = sum_below_right (at_most_refl c) less.below }
 
+  -- the same with the walk after it
   pub cheaper-before : {x y z : ℕ} {c d : Cost} → Cheaper Arc x y c → Walk Arc y z d → Cheaper Arc x z (c ⊕ d)
   cheaper-before {d = d} less w = record { cost = less.cost ⊕ d; walk = join less.walk w; below = sum_below_left less.below (at_most_refl d) }
 

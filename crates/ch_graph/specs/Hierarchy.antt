@@ -12,6 +12,7 @@ pub record Hierarchy : Type 0 where
   pub links : List Link
   pub bound : Cost
 
+-- the rank of a node
 abbrev pub rank_of : Hierarchy → ℕ → ℕ
 rank_of h x = slice_index h.ranks x
 
@@ -118,3 +119,9 @@ pub record IsRight (g : Graph) (h : Hierarchy) : Type 0 where
   pub value : (s t : ℕ) (c : Option Cost) → s < g.nodes → t < g.nodes → IsDistance g s t c ↔ IsValue h s t c
   pub unfolds : (l : Link) → Contains h.links l → (arcs : List Link) × Unfolds h l arcs
   pub unfolded : (l : Link) (arcs : List Link) → Contains h.links l → Unfolds h l arcs → Chain (IsArcOf g) arcs l.from l.to l.cost
+
+-- Laws
+
+-- two nodes have one value, or none
+abbrev pub ValueIsUnique : Type 0
+ValueIsUnique = (h : Hierarchy) (s t : ℕ) (a b : Option Cost) → IsValue h s t a → IsValue h s t b → a ≡ b

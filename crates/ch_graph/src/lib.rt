@@ -20,6 +20,6 @@ mod step;
 
 pub use graph::Graph;
 pub use hierarchy::{Hierarchy, LinkId};
-pub use laws::{distance_is_unique, distance_is_within_bound};
+pub use laws::{distance_is_unique, distance_is_within_bound, value_is_unique};
 pub use link::Link;
 pub use road::Road;

@@ -59,9 +59,11 @@ module _ {g : Graph} {s : State} (sound : IsSound g s) where
   pub climbing-walk : {x z : ℕ} {c : Cost} → Walk (Climbs s) x z c → Walk (ArcOf g) x z c
   climbing-walk w = along_walks (λ x y c arc. arc-walk sound arc.arc) w
 
+  -- the same downwards
   pub dropping-walk : {x z : ℕ} {c : Cost} → Walk (Drops s) x z c → Walk (ArcOf g) x z c
   dropping-walk w = along_walks (λ x y c arc. arc-walk sound arc.arc) w
 
+  -- and so is a lead
   lead-walk : {x z : ℕ} {c : Cost} → Lead s x z c → Walk (ArcOf g) x z c
   lead-walk {x} {z} lead = subst (λ (c : Cost). Walk (ArcOf g) x z c) (sym lead.sum) (join (remaining-walk sound lead.walk) (dropping-walk lead.fall))
 

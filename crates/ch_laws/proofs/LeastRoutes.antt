@@ -30,6 +30,7 @@ module _ {g : Graph} {h : Hierarchy} (right : IsRight g h) where
       let front : Chain (IsArcOf g) us l.from l.to l.cost = right.unfolded l us view.1 first in
       chain-same view.4 (chain-join (subst (λ n. Chain (IsArcOf g) us n l.to l.cost) view.2 front) (unfolded-all others view.3))
 
+  -- so a least route is a chain of arcs of the graph
   pub route-chain : {s t : ℕ} {c : Cost} {links arcs : List Link} → IsLeastRoute h s t c links arcs → Chain (IsArcOf g) arcs s t c
   route-chain route = unfolded-all route.unfolds (leads-chain route.leads)
 
@@ -48,6 +49,7 @@ few_arcs g is distance w = elim (few_arcs_or_cheaper g is w) [
   | inr less ↦ absurd (below_not_at_most less.below (distance.1 less.cost less.walk))
 ]
 
+-- the law that a least route is short
 pub never_too_long : NeverTooLong
 never_too_long g h s t c links arcs is right from_in to_in route =
     let along = route-along right route in
@@ -55,5 +57,6 @@ never_too_long g h s t c links arcs is right from_in to_in route =
     let same : suc (length (map (λ (l : Link). l.to) arcs)) ≡ suc (length (visited along.0)) = ap (λ (nodes : List ℕ). length nodes) along.1 in
     (route-chain right route, omega (arith, few, same, length-map arcs (λ (l : Link). l.to)))
 
+-- and the law that it is a least walk
 pub route_is_least : RouteIsLeast
 route_is_least g h s t c links arcs is right from_in to_in route = (route-along right route, route-distance right from_in to_in route)

@@ -1,3 +1,4 @@
+pub mod Members
 pub mod Order
 pub mod Steps
 pub mod Sound
@@ -9,3 +10,11 @@ pub mod LeastRoutes
 pub mod Lawful
 pub mod RowChanges
 pub mod RowsShown
+pub mod Pairs
+pub mod NextStep
+pub mod Start
+pub mod WholeRun
+pub mod AliveRows
+pub mod StartRows
+pub mod OneMade
+pub mod ByVerdicts

@@ -14,11 +14,11 @@ use Rattle.ch_graph.specs.Graph.{Graph, IsGraph, bound_of}
 use Rattle.ch_graph.specs.Hierarchy.{Hierarchy, rank_of, IsLink, AreHalves, IsLinkWellMade, IsWellMade}
 use Rattle.ch_graph.proofs.Bound.{bound-within}
 use Rattle.ch_laws.specs.Contraction.{State, StateArc, Before, HasArc, IsOver, IsMade}
-use Rattle.ch_laws.proofs.Order.{place_of}
+use Rattle.ch_laws.proofs.Members.{place_of}
 use Rattle.ch_laws.proofs.Sound.{IsSound, IsSoundArc, IsSplit}
 
 -- numbers below n, each once, are n at most
-few_below : (n : ℕ) (xs : List ℕ) → AllPairs (λ x y. x ≢ y) xs → ((x : ℕ) → Contains xs x → x < n) → length xs ≤ n
+pub few_below : (n : ℕ) (xs : List ℕ) → AllPairs (λ x y. x ≢ y) xs → ((x : ℕ) → Contains xs x → x < n) → length xs ≤ n
 few_below n xs once low = length-le_from_distinct_below xs n (IsDistinct-from_AllPairs Decides-eqb xs once) (λ q among.
     let found = Any-from_list_any (λ x. eqb q x) xs among in
     let same : q ≡ found.1 = grind (arith, nat_tests, found.4) in
@@ -29,7 +29,7 @@ module _ {g : Graph} {s : State} {h : Hierarchy} (sound : IsSound g s) (over : I
   -- Ranks
 
   -- a node's rank is its place in the order
-  rank-place : (x : ℕ) (k : ℕ) → k < length s.order → get_or s.order k 0 ≡ x → rank_of h x ≡ k
+  pub rank-place : (x : ℕ) (k : ℕ) → k < length s.order → get_or s.order k 0 ≡ x → rank_of h x ≡ k
   rank-place x k low here = subst (λ n. rank_of h n ≡ k) here (made.ranks k low)
 
   -- what stands before another node ranks below it
@@ -48,6 +48,7 @@ module _ {g : Graph} {s : State} {h : Hierarchy} (sound : IsSound g s) (over : I
   order-few : length s.order ≤ s.nodes
   order-few = few_below s.nodes s.order sound.once (λ x among. omega (arith, sound.in_range x among, sound.nodes))
 
+  -- a rank is below the number of nodes
   rank-in_range : (x : ℕ) → x < length h.ranks → rank_of h x < length h.ranks
   rank-in_range x low =
       let inside : x < s.nodes = omega (arith, low, made.nodes) in
@@ -56,6 +57,7 @@ module _ {g : Graph} {s : State} {h : Hierarchy} (sound : IsSound g s) (over : I
       let early : place.0 < length s.order = place.1 in
       omega (arith, rank, early, order-few, made.nodes)
 
+  -- and no two nodes share one
   rank-once : (x y : ℕ) → x < y → y < length h.ranks → rank_of h x ≢ rank_of h y
   rank-once x y less low same =
       let x_in : x < s.nodes = omega (arith, less, low, made.nodes) in
@@ -89,6 +91,7 @@ module _ {g : Graph} {s : State} {h : Hierarchy} (sound : IsSound g s) (over : I
   half-link : (x y : ℕ) (c : Cost) (has : HasArc s x y c) → (l : Link) × IsLink h x y l × (l.cost ≡ c)
   half-link x y c has = (record { from = x; to = y; cost = has.arc.cost; middle = has.arc.middle }, record { among = arc-link x y has.arc has.here; from = refl; to = refl }, has.costs)
 
+  -- a link with a middle has halves
   link-halves : (l : Link) (m : ℕ) → l.from < s.nodes → l.to < s.nodes → IsSplit s l.from l.to m l.cost → (a : Link) × (b : Link) × AreHalves h l m a b
   link-halves l m from_in to_in split =
       let first = half-link l.from m split.into split.first in
@@ -106,6 +109,7 @@ module _ {g : Graph} {s : State} {h : Hierarchy} (sound : IsSound g s) (over : I
         },
       )
 
+  -- so each link is well made
   link-well : (l : Link) → Contains h.links l → IsLinkWellMade h l
   link-well l among =
       let is = link-sound l among in

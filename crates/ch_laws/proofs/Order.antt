@@ -1,40 +1,24 @@
 -- The order of contraction: what stands before what, also after one more node.
-use Rattle.std.proofs.Common.{ℕ, zero, suc, ◌≡◌, ◌≢◌, ◌<◌, ◌≤◌, ◌⊎◌, ◌↔◌, List, [], ◌∷◌, ◌++◌, length, get_or, Contains, arith, refl, sym, ◌∙◌, inl, inr}
+use Rattle.std.proofs.Common.{ℕ, ◌≡◌, ◌≢◌, ◌<◌, ◌≤◌, ◌⊎◌, ◌↔◌, List, [], ◌∷◌, ◌++◌, length, get_or, Contains, arith, refl, sym, ◌∙◌, inl, inr}
 use Rattle.std.proofs.lemmas.Bool.{cases_lt}
-use Rattle.std.proofs.lemmas.List.{get_or_default, get_or_append_left, get_or_push, length_push}
+use Rattle.std.proofs.lemmas.List.{get_or_append_left, get_or_push, length_push}
 use Rattle.ch_laws.specs.Contraction.{State, Before, IsAlive}
-
--- Members of lists
-
--- the first element is one
-pub contains_first : {X : Type 0} (x : X) (xs : List X) → Contains (x ∷ xs) x
-contains_first x xs = (0, omega arith, refl)
-
--- what is an element of the rest is one
-pub contains_later : {X : Type 0} (x : X) (xs : List X) (y : X) → Contains xs y → Contains (x ∷ xs) y
-contains_later x xs y h = (suc h.0, omega (arith, h.1), h.2)
-
--- an element is the first, or one of the rest
-contains_at : {X : Type 0} (x : X) (xs : List X) (y : X) (k : ℕ) → k < length (x ∷ xs) → get_or (x ∷ xs) k y ≡ y → (x ≡ y) ⊎ Contains xs y
-contains_at x xs y zero h is = inl is
-contains_at x xs y (suc k) h is = inr (k, omega (arith, h), is)
-
-pub contains_cases : {X : Type 0} (x : X) (xs : List X) (y : X) → Contains (x ∷ xs) y → (x ≡ y) ⊎ Contains xs y
-contains_cases x xs y h = contains_at x xs y h.0 h.1 h.2
-
--- the element at a place of a list of numbers
-pub contains_place : (xs : List ℕ) (k x : ℕ) → k < length xs → get_or xs k 0 ≡ x → Contains xs x
-contains_place xs k x h is = (k, h, get_or_default xs k x 0 h ∙ is)
-
--- and the place of an element
-pub place_of : (xs : List ℕ) (x : ℕ) (h : Contains xs x) → get_or xs h.0 0 ≡ x
-place_of xs x h = get_or_default xs h.0 0 x h.1 ∙ h.2
+use Rattle.ch_laws.proofs.Members.{contains_place, place_of}
 
 -- Nodes in the order
 
 -- what stands before something is in the order
 pub before-contains : {order : List ℕ} {x y : ℕ} → Before order x y → Contains order x
 before-contains {order} {x} b = contains_place order b.place x b.within b.here
+
+-- and it stands before each node that isn't in the order
+pub before-out : (order : List ℕ) (x y : ℕ) → Contains order x → (Contains order y → ⊥) → Before order x y
+before-out order x y among out = record {
+  place = among.0;
+  within = among.1;
+  here = place_of order x among;
+  not_yet = λ k low is. out (contains_place order k y (omega (arith, low, among.1)) is);
+}
 
 -- it stays before when a node is added
 pub before-push : {order : List ℕ} {x y : ℕ} (v : ℕ) → Before order x y → Before (order ++ v ∷ []) x y

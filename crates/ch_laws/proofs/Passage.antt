@@ -54,6 +54,7 @@ module _ {g : Graph} {s : State} (is : IsGraph g) (start : IsStart g s) where
     waits = λ among. absurd (omega (arith, (subst (λ (order : List ℕ). Contains order x) start.order among).1));
   }
 
+  -- an arc of the graph, against the least of its pair
   start-least : (x y : ℕ) (c : Cost) → ArcOf g x y c → (o : Option StateArc) → s.arc x y ≡ o → IsStartArc g x y o → Remains s x y c ⊎ Cheaper (ArcOf g) x y c
   start-least x y c arc None none_is none = absurd (none c arc)
   start-least x y c arc (Some least) here is_least = elim (cases_cost least.cost c) [
@@ -68,6 +69,7 @@ module _ {g : Graph} {s : State} (is : IsGraph g) (start : IsStart g s) where
         })
   ]
 
+  -- an arc of the graph remains at the start, or there is a cheaper walk
   start-arc : (x y : ℕ) (c : Cost) → ArcOf g x y c → Remains s x y c ⊎ Cheaper (ArcOf g) x y c
   start-arc x y c arc = elim (cases_eq x y) [
     | inl same ↦ inr (record { cost = zero_cost; walk = subst (λ n. Walk (ArcOf g) x n zero_cost) same stay; below = (arc-sound g is x y c arc).above })
@@ -85,6 +87,7 @@ module _ {g : Graph} {s : State} (is : IsGraph g) (start : IsStart g s) where
     ]
   ]
 
+  -- and a walk that remains is a passage
   pub start-progress : {x z : ℕ} {c : Cost} → Walk (ArcOf g) x z c → Progress g s x z c
   start-progress {x} {z} {c} w = elim (start-walk w) [
     | inr less ↦ cheaper less
@@ -103,6 +106,7 @@ module _ {g : Graph} {s : State} (is : IsGraph g) (start : IsStart g s) where
 
 -- One contraction
 
+-- the parts of a passage that leaves the contracted node by an arc, in order
 regroup : (a b c d e : Cost) → a ⊕ ((b ⊕ (c ⊕ d)) ⊕ e) ≡ (a ⊕ b) ⊕ (c ⊕ (d ⊕ e))
 regroup a b c d e = simp sum_assoc
 
@@ -111,9 +115,11 @@ module _ {g : Graph} {old new : State} {v : ℕ} {put : List Shortcut} (sound : 
   rise-next : {x z : ℕ} {c : Cost} → Walk (Climbs old) x z c → Walk (Climbs new) x z c
   rise-next w = along_arcs (λ x y c arc. record { arc = has_arc-same (kept_from puts x y (before_not_alive arc.before)) arc.arc; before = before-next sound puts arc.before }) w
 
+  -- the same downwards
   fall-next : {x z : ℕ} {c : Cost} → Walk (Drops old) x z c → Walk (Drops new) x z c
   fall-next w = along_arcs (λ x y c arc. record { arc = has_arc-same (kept_to puts x y (before_not_alive arc.before)) arc.arc; before = before-next sound puts arc.before }) w
 
+  -- so a crest stays
   crest-next : {x z : ℕ} {c : Cost} → Crest old x z c → Crest new x z c
   crest-next crest = record { top = crest.top; up = crest.up; down = crest.down; rise = rise-next crest.rise; fall = fall-next crest.fall; sum = crest.sum }
 
@@ -156,6 +162,7 @@ module _ {g : Graph} {old new : State} {v : ℕ} {put : List Shortcut} (sound : 
         sum = p.sum ∙ ap (λ (c : Cost). p.up ⊕ (c ⊕ p.down)) mid ∙ regroup p.up a lead.mid lead.down p.down;
       })
 
+  -- whatever the walk has become
   pub progress-next : {x z : ℕ} {c : Cost} → IsWithin c (bound_of g) → Progress g old x z c → Progress g new x z c
   progress-next within (cheaper less) = cheaper less
   progress-next within (crests crest) = crests (crest-next crest)
@@ -175,6 +182,7 @@ over-crest : {s : State} → IsOver s → {x z : ℕ} {c : Cost} {first last : �
 over-crest over {first = first} {up = up} {down = down} rise stay fall sum = record { top = first; up = up; down = down; rise = rise; fall = fall; sum = sum ∙ ap (λ (c : Cost). up ⊕ c) (zero_cost-sum down) }
 over-crest over rise (go {x = y} arc more) fall sum = absurd (arc.from_alive.waits (over y arc.from_alive.in_range))
 
+-- so a walk has become a crest, or there is a cheaper one
 pub over-progress : {g : Graph} {s : State} → IsOver s → {x z : ℕ} {c : Cost} → Progress g s x z c → Crest s x z c ⊎ Cheaper (ArcOf g) x z c
 over-progress over (cheaper less) = inr less
 over-progress over (crests crest) = inl crest

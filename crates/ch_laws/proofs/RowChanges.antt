@@ -2,11 +2,11 @@
 use Rattle.std.proofs.Common.{ℕ, ◌≡◌, ◌≢◌, ◌<◌, ◌⊎◌, ◌↔◌, List, length, get_or, Option, Some, Contains, arith, refl, sym, ◌∙◌, ap, subst, inl, inr}
 use Rattle.ch_cost.specs.declared.cost.Cost.{Cost}
 use Rattle.ch_graph.specs.Graph.{Graph, bound_of}
-use Rattle.ch_laws.specs.declared.shortcut.Shortcut.{Shortcut}
-use Rattle.ch_laws.specs.Contraction.{State, StateArc, Before, IsAlive, HasArc, Puts, IsNeighbour}
-use Rattle.ch_laws.specs.declared.entry.Entry.{Entry}
-use Rattle.ch_laws.specs.Rows.{Row, arc_of, IsRow, IsOfShortcut, IsEntryAfter, IsChanged}
-use Rattle.ch_laws.specs.Theorems.{RowKept, RowsChange}
+use Rattle.ch_laws.specs.Contraction.{State, StateArc, Before, IsAlive, HasArc, Shortcut, Puts, IsNeighbour}
+use Rattle.ch_laws.specs.Rows.{Entry, Row, arc_of, IsRow, IsOfShortcut, IsEntryAfter, IsChanged, AreRows, AreUpdated, row_at}
+use Rattle.ch_laws.proofs.NextStep.{cases_neighbour}
+use Rattle.std.proofs.lemmas.Bool.{cases_eq}
+use Rattle.ch_laws.specs.Theorems.{RowKept, RowsChange, RowsGoOn}
 use Rattle.ch_laws.proofs.Order.{before-back, before_not_alive, place-kept, place-last}
 use Rattle.ch_laws.proofs.Steps.{one_arc_there, HasShortcut, find_shortcut, kept_unless_through}
 use Rattle.ch_laws.proofs.Sound.{IsSound, arc-apart, kept_out_of, kept_into, before-next, contracted-before, reached-sound}
@@ -15,6 +15,7 @@ use Rattle.ch_laws.proofs.Sound.{IsSound, arc-apart, kept_out_of, kept_into, bef
 has_arc : {s : State} {x y : ℕ} (e : Entry) → s.arc x y ≡ arc_of e → HasArc s x y e.cost
 has_arc e here = record { arc = record { cost = e.cost; middle = e.middle }; here = here; costs = refl }
 
+-- the arc of an entry
 abbrev the_arc : Entry → StateArc
 the_arc e = record { cost = e.cost; middle = e.middle }
 
@@ -22,9 +23,11 @@ the_arc e = record { cost = e.cost; middle = e.middle }
 same_arc : (d e : Entry) → arc_of d ≡ arc_of e → the_arc d ≡ the_arc e
 same_arc d e same = one_arc_there (arc_of d) (the_arc d) (the_arc e) refl same
 
+-- so they have the same cost
 same_cost : (d e : Entry) → arc_of d ≡ arc_of e → d.cost ≡ e.cost
 same_cost d e same = ap (λ (a : StateArc). a.cost) (same_arc d e same)
 
+-- and the same middle
 same_middle : (d e : Entry) → arc_of d ≡ arc_of e → d.middle ≡ e.middle
 same_middle d e same = ap (λ (a : StateArc). a.middle) (same_arc d e same)
 
@@ -36,6 +39,7 @@ RankIs s x rank = (k : ℕ) → (rank ≡ Some k) ↔ ((k < length s.order) × (
 abbrev OutIs : State → ℕ → Entry → Type 0
 OutIs s x e = (s.arc x e.other ≡ arc_of e) × (Before s.order e.other x → ⊥)
 
+-- the same of an entry into x
 abbrev InnIs : State → ℕ → Entry → Type 0
 InnIs s x e = (s.arc e.other x ≡ arc_of e) × (Before s.order e.other x → ⊥)
 
@@ -72,6 +76,7 @@ module _ {g : Graph} {old new : State} {v : ℕ} {put : List Shortcut} (sound : 
         joined = inr (e.cost, has_arc e at_v);
       }
 
+  -- the same of an arc into x
   inn_neighbour : (x y : ℕ) (e : Entry) → old.arc y x ≡ arc_of e → y ≡ v → (Contains old.order x → ⊥) → IsNeighbour old v x
   inn_neighbour x y e here is_v out =
       let at_v : old.arc v x ≡ arc_of e = subst (λ n. old.arc n x ≡ arc_of e) is_v here in
@@ -80,6 +85,7 @@ module _ {g : Graph} {old new : State} {v : ℕ} {put : List Shortcut} (sound : 
         joined = inl (e.cost, has_arc e at_v);
       }
 
+  -- an entry out of a node that is no neighbour says the same afterwards
   out-kept : (x : ℕ) → (IsNeighbour old v x → ⊥) → (e : Entry) → OutIs old x e ↔ OutIs new x e
   out-kept x far e =
       let same : new.arc x e.other ≡ old.arc x e.other = kept_unless_through puts x e.other (λ c through. far (record { alive = through.first.from_alive; joined = inr (through.into, through.first.arc) })) in (
@@ -93,6 +99,7 @@ module _ {g : Graph} {old new : State} {v : ℕ} {put : List Shortcut} (sound : 
         λ is. (sym same ∙ is.0, λ b. is.1 (before-next sound puts b)),
       )
 
+  -- and so does one into it
   inn-kept : (x : ℕ) → (IsNeighbour old v x → ⊥) → (e : Entry) → InnIs old x e ↔ InnIs new x e
   inn-kept x far e =
       let same : new.arc e.other x ≡ old.arc e.other x = kept_unless_through puts e.other x (λ c through. far (record { alive = through.second.to_alive; joined = inl (through.out, through.second.arc) })) in (
@@ -106,6 +113,7 @@ module _ {g : Graph} {old new : State} {v : ℕ} {put : List Shortcut} (sound : 
         λ is. (sym same ∙ is.0, λ b. is.1 (before-next sound puts b)),
       )
 
+  -- so its row stays
   row-kept : (x : ℕ) (r : Row) → x ≢ v → (IsNeighbour old v x → ⊥) → IsRow old x r → IsRow new x r
   row-kept x r apart far is = record {
     rank = rank-kept x r.rank apart is.rank;
@@ -124,6 +132,7 @@ module _ {g : Graph} {old new : State} {v : ℕ} {put : List Shortcut} (sound : 
     | inr last ↦ absurd (last.2 last.0)
   ]
 
+  -- so its row stays but for the rank
   row-contracted : (r : Row) → IsRow old v r → IsRow new v (record r { rank = Some (length old.order) })
   row-contracted r is = record {
     rank = rank-of_contracted;
@@ -172,6 +181,7 @@ module _ {g : Graph} {old new : State} {v : ℕ} {put : List Shortcut} (sound : 
         | inr last ↦ arc-apart sound through.first.arc (is.joins.0 ∙ last.0)
       ]
 
+  -- the same of the second end
   to_not_before : (u w x : ℕ) (e : Entry) → IsOfShortcut put v u w e → Before new.order w x → ⊥
   to_not_before u w x e is b =
       let through = (puts.plan.allowed is.shortcut is.among).through in
@@ -188,6 +198,7 @@ module _ {g : Graph} {old new : State} {v : ℕ} {put : List Shortcut} (sound : 
     | inr last ↦ other last.0
   ]
 
+  -- the entries out of a neighbour, as they change, are those of the next state
   out-changed : (x : ℕ) (r : Row) → IsAlive old x → x ≢ v → IsRow old x r → (e : Entry) → IsEntryAfter put v x e.other r.out e ↔ OutIs new x e
   out-changed x r alive apart is e = (
     λ after. elim after [
@@ -204,6 +215,7 @@ module _ {g : Graph} {old new : State} {v : ℕ} {put : List Shortcut} (sound : 
     ],
   )
 
+  -- and so are those into it
   inn-changed : (x : ℕ) (r : Row) → IsAlive old x → x ≢ v → IsRow old x r → (e : Entry) → IsEntryAfter put v e.other x r.inn e ↔ InnIs new x e
   inn-changed x r alive apart is e = (
     λ after. elim after [
@@ -220,6 +232,7 @@ module _ {g : Graph} {old new : State} {v : ℕ} {put : List Shortcut} (sound : 
     ],
   )
 
+  -- so its row, changed, is its row in the next state
   row-changed : (x : ℕ) (r q : Row) → IsAlive old x → x ≢ v → IsRow old x r → IsChanged put v x r q → IsRow new x q
   row-changed x r q alive apart is changed = record {
     rank = subst (λ (rank : Option ℕ). RankIs new x rank) (sym changed.rank) (rank-kept x r.rank apart is.rank);
@@ -229,8 +242,33 @@ module _ {g : Graph} {old new : State} {v : ℕ} {put : List Shortcut} (sound : 
     inn = λ e. chain_iff (changed.inn e) (inn-changed x r alive apart is e);
   }
 
+-- the law of rows that stay
 pub row_kept : RowKept
 row_kept g log old new v put x r is reached puts apart far row = row-kept (reached-sound is reached) puts x r apart far row
 
+-- the law of rows that change
 pub rows_change : RowsChange
 rows_change g log old new v put is reached puts = (λ r row. row-contracted (reached-sound is reached) puts r row, λ x r q alive apart row changed. row-changed (reached-sound is reached) puts x r q alive apart row changed)
+
+-- all rows
+rows-next : {g : Graph} {s next : State} {v : ℕ} {put : List Shortcut} {old new : List Row} → IsSound g s → Puts (bound_of g) s v put next → AreRows s old → AreUpdated s put v old new → AreRows next new
+rows-next {g} {s} {next} {v} {put} {old} {new} sound puts are updated = record {
+  many = updated.many ∙ are.many ∙ sym puts.nodes;
+  each = λ x low.
+      let was : IsRow s x (row_at old x) = are.each x (omega (arith, low, puts.nodes)) in
+      elim (cases_eq v x) [
+        | inl same ↦
+            let row : IsRow next v (record (row_at old v) { rank = Some (length s.order) }) = row-contracted sound puts (row_at old v) (are.each v puts.plan.alive.in_range) in
+            subst (λ n. IsRow next n (row_at new n)) same (subst (λ (r : Row). IsRow next v r) (sym updated.contracted) row)
+        | inr other ↦
+            let apart : x ≢ v = λ same. other (sym same) in
+            elim (cases_neighbour s v x) [
+              | inl near ↦ row-changed sound puts x (row_at old x) (row_at new x) near.alive apart was (updated.neighbours x near)
+              | inr far ↦ subst (λ (r : Row). IsRow next x r) (sym (updated.others x apart far)) (row-kept sound puts x (row_at old x) apart far was)
+            ]
+      ];
+}
+
+-- and the law of all rows
+pub rows_go_on : RowsGoOn
+rows_go_on g log s next v put old new is reached puts are updated = rows-next (reached-sound is reached) puts are updated

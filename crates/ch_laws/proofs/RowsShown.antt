@@ -1,14 +1,13 @@
 -- The rows of a state show each of its arcs.
-use Rattle.std.proofs.Common.{ℕ, ◌≡◌, ◌≢◌, ◌<◌, ◌≤◌, ◌⊎◌, true, false, nat_eq, List, [], ◌∷◌, length, Option, Some, None, Contains, arith, refl, sym, ◌∙◌, ap, subst, inl, inr}
+use Rattle.std.proofs.Common.{ℕ, ◌≡◌, ◌≢◌, ◌≤◌, ◌⊎◌, true, false, nat_eq, List, [], ◌∷◌, length, Option, Some, None, Contains, arith, refl, sym, ◌∙◌, ap, subst, inl, inr}
 use Rattle.std.proofs.lemmas.Bool.{cases_eq, cases_lt}
 use Rattle.std.proofs.lemmas.Bool.Decides.{nat_tests}
 use Rattle.std.proofs.lemmas.List.{get_or_past}
 use Rattle.ch_graph.specs.Graph.{Graph}
 use Rattle.ch_laws.specs.Contraction.{State, StateArc, Before, or_else}
-use Rattle.ch_laws.specs.declared.entry.Entry.{Entry}
-use Rattle.ch_laws.specs.Rows.{Row, arc_of, arc_to, shown, row_at, IsRow}
+use Rattle.ch_laws.specs.Rows.{Entry, Row, arc_of, arc_to, shown, row_at, IsRow, AreRows}
 use Rattle.ch_laws.specs.Theorems.{RowsShow, RowsAreState}
-use Rattle.ch_laws.proofs.Order.{contains_first, contains_later, contains_cases, contains_place}
+use Rattle.ch_laws.proofs.Members.{contains_first, contains_later, contains_cases, contains_place}
 use Rattle.ch_laws.proofs.Sound.{IsSound, reached-sound}
 
 -- two nodes don't both stand before each other
@@ -24,23 +23,24 @@ before_not_both first second = elim (cases_lt second.place first.place) [
 arc_to-first : (y : ℕ) (e : Entry) (es : List Entry) → e.other ≡ y → arc_to y (e ∷ es) ≡ arc_of e
 arc_to-first y e es same = let test : nat_eq e.other y ≡ true = grind (arith, nat_tests, same) in rw test refl
 
+-- the same where it is for another
 arc_to-later : (y : ℕ) (e : Entry) (es : List Entry) → e.other ≢ y → arc_to y (e ∷ es) ≡ arc_to y es
 arc_to-later y e es other = let test : nat_eq e.other y ≡ false = grind (arith, nat_tests, other) in rw test refl
 
 -- entries of other nodes have no arc for the node
-arc_to-none : (y : ℕ) (es : List Entry) → ((e : Entry) → Contains es e → e.other ≢ y) → arc_to y es ≡ None
+pub arc_to-none : (y : ℕ) (es : List Entry) → ((e : Entry) → Contains es e → e.other ≢ y) → arc_to y es ≡ None
 arc_to-none y [] apart = refl
 arc_to-none y (e ∷ es) apart = arc_to-later y e es (apart e (contains_first e es)) ∙ arc_to-none y es (λ d among. apart d (contains_later e es d among))
 
 -- an entry for the node, whose arc is what the list has for it
-record HasEntry (y : ℕ) (es : List Entry) : Type 0 where
-  entry : Entry
-  among : Contains es entry
-  other : entry.other ≡ y
-  here : arc_to y es ≡ arc_of entry
+pub record HasEntry (y : ℕ) (es : List Entry) : Type 0 where
+  pub entry : Entry
+  pub among : Contains es entry
+  pub other : entry.other ≡ y
+  pub here : arc_to y es ≡ arc_of entry
 
 -- a list has an entry for the node, or none
-find_entry : (y : ℕ) (es : List Entry) → HasEntry y es ⊎ ((e : Entry) → Contains es e → e.other ≢ y)
+pub find_entry : (y : ℕ) (es : List Entry) → HasEntry y es ⊎ ((e : Entry) → Contains es e → e.other ≢ y)
 find_entry y [] = inr (λ e among. absurd (omega (arith, among.1)))
 find_entry y (e ∷ es) = elim (cases_eq e.other y) [
   | inl same ↦ inl (record { entry = e; among = contains_first e es; other = same; here = arc_to-first y e es same })
@@ -63,6 +63,7 @@ module _ {s : State} {x y : ℕ} {q r : Row} (row_x : IsRow s x q) (row_y : IsRo
       let at_y : s.arc x y ≡ arc_of found.entry = subst (λ n. s.arc x n ≡ arc_of found.entry) found.other here in
       at_y ∙ sym (ap (λ (o : Option StateArc). or_else o (arc_to x r.inn)) found.here)
 
+  -- and so is what the row of y has for x, where that of x has none
   by_inn : arc_to y q.out ≡ None → HasEntry x r.inn → s.arc x y ≡ shown q r x y
   by_inn none found =
       let here : s.arc found.entry.other y ≡ arc_of found.entry = ((row_y.inn found.entry).0 found.among).0 in
@@ -78,6 +79,7 @@ module _ {s : State} {x y : ℕ} {q r : Row} (row_x : IsRow s x q) (row_y : IsRo
       let not_x : Before s.order x y → ⊥ = λ b. no_out out ((row_x.out out).1 (here, λ back. before_not_both b back)) refl in
       absurd (no_inn into ((row_y.inn into).1 (here, not_x)) refl)
 
+  -- so the rows show the arc
   pub arc-shown : s.arc x y ≡ shown q r x y
   arc-shown = elim (find_entry y q.out) [
     | inl found ↦ by_out found
@@ -91,6 +93,7 @@ module _ {s : State} {x y : ℕ} {q r : Row} (row_x : IsRow s x q) (row_y : IsRo
         ]
   ]
 
+-- the law of two rows
 pub rows_show : RowsShow
 rows_show g log s x y q r is reached row_x row_y = arc-shown row_x row_y
 
@@ -106,18 +109,20 @@ empty-row {g} {s} sound x past = record {
   inn = λ e. (λ among. absurd (omega (arith, among.1)), λ h. absurd (omega (arith, past, (sound.arcs e.other x (record { cost = e.cost; middle = e.middle }) h.0).to_in)));
 }
 
-every-row : {g : Graph} {s : State} → IsSound g s → (rows : List Row) → length rows ≡ g.nodes → ((x : ℕ) → x < g.nodes → IsRow s x (row_at rows x)) → (x : ℕ) → IsRow s x (row_at rows x)
-every-row {g} {s} sound rows many are x = elim (cases_lt x g.nodes) [
-  | inl low ↦ are x low
-  | inr past ↦ subst (λ (r : Row). IsRow s x r) (sym (get_or_past rows x (record { out = []; inn = []; rank = None }) (omega (arith, past, many)))) (empty-row sound x past)
+-- so each number has the row that the list has for it
+every-row : {g : Graph} {s : State} {rows : List Row} → IsSound g s → AreRows s rows → (x : ℕ) → IsRow s x (row_at rows x)
+every-row {g} {s} {rows} sound are x = elim (cases_lt x s.nodes) [
+  | inl low ↦ are.each x low
+  | inr past ↦ subst (λ (r : Row). IsRow s x r) (sym (get_or_past rows x (record { out = []; inn = []; rank = None }) (omega (arith, past, are.many)))) (empty-row sound x (omega (arith, past, sound.nodes)))
 ]
 
 -- states with the same nodes, order and arcs are the same
 same_state : (nodes : ℕ) (arc : ℕ → ℕ → Option StateArc) (s : State) → nodes ≡ s.nodes → ((x y : ℕ) → s.arc x y ≡ arc x y) → record { nodes = nodes; order = s.order; arc = arc } ≡ s
 same_state nodes arc s same arcs = λ i. record { nodes = same i; order = s.order; arc = λ x y. (sym (arcs x y)) i }
 
+-- the law of all rows
 pub rows_are_state : RowsAreState
-rows_are_state g log s rows is reached many are =
+rows_are_state g log s rows is reached are =
     let sound = reached-sound is reached in
-    let every = every-row sound rows many are in
-    same_state (length rows) (λ x y. shown (row_at rows x) (row_at rows y) x y) s (many ∙ sym sound.nodes) (λ x y. arc-shown (every x) (every y))
+    let every = every-row sound are in
+    same_state (length rows) (λ x y. shown (row_at rows x) (row_at rows y) x y) s are.many (λ x y. arc-shown (every x) (every y))

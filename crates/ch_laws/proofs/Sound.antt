@@ -68,6 +68,7 @@ module _ {g : Graph} {s : State} (sound : IsSound g s) where
 
 -- The start
 
+-- the least arc of a pair is sound
 start-arc : (g : Graph) (s : State) → IsGraph g → (x y : ℕ) → x ≢ y → (arc : StateArc) → IsStartArc g x y (Some arc) → IsSoundArc g s x y arc
 start-arc g s is x y apart arc least =
     let sound = arc-sound g is x y arc.cost least.0.0 in
@@ -82,6 +83,7 @@ start-arc g s is x y apart arc least =
       split = λ m some. let none : arc.middle ≡ None = least.1 in absurd (cc);
     }
 
+-- so the start is
 pub start-sound : (g : Graph) (s : State) → IsGraph g → IsStart g s → IsSound g s
 start-sound g s is start = record {
   nodes = start.nodes;
@@ -102,6 +104,7 @@ module _ {g : Graph} {old new : State} {v : ℕ} {put : List Shortcut} (sound : 
   pub kept_out_of : (y : ℕ) → new.arc v y ≡ old.arc v y
   kept_out_of y = kept_unless_through puts v y (λ c through. arc-apart sound through.first.arc refl)
 
+  -- the same of the arcs into it
   pub kept_into : (x : ℕ) → new.arc x v ≡ old.arc x v
   kept_into x = kept_unless_through puts x v (λ c through. arc-apart sound through.second.arc refl)
 

@@ -4,9 +4,8 @@ use Rattle.std.proofs.lemmas.Bool.{cases_eq}
 use Rattle.std.proofs.lemmas.List.Elements.{Contains-append_left, Contains-push, Contains-push_cases}
 use Rattle.ch_cost.specs.declared.cost.Cost.{Cost}
 use Rattle.ch_cost.specs.Cost.{◌≺◌, IsWithin}
-use Rattle.ch_laws.specs.declared.shortcut.Shortcut.{Shortcut}
-use Rattle.ch_laws.specs.Contraction.{State, StateArc, IsAlive, HasArc, Through, IsFor, NoShortcut, Puts}
-use Rattle.ch_laws.proofs.Order.{contains_first, contains_later, contains_cases}
+use Rattle.ch_laws.specs.Contraction.{State, StateArc, IsAlive, HasArc, Through, Shortcut, IsFor, NoShortcut, Puts}
+use Rattle.ch_laws.proofs.Members.{contains_first, contains_later, contains_cases}
 
 -- a pair has one arc
 pub one_arc_there : (o : Option StateArc) (a b : StateArc) → o ≡ Some a → o ≡ Some b → a ≡ b
@@ -27,9 +26,11 @@ pub record HasShortcut (put : List Shortcut) (u w : ℕ) : Type 0 where
   pub among : Contains put shortcut
   pub joins : IsFor shortcut u w
 
+-- a shortcut of the rest is one of the list
 later_shortcut : (p : Shortcut) {put : List Shortcut} {u w : ℕ} → HasShortcut put u w → HasShortcut (p ∷ put) u w
 later_shortcut p {put} h = record { shortcut = h.shortcut; among = contains_later p put h.shortcut h.among; joins = h.joins }
 
+-- a pair without shortcut in the rest, for which the first isn't, has none
 not_first : (p : Shortcut) (put : List Shortcut) (u w : ℕ) → (IsFor p u w → ⊥) → NoShortcut put u w → NoShortcut (p ∷ put) u w
 not_first p put u w apart none q among joins = elim (contains_cases p put q among) [
   | inl same ↦ apart (subst (λ (r : Shortcut). IsFor r u w) (sym same) joins)
@@ -59,6 +60,7 @@ pub record IsPut (bound : Cost) (old : State) (v : ℕ) (new : State) (x y : ℕ
   pub within : IsWithin arc.cost bound
   pub less : (c : Cost) → HasArc old x y c → arc.cost ≺ c
 
+-- a shortcut of the list is put in for its pair
 put_there : {bound : Cost} {old new : State} {v : ℕ} {put : List Shortcut} → Puts bound old v put new → (p : Shortcut) → Contains put p → IsPut bound old v new p.from p.to
 put_there {v = v} puts p among =
     let allowed = puts.plan.allowed p among in
@@ -92,6 +94,7 @@ kept_unless_through puts x y not = elim (pair_cases puts x y) [
 pub kept_from : {bound : Cost} {old new : State} {v : ℕ} {put : List Shortcut} → Puts bound old v put new → (x y : ℕ) → (IsAlive old x → ⊥) → new.arc x y ≡ old.arc x y
 kept_from puts x y gone = kept_unless_through puts x y (λ c through. gone through.first.from_alive)
 
+-- the same of an arc into it
 pub kept_to : {bound : Cost} {old new : State} {v : ℕ} {put : List Shortcut} → Puts bound old v put new → (x y : ℕ) → (IsAlive old y → ⊥) → new.arc x y ≡ old.arc x y
 kept_to puts x y gone = kept_unless_through puts x y (λ c through. gone through.second.to_alive)
 

@@ -46,6 +46,7 @@ module _ {g : Graph} {s : State} {h : Hierarchy} (sound : IsSound g s) (over : I
       let l : Link = record { from = x; to = y; cost = arc.arc.arc.cost; middle = arc.arc.arc.middle } in
       chain-before l (record { among = arc-link sound over made x y arc.arc.arc arc.arc.here; rises = before-rank sound over made arc.before low }) refl arc.arc.costs (rise-chain more)
 
+  -- the same downwards
   fall-chain : {x z : ℕ} {c : Cost} → Walk (Drops s) x z c → HasChain (IsFalling h) x z c
   fall-chain stay = record { links = []; chain = nothing }
   fall-chain (go {x = x} {y = y} arc more) =
@@ -100,6 +101,7 @@ module _ {g : Graph} {log : List Contraction} {s : State} {h : Hierarchy} (is : 
         ]
       ])
 
+  -- so distances and values are the same
   value-same : (x z : ℕ) (c : Option Cost) → IsDistance g x z c ↔ IsValue h x z c
   value-same x z (Some c) = (
     λ distance.
@@ -118,6 +120,7 @@ module _ {g : Graph} {log : List Contraction} {s : State} {h : Hierarchy} (is : 
     λ none c w. let found = no_dearer c x z w in none found.cost found.rise_fall,
   )
 
+-- the law that the hierarchy is right
 pub always_right : AlwaysRight
 always_right g log s h is reached over made =
     let sound = reached-sound is reached in
@@ -129,5 +132,6 @@ always_right g log s h is reached over made =
       unfolded = λ l arcs among unfolds. unfolded-chain sound over made unfolds among;
     }
 
+-- and that it is well made
 pub always_well_made : AlwaysWellMade
 always_well_made g log s h is reached over made = made-well (reached-sound is reached) over made is

@@ -4,8 +4,8 @@ use Rattle.ch_cost.specs.declared.cost.Cost.{Cost}
 use Rattle.ch_cost.specs.Cost.{◌⊕◌, ◌≼◌, ◌≺◌, IsWithin}
 use Rattle.ch_graph.specs.declared.link.Link.{Link}
 use Rattle.ch_graph.specs.Walk.{Walk}
+pub use Rattle.ch_laws.specs.declared.shortcut.Shortcut.{Shortcut}
 use Rattle.ch_graph.specs.Graph.{Graph, ArcOf, IsLeastArc, bound_of}
-use Rattle.ch_laws.specs.declared.shortcut.Shortcut.{Shortcut}
 use Rattle.ch_graph.specs.Hierarchy.{Hierarchy, ComesBefore, rank_of}
 
 -- States
@@ -80,6 +80,7 @@ pub record HasWitness (s : State) (v u w : ℕ) (sum : Cost) : Type 0 where
   pub walk : Walk (Avoids s v) u w cost
   pub at_most : cost ≼ sum
 
+-- the shortcut is from u to w
 abbrev pub IsFor : Shortcut → ℕ → ℕ → Type 0
 IsFor p u w = (p.from ≡ u) × (p.to ≡ w)
 

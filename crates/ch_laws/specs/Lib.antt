@@ -1,3 +1,4 @@
 pub mod Contraction
 pub mod Rows
 pub mod Theorems
+pub mod Verdicts

@@ -1,9 +1,9 @@
 -- The rows of a state: what it has of each node, as lists.
 use Rattle.std.specs.Prelude.{ℕ, ◌≡◌, ◌≢◌, ◌<◌, ◌⊎◌, ◌↔◌, cond, nat_eq, List, [], ◌∷◌, length, Option, Some, None, AllPairs, Contains, slice_index, slice_index_or}
 use Rattle.ch_cost.specs.declared.cost.Cost.{Cost}
-use Rattle.ch_laws.specs.declared.entry.Entry.{Entry}
-use Rattle.ch_laws.specs.declared.shortcut.Shortcut.{Shortcut}
-use Rattle.ch_laws.specs.Contraction.{State, StateArc, Before, IsFor, NoShortcut, or_else}
+use Rattle.ch_graph.specs.Graph.{Graph, IsLeastArc}
+pub use Rattle.ch_laws.specs.declared.entry.Entry.{Entry}
+use Rattle.ch_laws.specs.Contraction.{State, StateArc, Before, Remains, IsNeighbour, Shortcut, IsFor, NoShortcut, or_else}
 
 -- the arcs out of a node, those into it, and its rank where it is contracted
 pub record Row : Type 0 where
@@ -27,6 +27,21 @@ pub record IsRow (s : State) (x : ℕ) (r : Row) : Type 0 where
   pub out : (e : Entry) → Contains r.out e ↔ ((s.arc x e.other ≡ arc_of e) × (Before s.order e.other x → ⊥))
   pub inn : (e : Entry) → Contains r.inn e ↔ ((s.arc e.other x ≡ arc_of e) × (Before s.order e.other x → ⊥))
 
+-- an entry of the list is for y and costs c
+pub record Lists (entries : List Entry) (y : ℕ) (c : Cost) : Type 0 where
+  pub entry : Entry
+  pub among : Contains entries entry
+  pub other : entry.other ≡ y
+  pub costs : entry.cost ≡ c
+
+-- The row shows the remaining graph at x: it has no rank, and its entries are the arcs to and from alive nodes, so
+-- those that it names are the neighbours.
+pub record ShowsRemaining (s : State) (x : ℕ) (r : Row) : Type 0 where
+  pub unranked : r.rank ≡ None
+  pub out : (y : ℕ) (c : Cost) → Remains s x y c ↔ Lists r.out y c
+  pub inn : (y : ℕ) (c : Cost) → Remains s y x c ↔ Lists r.inn y c
+  pub neighbours : (y : ℕ) → IsNeighbour s x y ↔ (((c : Cost) × Lists r.out y c) ⊎ ((c : Cost) × Lists r.inn y c))
+
 -- the arc that a list of entries has for this other node
 abbrev pub arc_to : ℕ → List Entry → Option StateArc
 arc_to y [] = None
@@ -43,6 +58,20 @@ row_at rows x = slice_index_or rows x (record { out = []; inn = []; rank = None 
 -- the state that these rows and this order show
 abbrev pub state_of : List Row → List ℕ → State
 state_of rows order = record { nodes = length rows; order = order; arc = λ x y. shown (row_at rows x) (row_at rows y) x y }
+
+-- the list has the row of each node
+pub record AreRows (s : State) (rows : List Row) : Type 0 where
+  pub many : length rows ≡ s.nodes
+  pub each : (x : ℕ) → x < s.nodes → IsRow s x (row_at rows x)
+
+-- The row of x before any contraction: the least arc to each other node that it has an arc to, and the least from each
+-- that it has one from, all without a middle.
+pub record IsStartRow (g : Graph) (x : ℕ) (r : Row) : Type 0 where
+  pub rank : r.rank ≡ None
+  pub out_rises : Rises r.out
+  pub inn_rises : Rises r.inn
+  pub out : (e : Entry) → Contains r.out e ↔ ((x ≢ e.other) × IsLeastArc g x e.other e.cost × (e.middle ≡ None))
+  pub inn : (e : Entry) → Contains r.inn e ↔ ((x ≢ e.other) × IsLeastArc g e.other x e.cost × (e.middle ≡ None))
 
 -- the entry tells of a shortcut from u to w with the middle v
 pub record IsOfShortcut (put : List Shortcut) (v u w : ℕ) (e : Entry) : Type 0 where
@@ -63,3 +92,11 @@ pub record IsChanged (put : List Shortcut) (v x : ℕ) (old new : Row) : Type 0 
   pub inn_rises : Rises new.inn
   pub out : (e : Entry) → Contains new.out e ↔ IsEntryAfter put v x e.other old.out e
   pub inn : (e : Entry) → Contains new.inn e ↔ IsEntryAfter put v e.other x old.inn e
+
+-- How a contraction of v changes the list of all rows: v gets its rank, its neighbours' rows change, and the others
+-- stay.
+pub record AreUpdated (s : State) (put : List Shortcut) (v : ℕ) (old new : List Row) : Type 0 where
+  pub many : length new ≡ length old
+  pub contracted : row_at new v ≡ record (row_at old v) { rank = Some (length s.order) }
+  pub neighbours : (x : ℕ) → IsNeighbour s v x → IsChanged put v x (row_at old x) (row_at new x)
+  pub others : (x : ℕ) → x ≢ v → (IsNeighbour s v x → ⊥) → row_at new x ≡ row_at old x

@@ -1,13 +1,13 @@
 -- The laws of contraction, as statements.
-use Rattle.std.specs.Prelude.{ℕ, ◌≡◌, ◌≢◌, ◌-◌, ◌<◌, ◌≤◌, List, [], ◌∷◌, ◌++◌, length, Some, map}
+use Rattle.std.specs.Prelude.{ℕ, ◌≡◌, ◌≢◌, ◌-◌, ◌<◌, ◌≤◌, List, [], ◌∷◌, ◌++◌, length, Option, Some, None, map}
 use Rattle.ch_cost.specs.declared.cost.Cost.{Cost}
 use Rattle.ch_graph.specs.declared.link.Link.{Link}
 use Rattle.ch_graph.specs.Walk.{Along}
 use Rattle.ch_graph.specs.Graph.{Graph, IsGraph, ArcOf, IsDistance, bound_of}
 use Rattle.ch_graph.specs.Hierarchy.{Hierarchy, Chain, IsRiseFall, IsValue, UnfoldsAll, IsWellMade, IsArcOf, IsRight}
-use Rattle.ch_laws.specs.declared.shortcut.Shortcut.{Shortcut}
-use Rattle.ch_laws.specs.Contraction.{State, IsAlive, IsPlan, IsWitnessed, Puts, contracted, IsNeighbour, Contraction, Step, IsReached, IsOver, IsMade}
-use Rattle.ch_laws.specs.Rows.{Row, IsRow, IsChanged, shown, row_at, state_of}
+use Rattle.ch_laws.specs.Contraction.{State, IsAlive, Shortcut, IsPlan, IsWitnessed, Puts, contracted, IsNeighbour, Contraction, Step, IsStart, IsReached, IsOver, IsMade}
+use Rattle.ch_laws.specs.Rows.{Row, IsRow, ShowsRemaining, IsChanged, AreRows, AreUpdated, IsStartRow, shown, row_at, state_of}
+use Rattle.ch_laws.specs.Verdicts.{AreRead, AreVerdicts}
 
 -- the hierarchy of a reached state is right
 abbrev pub AlwaysRight : Type 0
@@ -39,6 +39,10 @@ ReachesOn = (g : Graph) (log : List Contraction) (s : State) (e : Contraction) (
 abbrev pub PlanIsLawful : Type 0
 PlanIsLawful = (bound : Cost) (s : State) (v : ℕ) (put : List Shortcut) → IsPlan bound s v put → IsWitnessed bound s v put → Puts bound s v put (contracted s v put)
 
+-- verdicts by rows that are still those of the state are a plan with its witnesses
+abbrev pub VerdictsAreLawful : Type 0
+VerdictsAreLawful = (g : Graph) (log : List Contraction) (s : State) (seen : ℕ → Option Row) (v : ℕ) (put : List Shortcut) → IsGraph g → IsReached g log s → v < s.nodes → AreRead s seen → AreVerdicts (bound_of g) seen v put → IsPlan (bound_of g) s v put × IsWitnessed (bound_of g) s v put
+
 -- the row of a node that is neither contracted nor an alive neighbour of the contracted one stays
 abbrev pub RowKept : Type 0
 RowKept = (g : Graph) (log : List Contraction) (old new : State) (v : ℕ) (put : List Shortcut) (x : ℕ) (r : Row) → IsGraph g → IsReached g log old → Puts (bound_of g) old v put new → x ≢ v → (IsNeighbour old v x → ⊥) → IsRow old x r → IsRow new x r
@@ -47,10 +51,38 @@ RowKept = (g : Graph) (log : List Contraction) (old new : State) (v : ℕ) (put 
 abbrev pub RowsChange : Type 0
 RowsChange = (g : Graph) (log : List Contraction) (old new : State) (v : ℕ) (put : List Shortcut) → IsGraph g → IsReached g log old → Puts (bound_of g) old v put new → ((r : Row) → IsRow old v r → IsRow new v (record r { rank = Some (length old.order) })) × ((x : ℕ) (r q : Row) → IsAlive old x → x ≢ v → IsRow old x r → IsChanged put v x r q → IsRow new x q)
 
+-- the row of an alive node shows the remaining graph there
+abbrev pub RowOfAlive : Type 0
+RowOfAlive = (g : Graph) (log : List Contraction) (s : State) (x : ℕ) (r : Row) → IsGraph g → IsReached g log s → IsRow s x r → IsAlive s x → ShowsRemaining s x r
+
+-- and a node whose row has no rank is alive
+abbrev pub RowTellsAlive : Type 0
+RowTellsAlive = (s : State) (x : ℕ) (r : Row) → x < s.nodes → IsRow s x r → r.rank ≡ None → IsAlive s x
+
 -- the rows of two nodes show the arc between them
 abbrev pub RowsShow : Type 0
 RowsShow = (g : Graph) (log : List Contraction) (s : State) (x y : ℕ) (q r : Row) → IsGraph g → IsReached g log s → IsRow s x q → IsRow s y r → s.arc x y ≡ shown q r x y
 
 -- so the rows of all nodes, with the order, are the state
 abbrev pub RowsAreState : Type 0
-RowsAreState = (g : Graph) (log : List Contraction) (s : State) (rows : List Row) → IsGraph g → IsReached g log s → length rows ≡ g.nodes → ((x : ℕ) → x < g.nodes → IsRow s x (row_at rows x)) → state_of rows s.order ≡ s
+RowsAreState = (g : Graph) (log : List Contraction) (s : State) (rows : List Row) → IsGraph g → IsReached g log s → AreRows s rows → state_of rows s.order ≡ s
+
+-- the rows of least arcs are those of a start
+abbrev pub RowsStart : Type 0
+RowsStart = (g : Graph) (rows : List Row) → IsGraph g → length rows ≡ g.nodes → ((x : ℕ) → x < g.nodes → IsStartRow g x (row_at rows x)) → IsStart g (state_of rows []) × AreRows (state_of rows []) rows
+
+-- and rows that are updated are those of the next state
+abbrev pub RowsGoOn : Type 0
+RowsGoOn = (g : Graph) (log : List Contraction) (s next : State) (v : ℕ) (put : List Shortcut) (old new : List Row) → IsGraph g → IsReached g log s → Puts (bound_of g) s v put next → AreRows s old → AreUpdated s put v old new → AreRows next new
+
+-- each alive node of a reached state can be contracted next
+abbrev pub GoesOn : Type 0
+GoesOn = (g : Graph) (log : List Contraction) (s : State) (v : ℕ) → IsGraph g → IsReached g log s → IsAlive s v → (e : Contraction) × (new : State) × Step (bound_of g) s e new × (e.node ≡ v)
+
+-- contractions of each graph go on to the end, and a hierarchy is made
+abbrev pub HasRun : Type 0
+HasRun = (g : Graph) → IsGraph g → (log : List Contraction) × (s : State) × (h : Hierarchy) × IsReached g log s × IsOver s × IsMade g s h
+
+-- a state that is over has one hierarchy
+abbrev pub MadeIsUnique : Type 0
+MadeIsUnique = (g : Graph) (log : List Contraction) (s : State) (h k : Hierarchy) → IsGraph g → IsReached g log s → IsOver s → IsMade g s h → IsMade g s k → h ≡ k

@@ -1,4 +1,4 @@
-ghost use Rattle.ch_laws.specs.Theorems.{RowKept, RowsAreState, RowsChange, RowsShow};
+ghost use Rattle.ch_laws.specs.Theorems.{RowKept, RowOfAlive, RowTellsAlive, RowsAreState, RowsChange, RowsGoOn, RowsShow, RowsStart};
 
 /// A contraction leaves the row of each node but the contracted one and its neighbours. It does nothing when it runs.
 pub fn row_of_others_stays()
@@ -11,6 +11,17 @@ pub fn rows_of_neighbours_change()
     ensures { RowsChange }
 {}
 
+/// The row of an alive node has no rank, and its entries are the arcs of the remaining graph there. It does nothing
+/// when it runs.
+pub fn rows_of_alive_nodes_show_what_remains()
+    ensures { RowOfAlive }
+{}
+
+/// A node whose row has no rank is alive. It does nothing when it runs.
+pub fn rows_without_rank_are_of_alive_nodes()
+    ensures { RowTellsAlive }
+{}
+
 /// Two nodes' rows show whether there is an arc between them, and which. It does nothing when it runs.
 pub fn rows_show_arcs()
     ensures { RowsShow }
@@ -19,4 +30,16 @@ pub fn rows_show_arcs()
 /// The rows of all nodes and the order of contraction are the state. It does nothing when it runs.
 pub fn rows_are_the_state()
     ensures { RowsAreState }
+{}
+
+/// Rows of least arcs, without middles, are the rows of the state before any contraction. It does nothing when it
+/// runs.
+pub fn rows_of_least_arcs_are_the_start()
+    ensures { RowsStart }
+{}
+
+/// The rows of all nodes, changed as told where a contraction touches them, are the rows of the next state. It does
+/// nothing when it runs.
+pub fn updated_rows_are_the_next()
+    ensures { RowsGoOn }
 {}

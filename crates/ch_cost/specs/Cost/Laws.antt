@@ -123,6 +123,12 @@ within_refl a = record { weight = omega arith }
 pub within_trans : {a b c : Cost} → IsWithin a b → IsWithin b c → IsWithin a c
 within_trans h k = record { weight = omega (arith, h.weight, k.weight) }
 
+pub cases_within : (c bound : Cost) → IsWithin c bound ⊎ (IsWithin c bound → ⊥)
+cases_within c bound = elim (cases_lt bound.weight c.weight) [
+  | inl h ↦ inr (λ k. omega (arith, h, k.weight))
+  | inr h ↦ inl (record { weight = h })
+]
+
 pub zero_cost_within : (bound : Cost) → IsWithin zero_cost bound
 unfolding zero_cost
 zero_cost_within bound = record { weight = omega arith }
