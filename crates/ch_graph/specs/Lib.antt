@@ -1,3 +1,4 @@
 pub mod Walk
 pub mod Graph
 pub mod Hierarchy
+pub mod Unfolding

@@ -1,4 +1,5 @@
 ghost use Rattle.ch_graph.specs.Graph.{DistanceIsWithinBound, DistanceIsUnique};
+ghost use Rattle.ch_graph.specs.Unfolding.{LinksUnfold};
 
 /// Every distance is within the bound of its graph: a least walk repeats no node, so it has fewer arcs than there
 /// are nodes. It does nothing when it runs.
@@ -9,4 +10,9 @@ pub fn distance_is_within_bound()
 /// Two nodes have one distance, or none. It does nothing when it runs.
 pub fn distance_is_unique()
     ensures { DistanceIsUnique }
+{}
+
+/// Each link of a well made hierarchy stands for one list of links without a middle. It does nothing when it runs.
+pub fn links_unfold()
+    ensures { LinksUnfold }
 {}

@@ -14,6 +14,6 @@ mod road;
 
 pub use graph::Graph;
 pub use hierarchy::{Hierarchy, LinkId};
-pub use laws::{distance_is_unique, distance_is_within_bound};
+pub use laws::{distance_is_unique, distance_is_within_bound, links_unfold};
 pub use link::Link;
 pub use road::Road;
