@@ -1,3 +1,4 @@
 pub mod HeaviestArc
 pub mod Walks
 pub mod Bound
+pub mod LinkSearch
