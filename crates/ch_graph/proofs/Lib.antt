@@ -1,4 +1,5 @@
 pub mod HeaviestArc
 pub mod Walks
 pub mod Bound
+pub mod LinkSearch
 pub mod Unfolding
