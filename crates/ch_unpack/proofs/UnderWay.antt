@@ -104,13 +104,6 @@ turn_off h made source places nodes here next middle left ahead way ahead_is fou
       route = way.route;
     }
 
--- there is a link to the next node
-pub link_ahead : (h : Hierarchy) (source : ℕ) (places : List LinkId) (nodes : List ℕ) (here next : ℕ) (left ahead : List ℕ) → IsUnderWay h source places nodes here ahead → ahead ≡ left ++ next ∷ [] → HasLink h here next
-link_ahead h source places nodes here next left ahead way ahead_is =
-    let turned : reverse ahead ≡ next ∷ reverse left = ap (λ (ys : List ℕ). reverse ys) ahead_is ∙ reverse-append left (next ∷ []) in
-    let leg : Leg h (LeadAlong h next (reverse left)) here next way.rest = subst (λ (ys : List ℕ). LeadAlong h here ys way.rest) turned way.leads in
-    record { link = leg.link; leads = leg.leads }
-
 -- the arcs are one fewer than the nodes so far and those of the rest
 count : (h : Hierarchy) (source : ℕ) (places : List LinkId) (nodes : List ℕ) (here : ℕ) (ahead : List ℕ) (way : IsUnderWay h source places nodes here ahead) → length nodes + length way.rest ≡ length way.arcs + 1
 count h source places nodes here ahead way = omega (arith, ap (λ (ys : List ℕ). length ys) way.route, length-append nodes (heads way.rest), length-map way.rest (λ (l : Link). l.to), length-map way.arcs (λ (l : Link). l.to))
@@ -118,16 +111,6 @@ count h source places nodes here ahead way = omega (arith, ap (λ (ys : List ℕ
 -- with nothing ahead the nodes are the route
 no_rest : (h : Hierarchy) (here : ℕ) (ahead : List ℕ) (rest : List Link) → ahead ≡ [] → LeadAlong h here (reverse ahead) rest → rest ≡ []
 no_rest h here ahead rest none_is leads = subst (λ (ys : List ℕ). LeadAlong h here ys rest) (ap (λ (ys : List ℕ). reverse ys) none_is) leads
-
-pub arrive : (h : Hierarchy) (source : ℕ) (places : List LinkId) (nodes : List ℕ) (here : ℕ) (ahead : List ℕ) → IsUnderWay h source places nodes here ahead → ahead ≡ [] → length nodes ≤ length h.ranks → IsUnpacked h source places nodes
-arrive h source places nodes here ahead way none_is few =
-    let no_more : way.rest ≡ [] = no_rest h here ahead way.rest none_is way.leads in
-    record {
-      arcs = way.arcs;
-      unfolded = way.unfolded;
-      few = omega (arith, few, ap (λ (ys : List Link). length ys) no_more, count h source places nodes here ahead way);
-      in_order = sym (append-nil nodes) ∙ ap (λ (ys : List Link). nodes ++ heads ys) (sym no_more) ∙ way.route;
-    }
 
 -- more nodes are known than the hierarchy has
 pub go_too_far : (h : Hierarchy) (source : ℕ) (places : List LinkId) (nodes : List ℕ) (here : ℕ) (ahead : List ℕ) → IsUnderWay h source places nodes here ahead → source < length h.ranks → length h.ranks < length nodes + length ahead → IsTooLong h places
