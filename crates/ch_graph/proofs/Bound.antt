@@ -1,9 +1,9 @@
 -- No least walk repeats a node, so each distance is within the bound; and there is one distance at most.
-use Rattle.std.proofs.Common.{ℕ, ◌≡◌, ◌+◌, ◌-◌, ◌<◌, ◌≤◌, ◌⊎◌, List, [], ◌∷◌, length, Option, Some, None, max, All, arith, add-one, ap, subst, refl, inl, inr}
-use Rattle.std.proofs.lemmas.List.Elements.{All-nil, All-cons, All-weaker, All-contains}
+use Rattle.std.proofs.Common.{ℕ, ◌≡◌, ◌≢◌, ◌+◌, ◌-◌, ◌^◌, ◌<◌, ◌≤◌, ◌⊎◌, List, [], ◌∷◌, length, Option, Some, None, max, All, arith, add-one, ap, subst, refl, inl, inr}
+use Rattle.std.proofs.lemmas.List.Elements.{All-nil, All-cons, All-head, All-tail, All-weaker, All-contains}
 use Rattle.ch_cost.specs.declared.cost.Cost.{Cost}
 use Rattle.ch_cost.specs.Cost.{zero_cost, ◌⊕◌, of_weight, cost_of_arcs, ◌≺◌, IsWithin}
-use Rattle.ch_cost.specs.Cost.Laws.{arc_above, arc_and_arcs_within, at_most_antisym, below_not_at_most, more_arcs_within, within_trans, zero_cost_within}
+use Rattle.ch_cost.specs.Cost.Laws.{arc_above, arc_and_arcs_within, at_most_antisym, below_not_at_most, heavier_arcs_within, more_arcs_within, weight_fits, sum-zero_cost, within_trans, zero_cost_within}
 use Rattle.ch_graph.specs.declared.road.Road.{Road}
 use Rattle.ch_graph.specs.Walk.{Walk, Walk.stay, Walk.go, IsLeastOrNone, visited}
 use Rattle.ch_graph.specs.Graph.{Graph, IsRoad, IsGraph, ArcOf, heaviest, bound_of, DistanceIsWithinBound, DistanceIsUnique}
@@ -15,6 +15,17 @@ no_heavier [] = All-nil (λ (r : Road). r.weight ≤ 0)
 no_heavier (q ∷ rs) =
     All-cons (λ (r : Road). r.weight ≤ max q.weight (heaviest rs)) q rs (omega arith)
     (All-weaker (λ (r : Road). r.weight ≤ heaviest rs) (λ (r : Road). r.weight ≤ max q.weight (heaviest rs)) (λ r h. omega (arith, h)) rs (no_heavier rs))
+
+-- and where each weight is allowed, the heaviest fits 32 bits
+heaviest_fits : (n : ℕ) (rs : List Road) → All (IsRoad n) rs → heaviest rs ≤ 2 ^ 32 - 1
+heaviest_fits n [] all = omega arith
+heaviest_fits n (q ∷ rs) all =
+    let fits : q.weight < 2 ^ 32 = weight_fits (All-head (IsRoad n) q rs all).weighs in
+    omega (arith, fits, heaviest_fits n rs (All-tail (IsRoad n) q rs all))
+
+-- so the bound is one that a file can have
+pub bound-within : (g : Graph) → IsGraph g → IsWithin (bound_of g) (cost_of_arcs (g.nodes - 1) (2 ^ 32 - 1))
+bound-within g is = heavier_arcs_within (g.nodes - 1) (heaviest g.arcs) (2 ^ 32 - 1) (heaviest_fits g.nodes g.arcs is.roads)
 
 -- What an arc of a graph is: it costs more than nothing, and its ends are nodes.
 pub record IsSound (g : Graph) (x y : ℕ) (c : Cost) : Type 0 where
@@ -39,6 +50,14 @@ walk-within g (go {c = c} {d = d} arc rest) =
     let heavy : arc.road.weight ≤ heaviest g.arcs = All-contains (λ (r : Road). r.weight ≤ heaviest g.arcs) g.arcs arc.road (no_heavier g.arcs) arc.among in
     let more : IsWithin (of_weight arc.road.weight ⊕ d) (cost_of_arcs (n + 1) (heaviest g.arcs)) = arc_and_arcs_within arc.road.weight n (heaviest g.arcs) d heavy (walk-within g rest) in
     subst (λ (e : Cost). IsWithin (e ⊕ d) (cost_of_arcs (length (visited (go arc rest))) (heaviest g.arcs))) arc.costs (rw (← add-one) more)
+
+-- an arc between two nodes is within the bound
+pub arc-within : (g : Graph) → IsGraph g → (x y : ℕ) (c : Cost) → x ≢ y → ArcOf g x y c → IsWithin c (bound_of g)
+arc-within g is x y c apart arc =
+    let sound : IsSound g x y c = arc-sound g is x y c arc in
+    let one : IsWithin (c ⊕ zero_cost) (cost_of_arcs 1 (heaviest g.arcs)) = walk-within g (go arc stay) in
+    let within : IsWithin c (cost_of_arcs 1 (heaviest g.arcs)) = subst (λ (d : Cost). IsWithin d (cost_of_arcs 1 (heaviest g.arcs))) (sum-zero_cost c) one in
+    within_trans within (more_arcs_within 1 (g.nodes - 1) (heaviest g.arcs) (omega (arith, sound.from_in, sound.to_in, apart)))
 
 -- a walk has fewer arcs than there are nodes, or there is a cheaper one
 pub few_arcs_or_cheaper : (g : Graph) → IsGraph g → {x z : ℕ} {c : Cost} (w : Walk (ArcOf g) x z c) → (length (visited w) ≤ g.nodes - 1) ⊎ Cheaper (ArcOf g) x z c

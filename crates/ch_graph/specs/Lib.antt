@@ -2,3 +2,4 @@ pub mod Walk
 pub mod Graph
 pub mod Hierarchy
 pub mod Unfolding
+pub mod Labels

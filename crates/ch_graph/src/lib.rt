@@ -14,6 +14,6 @@ mod road;
 
 pub use graph::Graph;
 pub use hierarchy::{Hierarchy, LinkId, find_link};
-pub use laws::{distance_is_unique, distance_is_within_bound, links_unfold};
+pub use laws::{distance_is_unique, distance_is_within_bound, labels_are_right, links_unfold};
 pub use link::Link;
 pub use road::Road;

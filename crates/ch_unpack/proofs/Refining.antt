@@ -2,7 +2,7 @@
 use Rattle.std.proofs.Common.{ℕ, ◌≡◌, ◌<◌, ◌≤◌, List, [], ◌∷◌, ◌++◌, length, map, Some, None, arith, ap, subst, refl, ◌∙◌, append_assoc, length-append}
 use Rattle.ch_graph.specs.declared.link.Link.{Link}
 use Rattle.ch_graph.specs.Hierarchy.{Hierarchy, IsLink, IsWellMade, Unfolds, Unfolds.whole, Unfolds.halves}
-use Rattle.ch_graph.proofs.Unfolding.{one_link}
+use Rattle.ch_graph.proofs.OneUnfolding.{same_link}
 use Rattle.ch_unpack.specs.Unpacking.{HasMiddle}
 
 -- the nodes that arcs come to
@@ -68,7 +68,7 @@ pub record Passed (h : Hierarchy) (y : ℕ) (ys : List ℕ) (arcs : List Link) :
 
 pub pass : (h : Hierarchy) → IsWellMade h → (x y : ℕ) (ys : List ℕ) (arcs : List Link) → LeadAlong h x (y ∷ ys) arcs → HasMiddle h x y None → Passed h y ys arcs
 pass h made x y ys arcs leg found =
-    let same : leg.link ≡ found.link = one_link h made x y leg.link found.link leg.leads found.leads in
+    let same : leg.link ≡ found.link = same_link h made x y leg.link found.link leg.leads found.leads in
     let itself : leg.us ≡ leg.link ∷ [] = only_itself h leg.unfolds (ap (λ (l : Link). l.middle) same ∙ found.by_way) in
     record {
       arc = leg.link;
@@ -81,7 +81,7 @@ pass h made x y ys arcs leg found =
 -- the same arcs lead to the next node by way of the middle
 pub split : (h : Hierarchy) → IsWellMade h → (x y m : ℕ) (ys : List ℕ) (arcs : List Link) → LeadAlong h x (y ∷ ys) arcs → HasMiddle h x y (Some m) → LeadAlong h x (m ∷ y ∷ ys) arcs
 split h made x y m ys arcs leg found =
-    let same : leg.link ≡ found.link = one_link h made x y leg.link found.link leg.leads found.leads in
+    let same : leg.link ≡ found.link = same_link h made x y leg.link found.link leg.leads found.leads in
     let parts : Halved h leg.link m leg.us = halved h m leg.unfolds (ap (λ (l : Link). l.middle) same ∙ found.by_way) in
     record {
       link = parts.a;

@@ -1,16 +1,16 @@
 -- A route on its way from links to arcs.
 use Rattle.std.proofs.Common.{ℕ, ◌≡◌, ◌+◌, ◌<◌, ◌≤◌, List, [], ◌∷◌, ◌++◌, length, map, reverse, Option, Some, None, All, Contains, arith, ap, subst, sym, refl, ◌∙◌, append_assoc, length-append}
 use Rattle.std.specs.Option.{option_map_or}
-use Rattle.std.proofs.lemmas.List.{length-map, length-reverse, reverse-append, reverse-reverse, append-nil}
+use Rattle.std.proofs.lemmas.List.{length-map, length-reverse, reverse-append, reverse-reverse}
 use Rattle.std.proofs.lemmas.List.Elements.{All-nil, All-cons}
 use Rattle.std.proofs.lemmas.Option.{slice_get_within, get_or_from_slice_get}
 use Rattle.ch_graph.specs.declared.link.Link.{Link}
 use Rattle.ch_graph.specs.declared.hierarchy.LinkId.{LinkId}
 use Rattle.ch_graph.specs.Hierarchy.{Hierarchy, IsWellMade, UnfoldsAll, UnfoldsAll.done, UnfoldsAll.more}
 use Rattle.ch_graph.specs.Unfolding.{IsAt, AreAt, Joined}
-use Rattle.ch_graph.proofs.Unfolding.{Unfolded as LinkUnfolded, link_unfolds}
-use Rattle.ch_unpack.specs.Unpacking.{Unfolded, HasLink, HasMiddle, IsUnpacked, IsTooLong, head_at}
-use Rattle.ch_unpack.proofs.Refining.{heads, Leg, LeadAlong, Passed, pass, split, nodes_at_most_arcs}
+use Rattle.ch_graph.proofs.Unfolding.{HasUnfolding, link-unfolds}
+use Rattle.ch_unpack.specs.Unpacking.{Unfolded, HasMiddle, IsTooLong, head_at}
+use Rattle.ch_unpack.proofs.Refining.{heads, LeadAlong, Passed, pass, split, nodes_at_most_arcs}
 
 -- The links of the route unfold to arcs. Their heads are the nodes so far and those of the rest, which lead from
 -- here along the nodes ahead, the nearest of them last.
@@ -44,7 +44,7 @@ joined_arcs h made x [] joined = record { links = []; arcs = []; are_at = tt; un
 joined_arcs h made x (place ∷ places) joined =
     let l : Link = joined.0 in
     let among : Contains h.links l = among_links h place l joined.1 in
-    let this : LinkUnfolded h l = link_unfolds h made l among in
+    let this : HasUnfolding h l = link-unfolds h made l among in
     let others : JoinedArcs h l.to places = joined_arcs h made l.to places joined.3 in
     let head_is : head_at h place ≡ l.to = ap (λ (o : Option Link). option_map_or (λ (k : Link). k.to) o 0) joined.1 in
     record {

@@ -118,6 +118,12 @@ within_refl a = record { weight = omega arith }
 pub within_trans : {a b c : Cost} → IsWithin a b → IsWithin b c → IsWithin a c
 within_trans h k = record { weight = omega (arith, h.weight, k.weight) }
 
+pub cases_within : (c bound : Cost) → IsWithin c bound ⊎ (IsWithin c bound → ⊥)
+cases_within c bound = elim (cases_lt bound.weight c.weight) [
+  | inl h ↦ inr (λ k. omega (arith, h, k.weight))
+  | inr h ↦ inl (record { weight = h })
+]
+
 pub zero_cost_within : (bound : Cost) → IsWithin zero_cost bound
 unfolding zero_cost
 zero_cost_within bound = record { weight = omega arith }
@@ -138,6 +144,10 @@ arc_and_arcs_within w n heaviest c h k = record { weight = omega (arith, h, k.we
 pub more_arcs_within : (m n heaviest : ℕ) → m ≤ n → IsWithin (cost_of_arcs m heaviest) (cost_of_arcs n heaviest)
 unfolding cost_of_arcs
 more_arcs_within m n heaviest h = record { weight = grind (arith, h) }
+
+pub heavier_arcs_within : (n v w : ℕ) → v ≤ w → IsWithin (cost_of_arcs n v) (cost_of_arcs n w)
+unfolding cost_of_arcs
+heavier_arcs_within n v w h = record { weight = grind (arith, h) }
 
 pub no_longer-from_within : {c bound : Cost} → IsWithin c bound → IsNoLonger c bound
 no_longer-from_within h = record { weight = h.weight }

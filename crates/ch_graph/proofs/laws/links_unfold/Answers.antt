@@ -1,4 +1,4 @@
-use Rattle.ch_graph.proofs.Unfolding.{links_unfold}
+use Rattle.ch_graph.proofs.OneUnfolding.{links_unfold}
 use Rattle.ch_graph.proofs.laws.links_unfold.Goals as goal
 
 pub returns : goal.returns

@@ -1,0 +1,77 @@
+-- Lawful contractions: one more after a run, and what a plan makes of a state.
+use Rattle.std.proofs.Common.{ℕ, suc, ◌≡◌, true, false, nat_eq, List, [], ◌∷◌, ◌++◌, Option, Some, None, AllPairs, Contains, arith, refl, sym, ◌∙◌, ap, subst, inl, inr}
+use Rattle.std.proofs.lemmas.Bool.{cases_eq}
+use Rattle.std.proofs.lemmas.Bool.Decides.{nat_tests}
+use Rattle.ch_cost.specs.declared.cost.Cost.{Cost}
+use Rattle.ch_laws.specs.Contraction.{State, StateArc, Shortcut, IsFor, NoShortcut, shortcut_arc, or_else, Contraction, Step, Run, Run.rest, Run.next}
+use Rattle.ch_laws.specs.Theorems.{ReachesOn, PlanIsLawful}
+use Rattle.ch_laws.proofs.Order.{contains_first, contains_later, contains_cases}
+
+-- One more contraction
+
+run-push : {bound : Cost} {old mid new : State} {e : Contraction} {log : List Contraction} → Run bound old log mid → Step bound mid e new → Run bound old (log ++ e ∷ []) new
+run-push rest step = next step rest
+run-push (next first more) step = next first (run-push more step)
+
+pub reaches_on : ReachesOn
+reaches_on g log s e new reached step = record { start = reached.start; starts = reached.starts; run = run-push reached.run step }
+
+-- The shortcuts of a list
+
+-- the arc that a shortcut with middle v stands for
+abbrev arc_of_shortcut : ℕ → Shortcut → StateArc
+arc_of_shortcut v p = record { cost = p.cost; middle = Some v }
+
+-- at a pair that the first shortcut is for, and at one that it isn't for
+at_first : (p : Shortcut) (put : List Shortcut) (v u w : ℕ) → IsFor p u w → shortcut_arc (p ∷ put) v u w ≡ Some (arc_of_shortcut v p)
+at_first p put v u w joins =
+    let from : nat_eq p.from u ≡ true = grind (arith, nat_tests, joins.0) in
+    let to : nat_eq p.to w ≡ true = grind (arith, nat_tests, joins.1) in
+    rw (from, to) refl
+
+at_later : (p : Shortcut) (put : List Shortcut) (v u w : ℕ) → (IsFor p u w → ⊥) → shortcut_arc (p ∷ put) v u w ≡ shortcut_arc put v u w
+at_later p put v u w apart = elim (cases_eq p.from u) [
+  | inr other ↦
+      let from : nat_eq p.from u ≡ false = grind (arith, nat_tests, other) in
+      rw from refl
+  | inl same ↦
+      let from : nat_eq p.from u ≡ true = grind (arith, nat_tests, same) in
+      let to : nat_eq p.to w ≡ false = elim (cases_eq p.to w) [
+        | inl both ↦ absurd (apart (same, both))
+        | inr other ↦ grind (arith, nat_tests, other)
+      ] in
+      rw (from, to) refl
+]
+
+-- a pair without shortcut has none there
+pub no_shortcut_arc : (put : List Shortcut) (v u w : ℕ) → NoShortcut put u w → shortcut_arc put v u w ≡ None
+no_shortcut_arc [] v u w none = refl
+no_shortcut_arc (p ∷ put) v u w none =
+    at_later p put v u w (none p (contains_first p put)) ∙ no_shortcut_arc put v u w (λ q among. none q (contains_later p put q among))
+
+-- no shortcut of the rest is for the pair of the first, where there is one for each pair
+first_alone : (p : Shortcut) (put : List Shortcut) → AllPairs (λ p q. IsFor p q.from q.to → ⊥) (p ∷ put) → (q : Shortcut) → Contains put q → IsFor p q.from q.to → ⊥
+first_alone p put once q among joins = once 0 (suc among.0) q (omega arith) (omega (arith, among.1)) (subst (λ (r : Shortcut). IsFor p r.from r.to) (sym among.2) joins)
+
+later_once : (p : Shortcut) (put : List Shortcut) → AllPairs (λ p q. IsFor p q.from q.to → ⊥) (p ∷ put) → AllPairs (λ p q. IsFor p q.from q.to → ⊥) put
+later_once p put once i j d less low = once (suc i) (suc j) d (omega (arith, less)) (omega (arith, low))
+
+-- the pair of a shortcut has its arc
+pub its_shortcut_arc : (put : List Shortcut) (v : ℕ) (q : Shortcut) → AllPairs (λ p q. IsFor p q.from q.to → ⊥) put → Contains put q → shortcut_arc put v q.from q.to ≡ Some (arc_of_shortcut v q)
+its_shortcut_arc [] v q once among = absurd (omega (arith, among.1))
+its_shortcut_arc (p ∷ put) v q once among = elim (contains_cases p put q among) [
+  | inl same ↦ subst (λ (r : Shortcut). shortcut_arc (p ∷ put) v r.from r.to ≡ Some (arc_of_shortcut v r)) same (at_first p put v p.from p.to (refl, refl))
+  | inr later ↦ at_later p put v q.from q.to (first_alone p put once q later) ∙ its_shortcut_arc put v q (later_once p put once) later
+]
+
+-- A plan
+
+pub plan_is_lawful : PlanIsLawful
+plan_is_lawful bound s v put plan witnessed = record {
+  plan = plan;
+  nodes = refl;
+  order = refl;
+  placed = λ p among. ap (λ (o : Option StateArc). or_else o (s.arc p.from p.to)) (its_shortcut_arc put v p plan.once among);
+  others = λ u w none. ap (λ (o : Option StateArc). or_else o (s.arc u w)) (no_shortcut_arc put v u w none);
+  witnessed = witnessed;
+}

@@ -1,0 +1,15 @@
+pub mod Order
+pub mod Steps
+pub mod Sound
+pub mod Detour
+pub mod Passage
+pub mod Made
+pub mod Values
+pub mod LeastRoutes
+pub mod Lawful
+pub mod RowChanges
+pub mod RowsShown
+pub mod Pairs
+pub mod NextStep
+pub mod Start
+pub mod WholeRun

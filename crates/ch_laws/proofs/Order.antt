@@ -1,0 +1,112 @@
+-- The order of contraction: what stands before what, also after one more node.
+use Rattle.std.proofs.Common.{ℕ, zero, suc, ◌≡◌, ◌≢◌, ◌<◌, ◌≤◌, ◌⊎◌, ◌↔◌, List, [], ◌∷◌, ◌++◌, length, get_or, Contains, arith, refl, sym, ◌∙◌, inl, inr}
+use Rattle.std.proofs.lemmas.Bool.{cases_lt}
+use Rattle.std.proofs.lemmas.List.{get_or_default, get_or_append_left, get_or_push, length_push}
+use Rattle.ch_laws.specs.Contraction.{State, Before, IsAlive}
+
+-- Members of lists
+
+-- the first element is one
+pub contains_first : {X : Type 0} (x : X) (xs : List X) → Contains (x ∷ xs) x
+contains_first x xs = (0, omega arith, refl)
+
+-- what is an element of the rest is one
+pub contains_later : {X : Type 0} (x : X) (xs : List X) (y : X) → Contains xs y → Contains (x ∷ xs) y
+contains_later x xs y h = (suc h.0, omega (arith, h.1), h.2)
+
+-- an element is the first, or one of the rest
+contains_at : {X : Type 0} (x : X) (xs : List X) (y : X) (k : ℕ) → k < length (x ∷ xs) → get_or (x ∷ xs) k y ≡ y → (x ≡ y) ⊎ Contains xs y
+contains_at x xs y zero h is = inl is
+contains_at x xs y (suc k) h is = inr (k, omega (arith, h), is)
+
+pub contains_cases : {X : Type 0} (x : X) (xs : List X) (y : X) → Contains (x ∷ xs) y → (x ≡ y) ⊎ Contains xs y
+contains_cases x xs y h = contains_at x xs y h.0 h.1 h.2
+
+-- the element at a place of a list of numbers
+pub contains_place : (xs : List ℕ) (k x : ℕ) → k < length xs → get_or xs k 0 ≡ x → Contains xs x
+contains_place xs k x h is = (k, h, get_or_default xs k x 0 h ∙ is)
+
+-- and the place of an element
+pub place_of : (xs : List ℕ) (x : ℕ) (h : Contains xs x) → get_or xs h.0 0 ≡ x
+place_of xs x h = get_or_default xs h.0 0 x h.1 ∙ h.2
+
+-- Nodes in the order
+
+-- what stands before something is in the order
+pub before-contains : {order : List ℕ} {x y : ℕ} → Before order x y → Contains order x
+before-contains {order} {x} b = contains_place order b.place x b.within b.here
+
+-- it stays before when a node is added
+pub before-push : {order : List ℕ} {x y : ℕ} (v : ℕ) → Before order x y → Before (order ++ v ∷ []) x y
+before-push {order} {x} {y} v b = record {
+  place = b.place;
+  within = omega (arith, length_push order v, b.within);
+  here = get_or_append_left order (v ∷ []) 0 b.place b.within ∙ b.here;
+  not_yet = λ k low is.
+      let inside : k < length order = omega (arith, low, b.within) in
+      b.not_yet k low (sym (get_or_append_left order (v ∷ []) 0 k inside) ∙ is);
+}
+
+-- the node that is added stands before each that isn't in the order
+pub before-last : (order : List ℕ) (v y : ℕ) → (Contains order y → ⊥) → v ≢ y → Before (order ++ v ∷ []) v y
+before-last order v y out apart = record {
+  place = length order;
+  within = omega (arith, length_push order v);
+  here = get_or_push order v 0 (length order) refl;
+  not_yet = λ k low is. elim (cases_lt k (length order)) [
+    | inl inside ↦ out (contains_place order k y inside (sym (get_or_append_left order (v ∷ []) 0 k inside) ∙ is))
+    | inr past ↦
+        let last : length order ≡ k = omega (arith, low, past) in
+        apart (sym (get_or_push order v 0 k last) ∙ is)
+  ];
+}
+
+-- what stands before a node when one is added did so already, or is the one that is added
+pub before-back : (order : List ℕ) (v x y : ℕ) → Before (order ++ v ∷ []) x y → Before order x y ⊎ ((x ≡ v) × (Contains order y → ⊥) × (x ≢ y))
+before-back order v x y b = elim (cases_lt b.place (length order)) [
+  | inl inside ↦ inl (record {
+    place = b.place;
+    within = inside;
+    here = sym (get_or_append_left order (v ∷ []) 0 b.place inside) ∙ b.here;
+    not_yet = λ k low is.
+        let in_order : k < length order = omega (arith, low, inside) in
+        b.not_yet k low (get_or_append_left order (v ∷ []) 0 k in_order ∙ is);
+  })
+  | inr past ↦
+      let last : length order ≡ b.place = omega (arith, past, b.within, length_push order v) in
+      inr (
+        sym b.here ∙ get_or_push order v 0 b.place last,
+        λ among.
+            let low : among.0 ≤ b.place = omega (arith, among.1, past) in
+            b.not_yet among.0 low (get_or_append_left order (v ∷ []) 0 among.0 among.1 ∙ place_of order y among),
+        λ same. b.not_yet b.place (omega arith) (b.here ∙ same),
+      )
+]
+
+-- the places of a node other than the one that is added stay
+pub place-kept : (order : List ℕ) (v x k : ℕ) → x ≢ v → ((k < length order) × (get_or order k 0 ≡ x)) ↔ ((k < length (order ++ v ∷ [])) × (get_or (order ++ v ∷ []) k 0 ≡ x))
+place-kept order v x k apart = (
+  λ h. (omega (arith, h.0, length_push order v), get_or_append_left order (v ∷ []) 0 k h.0 ∙ h.1),
+  λ h. elim (cases_lt k (length order)) [
+    | inl inside ↦ (inside, sym (get_or_append_left order (v ∷ []) 0 k inside) ∙ h.1)
+    | inr past ↦
+        let last : length order ≡ k = omega (arith, past, h.0, length_push order v) in
+        absurd (apart (sym h.1 ∙ get_or_push order v 0 k last))
+  ],
+)
+
+-- the place of the node that is added, where it wasn't there before
+pub place-last : (order : List ℕ) (v k : ℕ) → (Contains order v → ⊥) → (length order ≡ k) ↔ ((k < length (order ++ v ∷ [])) × (get_or (order ++ v ∷ []) k 0 ≡ v))
+place-last order v k out = (
+  λ is. (omega (arith, is, length_push order v), get_or_push order v 0 k is),
+  λ h. elim (cases_lt k (length order)) [
+    | inl inside ↦ absurd (out (contains_place order k v inside (sym (get_or_append_left order (v ∷ []) 0 k inside) ∙ h.1)))
+    | inr past ↦ omega (arith, past, h.0, length_push order v)
+  ],
+)
+
+-- Alive nodes
+
+-- a node that stands before something is no longer alive
+pub before_not_alive : {s : State} {x y : ℕ} → Before s.order x y → IsAlive s x → ⊥
+before_not_alive b alive = alive.waits (before-contains b)

@@ -1,0 +1,5 @@
+use Rattle.ch_laws.proofs.Lawful.{plan_is_lawful}
+use Rattle.ch_laws.proofs.contraction.plan_is_lawful.Goals as goal
+
+pub returns : goal.returns
+returns c = plan_is_lawful

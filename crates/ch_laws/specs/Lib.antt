@@ -1,0 +1,3 @@
+pub mod Contraction
+pub mod Rows
+pub mod Theorems

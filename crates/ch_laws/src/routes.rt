@@ -1,0 +1,12 @@
+ghost use Rattle.ch_laws.specs.Theorems.{NeverTooLong, RouteIsLeast};
+
+/// What a least rise-fall walk of a right hierarchy unfolds to joins into a walk of the graph with fewer arcs than
+/// there are nodes. It does nothing when it runs.
+pub fn least_route_is_never_too_long()
+    ensures { NeverTooLong }
+{}
+
+/// Its nodes lie along a walk of the graph, and what it costs is the distance. It does nothing when it runs.
+pub fn least_route_is_a_least_walk()
+    ensures { RouteIsLeast }
+{}
