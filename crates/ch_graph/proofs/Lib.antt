@@ -6,3 +6,4 @@ pub mod Chains
 pub mod Unfolding
 pub mod OneUnfolding
 pub mod Meetings
+pub mod Places

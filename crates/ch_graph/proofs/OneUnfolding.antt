@@ -3,7 +3,7 @@ use Rattle.std.proofs.Common.{ℕ, ◌≡◌, ◌<◌, List, ◌++◌, get_or, a
 use Rattle.std.proofs.lemmas.Bool.{cases_lt}
 use Rattle.std.proofs.lemmas.List.{get_or_default}
 use Rattle.ch_graph.specs.declared.link.Link.{Link}
-use Rattle.ch_graph.specs.Hierarchy.{Hierarchy, IsLink, Unfolds, Unfolds.whole, Unfolds.halves, ComesBefore, IsWellMade}
+use Rattle.ch_graph.specs.Hierarchy.{Hierarchy, IsLink, Unfolds, Unfolds.whole, Unfolds.halves, UnfoldsAll, UnfoldsAll.done, UnfoldsAll.more, ComesBefore, IsWellMade}
 use Rattle.ch_graph.specs.Unfolding.{LinksUnfold}
 use Rattle.ch_graph.proofs.Unfolding.{HasUnfolding, link-unfolds}
 
@@ -28,7 +28,7 @@ same_link h made x y a b first second = elim (cases_lt first.among.0 second.amon
   | inl low ↦ absurd (not_apart h made x y a b first second low)
   | inr high ↦ elim (cases_lt second.among.0 first.among.0) [
     | inl low ↦ absurd (not_apart h made x y b a second first low)
-    | inr more ↦
+    | inr level ↦
         let same : first.among.0 ≡ second.among.0 = omega arith in
         sym first.among.2 ∙ ap (λ k. get_or h.links k a) same ∙ get_or_default h.links second.among.0 a b second.among.1 ∙ second.among.2
   ]
@@ -47,6 +47,11 @@ one_unfolding h made (halves {l = l} {a = a} {b = b} {m = m} {ls = ls} {rs = rs}
     let left_is : ls ≡ us = one_unfolding h made left (subst (λ (k : Link). Unfolds h k us) a_is below) in
     let right_is : rs ≡ vs = one_unfolding h made right (subst (λ (k : Link). Unfolds h k vs) b_is above) in
     ap (λ (k : List Link). k ++ rs) left_is ∙ ap (λ (k : List Link). us ++ k) right_is
+
+pub one_unfolding-all : (h : Hierarchy) → IsWellMade h → {ls us vs : List Link} → UnfoldsAll h ls us → UnfoldsAll h ls vs → us ≡ vs
+one_unfolding-all h made done done = refl
+one_unfolding-all h made (more {us = us} {vs = ts} first rest) (more {us = ws} {vs = vs} other others) =
+    ap (λ (k : List Link). k ++ ts) (one_unfolding h made first other) ∙ ap (λ (k : List Link). ws ++ k) (one_unfolding-all h made rest others)
 
 pub links_unfold : LinksUnfold
 links_unfold h l made among =

@@ -65,72 +65,68 @@ joined_arcs h made x (place ∷ places) joined =
 
 -- The route from its first node to its last
 
-pub set_out : (h : Hierarchy) → IsWellMade h → (source : ℕ) (places : List LinkId) (nodes ahead : List ℕ) → Joined h source places → nodes ≡ source ∷ [] → reverse ahead ≡ map (head_at h) places → IsUnderWay h source places nodes source ahead
-set_out h made source places nodes ahead joined nodes_are ahead_is =
-    let all : JoinedArcs h source places = joined_arcs h made source places joined in
-    record {
-      arcs = all.arcs;
-      unfolded = record { links = all.links; are_at = all.are_at; unfolds = all.unfolds };
-      rest = all.arcs;
-      leads = subst (λ (ys : List ℕ). LeadAlong h source ys all.arcs) (sym ahead_is) all.leads;
-      route = ap (λ (xs : List ℕ). xs ++ heads all.arcs) nodes_are;
-    }
+module _ {h : Hierarchy} {source : ℕ} {places : List LinkId} where
+  pub set_out : IsWellMade h → {nodes ahead : List ℕ} → Joined h source places → nodes ≡ source ∷ [] → reverse ahead ≡ map (head_at h) places → IsUnderWay h source places nodes source ahead
+  set_out made joined nodes_are ahead_is =
+      let all : JoinedArcs h source places = joined_arcs h made source places joined in
+      record {
+        arcs = all.arcs;
+        unfolded = record { links = all.links; are_at = all.are_at; unfolds = all.unfolds };
+        rest = all.arcs;
+        leads = subst (λ (ys : List ℕ). LeadAlong h source ys all.arcs) (sym ahead_is) all.leads;
+        route = ap (λ (xs : List ℕ). xs ++ heads all.arcs) nodes_are;
+      }
 
--- an arc leads to the next node
-pub pass_on : (h : Hierarchy) → IsWellMade h → (source : ℕ) (places : List LinkId) (nodes : List ℕ) (here next : ℕ) (left ahead : List ℕ) → IsUnderWay h source places nodes here ahead → ahead ≡ left ++ next ∷ [] → HasMiddle h here next None → IsUnderWay h source places (nodes ++ next ∷ []) next left
-pass_on h made source places nodes here next left ahead way ahead_is found =
-    let turned : reverse ahead ≡ next ∷ reverse left = ap (λ (ys : List ℕ). reverse ys) ahead_is ∙ reverse-append left (next ∷ []) in
-    let passed : Passed h next (reverse left) way.rest = pass h made here next (reverse left) way.rest (subst (λ (ys : List ℕ). LeadAlong h here ys way.rest) turned way.leads) found in
-    let heads_are : heads way.rest ≡ next ∷ heads passed.rest = ap heads passed.parts ∙ ap (λ n. n ∷ heads passed.rest) passed.comes in
-    record {
-      arcs = way.arcs;
-      unfolded = way.unfolded;
-      rest = passed.rest;
-      leads = passed.leads;
-      route = append_assoc nodes (next ∷ []) (heads passed.rest) ∙ ap (λ (ys : List ℕ). nodes ++ ys) (sym heads_are) ∙ way.route;
-    }
+  -- an arc leads to the next node
+  pub pass_on : {nodes : List ℕ} {here next : ℕ} {left ahead : List ℕ} → IsWellMade h → IsUnderWay h source places nodes here ahead → ahead ≡ left ++ next ∷ [] → HasMiddle h here next None → IsUnderWay h source places (nodes ++ next ∷ []) next left
+  pass_on {nodes = nodes} {here = here} {next = next} {left = left} {ahead = ahead} made way ahead_is found =
+      let turned : reverse ahead ≡ next ∷ reverse left = ap (λ (ys : List ℕ). reverse ys) ahead_is ∙ reverse-append left (next ∷ []) in
+      let passed : Passed h next (reverse left) way.rest = pass h made here next (reverse left) way.rest (subst (λ (ys : List ℕ). LeadAlong h here ys way.rest) turned way.leads) found in
+      let heads_are : heads way.rest ≡ next ∷ heads passed.rest = ap heads passed.parts ∙ ap (λ n. n ∷ heads passed.rest) passed.comes in
+      record {
+        arcs = way.arcs;
+        unfolded = way.unfolded;
+        rest = passed.rest;
+        leads = passed.leads;
+        route = append_assoc nodes (next ∷ []) (heads passed.rest) ∙ ap (λ (ys : List ℕ). nodes ++ ys) (sym heads_are) ∙ way.route;
+      }
 
--- a shortcut leads to the next node by way of its middle
-pub turn_off : (h : Hierarchy) → IsWellMade h → (source : ℕ) (places : List LinkId) (nodes : List ℕ) (here next middle : ℕ) (left ahead : List ℕ) → IsUnderWay h source places nodes here ahead → ahead ≡ left ++ next ∷ [] → HasMiddle h here next (Some middle) → IsUnderWay h source places nodes here ((left ++ next ∷ []) ++ middle ∷ [])
-turn_off h made source places nodes here next middle left ahead way ahead_is found =
-    let turned : reverse ahead ≡ next ∷ reverse left = ap (λ (ys : List ℕ). reverse ys) ahead_is ∙ reverse-append left (next ∷ []) in
-    let more_turned : reverse ((left ++ next ∷ []) ++ middle ∷ []) ≡ middle ∷ next ∷ reverse left = reverse-append (left ++ next ∷ []) (middle ∷ []) ∙ ap (λ (ys : List ℕ). middle ∷ ys) (reverse-append left (next ∷ [])) in
-    let by_way : LeadAlong h here (middle ∷ next ∷ reverse left) way.rest = split h made here next middle (reverse left) way.rest (subst (λ (ys : List ℕ). LeadAlong h here ys way.rest) turned way.leads) found in
-    record {
-      arcs = way.arcs;
-      unfolded = way.unfolded;
-      rest = way.rest;
-      leads = subst (λ (ys : List ℕ). LeadAlong h here ys way.rest) (sym more_turned) by_way;
-      route = way.route;
-    }
+  -- a shortcut leads to the next node by way of its middle
+  pub turn_off : {nodes : List ℕ} {here next middle : ℕ} (left : List ℕ) {ahead : List ℕ} → IsWellMade h → IsUnderWay h source places nodes here ahead → ahead ≡ left ++ next ∷ [] → HasMiddle h here next (Some middle) → IsUnderWay h source places nodes here ((left ++ next ∷ []) ++ middle ∷ [])
+  turn_off {here = here} {next = next} {middle = middle} left {ahead = ahead} made way ahead_is found =
+      let turned : reverse ahead ≡ next ∷ reverse left = ap (λ (ys : List ℕ). reverse ys) ahead_is ∙ reverse-append left (next ∷ []) in
+      let more_turned : reverse ((left ++ next ∷ []) ++ middle ∷ []) ≡ middle ∷ next ∷ reverse left = reverse-append (left ++ next ∷ []) (middle ∷ []) ∙ ap (λ (ys : List ℕ). middle ∷ ys) (reverse-append left (next ∷ [])) in
+      let by_way : LeadAlong h here (middle ∷ next ∷ reverse left) way.rest = split h made here next middle (reverse left) way.rest (subst (λ (ys : List ℕ). LeadAlong h here ys way.rest) turned way.leads) found in
+      record {
+        arcs = way.arcs;
+        unfolded = way.unfolded;
+        rest = way.rest;
+        leads = subst (λ (ys : List ℕ). LeadAlong h here ys way.rest) (sym more_turned) by_way;
+        route = way.route;
+      }
 
--- the arcs are one fewer than the nodes so far and those of the rest
-count : (h : Hierarchy) (source : ℕ) (places : List LinkId) (nodes : List ℕ) (here : ℕ) (ahead : List ℕ) (way : IsUnderWay h source places nodes here ahead) → length nodes + length way.rest ≡ length way.arcs + 1
-count h source places nodes here ahead way = omega (arith, ap (λ (ys : List ℕ). length ys) way.route, length-append nodes (heads way.rest), length-map way.rest (λ (l : Link). l.to), length-map way.arcs (λ (l : Link). l.to))
+  -- the arcs are one fewer than the nodes so far and those of the rest
+  count : {nodes : List ℕ} {here : ℕ} {ahead : List ℕ} (way : IsUnderWay h source places nodes here ahead) → length nodes + length way.rest ≡ length way.arcs + 1
+  count {nodes = nodes} way = omega (arith, ap (λ (ys : List ℕ). length ys) way.route, length-append nodes (heads way.rest), length-map way.rest (λ (l : Link). l.to), length-map way.arcs (λ (l : Link). l.to))
 
--- with nothing ahead the nodes are the route
-no_rest : (h : Hierarchy) (here : ℕ) (ahead : List ℕ) (rest : List Link) → ahead ≡ [] → LeadAlong h here (reverse ahead) rest → rest ≡ []
-no_rest h here ahead rest none_is leads = subst (λ (ys : List ℕ). LeadAlong h here ys rest) (ap (λ (ys : List ℕ). reverse ys) none_is) leads
+  -- more nodes are known than the hierarchy has
+  go_too_far : {nodes : List ℕ} {here : ℕ} {ahead : List ℕ} → IsUnderWay h source places nodes here ahead → source < length h.ranks → length h.ranks < length nodes + length ahead → IsTooLong h places
+  go_too_far {here = here} {ahead = ahead} way some_node far =
+      let known : length (reverse ahead) ≤ length way.rest = nodes_at_most_arcs h here (reverse ahead) way.rest way.leads in
+      record {
+        arcs = way.arcs;
+        unfolded = way.unfolded;
+        many = omega (arith, known, length-reverse ahead, far, some_node, count way);
+      }
 
--- more nodes are known than the hierarchy has
-pub go_too_far : (h : Hierarchy) (source : ℕ) (places : List LinkId) (nodes : List ℕ) (here : ℕ) (ahead : List ℕ) → IsUnderWay h source places nodes here ahead → source < length h.ranks → length h.ranks < length nodes + length ahead → IsTooLong h places
-go_too_far h source places nodes here ahead way some_node far =
-    let known : length (reverse ahead) ≤ length way.rest = nodes_at_most_arcs h here (reverse ahead) way.rest way.leads in
-    record {
-      arcs = way.arcs;
-      unfolded = way.unfolded;
-      many = omega (arith, known, length-reverse ahead, far, some_node, count h source places nodes here ahead way);
-    }
+  -- there are as many links as nodes
+  pub too_many_links : IsWellMade h → Joined h source places → source < length h.ranks → length h.ranks ≤ length places → IsTooLong h places
+  too_many_links made joined some_node many =
+      let ahead : List ℕ = reverse (map (head_at h) places) in
+      let way : IsUnderWay h source places (source ∷ []) source ahead = set_out made joined refl (reverse-reverse (map (head_at h) places)) in
+      go_too_far way some_node (omega (arith, many, length-reverse (map (head_at h) places), length-map places (head_at h)))
 
--- there are as many links as nodes
-pub too_many_links : (h : Hierarchy) → IsWellMade h → (source : ℕ) (places : List LinkId) → Joined h source places → source < length h.ranks → length h.ranks ≤ length places → IsTooLong h places
-too_many_links h made source places joined some_node many =
-    let ahead : List ℕ = reverse (map (head_at h) places) in
-    let way : IsUnderWay h source places (source ∷ []) source ahead = set_out h made source places (source ∷ []) ahead joined refl (reverse-reverse (map (head_at h) places)) in
-    go_too_far h source places (source ∷ []) source ahead way some_node (omega (arith, many, length-reverse (map (head_at h) places), length-map places (head_at h)))
-
--- a shortcut leads to one node more than there is room for
-pub no_room : (h : Hierarchy) → IsWellMade h → (source : ℕ) (places : List LinkId) (nodes : List ℕ) (here next middle : ℕ) (left ahead : List ℕ) → IsUnderWay h source places nodes here ahead → ahead ≡ left ++ next ∷ [] → HasMiddle h here next (Some middle) → source < length h.ranks → length h.ranks < length nodes + length left + 2 → IsTooLong h places
-no_room h made source places nodes here next middle left ahead way ahead_is found some_node far =
-    let way_on : IsUnderWay h source places nodes here ((left ++ next ∷ []) ++ middle ∷ []) = turn_off h made source places nodes here next middle left ahead way ahead_is found in
-    go_too_far h source places nodes here ((left ++ next ∷ []) ++ middle ∷ []) way_on some_node (omega (arith, far, length-append (left ++ next ∷ []) (middle ∷ []), length-append left (next ∷ [])))
+  -- a shortcut leads to one node more than there is room for
+  pub no_room : {nodes : List ℕ} {here next middle : ℕ} (left : List ℕ) {ahead : List ℕ} → IsWellMade h → IsUnderWay h source places nodes here ahead → ahead ≡ left ++ next ∷ [] → HasMiddle h here next (Some middle) → source < length h.ranks → length h.ranks < length nodes + length left + 2 → IsTooLong h places
+  no_room {next = next} {middle = middle} left made way ahead_is found some_node far =
+      go_too_far (turn_off left made way ahead_is found) some_node (omega (arith, far, length-append (left ++ next ∷ []) (middle ∷ []), length-append left (next ∷ [])))

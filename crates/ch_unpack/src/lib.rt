@@ -7,6 +7,8 @@
 #![tactic(auto)]
 
 mod error;
+#[cfg(test)]
+mod tests;
 mod unpacking;
 
 pub use error::UnpackError;

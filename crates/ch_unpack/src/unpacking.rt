@@ -11,9 +11,10 @@ use std::alloc::{AllocError, Global};
 /// that the links stand for, in order.
 ///
 /// The first link leaves `source`, and each other leaves the node where the one before it came to. `TooLong` where
-/// the arcs are not fewer than the nodes of the hierarchy: such a route repeats a node. Takes memory for the nodes of
-/// the route and for those that lie ahead of the unfolding, each at most as many as there are nodes. It finds at most
-/// two links for each of these, however many arcs the links stand for.
+/// the arcs are not fewer than the nodes of the hierarchy, since then the route repeats a node.
+///
+/// It keeps the nodes that it came to and those that still lie ahead, together at most as many as the hierarchy has,
+/// and looks up at most two links for each of these, however many arcs the links stand for.
 pub fn unpack(
     alloc: Global,
     hierarchy: &Hierarchy,
