@@ -1,6 +1,7 @@
 pub mod HeaviestArc
 pub mod Walks
 pub mod Bound
+pub mod LinkSearch
 pub mod Chains
 pub mod Unfolding
 pub mod LabelSteps
@@ -10,3 +11,5 @@ pub mod Following
 pub mod Dijkstra
 pub mod Through
 pub mod LeastArc
+pub mod OneUnfolding
+pub mod Places

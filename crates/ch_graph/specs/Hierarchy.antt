@@ -1,5 +1,5 @@
 -- Contraction hierarchies: their least rise-fall walks, and the arcs that a link stands for.
-use Rattle.std.specs.Prelude.{ℕ, ◌≡◌, ◌≢◌, ◌-◌, ◌^◌, ◌<◌, ◌≤◌, ◌⊎◌, ◌↔◌, List, [], ◌∷◌, ◌++◌, length, Option, Some, None, All, AllPairs, Contains, slice_index}
+use Rattle.std.specs.Prelude.{ℕ, ◌≡◌, ◌≢◌, ◌-◌, ◌^◌, ◌<◌, ◌≤◌, ◌⊎◌, ◌↔◌, List, [], ◌∷◌, ◌++◌, length, Option, Some, None, All, AllPairs, Contains, slice_index, slice_index_or}
 use Rattle.ch_cost.specs.declared.cost.Cost.{Cost}
 use Rattle.ch_cost.specs.Cost.{zero_cost, ◌⊕◌, ◌≺◌, cost_of_arcs, IsWithin, IsNoLonger}
 use Rattle.ch_graph.specs.declared.link.Link.{Link}
@@ -95,6 +95,12 @@ pub record IsLinkWellMade (h : Hierarchy) (l : Link) : Type 0 where
 -- the order of links: by the node that they leave, and then by the one that they come to
 abbrev pub ComesBefore : Link → Link → Type 0
 ComesBefore a b = (a.from < b.from) ⊎ ((a.from ≡ b.from) × (a.to < b.to))
+
+-- the link at this place of the list leads from x to y
+pub record IsLinkAt (links : List Link) (x y place : ℕ) : Type 0 where
+  pub within : place < length links
+  pub from : (d : Link) → (slice_index_or links place d).from ≡ x
+  pub to : (d : Link) → (slice_index_or links place d).to ≡ y
 
 -- A hierarchy that a file can hold: the ranks are the numbers below the number of nodes, each once; the links are
 -- in order, at most one for each pair; and the bound is one that some graph of so many nodes can have.

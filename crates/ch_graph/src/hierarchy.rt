@@ -1,5 +1,5 @@
-ghost use Rattle.std.specs.Prelude.{◌≡◌, ◌<◌, length, slice_index};
-ghost use Rattle.ch_graph.specs.Hierarchy.{IsWellMade};
+ghost use Rattle.std.specs.Prelude.{◌≡◌, ◌<◌, ℕ, length, slice_index, AllPairs, IfSome, IfNone};
+ghost use Rattle.ch_graph.specs.Hierarchy.{IsWellMade, IsLinkAt, ComesBefore};
 
 use crate::link::Link;
 use ch_cost::Cost;
@@ -72,5 +72,28 @@ impl Hierarchy {
         ensures { result.now ≡ self.now.links }
     {
         self.links.as_slice()
+    }
+
+    /// The place of the link from one node to another, or none where there is no such link. Looks at as many links as
+    /// the number of links has binary digits.
+    pub fn find(&self, from: u32, to: u32) -> Option<LinkId>
+        ensures found { IfSome result (λ id. IsLinkAt self.now.links from to id.0) }
+        ensures none { IfNone result ((place : ℕ) → IsLinkAt self.now.links from to place → ⊥) }
+    {
+        find_link(self.links.as_slice(), from, to)
+    }
+}
+
+/// The place of the link from one node to another among links in rising order of their ends, or none where there is
+/// no such link. It takes no memory, and looks at as many links as their number has binary digits.
+pub fn find_link(links: &[Link], from: u32, to: u32) -> Option<LinkId>
+    requires { AllPairs ComesBefore links.now }
+    ensures found { IfSome result (λ id. IsLinkAt links.now from to id.0) }
+    ensures none { IfNone result ((place : ℕ) → IsLinkAt links.now from to place → ⊥) }
+{
+    let search = links.binary_search_by_key(&(from, to), |link| (link.from, link.to));
+    match search {
+        Ok(place) => Some(LinkId(place)),
+        Err(_) => None,
     }
 }

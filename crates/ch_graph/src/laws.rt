@@ -1,5 +1,6 @@
 ghost use Rattle.ch_graph.specs.Graph.{DistanceIsUnique, DistanceIsWithinBound};
 ghost use Rattle.ch_graph.specs.Hierarchy.{ValueIsUnique};
+ghost use Rattle.ch_graph.specs.Unfolding.{LinksUnfold};
 
 /// Every distance is within the bound of its graph: a least walk repeats no node, so it has fewer arcs than there
 /// are nodes. It does nothing when it runs.
@@ -15,4 +16,9 @@ pub fn distance_is_unique()
 /// Two nodes have one value in a hierarchy, or none. It does nothing when it runs.
 pub fn value_is_unique()
     ensures { ValueIsUnique }
+{}
+
+/// Each link of a well made hierarchy stands for one list of links without a middle. It does nothing when it runs.
+pub fn links_unfold()
+    ensures { LinksUnfold }
 {}

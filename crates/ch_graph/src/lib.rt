@@ -19,7 +19,7 @@ mod search;
 mod step;
 
 pub use graph::Graph;
-pub use hierarchy::{Hierarchy, LinkId};
-pub use laws::{distance_is_unique, distance_is_within_bound, value_is_unique};
+pub use hierarchy::{Hierarchy, LinkId, find_link};
+pub use laws::{distance_is_unique, distance_is_within_bound, links_unfold, value_is_unique};
 pub use link::Link;
 pub use road::Road;

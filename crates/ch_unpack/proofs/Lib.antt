@@ -1,0 +1,4 @@
+pub mod Finding
+pub mod Refining
+pub mod UnderWay
+pub mod SmallHierarchies
