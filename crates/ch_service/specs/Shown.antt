@@ -1,0 +1,20 @@
+-- What is shown of a refusal.
+use Rattle.std.specs.Prelude.{ℕ, List, ◌++◌, codes}
+use Rattle.grfile.specs.Names.{error_text}
+use Rattle.grfile.specs.declared.error.GrErrorKind.{GrErrorKind}
+use Rattle.grfile.specs.declared.error.GrErrorKind.TheVariants as kinds
+use Rattle.ch_service.specs.declared.error.ServiceError.{ServiceError}
+use Rattle.ch_service.specs.declared.error.ServiceError.TheVariants.{Graph, Queries, Write, OutOfMemory}
+
+-- want of memory and a failed read are shown alike, whichever text they came with
+abbrev pub shown_unless_own : GrErrorKind → List ℕ → List ℕ
+shown_unless_own kinds.OutOfMemory text = codes "memory"
+shown_unless_own kinds.Read text = codes "read"
+shown_unless_own kind text = text
+
+-- one line, without its end
+abbrev pub shown : ServiceError → List ℕ
+shown (Graph fault) = shown_unless_own fault.kind (codes "graph: " ++ error_text fault)
+shown (Queries fault) = shown_unless_own fault.kind (codes "queries: " ++ error_text fault)
+shown (Write fault) = codes "write"
+shown OutOfMemory = codes "memory"

@@ -1,0 +1,91 @@
+ghost use Rattle.std.specs.Prelude.{ℕ, All, OnOk, IfErr, IfSome, take};
+ghost use Rattle.grfile.specs.Reading.{IsPair};
+ghost use Rattle.ch_service.specs.Answer.{Answers, AnswersFirst, Answered};
+ghost use Rattle.ch_service.specs.Joined.{graph_part, pairs_part};
+ghost use Rattle.ch_service.specs.Outcome.{IfTold, Writes, IsFaultOf, KeepsAtFault, StopsShort, ComesOfAnswering};
+
+use crate::error::ServiceError;
+use crate::input::read_whole;
+use crate::joined::parts;
+use crate::line::push_answer;
+use crate::output::Output;
+use ch_graph::Graph;
+use grfile::{read_graph, read_queries};
+use std::alloc::Global;
+use std::io::{Read, Write};
+
+/// Answers pairs of nodes over a graph, by a plain search for each pair.
+///
+/// `gr` gives the text of the graph, `queries` the text of the pairs, and `out` gets one line for each pair, in
+/// order. The texts are read first, the graph's before the pairs', and where one is refused nothing is written.
+/// Where memory is refused while pairs are answered, the lines of the pairs before are written first. Takes memory
+/// for the graph, the pairs, one search at a time, and about 64 KiB of lines.
+pub fn answer<G: Read, Q: Read, W: Write>(
+    alloc: Global,
+    gr: &mut G,
+    queries: &mut Q,
+    out: &mut W,
+) -> Result<(), ServiceError>
+    ensures answers { OnOk result (IfTold (G.remaining gr.old) (Q.remaining queries.old)
+        (λ graph pairs. Writes (Answers graph pairs) (W.contents out.old) (W.contents out.new))) }
+
+    // At a refusal.
+    ensures fault { IfErr result (λ e. IfTold (G.remaining gr.old) (Q.remaining queries.old)
+        (λ graph pairs. IsFaultOf graph pairs e)) }
+    ensures untouched { IfErr result (KeepsAtFault (W.contents out.old) (W.contents out.new)) }
+    ensures stops { IfErr result (λ e. IfTold (G.remaining gr.old) (Q.remaining queries.old)
+        (λ graph pairs. StopsShort (AnswersFirst graph pairs) (W.contents out.old) (W.contents out.new) e)) }
+{
+    let graph = read_graph(alloc, gr).map_err(ServiceError::Graph)?;
+    let pairs = read_queries(alloc, queries, graph.nodes()).map_err(ServiceError::Queries)?;
+    answer_pairs(alloc, &graph, pairs.as_slice(), out)
+}
+
+/// Answers pairs of nodes as [`answer`] does, where one input holds both texts: the graph's, a line that is the
+/// single byte `%`, and the pairs'. The lines of each text are counted by themselves.
+///
+/// The input is read to its end first. A read that fails is a fault of the graph's text, at one more line than there
+/// were line feeds before it.
+pub fn answer_joined<R: Read, W: Write>(
+    alloc: Global,
+    input: &mut R,
+    out: &mut W,
+) -> Result<(), ServiceError>
+    ensures answers { OnOk result (IfSome (R.remaining input.old)
+        (λ text. Writes (Answers (graph_part text) (pairs_part text)) (W.contents out.old) (W.contents out.new))) }
+
+    // At a refusal.
+    ensures fault { IfErr result (λ e. IfSome (R.remaining input.old)
+        (λ text. IsFaultOf (graph_part text) (pairs_part text) e)) }
+    ensures untouched { IfErr result (KeepsAtFault (W.contents out.old) (W.contents out.new)) }
+    ensures stops { IfErr result (λ e. IfSome (R.remaining input.old)
+        (λ text. StopsShort (AnswersFirst (graph_part text) (pairs_part text)) (W.contents out.old) (W.contents out.new) e)) }
+{
+    let text = read_whole(alloc, input)?;
+    let (mut graph, mut pairs) = parts(text.as_slice());
+    answer(alloc, &mut graph, &mut pairs, out)
+}
+
+// Writes the answers to the pairs, in order.
+fn answer_pairs<W: Write>(
+    alloc: Global,
+    graph: &Graph,
+    pairs: &[(u32, u32)],
+    out: &mut W,
+) -> Result<(), ServiceError>
+    requires { All (IsPair graph.now.nodes) pairs.now }
+    ensures answers { OnOk result (Writes (Answered graph.now pairs.now) (W.contents out.old) (W.contents out.new)) }
+    ensures kinds { IfErr result ComesOfAnswering }
+    ensures stops { IfErr result (StopsShort (λ text. (count : ℕ) × Answered graph.now (take count pairs.now) text) (W.contents out.old) (W.contents out.new)) }
+{
+    let mut output = Output::new(alloc);
+    for pair in pairs {
+        if push_answer(alloc, graph, *pair, &mut output.lines).is_err() {
+            output.hand_over(out)?;
+            return Err(ServiceError::OutOfMemory);
+        }
+        output.hand_over_if_many(out)?;
+    }
+    output.hand_over(out)?;
+    Ok(())
+}

@@ -1,0 +1,70 @@
+ghost use Rattle.std.specs.Prelude.{◌≡◌, Some};
+ghost use Rattle.ch_service.specs.Shown.{shown};
+ghost use Rattle.ch_service.specs.declared.error.ServiceError.TheVariants.{OutOfMemory, Write};
+
+use grfile::{GrError, GrErrorKind};
+use std::alloc::AllocError;
+use std::error::Error;
+use std::fmt;
+
+/// A writer failed, or took no byte of what it was given.
+#[derive(Clone, Copy, Debug, PartialEq, Eq)]
+pub struct WriteFault {
+    /// How many bytes it had taken.
+    pub written: u64,
+}
+
+/// Why a call didn't answer all pairs.
+///
+/// What is shown of one is the line that the program prints: want of memory and failed reads are shown alike,
+/// whichever part of the work met them.
+#[derive(Clone, Copy, Debug, PartialEq, Eq)]
+pub enum ServiceError {
+    /// The text of the graph was refused, or couldn't be read.
+    Graph(GrError),
+    /// The text of the pairs was refused, or couldn't be read.
+    Queries(GrError),
+    /// The answers couldn't be written.
+    Write(WriteFault),
+    /// Memory was refused beside the reading of the texts.
+    OutOfMemory,
+}
+
+impl fmt::Display for ServiceError {
+    ghost output = { λ e. Some (shown e) };
+
+    fn fmt<W: fmt::Write>(&self, f: &mut fmt::Formatter<W>) -> fmt::Result {
+        match self {
+            ServiceError::Graph(fault) => match fault.kind {
+                GrErrorKind::OutOfMemory => write!(f, "memory"),
+                GrErrorKind::Read => write!(f, "read"),
+                _ => write!(f, "graph: {fault}"),
+            },
+            ServiceError::Queries(fault) => match fault.kind {
+                GrErrorKind::OutOfMemory => write!(f, "memory"),
+                GrErrorKind::Read => write!(f, "read"),
+                _ => write!(f, "queries: {fault}"),
+            },
+            ServiceError::Write(_) => write!(f, "write"),
+            ServiceError::OutOfMemory => write!(f, "memory"),
+        }
+    }
+}
+
+impl Error for ServiceError {}
+
+impl From<AllocError> for ServiceError {
+    ghost from_gives = { λ _ e. e ≡ OutOfMemory };
+
+    fn from(_refused: AllocError) -> ServiceError {
+        ServiceError::OutOfMemory
+    }
+}
+
+impl From<WriteFault> for ServiceError {
+    ghost from_gives = { λ fault e. e ≡ Write fault };
+
+    fn from(fault: WriteFault) -> ServiceError {
+        ServiceError::Write(fault)
+    }
+}

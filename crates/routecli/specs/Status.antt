@@ -1,0 +1,51 @@
+-- How the program ends.
+use Rattle.std.specs.Prelude.{ℕ, ◌≡◌, ◌⊎◌, List, Option, Ok, Err}
+use Rattle.std.specs.Io.KnownBytes.{Keeps}
+use Rattle.ch_graph.specs.Graph.{Graph}
+use Rattle.grfile.specs.Reading.{graph_of, pairs_of}
+use Rattle.grfile.specs.declared.error.GrError.{GrError}
+use Rattle.grfile.specs.declared.error.GrErrorKind.{GrErrorKind}
+use Rattle.grfile.specs.declared.error.GrErrorKind.TheVariants as kinds
+use Rattle.routecli.specs.declared.job.Stop.{Stop}
+use Rattle.routecli.specs.declared.job.Stop.TheVariants as stops
+use Rattle.ch_service.specs.declared.error.ServiceError.{ServiceError}
+use Rattle.ch_service.specs.declared.error.ServiceError.TheVariants as service
+use Rattle.ch_service.specs.Answer.{Answers}
+use Rattle.ch_service.specs.Outcome.{Writes}
+
+-- want of memory and a failed read have statuses of their own, whichever text they came with
+abbrev pub status_unless_own : GrErrorKind → ℕ → ℕ
+status_unless_own kinds.OutOfMemory status = 6
+status_unless_own kinds.Read status = 7
+status_unless_own kind status = status
+
+-- the status of a refusal
+abbrev pub status_of : ServiceError → ℕ
+status_of (service.Graph fault) = status_unless_own fault.kind 3
+status_of (service.Queries fault) = status_unless_own fault.kind 5
+status_of (service.Write fault) = 7
+status_of service.OutOfMemory = 6
+
+-- the graph's text has a fault
+pub record HasGraphFault (graph_text : List ℕ) : Type 0 where
+  pub fault : GrError
+  pub reads : graph_of graph_text ≡ Err fault
+
+-- the graph's text has none, and that of the pairs has one
+pub record HasPairsFault (graph_text pairs_text : List ℕ) : Type 0 where
+  pub graph : Graph
+  pub fault : GrError
+  pub graph_reads : graph_of graph_text ≡ Ok graph
+  pub pairs_read : pairs_of graph.nodes pairs_text ≡ Err fault
+
+-- what the status of an answering job tells of the two texts, and of what was written
+pub record Tells (status : ℕ) (graph_text pairs_text : List ℕ) (old new : Option (List ℕ)) : Type 0 where
+  pub done : status ≡ 0 → Writes (Answers graph_text pairs_text) old new
+  pub graph : status ≡ 3 → HasGraphFault graph_text × Keeps old new
+  pub pairs : status ≡ 5 → HasPairsFault graph_text pairs_text × Keeps old new
+
+-- The status where there is no job. Help that can't be written ends as a failed write does.
+abbrev pub HasStatus : Stop → ℕ → Type 0
+HasStatus (stops.Help text) status = (status ≡ 0) ⊎ (status ≡ 7)
+HasStatus (stops.Refused text) status = status ≡ 2
+HasStatus stops.OutOfMemory status = status ≡ 6

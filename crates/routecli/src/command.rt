@@ -1,0 +1,91 @@
+ghost use Rattle.std.specs.Prelude.{◌≡◌, true, false, IfOk};
+ghost use Rattle.clap.specs.declared.builder.command.Command.TheViews.{out-Command};
+
+use crate::job::{Job, Stop};
+use clap::error::ErrorKind;
+use clap::{Arg, ArgAction, Command, Error};
+use std::alloc::{AllocError, Global};
+
+/// What the words of a command line ask for. The first word is the program's name.
+///
+/// Words that ask for help, and words that are refused, stop with the text for the user.
+pub fn command(alloc: Global, words: &[String]) -> Result<Job<'_>, Stop> {
+    match read_words(alloc, words) {
+        Ok(job) => Ok(job),
+        Err(error) => Err(stop_of(alloc, &error)),
+    }
+}
+
+// How the program stops at an error of the command line.
+fn stop_of(alloc: Global, error: &Error) -> Stop {
+    if error.kind() == ErrorKind::OutOfMemory {
+        return Stop::OutOfMemory;
+    }
+    match error.to_string(alloc) {
+        Ok(text) if error.use_stderr() => Stop::Refused(text),
+        Ok(text) => Stop::Help(text),
+        Err(_) => Stop::OutOfMemory,
+    }
+}
+
+// The job that the words name, or the error that tells the user.
+fn read_words(alloc: Global, words: &[String]) -> Result<Job<'_>, Error> {
+    let program = program(alloc)?;
+    let matches = program.try_get_matches_from(words)?;
+    let Some((_, found)) = matches.subcommand() else {
+        unreachable!()
+    };
+    match (found.get_str("GRAPH"), found.get_str("QUERIES")) {
+        (Some(graph), Some(queries)) => Ok(Job::Answer { graph, queries }),
+        _ => Err(missing_file(alloc)?),
+    }
+}
+
+// The error of a command line without a file that is required.
+fn missing_file(alloc: Global) -> Result<Error, AllocError> {
+    let mut answer = answer(alloc)?;
+    answer.error(
+        ErrorKind::MissingRequiredArgument,
+        "GRAPH and QUERIES are required",
+    )
+}
+
+// The program's command line.
+fn program<'a>(alloc: Global) -> Result<Command<'a>, AllocError>
+    ensures local { IfOk result (λ program. (out-Command program).has_globals ≡ false) }
+    ensures needs { IfOk result (λ program. (out-Command program).subcommand_required ≡ true) }
+{
+    let program = Command::new(alloc, "routecli")
+        .about("Answers pairs of nodes of a road graph with the least length of a walk")
+        .after_help(STATUSES)
+        .subcommand(answer(alloc)?)?;
+    Ok(program.subcommand_required(true))
+}
+
+fn answer<'a>(alloc: Global) -> Result<Command<'a>, AllocError>
+    ensures { IfOk result (λ answer. (out-Command answer).has_globals ≡ false) }
+{
+    let graph = Arg::new(alloc, "GRAPH")
+        .help(
+            "File of the graph: p sp N M, and a line a U V W for each arc from U to V of weight W",
+        )
+        .required(true)
+        .action(ArgAction::Set);
+    let queries = Arg::new(alloc, "QUERIES")
+        .help("File of the pairs: p aux sp p2p K, and a line q S T for each pair")
+        .required(true)
+        .action(ArgAction::Set);
+    Command::new(alloc, "answer")
+        .about(
+            "Answers pairs of nodes: r S T LENGTH with the least length of a walk, or n S T where there is none",
+        )
+        .after_help(JOINED)
+        .arg(graph)?
+        .arg(queries)
+}
+
+const STATUSES: &str =
+    "Exit status: 0 done, 2 command line, 3 graph text, 5 text of pairs, 6 memory, 7 reading or writing";
+
+const JOINED: &str =
+    "With - for both files standard input has both texts, parted by a line that is %.";

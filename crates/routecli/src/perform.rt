@@ -1,0 +1,122 @@
+ghost use Rattle.std.specs.Prelude.{◌≡◌, true, false, IfSome};
+ghost use Rattle.ch_service.specs.Joined.{graph_part, pairs_part};
+ghost use Rattle.ch_service.specs.Outcome.{IfTold};
+ghost use Rattle.routecli.specs.Job.{is_joined};
+ghost use Rattle.routecli.specs.Status.{HasStatus, Tells, status_of, status_unless_own};
+
+use crate::job::{Job, Stop};
+use ch_service::{ServiceError, answer, answer_joined};
+use grfile::GrErrorKind;
+use std::alloc::Global;
+use std::io::{Read, Write};
+
+/// Does the job and answers the program's exit status.
+///
+/// `first` gives the graph's text and `second` that of the pairs; where both stand in one input, `first` gives it and
+/// `second` isn't read. Answers go to `out`. Of a refusal one line goes to `err`.
+pub fn perform<A: Read, B: Read, W: Write, E: Write>(
+    alloc: Global,
+    job: &Job<'_>,
+    first: &mut A,
+    second: &mut B,
+    out: &mut W,
+    err: &mut E,
+) -> u8
+    ensures two { is_joined job.now ≡ false → IfTold (A.remaining first.old) (B.remaining second.old)
+        (λ graph pairs. Tells result graph pairs (W.contents out.old) (W.contents out.new)) }
+    ensures joined { is_joined job.now ≡ true → IfSome (A.remaining first.old)
+        (λ text. Tells result (graph_part text) (pairs_part text) (W.contents out.old) (W.contents out.new)) }
+{
+    if job.is_joined() {
+        return perform_joined(alloc, first, out, err);
+    }
+    perform_two(alloc, first, second, out, err)
+}
+
+// Answers the pairs of one text over the graph of another.
+fn perform_two<A: Read, B: Read, W: Write, E: Write>(
+    alloc: Global,
+    graph: &mut A,
+    queries: &mut B,
+    out: &mut W,
+    err: &mut E,
+) -> u8
+    ensures { IfTold (A.remaining graph.old) (B.remaining queries.old)
+        (λ graph_text pairs_text. Tells result graph_text pairs_text (W.contents out.old) (W.contents out.new)) }
+{
+    match answer(alloc, graph, queries, out) {
+        Ok(()) => 0,
+        Err(error) => report(&error, err),
+    }
+}
+
+// Answers the pairs of a joined input.
+fn perform_joined<A: Read, W: Write, E: Write>(
+    alloc: Global,
+    input: &mut A,
+    out: &mut W,
+    err: &mut E,
+) -> u8
+    ensures { IfSome (A.remaining input.old)
+        (λ text. Tells result (graph_part text) (pairs_part text) (W.contents out.old) (W.contents out.new)) }
+{
+    match answer_joined(alloc, input, out) {
+        Ok(()) => 0,
+        Err(error) => report(&error, err),
+    }
+}
+
+// Writes the line of the refusal and answers its status. Where the line can't be written there is nobody to tell.
+fn report<E: Write>(error: &ServiceError, err: &mut E) -> u8
+    ensures { result ≡ status_of error.now }
+{
+    let _ = writeln!(err, "routecli: {error}");
+    status(error)
+}
+
+fn status(error: &ServiceError) -> u8
+    ensures { result ≡ status_of error.now }
+{
+    match error {
+        ServiceError::Graph(fault) => status_unless_own(fault.kind, 3),
+        ServiceError::Queries(fault) => status_unless_own(fault.kind, 5),
+        ServiceError::Write(_) => 7,
+        ServiceError::OutOfMemory => 6,
+    }
+}
+
+// The status of a text's fault, where it is one of the text's own.
+fn status_unless_own(kind: GrErrorKind, status: u8) -> u8
+    ensures { result ≡ status_unless_own kind status }
+{
+    match kind {
+        GrErrorKind::OutOfMemory => 6,
+        GrErrorKind::Read => 7,
+        _ => status,
+    }
+}
+
+/// Shows why the command line names no job, and answers the program's exit status.
+pub fn stop<W: Write, E: Write>(stop: &Stop, out: &mut W, err: &mut E) -> u8
+    ensures { HasStatus stop.now result }
+{
+    match stop {
+        Stop::Help(text) => match out.write_all(text.as_bytes()) {
+            Ok(()) => 0,
+            Err(_) => end(7, "write", err),
+        },
+        Stop::Refused(text) => {
+            let _ = err.write_all(text.as_bytes());
+            2
+        }
+        Stop::OutOfMemory => end(6, "memory", err),
+    }
+}
+
+/// Writes a line of the program's own and answers the status.
+pub fn end<E: Write>(status: u8, line: &str, err: &mut E) -> u8
+    ensures { result ≡ status }
+{
+    let _ = writeln!(err, "routecli: {line}");
+    status
+}
