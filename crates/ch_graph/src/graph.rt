@@ -5,7 +5,7 @@ ghost use Rattle.ch_graph.specs.Graph.{IsGraph, IsDistance, IsWalkThrough, bound
 use crate::road::Road;
 use crate::{search, step};
 use ch_cost::Cost;
-use std::alloc::{AllocError, Global};
+use std::alloc::AllocError;
 use std::marker::Model;
 
 /// A directed graph whose arcs have weights. Its nodes are the numbers below [`Graph::nodes`].
@@ -77,12 +77,13 @@ impl Graph {
     ///
     /// By Dijkstra's algorithm (1959). Of N nodes and M arcs it takes time by (N + M) log N, and memory for two
     /// numbers a node and one an arc, and for a queue of at most M + 1 entries. Fails only for want of memory.
-    pub fn least(&self, alloc: Global, source: u32, target: u32) -> Result<Option<Cost>, AllocError>
+    pub fn least(&self, source: u32, target: u32) -> Result<Option<Cost>, AllocError>
         requires source_in { source < self.now.nodes }
         requires target_in { target < self.now.nodes }
         ensures distance { IfOk result (IsDistance self.now source target) }
         ensures bounded { IfOk result (λ found. IfSome found (λ c. IsWithin c (bound_of self.now))) }
     {
+        let alloc = *self.arcs.allocator();
         search::least_cost(alloc, self, source, target)
     }
 

@@ -71,12 +71,7 @@ impl<'a> Search<'a> {
     /// From a node to itself it is the walk of no link, at no cost. Both nodes are numbered from 0. Takes time linear
     /// in nodes and links, and memory linear in nodes: this is the plain program, which labels every node that
     /// either side comes to.
-    pub fn distance(
-        &mut self,
-        alloc: Global,
-        source: u32,
-        target: u32,
-    ) -> Result<Option<Found>, AllocError>
+    pub fn distance(&mut self, source: u32, target: u32) -> Result<Option<Found>, AllocError>
         requires source_in { source < length self.old.ranks }
         requires target_in { target < length self.old.ranks }
         ensures value { IfOk result (λ found. IsValue self.old source target (option_map (λ f. f.cost) found)) }
@@ -84,6 +79,7 @@ impl<'a> Search<'a> {
         ensures positions { IfOk result (λ found. IfSome found (λ f. All (λ id. id.0 < length self.old.links) f.links.items)) }
         ensures kept { self.new ≡ self.old }
     {
+        let alloc = *self.order.allocator();
         let hierarchy = self.hierarchy;
         let up = Climb::new(
             alloc,

@@ -44,7 +44,7 @@ fn a_node_and_itself(rt: HostRuntime) -> Result<(), Fail> {
     let alloc = rt.alloc();
     let hierarchy = one_node(alloc)?;
     let mut search = Search::new(alloc, &hierarchy)?;
-    let found = search.distance(alloc, 0, 0)?.expect(&rt, "a walk");
+    let found = search.distance(0, 0)?.expect(&rt, "a walk");
     assert!(rt; found.cost == Cost::ZERO && found.links.is_empty());
     Ok(())
 }
@@ -54,11 +54,11 @@ fn over_one_arc(rt: HostRuntime) -> Result<(), Fail> {
     let alloc = rt.alloc();
     let hierarchy = one_arc(alloc)?;
     let mut search = Search::new(alloc, &hierarchy)?;
-    let found = search.distance(alloc, 0, 1)?.expect(&rt, "a walk");
+    let found = search.distance(0, 1)?.expect(&rt, "a walk");
     assert_eq!(rt; found.cost.length(), 7);
     assert!(rt; found.links.as_slice() == [LinkId(0)].as_slice());
-    assert!(rt; search.distance(alloc, 1, 0)?.is_none());
-    let found = search.distance(alloc, 0, 0)?.expect(&rt, "a walk");
+    assert!(rt; search.distance(1, 0)?.is_none());
+    let found = search.distance(0, 0)?.expect(&rt, "a walk");
     assert!(rt; found.cost == Cost::ZERO && found.links.is_empty());
     Ok(())
 }

@@ -80,7 +80,7 @@ fn answer_pairs<W: Write>(
 {
     let mut output = Output::new(alloc);
     for pair in pairs {
-        if push_answer(alloc, graph, *pair, &mut output.lines).is_err() {
+        if push_answer(graph, *pair, &mut output.lines).is_err() {
             output.hand_over(out)?;
             return Err(ServiceError::OutOfMemory);
         }

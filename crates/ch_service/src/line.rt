@@ -6,20 +6,15 @@ ghost use Rattle.grfile.specs.Reading.{IsPair};
 use ch_cost::Cost;
 use ch_graph::Graph;
 use itoa::Buffer;
-use std::alloc::{AllocError, Global};
+use std::alloc::AllocError;
 
 /// Appends the line that answers the pair. Where memory is refused the lines stay as they were.
-pub fn push_answer(
-    alloc: Global,
-    graph: &Graph,
-    pair: (u32, u32),
-    lines: &mut Vec<u8>,
-) -> Result<(), AllocError>
+pub fn push_answer(graph: &Graph, pair: (u32, u32), lines: &mut Vec<u8>) -> Result<(), AllocError>
     requires { IsPair graph.now.nodes pair }
     ensures ok { OnOk result ((line : List ℕ) × IsAnswer graph.now pair line × (lines.new.items ≡ lines.old.items ++ line)) }
     ensures err { OnErr result (lines.new.items ≡ lines.old.items) }
 {
-    let distance = graph.least(alloc, pair.0, pair.1)?;
+    let distance = graph.least(pair.0, pair.1)?;
     let start = lines.len();
     let pushed = push_line(pair, distance, lines);
     if pushed.is_err() {

@@ -48,14 +48,13 @@ fn graph_of(
 /// Compares least lengths, each given by its ends.
 fn check_least(
     rt: &impl Abort,
-    alloc: Global,
     graph: &Graph,
     lengths: &[(u32, u32, Option<u64>)],
 ) -> Result<(), Fail> {
     for (source, target, length) in lengths {
         assert!(rt; *source < graph.nodes());
         assert!(rt; *target < graph.nodes());
-        let least = graph.least(alloc, *source, *target)?;
+        let least = graph.least(*source, *target)?;
         assert_eq!(rt;
             least.map(|cost| cost.length()),
             *length,
@@ -91,7 +90,7 @@ fn keeps_what_it_is_made_of(rt: HostRuntime) -> Result<(), Fail> {
 fn adds_arcs_in_a_row(rt: HostRuntime) -> Result<(), Fail> {
     let graph = graph_of(&rt, rt.alloc(), 3, &ROW)?;
     let lengths = [(1, 2, Some(5)), (2, 1, None), (1, 1, Some(0))];
-    check_least(&rt, rt.alloc(), &graph, &lengths)
+    check_least(&rt, &graph, &lengths)
 }
 
 #[test]
@@ -99,7 +98,7 @@ fn takes_the_least_of_parallel_arcs(rt: HostRuntime) -> Result<(), Fail> {
     let graph = graph_of(&rt, rt.alloc(), 2, &PARALLEL)?;
     assert_eq!(rt; graph.bound().length(), 12);
     let lengths = [(0, 1, Some(4)), (0, 0, Some(0)), (1, 0, None)];
-    check_least(&rt, rt.alloc(), &graph, &lengths)
+    check_least(&rt, &graph, &lengths)
 }
 
 #[test]
@@ -114,7 +113,7 @@ fn goes_round_a_heavy_arc(rt: HostRuntime) -> Result<(), Fail> {
     ];
     let graph = graph_of(&rt, rt.alloc(), 4, &arcs)?;
     let lengths = [(0, 3, Some(7)), (0, 1, Some(2)), (2, 0, Some(7))];
-    check_least(&rt, rt.alloc(), &graph, &lengths)
+    check_least(&rt, &graph, &lengths)
 }
 
 #[test]
@@ -123,21 +122,21 @@ fn adds_the_heaviest_weights(rt: HostRuntime) -> Result<(), Fail> {
     let graph = graph_of(&rt, rt.alloc(), 4, &arcs)?;
     assert_eq!(rt; graph.bound().length(), 12884901885);
     let lengths = [(2, 3, Some(8589934590)), (3, 2, None)];
-    check_least(&rt, rt.alloc(), &graph, &lengths)
+    check_least(&rt, &graph, &lengths)
 }
 
 #[test]
 fn takes_one_heaviest_arc(rt: HostRuntime) -> Result<(), Fail> {
     let graph = graph_of(&rt, rt.alloc(), 2, &[(0, 1, HEAVY)])?;
     assert_eq!(rt; graph.bound().length(), 4294967295);
-    check_least(&rt, rt.alloc(), &graph, &[(0, 1, Some(4294967295))])
+    check_least(&rt, &graph, &[(0, 1, Some(4294967295))])
 }
 
 #[test]
 fn stays_at_a_node_without_arcs(rt: HostRuntime) -> Result<(), Fail> {
     let graph = graph_of(&rt, rt.alloc(), 1, &[])?;
     assert_eq!(rt; graph.bound().length(), 0);
-    check_least(&rt, rt.alloc(), &graph, &[(0, 0, Some(0))])
+    check_least(&rt, &graph, &[(0, 0, Some(0))])
 }
 
 #[test]
