@@ -1,0 +1,4 @@
+pub mod Buffer
+pub mod Faults
+pub mod Spelled
+pub mod Heads
