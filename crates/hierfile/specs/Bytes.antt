@@ -1,8 +1,9 @@
 -- What is known of the bytes of a reader and of a writer on the way.
-use Rattle.std.specs.Prelude.{ℕ, ◌≡◌, ◌+◌, ◌<◌, List, ◌++◌, length, Option, Some, None, IfSome, Result, Ok, Err, ⊤, Bool, false, ◌==◌, slice_index_or}
+use Rattle.std.specs.Prelude.{ℕ, ◌≡◌, ◌+◌, ◌-◌, ◌^◌, ◌<◌, List, ◌++◌, length, Option, Some, None, IfSome, Result, Ok, Err, ⊤, Bool, false, ◌==◌, slice_index_or}
 use Rattle.std.specs.List.{list_any}
 use Rattle.std.specs.Io.KnownBytes.{Appends, prepend_known}
 use Rattle.ch_cost.specs.Cost.{length_of}
+use Rattle.ch_graph.specs.declared.link.Link.{Link}
 use Rattle.ch_graph.specs.Hierarchy.{Hierarchy}
 use Rattle.hierfile.specs.declared.error.HierError.{HierError}
 use Rattle.hierfile.specs.declared.error.HierError.TheVariants.{OutOfMemory, Read, BadMagic, Truncated, TooBig, BoundTooBig, RankRange, RankTwice, LinkEnds, LinkOrder, LinkWeight, MiddleRange, MiddleRank, HalfMissing, HalfSum, Trailing}
@@ -33,6 +34,13 @@ NoneBelow n fault_at = (k : ℕ) → k < n → fault_at k ≡ None
 -- the marks say of each number whether it is one of these
 abbrev pub IsSeen : List Bool → List ℕ → Type 0
 IsSeen marks numbers = (n : ℕ) → slice_index_or marks n false ≡ list_any (λ m. m == n) numbers
+
+-- a link whose numbers fit their bytes
+pub record IsWritable (l : Link) : Type 0 where
+  pub from : l.from < 2 ^ 32
+  pub to : l.to < 2 ^ 32
+  pub cost : length_of l.cost < 2 ^ 64
+  pub middle : IfSome l.middle (λ m. m < 2 ^ 32 - 1)
 
 -- a hierarchy of so many nodes and links, with a bound of this length
 pub record IsBodyOf (h : Hierarchy) (nodes count longest : ℕ) : Type 0 where

@@ -40,11 +40,13 @@ size_fault nodes links bound = fault_if (nat_lt (2 ^ 25) nodes || nat_lt (nodes 
 abbrev pub head_fault : List ℕ → Option HierError
 head_fault bytes = cut 20 bytes otherwise size_fault (word_in bytes) (long_in (drop 4 bytes)) (long_in (drop 12 bytes))
 
--- the rank at this place, among the ranks of so many nodes
-unfoldable pub rank_fault : ℕ → List ℕ → ℕ → Option HierError
-rank_fault nodes ranks k =
-    let rank = slice_index ranks k in
-    fault_if (nat_le nodes rank) RankRange otherwise fault_if (list_any (λ r. r == rank) (take k ranks)) RankTwice
+-- a rank of one of so many nodes, beside the earlier ranks
+unfoldable pub rank_test : ℕ → List ℕ → ℕ → Option HierError
+rank_test nodes earlier rank = fault_if (nat_le nodes rank) RankRange otherwise fault_if (list_any (λ r. r == rank) earlier) RankTwice
+
+-- the rank at this place
+abbrev pub rank_fault : ℕ → List ℕ → ℕ → Option HierError
+rank_fault nodes ranks k = rank_test nodes (take k ranks) (slice_index ranks k)
 
 -- the ranks that the bytes begin with
 abbrev pub ranks_fault : ℕ → List ℕ → Option HierError

@@ -1,10 +1,12 @@
-ghost use Rattle.std.specs.Prelude.{◌≡◌, ◌<◌, ℕ, length, None, Some, IfOk, IfErr, OnOk, AllPairs};
-ghost use Rattle.std.specs.List.{flat_map};
+ghost use Rattle.std.specs.Prelude.{◌≡◌, ◌==◌, ◌+◌, ◌-◌, ◌^◌, ◌<◌, ℕ, length, None, Some, All, AllPairs, IfSome, IfOk, IfErr, OnOk};
+ghost use Rattle.std.specs.List.{flat_map, find};
+ghost use Rattle.std.specs.Option.{option_map};
 ghost use Rattle.std.specs.Io.KnownBytes.{Consumes};
+ghost use Rattle.ch_cost.specs.Cost.{length_of};
 ghost use Rattle.ch_graph.specs.Hierarchy.{ComesBefore};
 ghost use Rattle.hierfile.specs.Spelling.{link_bytes, middle_number};
-ghost use Rattle.hierfile.specs.Fault.{cut, is_in_order, link_fault, link_fault_at, links_fault, middle_fault, half_fault, first_along};
-ghost use Rattle.hierfile.specs.Bytes.{coming, IsFaultOf, Tells, NoneBelow};
+ghost use Rattle.hierfile.specs.Fault.{cut, is_in_order, link_fault, link_fault_at, links_fault, middle_fault, half_fault, first_along, leads};
+ghost use Rattle.hierfile.specs.Bytes.{coming, IsFaultOf, Tells, NoneBelow, IsWritable};
 
 use crate::error::HierError;
 use crate::input::Input;
@@ -28,6 +30,7 @@ pub fn read_links<R: Read>(
     ensures count { IfOk result (λ links. length links.items ≡ count) }
     ensures faultless { IfOk result (λ links. NoneBelow count (link_fault_at ranks.now bound links.items)) }
     ensures ok { IfOk result (λ links. Consumes (coming input.old (R.remaining reader.old)) (coming input.new (R.remaining reader.new)) (flat_map link_bytes links.items)) }
+    ensures writable { IfOk result (λ links. All IsWritable links.items) }
     ensures err { IfErr result (IsFaultOf (links_fault ranks.now bound count) (coming input.old (R.remaining reader.old))) }
 {
     let mut links = Vec::new(alloc);
@@ -42,6 +45,7 @@ pub fn read_links<R: Read>(
 // Reads one link.
 fn read_link<R: Read>(input: &mut Input, reader: &mut R) -> Result<Link, HierError>
     ensures ok { IfOk result (λ link. Consumes (coming input.old (R.remaining reader.old)) (coming input.new (R.remaining reader.new)) (link_bytes link)) }
+    ensures writable { IfOk result IsWritable }
     ensures err { IfErr result (IsFaultOf (cut 20) (coming input.old (R.remaining reader.old))) }
 {
     let from = input.word(reader)?;
@@ -58,7 +62,8 @@ fn read_link<R: Read>(input: &mut Input, reader: &mut R) -> Result<Link, HierErr
 
 // The middle that this number stands for.
 fn middle_of(number: u32) -> Option<u32>
-    ensures { middle_number result ≡ number }
+    ensures number { middle_number result ≡ number }
+    ensures node { IfSome result (λ m. m < 2 ^ 32 - 1) }
 {
     if number == NO_MIDDLE {
         None
@@ -143,16 +148,34 @@ fn test_half(links: &[Link], link: Link) -> Result<(), HierError>
     let Some(middle) = link.middle else {
         return Ok(());
     };
-    let Some(first) = find_link(links, link.from, middle) else {
+    let Some(first) = length_between(links, link.from, middle) else {
         return Err(HierError::HalfMissing);
     };
-    let Some(second) = find_link(links, middle, link.to) else {
+    let Some(second) = length_between(links, middle, link.to) else {
         return Err(HierError::HalfMissing);
     };
-    let sum = links[first.0].cost.length().checked_add(links[second.0].cost.length());
-    if sum == Some(link.cost.length()) {
+    if is_sum(link.cost.length(), first, second) {
         Ok(())
     } else {
         Err(HierError::HalfSum)
+    }
+}
+
+// The length of the link from one node to another, or none where there is no such link.
+fn length_between(links: &[Link], from: u32, to: u32) -> Option<u64>
+    requires { AllPairs ComesBefore links.now }
+    ensures { result ≡ option_map (λ l. length_of l.cost) (find (leads from to) links.now) }
+{
+    let place = find_link(links, from, to)?;
+    Some(links[place.0].cost.length())
+}
+
+// Whether a number is the sum of two, which may be of any size.
+fn is_sum(whole: u64, first: u64, second: u64) -> bool
+    ensures { result ≡ (whole == first + second) }
+{
+    match first.checked_add(second) {
+        None => false,
+        Some(sum) => whole == sum,
     }
 }

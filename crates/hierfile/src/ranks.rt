@@ -2,7 +2,7 @@ ghost use Rattle.std.specs.Prelude.{◌≡◌, ◌++◌, ◌∷◌, [], ◌<◌,
 ghost use Rattle.std.specs.List.{flat_map};
 ghost use Rattle.std.specs.Io.KnownBytes.{Consumes};
 ghost use Rattle.hierfile.specs.Spelling.{word};
-ghost use Rattle.hierfile.specs.Fault.{rank_fault, ranks_fault};
+ghost use Rattle.hierfile.specs.Fault.{rank_test, rank_fault, ranks_fault};
 ghost use Rattle.hierfile.specs.Bytes.{coming, IsFaultOf, OfBytes, NoneBelow, IsSeen};
 
 use crate::error::HierError;
@@ -33,7 +33,7 @@ pub fn read_ranks<R: Read>(
 
 // Puts a rank behind those before it. `seen` says of each number up to the greatest rank whether it is one of them,
 // so it grows with the ranks that have come and not with the number of nodes.
-#[tactic(auto, unfolding(crate::specs::Fault::rank_fault))]
+#[tactic(auto, unfolding(crate::specs::Fault::rank_test))]
 fn take_rank(
     ranks: &mut Vec<u32>,
     seen: &mut Vec<bool>,
@@ -43,8 +43,8 @@ fn take_rank(
     requires { IsSeen seen.old.items ranks.old.items }
     ensures ok { OnOk result (ranks.new.items ≡ ranks.old.items ++ rank ∷ []) }
     ensures seen { OnOk result (IsSeen seen.new.items ranks.new.items) }
-    ensures faultless { OnOk result (rank_fault nodes (ranks.old.items ++ rank ∷ []) (length ranks.old.items) ≡ None) }
-    ensures err { IfErr result (λ e. OfBytes e (rank_fault nodes (ranks.old.items ++ rank ∷ []) (length ranks.old.items) ≡ Some e)) }
+    ensures faultless { OnOk result (rank_test nodes ranks.old.items rank ≡ None) }
+    ensures err { IfErr result (λ e. OfBytes e (rank_test nodes ranks.old.items rank ≡ Some e)) }
 {
     if rank >= nodes {
         return Err(HierError::RankRange);

@@ -33,4 +33,12 @@ pub returns-clause-ok : goal.returns-clause-ok
 unfolding link_bytes
 returns-clause-ok g c =
     let so_far = Consumes-trans _ _ _ _ _ (Consumes-trans _ _ _ _ _ (Consumes-trans _ _ _ _ _ c.in_ok-from.ensures.ok c.in_ok-to.ensures.ok) c.in_ok-weight.ensures.ok) c.in_ok-middle.ensures.ok in
-    rw (c.of_length.ensures, length_of-of_length c.in_ok-weight.weight, c.middle_of.ensures) so_far
+    rw (c.of_length.ensures, length_of-of_length c.in_ok-weight.weight, c.middle_of.ensures.number) so_far
+
+pub returns-clause-writable : goal.returns-clause-writable
+returns-clause-writable g c = record {
+  from = omega arith;
+  to = omega arith;
+  cost = rw (c.of_length.ensures, length_of-of_length c.in_ok-weight.weight) (omega arith);
+  middle = c.middle_of.ensures.node;
+}
