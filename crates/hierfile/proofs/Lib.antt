@@ -6,3 +6,5 @@ pub mod RankFaults
 pub mod LinkFaults
 pub mod Halves
 pub mod WellMade
+pub mod Bodies
+pub mod Whole

@@ -1,5 +1,5 @@
 -- Without faults a hierarchy is well made.
-use Rattle.std.proofs.Common.{ℕ, zero, suc, ◌≡◌, ◌≢◌, ◌+◌, ◌-◌, ◌*◌, ◌^◌, ◌<◌, ◌≤◌, ◌⊎◌, ◌==◌, ◌||◌, ◌&&◌, not, Bool, true, false, List, [], ◌∷◌, length, get_or, take, Option, None, Some, All, AllPairs, Contains, inl, inr, sym, refl, ap, ◌∙◌, subst, arith}
+use Rattle.std.proofs.Common.{ℕ, zero, suc, ◌≡◌, ◌≢◌, ◌+◌, ◌-◌, ◌*◌, ◌^◌, ◌<◌, ◌≤◌, ◌⊎◌, ◌==◌, ◌||◌, ◌&&◌, not, Bool, true, false, cond, List, [], ◌∷◌, length, get_or, take, Option, None, Some, All, AllPairs, Contains, inl, inr, sym, refl, ap, ◌∙◌, subst, arith}
 use Rattle.std.specs.Prelude.{nat_lt, nat_le, slice_index, slice_get, option_and_then}
 use Rattle.std.specs.List.{list_any, find}
 use Rattle.std.proofs.lemmas.Bool.{cases_lt}
@@ -160,3 +160,101 @@ links_sorted ranks bound ls none = chain ls (λ k d within.
     let back : suc k - 1 ≡ k = omega arith in
     let earlier : slice_get (take (suc k) ls) (suc k - 1) ≡ Some (get_or ls k d) = ap (slice_get (take (suc k) ls)) back ∙ slice_get-at (take (suc k) ls) k d room ∙ ap (λ (l : Link). Some l) (get_or-take (suc k) ls k d (omega arith)) in
     before-true (get_or ls k d) (get_or ls (suc k) d) (subst (λ (o : Option Link). is_in_order o (get_or ls (suc k) d) ≡ true) earlier facts.ordered))
+
+-- Halves
+
+along_none : (f : Link → Option HierError) (ls : List Link) → first_along f ls ≡ None → (k : ℕ) (d : Link) → k < length ls → f (get_or ls k d) ≡ None
+along_none f [] none k d h = absurd (omega arith)
+along_none f (l ∷ ls) none zero d h = first_none (f l) (first_along f ls) none
+along_none f (l ∷ ls) none (suc k) d h = along_none f ls (second_none (f l) (first_along f ls) none) k d (omega arith)
+
+-- a link of the list with these ends
+record IsFound (x y : ℕ) (ls : List Link) (a : Link) : Type 0 where
+  among : Contains ls a
+  from : a.from ≡ x
+  to : a.to ≡ y
+
+find-some : (x y : ℕ) (ls : List Link) (a : Link) → find (leads x y) ls ≡ Some a → IsFound x y ls a
+find-some x y [] a h = absurd (cc)
+find-some x y (l ∷ ls) a h =
+    elim (leads x y l) as (λ b. leads x y l ≡ b → cond b (Some l) (find (leads x y) ls) ≡ Some a → IsFound x y (l ∷ ls) a) [
+      | true ↦ λ is here. let same : l ≡ a = cc in subst (λ (r : Link). IsFound x y (l ∷ ls) r) same (record { among = (0, omega arith, refl); from = (leads-to x y l is).0; to = (leads-to x y l is).1 })
+      | false ↦ λ is there. let f = find-some x y ls a there in record { among = (suc f.among.0, omega (arith, f.among.1), f.among.2); from = f.from; to = f.to }
+    ] refl h
+
+equal_numbers : (a b : ℕ) → (a == b) ≡ true → a ≡ b
+equal_numbers a b h = grind (arith, nat_tests)
+
+sum_of : (c a b : Cost) → length_of c ≡ length_of a + length_of b → c ≡ a ⊕ b
+sum_of c a b h = sym (of_length-length_of c) ∙ ap of_length (h ∙ sym (length_of-sum a b)) ∙ of_length-length_of (a ⊕ b)
+
+-- two halves that were found and sum
+record HaveSum (ls : List Link) (x y m : ℕ) (cost : Cost) : Type 0 where
+  one : Link
+  other : Link
+  one_found : IsFound x m ls one
+  other_found : IsFound m y ls other
+  sum : cost ≡ one.cost ⊕ other.cost
+
+halves_found : (ls : List Link) (x y m : ℕ) (cost : Cost) (f s : Option Link) → find (leads x m) ls ≡ f → find (leads m y) ls ≡ s → sum_fault f s cost ≡ None → HaveSum ls x y m cost
+halves_found ls x y m cost None s p q h = absurd (cc)
+halves_found ls x y m cost (Some a) None p q h = absurd (cc)
+halves_found ls x y m cost (Some a) (Some b) p q h = record {
+  one = a;
+  other = b;
+  one_found = find-some x m ls a p;
+  other_found = find-some m y ls b q;
+  sum = sum_of cost a.cost b.cost (equal_numbers _ _ (not_false _ (untrue _ HalfSum h)));
+}
+
+middle_low : (r x y : ℕ) → not (nat_lt r x && nat_lt r y) ≡ false → (r < x) × (r < y)
+middle_low r x y h = (below_first r x y h, below_second r x y h)
+  where
+    below_first : (r x y : ℕ) → not (nat_lt r x && nat_lt r y) ≡ false → r < x
+    below_first r x y h = grind (arith, nat_tests)
+    below_second : (r x y : ℕ) → not (nat_lt r x && nat_lt r y) ≡ false → r < y
+    below_second r x y h = grind (arith, nat_tests)
+
+has_halves : (h : Hierarchy) (l : Link) → middle_fault h.ranks l.from l.to l.middle ≡ None → half_fault h.links l ≡ None → (m : ℕ) → l.middle ≡ Some m → (a : Link) × (b : Link) × AreHalves h l m a b
+unfolding half_fault
+has_halves h l middle half m is =
+    let placed : middle_fault h.ranks l.from l.to (Some m) ≡ None = subst (λ (o : Option ℕ). middle_fault h.ranks l.from l.to o ≡ None) is middle in
+    let summed : sum_fault (find (leads l.from m) h.links) (find (leads m l.to) h.links) l.cost ≡ None = subst (λ (o : Option ℕ). halves_fault h.links l.from l.to l.cost o ≡ None) is half in
+    let rank : ℕ → ℕ = slice_index h.ranks in
+    let low = middle_low (rank m) (rank l.from) (rank l.to) (untrue _ MiddleRank (second_none (fault_if (nat_le (length h.ranks) m) MiddleRange) (fault_if (not (nat_lt (rank m) (rank l.from) && nat_lt (rank m) (rank l.to))) MiddleRank) placed)) in
+    let found = halves_found h.links l.from l.to m l.cost _ _ refl refl summed in
+    (found.one, found.other, record {
+      first = record { among = found.one_found.among; from = found.one_found.from; to = found.one_found.to };
+      second = record { among = found.other_found.among; from = found.other_found.from; to = found.other_found.to };
+      sum = found.sum;
+      below_from = low.0;
+      below_to = low.1;
+    })
+
+-- The whole
+
+pub well_made : (n k b : ℕ) (ranks : List ℕ) (links : List Link) → size_fault n k b ≡ None → length ranks ≡ n → NoneBelow n (rank_fault n ranks) → length links ≡ k → NoneBelow k (link_fault_at ranks (of_length b) links)
+    → first_along (half_fault links) links ≡ None → IsWellMade (record { ranks = ranks; links = links; bound = of_length b })
+well_made n k b ranks links sizes count_ranks ranks_ok count_links links_ok halves_ok =
+    let h : Hierarchy = record { ranks = ranks; links = links; bound = of_length b } in
+    let all_ranks : NoneBelow (length ranks) (rank_fault n ranks) = λ i less. ranks_ok i (omega arith) in
+    let all_links : NoneBelow (length links) (link_fault_at ranks (of_length b) links) = λ i less. links_ok i (omega arith) in
+    let most : length_of (of_length b) ≤ length_of (cost_of_arcs (length ranks - 1) (2 ^ 32 - 1)) =
+      subst (λ m. m ≤ length_of (cost_of_arcs (length ranks - 1) (2 ^ 32 - 1))) (sym (length_of-of_length b)) (subst (λ m. b ≤ m) (sym (length_of-cost_of_arcs (length ranks - 1) (2 ^ 32 - 1))) (subst (λ m. b ≤ (m - 1) * (2 ^ 32 - 1)) (sym count_ranks) (low_bound n k b sizes))) in
+    record {
+      few_nodes = subst (λ m. m ≤ 2 ^ 25) (sym count_ranks) (few_nodes n k b sizes);
+      bound = within-from_lengths (of_length b) (cost_of_arcs (length ranks - 1) (2 ^ 32 - 1)) most;
+      in_range = subst (λ m. All (λ r. r < m) ranks) (sym count_ranks) (ranks_in n ranks all_ranks);
+      once = ranks_once n ranks all_ranks;
+      sorted = links_sorted ranks (of_length b) links all_links;
+      links = λ i d less.
+        let facts = facts_at ranks (of_length b) links i d less (all_links i less) in
+        record {
+          from_in = facts.from_in;
+          to_in = facts.to_in;
+          apart = facts.apart;
+          above = below-from_lengths zero_cost (get_or links i d).cost (subst (λ m. m < length_of (get_or links i d).cost) (sym length_of-zero_cost) facts.above);
+          within = within-from_lengths (get_or links i d).cost (of_length b) facts.within;
+          middle = has_halves h (get_or links i d) facts.middle (along_none (half_fault links) links halves_ok i d less);
+        };
+    }

@@ -46,7 +46,8 @@ pub fn read<R: Read>(alloc: Global, reader: &mut R) -> Result<Hierarchy, HierErr
     let mut input = Input::new(alloc)?;
     read_magic(&mut input, reader)?;
     let head = read_head(&mut input, reader)?;
-    read_body(alloc, &mut input, reader, head)
+    let hierarchy = read_body(alloc, &mut input, reader, head)?;
+    Ok(hierarchy)
 }
 
 // Reads the magic, and compares each byte as it comes.
