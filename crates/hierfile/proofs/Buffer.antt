@@ -24,14 +24,14 @@ moved bytes at end h k =
     ap (λ n. take n (paste bytes 0 (drop at bytes) (end - at))) (sym (zero-add (end - at))) ∙ take-paste bytes 0 (drop at bytes) (end - at) (omega arith) room in
     pasted ∙ sym (drop-take at (end - at) bytes) ∙ ap (λ n. drop at (take n bytes)) parts
 
--- bytes that a reader put behind the first ones
-pub put_behind : (old new : List ℕ) (end n : ℕ) → end ≤ length old → n ≤ length new → take (end + n) (put_mid end (length old - end) old new) ≡ take end old ++ take n new
-put_behind old new end n h k =
-    let rest : List ℕ = post_of end (length old - end) old in
+-- bytes that were put behind the first ones
+pub put_behind : (k : ℕ) (old new : List ℕ) (end n : ℕ) → end ≤ length old → n ≤ length new → take (end + n) (put_mid end k old new) ≡ take end old ++ take n new
+put_behind k old new end n h less =
+    let rest : List ℕ = post_of end k old in
     let whole : List ℕ = take end old ++ (new ++ rest) in
     let behind : drop end whole ≡ new ++ rest = ap (λ m. drop m whole) (sym (length-take-le end old h)) ∙ drop-append_seam (take end old) (new ++ rest) in
-    take-add end n whole ∙ ap (λ l. l ++ take n (drop end whole)) (take-put_mid_below end (length old - end) old new end (omega arith) h)
-    ∙ ap (λ l. take end old ++ take n l) behind ∙ ap (λ l. take end old ++ l) (take-append-le n new rest k)
+    take-add end n whole ∙ ap (λ l. l ++ take n (drop end whole)) (take-put_mid_below end k old new end (omega arith) h)
+    ∙ ap (λ l. take end old ++ take n l) behind ∙ ap (λ l. take end old ++ l) (take-append-le n new rest less)
 
 -- what a reader gave, behind the bytes that wait
 pub given : (front new all : List ℕ) (a b : Option (List ℕ)) → Consumes a b new → all ≡ front ++ new → Keeps (coming front a) (coming all b)

@@ -8,3 +8,4 @@ pub mod Halves
 pub mod WellMade
 pub mod Bodies
 pub mod Whole
+pub mod Handing

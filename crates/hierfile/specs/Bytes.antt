@@ -1,5 +1,5 @@
 -- What is known of the bytes of a reader and of a writer on the way.
-use Rattle.std.specs.Prelude.{ℕ, ◌≡◌, ◌+◌, ◌-◌, ◌^◌, ◌<◌, List, ◌++◌, length, Option, Some, None, IfSome, Result, Ok, Err, ⊤, Bool, false, ◌==◌, slice_index_or}
+use Rattle.std.specs.Prelude.{ℕ, ◌≡◌, ◌+◌, ◌-◌, ◌≤◌, take, ◌^◌, ◌<◌, List, ◌++◌, length, Option, Some, None, IfSome, Result, Ok, Err, ⊤, Bool, false, ◌==◌, slice_index_or}
 use Rattle.std.specs.List.{list_any}
 use Rattle.std.specs.Io.KnownBytes.{Appends, prepend_known}
 use Rattle.ch_cost.specs.Cost.{length_of}
@@ -48,6 +48,11 @@ pub record IsBodyOf (h : Hierarchy) (nodes count longest : ℕ) : Type 0 where
   pub links : length h.links ≡ count
   pub bound : length_of h.bound ≡ longest
 
+-- bytes that are gathered for a writer, and how many it has taken before
+pub record Gathered : Type 0 where
+  pub waiting : List ℕ
+  pub written : ℕ
+
 -- The writer took the first bytes of the gathered ones, the rest is what follows them, and the count of written
 -- bytes grew by as many as were taken.
 pub record HandsOn (old new : Option (List ℕ)) (gathered rest : List ℕ) (before after : ℕ) : Type 0 where
@@ -55,3 +60,11 @@ pub record HandsOn (old new : Option (List ℕ)) (gathered rest : List ℕ) (bef
   pub parts : gathered ≡ taken ++ rest
   pub given : Appends old new taken
   pub counted : after ≡ before + length taken
+
+-- The writer took a first part of what was gathered and of these bytes.
+abbrev pub IsPartOf : Option (List ℕ) → Option (List ℕ) → Gathered → List ℕ → ℕ → Type 0
+IsPartOf old new gathered bytes written = (front : List ℕ) × (back : List ℕ) × (rest : List ℕ) × (bytes ≡ front ++ back) × HandsOn old new (gathered.waiting ++ front) rest gathered.written written
+
+-- the writer took so many of the bytes, from the first on
+abbrev pub Took : Option (List ℕ) → Option (List ℕ) → ℕ → List ℕ → Type 0
+Took old new written bytes = (written ≤ length bytes) × Appends old new (take written bytes)

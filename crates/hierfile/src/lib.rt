@@ -10,8 +10,11 @@
 mod error;
 mod input;
 mod links;
+mod output;
 mod ranks;
 mod reading;
+mod writing;
 
 pub use error::{HierError, WriteFault};
 pub use reading::read;
+pub use writing::write;

@@ -15,8 +15,8 @@ use ch_graph::{Link, find_link};
 use std::alloc::Global;
 use std::io::Read;
 
-/// What is written for a link without a middle.
-const NO_MIDDLE: u32 = u32::MAX;
+/// The number that is written for no middle.
+pub const NO_MIDDLE: u32 = u32::MAX;
 
 /// Reads so many links, of a hierarchy with these ranks and this bound.
 pub fn read_links<R: Read>(

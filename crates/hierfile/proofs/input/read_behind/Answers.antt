@@ -12,4 +12,4 @@ returns-in_err-count-clause-err g c =
 pub returns-clause-ok : goal.returns-clause-ok
 returns-clause-ok g c =
     let within : c.in_ok-count.count ≤ length c.read.new.buf = omega (arith, c.in_ok-count.ensures.bound) in
-    given _ _ _ _ _ c.in_ok-count.ensures.bytes.0 (put_behind c.args.buffer.now c.read.new.buf c.args.end c.in_ok-count.count c.requires within)
+    given _ _ _ _ _ c.in_ok-count.ensures.bytes.0 (put_behind _ c.args.buffer.now c.read.new.buf c.args.end c.in_ok-count.count c.requires within)
