@@ -119,6 +119,6 @@ found front g old new e {P} h step = of_bytes-map e (λ p. known_behind front (�
     everywhere (Some xs) p = p
 
 -- what a `?` hands on
-pub hands_on : {T : Type 0} (r : Result T HierError) (P : HierError → Type 0) (e : HierError) → IsErrAnd r (λ y. y ≡ e) → P e → IfErr r P
+pub hands_on : {T E : Type 0} (r : Result T E) (P : E → Type 0) (e : E) → IsErrAnd r (λ y. y ≡ e) → P e → IfErr r P
 hands_on (Ok x) P e is h = tt
 hands_on (Err y) P e is h = subst P (sym is) h
