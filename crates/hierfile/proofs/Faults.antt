@@ -35,16 +35,16 @@ none_below (suc n) fault_at h = neither (none_below n fault_at (λ k less. h k (
 pub below_none : (n : ℕ) (fault_at : ℕ → Option HierError) → first_below n fault_at ≡ None → NoneBelow n fault_at
 below_none zero fault_at h k less = absurd (omega arith)
 below_none (suc n) fault_at h k less = elim (cases_lt k n) [
-    | inl l ↦ below_none n fault_at (first_none (first_below n fault_at) (fault_at n) h) k l
-    | inr g ↦ let e : n ≡ k = omega arith in subst (λ m. fault_at m ≡ None) e (second_none (first_below n fault_at) (fault_at n) h)
-  ]
+  | inl l ↦ below_none n fault_at (first_none (first_below n fault_at) (fault_at n) h) k l
+  | inr g ↦ let e : n ≡ k = omega arith in subst (λ m. fault_at m ≡ None) e (second_none (first_below n fault_at) (fault_at n) h)
+]
 
 pub first_at : (n i : ℕ) (fault_at : ℕ → Option HierError) {e : HierError} → i < n → NoneBelow i fault_at → fault_at i ≡ Some e → first_below n fault_at ≡ Some e
 first_at zero i fault_at {e} less before is = absurd (omega arith)
 first_at (suc n) i fault_at {e} less before is = elim (cases_lt i n) [
-    | inl l ↦ earlier (fault_at n) (first_at n i fault_at l before is)
-    | inr g ↦ let same : i ≡ n = omega arith in later (none_below n fault_at (subst (λ m. NoneBelow m fault_at) same before)) (subst (λ m. fault_at m ≡ Some e) same is)
-  ]
+  | inl l ↦ earlier (fault_at n) (first_at n i fault_at l before is)
+  | inr g ↦ let same : i ≡ n = omega arith in later (none_below n fault_at (subst (λ m. NoneBelow m fault_at) same before)) (subst (λ m. fault_at m ≡ Some e) same is)
+]
 
 -- Missing bytes
 
@@ -56,15 +56,15 @@ cut_none n bytes h = grind (arith, nat_tests)
 
 pub cut_says : (n : ℕ) (bytes : List ℕ) (e : HierError) → cut n bytes ≡ Some e → (length bytes < n) × (e ≡ Truncated)
 cut_says n bytes e is = elim (cases_lt (length bytes) n) [
-    | inl h ↦ let short : cut n bytes ≡ Some Truncated = cut_short n bytes h in (h, cc)
-    | inr h ↦ let none : cut n bytes ≡ None = cut_none n bytes h in absurd (cc)
-  ]
+  | inl h ↦ let short : cut n bytes ≡ Some Truncated = cut_short n bytes h in (h, cc)
+  | inr h ↦ let none : cut n bytes ≡ None = cut_none n bytes h in absurd (cc)
+]
 
 pub none_cut : (n : ℕ) (bytes : List ℕ) → cut n bytes ≡ None → n ≤ length bytes
 none_cut n bytes is = elim (cases_lt (length bytes) n) [
-    | inl h ↦ let short : cut n bytes ≡ Some Truncated = cut_short n bytes h in absurd (cc)
-    | inr h ↦ h
-  ]
+  | inl h ↦ let short : cut n bytes ≡ Some Truncated = cut_short n bytes h in absurd (cc)
+  | inr h ↦ h
+]
 
 -- bytes that are too few behind others are too few with them
 pub cut_behind : (m n : ℕ) (front bytes : List ℕ) {e : HierError} → length front + n ≤ m → cut n bytes ≡ Some e → cut m (front ++ bytes) ≡ Some e

@@ -19,6 +19,7 @@ leads-to x y l h = (first x y l h, second x y l h)
   where
     first : (x y : ℕ) (l : Link) → leads x y l ≡ true → l.from ≡ x
     first x y l h = grind (arith, nat_tests)
+
     second : (x y : ℕ) (l : Link) → leads x y l ≡ true → l.to ≡ y
     second x y l h = grind (arith, nat_tests)
 

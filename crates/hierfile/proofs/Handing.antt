@@ -71,9 +71,13 @@ part_then a b c x y first second back whole written h k e =
     let front : List ℕ = k.0 in
     let rest : List ℕ = k.2 in
     let parts : whole ≡ (first ++ front) ++ (k.1 ++ back) =
-      sym e ∙ ap (λ l. first ++ l ++ back) k.3 ∙ ap (λ l. l ++ back) (sym (append_assoc first front k.1)) ∙ append_assoc (first ++ front) k.1 back in
-    (first ++ front, k.1 ++ back, rest, parts,
-     subst (λ l. HandsOn a c l rest x.written written) (append_assoc x.waiting first front) (hands_on_then a b c (x.waiting ++ first) y.waiting front rest x.written y.written written h k.4))
+    sym e ∙ ap (λ l. first ++ l ++ back) k.3 ∙ ap (λ l. l ++ back) (sym (append_assoc first front k.1)) ∙ append_assoc (first ++ front) k.1 back in (
+      first ++ front,
+      k.1 ++ back,
+      rest,
+      parts,
+      subst (λ l. HandsOn a c l rest x.written written) (append_assoc x.waiting first front) (hands_on_then a b c (x.waiting ++ first) y.waiting front rest x.written y.written written h k.4),
+    )
 
 -- it failed before any of them was gathered
 pub part_none : (a b : Option (List ℕ)) (g : Gathered) (bytes : List ℕ) (written : ℕ) → (rest : List ℕ) × HandsOn a b g.waiting rest g.written written → IsPartOf a b g bytes written

@@ -38,7 +38,7 @@ pub head_fault-sizes : (n k b : ℕ) (rest : List ℕ) → n < 2 ^ 32 → k < 2 
 head_fault-sizes n k b rest fits_n fits_k fits_b =
     let whole : cut 20 (sizes n k b ++ rest) ≡ None = cut_none 20 (sizes n k b ++ rest) (omega (arith, length-append (sizes n k b) rest, length-sizes n k b)) in
     subst (λ (o : Option HierError). o otherwise size_fault (word_in (sizes n k b ++ rest)) (long_in (drop 4 (sizes n k b ++ rest))) (long_in (drop 12 (sizes n k b ++ rest))) ≡ size_fault n k b) (sym whole)
-      (same_sizes (nodes-sizes n k b rest fits_n) (links-sizes n k b rest fits_k) (bound-sizes n k b rest fits_b))
+    (same_sizes (nodes-sizes n k b rest fits_n) (links-sizes n k b rest fits_k) (bound-sizes n k b rest fits_b))
 
 -- a head that ends too early
 pub head_cut : (n : ℕ) (front rest : List ℕ) {e : HierError} → length front + n ≤ 20 → cut n rest ≡ Some e → head_fault (front ++ rest) ≡ Some e

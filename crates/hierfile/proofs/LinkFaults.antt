@@ -38,9 +38,9 @@ link_fault-next ranks bound ls l =
 -- one more without a fault
 pub none-push : (ranks : List ℕ) (bound : Cost) (l : Link) (i : ℕ) (ls : List Link) → length ls ≡ i → NoneBelow i (link_fault_at ranks bound ls) → link_fault ranks bound (slice_get ls (length ls - 1)) l ≡ None → NoneBelow (i + 1) (link_fault_at ranks bound (ls ++ l ∷ []))
 none-push ranks bound l i ls len before is k h = elim (cases_lt k i) [
-    | inl less ↦ link_fault-front ranks bound k ls (l ∷ []) (omega arith) ∙ before k less
-    | inr more ↦ let here : length ls ≡ k = omega arith in subst (λ m. link_fault_at ranks bound (ls ++ l ∷ []) m ≡ None) here (link_fault-next ranks bound ls l ∙ is)
-  ]
+  | inl less ↦ link_fault-front ranks bound k ls (l ∷ []) (omega arith) ∙ before k less
+  | inr more ↦ let here : length ls ≡ k = omega arith in subst (λ m. link_fault_at ranks bound (ls ++ l ∷ []) m ≡ None) here (link_fault-next ranks bound ls l ∙ is)
+]
 
 -- the fault of the bytes at a place of a link
 abbrev pub at_link : List ℕ → Cost → ℕ → List ℕ → ℕ → Option HierError
@@ -53,7 +53,7 @@ spelled ranks bound n ls rest h fits k less =
     let whole : cut (20 * (k + 1)) bytes ≡ None = cut_none (20 * (k + 1)) bytes (omega arith) in
     let links = links_in-front n (n - length ls) ls rest (omega arith) fits in
     subst (λ (o : Option HierError). o otherwise link_fault_at ranks bound (links_in n bytes) k ≡ link_fault_at ranks bound ls k) (sym whole)
-      (ap (λ (l : List Link). link_fault_at ranks bound l k) links ∙ link_fault-front ranks bound k ls (links_in (n - length ls) rest) less)
+    (ap (λ (l : List Link). link_fault_at ranks bound l k) links ∙ link_fault-front ranks bound k ls (links_in (n - length ls) rest) less)
 
 none_spelled : (ranks : List ℕ) (bound : Cost) (n i : ℕ) (ls : List Link) (rest : List ℕ) → length ls ≤ n → i ≤ length ls → All IsWritable ls → NoneBelow i (link_fault_at ranks bound ls)
     → NoneBelow i (at_link ranks bound n (flat_map link_bytes ls ++ rest))
@@ -65,7 +65,7 @@ pub links_cut : (ranks : List ℕ) (bound : Cost) (n : ℕ) (ls : List Link) (re
 links_cut ranks bound n ls rest e fits h none is =
     let short : length (flat_map link_bytes ls) + 20 ≤ 20 * (length ls + 1) = omega (arith, length-links ls) in
     first_at n (length ls) (at_link ranks bound n (flat_map link_bytes ls ++ rest)) h (none_spelled ranks bound n (length ls) ls rest (omega arith) (omega arith) fits none)
-      (earlier _ (cut_behind (20 * (length ls + 1)) 20 (flat_map link_bytes ls) rest short is))
+    (earlier _ (cut_behind (20 * (length ls + 1)) 20 (flat_map link_bytes ls) rest short is))
 
 -- the next link has a fault
 pub links_stop : (ranks : List ℕ) (bound : Cost) (n : ℕ) (l : Link) (ls : List Link) (rest : List ℕ) (e : HierError) → All IsWritable ls → IsWritable l → length ls < n → NoneBelow (length ls) (link_fault_at ranks bound ls)
@@ -76,7 +76,7 @@ links_stop ranks bound n l ls rest e fits small h none is =
     let all : All IsWritable longer = All-push IsWritable ls l fits small in
     let before : NoneBelow (length ls) (link_fault_at ranks bound longer) = λ k less. link_fault-front ranks bound k ls (l ∷ []) less ∙ none k less in
     first_at n (length ls) (at_link ranks bound n (flat_map link_bytes longer ++ rest)) h (none_spelled ranks bound n (length ls) longer rest (omega arith) (omega arith) all before)
-      (spelled ranks bound n longer rest (omega arith) all (length ls) (omega arith) ∙ link_fault-next ranks bound ls l ∙ is)
+    (spelled ranks bound n longer rest (omega arith) all (length ls) (omega arith) ∙ link_fault-next ranks bound ls l ∙ is)
 
 -- no link has a fault
 pub links_none : (ranks : List ℕ) (bound : Cost) (n : ℕ) (ls : List Link) (rest : List ℕ) → All IsWritable ls → length ls ≡ n → NoneBelow n (link_fault_at ranks bound ls) → links_fault ranks bound n (flat_map link_bytes ls ++ rest) ≡ None

@@ -23,9 +23,9 @@ out_of_range n before rank more =
 -- a rank without a fault is in range
 pub rank_in : (n : ℕ) (before : List ℕ) (rank : ℕ) → rank_test n before rank ≡ None → rank < n
 rank_in n before rank h = elim (cases_lt rank n) [
-    | inl less ↦ less
-    | inr more ↦ absurd (out_of_range n before rank more h)
-  ]
+  | inl less ↦ less
+  | inr more ↦ absurd (out_of_range n before rank more h)
+]
 
 -- more ranks behind don't change a fault
 pub rank_fault-front : (n k : ℕ) (ranks more : List ℕ) → k < length ranks → rank_fault n (ranks ++ more) k ≡ rank_fault n ranks k
@@ -43,9 +43,9 @@ rank_fault-next n rank ranks =
 -- one more without a fault
 pub none-push : (n rank i : ℕ) (ranks : List ℕ) → length ranks ≡ i → NoneBelow i (rank_fault n ranks) → rank_test n ranks rank ≡ None → NoneBelow (i + 1) (rank_fault n (ranks ++ rank ∷ []))
 none-push n rank i ranks len before is k h = elim (cases_lt k i) [
-    | inl less ↦ rank_fault-front n k ranks (rank ∷ []) (omega arith) ∙ before k less
-    | inr more ↦ let here : length ranks ≡ k = omega arith in subst (λ m. rank_fault n (ranks ++ rank ∷ []) m ≡ None) here (rank_fault-next n rank ranks ∙ is)
-  ]
+  | inl less ↦ rank_fault-front n k ranks (rank ∷ []) (omega arith) ∙ before k less
+  | inr more ↦ let here : length ranks ≡ k = omega arith in subst (λ m. rank_fault n (ranks ++ rank ∷ []) m ≡ None) here (rank_fault-next n rank ranks ∙ is)
+]
 
 -- ranks without faults fit their bytes
 pub all_small : (n : ℕ) (ranks : List ℕ) → n < 2 ^ 32 → NoneBelow (length ranks) (rank_fault n ranks) → All (λ r. r < 2 ^ 32) ranks
@@ -65,7 +65,7 @@ spelled n ranks rest h fits k less =
     let whole : cut (4 * (k + 1)) bytes ≡ None = cut_none (4 * (k + 1)) bytes (omega arith) in
     let words = words_in-front n (n - length ranks) ranks rest (omega arith) fits in
     subst (λ (o : Option HierError). o otherwise rank_fault n (words_in n bytes) k ≡ rank_fault n ranks k) (sym whole)
-      (ap (λ (l : List ℕ). rank_fault n l k) words ∙ rank_fault-front n k ranks (words_in (n - length ranks) rest) less)
+    (ap (λ (l : List ℕ). rank_fault n l k) words ∙ rank_fault-front n k ranks (words_in (n - length ranks) rest) less)
 
 -- these ranks have none, so neither do the bytes at their places
 none_spelled : (n i : ℕ) (ranks rest : List ℕ) → length ranks ≤ n → i ≤ length ranks → All (λ r. r < 2 ^ 32) ranks → NoneBelow i (rank_fault n ranks) → NoneBelow i (at_rank n (flat_map word ranks ++ rest))
@@ -77,7 +77,7 @@ ranks_cut n ranks rest e fits h none is =
     let small = all_small n ranks fits none in
     let short : length (flat_map word ranks) + 4 ≤ 4 * (length ranks + 1) = omega (arith, length-words ranks) in
     first_at n (length ranks) (at_rank n (flat_map word ranks ++ rest)) h (none_spelled n (length ranks) ranks rest (omega arith) (omega arith) small none)
-      (earlier _ (cut_behind (4 * (length ranks + 1)) 4 (flat_map word ranks) rest short is))
+    (earlier _ (cut_behind (4 * (length ranks + 1)) 4 (flat_map word ranks) rest short is))
 
 -- the next rank has a fault
 pub ranks_stop : (n rank : ℕ) (ranks rest : List ℕ) (e : HierError) → n < 2 ^ 32 → rank < 2 ^ 32 → length ranks < n → NoneBelow (length ranks) (rank_fault n ranks) → rank_test n ranks rank ≡ Some e
@@ -88,7 +88,7 @@ ranks_stop n rank ranks rest e fits small h none is =
     let all : All (λ r. r < 2 ^ 32) longer = All-push (λ r. r < 2 ^ 32) ranks rank (all_small n ranks fits none) small in
     let before : NoneBelow (length ranks) (rank_fault n longer) = λ k less. rank_fault-front n k ranks (rank ∷ []) less ∙ none k less in
     first_at n (length ranks) (at_rank n (flat_map word longer ++ rest)) h (none_spelled n (length ranks) longer rest (omega arith) (omega arith) all before)
-      (spelled n longer rest (omega arith) all (length ranks) (omega arith) ∙ rank_fault-next n rank ranks ∙ is)
+    (spelled n longer rest (omega arith) all (length ranks) (omega arith) ∙ rank_fault-next n rank ranks ∙ is)
 
 -- no rank has a fault
 pub ranks_none : (n : ℕ) (ranks rest : List ℕ) → n < 2 ^ 32 → length ranks ≡ n → NoneBelow n (rank_fault n ranks) → ranks_fault n (flat_map word ranks ++ rest) ≡ None

@@ -56,7 +56,7 @@ ranks_once n ranks none i j d less within same =
     let taken : get_or (take j ranks) i 0 ≡ get_or ranks i 0 = get_or-take j ranks i 0 less in
     let no_other : list_any (λ r. r == get_or ranks j 0) (take j ranks) ≡ false = unlike n (take j ranks) (get_or ranks j 0) (none j within) in
     let other : list_any (λ r. r == get_or ranks j 0) (take j ranks) ≡ true =
-      list_any_at (λ r. r == get_or ranks j 0) (take j ranks) i 0 (omega (arith, length-take-le j ranks (omega arith))) (equal_tests _ _ (taken ∙ sym first ∙ same ∙ second)) in
+    list_any_at (λ r. r == get_or ranks j 0) (take j ranks) i 0 (omega (arith, length-take-le j ranks (omega arith))) (equal_tests _ _ (taken ∙ sym first ∙ same ∙ second)) in
     cc
 
 pub ranks_in : (n : ℕ) (ranks : List ℕ) → NoneBelow (length ranks) (rank_fault n ranks) → All (λ r. r < n) ranks
@@ -131,27 +131,28 @@ facts_at ranks bound ls k d h none =
 
 before-true : (a b : Link) → is_before a b ≡ true → ComesBefore a b
 before-true a b h = elim (cases_lt a.from b.from) [
-    | inl less ↦ inl less
-    | inr more ↦ inr (same a b h more, below a b h more)
-  ]
+  | inl less ↦ inl less
+  | inr more ↦ inr (same a b h more, below a b h more)
+]
   where
     same : (a b : Link) → is_before a b ≡ true → b.from ≤ a.from → a.from ≡ b.from
     same a b h more = grind (arith, nat_tests)
+
     below : (a b : Link) → is_before a b ≡ true → b.from ≤ a.from → a.to < b.to
     below a b h more = grind (arith, nat_tests)
 
 before-trans : (a b c : Link) → ComesBefore a b → ComesBefore b c → ComesBefore a c
 before-trans a b c h k = elim h [
-    | inl p ↦ elim k [ inl q ↦ inl (omega arith) | inr q ↦ inl (omega (arith, q.0)) ]
-    | inr p ↦ elim k [ inl q ↦ inl (omega (arith, p.0)) | inr q ↦ inr (omega (arith, p.0, q.0), omega (arith, p.1, q.1)) ]
-  ]
+  | inl p ↦ elim k [ inl q ↦ inl (omega arith) | inr q ↦ inl (omega (arith, q.0)) ]
+  | inr p ↦ elim k [ inl q ↦ inl (omega (arith, p.0)) | inr q ↦ inr (omega (arith, p.0, q.0), omega (arith, p.1, q.1)) ]
+]
 
 chain : (ls : List Link) → ((k : ℕ) (d : Link) → suc k < length ls → ComesBefore (get_or ls k d) (get_or ls (suc k) d)) → AllPairs ComesBefore ls
 chain ls next i zero d less within = absurd (omega arith)
 chain ls next i (suc j) d less within = elim (cases_lt i j) [
-    | inl below ↦ before-trans (get_or ls i d) (get_or ls j d) (get_or ls (suc j) d) (chain ls next i j d below (omega arith)) (next j d within)
-    | inr at ↦ let e : j ≡ i = omega arith in subst (λ m. ComesBefore (get_or ls m d) (get_or ls (suc j) d)) e (next j d within)
-  ]
+  | inl below ↦ before-trans (get_or ls i d) (get_or ls j d) (get_or ls (suc j) d) (chain ls next i j d below (omega arith)) (next j d within)
+  | inr at ↦ let e : j ≡ i = omega arith in subst (λ m. ComesBefore (get_or ls m d) (get_or ls (suc j) d)) e (next j d within)
+]
 
 pub links_sorted : (ranks : List ℕ) (bound : Cost) (ls : List Link) → NoneBelow (length ls) (link_fault_at ranks bound ls) → AllPairs ComesBefore ls
 links_sorted ranks bound ls none = chain ls (λ k d within.
@@ -212,6 +213,7 @@ middle_low r x y h = (below_first r x y h, below_second r x y h)
   where
     below_first : (r x y : ℕ) → not (nat_lt r x && nat_lt r y) ≡ false → r < x
     below_first r x y h = grind (arith, nat_tests)
+
     below_second : (r x y : ℕ) → not (nat_lt r x && nat_lt r y) ≡ false → r < y
     below_second r x y h = grind (arith, nat_tests)
 
@@ -222,14 +224,17 @@ has_halves h l middle half m is =
     let summed : sum_fault (find (leads l.from m) h.links) (find (leads m l.to) h.links) l.cost ≡ None = subst (λ (o : Option ℕ). halves_fault h.links l.from l.to l.cost o ≡ None) is half in
     let rank : ℕ → ℕ = slice_index h.ranks in
     let low = middle_low (rank m) (rank l.from) (rank l.to) (untrue _ MiddleRank (second_none (fault_if (nat_le (length h.ranks) m) MiddleRange) (fault_if (not (nat_lt (rank m) (rank l.from) && nat_lt (rank m) (rank l.to))) MiddleRank) placed)) in
-    let found = halves_found h.links l.from l.to m l.cost _ _ refl refl summed in
-    (found.one, found.other, record {
-      first = record { among = found.one_found.among; from = found.one_found.from; to = found.one_found.to };
-      second = record { among = found.other_found.among; from = found.other_found.from; to = found.other_found.to };
-      sum = found.sum;
-      below_from = low.0;
-      below_to = low.1;
-    })
+    let found = halves_found h.links l.from l.to m l.cost _ _ refl refl summed in (
+      found.one,
+      found.other,
+      record {
+        first = record { among = found.one_found.among; from = found.one_found.from; to = found.one_found.to };
+        second = record { among = found.other_found.among; from = found.other_found.from; to = found.other_found.to };
+        sum = found.sum;
+        below_from = low.0;
+        below_to = low.1;
+      },
+    )
 
 -- The whole
 
@@ -240,7 +245,7 @@ well_made n k b ranks links sizes count_ranks ranks_ok count_links links_ok halv
     let all_ranks : NoneBelow (length ranks) (rank_fault n ranks) = λ i less. ranks_ok i (omega arith) in
     let all_links : NoneBelow (length links) (link_fault_at ranks (of_length b) links) = λ i less. links_ok i (omega arith) in
     let most : length_of (of_length b) ≤ length_of (cost_of_arcs (length ranks - 1) (2 ^ 32 - 1)) =
-      subst (λ m. m ≤ length_of (cost_of_arcs (length ranks - 1) (2 ^ 32 - 1))) (sym (length_of-of_length b)) (subst (λ m. b ≤ m) (sym (length_of-cost_of_arcs (length ranks - 1) (2 ^ 32 - 1))) (subst (λ m. b ≤ (m - 1) * (2 ^ 32 - 1)) (sym count_ranks) (low_bound n k b sizes))) in
+    subst (λ m. m ≤ length_of (cost_of_arcs (length ranks - 1) (2 ^ 32 - 1))) (sym (length_of-of_length b)) (subst (λ m. b ≤ m) (sym (length_of-cost_of_arcs (length ranks - 1) (2 ^ 32 - 1))) (subst (λ m. b ≤ (m - 1) * (2 ^ 32 - 1)) (sym count_ranks) (low_bound n k b sizes))) in
     record {
       few_nodes = subst (λ m. m ≤ 2 ^ 25) (sym count_ranks) (few_nodes n k b sizes);
       bound = within-from_lengths (of_length b) (cost_of_arcs (length ranks - 1) (2 ^ 32 - 1)) most;
@@ -248,13 +253,13 @@ well_made n k b ranks links sizes count_ranks ranks_ok count_links links_ok halv
       once = ranks_once n ranks all_ranks;
       sorted = links_sorted ranks (of_length b) links all_links;
       links = λ i d less.
-        let facts = facts_at ranks (of_length b) links i d less (all_links i less) in
-        record {
-          from_in = facts.from_in;
-          to_in = facts.to_in;
-          apart = facts.apart;
-          above = below-from_lengths zero_cost (get_or links i d).cost (subst (λ m. m < length_of (get_or links i d).cost) (sym length_of-zero_cost) facts.above);
-          within = within-from_lengths (get_or links i d).cost (of_length b) facts.within;
-          middle = has_halves h (get_or links i d) facts.middle (along_none (half_fault links) links halves_ok i d less);
-        };
+          let facts = facts_at ranks (of_length b) links i d less (all_links i less) in
+          record {
+            from_in = facts.from_in;
+            to_in = facts.to_in;
+            apart = facts.apart;
+            above = below-from_lengths zero_cost (get_or links i d).cost (subst (λ m. m < length_of (get_or links i d).cost) (sym length_of-zero_cost) facts.above);
+            within = within-from_lengths (get_or links i d).cost (of_length b) facts.within;
+            middle = has_halves h (get_or links i d) facts.middle (along_none (half_fault links) links halves_ok i d less);
+          };
     }

@@ -74,12 +74,7 @@ fn middle_of(number: u32) -> Option<u32>
 
 // Tests a link by itself, beside the one before it.
 #[tactic(auto, unfolding(crate::specs::Fault::link_fault))]
-fn test_link(
-    ranks: &[u32],
-    bound: Cost,
-    earlier: Option<Link>,
-    link: Link,
-) -> Result<(), HierError>
+fn test_link(ranks: &[u32], bound: Cost, earlier: Option<Link>, link: Link) -> Result<(), HierError>
     ensures { Tells result (link_fault ranks.now bound earlier link) }
 {
     let nodes = ranks.len();

@@ -77,11 +77,7 @@ fn write_links<W: Write>(
 }
 
 // Writes one link.
-fn write_link<W: Write>(
-    link: Link,
-    output: &mut Output,
-    writer: &mut W,
-) -> Result<(), WriteFault>
+fn write_link<W: Write>(link: Link, output: &mut Output, writer: &mut W) -> Result<(), WriteFault>
     ensures ok { OnOk result (HandsOn (W.contents writer.old) (W.contents writer.new) (output.old.waiting ++ link_bytes link) output.new.waiting output.old.written output.new.written) }
     ensures err { IfErr result (λ fault. IsPartOf (W.contents writer.old) (W.contents writer.new) output.old (link_bytes link) fault.written) }
 {

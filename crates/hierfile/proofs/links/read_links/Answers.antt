@@ -20,7 +20,7 @@ returns-in_err-link-clause-err g c =
     let before : NoneBelow (length links) (link_fault_at ranks bound links) = subst (λ m. NoneBelow m (link_fault_at ranks bound links)) (sym c.links.invariant.count) c.links.invariant.faultless in
     let less : length links < c.args.count = omega arith in
     hands_on c.from_residual.result _ _ c.from_residual.ensures.1
-      (behind (flat_map link_bytes links) (cut 20) (links_fault ranks bound c.args.count) _ _ _ c.links.invariant.taken (λ rest is. links_cut ranks bound c.args.count links rest _ c.links.invariant.writable less before is) c.in_err-link.ensures.err)
+    (behind (flat_map link_bytes links) (cut 20) (links_fault ranks bound c.args.count) _ _ _ c.links.invariant.taken (λ rest is. links_cut ranks bound c.args.count links rest _ c.links.invariant.writable less before is) c.in_err-link.ensures.err)
 
 pub returns-in_err-test_link-clause-err : goal.returns-in_err-test_link-clause-err
 returns-in_err-test_link-clause-err g c =
@@ -34,8 +34,8 @@ returns-in_err-test_link-clause-err g c =
     let so_far = Consumes-trans _ _ _ _ _ c.links.invariant.taken c.in_ok-link.ensures.ok in
     let is = subst (λ (o : Option Link). link_fault ranks bound o link ≡ Some c.in_err-test_link.field-0.0) earlier c.in_err-test_link.ensures in
     hands_on c.from_residual-in_err-test_link.result _ _ c.from_residual-in_err-test_link.ensures.1
-      (found (flat_map link_bytes links ++ link_bytes link) (links_fault ranks bound c.args.count) _ _ _ so_far
-        (λ is rest. ap (λ l. links_fault ranks bound c.args.count (l ++ rest)) (flat_map_more link_bytes [] links link) ∙ links_stop ranks bound c.args.count link links rest _ c.links.invariant.writable c.in_ok-link.ensures.writable less before is) (of_bytes _ is))
+    (found (flat_map link_bytes links ++ link_bytes link) (links_fault ranks bound c.args.count) _ _ _ so_far
+    (λ is rest. ap (λ l. links_fault ranks bound c.args.count (l ++ rest)) (flat_map_more link_bytes [] links link) ∙ links_stop ranks bound c.args.count link links rest _ c.links.invariant.writable c.in_ok-link.ensures.writable less before is) (of_bytes _ is))
 
 pub links-preserved : goal.links-preserved
 links-preserved g c =

@@ -18,7 +18,7 @@ returns-in_err-rank-clause-err g c =
     let less : length ranks < n = omega arith in
     let fits : n < 4294967296 = omega arith in
     hands_on c.from_residual.result _ _ c.from_residual.ensures.1
-      (behind (flat_map word ranks) (cut 4) (ranks_fault n) _ _ _ c.nodes.invariant.taken (λ rest is. ranks_cut n ranks rest _ fits less before is) c.in_err-rank.ensures.err)
+    (behind (flat_map word ranks) (cut 4) (ranks_fault n) _ _ _ c.nodes.invariant.taken (λ rest is. ranks_cut n ranks rest _ fits less before is) c.in_err-rank.ensures.err)
 
 pub returns-in_err-take_rank-clause-err : goal.returns-in_err-take_rank-clause-err
 returns-in_err-take_rank-clause-err g c =
@@ -31,7 +31,7 @@ returns-in_err-take_rank-clause-err g c =
     let small : rank < 4294967296 = omega arith in
     let so_far = Consumes-trans _ _ _ _ _ c.nodes.invariant.taken c.in_ok-rank.ensures.ok in
     hands_on c.from_residual-in_err-take_rank.result _ _ c.from_residual-in_err-take_rank.ensures.1
-      (found (flat_map word ranks ++ word rank) (ranks_fault n) _ _ _ so_far (λ is rest. ap (λ l. ranks_fault n (l ++ rest)) (flat_map_more word [] ranks rank) ∙ ranks_stop n rank ranks rest _ fits small less before is) c.in_err-take_rank.ensures.err)
+    (found (flat_map word ranks ++ word rank) (ranks_fault n) _ _ _ so_far (λ is rest. ap (λ l. ranks_fault n (l ++ rest)) (flat_map_more word [] ranks rank) ∙ ranks_stop n rank ranks rest _ fits small less before is) c.in_err-take_rank.ensures.err)
 
 pub nodes-preserved : goal.nodes-preserved
 nodes-preserved g c =

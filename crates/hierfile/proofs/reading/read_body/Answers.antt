@@ -18,7 +18,7 @@ pub returns-in_err-ranks-clause-err : goal.returns-in_err-ranks-clause-err
 returns-in_err-ranks-clause-err g c =
     let head = c.args.head in
     hands_on c.from_residual.result _ _ c.from_residual.ensures.1
-      (behind [] (ranks_fault head.nodes) (body_fault head.nodes head.links head.bound) _ _ _ (Consumes-nil _) (λ rest is. body_ranks head.nodes head.links head.bound rest is) c.in_err-ranks.ensures.err)
+    (behind [] (ranks_fault head.nodes) (body_fault head.nodes head.links head.bound) _ _ _ (Consumes-nil _) (λ rest is. body_ranks head.nodes head.links head.bound rest is) c.in_err-ranks.ensures.err)
 
 pub returns-in_err-links-clause-err : goal.returns-in_err-links-clause-err
 returns-in_err-links-clause-err g c =
@@ -26,10 +26,10 @@ returns-in_err-links-clause-err g c =
     let ranks = c.in_ok-ranks.ranks.items in
     let small : head.nodes < 2 ^ 32 = omega (arith, few_nodes head.nodes head.links head.bound c.requires) in
     hands_on c.from_residual-in_err-links.result _ _ c.from_residual-in_err-links.ensures.1
-      (behind (flat_map word ranks) (links_fault c.as_slice.result.now c.of_length-bound.result head.links) (body_fault head.nodes head.links head.bound) _ _ _ c.in_ok-ranks.ensures.ok
-        (λ rest is. body_links head.nodes head.links head.bound ranks rest small c.in_ok-ranks.ensures.count c.in_ok-ranks.ensures.faultless
-          (ap (λ (r : List ℕ). links_fault r (of_length head.bound) head.links rest) (sym c.as_slice.ensures.value) ∙ ap (λ (b : Cost). links_fault c.as_slice.result.now b head.links rest) (sym c.of_length-bound.ensures) ∙ is))
-        c.in_err-links.ensures.err)
+    (behind (flat_map word ranks) (links_fault c.as_slice.result.now c.of_length-bound.result head.links) (body_fault head.nodes head.links head.bound) _ _ _ c.in_ok-ranks.ensures.ok
+    (λ rest is. body_links head.nodes head.links head.bound ranks rest small c.in_ok-ranks.ensures.count c.in_ok-ranks.ensures.faultless
+    (ap (λ (r : List ℕ). links_fault r (of_length head.bound) head.links rest) (sym c.as_slice.ensures.value) ∙ ap (λ (b : Cost). links_fault c.as_slice.result.now b head.links rest) (sym c.of_length-bound.ensures) ∙ is))
+    c.in_err-links.ensures.err)
 
 pub test_halves-requires : goal.test_halves-requires
 test_halves-requires g c =
@@ -46,10 +46,10 @@ returns-in_err-test_halves-clause-err g c =
     let so_far = Consumes-trans _ _ _ _ _ c.in_ok-ranks.ensures.ok c.in_ok-links.ensures.ok in
     let links_ok : NoneBelow head.links (link_fault_at ranks (of_length head.bound) links) = λ i less. ap (λ (r : List ℕ). link_fault_at r (of_length head.bound) links i) (sym c.as_slice.ensures.value) ∙ ap (λ (b : Cost). link_fault_at c.as_slice.result.now b links i) (sym c.of_length-bound.ensures) ∙ c.in_ok-links.ensures.faultless i less in
     hands_on c.from_residual-in_err-test_halves.result _ _ c.from_residual-in_err-test_halves.ensures.1
-      (found (flat_map word ranks ++ flat_map link_bytes links) (body_fault head.nodes head.links head.bound) _ _ _ so_far
-        (λ is rest. body_after_links head.nodes head.links head.bound ranks links rest small c.in_ok-ranks.ensures.count c.in_ok-ranks.ensures.faultless c.in_ok-links.ensures.count c.in_ok-links.ensures.writable links_ok
-          ∙ earlier _ (ap (λ (l : List Link). first_along (half_fault l) l) (sym c.as_slice-2.ensures.value) ∙ is))
-        (of_bytes _ c.in_err-test_halves.ensures))
+    (found (flat_map word ranks ++ flat_map link_bytes links) (body_fault head.nodes head.links head.bound) _ _ _ so_far
+    (λ is rest. body_after_links head.nodes head.links head.bound ranks links rest small c.in_ok-ranks.ensures.count c.in_ok-ranks.ensures.faultless c.in_ok-links.ensures.count c.in_ok-links.ensures.writable links_ok
+    ∙ earlier _ (ap (λ (l : List Link). first_along (half_fault l) l) (sym c.as_slice-2.ensures.value) ∙ is))
+    (of_bytes _ c.in_err-test_halves.ensures))
 
 pub returns-in_err-read_end-clause-err : goal.returns-in_err-read_end-clause-err
 returns-in_err-read_end-clause-err g c =
@@ -61,10 +61,10 @@ returns-in_err-read_end-clause-err g c =
     let links_ok : NoneBelow head.links (link_fault_at ranks (of_length head.bound) links) = λ i less. ap (λ (r : List ℕ). link_fault_at r (of_length head.bound) links i) (sym c.as_slice.ensures.value) ∙ ap (λ (b : Cost). link_fault_at c.as_slice.result.now b links i) (sym c.of_length-bound.ensures) ∙ c.in_ok-links.ensures.faultless i less in
     let halves_ok = ap (λ (l : List Link). first_along (half_fault l) l) (sym c.as_slice-2.ensures.value) ∙ c.in_ok-test_halves.ensures in
     hands_on c.from_residual-in_err-read_end.result _ _ c.from_residual-in_err-read_end.ensures.1
-      (behind (flat_map word ranks ++ flat_map link_bytes links) end_fault (body_fault head.nodes head.links head.bound) _ _ _ so_far
-        (λ rest is. body_after_links head.nodes head.links head.bound ranks links rest small c.in_ok-ranks.ensures.count c.in_ok-ranks.ensures.faultless c.in_ok-links.ensures.count c.in_ok-links.ensures.writable links_ok
-          ∙ later halves_ok is)
-        c.in_err-read_end.ensures.err)
+    (behind (flat_map word ranks ++ flat_map link_bytes links) end_fault (body_fault head.nodes head.links head.bound) _ _ _ so_far
+    (λ rest is. body_after_links head.nodes head.links head.bound ranks links rest small c.in_ok-ranks.ensures.count c.in_ok-ranks.ensures.faultless c.in_ok-links.ensures.count c.in_ok-links.ensures.writable links_ok
+    ∙ later halves_ok is)
+    c.in_err-read_end.ensures.err)
 
 pub new-requires : goal.new-requires
 new-requires g c =

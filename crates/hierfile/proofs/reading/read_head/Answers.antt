@@ -32,4 +32,4 @@ returns-in_err-test_sizes-clause-err g c =
     let b = c.in_ok-long-2.field-0 in
     let so_far = Consumes-trans _ _ _ _ _ (Consumes-trans _ _ _ _ _ c.in_ok-word.ensures.ok c.in_ok-long.ensures.ok) c.in_ok-long-2.ensures.ok in
     hands_on c.from_residual-in_err-test_sizes.result _ _ c.from_residual-in_err-test_sizes.ensures.1
-      (found (sizes n k b) head_fault _ _ _ so_far (λ is rest. head_fault-sizes n k b rest (omega arith) (omega arith) (omega arith) ∙ is) (of_bytes _ c.in_err-test_sizes.ensures))
+    (found (sizes n k b) head_fault _ _ _ so_far (λ is rest. head_fault-sizes n k b rest (omega arith) (omega arith) (omega arith) ∙ is) (of_bytes _ c.in_err-test_sizes.ensures))

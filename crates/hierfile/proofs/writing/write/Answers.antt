@@ -18,7 +18,7 @@ returns-in_err-write_head-clause-err g c =
     let w0 = contents c.args.writer.now in
     let fault = c.in_err-write_head.field-0.0 in
     hands_on c.from_residual.result _ fault c.from_residual.ensures.1 (took_part w0 (contents c.write_head.new.writer) start (bytes_of h) fault.written c.new-output.ensures
-      (part_then w0 w0 (contents c.write_head.new.writer) start start [] head (ranks ++ links) (bytes_of h) fault.written (handed_none w0 start) c.in_err-write_head.ensures.err (sym (append_assoc head ranks links))))
+    (part_then w0 w0 (contents c.write_head.new.writer) start start [] head (ranks ++ links) (bytes_of h) fault.written (handed_none w0 start) c.in_err-write_head.ensures.err (sym (append_assoc head ranks links))))
 
 pub returns-in_err-write_ranks-clause-err : goal.returns-in_err-write_ranks-clause-err
 returns-in_err-write_ranks-clause-err g c =
@@ -34,7 +34,7 @@ returns-in_err-write_ranks-clause-err g c =
     let h1 : Handed w0 w1 start g1 head = c.in_ok-write_head.ensures.ok in
     let fault = c.in_err-write_ranks.field-0.0 in
     hands_on c.from_residual-in_err-write_ranks.result _ fault c.from_residual-in_err-write_ranks.ensures.1 (took_part w0 (contents c.write_ranks.new.writer) start (bytes_of h) fault.written c.new-output.ensures
-      (part_then w0 w1 (contents c.write_ranks.new.writer) start g1 head ranks links (bytes_of h) fault.written h1 c.in_err-write_ranks.ensures.err refl))
+    (part_then w0 w1 (contents c.write_ranks.new.writer) start g1 head ranks links (bytes_of h) fault.written h1 c.in_err-write_ranks.ensures.err refl))
 
 pub returns-in_err-write_links-clause-err : goal.returns-in_err-write_links-clause-err
 returns-in_err-write_links-clause-err g c =
@@ -53,7 +53,7 @@ returns-in_err-write_links-clause-err g c =
     let h2 = handed_then w0 w1 w2 start g1 g2 head ranks h1 c.in_ok-write_ranks.ensures.ok in
     let fault = c.in_err-write_links.field-0.0 in
     hands_on c.from_residual-in_err-write_links.result _ fault c.from_residual-in_err-write_links.ensures.1 (took_part w0 (contents c.write_links.new.writer) start (bytes_of h) fault.written c.new-output.ensures
-      (part_then w0 w2 (contents c.write_links.new.writer) start g2 (head ++ ranks) links [] (bytes_of h) fault.written h2 (subst (λ (l : List Link). IsPartOf w2 (contents c.write_links.new.writer) g2 (flat_map link_bytes l) fault.written) c.links.ensures c.in_err-write_links.ensures.err) (append-nil (bytes_of h))))
+    (part_then w0 w2 (contents c.write_links.new.writer) start g2 (head ++ ranks) links [] (bytes_of h) fault.written h2 (subst (λ (l : List Link). IsPartOf w2 (contents c.write_links.new.writer) g2 (flat_map link_bytes l) fault.written) c.links.ensures c.in_err-write_links.ensures.err) (append-nil (bytes_of h))))
 
 pub returns-in_err-hand_over-clause-err : goal.returns-in_err-hand_over-clause-err
 returns-in_err-hand_over-clause-err g c =
@@ -76,7 +76,7 @@ returns-in_err-hand_over-clause-err g c =
     let h3 = handed_then w0 w2 w3 start g2 g3 (head ++ ranks) links h2 more in
     let fault = c.in_err-hand_over.field-0.0 in
     hands_on c.from_residual-in_err-hand_over.result _ fault c.from_residual-in_err-hand_over.ensures.1 (took_part w0 (contents c.hand_over.new.writer) start (bytes_of h) fault.written c.new-output.ensures
-      (part_then w0 w3 (contents c.hand_over.new.writer) start g3 (bytes_of h) [] [] (bytes_of h) fault.written h3 (part_none w3 (contents c.hand_over.new.writer) g3 [] fault.written c.in_err-hand_over.ensures.err) (append-nil (bytes_of h ++ []) ∙ append-nil (bytes_of h))))
+    (part_then w0 w3 (contents c.hand_over.new.writer) start g3 (bytes_of h) [] [] (bytes_of h) fault.written h3 (part_none w3 (contents c.hand_over.new.writer) g3 [] fault.written c.in_err-hand_over.ensures.err) (append-nil (bytes_of h ++ []) ∙ append-nil (bytes_of h))))
 
 pub returns-clause-ok : goal.returns-clause-ok
 returns-clause-ok g c =

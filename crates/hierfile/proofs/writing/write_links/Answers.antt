@@ -17,8 +17,8 @@ returns-in_err-write_link-clause-err g c =
     let done : List ℕ = flat_map link_bytes (take at items) in
     let next : List ℕ = link_bytes (get_or items at _) in
     hands_on c.from_residual.result _ fault c.from_residual.ensures.1
-      (part_then (contents c.args.writer.now) (contents c.links.writer) (contents c.write_link.new.writer) c.args.output.now c.links.output done next (flat_map link_bytes (drop (at + 1) items)) (flat_map link_bytes items) fault.written
-        c.links.invariant c.in_err-write_link.ensures.err (spelled-parts link_bytes items at _ within))
+    (part_then (contents c.args.writer.now) (contents c.links.writer) (contents c.write_link.new.writer) c.args.output.now c.links.output done next (flat_map link_bytes (drop (at + 1) items)) (flat_map link_bytes items) fault.written
+    c.links.invariant c.in_err-write_link.ensures.err (spelled-parts link_bytes items at _ within))
 
 pub links-preserved : goal.links-preserved
 links-preserved g c =

@@ -17,8 +17,8 @@ returns-in_err-word-clause-err g c =
     let done : List ℕ = flat_map word (take at items) in
     let next : List ℕ = word (get_or items at 0) in
     hands_on c.from_residual.result _ fault c.from_residual.ensures.1
-      (part_then (contents c.args.writer.now) (contents c.nodes.writer) (contents c.word.new.writer) c.args.output.now c.nodes.output done next (flat_map word (drop (at + 1) items)) (flat_map word items) fault.written
-        c.nodes.invariant (subst (λ n. IsPartOf (contents c.nodes.writer) (contents c.word.new.writer) c.nodes.output (word n) fault.written) c.rank.ensures (part_none (contents c.nodes.writer) (contents c.word.new.writer) c.nodes.output (word c.rank.result) fault.written c.in_err-word.ensures.err)) (spelled-parts word items at 0 within))
+    (part_then (contents c.args.writer.now) (contents c.nodes.writer) (contents c.word.new.writer) c.args.output.now c.nodes.output done next (flat_map word (drop (at + 1) items)) (flat_map word items) fault.written
+    c.nodes.invariant (subst (λ n. IsPartOf (contents c.nodes.writer) (contents c.word.new.writer) c.nodes.output (word n) fault.written) c.rank.ensures (part_none (contents c.nodes.writer) (contents c.word.new.writer) c.nodes.output (word c.rank.result) fault.written c.in_err-word.ensures.err)) (spelled-parts word items at 0 within))
 
 pub nodes-preserved : goal.nodes-preserved
 nodes-preserved g c =

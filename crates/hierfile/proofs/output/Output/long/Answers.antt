@@ -19,4 +19,4 @@ returns-clause-ok g c =
     let number : take 8 new ≡ long c.args.number = long-first c.args.number new c.write_u64.ensures in
     let put = put_behind (8192 - output.end) output.buffer new output.end 8 within room in
     hands_on_more _ _ c.args.self.now.waiting mid.waiting (long c.args.number) _ c.args.self.now.written mid.written output.written c.in_ok-make_room.ensures.ok
-      (put ∙ ap (λ l. l ++ take 8 new) waits ∙ ap (λ l. mid.waiting ++ l) number) count
+    (put ∙ ap (λ l. l ++ take 8 new) waits ∙ ap (λ l. mid.waiting ++ l) number) count
