@@ -6,6 +6,7 @@ use Rattle.std.specs.Ordering.{nat_cmp}
 use Rattle.ch_cost.specs.declared.cost.Cost.{Cost}
 pub mod Fields
 pub mod Laws
+pub mod Lengths
 
 infixl 65 ◌⊕◌
 infix 45 ◌≼◌
@@ -29,6 +30,10 @@ cost_of_arcs count heaviest = record { weight = count * heaviest }
 -- the sum of the weights
 pub length_of : Cost → ℕ
 length_of c = c.weight
+
+-- the cost whose length is this number
+pub of_length : ℕ → Cost
+of_length n = record { weight = n }
 
 -- a weight that an arc may have
 pub record IsWeight (w : ℕ) : Type 0 where

@@ -1,5 +1,5 @@
 ghost use Rattle.std.specs.Prelude.{◌≡◌, ◌↔◌, IsTrue, Some, SomeIff, refl};
-ghost use Rattle.ch_cost.specs.Cost.{◌⊕◌, of_weight, cost_of_arcs, length_of, ◌≼◌, ◌≺◌, compare, same, IsWithin, IsNoLonger, IsInLimit};
+ghost use Rattle.ch_cost.specs.Cost.{◌⊕◌, of_weight, cost_of_arcs, length_of, of_length, ◌≼◌, ◌≺◌, compare, same, IsWithin, IsNoLonger, IsInLimit};
 ghost use Rattle.ch_cost.specs.Cost.Laws.{same-laws, same-partial, same-compare, compare-total, compare-partial};
 
 use std::cmp::Ordering;
@@ -32,6 +32,13 @@ impl Cost {
         Cost {
             weight: u64::from(count) * u64::from(heaviest),
         }
+    }
+
+    /// The cost whose length is this number.
+    pub fn of_length(length: u64) -> Cost
+        ensures { result ≡ of_length length }
+    {
+        Cost { weight: length }
     }
 
     /// The cost of two walks, one after the other. Both are at most 2^57, so the sum fits.
@@ -162,6 +169,12 @@ mod tests {
         assert!(rt; seven < nine && seven.max(nine) == nine);
         assert_eq!(rt; seven.cmp(&nine), Ordering::Less);
         assert_eq!(rt; nine.length(), 9);
+    }
+
+    #[test]
+    fn lengths(rt: HostRuntime) {
+        assert_eq!(rt; Cost::of_length(68_719_476_736).length(), 68_719_476_736);
+        assert!(rt; Cost::of_length(7) == Cost::of_weight(7));
     }
 
     #[test]

@@ -1,5 +1,5 @@
 -- What a binary search over links in rising order finds.
-use Rattle.std.proofs.Common.{ℕ, ◌≡◌, ◌+◌, ◌<◌, ◌≤◌, ◌⊎◌, List, length, get_or, Result, Ok, Err, Ordering, Option, None, AllPairs, inl, inr, refl, subst, arith}
+use Rattle.std.proofs.Common.{ℕ, ◌≡◌, ◌<◌, ◌≤◌, ◌⊎◌, List, length, get_or, Ordering, None, AllPairs, inl, inr, refl, subst, arith}
 use Rattle.std.specs.List.{HoldsAt}
 use Rattle.std.specs.List.Sorted.{IsNonDecreasingBy, IsPartitionPoint}
 use Rattle.std.specs.Ordering.{nat_cmp, ordering_then, ordering_index}

@@ -1,4 +1,5 @@
-ghost use Rattle.std.specs.Prelude.{◌≡◌, ◌<◌, ℕ, length, slice_index, AllPairs, IfSome, IfNone};
+ghost use Rattle.std.specs.Prelude.{◌≡◌, ◌<◌, ℕ, length, slice_index, AllPairs, None, IfSome, IfNone};
+ghost use Rattle.ch_cost.specs.Cost.{of_weight};
 ghost use Rattle.ch_graph.specs.Hierarchy.{IsWellMade, IsLinkAt, ComesBefore};
 
 use crate::link::Link;
@@ -95,5 +96,52 @@ pub fn find_link(links: &[Link], from: u32, to: u32) -> Option<LinkId>
     match search {
         Ok(place) => Some(LinkId(place)),
         Err(_) => None,
+    }
+}
+
+#[cfg(test)]
+mod tests {
+    use super::*;
+    use std::alloc::{AllocError, Global};
+
+    fn link(from: u32, to: u32) -> Link
+        ensures { result ≡ record { from = from; to = to; cost = of_weight 7; middle = None } }
+    {
+        Link {
+            from,
+            to,
+            cost: Cost::of_weight(7),
+            middle: None,
+        }
+    }
+
+    // Two nodes, ranked in their order, and a link of weight 7 from the first to the second.
+    fn two_nodes(alloc: Global) -> Result<Hierarchy, AllocError> {
+        let ranks = vec![in alloc; 0, 1]?;
+        let links = vec![in alloc; link(0, 1)]?;
+        Ok(Hierarchy::new(ranks, links, Cost::of_weight(7)))
+    }
+
+    #[test]
+    fn finds_links(rt: HostRuntime) {
+        let links = [link(0, 2), link(1, 0), link(1, 2)];
+        assert!(rt; find_link(&links, 0, 2) == Some(LinkId(0)));
+        assert!(rt; find_link(&links, 1, 0) == Some(LinkId(1)));
+        assert!(rt; find_link(&links, 1, 2) == Some(LinkId(2)));
+        assert!(rt; find_link(&links, 1, 1).is_none());
+        assert!(rt; find_link(&links, 0, 0).is_none());
+        assert!(rt; find_link(&links, u32::MAX, u32::MAX).is_none());
+        assert!(rt; find_link(&[], 0, 1).is_none());
+    }
+
+    #[test]
+    fn tells_its_parts(rt: HostRuntime) -> Result<(), AllocError> {
+        let hierarchy = two_nodes(rt.alloc())?;
+        assert_eq!(rt; hierarchy.nodes(), 2);
+        assert_eq!(rt; hierarchy.bound().length(), 7);
+        assert!(rt; hierarchy.find(0, 1) == Some(LinkId(0)));
+        assert!(rt; hierarchy.find(1, 0).is_none());
+        assert!(rt; hierarchy.links() == [link(0, 1)].as_slice());
+        Ok(())
     }
 }

@@ -4,7 +4,7 @@ use Rattle.std.specs.Ordering.{nat_cmp}
 use Rattle.std.proofs.Common.{arith}
 use Rattle.std.proofs.lemmas.Bool.{leb-true, le-leb, ltb-true, lt-ltb}
 use Rattle.ch_cost.specs.declared.cost.Cost.{Cost}
-use Rattle.ch_cost.specs.Cost.{zero_cost, ◌⊕◌, of_weight, cost_of_arcs, length_of, ◌≼◌, ◌≺◌, compare, same, IsWithin, IsNoLonger, IsInLimit}
+use Rattle.ch_cost.specs.Cost.{zero_cost, ◌⊕◌, of_weight, cost_of_arcs, length_of, of_length, ◌≼◌, ◌≺◌, compare, same, IsWithin, IsNoLonger, IsInLimit}
 
 pub zero_cost-is : record { weight = 0 } ≡ zero_cost
 unfolding zero_cost
@@ -25,6 +25,10 @@ cost_of_arcs-is count heaviest = refl
 pub length_of-is : (c : Cost) → c.weight ≡ length_of c
 unfolding length_of
 length_of-is c = refl
+
+pub of_length-is : (n : ℕ) → record { weight = n } ≡ of_length n
+unfolding of_length
+of_length-is n = refl
 
 pub compare-is : (a b : Cost) → nat_cmp a.weight b.weight ≡ compare a b
 unfolding compare

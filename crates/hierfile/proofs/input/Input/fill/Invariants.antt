@@ -1,0 +1,19 @@
+use Rattle.std.proofs.Common.{◌≡◌, ◌-◌, ◌≤◌, length, take}
+use Rattle.std.specs.Io.KnownBytes.{Keeps}
+use Rattle.hierfile.specs.declared.input.TheConstants.{CALLS}
+use Rattle.hierfile.specs.Bytes.{coming}
+use Rattle.hierfile.proofs.input.Input.fill.Given as goal
+
+abbrev pub invariant-loop-self : goal.invariant-loop-self
+invariant-loop-self g l =
+    let remaining = g.R.Read.remaining in
+    let input = l.self-inside in
+    record {
+      front : input.at ≡ 0;
+      within : input.end ≤ length input.buffer.items;
+      size : length input.buffer.items ≡ 65536;
+      keeps : Keeps (coming l.fn.self (remaining l.fn.reader)) (coming (take input.end input.buffer.items) (remaining l.reader));
+    }
+
+abbrev pub decreases-loop-self : goal.decreases-loop-self
+decreases-loop-self g l = CALLS - l.self-inside.calls

@@ -1,0 +1,58 @@
+use Rattle.std.proofs.Common.{◌≡◌, ◌+◌, ◌-◌, ◌++◌, ◌∷◌, [], ◌<◌, length, sym, ◌∙◌, ap, subst, arith, length-append, None, Some, Option, List, All}
+use Rattle.std.specs.List.{flat_map, slice_get}
+use Rattle.std.proofs.lemmas.List.{flat_map_more}
+use Rattle.std.proofs.lemmas.List.Elements.{All-push}
+use Rattle.std.specs.Io.KnownBytes.{Consumes}
+use Rattle.std.proofs.KnownBytes.{Consumes-trans}
+use Rattle.ch_graph.specs.declared.link.Link.{Link}
+use Rattle.hierfile.specs.Spelling.{link_bytes}
+use Rattle.hierfile.specs.Fault.{cut, link_fault, link_fault_at, links_fault}
+use Rattle.hierfile.specs.Bytes.{NoneBelow, IsWritable, coming}
+use Rattle.hierfile.proofs.Faults.{hands_on, behind, found, of_bytes}
+use Rattle.hierfile.proofs.LinkFaults.{links_cut, links_stop, none-push}
+use Rattle.hierfile.proofs.links.read_links.Goals as goal
+
+pub returns-in_err-link-clause-err : goal.returns-in_err-link-clause-err
+returns-in_err-link-clause-err g c =
+    let ranks = c.args.ranks.now in
+    let bound = c.args.bound in
+    let links = c.links.links.items in
+    let before : NoneBelow (length links) (link_fault_at ranks bound links) = subst (λ m. NoneBelow m (link_fault_at ranks bound links)) (sym c.links.invariant.count) c.links.invariant.faultless in
+    let less : length links < c.args.count = omega arith in
+    hands_on c.from_residual.result _ _ c.from_residual.ensures.1
+    (behind (flat_map link_bytes links) (cut 20) (links_fault ranks bound c.args.count) _ _ _ c.links.invariant.taken (λ rest is. links_cut ranks bound c.args.count links rest _ c.links.invariant.writable less before is) c.in_err-link.ensures.err)
+
+pub returns-in_err-test_link-clause-err : goal.returns-in_err-test_link-clause-err
+returns-in_err-test_link-clause-err g c =
+    let ranks = c.args.ranks.now in
+    let bound = c.args.bound in
+    let links = c.links.links.items in
+    let link = c.in_ok-link.link in
+    let before : NoneBelow (length links) (link_fault_at ranks bound links) = subst (λ m. NoneBelow m (link_fault_at ranks bound links)) (sym c.links.invariant.count) c.links.invariant.faultless in
+    let less : length links < c.args.count = omega arith in
+    let earlier : c.copied.result ≡ slice_get links (length links - 1) = c.copied.ensures ∙ c.last.ensures.value ∙ ap (λ (s : List Link). slice_get s (length s - 1)) c.deref.ensures.value in
+    let so_far = Consumes-trans _ _ _ _ _ c.links.invariant.taken c.in_ok-link.ensures.ok in
+    let is = subst (λ (o : Option Link). link_fault ranks bound o link ≡ Some c.in_err-test_link.field-0.0) earlier c.in_err-test_link.ensures in
+    hands_on c.from_residual-in_err-test_link.result _ _ c.from_residual-in_err-test_link.ensures.1
+    (found (flat_map link_bytes links ++ link_bytes link) (links_fault ranks bound c.args.count) _ _ _ so_far
+    (λ is rest. ap (λ l. links_fault ranks bound c.args.count (l ++ rest)) (flat_map_more link_bytes [] links link) ∙ links_stop ranks bound c.args.count link links rest _ c.links.invariant.writable c.in_ok-link.ensures.writable less before is) (of_bytes _ is))
+
+pub links-preserved : goal.links-preserved
+links-preserved g c =
+    let remaining = g.R.Read.remaining in
+    let ranks = c.args.ranks.now in
+    let bound = c.args.bound in
+    let links = c.links.links.items in
+    let link = c.in_ok-link.link in
+    let new = c.push.new.self.items in
+    let earlier : c.copied.result ≡ slice_get links (length links - 1) = c.copied.ensures ∙ c.last.ensures.value ∙ ap (λ (s : List Link). slice_get s (length s - 1)) c.deref.ensures.value in
+    let is = subst (λ (o : Option Link). link_fault ranks bound o link ≡ None) earlier c.in_ok-test_link.ensures in
+    let pushed : new ≡ links ++ link ∷ [] = c.in_ok-push.ensures.items in
+    let so_far = Consumes-trans _ _ _ _ _ c.links.invariant.taken c.in_ok-link.ensures.ok in
+    let spelled : flat_map link_bytes links ++ link_bytes link ≡ flat_map link_bytes new = flat_map_more link_bytes [] links link ∙ ap (flat_map link_bytes) (sym pushed) in
+    record {
+      count = omega (arith, c.links.invariant.count, ap length pushed, length-append links (link ∷ []));
+      faultless = subst (λ l. NoneBelow (c.links.counter + 1) (link_fault_at ranks bound l)) (sym pushed) (none-push ranks bound link c.links.counter links c.links.invariant.count c.links.invariant.faultless is);
+      writable = subst (All IsWritable) (sym pushed) (All-push IsWritable links link c.links.invariant.writable c.in_ok-link.ensures.writable);
+      taken = subst (λ l. Consumes (coming c.args.input.now (remaining c.args.reader.now)) (coming c.read_link.new.input (remaining c.read_link.new.reader)) l) spelled so_far;
+    }

@@ -1,0 +1,18 @@
+use Rattle.std.proofs.Common.{◌≡◌, length, All}
+use Rattle.std.specs.List.{flat_map}
+use Rattle.std.specs.Io.KnownBytes.{Consumes}
+use Rattle.hierfile.specs.Spelling.{link_bytes}
+use Rattle.hierfile.specs.Fault.{link_fault_at}
+use Rattle.hierfile.specs.Bytes.{coming, NoneBelow, IsWritable}
+use Rattle.hierfile.proofs.links.read_links.Given as goal
+
+abbrev pub invariant-links : goal.invariant-links
+invariant-links g l =
+    let remaining = g.R.Read.remaining in
+    let links = l.links.items in
+    record {
+      count : length links ≡ l.counter;
+      faultless : NoneBelow l.counter (link_fault_at l.ranks l.bound links);
+      writable : All IsWritable links;
+      taken : Consumes (coming l.fn.input (remaining l.fn.reader)) (coming l.input (remaining l.reader)) (flat_map link_bytes links);
+    }

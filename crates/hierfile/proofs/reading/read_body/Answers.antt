@@ -1,0 +1,80 @@
+use Rattle.std.proofs.Common.{ℕ, ◌≡◌, ◌+◌, ◌-◌, ◌^◌, ◌++◌, ◌∷◌, [], ◌<◌, ◌≤◌, List, length, sym, refl, ◌∙◌, ap, subst, arith, None, Some, AllPairs}
+use Rattle.std.specs.List.{flat_map}
+use Rattle.std.proofs.KnownBytes.{Consumes-trans, Consumes-nil}
+use Rattle.ch_cost.specs.declared.cost.Cost.{Cost}
+use Rattle.ch_cost.specs.Cost.{of_length, length_of}
+use Rattle.ch_cost.specs.Cost.Lengths.{length_of-of_length}
+use Rattle.ch_graph.specs.declared.link.Link.{Link}
+use Rattle.ch_graph.specs.Hierarchy.{ComesBefore, IsWellMade}
+use Rattle.hierfile.specs.Spelling.{word, link_bytes}
+use Rattle.hierfile.specs.Fault.{link_fault_at, links_fault, ranks_fault, half_fault, first_along, end_fault, body_fault}
+use Rattle.hierfile.specs.Bytes.{NoneBelow}
+use Rattle.hierfile.proofs.Faults.{hands_on, behind, found, of_bytes, earlier, later}
+use Rattle.hierfile.proofs.Bodies.{body_ranks, body_links, body_after_links}
+use Rattle.hierfile.proofs.WellMade.{links_sorted, few_nodes, well_made}
+use Rattle.hierfile.proofs.reading.read_body.Goals as goal
+
+pub returns-in_err-ranks-clause-err : goal.returns-in_err-ranks-clause-err
+returns-in_err-ranks-clause-err g c =
+    let head = c.args.head in
+    hands_on c.from_residual.result _ _ c.from_residual.ensures.1
+    (behind [] (ranks_fault head.nodes) (body_fault head.nodes head.links head.bound) _ _ _ (Consumes-nil _) (λ rest is. body_ranks head.nodes head.links head.bound rest is) c.in_err-ranks.ensures.err)
+
+pub returns-in_err-links-clause-err : goal.returns-in_err-links-clause-err
+returns-in_err-links-clause-err g c =
+    let head = c.args.head in
+    let ranks = c.in_ok-ranks.ranks.items in
+    let small : head.nodes < 2 ^ 32 = omega (arith, few_nodes head.nodes head.links head.bound c.requires) in
+    hands_on c.from_residual-in_err-links.result _ _ c.from_residual-in_err-links.ensures.1
+    (behind (flat_map word ranks) (links_fault c.as_slice.result.now c.of_length-bound.result head.links) (body_fault head.nodes head.links head.bound) _ _ _ c.in_ok-ranks.ensures.ok
+    (λ rest is. body_links head.nodes head.links head.bound ranks rest small c.in_ok-ranks.ensures.count c.in_ok-ranks.ensures.faultless
+    (ap (λ (r : List ℕ). links_fault r (of_length head.bound) head.links rest) (sym c.as_slice.ensures.value) ∙ ap (λ (b : Cost). links_fault c.as_slice.result.now b head.links rest) (sym c.of_length-bound.ensures) ∙ is))
+    c.in_err-links.ensures.err)
+
+pub test_halves-requires : goal.test_halves-requires
+test_halves-requires g c =
+    let links = c.in_ok-links.links.items in
+    let none : NoneBelow (length links) (link_fault_at c.as_slice.result.now c.of_length-bound.result links) = subst (λ m. NoneBelow m (link_fault_at c.as_slice.result.now c.of_length-bound.result links)) (sym c.in_ok-links.ensures.count) c.in_ok-links.ensures.faultless in
+    subst (AllPairs ComesBefore) (sym c.as_slice-2.ensures.value) (links_sorted c.as_slice.result.now c.of_length-bound.result links none)
+
+pub returns-in_err-test_halves-clause-err : goal.returns-in_err-test_halves-clause-err
+returns-in_err-test_halves-clause-err g c =
+    let head = c.args.head in
+    let ranks = c.in_ok-ranks.ranks.items in
+    let links = c.in_ok-links.links.items in
+    let small : head.nodes < 2 ^ 32 = omega (arith, few_nodes head.nodes head.links head.bound c.requires) in
+    let so_far = Consumes-trans _ _ _ _ _ c.in_ok-ranks.ensures.ok c.in_ok-links.ensures.ok in
+    let links_ok : NoneBelow head.links (link_fault_at ranks (of_length head.bound) links) = λ i less. ap (λ (r : List ℕ). link_fault_at r (of_length head.bound) links i) (sym c.as_slice.ensures.value) ∙ ap (λ (b : Cost). link_fault_at c.as_slice.result.now b links i) (sym c.of_length-bound.ensures) ∙ c.in_ok-links.ensures.faultless i less in
+    hands_on c.from_residual-in_err-test_halves.result _ _ c.from_residual-in_err-test_halves.ensures.1
+    (found (flat_map word ranks ++ flat_map link_bytes links) (body_fault head.nodes head.links head.bound) _ _ _ so_far
+    (λ is rest. body_after_links head.nodes head.links head.bound ranks links rest small c.in_ok-ranks.ensures.count c.in_ok-ranks.ensures.faultless c.in_ok-links.ensures.count c.in_ok-links.ensures.writable links_ok
+    ∙ earlier _ (ap (λ (l : List Link). first_along (half_fault l) l) (sym c.as_slice-2.ensures.value) ∙ is))
+    (of_bytes _ c.in_err-test_halves.ensures))
+
+pub returns-in_err-read_end-clause-err : goal.returns-in_err-read_end-clause-err
+returns-in_err-read_end-clause-err g c =
+    let head = c.args.head in
+    let ranks = c.in_ok-ranks.ranks.items in
+    let links = c.in_ok-links.links.items in
+    let small : head.nodes < 2 ^ 32 = omega (arith, few_nodes head.nodes head.links head.bound c.requires) in
+    let so_far = Consumes-trans _ _ _ _ _ c.in_ok-ranks.ensures.ok c.in_ok-links.ensures.ok in
+    let links_ok : NoneBelow head.links (link_fault_at ranks (of_length head.bound) links) = λ i less. ap (λ (r : List ℕ). link_fault_at r (of_length head.bound) links i) (sym c.as_slice.ensures.value) ∙ ap (λ (b : Cost). link_fault_at c.as_slice.result.now b links i) (sym c.of_length-bound.ensures) ∙ c.in_ok-links.ensures.faultless i less in
+    let halves_ok = ap (λ (l : List Link). first_along (half_fault l) l) (sym c.as_slice-2.ensures.value) ∙ c.in_ok-test_halves.ensures in
+    hands_on c.from_residual-in_err-read_end.result _ _ c.from_residual-in_err-read_end.ensures.1
+    (behind (flat_map word ranks ++ flat_map link_bytes links) end_fault (body_fault head.nodes head.links head.bound) _ _ _ so_far
+    (λ rest is. body_after_links head.nodes head.links head.bound ranks links rest small c.in_ok-ranks.ensures.count c.in_ok-ranks.ensures.faultless c.in_ok-links.ensures.count c.in_ok-links.ensures.writable links_ok
+    ∙ later halves_ok is)
+    c.in_err-read_end.ensures.err)
+
+pub new-requires : goal.new-requires
+new-requires g c =
+    let head = c.args.head in
+    let ranks = c.in_ok-ranks.ranks.items in
+    let links = c.in_ok-links.links.items in
+    let links_ok : NoneBelow head.links (link_fault_at ranks (of_length head.bound) links) = λ i less. ap (λ (r : List ℕ). link_fault_at r (of_length head.bound) links i) (sym c.as_slice.ensures.value) ∙ ap (λ (b : Cost). link_fault_at c.as_slice.result.now b links i) (sym c.of_length-bound.ensures) ∙ c.in_ok-links.ensures.faultless i less in
+    let halves_ok = ap (λ (l : List Link). first_along (half_fault l) l) (sym c.as_slice-2.ensures.value) ∙ c.in_ok-test_halves.ensures in
+    rw c.of_length-bound.ensures (well_made head.nodes head.links head.bound ranks links c.requires c.in_ok-ranks.ensures.count c.in_ok-ranks.ensures.faultless c.in_ok-links.ensures.count links_ok halves_ok)
+
+pub returns-clause-sizes : goal.returns-clause-sizes
+returns-clause-sizes g c =
+    rw c.new.ensures (record { ranks = c.in_ok-ranks.ensures.count; links = c.in_ok-links.ensures.count; bound = ap length_of c.of_length-bound.ensures ∙ length_of-of_length c.args.head.bound })

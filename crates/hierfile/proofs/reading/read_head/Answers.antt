@@ -1,0 +1,35 @@
+use Rattle.std.proofs.Common.{◌+◌, ◌++◌, ◌≤◌, ◌≡◌, ◌∙◌, length, arith, length-append}
+use Rattle.std.proofs.KnownBytes.{Consumes-trans}
+use Rattle.hierfile.proofs.Faults.{hands_on, behind, found}
+use Rattle.hierfile.proofs.Spelled.{length-word, length-long}
+use Rattle.hierfile.proofs.Heads.{sizes, head_cut, head_fault-sizes}
+use Rattle.hierfile.specs.Spelling.{word, long}
+use Rattle.hierfile.specs.Fault.{cut, head_fault}
+use Rattle.hierfile.specs.Bytes.{OfBytes}
+use Rattle.hierfile.proofs.Faults.{of_bytes}
+use Rattle.hierfile.proofs.reading.read_head.Goals as goal
+
+pub returns-in_err-long-clause-err : goal.returns-in_err-long-clause-err
+returns-in_err-long-clause-err g c =
+    let n = c.in_ok-word.field-0 in
+    let front = word n in
+    let short : length front + 8 ≤ 20 = omega (arith, length-word n) in
+    hands_on c.from_residual-in_err-long.result _ _ c.from_residual-in_err-long.ensures.1 (behind front (cut 8) head_fault _ _ _ c.in_ok-word.ensures.ok (λ rest is. head_cut 8 front rest short is) c.in_err-long.ensures.err)
+
+pub returns-in_err-long-2-clause-err : goal.returns-in_err-long-2-clause-err
+returns-in_err-long-2-clause-err g c =
+    let n = c.in_ok-word.field-0 in
+    let k = c.in_ok-long.field-0 in
+    let front = word n ++ long k in
+    let short : length front + 8 ≤ 20 = omega (arith, length-append (word n) (long k), length-word n, length-long k) in
+    let so_far = Consumes-trans _ _ _ _ _ c.in_ok-word.ensures.ok c.in_ok-long.ensures.ok in
+    hands_on c.from_residual-in_err-long-2.result _ _ c.from_residual-in_err-long-2.ensures.1 (behind front (cut 8) head_fault _ _ _ so_far (λ rest is. head_cut 8 front rest short is) c.in_err-long-2.ensures.err)
+
+pub returns-in_err-test_sizes-clause-err : goal.returns-in_err-test_sizes-clause-err
+returns-in_err-test_sizes-clause-err g c =
+    let n = c.in_ok-word.field-0 in
+    let k = c.in_ok-long.field-0 in
+    let b = c.in_ok-long-2.field-0 in
+    let so_far = Consumes-trans _ _ _ _ _ (Consumes-trans _ _ _ _ _ c.in_ok-word.ensures.ok c.in_ok-long.ensures.ok) c.in_ok-long-2.ensures.ok in
+    hands_on c.from_residual-in_err-test_sizes.result _ _ c.from_residual-in_err-test_sizes.ensures.1
+    (found (sizes n k b) head_fault _ _ _ so_far (λ is rest. head_fault-sizes n k b rest (omega arith) (omega arith) (omega arith) ∙ is) (of_bytes _ c.in_err-test_sizes.ensures))

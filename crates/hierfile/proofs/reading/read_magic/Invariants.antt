@@ -1,0 +1,13 @@
+use Rattle.std.proofs.Common.{◌≡◌, take}
+use Rattle.std.specs.Io.KnownBytes.{Consumes}
+use Rattle.hierfile.specs.Spelling.{magic}
+use Rattle.hierfile.specs.Bytes.{coming}
+use Rattle.hierfile.proofs.reading.read_magic.Given as goal
+
+abbrev pub invariant-bytes : goal.invariant-bytes
+invariant-bytes g l =
+    let remaining = g.R.Read.remaining in
+    record {
+      wanted : l.wanted-items ≡ magic;
+      taken : Consumes (coming l.fn.input (remaining l.fn.reader)) (coming l.input (remaining l.reader)) (take l.wanted-index magic);
+    }

@@ -1,0 +1,70 @@
+-- What is known of the bytes of a reader and of a writer on the way.
+use Rattle.std.specs.Prelude.{ℕ, ◌≡◌, ◌+◌, ◌-◌, ◌≤◌, take, ◌^◌, ◌<◌, List, ◌++◌, length, Option, Some, None, IfSome, Result, Ok, Err, ⊤, Bool, false, ◌==◌, slice_index_or}
+use Rattle.std.specs.List.{list_any}
+use Rattle.std.specs.Io.KnownBytes.{Appends, prepend_known}
+use Rattle.ch_cost.specs.Cost.{length_of}
+use Rattle.ch_graph.specs.declared.link.Link.{Link}
+use Rattle.ch_graph.specs.Hierarchy.{Hierarchy}
+use Rattle.hierfile.specs.declared.error.HierError.{HierError}
+use Rattle.hierfile.specs.declared.error.HierError.TheVariants.{OutOfMemory, Read, BadMagic, Truncated, TooBig, BoundTooBig, RankRange, RankTwice, LinkEnds, LinkOrder, LinkWeight, MiddleRange, MiddleRank, HalfMissing, HalfSum, Trailing}
+
+-- the bytes that are still to come: those that wait in the buffer, and then the reader's
+abbrev pub coming : List ℕ → Option (List ℕ) → Option (List ℕ)
+coming waiting remaining = prepend_known waiting remaining
+
+-- OutOfMemory and Read say nothing of the bytes; each other refusal is a fault of theirs
+abbrev pub OfBytes : HierError → Type 0 → Type 0
+OfBytes OutOfMemory P = Unit {0}
+OfBytes Read P = Unit {0}
+OfBytes e P = P
+
+-- a refusal is the fault that the coming bytes have, where they are known
+abbrev pub IsFaultOf : (List ℕ → Option HierError) → Option (List ℕ) → HierError → Type 0
+IsFaultOf fault_of bytes e = OfBytes e (IfSome bytes (λ known. fault_of known ≡ Some e))
+
+-- a test answers this fault, or none
+abbrev pub Tells : Result ⊤ HierError → Option HierError → Type 0
+Tells (Ok x) fault = fault ≡ None
+Tells (Err e) fault = fault ≡ Some e
+
+-- no fault at the places below n
+abbrev pub NoneBelow : ℕ → (ℕ → Option HierError) → Type 0
+NoneBelow n fault_at = (k : ℕ) → k < n → fault_at k ≡ None
+
+-- the marks say of each number whether it is one of these
+abbrev pub IsSeen : List Bool → List ℕ → Type 0
+IsSeen marks numbers = (n : ℕ) → slice_index_or marks n false ≡ list_any (λ m. m == n) numbers
+
+-- a link whose numbers fit their bytes
+pub record IsWritable (l : Link) : Type 0 where
+  pub from : l.from < 2 ^ 32
+  pub to : l.to < 2 ^ 32
+  pub cost : length_of l.cost < 2 ^ 64
+  pub middle : IfSome l.middle (λ m. m < 2 ^ 32 - 1)
+
+-- a hierarchy of so many nodes and links, with a bound of this length
+pub record IsBodyOf (h : Hierarchy) (nodes count longest : ℕ) : Type 0 where
+  pub ranks : length h.ranks ≡ nodes
+  pub links : length h.links ≡ count
+  pub bound : length_of h.bound ≡ longest
+
+-- bytes that are gathered for a writer, and how many it has taken before
+pub record Gathered : Type 0 where
+  pub waiting : List ℕ
+  pub written : ℕ
+
+-- The writer took the first bytes of the gathered ones, the rest is what follows them, and the count of written
+-- bytes grew by as many as were taken.
+pub record HandsOn (old new : Option (List ℕ)) (gathered rest : List ℕ) (before after : ℕ) : Type 0 where
+  pub taken : List ℕ
+  pub parts : gathered ≡ taken ++ rest
+  pub given : Appends old new taken
+  pub counted : after ≡ before + length taken
+
+-- The writer took a first part of what was gathered and of these bytes.
+abbrev pub IsPartOf : Option (List ℕ) → Option (List ℕ) → Gathered → List ℕ → ℕ → Type 0
+IsPartOf old new gathered bytes written = (front : List ℕ) × (back : List ℕ) × (rest : List ℕ) × (bytes ≡ front ++ back) × HandsOn old new (gathered.waiting ++ front) rest gathered.written written
+
+-- the writer took so many of the bytes, from the first on
+abbrev pub Took : Option (List ℕ) → Option (List ℕ) → ℕ → List ℕ → Type 0
+Took old new written bytes = (written ≤ length bytes) × Appends old new (take written bytes)

@@ -1,0 +1,5 @@
+pub mod Names
+pub mod Spelling
+pub mod Fault
+pub mod Bytes
+pub mod Laws

@@ -1,0 +1,164 @@
+ghost use Rattle.std.specs.Prelude.{◌≡◌, ◌+◌, ◌<◌, ◌≤◌, [], ◌∷◌, length, take, IfOk, IfErr, OnOk, OnErr, MatchBool, MatchOption};
+ghost use Rattle.std.specs.Io.KnownBytes.{Consumes, Keeps, IsAtEnd};
+ghost use Rattle.hierfile.specs.Spelling.{word, long};
+ghost use Rattle.hierfile.specs.Fault.{cut};
+ghost use Rattle.hierfile.specs.Bytes.{coming, IsFaultOf};
+
+use crate::error::HierError;
+use std::alloc::{AllocError, Global};
+use std::io::{self, ErrorKind, Read};
+use std::marker::Model;
+
+/// How many bytes the buffer holds.
+const SIZE: usize = 1 << 16;
+
+/// How often a reader is called at most.
+const CALLS: u64 = 1 << 40;
+
+/// The bytes of a reader, taken number by number through a buffer. It is seen as the bytes that wait in the buffer.
+#[derive(Drop)]
+pub struct Input {
+    buffer: Vec<u8>,
+    // The waiting bytes stand from here on,
+    at: usize,
+    // and end before this place.
+    end: usize,
+    // How often the reader was called.
+    calls: u64,
+}
+
+impl Model for Input {
+    ghost use Rattle.std.specs.Prelude.{ℕ, List, ◌≤◌, ◌≡◌, length, take, drop};
+
+    ghost Value = { List ℕ };
+
+    ghost view = { λ i. drop i.at (take i.end i.buffer.items) };
+
+    ghost invariant = { λ i. (i.at ≤ i.end) × (i.end ≤ length i.buffer.items) × (length i.buffer.items ≡ 65536) };
+}
+
+impl Input {
+    /// Nothing waits, and the reader wasn't called yet.
+    pub fn new(alloc: Global) -> Result<Input, AllocError>
+        ensures { IfOk result (λ input. input ≡ []) }
+    {
+        Ok(Input {
+            buffer: vec![in alloc; 0; SIZE]?,
+            at: 0,
+            end: 0,
+            calls: 0,
+        })
+    }
+
+    /// The next byte, or none at the end of the reader's bytes.
+    pub fn byte<R: Read>(&mut self, reader: &mut R) -> Result<Option<u8>, HierError>
+        ensures ok { IfOk result (λ next. MatchOption next (IsAtEnd (coming self.old (R.remaining reader.old)))
+            (λ b. Consumes (coming self.old (R.remaining reader.old)) (coming self.new (R.remaining reader.new)) (b ∷ []))) }
+        ensures err { IfErr result (λ e. e ≡ HierError.Read) }
+    {
+        if !self.has(reader, 1)? {
+            return Ok(None);
+        }
+        let byte = self.buffer[self.at];
+        self.at += 1;
+        Ok(Some(byte))
+    }
+
+    /// The next number of four bytes.
+    pub fn word<R: Read>(&mut self, reader: &mut R) -> Result<u32, HierError>
+        ensures ok { IfOk result (λ n. Consumes (coming self.old (R.remaining reader.old)) (coming self.new (R.remaining reader.new)) (word n)) }
+        ensures err { IfErr result (IsFaultOf (cut 4) (coming self.old (R.remaining reader.old))) }
+    {
+        self.need(reader, 4)?;
+        let at = self.at;
+        let bytes = &self.buffer;
+        let number = u32::from_be_bytes([bytes[at], bytes[at + 1], bytes[at + 2], bytes[at + 3]]);
+        self.at += 4;
+        Ok(number)
+    }
+
+    /// The next number of eight bytes.
+    pub fn long<R: Read>(&mut self, reader: &mut R) -> Result<u64, HierError>
+        ensures ok { IfOk result (λ n. Consumes (coming self.old (R.remaining reader.old)) (coming self.new (R.remaining reader.new)) (long n)) }
+        ensures err { IfErr result (IsFaultOf (cut 8) (coming self.old (R.remaining reader.old))) }
+    {
+        self.need(reader, 8)?;
+        let at = self.at;
+        let bytes = &self.buffer;
+        let number = u64::from_be_bytes([
+            bytes[at],
+            bytes[at + 1],
+            bytes[at + 2],
+            bytes[at + 3],
+            bytes[at + 4],
+            bytes[at + 5],
+            bytes[at + 6],
+            bytes[at + 7],
+        ]);
+        self.at += 8;
+        Ok(number)
+    }
+
+    // Sees that so many bytes wait.
+    fn need<R: Read>(&mut self, reader: &mut R, count: usize) -> Result<(), HierError>
+        requires { count ≤ 8 }
+        ensures ok { OnOk result (Keeps (coming self.old (R.remaining reader.old)) (coming self.new (R.remaining reader.new))) }
+        ensures enough { OnOk result (count ≤ length self.new) }
+        ensures err { IfErr result (IsFaultOf (cut count) (coming self.old (R.remaining reader.old))) }
+    {
+        if !self.has(reader, count)? {
+            return Err(HierError::Truncated);
+        }
+        Ok(())
+    }
+
+    // Whether so many bytes are still to come. If so they wait.
+    fn has<R: Read>(&mut self, reader: &mut R, count: usize) -> Result<bool, HierError>
+        requires { count ≤ 8 }
+        ensures keeps { Keeps (coming self.old (R.remaining reader.old)) (coming self.new (R.remaining reader.new)) }
+        ensures ok { IfOk result (λ enough. MatchBool enough (count ≤ length self.new) ((length self.new < count) × IsAtEnd (R.remaining reader.new))) }
+        ensures err { IfErr result (λ e. e ≡ HierError.Read) }
+    {
+        if self.end - self.at >= count {
+            return Ok(true);
+        }
+        self.fill(reader, count)
+    }
+
+    // Reads on until so many bytes wait; false where the reader's bytes end before.
+    fn fill<R: Read>(&mut self, reader: &mut R, count: usize) -> Result<bool, HierError>
+        requires { count ≤ 8 }
+        ensures keeps { Keeps (coming self.old (R.remaining reader.old)) (coming self.new (R.remaining reader.new)) }
+        ensures ok { IfOk result (λ enough. MatchBool enough (count ≤ length self.new) ((length self.new < count) × IsAtEnd (R.remaining reader.new))) }
+        ensures err { IfErr result (λ e. e ≡ HierError.Read) }
+    {
+        self.buffer.copy_within(self.at..self.end, 0);
+        self.end -= self.at;
+        self.at = 0;
+        while self.end < count {
+            if self.calls >= CALLS {
+                return Err(HierError::Read);
+            }
+            self.calls += 1;
+            match read_behind(reader, self.buffer.as_mut_slice(), self.end) {
+                Ok(0) => return Ok(false),
+                Ok(n) => self.end += n,
+                Err(error) if error.kind() == ErrorKind::Interrupted => {}
+                Err(_) => return Err(HierError::Read),
+            }
+        }
+        Ok(true)
+    }
+}
+
+// One call of the reader, which puts its bytes behind the first ones of the buffer.
+fn read_behind<R: Read>(reader: &mut R, buffer: &mut [u8], end: usize) -> io::Result<usize>
+    requires { end ≤ length buffer.old }
+    ensures room { IfOk result (λ n. end + n ≤ length buffer.new) }
+    ensures ok { IfOk result (λ n. Keeps (coming (take end buffer.old) (R.remaining reader.old)) (coming (take (end + n) buffer.new) (R.remaining reader.new))) }
+    ensures end { IfOk result (λ n. n ≡ 0 → end < length buffer.new → IsAtEnd (R.remaining reader.new)) }
+    ensures err { OnErr result (Keeps (coming (take end buffer.old) (R.remaining reader.old)) (coming (take end buffer.new) (R.remaining reader.new))) }
+{
+    let count = reader.read(&mut buffer[end..])?;
+    Ok(count)
+}

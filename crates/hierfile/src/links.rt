@@ -1,0 +1,176 @@
+ghost use Rattle.std.specs.Prelude.{◌≡◌, ◌==◌, ◌+◌, ◌-◌, ◌^◌, ◌<◌, ℕ, length, None, Some, All, AllPairs, IfSome, IfOk, IfErr, OnOk};
+ghost use Rattle.std.specs.List.{flat_map, find};
+ghost use Rattle.std.specs.Option.{option_map};
+ghost use Rattle.std.specs.Io.KnownBytes.{Consumes};
+ghost use Rattle.ch_cost.specs.Cost.{length_of};
+ghost use Rattle.ch_graph.specs.Hierarchy.{ComesBefore};
+ghost use Rattle.hierfile.specs.Spelling.{link_bytes, middle_number};
+ghost use Rattle.hierfile.specs.Fault.{cut, is_in_order, link_fault, link_fault_at, links_fault, middle_fault, half_fault, first_along, leads};
+ghost use Rattle.hierfile.specs.Bytes.{coming, IsFaultOf, Tells, NoneBelow, IsWritable};
+
+use crate::error::HierError;
+use crate::input::Input;
+use ch_cost::Cost;
+use ch_graph::{Link, find_link};
+use std::alloc::Global;
+use std::io::Read;
+
+/// The number that is written for no middle.
+pub const NO_MIDDLE: u32 = u32::MAX;
+
+/// Reads so many links, of a hierarchy with these ranks and this bound.
+pub fn read_links<R: Read>(
+    alloc: Global,
+    input: &mut Input,
+    reader: &mut R,
+    ranks: &[u32],
+    bound: Cost,
+    count: u64,
+) -> Result<Vec<Link>, HierError>
+    ensures count { IfOk result (λ links. length links.items ≡ count) }
+    ensures faultless { IfOk result (λ links. NoneBelow count (link_fault_at ranks.now bound links.items)) }
+    ensures ok { IfOk result (λ links. Consumes (coming input.old (R.remaining reader.old)) (coming input.new (R.remaining reader.new)) (flat_map link_bytes links.items)) }
+    ensures writable { IfOk result (λ links. All IsWritable links.items) }
+    ensures err { IfErr result (IsFaultOf (links_fault ranks.now bound count) (coming input.old (R.remaining reader.old))) }
+{
+    let mut links = Vec::new(alloc);
+    'links: for _ in 0..count {
+        let link = read_link(input, reader)?;
+        test_link(ranks, bound, links.last().copied(), link)?;
+        links.push(link)?;
+    }
+    Ok(links)
+}
+
+// Reads one link.
+fn read_link<R: Read>(input: &mut Input, reader: &mut R) -> Result<Link, HierError>
+    ensures ok { IfOk result (λ link. Consumes (coming input.old (R.remaining reader.old)) (coming input.new (R.remaining reader.new)) (link_bytes link)) }
+    ensures writable { IfOk result IsWritable }
+    ensures err { IfErr result (IsFaultOf (cut 20) (coming input.old (R.remaining reader.old))) }
+{
+    let from = input.word(reader)?;
+    let to = input.word(reader)?;
+    let weight = input.long(reader)?;
+    let middle = input.word(reader)?;
+    Ok(Link {
+        from,
+        to,
+        cost: Cost::of_length(weight),
+        middle: middle_of(middle),
+    })
+}
+
+// The middle that this number stands for.
+fn middle_of(number: u32) -> Option<u32>
+    ensures number { middle_number result ≡ number }
+    ensures node { IfSome result (λ m. m < 2 ^ 32 - 1) }
+{
+    if number == NO_MIDDLE {
+        None
+    } else {
+        Some(number)
+    }
+}
+
+// Tests a link by itself, beside the one before it.
+#[tactic(auto, unfolding(crate::specs::Fault::link_fault))]
+fn test_link(ranks: &[u32], bound: Cost, earlier: Option<Link>, link: Link) -> Result<(), HierError>
+    ensures { Tells result (link_fault ranks.now bound earlier link) }
+{
+    let nodes = ranks.len();
+    if link.from as usize >= nodes || link.to as usize >= nodes || link.from == link.to {
+        return Err(HierError::LinkEnds);
+    }
+    if !is_in_order(earlier, link) {
+        return Err(HierError::LinkOrder);
+    }
+    let length = link.cost.length();
+    if length == 0 || length > bound.length() {
+        return Err(HierError::LinkWeight);
+    }
+    test_middle(ranks, link.from, link.to, link.middle)
+}
+
+// Whether a link comes after the one before it, if there is one.
+fn is_in_order(earlier: Option<Link>, link: Link) -> bool
+    ensures { result ≡ is_in_order earlier link }
+{
+    match earlier {
+        None => true,
+        Some(earlier) => {
+            earlier.from < link.from || (earlier.from == link.from && earlier.to < link.to)
+        }
+    }
+}
+
+// Tests a middle of a link between two nodes.
+fn test_middle(ranks: &[u32], from: u32, to: u32, middle: Option<u32>) -> Result<(), HierError>
+    requires from_in { from < length ranks.now }
+    requires to_in { to < length ranks.now }
+    ensures { Tells result (middle_fault ranks.now from to middle) }
+{
+    let Some(middle) = middle else {
+        return Ok(());
+    };
+    if middle as usize >= ranks.len() {
+        return Err(HierError::MiddleRange);
+    }
+    let rank = ranks[middle as usize];
+    if rank < ranks[from as usize] && rank < ranks[to as usize] {
+        Ok(())
+    } else {
+        Err(HierError::MiddleRank)
+    }
+}
+
+/// Tests of each link with a middle whether its halves are among the links, and sum to its weight.
+pub fn test_halves(links: &[Link]) -> Result<(), HierError>
+    requires { AllPairs ComesBefore links.now }
+    ensures { Tells result (first_along (half_fault links.now) links.now) }
+{
+    'links: for link in links {
+        test_half(links, *link)?;
+    }
+    Ok(())
+}
+
+// Tests the halves of a link.
+#[tactic(auto, unfolding(crate::specs::Fault::half_fault))]
+fn test_half(links: &[Link], link: Link) -> Result<(), HierError>
+    requires { AllPairs ComesBefore links.now }
+    ensures { Tells result (half_fault links.now link) }
+{
+    let Some(middle) = link.middle else {
+        return Ok(());
+    };
+    let Some(first) = length_between(links, link.from, middle) else {
+        return Err(HierError::HalfMissing);
+    };
+    let Some(second) = length_between(links, middle, link.to) else {
+        return Err(HierError::HalfMissing);
+    };
+    if is_sum(link.cost.length(), first, second) {
+        Ok(())
+    } else {
+        Err(HierError::HalfSum)
+    }
+}
+
+// The length of the link from one node to another, or none where there is no such link.
+fn length_between(links: &[Link], from: u32, to: u32) -> Option<u64>
+    requires { AllPairs ComesBefore links.now }
+    ensures { result ≡ option_map (λ l. length_of l.cost) (find (leads from to) links.now) }
+{
+    let place = find_link(links, from, to)?;
+    Some(links[place.0].cost.length())
+}
+
+// Whether a number is the sum of two, which may be of any size.
+fn is_sum(whole: u64, first: u64, second: u64) -> bool
+    ensures { result ≡ (whole == first + second) }
+{
+    match first.checked_add(second) {
+        None => false,
+        Some(sum) => whole == sum,
+    }
+}

@@ -1,0 +1,128 @@
+ghost use Rattle.std.specs.Prelude.{◌≡◌, ◌++◌, [], ◌*◌, length, None, Some, IfOk, IfErr, OnOk, IfSome};
+ghost use Rattle.std.specs.List.{flat_map};
+ghost use Rattle.std.specs.Io.KnownBytes.{Consumes, IsAtEnd};
+ghost use Rattle.ch_cost.specs.Cost.{of_length};
+ghost use Rattle.hierfile.specs.Spelling.{bytes_of, magic, word, long, link_bytes};
+ghost use Rattle.hierfile.specs.Fault.{first_fault, magic_fault, head_fault, size_fault, body_fault, end_fault};
+ghost use Rattle.hierfile.specs.Bytes.{coming, IsFaultOf, Tells, IsBodyOf};
+
+use crate::error::HierError;
+use crate::input::Input;
+use crate::links::{read_links, test_halves};
+use crate::ranks::read_ranks;
+use ch_cost::Cost;
+use ch_graph::Hierarchy;
+use std::alloc::Global;
+use std::io::Read;
+
+/// What every file begins with.
+const MAGIC: [u8; 4] = *b"RCH1";
+
+/// The greatest number of nodes.
+const MOST_NODES: u32 = 1 << 25;
+
+/// The greatest weight of an arc.
+const HEAVIEST: u64 = u32::MAX as u64;
+
+// What the bytes behind the magic tell.
+#[derive(Clone, Copy)]
+struct Head {
+    nodes: u32,
+    links: u64,
+    bound: u64,
+}
+
+/// Reads a hierarchy from a file's bytes, to the end of the reader.
+///
+/// On Ok the bytes were its spelling, and on an error this was their first fault: which bytes spell a hierarchy and
+/// how faults are ordered is told in `docs/FORMATS.md`. `Read` stands where the reader fails, also after 2^40 calls;
+/// an interrupted call is tried again. `OutOfMemory` stands where a growth is refused. Memory is taken as bytes come
+/// in, beside a buffer of 64 KiB: 4 bytes and one for each node, and about 32 for each link. Linear in the bytes, but
+/// for two binary searches for each link with a middle.
+pub fn read<R: Read>(alloc: Global, reader: &mut R) -> Result<Hierarchy, HierError>
+    ensures ok { IfOk result (λ hierarchy. IfSome (R.remaining reader.old) (λ bytes. bytes ≡ bytes_of hierarchy)) }
+    ensures err { IfErr result (IsFaultOf first_fault (R.remaining reader.old)) }
+{
+    let mut input = Input::new(alloc)?;
+    read_magic(&mut input, reader)?;
+    let head = read_head(&mut input, reader)?;
+    let hierarchy = read_body(alloc, &mut input, reader, head)?;
+    Ok(hierarchy)
+}
+
+// Reads the magic, and compares each byte as it comes.
+fn read_magic<R: Read>(input: &mut Input, reader: &mut R) -> Result<(), HierError>
+    ensures ok { OnOk result (Consumes (coming input.old (R.remaining reader.old)) (coming input.new (R.remaining reader.new)) magic) }
+    ensures err { IfErr result (IsFaultOf magic_fault (coming input.old (R.remaining reader.old))) }
+{
+    'bytes: for wanted in &MAGIC {
+        let Some(byte) = input.byte(reader)? else {
+            return Err(HierError::Truncated);
+        };
+        if byte != *wanted {
+            return Err(HierError::BadMagic);
+        }
+    }
+    Ok(())
+}
+
+// Reads the numbers behind the magic.
+fn read_head<R: Read>(input: &mut Input, reader: &mut R) -> Result<Head, HierError>
+    ensures sizes { IfOk result (λ head. size_fault head.nodes head.links head.bound ≡ None) }
+    ensures ok { IfOk result (λ head. Consumes (coming input.old (R.remaining reader.old)) (coming input.new (R.remaining reader.new)) (word head.nodes ++ long head.links ++ long head.bound)) }
+    ensures err { IfErr result (IsFaultOf head_fault (coming input.old (R.remaining reader.old))) }
+{
+    let head = Head {
+        nodes: input.word(reader)?,
+        links: input.long(reader)?,
+        bound: input.long(reader)?,
+    };
+    test_sizes(head)?;
+    Ok(head)
+}
+
+// Tests the numbers behind the magic.
+fn test_sizes(head: Head) -> Result<(), HierError>
+    ensures { Tells result (size_fault head.nodes head.links head.bound) }
+{
+    let nodes = u64::from(head.nodes);
+    let others = nodes.saturating_sub(1);
+    if head.nodes > MOST_NODES || head.links > nodes * others {
+        return Err(HierError::TooBig);
+    }
+    if head.bound > others * HEAVIEST {
+        return Err(HierError::BoundTooBig);
+    }
+    Ok(())
+}
+
+// Reads what follows the head.
+fn read_body<R: Read>(
+    alloc: Global,
+    input: &mut Input,
+    reader: &mut R,
+    head: Head,
+) -> Result<Hierarchy, HierError>
+    requires { size_fault head.nodes head.links head.bound ≡ None }
+    ensures sizes { IfOk result (λ hierarchy. IsBodyOf hierarchy head.nodes head.links head.bound) }
+    ensures ok { IfOk result (λ hierarchy. IfSome (coming input.old (R.remaining reader.old)) (λ bytes. bytes ≡ flat_map word hierarchy.ranks ++ flat_map link_bytes hierarchy.links)) }
+    ensures err { IfErr result (IsFaultOf (body_fault head.nodes head.links head.bound) (coming input.old (R.remaining reader.old))) }
+{
+    let bound = Cost::of_length(head.bound);
+    let ranks = read_ranks(alloc, input, reader, head.nodes)?;
+    let links = read_links(alloc, input, reader, ranks.as_slice(), bound, head.links)?;
+    test_halves(links.as_slice())?;
+    read_end(input, reader)?;
+    Ok(Hierarchy::new(ranks, links, bound))
+}
+
+// Sees that nothing follows.
+fn read_end<R: Read>(input: &mut Input, reader: &mut R) -> Result<(), HierError>
+    ensures ok { OnOk result (IsAtEnd (coming input.old (R.remaining reader.old))) }
+    ensures err { IfErr result (IsFaultOf end_fault (coming input.old (R.remaining reader.old))) }
+{
+    match input.byte(reader)? {
+        None => Ok(()),
+        Some(_) => Err(HierError::Trailing),
+    }
+}

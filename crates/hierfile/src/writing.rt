@@ -1,0 +1,99 @@
+ghost use Rattle.std.specs.Prelude.{◌≡◌, ◌++◌, ◌≤◌, ℕ, List, length, OnOk, IfErr};
+ghost use Rattle.std.specs.List.{flat_map};
+ghost use Rattle.std.specs.Io.KnownBytes.{Appends};
+ghost use Rattle.hierfile.specs.Spelling.{bytes_of, word, long, head_bytes, link_bytes, middle_number};
+ghost use Rattle.hierfile.specs.Bytes.{HandsOn, IsPartOf, Took};
+
+use crate::error::WriteFault;
+use crate::links::NO_MIDDLE;
+use crate::output::Output;
+use ch_graph::{Hierarchy, Link};
+use std::io::Write;
+
+/// The magic, as a number of four bytes.
+const MAGIC: u32 = 0x5243_4831;
+
+/// Writes a hierarchy to a file.
+///
+/// On Ok the writer took the spelling of the hierarchy, and on a fault its first `written` bytes. An interrupted call
+/// of the writer is tried again; one that takes no byte is a failure, and so is the end of 2^40 calls. Takes no
+/// memory, beside 8 KiB of the stack; linear in the size of the hierarchy.
+pub fn write<W: Write>(hierarchy: &Hierarchy, writer: &mut W) -> Result<(), WriteFault>
+    ensures ok { OnOk result (Appends (W.contents writer.old) (W.contents writer.new) (bytes_of hierarchy.now)) }
+    ensures err { IfErr result (λ fault. Took (W.contents writer.old) (W.contents writer.new) fault.written (bytes_of hierarchy.now)) }
+{
+    let mut output = Output::new();
+    write_head(hierarchy, &mut output, writer)?;
+    write_ranks(hierarchy, &mut output, writer)?;
+    write_links(hierarchy.links(), &mut output, writer)?;
+    output.hand_over(writer)?;
+    Ok(())
+}
+
+// Writes the magic, how many nodes and links there are, and the bound.
+fn write_head<W: Write>(
+    hierarchy: &Hierarchy,
+    output: &mut Output,
+    writer: &mut W,
+) -> Result<(), WriteFault>
+    ensures ok { OnOk result (HandsOn (W.contents writer.old) (W.contents writer.new) (output.old.waiting ++ head_bytes (length hierarchy.now.ranks) (length hierarchy.now.links) hierarchy.now.bound) output.new.waiting output.old.written output.new.written) }
+    ensures err { IfErr result (λ fault. IsPartOf (W.contents writer.old) (W.contents writer.new) output.old (head_bytes (length hierarchy.now.ranks) (length hierarchy.now.links) hierarchy.now.bound) fault.written) }
+{
+    output.word(writer, MAGIC)?;
+    output.word(writer, hierarchy.nodes())?;
+    output.long(writer, hierarchy.links().len() as u64)?;
+    output.long(writer, hierarchy.bound().length())?;
+    Ok(())
+}
+
+// Writes the rank of each node.
+fn write_ranks<W: Write>(
+    hierarchy: &Hierarchy,
+    output: &mut Output,
+    writer: &mut W,
+) -> Result<(), WriteFault>
+    ensures ok { OnOk result (HandsOn (W.contents writer.old) (W.contents writer.new) (output.old.waiting ++ flat_map word hierarchy.now.ranks) output.new.waiting output.old.written output.new.written) }
+    ensures err { IfErr result (λ fault. IsPartOf (W.contents writer.old) (W.contents writer.new) output.old (flat_map word hierarchy.now.ranks) fault.written) }
+{
+    'nodes: for node in 0..hierarchy.nodes() {
+        output.word(writer, hierarchy.rank(node))?;
+    }
+    Ok(())
+}
+
+// Writes each link.
+fn write_links<W: Write>(
+    links: &[Link],
+    output: &mut Output,
+    writer: &mut W,
+) -> Result<(), WriteFault>
+    ensures ok { OnOk result (HandsOn (W.contents writer.old) (W.contents writer.new) (output.old.waiting ++ flat_map link_bytes links.now) output.new.waiting output.old.written output.new.written) }
+    ensures err { IfErr result (λ fault. IsPartOf (W.contents writer.old) (W.contents writer.new) output.old (flat_map link_bytes links.now) fault.written) }
+{
+    'links: for link in links {
+        write_link(*link, output, writer)?;
+    }
+    Ok(())
+}
+
+// Writes one link.
+fn write_link<W: Write>(link: Link, output: &mut Output, writer: &mut W) -> Result<(), WriteFault>
+    ensures ok { OnOk result (HandsOn (W.contents writer.old) (W.contents writer.new) (output.old.waiting ++ link_bytes link) output.new.waiting output.old.written output.new.written) }
+    ensures err { IfErr result (λ fault. IsPartOf (W.contents writer.old) (W.contents writer.new) output.old (link_bytes link) fault.written) }
+{
+    output.word(writer, link.from)?;
+    output.word(writer, link.to)?;
+    output.long(writer, link.cost.length())?;
+    output.word(writer, number_of(link.middle))?;
+    Ok(())
+}
+
+// The number that stands for a middle.
+fn number_of(middle: Option<u32>) -> u32
+    ensures { result ≡ middle_number middle }
+{
+    match middle {
+        None => NO_MIDDLE,
+        Some(middle) => middle,
+    }
+}
