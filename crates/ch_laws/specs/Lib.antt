@@ -1,0 +1,2 @@
+pub mod Contraction
+pub mod Rows
