@@ -1,0 +1,237 @@
+ghost use Rattle.std.specs.Prelude.{◌≡◌, ◌+◌, ◌<◌, ℕ, List, IfOk, All, AllPairs, length, map, slice_index};
+ghost use Rattle.std.specs.List.{zip, range_with_len};
+ghost use Rattle.std.specs.Arc.{arc_value};
+ghost use Rattle.ch_graph.specs.Graph.{bound_of};
+ghost use Rattle.ch_laws.specs.declared.shortcut.Shortcut.{Shortcut};
+ghost use Rattle.ch_laws.specs.Contraction.{IsStart, IsPlan, contracted};
+ghost use Rattle.ch_overlay.specs.Overlay.{IsOverlay, row_at, state_of};
+ghost use Rattle.ch_overlay.specs.Change.{IsChange, IsOf, changed_nodes, puts};
+
+use crate::change::Change;
+use crate::least::least_arcs;
+use crate::placed::{entries_at, in_entries, out_entries, Placed};
+use crate::row::Row;
+use ch_cost::Cost;
+use ch_graph::{Graph, Road};
+use ch_laws::{Entry, Shortcut};
+use std::alloc::{AllocError, Global};
+use std::marker::Model;
+use std::sync::Arc;
+
+/// The rows of a graph's nodes under contraction, and a version number for each.
+///
+/// A row that changes gets a new version, so that equal versions of a node mean equal rows.
+#[derive(Drop)]
+pub struct Overlay {
+    bound: Cost,
+    rows: Vec<Arc<Row>>,
+    versions: Vec<u64>,
+    order: Vec<u32>,
+}
+
+impl Model for Overlay {
+    ghost use Rattle.std.specs.Prelude.{◌≤◌, length, map, vec_capacity};
+    ghost use Rattle.std.specs.Arc.{arc_value};
+    ghost use Rattle.ch_overlay.specs.Overlay as overlays;
+
+    ghost Value = { overlays.Overlay };
+
+    ghost view = { λ o. record { bound = o.bound; rows = map arc_value o.rows.items; versions = o.versions.items; order = o.order.items } };
+
+    ghost invariant = { λ o. overlays.IsOverlay (record { bound = o.bound; rows = map arc_value o.rows.items; versions = o.versions.items; order = o.order.items }) × (length o.rows.items ≤ vec_capacity o.order) };
+}
+
+impl Overlay {
+    /// The rows of a graph in which no node is contracted: for each ordered pair of different nodes that has an arc,
+    /// the least one. Node x has the version x.
+    ///
+    /// Takes memory for the rows and, while it works, for a copy of the arcs, which it sorts.
+    pub fn start(alloc: Global, graph: &Graph) -> Result<Overlay, AllocError>
+        ensures start { IfOk result (λ o. IsStart graph.now (state_of o)) }
+        ensures versions { IfOk result (λ o. o.versions ≡ range_with_len 0 graph.now.nodes) }
+        ensures bound { IfOk result (λ o. o.bound ≡ bound_of graph.now) }
+    {
+        let nodes = graph.nodes();
+        let least = least_arcs(alloc, graph.arcs())?;
+        let rows = shared(alloc, rows_of(alloc, nodes, least.as_slice())?)?;
+        let versions = (0..u64::from(nodes)).collect(alloc)?;
+        let order = Vec::with_capacity(alloc, nodes as usize)?;
+        Ok(Overlay {
+            bound: graph.bound(),
+            rows,
+            versions,
+            order,
+        })
+    }
+
+    /// How many nodes there are, contracted or not.
+    pub fn nodes(&self) -> u32
+        ensures count { result ≡ length self.now.rows }
+        ensures holds { IsOverlay self.now }
+    {
+        self.rows.len() as u32
+    }
+
+    /// How many nodes aren't contracted.
+    pub fn alive(&self) -> u32
+        ensures { result + length self.now.order ≡ length self.now.rows }
+    {
+        (self.rows.len() - self.order.len()) as u32
+    }
+
+    /// What no cost of an entry is above: the bound of the graph.
+    pub fn bound(&self) -> Cost
+        ensures { result ≡ self.now.bound }
+    {
+        self.bound
+    }
+
+    /// The row of a node, which is in range.
+    pub fn row(&self, node: u32) -> &Arc<Row>
+        requires { node < length self.now.rows }
+        ensures { arc_value result.now ≡ row_at self.now.rows node }
+    {
+        &self.rows[node as usize]
+    }
+
+    /// The version of a node's row. The node is in range.
+    pub fn version(&self, node: u32) -> u64
+        requires { node < length self.now.rows }
+        ensures { result ≡ slice_index self.now.versions node }
+    {
+        self.versions[node as usize]
+    }
+
+    /// The new rows of a contraction of `node` that puts these shortcuts in. Nothing changes yet.
+    ///
+    /// The node isn't contracted. Each shortcut is from a node with an arc to `node` to another one with an arc from
+    /// it, at most one for each pair, and costs the sum of the two arcs, at most the bound and less than the arc of
+    /// the pair where it has one. Takes memory for the rows; sorts the shortcuts, and is linear in the entries of the
+    /// rows otherwise.
+    pub fn plan(&self, alloc: Global, node: u32, shortcuts: &[Shortcut]) -> Result<Change, AllocError>
+        requires { IsPlan self.now.bound (state_of self.now) node shortcuts.now }
+        ensures node { IfOk result (λ change. change.node ≡ node) }
+        ensures change { IfOk result (λ change. IsChange self.now shortcuts.now change) }
+    {
+        let out = out_entries(alloc, node, shortcuts)?;
+        let inn = in_entries(alloc, node, shortcuts)?;
+        let row = &self.rows[node as usize];
+        let neighbours = row.others(alloc)?;
+        let mut rows = Vec::with_capacity(alloc, neighbours.len() + 1)?;
+        let ranked = row.ranked(alloc, self.order.len() as u32)?;
+        rows.push((node, Arc::new(alloc, ranked)?))?;
+        for other in &neighbours {
+            let old = &self.rows[*other as usize];
+            let new = changed(alloc, old, node, *other, out.as_slice(), inn.as_slice())?;
+            rows.push((*other, Arc::new(alloc, new)?))?;
+        }
+        Ok(Change { node, rows })
+    }
+
+    /// Contracts the node of a change, which was planned from this overlay: its rows become the rows of their nodes,
+    /// with these versions, one for each in the order of [`Change::rows`], rising, and above all that were given so
+    /// far.
+    ///
+    /// Takes no memory, and looks at no other row.
+    pub fn apply(&mut self, change: Change, versions: &[u64])
+        requires planned { IsOf self.old change }
+        requires count { length versions.now ≡ length change.rows }
+        requires rising { AllPairs (λ a b. a < b) versions.now }
+        requires above { All (λ a. All (λ b. a < b) versions.now) self.old.versions }
+        ensures state { (put : List Shortcut) → IsChange self.old put change → state_of self.new ≡ contracted (state_of self.old) change.node put }
+        ensures rows { self.new.rows ≡ puts self.old.rows change.rows }
+        ensures versions { self.new.versions ≡ puts self.old.versions (zip (changed_nodes change) versions.now) }
+        ensures bound { self.new.bound ≡ self.old.bound }
+    {
+        let Change { node, rows } = change;
+        put_versions(self.versions.as_mut_slice(), rows.as_slice(), versions);
+        put_rows(self.rows.as_mut_slice(), rows);
+        self.order.push_reserved(node);
+    }
+}
+
+// The rows of the arcs, which are sorted by their ends and have no loop.
+fn rows_of(alloc: Global, nodes: u32, arcs: &[Road]) -> Result<Vec<Row>, AllocError> {
+    let mut rows = rows_without_arcs(alloc, nodes)?;
+    for arc in arcs {
+        add_arc(rows.as_mut_slice(), *arc)?;
+    }
+    Ok(rows)
+}
+
+fn rows_without_arcs(alloc: Global, nodes: u32) -> Result<Vec<Row>, AllocError> {
+    let mut rows = Vec::with_capacity(alloc, nodes as usize)?;
+    for _ in 0..nodes {
+        rows.push(Row::without_arcs(alloc))?;
+    }
+    Ok(rows)
+}
+
+// The arc joins the rows of its two nodes, which are in range.
+fn add_arc(rows: &mut [Row], arc: Road) -> Result<(), AllocError>
+    requires from_in { arc.from < length rows.old }
+    requires to_in { arc.to < length rows.old }
+{
+    let cost = Cost::of_weight(arc.weight);
+    let from = &mut rows[arc.from as usize];
+    from.add_out(Entry {
+        other: arc.to,
+        cost,
+        middle: None,
+    })?;
+    let to = &mut rows[arc.to as usize];
+    to.add_in(Entry {
+        other: arc.from,
+        cost,
+        middle: None,
+    })
+}
+
+// The same rows, to be shared.
+fn shared(alloc: Global, rows: Vec<Row>) -> Result<Vec<Arc<Row>>, AllocError>
+    ensures { IfOk result (λ all. map arc_value all.items ≡ rows.items) }
+{
+    let mut all = Vec::with_capacity(alloc, rows.len())?;
+    for row in rows {
+        all.push(Arc::new(alloc, row)?)?;
+    }
+    Ok(all)
+}
+
+// The row of a neighbour without the contracted node, and with the shortcuts at it.
+fn changed(alloc: Global, row: &Row, gone: u32, node: u32, out: &[Placed], inn: &[Placed]) -> Result<Row, AllocError> {
+    let out = entries_at(alloc, out, node)?;
+    let inn = entries_at(alloc, inn, node)?;
+    row.changed(alloc, gone, out.as_slice(), inn.as_slice())
+}
+
+// The new versions of the changed rows.
+fn put_versions(all: &mut [u64], changed: &[(u32, Arc<Row>)], versions: &[u64])
+    requires count { length versions.now ≡ length changed.now }
+    requires in_range { All (λ a. a.0 < length all.old) changed.now }
+    ensures { all.new ≡ puts all.old (zip (map (λ a. a.0) changed.now) versions.now) }
+{
+    for (i, (node, _)) in changed.iter().enumerate() {
+        all[*node as usize] = versions[i];
+    }
+}
+
+// The changed rows.
+fn put_rows(all: &mut [Arc<Row>], changed: Vec<(u32, Arc<Row>)>)
+    requires { All (λ a. a.0 < length all.old) changed.items }
+    ensures { all.new ≡ puts all.old changed.items }
+{
+    for (node, row) in changed {
+        all[node as usize] = row;
+    }
+}
+
+#[cfg(test)]
+mod tests {
+    use super::*;
+
+    #[test]
+    fn opening(rt: HostRuntime) {
+        assert!(rt; true);
+    }
+}
