@@ -2,14 +2,14 @@
 use Rattle.std.proofs.Common.{ℕ, ◌≡◌, ◌≢◌, ◌+◌, ◌<◌, ◌≤◌, ◌⊎◌, List, [], ◌∷◌, ◌++◌, length, get_or, set, map, Option, Some, None, All, AllPairs, Contains, arith, refl, sym, ◌∙◌, ap, subst, inl, inr}
 use Rattle.std.proofs.lemmas.Bool.{cases_eq}
 use Rattle.std.proofs.lemmas.List.{length-set, get_or-set_same, get_or-set_other, get_or_default}
-use Rattle.std.proofs.lemmas.List.Elements.{All-push, All-contains}
+use Rattle.std.proofs.lemmas.List.Elements.{All-push, All-cons, All-contains, Contains-get_or}
 use Rattle.std.proofs.lemmas.List.Quantifiers.{all_pairs_push}
 use Rattle.ch_cost.specs.declared.cost.Cost.{Cost}
 use Rattle.ch_laws.specs.declared.shortcut.Shortcut.{Shortcut}
 use Rattle.ch_laws.specs.Contraction.{State, StateArc, IsNeighbour, contracted}
 use Rattle.ch_laws.specs.Rows.{Row, IsRow, IsChanged}
 use Rattle.ch_overlay.specs.Overlay.{Overlay, IsOverlay, AreEntries, no_arcs, row_at, state_of, arc_by_rows}
-use Rattle.ch_overlay.specs.Change.{Change, IsChange, puts}
+use Rattle.ch_overlay.specs.Change.{Change, IsChange, IsOf, puts}
 use Rattle.ch_overlay.proofs.Entries.{contains_place}
 use Rattle.ch_overlay.proofs.NewRows.{neighbour_apart, row-contracted, row-kept, row-changed}
 use Rattle.ch_overlay.proofs.Shown.{AreRows, arcs_shown}
@@ -49,27 +49,27 @@ module _ (o : Overlay) (holds : IsOverlay o) (put : List Shortcut) (c : Change) 
         let long = length-set o.rows c.node (record (row_at o.rows c.node) { rank = Some (length o.order) }) in
         let here = puts-here is.others first_put p no_arcs others_once found.1 (omega (arith, long, near.alive.in_range)) in
         subst (λ z. IsRow (contracted (state_of o) c.node put) z (row_at (puts first_put is.others) z)) found.2
-          (subst (λ (r : Row). IsRow (contracted (state_of o) c.node put) p.0 r) (sym here) new)
+        (subst (λ (r : Row). IsRow (contracted (state_of o) c.node put) p.0 r) (sym here) new)
     | inr none ↦
         let there = puts-other is.others first_put x no_arcs none in
         subst (λ (r : Row). IsRow (contracted (state_of o) c.node put) x r) (sym there) (unput x inside none)
   ]
     where
-    unput : (x : ℕ) → x < length o.rows → ((p : ℕ × Row) → Contains is.others p → p.0 ≢ x) → IsRow (contracted (state_of o) c.node put) x (get_or first_put x no_arcs)
-    unput x inside none = elim (cases_eq x c.node) [
-      | inl same ↦
-          let first = get_or-set_same o.rows c.node (record (row_at o.rows c.node) { rank = Some (length o.order) }) no_arcs is.plan.alive.in_range in
-          let new = row-contracted o.bound (state_of o) c.node put is.plan (loopless (overlay_sound o holds)) (row_at o.rows c.node) (holds.rows c.node is.plan.alive.in_range) in
-          subst (λ z. IsRow (contracted (state_of o) c.node put) z (get_or first_put z no_arcs)) (sym same)
+      unput : (x : ℕ) → x < length o.rows → ((p : ℕ × Row) → Contains is.others p → p.0 ≢ x) → IsRow (contracted (state_of o) c.node put) x (get_or first_put x no_arcs)
+      unput x inside none = elim (cases_eq x c.node) [
+        | inl same ↦
+            let first = get_or-set_same o.rows c.node (record (row_at o.rows c.node) { rank = Some (length o.order) }) no_arcs is.plan.alive.in_range in
+            let new = row-contracted o.bound (state_of o) c.node put is.plan (loopless (overlay_sound o holds)) (row_at o.rows c.node) (holds.rows c.node is.plan.alive.in_range) in
+            subst (λ z. IsRow (contracted (state_of o) c.node put) z (get_or first_put z no_arcs)) (sym same)
             (subst (λ (r : Row). IsRow (contracted (state_of o) c.node put) c.node r) (sym first) new)
-      | inr apart ↦
-          let kept = get_or-set_other o.rows c.node x (record (row_at o.rows c.node) { rank = Some (length o.order) }) no_arcs apart in
-          let far : IsNeighbour (state_of o) c.node x → ⊥ = λ near.
+        | inr apart ↦
+            let kept = get_or-set_other o.rows c.node x (record (row_at o.rows c.node) { rank = Some (length o.order) }) no_arcs apart in
+            let far : IsNeighbour (state_of o) c.node x → ⊥ = λ near.
             let found = contains-mapped (λ (a : ℕ × Row). a.0) is.others x ((is.neighbours x).1 near) in
             none found.0 found.1 found.2 in
-          subst (λ (r : Row). IsRow (contracted (state_of o) c.node put) x r) (sym kept)
+            subst (λ (r : Row). IsRow (contracted (state_of o) c.node put) x r) (sym kept)
             (row-kept o.bound (state_of o) c.node put is.plan (loopless (overlay_sound o holds)) x (row_at o.rows x) inside apart far (holds.rows x inside))
-    ]
+      ]
 
   count : length (puts o.rows c.rows) ≡ length o.rows
   count = length-puts c.rows o.rows
@@ -86,8 +86,8 @@ module _ (o : Overlay) (holds : IsOverlay o) (put : List Shortcut) (c : Change) 
     count = count;
     rows = row_next;
     in_range = λ x y arc there.
-      let facts = next_sound.arcs x y arc there in
-      (omega (arith, facts.from_in, count), omega (arith, facts.to_in, count));
+        let facts = next_sound.arcs x y arc there in
+        (omega (arith, facts.from_in, count), omega (arith, facts.to_in, count));
   }
 
   -- the new rows show the contracted state
@@ -105,5 +105,12 @@ module _ (o : Overlay) (holds : IsOverlay o) (put : List Shortcut) (c : Change) 
     once = all_pairs_push (λ x y. x ≢ y) o.order c.node holds.once (λ k d h same. is.plan.alive.waits (contains_place o.order k d c.node h same));
     rows = λ x inside. subst (λ (s : State). IsRow s x (row_at (puts o.rows c.rows) x)) (sym (state-applied versions)) (row_next x inside);
     entries = λ x inside.
-      subst (λ n. AreEntries n o.bound x (row_at (puts o.rows c.rows) x)) (sym count) (entries-sound o.bound (contracted (state_of o) c.node put) x (row_at (puts o.rows c.rows) x) next_sound (row_next x inside));
+        subst (λ n. AreEntries n o.bound x (row_at (puts o.rows c.rows) x)) (sym count) (entries-sound o.bound (contracted (state_of o) c.node put) x (row_at (puts o.rows c.rows) x) next_sound (row_next x inside));
   }
+
+-- the rows of a change are of nodes of the overlay
+pub change_in_range : (o : Overlay) → IsOverlay o → (c : Change) → IsOf o c → All (λ a. a.0 < length o.rows) c.rows
+change_in_range o holds c of =
+    let is = of.1 in
+    let others : All (λ (a : ℕ × Row). a.0 < length o.rows) is.others = λ k d h. (other_near o holds of.0 c is (get_or is.others k d) (Contains-get_or is.others k d h)).alive.in_range in
+    subst (λ rows. All (λ (a : ℕ × Row). a.0 < length o.rows) rows) (sym is.rows) (All-cons (λ (a : ℕ × Row). a.0 < length o.rows) _ is.others is.plan.alive.in_range others)

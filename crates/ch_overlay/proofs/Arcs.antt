@@ -57,9 +57,9 @@ module _ (o : Overlay) (holds : IsOverlay o) (x y : ℕ) (arc : StateArc) where
   unfolding arc_by_rows
   sound_arc = elim (ranks_before (row_at o.rows y).rank (row_at o.rows x).rank)
       as (λ b. cond b (arc_to x (row_at o.rows y).inn) (arc_to y (row_at o.rows x).out) ≡ Some arc → IsSoundArc (length o.rows) o.bound x y arc) [
-    | true ↦ by_inn
-    | false ↦ by_out
-  ]
+        | true ↦ by_inn
+        | false ↦ by_out
+      ]
 
 pub overlay_sound : (o : Overlay) → IsOverlay o → IsSound o.bound (state_of o)
 overlay_sound o holds = record { arcs = sound_arc o holds }
@@ -68,17 +68,17 @@ overlay_sound o holds = record { arcs = sound_arc o holds }
 pub entries-sound : (bound : Cost) (s : State) (x : ℕ) (r : Row) → IsSound bound s → IsRow s x r → AreEntries s.nodes bound x r
 entries-sound bound s x r sound row = record {
   out = λ k d h.
-    let e = get_or r.out k d in
-    let arc = sound.arcs x e.other (record { cost = e.cost; middle = e.middle }) ((row.out e).0 (k, h, here r.out k d h)).0 in
-    record { in_range = arc.to_in; apart = λ same. arc.apart (sym same); above = arc.above; within = arc.within };
+      let e = get_or r.out k d in
+      let arc = sound.arcs x e.other (record { cost = e.cost; middle = e.middle }) ((row.out e).0 (k, h, here r.out k d h)).0 in
+      record { in_range = arc.to_in; apart = λ same. arc.apart (sym same); above = arc.above; within = arc.within };
   inn = λ k d h.
-    let e = get_or r.inn k d in
-    let arc = sound.arcs e.other x (record { cost = e.cost; middle = e.middle }) ((row.inn e).0 (k, h, here r.inn k d h)).0 in
-    record { in_range = arc.from_in; apart = arc.apart; above = arc.above; within = arc.within };
+      let e = get_or r.inn k d in
+      let arc = sound.arcs e.other x (record { cost = e.cost; middle = e.middle }) ((row.inn e).0 (k, h, here r.inn k d h)).0 in
+      record { in_range = arc.from_in; apart = arc.apart; above = arc.above; within = arc.within };
 }
   where
-  here : (es : List Entry) (k : ℕ) (d : Entry) → k < length es → get_or es k (get_or es k d) ≡ get_or es k d
-  here es k d h = get_or_default es k (get_or es k d) d h
+    here : (es : List Entry) (k : ℕ) (d : Entry) → k < length es → get_or es k (get_or es k d) ≡ get_or es k d
+    here es k d h = get_or_default es k (get_or es k d) d h
 
 module _ (bound : Cost) (s : State) (v : ℕ) (put : List Shortcut) (plan : IsPlan bound s v put) (sound : IsSound bound s) where
   put_sound : (x y : ℕ) (p : Shortcut) → Contains put p → (p.from ≡ x) × (p.to ≡ y) → IsSoundArc s.nodes bound x y (record { cost = p.cost; middle = Some v })
@@ -89,13 +89,15 @@ module _ (bound : Cost) (s : State) (v : ℕ) (put : List Shortcut) (plan : IsPl
       let into_above = subst (λ (c : Cost). zero_cost ≺ c) through.first.arc.costs first.above in
       let above = subst (λ (c : Cost). zero_cost ≺ c) (sym through.adds) (below_trans_at_most into_above (at_most_sum_left through.into through.out)) in
       subst (λ z. IsSoundArc s.nodes bound z y (record { cost = p.cost; middle = Some v })) joins.0
-        (subst (λ z. IsSoundArc s.nodes bound p.from z (record { cost = p.cost; middle = Some v })) joins.1
-          (record { from_in = through.first.from_alive.in_range; to_in = through.second.to_alive.in_range; apart = through.apart; above = above; within = allowed.within }))
+      (subst (λ z. IsSoundArc s.nodes bound p.from z (record { cost = p.cost; middle = Some v })) joins.1
+      (record { from_in = through.first.from_alive.in_range; to_in = through.second.to_alive.in_range; apart = through.apart; above = above; within = allowed.within }))
 
   pub contracted_sound : IsSound bound (contracted s v put)
-  contracted_sound = record { arcs = λ x y arc is. elim (find_shortcut put x y) [
-    | inr none ↦ sound.arcs x y arc (sym (arc-kept s v put x y none) ∙ is)
-    | inl found ↦ subst (λ (a : StateArc). IsSoundArc s.nodes bound x y a)
-        (some_inside (record { cost = found.shortcut.cost; middle = Some v }) arc (sym (arc-put s v put x y found.shortcut plan.once found.among found.joins) ∙ is))
-        (put_sound x y found.shortcut found.among found.joins)
-  ] }
+  contracted_sound = record {
+    arcs = λ x y arc is. elim (find_shortcut put x y) [
+      | inr none ↦ sound.arcs x y arc (sym (arc-kept s v put x y none) ∙ is)
+      | inl found ↦ subst (λ (a : StateArc). IsSoundArc s.nodes bound x y a)
+          (some_inside (record { cost = found.shortcut.cost; middle = Some v }) arc (sym (arc-put s v put x y found.shortcut plan.once found.among found.joins) ∙ is))
+          (put_sound x y found.shortcut found.among found.joins)
+    ];
+  }

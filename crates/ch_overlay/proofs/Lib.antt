@@ -5,3 +5,4 @@ pub mod Shown
 pub mod Puts
 pub mod Arcs
 pub mod Applied
+pub mod Room

@@ -99,12 +99,15 @@ lists-kept : (order : List ℕ) (v x : ℕ) (arc new : ℕ → Option StateArc) 
     → Lists (order ++ v ∷ []) x new es
 lists-kept order v x arc new es old same far e = (
   λ h.
-    let before = (old e).0 h in
-    (same e.other ∙ before.0, λ b. elim (before-pushed b) [
-      | inl earlier ↦ before.1 earlier
-      | inr last ↦ far last.1 e (sym last.0) before.0
-    ]),
-  λ h. (old e).1 (sym (same e.other) ∙ h.0, λ b. h.1 (before-push v b)))
+      let before = (old e).0 h in (
+        same e.other ∙ before.0,
+        λ b. elim (before-pushed b) [
+          | inl earlier ↦ before.1 earlier
+          | inr last ↦ far last.1 e (sym last.0) before.0
+        ],
+      ),
+  λ h. (old e).1 (sym (same e.other) ∙ h.0, λ b. h.1 (before-push v b)),
+)
 
 -- a changed list is right: it has the entries of shortcuts, and the old ones of other pairs and nodes
 lists-changed : (order : List ℕ) (v x : ℕ) (arc new : ℕ → Option StateArc) (old_es new_es : List Entry) (Short : Entry → Type 0) (Without : ℕ → Type 0)
@@ -117,24 +120,31 @@ lists-changed : (order : List ℕ) (v x : ℕ) (arc new : ℕ → Option StateAr
 lists-changed order v x arc new old_es new_es Short Without old alive apart short kept find changed e = (
   λ h. elim ((changed e).0 h) [
     | inl is ↦
-        let facts = short e is in
-        (facts.0, λ b. elim (before-pushed b) [
-          | inl earlier ↦ facts.1 (before-contains earlier)
-          | inr last ↦ facts.2 (sym last.0)
-        ])
+        let facts = short e is in (
+          facts.0,
+          λ b. elim (before-pushed b) [
+            | inl earlier ↦ facts.1 (before-contains earlier)
+            | inr last ↦ facts.2 (sym last.0)
+          ],
+        )
     | inr is ↦
-        let before = (old e).0 is.2 in
-        (kept e.other is.0 ∙ before.0, λ b. elim (before-pushed b) [
-          | inl earlier ↦ before.1 earlier
-          | inr last ↦ is.1 (sym last.0)
-        ])
+        let before = (old e).0 is.2 in (
+          kept e.other is.0 ∙ before.0,
+          λ b. elim (before-pushed b) [
+            | inl earlier ↦ before.1 earlier
+            | inr last ↦ is.1 (sym last.0)
+          ],
+        )
   ],
   λ h. (changed e).1 (elim (find e h.0) [
     | inl is ↦ inl is
-    | inr none ↦ inr (none,
-        λ same. h.1 (subst (λ y. Before (order ++ v ∷ []) y x) (sym same) (before-last order v x alive apart)),
-        (old e).1 (sym (kept e.other none) ∙ h.0, λ b. h.1 (before-push v b)))
-  ]))
+    | inr none ↦ inr (
+      none,
+      λ same. h.1 (subst (λ y. Before (order ++ v ∷ []) y x) (sym same) (before-last order v x alive apart)),
+      (old e).1 (sym (kept e.other none) ∙ h.0, λ b. h.1 (before-push v b)),
+    )
+  ]),
+)
 
 -- the rank of a node that isn't the contracted one
 rank-kept : (order : List ℕ) (v x : ℕ) (rank : Option ℕ) → v ≢ x
@@ -145,7 +155,8 @@ rank-kept order v x rank apart old k = (
   λ h. elim (place-pushed order v x k h.0 h.1) [
     | inl here ↦ (old k).1 here
     | inr last ↦ absurd (apart last.1)
-  ])
+  ],
+)
 
 some_same : (j k : ℕ) → Some j ≡ Some k → j ≡ k
 some_same j k e = cc
@@ -158,7 +169,8 @@ rank-last order v waits k = (
   λ h. elim (place-pushed order v v k h.0 h.1) [
     | inl here ↦ absurd (waits (contains_place order k 0 v here.0 here.1))
     | inr last ↦ ap (λ (j : ℕ). Some j) (sym last.0)
-  ])
+  ],
+)
 
 -- No arc leads from a node to itself
 abbrev pub IsLoopless : State → Type 0
@@ -256,13 +268,13 @@ module _ (bound : Cost) (s : State) (v : ℕ) (put : List Shortcut) (plan : IsPl
         out = lists-changed s.order v x (λ y. s.arc x y) (λ y. (contracted s v put).arc x y) r.out q.out (λ e. IsOfShortcut put v x e.other e) (λ y. NoShortcut put x y)
             row.out near.alive.waits apart
             (λ e is.
-              let other = subst (λ y. IsNeighbour s v y) is.joins.1 (to_neighbour is.shortcut is.among) in
-              (entry_arc x e.other e is, other.alive.waits, neighbour_apart e.other other))
+            let other = subst (λ y. IsNeighbour s v y) is.joins.1 (to_neighbour is.shortcut is.among) in
+            (entry_arc x e.other e is, other.alive.waits, neighbour_apart e.other other))
             (λ y none. arc-kept s v put x y none) (λ e is. find_entry x e.other e is) change.out;
         inn = lists-changed s.order v x (λ y. s.arc y x) (λ y. (contracted s v put).arc y x) r.inn q.inn (λ e. IsOfShortcut put v e.other x e) (λ y. NoShortcut put y x)
             row.inn near.alive.waits apart
             (λ e is.
-              let other = subst (λ y. IsNeighbour s v y) is.joins.0 (from_neighbour is.shortcut is.among) in
-              (entry_arc e.other x e is, other.alive.waits, neighbour_apart e.other other))
+            let other = subst (λ y. IsNeighbour s v y) is.joins.0 (from_neighbour is.shortcut is.among) in
+            (entry_arc e.other x e is, other.alive.waits, neighbour_apart e.other other))
             (λ y none. arc-kept s v put y x none) (λ e is. find_entry e.other x e is) change.inn;
       }

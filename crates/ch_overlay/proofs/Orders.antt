@@ -16,8 +16,8 @@ before-push {order} {x} {y} v b = record {
   within = omega (arith, length_push order v, b.within);
   here = get_or_append_left order (v ∷ []) 0 b.place b.within ∙ b.here;
   not_yet = λ k low is.
-    let inside : k < length order = omega (arith, low, b.within) in
-    b.not_yet k low (sym (get_or_append_left order (v ∷ []) 0 k inside) ∙ is);
+      let inside : k < length order = omega (arith, low, b.within) in
+      b.not_yet k low (sym (get_or_append_left order (v ∷ []) 0 k inside) ∙ is);
 }
 
 -- the added node stands before each that isn't in the order
@@ -38,17 +38,20 @@ before-last order v y out apart = record {
 pub before-pushed : {order : List ℕ} {v x y : ℕ} → Before (order ++ v ∷ []) x y → Before order x y ⊎ ((v ≡ x) × (Contains order y → ⊥))
 before-pushed {order} {v} {x} {y} b = elim (cases_lt b.place (length order)) [
   | inl inside ↦ inl (record {
-      place = b.place;
-      within = inside;
-      here = sym (get_or_append_left order (v ∷ []) 0 b.place inside) ∙ b.here;
-      not_yet = λ k low is.
+    place = b.place;
+    within = inside;
+    here = sym (get_or_append_left order (v ∷ []) 0 b.place inside) ∙ b.here;
+    not_yet = λ k low is.
         let within : k < length order = omega (arith, low, inside) in
         b.not_yet k low (get_or_append_left order (v ∷ []) 0 k within ∙ is);
-    })
+  })
   | inr past ↦
       let last : length order ≡ b.place = omega (arith, length_push order v, b.within, past) in
-      inr (sym (get_or_push order v 0 b.place last) ∙ b.here, λ h.
-        b.not_yet h.0 (omega (arith, h.1, past)) (get_or_append_left order (v ∷ []) 0 h.0 h.1 ∙ get_or_default order h.0 0 y h.1 ∙ h.2))
+      inr (
+        sym (get_or_push order v 0 b.place last) ∙ b.here,
+        λ h.
+            b.not_yet h.0 (omega (arith, h.1, past)) (get_or_append_left order (v ∷ []) 0 h.0 h.1 ∙ get_or_default order h.0 0 y h.1 ∙ h.2),
+      )
 ]
 
 -- a place in the order with one more node

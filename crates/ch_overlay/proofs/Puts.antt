@@ -1,7 +1,7 @@
 -- What a list has after several writes.
 use Rattle.std.proofs.Common.{ℕ, ◌≡◌, ◌≢◌, ◌+◌, ◌<◌, ◌≤◌, ◌⊎◌, List, [], ◌∷◌, ◌++◌, length, get_or, set, map, Contains, AllPairs, All, arith, refl, sym, ◌∙◌, ap, subst, inl, inr}
 use Rattle.std.proofs.lemmas.Bool.{cases_eq}
-use Rattle.std.proofs.lemmas.List.{length-set, get_or-set_same, get_or-set_other, map-set}
+use Rattle.std.proofs.lemmas.List.{length-set, get_or-set_same, get_or-set_other, map-set, get_or-map, length-map}
 use Rattle.ch_overlay.specs.Change.{puts}
 use Rattle.ch_overlay.proofs.Entries.{contains_first, contains_later, contains_cases, contains_none, pairs_first, pairs_later}
 
@@ -66,3 +66,11 @@ contains-mapped f (x ∷ xs) y h = elim (contains_cases (f x) (map f xs) y h) [
       let found = contains-mapped f xs y later in
       (found.0, contains_later x xs found.0 found.1, found.2)
 ]
+
+-- what holds of the images of a list's elements, all of them
+pub all-mapped : {A B : Type 0} (P : B → Type 0) (f : A → B) (xs : List A) → All P (map f xs) → All (λ x. P (f x)) xs
+all-mapped P f xs h k d inside = subst P (get_or-map f xs k d (f d) inside) (h k (f d) (omega (arith, length-map xs f, inside)))
+
+pub map-map : {A B C : Type 0} (f : A → B) (g : B → C) (xs : List A) → map g (map f xs) ≡ map (λ x. g (f x)) xs
+map-map f g [] = refl
+map-map f g (x ∷ xs) = ap (λ ys. g (f x) ∷ ys) (map-map f g xs)

@@ -1,3 +1,4 @@
 pub mod Merging
 pub mod Overlay
+pub mod Opening
 pub mod Change

@@ -1,6 +1,7 @@
-ghost use Rattle.std.specs.Prelude.{◌≡◌, ◌<◌, length, map};
+ghost use Rattle.std.specs.Prelude.{◌≡◌, ◌<◌, All, length, map};
 ghost use Rattle.std.specs.Arc.{arc_value};
-ghost use Rattle.ch_overlay.specs.Change.{changed_nodes, puts};
+ghost use Rattle.std.specs.List.{zip};
+ghost use Rattle.ch_overlay.specs.Change.{puts};
 
 use crate::row::Row;
 use std::marker::Model;
@@ -30,5 +31,26 @@ impl Change {
         ensures { map (λ a. (a.0, arc_value a.1)) result.now ≡ self.now.rows }
     {
         self.rows.as_slice()
+    }
+}
+
+// The new versions of the changed rows.
+pub fn put_versions(all: &mut [u64], changed: &[(u32, Arc<Row>)], versions: &[u64])
+    requires count { length versions.now ≡ length changed.now }
+    requires in_range { All (λ a. a.0 < length all.old) changed.now }
+    ensures { all.new ≡ puts all.old (zip (map (λ a. a.0) changed.now) versions.now) }
+{
+    for (i, (node, _)) in changed.iter().enumerate() {
+        all[*node as usize] = versions[i];
+    }
+}
+
+// The changed rows.
+pub fn put_rows(all: &mut [Arc<Row>], changed: Vec<(u32, Arc<Row>)>)
+    requires { All (λ a. a.0 < length all.old) changed.items }
+    ensures { all.new ≡ puts all.old changed.items }
+{
+    for (node, row) in changed {
+        all[node as usize] = row;
     }
 }

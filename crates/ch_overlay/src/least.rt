@@ -1,8 +1,13 @@
+ghost use Rattle.std.specs.Prelude.{◌≡◌, ◌↔◌, IfOk, IsTrue};
+ghost use Rattle.ch_overlay.specs.Opening.{AreLeast};
+
 use ch_graph::Road;
 use std::alloc::{AllocError, Global};
 
 // The least arc of each pair of different nodes that has one, by its first node and then by its second.
-pub fn least_arcs(alloc: Global, arcs: &[Road]) -> Result<Vec<Road>, AllocError> {
+pub fn least_arcs(alloc: Global, arcs: &[Road]) -> Result<Vec<Road>, AllocError>
+    ensures { IfOk result (λ least. AreLeast arcs.now least.items) }
+{
     let mut sorted: Vec<Road> = arcs.iter().copied().collect(alloc)?;
     sorted.sort_unstable_by_key(|arc| (arc.from, arc.to, arc.weight));
     let mut least = Vec::new(alloc);

@@ -11,6 +11,7 @@
 mod change;
 mod least;
 mod merge;
+mod opening;
 mod overlay;
 mod placed;
 mod row;

@@ -7,13 +7,14 @@ ghost use Rattle.ch_laws.specs.Contraction.{IsStart, IsPlan, contracted};
 ghost use Rattle.ch_overlay.specs.Overlay.{IsOverlay, row_at, state_of};
 ghost use Rattle.ch_overlay.specs.Change.{IsChange, IsOf, changed_nodes, puts};
 
-use crate::change::Change;
+use crate::change::{Change, put_rows, put_versions};
 use crate::least::least_arcs;
-use crate::placed::{entries_at, in_entries, out_entries, Placed};
+use crate::opening::{rows_of, shared};
+use crate::placed::{Placed, entries_at, in_entries, out_entries};
 use crate::row::Row;
 use ch_cost::Cost;
-use ch_graph::{Graph, Road};
-use ch_laws::{Entry, Shortcut};
+use ch_graph::Graph;
+use ch_laws::Shortcut;
 use std::alloc::{AllocError, Global};
 use std::marker::Model;
 use std::sync::Arc;
@@ -108,7 +109,12 @@ impl Overlay {
     /// it, at most one for each pair, and costs the sum of the two arcs, at most the bound and less than the arc of
     /// the pair where it has one. Takes memory for the rows; sorts the shortcuts, and is linear in the entries of the
     /// rows otherwise.
-    pub fn plan(&self, alloc: Global, node: u32, shortcuts: &[Shortcut]) -> Result<Change, AllocError>
+    pub fn plan(
+        &self,
+        alloc: Global,
+        node: u32,
+        shortcuts: &[Shortcut],
+    ) -> Result<Change, AllocError>
         requires { IsPlan self.now.bound (state_of self.now) node shortcuts.now }
         ensures node { IfOk result (λ change. change.node ≡ node) }
         ensures change { IfOk result (λ change. IsChange self.now shortcuts.now change) }
@@ -150,80 +156,18 @@ impl Overlay {
     }
 }
 
-// The rows of the arcs, which are sorted by their ends and have no loop.
-fn rows_of(alloc: Global, nodes: u32, arcs: &[Road]) -> Result<Vec<Row>, AllocError> {
-    let mut rows = rows_without_arcs(alloc, nodes)?;
-    for arc in arcs {
-        add_arc(rows.as_mut_slice(), *arc)?;
-    }
-    Ok(rows)
-}
-
-fn rows_without_arcs(alloc: Global, nodes: u32) -> Result<Vec<Row>, AllocError> {
-    let mut rows = Vec::with_capacity(alloc, nodes as usize)?;
-    for _ in 0..nodes {
-        rows.push(Row::without_arcs(alloc))?;
-    }
-    Ok(rows)
-}
-
-// The arc joins the rows of its two nodes, which are in range.
-fn add_arc(rows: &mut [Row], arc: Road) -> Result<(), AllocError>
-    requires from_in { arc.from < length rows.old }
-    requires to_in { arc.to < length rows.old }
-{
-    let cost = Cost::of_weight(arc.weight);
-    let from = &mut rows[arc.from as usize];
-    from.add_out(Entry {
-        other: arc.to,
-        cost,
-        middle: None,
-    })?;
-    let to = &mut rows[arc.to as usize];
-    to.add_in(Entry {
-        other: arc.from,
-        cost,
-        middle: None,
-    })
-}
-
-// The same rows, to be shared.
-fn shared(alloc: Global, rows: Vec<Row>) -> Result<Vec<Arc<Row>>, AllocError>
-    ensures { IfOk result (λ all. map arc_value all.items ≡ rows.items) }
-{
-    let mut all = Vec::with_capacity(alloc, rows.len())?;
-    for row in rows {
-        all.push(Arc::new(alloc, row)?)?;
-    }
-    Ok(all)
-}
-
 // The row of a neighbour without the contracted node, and with the shortcuts at it.
-fn changed(alloc: Global, row: &Row, gone: u32, node: u32, out: &[Placed], inn: &[Placed]) -> Result<Row, AllocError> {
+fn changed(
+    alloc: Global,
+    row: &Row,
+    gone: u32,
+    node: u32,
+    out: &[Placed],
+    inn: &[Placed],
+) -> Result<Row, AllocError> {
     let out = entries_at(alloc, out, node)?;
     let inn = entries_at(alloc, inn, node)?;
     row.changed(alloc, gone, out.as_slice(), inn.as_slice())
-}
-
-// The new versions of the changed rows.
-fn put_versions(all: &mut [u64], changed: &[(u32, Arc<Row>)], versions: &[u64])
-    requires count { length versions.now ≡ length changed.now }
-    requires in_range { All (λ a. a.0 < length all.old) changed.now }
-    ensures { all.new ≡ puts all.old (zip (map (λ a. a.0) changed.now) versions.now) }
-{
-    for (i, (node, _)) in changed.iter().enumerate() {
-        all[*node as usize] = versions[i];
-    }
-}
-
-// The changed rows.
-fn put_rows(all: &mut [Arc<Row>], changed: Vec<(u32, Arc<Row>)>)
-    requires { All (λ a. a.0 < length all.old) changed.items }
-    ensures { all.new ≡ puts all.old changed.items }
-{
-    for (node, row) in changed {
-        all[node as usize] = row;
-    }
 }
 
 #[cfg(test)]

@@ -1,4 +1,3 @@
-
 use ch_laws::{Entry, Shortcut};
 use std::alloc::{AllocError, Global};
 
@@ -10,8 +9,11 @@ pub struct Placed {
 }
 
 // The entries for the rows of the nodes that the shortcuts leave, in order. `middle` is the contracted node.
-pub fn out_entries(alloc: Global, middle: u32, shortcuts: &[Shortcut]) -> Result<Vec<Placed>, AllocError>
-{
+pub fn out_entries(
+    alloc: Global,
+    middle: u32,
+    shortcuts: &[Shortcut],
+) -> Result<Vec<Placed>, AllocError> {
     let entry_of = |shortcut: &Shortcut| Placed {
         at: shortcut.from,
         entry: Entry {
@@ -26,8 +28,11 @@ pub fn out_entries(alloc: Global, middle: u32, shortcuts: &[Shortcut]) -> Result
 }
 
 // The entries for the rows of the nodes that the shortcuts come to, in order.
-pub fn in_entries(alloc: Global, middle: u32, shortcuts: &[Shortcut]) -> Result<Vec<Placed>, AllocError>
-{
+pub fn in_entries(
+    alloc: Global,
+    middle: u32,
+    shortcuts: &[Shortcut],
+) -> Result<Vec<Placed>, AllocError> {
     let entry_of = |shortcut: &Shortcut| Placed {
         at: shortcut.to,
         entry: Entry {
@@ -42,9 +47,11 @@ pub fn in_entries(alloc: Global, middle: u32, shortcuts: &[Shortcut]) -> Result<
 }
 
 // The entries for the row of one node, of entries in order.
-pub fn entries_at(alloc: Global, entries: &[Placed], node: u32) -> Result<Vec<Entry>, AllocError>
-{
+pub fn entries_at(alloc: Global, entries: &[Placed], node: u32) -> Result<Vec<Entry>, AllocError> {
     let first = entries.partition_point(|placed| placed.at < node);
     let end = entries.partition_point(|placed| placed.at <= node);
-    entries[first..end].iter().map(|placed| placed.entry).collect(alloc)
+    entries[first..end]
+        .iter()
+        .map(|placed| placed.entry)
+        .collect(alloc)
 }

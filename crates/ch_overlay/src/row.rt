@@ -69,10 +69,17 @@ impl Row {
     }
 
     // The row without its entries for `gone`, and with these in place of what it has for their nodes. All lists rise.
-    pub(crate) fn changed(&self, alloc: Global, gone: u32, out: &[Entry], inn: &[Entry]) -> Result<Row, AllocError>
+    pub(crate) fn changed(
+        &self,
+        alloc: Global,
+        gone: u32,
+        out: &[Entry],
+        inn: &[Entry],
+    ) -> Result<Row, AllocError>
         ensures { IfOk result (λ row. row ≡ record self.now {
-            out = filter (λ e. not (nat_eq e.other gone)) (merged self.now.out out.now);
-            inn = filter (λ e. not (nat_eq e.other gone)) (merged self.now.inn inn.now) }) }
+          out = filter (λ e. not (nat_eq e.other gone)) (merged self.now.out out.now);
+          inn = filter (λ e. not (nat_eq e.other gone)) (merged self.now.inn inn.now);
+        }) }
     {
         let out = replaced(alloc, gone, self.out.as_slice(), out)?;
         let inn = replaced(alloc, gone, self.inn.as_slice(), inn)?;
@@ -93,7 +100,12 @@ impl Row {
 }
 
 // The new entries and those old ones that none of them replaces, without the entry for `gone`.
-fn replaced(alloc: Global, gone: u32, old: &[Entry], new: &[Entry]) -> Result<Vec<Entry>, AllocError>
+fn replaced(
+    alloc: Global,
+    gone: u32,
+    old: &[Entry],
+    new: &[Entry],
+) -> Result<Vec<Entry>, AllocError>
     ensures { IfOk result (λ es. es.items ≡ filter (λ e. not (nat_eq e.other gone)) (merged old.now new.now)) }
 {
     let both = Merge::new(old, new);
