@@ -6,3 +6,7 @@ pub mod Puts
 pub mod Arcs
 pub mod Applied
 pub mod Room
+pub mod Opened
+pub mod Sorting
+pub mod KeptArcs
+pub mod Started

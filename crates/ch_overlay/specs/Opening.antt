@@ -1,5 +1,5 @@
 -- The rows of a graph in which no node is contracted.
-use Rattle.std.specs.Prelude.{ℕ, ◌≡◌, ◌≢◌, ◌<◌, ◌≤◌, ◌⊎◌, ◌++◌, cond, nat_eq, List, [], ◌∷◌, None, map, filter, All, AllPairs, Contains}
+use Rattle.std.specs.Prelude.{ℕ, ◌≡◌, ◌≢◌, ◌<◌, ◌≤◌, ◌⊎◌, ◌++◌, ◌&&◌, Bool, cond, nat_eq, List, [], ◌∷◌, None, map, filter, All, AllPairs, Contains}
 use Rattle.ch_cost.specs.Cost.{of_weight}
 use Rattle.ch_graph.specs.declared.road.Road.{Road}
 use Rattle.ch_laws.specs.declared.entry.Entry.{Entry}
@@ -20,12 +20,15 @@ opening_row arcs x = record {
   rank = None;
 }
 
--- the row of x with one more arc
+-- the row of x with one more arc, where it is an end of it
+abbrev pub with_out : Road → ℕ → Row → Row
+with_out r x row = record row { out = row.out ++ cond (nat_eq r.from x) (out_entry r ∷ []) [] }
+
+abbrev pub with_in : Road → ℕ → Row → Row
+with_in r x row = record row { inn = row.inn ++ cond (nat_eq r.to x) (in_entry r ∷ []) [] }
+
 unfoldable pub with_arc : Road → ℕ → Row → Row
-with_arc r x row = record row {
-  out = row.out ++ cond (nat_eq r.from x) (out_entry r ∷ []) [];
-  inn = row.inn ++ cond (nat_eq r.to x) (in_entry r ∷ []) [];
-}
+with_arc r x row = with_in r x (with_out r x row)
 
 -- by the node that they leave, and then by the one that they come to; no two have the same ends
 abbrev pub EndsRise : List Road → Type 0
@@ -33,6 +36,15 @@ EndsRise = AllPairs (λ a b. (a.from < b.from) ⊎ ((a.from ≡ b.from) × (a.to
 
 abbrev pub HaveSameEnds : Road → Road → Type 0
 HaveSameEnds a b = (a.from ≡ b.from) × (a.to ≡ b.to)
+
+abbrev pub have_same_ends : Road → Road → Bool
+have_same_ends a b = nat_eq a.from b.from && nat_eq a.to b.to
+
+-- a stands at or before b where arcs are sorted by their ends and then by their weight
+pub record ComesNoLater (a b : Road) : Type 0 where
+  pub from : a.from ≤ b.from
+  pub to : a.from ≡ b.from → a.to ≤ b.to
+  pub weight : a.from ≡ b.from → a.to ≡ b.to → a.weight ≤ b.weight
 
 -- the least of the arcs between each two different nodes
 pub record AreLeast (arcs least : List Road) : Type 0 where

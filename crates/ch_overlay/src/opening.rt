@@ -1,5 +1,6 @@
 ghost use Rattle.std.specs.Prelude.{◌≡◌, ◌<◌, ℕ, IfOk, All, length, map, replicate};
 ghost use Rattle.std.specs.Arc.{arc_value};
+ghost use Rattle.std.specs.List.{range_with_len};
 ghost use Rattle.ch_overlay.specs.Overlay.{no_arcs, row_at};
 ghost use Rattle.ch_overlay.specs.Opening.{opening_row, with_arc};
 
@@ -53,7 +54,8 @@ fn add_arc(rows: &mut [Row], arc: Road) -> Result<(), AllocError>
         other: arc.from,
         cost,
         middle: None,
-    })
+    })?;
+    Ok(())
 }
 
 // The same rows, to be shared.
@@ -65,4 +67,15 @@ pub fn shared(alloc: Global, rows: Vec<Row>) -> Result<Vec<Arc<Row>>, AllocError
         all.push(Arc::new(alloc, row)?)?;
     }
     Ok(all)
+}
+
+// The versions of so many nodes: x for node x.
+pub fn first_versions(alloc: Global, nodes: u32) -> Result<Vec<u64>, AllocError>
+    ensures { IfOk result (λ versions. versions.items ≡ range_with_len 0 nodes) }
+{
+    let mut versions = Vec::with_capacity(alloc, nodes as usize)?;
+    for x in 0..nodes {
+        versions.push(u64::from(x))?;
+    }
+    Ok(versions)
 }

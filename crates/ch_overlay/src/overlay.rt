@@ -9,7 +9,7 @@ ghost use Rattle.ch_overlay.specs.Change.{IsChange, IsOf, changed_nodes, puts};
 
 use crate::change::{Change, put_rows, put_versions};
 use crate::least::least_arcs;
-use crate::opening::{rows_of, shared};
+use crate::opening::{first_versions, rows_of, shared};
 use crate::placed::{Placed, entries_at, in_entries, out_entries};
 use crate::row::Row;
 use ch_cost::Cost;
@@ -55,7 +55,7 @@ impl Overlay {
         let nodes = graph.nodes();
         let least = least_arcs(alloc, graph.arcs())?;
         let rows = shared(alloc, rows_of(alloc, nodes, least.as_slice())?)?;
-        let versions = (0..u64::from(nodes)).collect(alloc)?;
+        let versions = first_versions(alloc, nodes)?;
         let order = Vec::with_capacity(alloc, nodes as usize)?;
         Ok(Overlay {
             bound: graph.bound(),
