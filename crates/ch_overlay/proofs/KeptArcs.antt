@@ -37,7 +37,7 @@ below_no_later a b c first later = elim first [
 ]
 
 apart_from_below : (a b : Road) → (a.from < b.from) ⊎ ((a.from ≡ b.from) × (a.to < b.to)) → HaveSameEnds a b → ⊥
-apart_from_below a b below same = elim below [ | inl less ↦ omega (arith, less, same.0) | inr both ↦ omega (arith, both.1, same.1) ]
+apart_from_below a b below same = elim below [ inl less ↦ omega (arith, less, same.0) | inr both ↦ omega (arith, both.1, same.1) ]
 
 no_later_itself : (a : Road) → ComesNoLater a a
 no_later_itself a = record { from = omega arith; to = λ same. omega arith; weight = λ first second. omega arith }
@@ -52,24 +52,24 @@ from_first x ys sorted r among = elim (contains_cases x ys r among) [
 without_second : (x y : Road) (ys : List Road) → AllPairs ComesNoLater (x ∷ (y ∷ ys)) → AllPairs ComesNoLater (x ∷ ys)
 without_second x y ys sorted =
     AllPairs-cons ComesNoLater x ys
-      (λ k d h. pairs_first ComesNoLater x (y ∷ ys) sorted (get_or ys k d) (contains_later y ys (get_or ys k d) (Contains-get_or ys k d h)))
-      (pairs_later ComesNoLater y ys (pairs_later ComesNoLater x (y ∷ ys) sorted))
+    (λ k d h. pairs_first ComesNoLater x (y ∷ ys) sorted (get_or ys k d) (contains_later y ys (get_or ys k d) (Contains-get_or ys k d h)))
+    (pairs_later ComesNoLater y ys (pairs_later ComesNoLater x (y ∷ ys) sorted))
 
 -- what is kept rises by its ends
 rises : (ys : List Road) (x : Road) → AllPairs ComesNoLater (x ∷ ys) → EndsRise (dedup_from have_same_ends x ys)
 rises [] x sorted = λ i j d less h. absurd (omega (arith, less, h))
 rises (y ∷ ys) x sorted = elim (have_same_ends y x)
     as (λ b. have_same_ends y x ≡ b → EndsRise (cond b (dedup_from have_same_ends x ys) (x ∷ dedup_from have_same_ends y ys))) [
-  | true ↦ λ e. rises ys x (without_second x y ys sorted)
-  | false ↦ λ e.
-      let later = pairs_later ComesNoLater x (y ∷ ys) sorted in
-      let first = ends_below x y (pairs_first ComesNoLater x (y ∷ ys) sorted y (contains_first y ys)) e in
-      AllPairs-cons (λ a b. (a.from < b.from) ⊎ ((a.from ≡ b.from) × (a.to < b.to))) x (dedup_from have_same_ends y ys)
-        (λ k d h.
+      | true ↦ λ e. rises ys x (without_second x y ys sorted)
+      | false ↦ λ e.
+          let later = pairs_later ComesNoLater x (y ∷ ys) sorted in
+          let first = ends_below x y (pairs_first ComesNoLater x (y ∷ ys) sorted y (contains_first y ys)) e in
+          AllPairs-cons (λ a b. (a.from < b.from) ⊎ ((a.from ≡ b.from) × (a.to < b.to))) x (dedup_from have_same_ends y ys)
+          (λ k d h.
           let r = get_or (dedup_from have_same_ends y ys) k d in
           below_no_later x y r first (from_first y ys later r (Contains-from_dedup have_same_ends (y ∷ ys) r (Contains-get_or (dedup_from have_same_ends y ys) k d h))))
-        (rises ys y later)
-] refl
+          (rises ys y later)
+    ] refl
 
 -- what is kept weighs no more than what has its ends
 weighs_least : (ys : List Road) (x : Road) → AllPairs ComesNoLater (x ∷ ys)
@@ -82,55 +82,55 @@ weighs_least [] x sorted r q kept among ends =
     ]
 weighs_least (y ∷ ys) x sorted r q kept among ends = elim (have_same_ends y x)
     as (λ b. have_same_ends y x ≡ b → Contains (cond b (dedup_from have_same_ends x ys) (x ∷ dedup_from have_same_ends y ys)) r → r.weight ≤ q.weight) [
-  | true ↦ λ e here. elim (contains_cases x (y ∷ ys) q among) [
-    | inl same ↦ weighs_least ys x (without_second x y ys sorted) r q here (subst (λ (p : Road). Contains (x ∷ ys) p) same (contains_first x ys)) ends
-    | inr later ↦ elim (contains_cases y ys q later) [
-      | inr last ↦ weighs_least ys x (without_second x y ys sorted) r q here (contains_later x ys q last) ends
-      | inl second ↦
-          let alike = same_ends y x e in
-          let q_ends = subst (λ (p : Road). HaveSameEnds r p) (sym second) ends in
-          let up = weighs_least ys x (without_second x y ys sorted) r x here (contains_first x ys) (q_ends.0 ∙ alike.0, q_ends.1 ∙ alike.1) in
-          let over = (from_first x (y ∷ ys) sorted y (contains_later x (y ∷ ys) y (contains_first y ys))).weight (sym alike.0) (sym alike.1) in
-          subst (λ (p : Road). r.weight ≤ p.weight) second (omega (arith, up, over))
-    ]
-  ]
-  | false ↦ λ e here.
-      let later = pairs_later ComesNoLater x (y ∷ ys) sorted in
-      elim (contains_cases x (dedup_from have_same_ends y ys) r here) [
-        | inl same ↦ subst (λ (p : Road). HaveSameEnds p q → p.weight ≤ q.weight) same (λ h. (from_first x (y ∷ ys) sorted q among).weight h.0 h.1) ends
-        | inr rest ↦ elim (contains_cases x (y ∷ ys) q among) [
-          | inr q_rest ↦ weighs_least ys y later r q rest q_rest ends
-          | inl q_first ↦
-              let over = from_first y ys later r (Contains-from_dedup have_same_ends (y ∷ ys) r rest) in
-              let below = below_no_later x y r (ends_below x y (pairs_first ComesNoLater x (y ∷ ys) sorted y (contains_first y ys)) e) over in
-              absurd (apart_from_below x r below (subst (λ (p : Road). HaveSameEnds p r) (sym q_first) (sym ends.0, sym ends.1)))
+      | true ↦ λ e here. elim (contains_cases x (y ∷ ys) q among) [
+        | inl same ↦ weighs_least ys x (without_second x y ys sorted) r q here (subst (λ (p : Road). Contains (x ∷ ys) p) same (contains_first x ys)) ends
+        | inr later ↦ elim (contains_cases y ys q later) [
+          | inr last ↦ weighs_least ys x (without_second x y ys sorted) r q here (contains_later x ys q last) ends
+          | inl second ↦
+              let alike = same_ends y x e in
+              let q_ends = subst (λ (p : Road). HaveSameEnds r p) (sym second) ends in
+              let up = weighs_least ys x (without_second x y ys sorted) r x here (contains_first x ys) (q_ends.0 ∙ alike.0, q_ends.1 ∙ alike.1) in
+              let over = (from_first x (y ∷ ys) sorted y (contains_later x (y ∷ ys) y (contains_first y ys))).weight (sym alike.0) (sym alike.1) in
+              subst (λ (p : Road). r.weight ≤ p.weight) second (omega (arith, up, over))
         ]
       ]
-] refl kept
+      | false ↦ λ e here.
+          let later = pairs_later ComesNoLater x (y ∷ ys) sorted in
+          elim (contains_cases x (dedup_from have_same_ends y ys) r here) [
+            | inl same ↦ subst (λ (p : Road). HaveSameEnds p q → p.weight ≤ q.weight) same (λ h. (from_first x (y ∷ ys) sorted q among).weight h.0 h.1) ends
+            | inr rest ↦ elim (contains_cases x (y ∷ ys) q among) [
+              | inr q_rest ↦ weighs_least ys y later r q rest q_rest ends
+              | inl q_first ↦
+                  let over = from_first y ys later r (Contains-from_dedup have_same_ends (y ∷ ys) r rest) in
+                  let below = below_no_later x y r (ends_below x y (pairs_first ComesNoLater x (y ∷ ys) sorted y (contains_first y ys)) e) over in
+                  absurd (apart_from_below x r below (subst (λ (p : Road). HaveSameEnds p r) (sym q_first) (sym ends.0, sym ends.1)))
+            ]
+          ]
+    ] refl kept
 
 -- for each arc one with its ends is kept
 keeps_each : (ys : List Road) (x : Road) (q : Road) → Contains (x ∷ ys) q → (r : Road) × Contains (dedup_from have_same_ends x ys) r × HaveSameEnds r q
 keeps_each [] x q among = (q, among, (refl, refl))
 keeps_each (y ∷ ys) x q among = elim (have_same_ends y x)
     as (λ b. have_same_ends y x ≡ b → (r : Road) × Contains (cond b (dedup_from have_same_ends x ys) (x ∷ dedup_from have_same_ends y ys)) r × HaveSameEnds r q) [
-  | true ↦ λ e. elim (contains_cases x (y ∷ ys) q among) [
-    | inl same ↦ keeps_each ys x q (subst (λ (p : Road). Contains (x ∷ ys) p) same (contains_first x ys))
-    | inr later ↦ elim (contains_cases y ys q later) [
-      | inr last ↦ keeps_each ys x q (contains_later x ys q last)
-      | inl second ↦
-          let alike = same_ends y x e in
-          let found = keeps_each ys x x (contains_first x ys) in
-          subst (λ (p : Road). (r : Road) × Contains (dedup_from have_same_ends x ys) r × HaveSameEnds r p) second
-            (found.0, found.1, (found.2.0 ∙ sym alike.0, found.2.1 ∙ sym alike.1))
-    ]
-  ]
-  | false ↦ λ e. elim (contains_cases x (y ∷ ys) q among) [
-    | inl same ↦ (q, subst (λ (p : Road). Contains (x ∷ dedup_from have_same_ends y ys) p) same (contains_first x (dedup_from have_same_ends y ys)), (refl, refl))
-    | inr later ↦
-        let found = keeps_each ys y q later in
-        (found.0, contains_later x (dedup_from have_same_ends y ys) found.0 found.1, found.2)
-  ]
-] refl
+      | true ↦ λ e. elim (contains_cases x (y ∷ ys) q among) [
+        | inl same ↦ keeps_each ys x q (subst (λ (p : Road). Contains (x ∷ ys) p) same (contains_first x ys))
+        | inr later ↦ elim (contains_cases y ys q later) [
+          | inr last ↦ keeps_each ys x q (contains_later x ys q last)
+          | inl second ↦
+              let alike = same_ends y x e in
+              let found = keeps_each ys x x (contains_first x ys) in
+              subst (λ (p : Road). (r : Road) × Contains (dedup_from have_same_ends x ys) r × HaveSameEnds r p) second
+              (found.0, found.1, (found.2.0 ∙ sym alike.0, found.2.1 ∙ sym alike.1))
+        ]
+      ]
+      | false ↦ λ e. elim (contains_cases x (y ∷ ys) q among) [
+        | inl same ↦ (q, subst (λ (p : Road). Contains (x ∷ dedup_from have_same_ends y ys) p) same (contains_first x (dedup_from have_same_ends y ys)), (refl, refl))
+        | inr later ↦
+            let found = keeps_each ys y q later in
+            (found.0, contains_later x (dedup_from have_same_ends y ys) found.0 found.1, found.2)
+      ]
+    ] refl
 
 -- Of the arcs between different nodes, sorted
 
@@ -163,8 +163,8 @@ arc_kept p (a ∷ arcs) r among is = elim (p a) as (λ b. p a ≡ b → Contains
   ]
 ] refl
   where
-  clash : false ≡ true → ⊥
-  clash e = cc
+    clash : false ≡ true → ⊥
+    clash e = cc
 
 module _ (arcs sorted : List Road) (all : IsPermutation (filter (λ r. not (nat_eq r.from r.to)) arcs) sorted) (order : AllPairs ComesNoLater sorted) where
   of_sorted : (r : Road) → Contains sorted r → Contains arcs r × (r.from ≢ r.to)
@@ -188,14 +188,14 @@ least-dedup arcs [] all order = record {
 }
 least-dedup arcs (x ∷ ys) all order =
     let of_kept = λ (k : ℕ) (d : Road) (h : k < length (dedup_from have_same_ends x ys)).
-      of_sorted arcs (x ∷ ys) all order (get_or (dedup_from have_same_ends x ys) k d)
-        (Contains-from_dedup have_same_ends (x ∷ ys) _ (Contains-get_or (dedup_from have_same_ends x ys) k d h)) in
+    of_sorted arcs (x ∷ ys) all order (get_or (dedup_from have_same_ends x ys) k d)
+    (Contains-from_dedup have_same_ends (x ∷ ys) _ (Contains-get_or (dedup_from have_same_ends x ys) k d h)) in
     record {
       rising = rises ys x order;
       among = λ k d h. (of_kept k d h).0;
       apart = λ k d h. (of_kept k d h).1;
       at_most = λ r q kept among ends.
-        let from = of_sorted arcs (x ∷ ys) all order r (Contains-from_dedup have_same_ends (x ∷ ys) r kept) in
-        weighs_least ys x order r q kept (to_sorted arcs (x ∷ ys) all order q among (apart_too r q from.1 ends)) ends;
+          let from = of_sorted arcs (x ∷ ys) all order r (Contains-from_dedup have_same_ends (x ∷ ys) r kept) in
+          weighs_least ys x order r q kept (to_sorted arcs (x ∷ ys) all order q among (apart_too r q from.1 ends)) ends;
       whole = λ q among apart. keeps_each ys x q (to_sorted arcs (x ∷ ys) all order q among apart);
     }

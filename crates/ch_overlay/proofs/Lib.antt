@@ -10,3 +10,5 @@ pub mod Opened
 pub mod Sorting
 pub mod KeptArcs
 pub mod Started
+pub mod Merged
+pub mod Placing

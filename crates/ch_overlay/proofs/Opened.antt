@@ -24,7 +24,7 @@ out_written : (rows : List Row) (r : Road) (x : ℕ) → r.from < length rows
 out_written rows r x inside = elim (cases_eq r.from x) [
   | inl same ↦ rw (same_test r.from x same)
       (subst (λ z. get_or (set rows r.from (record (row_at rows r.from) { out = (row_at rows r.from).out ++ out_entry r ∷ [] })) z no_arcs ≡ record (row_at rows z) { out = (row_at rows z).out ++ out_entry r ∷ [] }) same
-        (get_or-set_same rows r.from _ no_arcs inside))
+      (get_or-set_same rows r.from _ no_arcs inside))
   | inr apart ↦ rw (other_test r.from x apart, append-nil (row_at rows x).out) (get_or-set_other rows r.from x _ no_arcs (λ same. apart (sym same)))
 ]
 
@@ -33,7 +33,7 @@ in_written : (rows : List Row) (r : Road) (x : ℕ) → r.to < length rows
 in_written rows r x inside = elim (cases_eq r.to x) [
   | inl same ↦ rw (same_test r.to x same)
       (subst (λ z. get_or (set rows r.to (record (row_at rows r.to) { inn = (row_at rows r.to).inn ++ in_entry r ∷ [] })) z no_arcs ≡ record (row_at rows z) { inn = (row_at rows z).inn ++ in_entry r ∷ [] }) same
-        (get_or-set_same rows r.to _ no_arcs inside))
+      (get_or-set_same rows r.to _ no_arcs inside))
   | inr apart ↦ rw (other_test r.to x apart, append-nil (row_at rows x).inn) (get_or-set_other rows r.to x _ no_arcs (λ same. apart (sym same)))
 ]
 
@@ -45,7 +45,7 @@ pub arc_written : (rows : List Row) (r : Road) (out_row in_row : Row) (mid new :
 unfolding with_arc
 arc_written rows r out_row in_row mid new x from_in to_in out_is mid_is in_is new_is =
     let first : row_at mid x ≡ with_out r x (row_at rows x) =
-      ap (λ xs. row_at xs x) (mid_is ∙ ap (λ row. set rows r.from row) out_is) ∙ out_written rows r x from_in in
+    ap (λ xs. row_at xs x) (mid_is ∙ ap (λ row. set rows r.from row) out_is) ∙ out_written rows r x from_in in
     let long : length mid ≡ length rows = ap length mid_is ∙ length-set rows r.from out_row in
     ap (λ xs. row_at xs x) (new_is ∙ ap (λ row. set mid r.to row) in_is)
     ∙ in_written mid r x (omega (arith, long, to_in))

@@ -16,7 +16,7 @@ use Rattle.ch_overlay.proofs.Entries.{contains_place}
 few : (xs : List ℕ) (n : ℕ) → All (λ x. x < n) xs → AllPairs (λ x y. x ≢ y) xs → length xs ≤ n
 few xs n below once =
     length-le_from_distinct_below xs n (IsDistinct-from_AllPairs Decides-eqb xs once)
-      (λ q found. All-contains (λ x. x < n) xs q below (Contains-from_any (λ x y same. (Decides-eqb x y).0 same) q xs found))
+    (λ q found. All-contains (λ x. x < n) xs q below (Contains-from_any (λ x y same. (Decides-eqb x y).0 same) q xs found))
 
 pub order_fits : (o : Overlay) → IsOverlay o → length o.order ≤ length o.rows
 order_fits o holds = few o.order (length o.rows) holds.in_range holds.once
@@ -25,6 +25,6 @@ order_fits o holds = few o.order (length o.rows) holds.in_range holds.once
 pub order_has_room : (o : Overlay) (v : ℕ) → IsOverlay o → IsAlive (state_of o) v → length o.order < length o.rows
 order_has_room o v holds alive =
     let more = few (o.order ++ v ∷ []) (length o.rows)
-      (All-push (λ x. x < length o.rows) o.order v holds.in_range alive.in_range)
-      (all_pairs_push (λ x y. x ≢ y) o.order v holds.once (λ k d h same. alive.waits (contains_place o.order k d v h same))) in
+    (All-push (λ x. x < length o.rows) o.order v holds.in_range alive.in_range)
+    (all_pairs_push (λ x y. x ≢ y) o.order v holds.once (λ k d h same. alive.waits (contains_place o.order k d v h same))) in
     omega (arith, more, length_push o.order v)

@@ -11,17 +11,17 @@ pub pairs-from_adjacent : {X : Type 0} (R : X → X → Type 0) (xs : List X) �
     → ((k : ℕ) (d : X) → k + 1 < length xs → R (get_or xs k d) (get_or xs (k + 1) d)) → AllPairs R xs
 pairs-from_adjacent R xs trans adjacent i j d less inside = up j d less inside
   where
-  up : (j : ℕ) (d : _) → i < j → j < length xs → R (get_or xs i d) (get_or xs j d)
-  up zero d less inside = absurd (omega (arith, less))
-  up (suc k) d less inside = elim (cases_lt i k) [
-    | inl before ↦ trans _ _ _ (up k d before (omega (arith, inside))) (subst (λ n. R (get_or xs k d) (get_or xs n d)) (next k) (adjacent k d (omega (arith, inside))))
-    | inr past ↦
-        let same : k ≡ i = omega (arith, less, past) in
-        subst (λ n. R (get_or xs n d) (get_or xs (suc k) d)) same (subst (λ n. R (get_or xs k d) (get_or xs n d)) (next k) (adjacent k d (omega (arith, inside))))
-  ]
-    where
-    next : (k : ℕ) → k + 1 ≡ suc k
-    next k = omega arith
+    up : (j : ℕ) (d : _) → i < j → j < length xs → R (get_or xs i d) (get_or xs j d)
+    up zero d less inside = absurd (omega (arith, less))
+    up (suc k) d less inside = elim (cases_lt i k) [
+      | inl before ↦ trans _ _ _ (up k d before (omega (arith, inside))) (subst (λ n. R (get_or xs k d) (get_or xs n d)) (next k) (adjacent k d (omega (arith, inside))))
+      | inr past ↦
+          let same : k ≡ i = omega (arith, less, past) in
+          subst (λ n. R (get_or xs n d) (get_or xs (suc k) d)) same (subst (λ n. R (get_or xs k d) (get_or xs n d)) (next k) (adjacent k d (omega (arith, inside))))
+    ]
+      where
+        next : (k : ℕ) → k + 1 ≡ suc k
+        next k = omega arith
 
 -- two numbers as a comparison has them
 pub pair_not_less : (a b c d : ℕ) → is_lt (ordering_then (nat_cmp c a) (nat_cmp d b)) ≡ false → (a ≤ c) × (a ≡ c → b ≤ d)
@@ -38,10 +38,10 @@ pub no_later_trans : (a b c : Road) → ComesNoLater a b → ComesNoLater b c �
 no_later_trans a b c h k = record {
   from = omega (arith, h.from, k.from);
   to = λ same. let ab : a.from ≡ b.from = omega (arith, h.from, k.from, same) in let bc : b.from ≡ c.from = omega (arith, ab, same) in
-    let first = h.to ab in let second = k.to bc in omega (arith, first, second);
+      let first = h.to ab in let second = k.to bc in omega (arith, first, second);
   weight = λ same ends.
-    let ab : a.from ≡ b.from = omega (arith, h.from, k.from, same) in let bc : b.from ≡ c.from = omega (arith, ab, same) in
-    let to_ab = h.to ab in let to_bc = k.to bc in
-    let same_ab : a.to ≡ b.to = omega (arith, to_ab, to_bc, ends) in let same_bc : b.to ≡ c.to = omega (arith, same_ab, ends) in
-    let first = h.weight ab same_ab in let second = k.weight bc same_bc in omega (arith, first, second);
+      let ab : a.from ≡ b.from = omega (arith, h.from, k.from, same) in let bc : b.from ≡ c.from = omega (arith, ab, same) in
+      let to_ab = h.to ab in let to_bc = k.to bc in
+      let same_ab : a.to ≡ b.to = omega (arith, to_ab, to_bc, ends) in let same_bc : b.to ≡ c.to = omega (arith, same_ab, ends) in
+      let first = h.weight ab same_ab in let second = k.weight bc same_bc in omega (arith, first, second);
 }

@@ -77,9 +77,9 @@ out_rises arcs x rising =
     let kept = AllPairs-filter (λ (a b : Road). (a.from < b.from) ⊎ ((a.from ≡ b.from) × (a.to < b.to))) (λ r. nat_eq r.from x) arcs rising in
     let all = filter_passes (λ (r : Road). nat_eq r.from x) arcs in
     mapped_rises out_entry (filter (λ r. nat_eq r.from x) arcs) (λ i j d less h.
-      let first = from_test (get_or (filter (λ r. nat_eq r.from x) arcs) i d) x (all i d (omega (arith, less, h))) in
-      let second = from_test (get_or (filter (λ r. nat_eq r.from x) arcs) j d) x (all j d h) in
-      elim (kept i j d less h) [ | inl below ↦ absurd (omega (arith, below, first, second)) | inr both ↦ both.1 ]) nowhere
+    let first = from_test (get_or (filter (λ r. nat_eq r.from x) arcs) i d) x (all i d (omega (arith, less, h))) in
+    let second = from_test (get_or (filter (λ r. nat_eq r.from x) arcs) j d) x (all j d h) in
+    elim (kept i j d less h) [ inl below ↦ absurd (omega (arith, below, first, second)) | inr both ↦ both.1 ]) nowhere
 
 pub in_rises : (arcs : List Road) (x : ℕ) → EndsRise arcs → Rises (opening_row arcs x).inn
 unfolding opening_row
@@ -87,9 +87,9 @@ in_rises arcs x rising =
     let kept = AllPairs-filter (λ (a b : Road). (a.from < b.from) ⊎ ((a.from ≡ b.from) × (a.to < b.to))) (λ r. nat_eq r.to x) arcs rising in
     let all = filter_passes (λ (r : Road). nat_eq r.to x) arcs in
     mapped_rises in_entry (filter (λ r. nat_eq r.to x) arcs) (λ i j d less h.
-      let first = to_test (get_or (filter (λ r. nat_eq r.to x) arcs) i d) x (all i d (omega (arith, less, h))) in
-      let second = to_test (get_or (filter (λ r. nat_eq r.to x) arcs) j d) x (all j d h) in
-      elim (kept i j d less h) [ | inl below ↦ below | inr both ↦ absurd (omega (arith, both.1, first, second)) ]) nowhere
+    let first = to_test (get_or (filter (λ r. nat_eq r.to x) arcs) i d) x (all i d (omega (arith, less, h))) in
+    let second = to_test (get_or (filter (λ r. nat_eq r.to x) arcs) j d) x (all j d h) in
+    elim (kept i j d less h) [ inl below ↦ below | inr both ↦ absurd (omega (arith, both.1, first, second)) ]) nowhere
 
 pub no_rank : (arcs : List Road) (x : ℕ) → (opening_row arcs x).rank ≡ None
 unfolding opening_row
@@ -115,7 +115,7 @@ entries_same : (e f : Entry) → e ≡ f → (e.other ≡ f.other) × (e.cost �
 entries_same e f same = (ap (λ (a : Entry). a.other) same, ap (λ (a : Entry). a.cost) same, ap (λ (a : Entry). a.middle) same)
 
 module _ (g : Graph) (is : IsGraph g) (least : List Road) (are : AreLeast g.arcs least) (rows : List Row)
-  (count : length rows ≡ g.nodes) (at : (x : ℕ) → x < g.nodes → row_at rows x ≡ opening_row least x) where
+    (count : length rows ≡ g.nodes) (at : (x : ℕ) → x < g.nodes → row_at rows x ≡ opening_row least x) where
   road : (r : Road) → Contains least r → IsRoad g.nodes r
   road r among = All-contains (IsRoad g.nodes) g.arcs r is.roads (All-contains (λ (q : Road). Contains g.arcs q) least r are.among among)
 
@@ -159,23 +159,26 @@ module _ (g : Graph) (is : IsGraph g) (least : List Road) (are : AreLeast g.arcs
   least_arc x y other (Some arc) there =
       let found = shown_arc x y arc there in
       let r = found.0 in
-      let among = All-contains (λ (q : Road). Contains g.arcs q) least r are.among found.1 in
-      ((record { road = r; among = among; from = found.2; to = found.3; costs = found.4 },
-        λ d arc_of_d.
-          let q = arc_of_d.road in
-          let weights = are.at_most r q found.1 arc_of_d.among (found.2 ∙ sym arc_of_d.from, found.3 ∙ sym arc_of_d.to) in
-          subst (λ (c : Cost). c ≼ d) found.4 (subst (λ (c : Cost). of_weight r.weight ≼ c) arc_of_d.costs (arc_at_most weights))),
-        sym found.5)
+      let among = All-contains (λ (q : Road). Contains g.arcs q) least r are.among found.1 in (
+        (
+          record { road = r; among = among; from = found.2; to = found.3; costs = found.4 },
+          λ d arc_of_d.
+              let q = arc_of_d.road in
+              let weights = are.at_most r q found.1 arc_of_d.among (found.2 ∙ sym arc_of_d.from, found.3 ∙ sym arc_of_d.to) in
+              subst (λ (c : Cost). c ≼ d) found.4 (subst (λ (c : Cost). of_weight r.weight ≼ c) arc_of_d.costs (arc_at_most weights)),
+        ),
+        sym found.5,
+      )
   least_arc x y other None there = λ c arc.
-    let q = arc.road in
-    let found = are.whole q arc.among (λ same. other (sym arc.from ∙ same ∙ arc.to)) in
-    let shown = arc_shown found.0 found.1 in
-    let from : found.0.from ≡ x = found.2.0 ∙ arc.from in
-    let to : found.0.to ≡ y = found.2.1 ∙ arc.to in
-    let here = subst (λ z. arc_by_rows rows x z ≡ Some (record { cost = of_weight found.0.weight; middle = None })) to
+      let q = arc.road in
+      let found = are.whole q arc.among (λ same. other (sym arc.from ∙ same ∙ arc.to)) in
+      let shown = arc_shown found.0 found.1 in
+      let from : found.0.from ≡ x = found.2.0 ∙ arc.from in
+      let to : found.0.to ≡ y = found.2.1 ∙ arc.to in
+      let here = subst (λ z. arc_by_rows rows x z ≡ Some (record { cost = of_weight found.0.weight; middle = None })) to
       (subst (λ z. arc_by_rows rows z found.0.to ≡ Some (record { cost = of_weight found.0.weight; middle = None })) from shown) in
-    nothing _ (sym there ∙ here)
-      where
+      nothing _ (sym there ∙ here)
+    where
       nothing : (a : StateArc) → None ≡ Some a → ⊥
       nothing a e = cc
 
@@ -184,8 +187,8 @@ module _ (g : Graph) (is : IsGraph g) (least : List Road) (are : AreLeast g.arcs
     nodes = count;
     order = refl;
     loops = λ x. none_from (arc_by_rows rows x x) (λ arc there.
-      let found = shown_arc x x arc there in
-      apart found.0 found.1 (found.2 ∙ sym found.3));
+        let found = shown_arc x x arc there in
+        apart found.0 found.1 (found.2 ∙ sym found.3));
     arcs = λ x y other. least_arc x y other (arc_by_rows rows x y) refl;
   }
 
@@ -199,26 +202,28 @@ module _ (g : Graph) (is : IsGraph g) (least : List Road) (are : AreLeast g.arcs
       let heavy = at_most_heaviest g.arcs r (All-contains (λ (q : Road). Contains g.arcs q) least r are.among among) in
       let one = arc_and_arcs_within r.weight (g.nodes - 2) (heaviest g.arcs) zero_cost heavy (zero_cost_within (cost_of_arcs (g.nodes - 2) (heaviest g.arcs))) in
       subst (λ n. IsWithin (of_weight r.weight) (cost_of_arcs n (heaviest g.arcs))) several
-        (subst (λ (c : Cost). IsWithin c (cost_of_arcs (g.nodes - 2 + 1) (heaviest g.arcs))) (sum-zero_cost (of_weight r.weight)) one)
+      (subst (λ (c : Cost). IsWithin c (cost_of_arcs (g.nodes - 2 + 1) (heaviest g.arcs))) (sum-zero_cost (of_weight r.weight)) one)
 
   sound : (versions : List ℕ) → IsSound (bound_of g) (state_of (record { bound = bound_of g; rows = rows; versions = versions; order = [] }))
-  sound versions = record { arcs = λ x y arc there.
-    let found = shown_arc x y arc there in
-    let r = found.0 in
-    let ends = road r found.1 in
-    record {
-      from_in = omega (arith, count, found.2, ends.from_in);
-      to_in = omega (arith, count, found.3, ends.to_in);
-      apart = λ same. apart r found.1 (found.2 ∙ same ∙ sym found.3);
-      above = subst (λ (c : Cost). zero_cost ≺ c) found.4 (arc_above ends.weighs);
-      within = subst (λ (c : Cost). IsWithin c (bound_of g)) found.4 (within_bound r found.1);
-    } }
+  sound versions = record {
+    arcs = λ x y arc there.
+        let found = shown_arc x y arc there in
+        let r = found.0 in
+        let ends = road r found.1 in
+        record {
+          from_in = omega (arith, count, found.2, ends.from_in);
+          to_in = omega (arith, count, found.3, ends.to_in);
+          apart = λ same. apart r found.1 (found.2 ∙ same ∙ sym found.3);
+          above = subst (λ (c : Cost). zero_cost ≺ c) found.4 (arc_above ends.weighs);
+          within = subst (λ (c : Cost). IsWithin c (bound_of g)) found.4 (within_bound r found.1);
+        };
+  }
 
   no_place : (k x : ℕ) → (None ≡ Some k) ↔ ((k < length {A = ℕ} []) × (get_or [] k 0 ≡ x))
   no_place k x = (λ e. absurd (nothing e), λ h. absurd (omega (arith, h.0)))
     where
-    nothing : None ≡ Some k → ⊥
-    nothing e = cc
+      nothing : None ≡ Some k → ⊥
+      nothing e = cc
 
   nothing_before : (y x : ℕ) → Before [] y x → ⊥
   nothing_before y x b = omega (arith, b.within)
@@ -230,34 +235,36 @@ module _ (g : Graph) (is : IsGraph g) (least : List Road) (are : AreLeast g.arcs
     inn_rises = in_rises least x are.rising;
     out = λ e. (
       λ h.
-        let found = out_from_entry least x e h in
-        let parts = entries_same (out_entry found.0) e found.3 in
-        let shown = arc_shown found.0 found.1 in
-        (entry_shown e x e.other found.0 found.2 parts.0 parts.1 parts.2 shown, λ b. nothing_before e.other x b),
+          let found = out_from_entry least x e h in
+          let parts = entries_same (out_entry found.0) e found.3 in
+          let shown = arc_shown found.0 found.1 in
+          (entry_shown e x e.other found.0 found.2 parts.0 parts.1 parts.2 shown, λ b. nothing_before e.other x b),
       λ h.
-        let found = shown_arc x e.other (record { cost = e.cost; middle = e.middle }) h.0 in
-        subst (λ (f : Entry). Contains (opening_row least x).out f) (entry_is e found.0.to (of_weight found.0.weight) None found.3 found.4 found.5)
-          (subst (λ z. Contains (opening_row least z).out (out_entry found.0)) found.2 (out_to_entry least found.0 found.1)));
+          let found = shown_arc x e.other (record { cost = e.cost; middle = e.middle }) h.0 in
+          subst (λ (f : Entry). Contains (opening_row least x).out f) (entry_is e found.0.to (of_weight found.0.weight) None found.3 found.4 found.5)
+          (subst (λ z. Contains (opening_row least z).out (out_entry found.0)) found.2 (out_to_entry least found.0 found.1)),
+    );
     inn = λ e. (
       λ h.
-        let found = in_from_entry least x e h in
-        let parts = entries_same (in_entry found.0) e found.3 in
-        let shown = arc_shown found.0 found.1 in
-        (entry_shown e e.other x found.0 parts.0 found.2 parts.1 parts.2 shown, λ b. nothing_before e.other x b),
+          let found = in_from_entry least x e h in
+          let parts = entries_same (in_entry found.0) e found.3 in
+          let shown = arc_shown found.0 found.1 in
+          (entry_shown e e.other x found.0 parts.0 found.2 parts.1 parts.2 shown, λ b. nothing_before e.other x b),
       λ h.
-        let found = shown_arc e.other x (record { cost = e.cost; middle = e.middle }) h.0 in
-        subst (λ (f : Entry). Contains (opening_row least x).inn f) (entry_is e found.0.from (of_weight found.0.weight) None found.2 found.4 found.5)
-          (subst (λ z. Contains (opening_row least z).inn (in_entry found.0)) found.3 (in_to_entry least found.0 found.1)));
+          let found = shown_arc e.other x (record { cost = e.cost; middle = e.middle }) h.0 in
+          subst (λ (f : Entry). Contains (opening_row least x).inn f) (entry_is e found.0.from (of_weight found.0.weight) None found.2 found.4 found.5)
+          (subst (λ z. Contains (opening_row least z).inn (in_entry found.0)) found.3 (in_to_entry least found.0 found.1)),
+    );
   }
     where
-    entry_shown : (e : Entry) (u w : ℕ) (r : Road) → r.from ≡ u → r.to ≡ w → of_weight r.weight ≡ e.cost → None ≡ e.middle
-        → arc_by_rows rows r.from r.to ≡ Some (record { cost = of_weight r.weight; middle = None }) → arc_by_rows rows u w ≡ arc_of e
-    entry_shown e u w r from to cost middle shown =
-        subst (λ z. arc_by_rows rows u z ≡ arc_of e) to (subst (λ z. arc_by_rows rows z r.to ≡ arc_of e) from
+      entry_shown : (e : Entry) (u w : ℕ) (r : Road) → r.from ≡ u → r.to ≡ w → of_weight r.weight ≡ e.cost → None ≡ e.middle
+          → arc_by_rows rows r.from r.to ≡ Some (record { cost = of_weight r.weight; middle = None }) → arc_by_rows rows u w ≡ arc_of e
+      entry_shown e u w r from to cost middle shown =
+          subst (λ z. arc_by_rows rows u z ≡ arc_of e) to (subst (λ z. arc_by_rows rows z r.to ≡ arc_of e) from
           (shown ∙ ap (λ (c : Cost). Some (record { cost = c; middle = None })) cost ∙ ap (λ (m : Option ℕ). Some (record { cost = e.cost; middle = m })) middle))
 
-    entry_is : (e : Entry) (other : ℕ) (cost : Cost) (middle : Option ℕ) → other ≡ e.other → cost ≡ e.cost → middle ≡ e.middle → record { other = other; cost = cost; middle = middle } ≡ e
-    entry_is e other cost middle o c m = ap (λ n. made n cost middle) o ∙ ap (λ (d : Cost). made e.other d middle) c ∙ ap (λ (k : Option ℕ). made e.other e.cost k) m
+      entry_is : (e : Entry) (other : ℕ) (cost : Cost) (middle : Option ℕ) → other ≡ e.other → cost ≡ e.cost → middle ≡ e.middle → record { other = other; cost = cost; middle = middle } ≡ e
+      entry_is e other cost middle o c m = ap (λ n. made n cost middle) o ∙ ap (λ (d : Cost). made e.other d middle) c ∙ ap (λ (k : Option ℕ). made e.other e.cost k) m
 
   pub opens : (versions : List ℕ) → length versions ≡ g.nodes → IsOverlay (record { bound = bound_of g; rows = rows; versions = versions; order = [] })
   opens versions long = record {
@@ -269,7 +276,7 @@ module _ (g : Graph) (is : IsGraph g) (least : List Road) (are : AreLeast g.arcs
     entries = λ x inside. entries-sound (bound_of g) (state_of (record { bound = bound_of g; rows = rows; versions = versions; order = [] })) x (row_at rows x) (sound versions) (row_here x inside);
   }
     where
-    row_here : (x : ℕ) → x < length rows → IsRow (state_of (record { bound = bound_of g; rows = rows; versions = versions; order = [] })) x (row_at rows x)
-    row_here x inside =
-        let within : x < g.nodes = omega (arith, inside, count) in
-        subst (λ (r : Row). IsRow (state_of (record { bound = bound_of g; rows = rows; versions = versions; order = [] })) x r) (sym (at x within)) (row_there versions x within)
+      row_here : (x : ℕ) → x < length rows → IsRow (state_of (record { bound = bound_of g; rows = rows; versions = versions; order = [] })) x (row_at rows x)
+      row_here x inside =
+          let within : x < g.nodes = omega (arith, inside, count) in
+          subst (λ (r : Row). IsRow (state_of (record { bound = bound_of g; rows = rows; versions = versions; order = [] })) x r) (sym (at x within)) (row_there versions x within)

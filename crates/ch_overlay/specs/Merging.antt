@@ -12,8 +12,3 @@ merged_with e rest (f ∷ fs) = cond (nat_lt e.other f.other) (e ∷ rest (f ∷
 abbrev pub merged : List Entry → List Entry → List Entry
 merged [] new = new
 merged (e ∷ old) new = merged_with e (λ fs. merged old fs) new
-
--- an entry of the row of `at`
-pub record PlacedEntry : Type 0 where
-  pub at : ℕ
-  pub entry : Entry

@@ -26,9 +26,9 @@ loop-arc-preserved c =
     record {
       count = omega (arith, ap length items, written.count, ap length old, c.loop-arc.invariant.count);
       rows = λ x inside.
-        let within : x < length c.as_mut_slice.result.now = omega (arith, inside, ap length old, c.loop-arc.invariant.count) in
-        ap (λ (rows : List Row). row_at rows x) items ∙ written.rows x within
-        ∙ ap (λ (rows : List Row). with_arc arc x (row_at rows x)) old
-        ∙ ap (λ (row : Row). with_arc arc x row) (c.loop-arc.invariant.rows x inside)
-        ∙ sym (opening-more c.args.arcs.now c.loop-arc.arc-index nowhere x c.loop-arc-test.true);
+          let within : x < length c.as_mut_slice.result.now = omega (arith, inside, ap length old, c.loop-arc.invariant.count) in
+          ap (λ (rows : List Row). row_at rows x) items ∙ written.rows x within
+          ∙ ap (λ (rows : List Row). with_arc arc x (row_at rows x)) old
+          ∙ ap (λ (row : Row). with_arc arc x row) (c.loop-arc.invariant.rows x inside)
+          ∙ sym (opening-more c.args.arcs.now c.loop-arc.arc-index nowhere x c.loop-arc-test.true);
     }

@@ -24,8 +24,8 @@ put_versions-requires-clause-in_range c =
     let long = (holds_first c).versions in
     let versions = ap (λ (o : Overlay). length o.versions) c.self.view_is in
     λ k d h.
-      let there = subst (λ xs. All (λ a. a.0 < length c.args.self.now.rows) xs) (sym c.as_slice.ensures.value) inside k d h in
-      omega (arith, there, long, versions, ap length c.as_mut_slice.ensures.value)
+    let there = subst (λ xs. All (λ a. a.0 < length c.args.self.now.rows) xs) (sym c.as_slice.ensures.value) inside k d h in
+    omega (arith, there, long, versions, ap length c.as_mut_slice.ensures.value)
 
 pub put_rows-requires : goal.put_rows-requires
 put_rows-requires c =
@@ -35,8 +35,8 @@ put_rows-requires c =
     let inside = all-mapped (λ (a : ℕ × Row). a.0 < length c.args.self.now.rows) (λ a. (a.0, arc_value a.1)) c.change.inside.rows.items shown in
     let rows = ap (λ (o : Overlay). length o.rows) c.self.view_is in
     λ k d h.
-      let there = inside k d h in
-      omega (arith, there, rows, length-map c.self.inside.rows.items arc_value, ap length c.as_mut_slice-2.ensures.value)
+    let there = inside k d h in
+    omega (arith, there, rows, length-map c.self.inside.rows.items arc_value, ap length c.as_mut_slice-2.ensures.value)
 
 pub push_reserved-requires : goal.push_reserved-requires
 push_reserved-requires c =
@@ -63,9 +63,9 @@ returns-clause-rows c =
 pub returns-clause-versions : goal.returns-clause-versions
 returns-clause-versions c =
     let nodes : map (λ a. a.0) c.as_slice.result.now ≡ changed_nodes c.args.change =
-        ap (λ xs. map (λ a. a.0) xs) c.as_slice.ensures.value
-        ∙ sym (map-map (λ a. (a.0, arc_value a.1)) (λ (a : ℕ × Row). a.0) c.change.inside.rows.items)
-        ∙ ap changed_nodes c.change.view_is in
+    ap (λ xs. map (λ a. a.0) xs) c.as_slice.ensures.value
+    ∙ sym (map-map (λ a. (a.0, arc_value a.1)) (λ (a : ℕ × Row). a.0) c.change.inside.rows.items)
+    ∙ ap changed_nodes c.change.view_is in
     with_items_is c.self.inside.versions c.put_versions.new.all (versions_len c) ∙ c.put_versions.ensures
     ∙ ap (λ xs. puts xs (zip (map (λ a. a.0) c.as_slice.result.now) c.args.versions.now)) (c.as_mut_slice.ensures.value ∙ ap (λ (o : Overlay). o.versions) c.self.view_is)
     ∙ ap (λ xs. puts c.args.self.now.versions (zip xs c.args.versions.now)) nodes
@@ -88,8 +88,8 @@ overlay_along : (versions : List ℕ) (b bound : Cost) (rows all : List Row) (fi
     → IsOverlay (record { bound = bound; rows = all; versions = versions; order = order }) → IsOverlay (record { bound = b; rows = rows; versions = versions; order = first })
 overlay_along versions b bound rows all first order bounds both orders holds =
     subst (λ (x : Cost). IsOverlay (record { bound = x; rows = rows; versions = versions; order = first })) (sym bounds)
-      (subst (λ (xs : List Row). IsOverlay (record { bound = bound; rows = xs; versions = versions; order = first })) (sym both)
-        (subst (λ (xs : List ℕ). IsOverlay (record { bound = bound; rows = all; versions = versions; order = xs })) (sym orders) holds))
+    (subst (λ (xs : List Row). IsOverlay (record { bound = bound; rows = xs; versions = versions; order = first })) (sym both)
+    (subst (λ (xs : List ℕ). IsOverlay (record { bound = bound; rows = all; versions = versions; order = xs })) (sym orders) holds))
 
 pub invariant_of-self : goal.invariant_of-self
 invariant_of-self c =
@@ -97,6 +97,7 @@ invariant_of-self c =
     let planned = c.requires.planned in
     let long = ap length (returns-clause-versions c) ∙ length-puts (zip (changed_nodes c.args.change) c.args.versions.now) c.args.self.now.versions in
     let new = overlay-applied c.args.self.now holds planned.0 c.args.change planned.1 _ long in
-    let rows = with_items_is c.self.inside.rows c.put_rows.new.all (rows_len c) in
-    (overlay_along _ _ _ _ _ _ _ (ap (λ (o : Overlay). o.bound) c.self.view_is) (returns-clause-rows c) (order_is c) new,
-      omega (arith, ap length rows, rows_len c, c.self.inside.rows.ok, c.self.invariant.1, c.push_reserved.ensures.capacity))
+    let rows = with_items_is c.self.inside.rows c.put_rows.new.all (rows_len c) in (
+      overlay_along _ _ _ _ _ _ _ (ap (λ (o : Overlay). o.bound) c.self.view_is) (returns-clause-rows c) (order_is c) new,
+      omega (arith, ap length rows, rows_len c, c.self.inside.rows.ok, c.self.invariant.1, c.push_reserved.ensures.capacity),
+    )

@@ -22,7 +22,7 @@ ends_in g is arcs least same are k d h =
 slice_ends : (c : goal.After-as_slice) (k : ℕ) (d : Road) → k < length c.as_slice.result.now → IsRoad c.args.graph.now.nodes (get_or c.as_slice.result.now k d)
 slice_ends c k d h =
     subst (λ (arcs : List Road). (k : ℕ) (d : Road) → k < length arcs → IsRoad c.args.graph.now.nodes (get_or arcs k d)) (sym c.as_slice.ensures.value)
-      (ends_in c.args.graph.now c.nodes-nodes.ensures.graph c.arcs.result.now c.in_ok-least.least.items c.arcs.ensures c.in_ok-least.ensures) k d h
+    (ends_in c.args.graph.now c.nodes-nodes.ensures.graph c.arcs.result.now c.in_ok-least.least.items c.arcs.ensures c.in_ok-least.ensures) k d h
 
 pub rows_of-requires-clause-from_in : goal.rows_of-requires-clause-from_in
 rows_of-requires-clause-from_in c k d h = let ends = slice_ends c k d h in omega (arith, ends.from_in, c.nodes-nodes.ensures.count)
@@ -44,10 +44,11 @@ invariant_of-result c =
     let count = ap length c.in_ok-rows.ensures ∙ c.in_ok-rows_of.ensures.count ∙ c.nodes-nodes.ensures.count in
     let rows = λ (x : ℕ) (inside : x < g.nodes). row_is c.in_ok-rows_of.field-0.items _ c.as_slice.result.now _ c.nodes-nodes.result g.nodes x c.in_ok-rows.ensures c.nodes-nodes.ensures.count c.as_slice.ensures.value c.in_ok-rows_of.ensures.rows inside in
     let long : length c.in_ok-versions.versions.items ≡ g.nodes = ap length versions ∙ length-range_with_len 0 c.nodes-nodes.result ∙ c.nodes-nodes.ensures.count in
-    let holds = opens g c.nodes-nodes.ensures.graph c.in_ok-least.least.items least (map arc_value c.in_ok-rows.rows.items) count rows c.in_ok-versions.versions.items long in
-    (subst (λ (order : List ℕ). IsOverlay (record { bound = c.bound.result; rows = map arc_value c.in_ok-rows.rows.items; versions = c.in_ok-versions.versions.items; order = order })) (sym c.in_ok-order.ensures.items)
-      (subst (λ (b : Cost). IsOverlay (record { bound = b; rows = map arc_value c.in_ok-rows.rows.items; versions = c.in_ok-versions.versions.items; order = [] })) (sym c.bound.ensures) holds),
-      omega (arith, count, length-map c.in_ok-rows.rows.items arc_value, c.in_ok-order.ensures.capacity, c.nodes-nodes.ensures.count))
+    let holds = opens g c.nodes-nodes.ensures.graph c.in_ok-least.least.items least (map arc_value c.in_ok-rows.rows.items) count rows c.in_ok-versions.versions.items long in (
+      subst (λ (order : List ℕ). IsOverlay (record { bound = c.bound.result; rows = map arc_value c.in_ok-rows.rows.items; versions = c.in_ok-versions.versions.items; order = order })) (sym c.in_ok-order.ensures.items)
+          (subst (λ (b : Cost). IsOverlay (record { bound = b; rows = map arc_value c.in_ok-rows.rows.items; versions = c.in_ok-versions.versions.items; order = [] })) (sym c.bound.ensures) holds),
+      omega (arith, count, length-map c.in_ok-rows.rows.items arc_value, c.in_ok-order.ensures.capacity, c.nodes-nodes.ensures.count),
+    )
 
 pub returns-clause-start : goal.returns-clause-start
 returns-clause-start c =
