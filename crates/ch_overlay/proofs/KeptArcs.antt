@@ -140,26 +140,26 @@ passes r e same = grind (arith, nat_tests, e, same)
 fails : (r : Road) → r.from ≢ r.to → not (nat_eq r.from r.to) ≡ true
 fails r apart = grind (arith, nat_tests, apart)
 
-pub kept_arc : (p : Road → Bool) (arcs : List Road) (r : Road) → Contains (filter p arcs) r → Contains arcs r × (p r ≡ true)
-kept_arc p [] r among = absurd (contains_none r among)
-kept_arc p (a ∷ arcs) r among = elim (p a) as (λ b. p a ≡ b → Contains (cond b (a ∷ filter p arcs) (filter p arcs)) r → Contains (a ∷ arcs) r × (p r ≡ true)) [
+pub kept_in : {A : Type 0} (p : A → Bool) (arcs : List A) (r : A) → Contains (filter p arcs) r → Contains arcs r × (p r ≡ true)
+kept_in p [] r among = absurd (contains_none r among)
+kept_in p (a ∷ arcs) r among = elim (p a) as (λ b. p a ≡ b → Contains (cond b (a ∷ filter p arcs) (filter p arcs)) r → Contains (a ∷ arcs) r × (p r ≡ true)) [
   | true ↦ λ e here. elim (contains_cases a (filter p arcs) r here) [
     | inl same ↦ (subst (λ q. Contains (a ∷ arcs) q) same (contains_first a arcs), subst (λ q. p q ≡ true) same e)
-    | inr later ↦ let rest = kept_arc p arcs r later in (contains_later a arcs r rest.0, rest.1)
+    | inr later ↦ let rest = kept_in p arcs r later in (contains_later a arcs r rest.0, rest.1)
   ]
-  | false ↦ λ e here. let rest = kept_arc p arcs r here in (contains_later a arcs r rest.0, rest.1)
+  | false ↦ λ e here. let rest = kept_in p arcs r here in (contains_later a arcs r rest.0, rest.1)
 ] refl among
 
-pub arc_kept : (p : Road → Bool) (arcs : List Road) (r : Road) → Contains arcs r → p r ≡ true → Contains (filter p arcs) r
-arc_kept p [] r among is = absurd (contains_none r among)
-arc_kept p (a ∷ arcs) r among is = elim (p a) as (λ b. p a ≡ b → Contains (cond b (a ∷ filter p arcs) (filter p arcs)) r) [
+pub in_kept : {A : Type 0} (p : A → Bool) (arcs : List A) (r : A) → Contains arcs r → p r ≡ true → Contains (filter p arcs) r
+in_kept p [] r among is = absurd (contains_none r among)
+in_kept p (a ∷ arcs) r among is = elim (p a) as (λ b. p a ≡ b → Contains (cond b (a ∷ filter p arcs) (filter p arcs)) r) [
   | true ↦ λ e. elim (contains_cases a arcs r among) [
     | inl same ↦ subst (λ q. Contains (a ∷ filter p arcs) q) same (contains_first a (filter p arcs))
-    | inr later ↦ contains_later a (filter p arcs) r (arc_kept p arcs r later is)
+    | inr later ↦ contains_later a (filter p arcs) r (in_kept p arcs r later is)
   ]
   | false ↦ λ e. elim (contains_cases a arcs r among) [
     | inl same ↦ absurd (clash (sym e ∙ subst (λ q. p q ≡ true) (sym same) is))
-    | inr later ↦ arc_kept p arcs r later is
+    | inr later ↦ in_kept p arcs r later is
   ]
 ] refl
   where
@@ -169,11 +169,11 @@ arc_kept p (a ∷ arcs) r among is = elim (p a) as (λ b. p a ≡ b → Contains
 module _ (arcs sorted : List Road) (all : IsPermutation (filter (λ r. not (nat_eq r.from r.to)) arcs) sorted) (order : AllPairs ComesNoLater sorted) where
   of_sorted : (r : Road) → Contains sorted r → Contains arcs r × (r.from ≢ r.to)
   of_sorted r among =
-      let kept = kept_arc (λ r. not (nat_eq r.from r.to)) arcs r (Contains-permutation _ _ r (IsPermutation-sym _ _ all) among) in
+      let kept = kept_in (λ r. not (nat_eq r.from r.to)) arcs r (Contains-permutation _ _ r (IsPermutation-sym _ _ all) among) in
       (kept.0, passes r kept.1)
 
   to_sorted : (r : Road) → Contains arcs r → r.from ≢ r.to → Contains sorted r
-  to_sorted r among apart = Contains-permutation _ _ r all (arc_kept (λ r. not (nat_eq r.from r.to)) arcs r among (fails r apart))
+  to_sorted r among apart = Contains-permutation _ _ r all (in_kept (λ r. not (nat_eq r.from r.to)) arcs r among (fails r apart))
 
 apart_too : (r q : Road) → r.from ≢ r.to → HaveSameEnds r q → q.from ≢ q.to
 apart_too r q apart same is = apart (same.0 ∙ is ∙ sym same.1)

@@ -12,3 +12,4 @@ pub mod KeptArcs
 pub mod Started
 pub mod Merged
 pub mod Placing
+pub mod Changed

@@ -19,7 +19,7 @@ use Rattle.ch_overlay.specs.Overlay.{Overlay, IsOverlay, no_arcs, row_at, state_
 use Rattle.ch_overlay.specs.Opening.{out_entry, in_entry, opening_row, AreLeast, EndsRise}
 use Rattle.ch_overlay.proofs.Entries.{some_inside, contains_first, contains_later, contains_cases, contains_none, entry_of, arc_to-member, member-arc_to}
 use Rattle.ch_overlay.proofs.Puts.{contains-map, contains-mapped}
-use Rattle.ch_overlay.proofs.KeptArcs.{kept_arc, arc_kept}
+use Rattle.ch_overlay.proofs.KeptArcs.{kept_in, in_kept}
 use Rattle.ch_overlay.proofs.Arcs.{IsSoundArc, IsSound, entries-sound}
 
 -- What an opening row has
@@ -41,23 +41,23 @@ pub out_from_entry : (arcs : List Road) (x : ℕ) (e : Entry) → Contains (open
 unfolding opening_row
 out_from_entry arcs x e h =
     let found = contains-mapped out_entry (filter (λ r. nat_eq r.from x) arcs) e h in
-    let kept = kept_arc (λ r. nat_eq r.from x) arcs found.0 found.1 in
+    let kept = kept_in (λ r. nat_eq r.from x) arcs found.0 found.1 in
     (found.0, kept.0, from_test found.0 x kept.1, found.2)
 
 pub in_from_entry : (arcs : List Road) (x : ℕ) (e : Entry) → Contains (opening_row arcs x).inn e → (r : Road) × Contains arcs r × (r.to ≡ x) × (in_entry r ≡ e)
 unfolding opening_row
 in_from_entry arcs x e h =
     let found = contains-mapped in_entry (filter (λ r. nat_eq r.to x) arcs) e h in
-    let kept = kept_arc (λ r. nat_eq r.to x) arcs found.0 found.1 in
+    let kept = kept_in (λ r. nat_eq r.to x) arcs found.0 found.1 in
     (found.0, kept.0, to_test found.0 x kept.1, found.2)
 
 pub out_to_entry : (arcs : List Road) (r : Road) → Contains arcs r → Contains (opening_row arcs r.from).out (out_entry r)
 unfolding opening_row
-out_to_entry arcs r among = contains-map out_entry (filter (λ q. nat_eq q.from r.from) arcs) r (arc_kept (λ q. nat_eq q.from r.from) arcs r among (test_from r r.from refl))
+out_to_entry arcs r among = contains-map out_entry (filter (λ q. nat_eq q.from r.from) arcs) r (in_kept (λ q. nat_eq q.from r.from) arcs r among (test_from r r.from refl))
 
 pub in_to_entry : (arcs : List Road) (r : Road) → Contains arcs r → Contains (opening_row arcs r.to).inn (in_entry r)
 unfolding opening_row
-in_to_entry arcs r among = contains-map in_entry (filter (λ q. nat_eq q.to r.to) arcs) r (arc_kept (λ q. nat_eq q.to r.to) arcs r among (test_to r r.to refl))
+in_to_entry arcs r among = contains-map in_entry (filter (λ q. nat_eq q.to r.to) arcs) r (in_kept (λ q. nat_eq q.to r.to) arcs r among (test_to r r.to refl))
 
 mapped_rises : (f : Road → Entry) (rs : List Road) → ((i j : ℕ) (d : Road) → i < j → j < length rs → (f (get_or rs i d)).other < (f (get_or rs j d)).other) → (d : Road) → Rises (map f rs)
 mapped_rises f rs rising d i j e less h =

@@ -14,6 +14,7 @@ mod merge;
 mod opening;
 mod overlay;
 mod placed;
+mod planned;
 mod row;
 
 pub use ch_laws::{Entry, Shortcut};

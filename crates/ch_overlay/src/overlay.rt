@@ -10,7 +10,8 @@ ghost use Rattle.ch_overlay.specs.Change.{IsChange, IsOf, changed_nodes, puts};
 use crate::change::{Change, put_rows, put_versions};
 use crate::least::least_arcs;
 use crate::opening::{first_versions, rows_of, shared};
-use crate::placed::{Placed, entries_at, in_entries, out_entries};
+use crate::placed::{in_entries, out_entries};
+use crate::planned::push_changed;
 use crate::row::Row;
 use ch_cost::Cost;
 use ch_graph::Graph;
@@ -123,14 +124,18 @@ impl Overlay {
         let inn = in_entries(alloc, node, shortcuts)?;
         let row = &self.rows[node as usize];
         let neighbours = row.others(alloc)?;
-        let mut rows = Vec::with_capacity(alloc, neighbours.len() + 1)?;
         let ranked = row.ranked(alloc, self.order.len() as u32)?;
+        let mut rows = Vec::with_capacity(alloc, neighbours.len() + 1)?;
         rows.push((node, Arc::new(alloc, ranked)?))?;
-        for other in &neighbours {
-            let old = &self.rows[*other as usize];
-            let new = changed(alloc, old, node, *other, out.as_slice(), inn.as_slice())?;
-            rows.push((*other, Arc::new(alloc, new)?))?;
-        }
+        push_changed(
+            alloc,
+            &mut rows,
+            self.rows.as_slice(),
+            node,
+            neighbours.as_slice(),
+            out.as_slice(),
+            inn.as_slice(),
+        )?;
         Ok(Change { node, rows })
     }
 
@@ -154,20 +159,6 @@ impl Overlay {
         put_rows(self.rows.as_mut_slice(), rows);
         self.order.push_reserved(node);
     }
-}
-
-// The row of a neighbour without the contracted node, and with the shortcuts at it.
-fn changed(
-    alloc: Global,
-    row: &Row,
-    gone: u32,
-    node: u32,
-    out: &[Placed],
-    inn: &[Placed],
-) -> Result<Row, AllocError> {
-    let out = entries_at(alloc, out, node)?;
-    let inn = entries_at(alloc, inn, node)?;
-    row.changed(alloc, gone, out.as_slice(), inn.as_slice())
 }
 
 #[cfg(test)]
