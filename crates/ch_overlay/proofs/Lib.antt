@@ -13,3 +13,4 @@ pub mod Started
 pub mod Merged
 pub mod Placing
 pub mod Changed
+pub mod Neighbours

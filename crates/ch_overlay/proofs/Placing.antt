@@ -53,14 +53,14 @@ no_shortcut : Shortcut
 no_shortcut = record { from = 0; to = 0; cost = zero_cost }
 
 -- what differs, each two of a list, also does so in a list of images
-pairs-map : {A B : Type 0} (R : B → B → Type 0) (f : A → B) (d : A) (xs : List A) → AllPairs (λ a b. R (f a) (f b)) xs → AllPairs R (map f xs)
+pub pairs-map : {A B : Type 0} (R : B → B → Type 0) (f : A → B) (d : A) (xs : List A) → AllPairs (λ a b. R (f a) (f b)) xs → AllPairs R (map f xs)
 pairs-map R f d xs pairs i j e less h =
     let long = length-map xs f in
     let first = get_or-map f xs i d e (omega (arith, less, h, long)) in
     let second = get_or-map f xs j d e (omega (arith, h, long)) in
     subst (λ y. R y (get_or (map f xs) j e)) (sym first) (subst (λ y. R (f (get_or xs i d)) y) (sym second) (pairs i j d less (omega (arith, h, long))))
 
-pairs-mapped : {A B : Type 0} (R : B → B → Type 0) (f : A → B) (e : B) (xs : List A) → AllPairs R (map f xs) → AllPairs (λ a b. R (f a) (f b)) xs
+pub pairs-mapped : {A B : Type 0} (R : B → B → Type 0) (f : A → B) (e : B) (xs : List A) → AllPairs R (map f xs) → AllPairs (λ a b. R (f a) (f b)) xs
 pairs-mapped R f e xs pairs i j d less h =
     let long = length-map xs f in
     let first = get_or-map f xs i d e (omega (arith, less, h)) in

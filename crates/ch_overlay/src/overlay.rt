@@ -11,7 +11,7 @@ use crate::change::{Change, put_rows, put_versions};
 use crate::least::least_arcs;
 use crate::opening::{first_versions, rows_of, shared};
 use crate::placed::{in_entries, out_entries};
-use crate::planned::push_changed;
+use crate::planned::{push_changed, ranked_row};
 use crate::row::Row;
 use ch_cost::Cost;
 use ch_graph::Graph;
@@ -81,6 +81,13 @@ impl Overlay {
         (self.rows.len() - self.order.len()) as u32
     }
 
+    // How many nodes are contracted.
+    fn contracted(&self) -> u32
+        ensures { result ≡ length self.now.order }
+    {
+        self.order.len() as u32
+    }
+
     /// What no cost of an entry is above: the bound of the graph.
     pub fn bound(&self) -> Cost
         ensures { result ≡ self.now.bound }
@@ -120,13 +127,13 @@ impl Overlay {
         ensures node { IfOk result (λ change. change.node ≡ node) }
         ensures change { IfOk result (λ change. IsChange self.now shortcuts.now change) }
     {
+        let row = self.row(node);
         let out = out_entries(alloc, node, shortcuts)?;
         let inn = in_entries(alloc, node, shortcuts)?;
-        let row = &self.rows[node as usize];
         let neighbours = row.others(alloc)?;
-        let ranked = row.ranked(alloc, self.order.len() as u32)?;
+        let ranked = ranked_row(alloc, row, self.contracted())?;
         let mut rows = Vec::with_capacity(alloc, neighbours.len() + 1)?;
-        rows.push((node, Arc::new(alloc, ranked)?))?;
+        rows.push((node, ranked))?;
         push_changed(
             alloc,
             &mut rows,

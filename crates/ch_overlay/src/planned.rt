@@ -1,4 +1,4 @@
-ghost use Rattle.std.specs.Prelude.{◌≡◌, ◌<◌, ◌++◌, ℕ, List, IfOk, All, length, map};
+ghost use Rattle.std.specs.Prelude.{◌≡◌, ◌<◌, ◌++◌, ℕ, List, IfOk, Some, All, length, map};
 ghost use Rattle.std.specs.Arc.{arc_value};
 ghost use Rattle.ch_laws.specs.declared.shortcut.Shortcut.{Shortcut};
 ghost use Rattle.ch_laws.specs.Rows.{Row, Rises, IsChanged};
@@ -9,6 +9,15 @@ use crate::placed::{Placed, entries_at};
 use crate::row::Row;
 use std::alloc::{AllocError, Global};
 use std::sync::Arc;
+
+// The row with its entries and this rank, to be shared.
+pub fn ranked_row(alloc: Global, row: &Row, rank: u32) -> Result<Arc<Row>, AllocError>
+    ensures { IfOk result (λ new. arc_value new ≡ record row.now { rank = Some rank }) }
+{
+    let ranked = row.ranked(alloc, rank)?;
+    let shared = Arc::new(alloc, ranked)?;
+    Ok(shared)
+}
 
 // Adds the changed row of each of these neighbours. `gone` is the contracted node, and the entries are those of the
 // shortcuts, in order.

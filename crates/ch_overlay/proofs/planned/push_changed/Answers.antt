@@ -29,19 +29,19 @@ loop-node-preserved c =
     let so_far = c.loop-node.invariant in
     let inside : node < length c.args.all.now = c.requires.in_range c.loop-node.node-index 0 c.loop-node-test.true in
     let row : c.deref.result.now ≡ row_at (map arc_value c.args.all.now) node =
-      c.deref.ensures ∙ ap arc_value c.index-all-node.is ∙ sym (get_or-map arc_value c.args.all.now _ _ no_arcs inside) in
+    c.deref.ensures ∙ ap arc_value c.index-all-node.is ∙ sym (get_or-map arc_value c.args.all.now _ _ no_arcs inside) in
     record {
       others = so_far.others ++ (node, c.in_ok-row.row) ∷ [];
       rows =
-        ap (map (λ a. (a.0, arc_value a.1))) c.in_ok-push.ensures.items
-        ∙ map_push (λ a. (a.0, arc_value a.1)) c.loop-node.rows.items (node, c.in_ok-new.field-0)
-        ∙ ap (λ (r : Row). map (λ a. (a.0, arc_value a.1)) c.loop-node.rows.items ++ (node, r) ∷ []) c.in_ok-new.ensures.ok
-        ∙ ap (λ (xs : List (ℕ × Row)). xs ++ (node, c.in_ok-row.row) ∷ []) so_far.rows
-        ∙ append_assoc _ so_far.others _;
+          ap (map (λ a. (a.0, arc_value a.1))) c.in_ok-push.ensures.items
+          ∙ map_push (λ a. (a.0, arc_value a.1)) c.loop-node.rows.items (node, c.in_ok-new.field-0)
+          ∙ ap (λ (r : Row). map (λ a. (a.0, arc_value a.1)) c.loop-node.rows.items ++ (node, r) ∷ []) c.in_ok-new.ensures.ok
+          ∙ ap (λ (xs : List (ℕ × Row)). xs ++ (node, c.in_ok-row.row) ∷ []) so_far.rows
+          ∙ append_assoc _ so_far.others _;
       nodes_are =
-        map_push (λ (a : ℕ × Row). a.0) so_far.others (node, c.in_ok-row.row)
-        ∙ ap (λ (xs : List ℕ). xs ++ node ∷ []) so_far.nodes_are
-        ∙ sym (take_more c.args.neighbours.now c.loop-node.node-index 0 c.loop-node-test.true);
+          map_push (λ (a : ℕ × Row). a.0) so_far.others (node, c.in_ok-row.row)
+          ∙ ap (λ (xs : List ℕ). xs ++ node ∷ []) so_far.nodes_are
+          ∙ sym (take_more c.args.neighbours.now c.loop-node.node-index 0 c.loop-node-test.true);
       changed = λ put placed. All-push (λ (a : ℕ × Row). IsChanged put c.args.gone a.0 (row_at (map arc_value c.args.all.now) a.0) a.1) so_far.others (node, c.in_ok-row.row)
-        (so_far.changed put placed) (subst (λ (r : Row). IsChanged put c.args.gone node r c.in_ok-row.row) row (c.in_ok-row.ensures put placed));
+          (so_far.changed put placed) (subst (λ (r : Row). IsChanged put c.args.gone node r c.in_ok-row.row) row (c.in_ok-row.ensures put placed));
     }
