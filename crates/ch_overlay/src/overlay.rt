@@ -171,9 +171,80 @@ impl Overlay {
 #[cfg(test)]
 mod tests {
     use super::*;
+    use ch_graph::Road;
+    use ch_laws::Entry;
+
+    fn road(from: u32, to: u32, weight: u32) -> Road {
+        Road { from, to, weight }
+    }
+
+    fn entry(other: u32, weight: u32) -> Entry {
+        Entry {
+            other,
+            cost: Cost::of_weight(weight),
+            middle: None,
+        }
+    }
+
+    // The overlay of a graph, or none where a road isn't allowed.
+    fn overlay(alloc: Global, nodes: u32, roads: Vec<Road>) -> Result<Option<Overlay>, AllocError> {
+        let few = nodes <= 1 << 25 && roads.len() <= 1 << 27;
+        let allowed = roads.iter().all(|road| (road.from < nodes)
+            & (road.to < nodes)
+            & (road.weight > 0));
+        if few && allowed {
+            let graph = Graph::new(nodes, roads);
+            let overlay = Overlay::start(alloc, &graph)?;
+            Ok(Some(overlay))
+        } else {
+            Ok(None)
+        }
+    }
+
+    // Whether the row of a node has these entries and no rank.
+    fn has_row(overlay: &Overlay, node: u32, out: &[Entry], inn: &[Entry]) -> bool {
+        if node < overlay.nodes() {
+            let row = overlay.row(node);
+            row.out.as_slice() == out && row.inn.as_slice() == inn && row.rank.is_none()
+        } else {
+            false
+        }
+    }
+
+    fn has_version(overlay: &Overlay, node: u32, version: u64) -> bool {
+        node < overlay.nodes() && overlay.version(node) == version
+    }
 
     #[test]
-    fn opening(rt: HostRuntime) {
-        assert!(rt; true);
+    fn opening_rows(rt: HostRuntime) -> Result<(), AllocError> {
+        let alloc = rt.alloc();
+        let roads = vec![in alloc; road(1, 0, 2), road(0, 2, 3)]?;
+        let found = overlay(alloc, 3, roads)?;
+        let holds = found.is_some_and(|overlay| {
+            has_row(&overlay, 0, &[entry(2, 3)], &[entry(1, 2)])
+                && has_row(&overlay, 1, &[entry(0, 2)], &[])
+                && has_row(&overlay, 2, &[], &[entry(0, 3)])
+                && has_version(&overlay, 0, 0)
+                && has_version(&overlay, 1, 1)
+                && has_version(&overlay, 2, 2)
+                && overlay.alive() == 3
+                && overlay.bound() == Cost::of_arcs(2, 3)
+        });
+        assert!(rt; holds);
+        Ok(())
+    }
+
+    #[test]
+    fn parallel_arcs_and_a_loop(rt: HostRuntime) -> Result<(), AllocError> {
+        let alloc = rt.alloc();
+        let roads = vec![in alloc; road(0, 0, 12), road(0, 1, 9), road(0, 1, 4), road(0, 1, 6)]?;
+        let found = overlay(alloc, 2, roads)?;
+        let holds = found.is_some_and(|overlay| {
+            has_row(&overlay, 0, &[entry(1, 4)], &[])
+                && has_row(&overlay, 1, &[], &[entry(0, 4)])
+                && overlay.bound() == Cost::of_weight(12)
+        });
+        assert!(rt; holds);
+        Ok(())
     }
 }
