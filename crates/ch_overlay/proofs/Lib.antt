@@ -1,0 +1,16 @@
+pub mod Entries
+pub mod Orders
+pub mod NewRows
+pub mod Shown
+pub mod Puts
+pub mod Arcs
+pub mod Applied
+pub mod Room
+pub mod Opened
+pub mod Sorting
+pub mod KeptArcs
+pub mod Started
+pub mod Merged
+pub mod Placing
+pub mod Changed
+pub mod Neighbours

@@ -1,0 +1,16 @@
+use Rattle.std.proofs.Common.{◌≡◌, map, sym, ap, subst}
+use Rattle.std.specs.List.Sorted.{IsPermutation}
+use Rattle.ch_overlay.specs.declared.placed.Placed.{Placed}
+use Rattle.ch_overlay.specs.Placing.{out_place}
+use Rattle.ch_overlay.proofs.Placing.{ends, in_order, places_differ}
+use Rattle.ch_overlay.proofs.placed.out_entries.Goals as goal
+
+pub returns-clause-all : goal.returns-clause-all
+returns-clause-all c = subst (λ xs. IsPermutation xs c.sorted.result.items) c.in_ok-entries.ensures c.sorted.ensures.all
+
+pub returns-clause-order : goal.returns-clause-order
+returns-clause-order c =
+    in_order (map (out_place c.args.middle) c.args.shortcuts.now) c.sorted.result.items
+    (places_differ (out_place c.args.middle) (λ p q same. (ap (λ e. e.0) same, ap (λ e. e.1) same)) c.args.shortcuts.now c.requires)
+    (subst (λ xs. IsPermutation xs c.sorted.result.items) c.in_ok-entries.ensures c.sorted.ensures.all)
+    c.sorted.ensures.sorted

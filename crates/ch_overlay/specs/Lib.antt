@@ -1,0 +1,5 @@
+pub mod Merging
+pub mod Overlay
+pub mod Opening
+pub mod Placing
+pub mod Change

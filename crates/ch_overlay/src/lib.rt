@@ -1,0 +1,23 @@
+//! The rows of a graph under contraction: what each node has of its arcs and shortcuts, and how a contraction changes
+//! them.
+//!
+//! Stands on `ch_graph` for graphs and on `ch_laws` for what contraction is. Its main types are [`Row`], what one
+//! node has, [`Overlay`], the rows of all nodes with a version number each, and [`Change`], the new rows of one
+//! contraction. Rows are shared by `Arc` and never changed in place, so who has read a row keeps it. The promise of
+//! the layer stands on [`Overlay::start`], [`Overlay::plan`] and [`Overlay::apply`]: the rows are those of the state
+//! that the contractions so far lead to.
+#![tactic(auto)]
+
+mod change;
+mod least;
+mod merge;
+mod opening;
+mod overlay;
+mod placed;
+mod planned;
+mod row;
+
+pub use ch_laws::{Entry, Shortcut};
+pub use change::Change;
+pub use overlay::Overlay;
+pub use row::Row;

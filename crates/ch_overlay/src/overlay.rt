@@ -1,0 +1,251 @@
+ghost use Rattle.std.specs.Prelude.{◌≡◌, ◌+◌, ◌<◌, ℕ, List, IfOk, All, AllPairs, length, map, slice_index};
+ghost use Rattle.std.specs.List.{zip, range_with_len};
+ghost use Rattle.std.specs.Arc.{arc_value};
+ghost use Rattle.ch_graph.specs.Graph.{bound_of};
+ghost use Rattle.ch_laws.specs.declared.shortcut.Shortcut.{Shortcut};
+ghost use Rattle.ch_laws.specs.Contraction.{IsStart, IsPlan, contracted};
+ghost use Rattle.ch_overlay.specs.Overlay.{IsOverlay, row_at, state_of};
+ghost use Rattle.ch_overlay.specs.Change.{IsChange, IsOf, changed_nodes, puts};
+
+use crate::change::{Change, put_rows, put_versions};
+use crate::least::least_arcs;
+use crate::opening::{first_versions, rows_of, shared};
+use crate::placed::{in_entries, out_entries};
+use crate::planned::{push_changed, ranked_row};
+use crate::row::Row;
+use ch_cost::Cost;
+use ch_graph::Graph;
+use ch_laws::Shortcut;
+use std::alloc::{AllocError, Global};
+use std::marker::Model;
+use std::sync::Arc;
+
+/// The rows of a graph's nodes under contraction, and a version number for each.
+///
+/// A row that changes gets a new version, so that equal versions of a node mean equal rows.
+#[derive(Drop)]
+pub struct Overlay {
+    bound: Cost,
+    rows: Vec<Arc<Row>>,
+    versions: Vec<u64>,
+    order: Vec<u32>,
+}
+
+impl Model for Overlay {
+    ghost use Rattle.std.specs.Prelude.{◌≤◌, length, map, vec_capacity};
+    ghost use Rattle.std.specs.Arc.{arc_value};
+    ghost use Rattle.ch_overlay.specs.Overlay as overlays;
+
+    ghost Value = { overlays.Overlay };
+
+    ghost view = { λ o. record { bound = o.bound; rows = map arc_value o.rows.items; versions = o.versions.items; order = o.order.items } };
+
+    ghost invariant = { λ o. overlays.IsOverlay (record { bound = o.bound; rows = map arc_value o.rows.items; versions = o.versions.items; order = o.order.items }) × (length o.rows.items ≤ vec_capacity o.order) };
+}
+
+impl Overlay {
+    /// The rows of a graph in which no node is contracted: for each ordered pair of different nodes that has an arc,
+    /// the least one. Node x has the version x.
+    ///
+    /// Takes memory for the rows and, while it works, for a copy of the arcs, which it sorts.
+    pub fn start(alloc: Global, graph: &Graph) -> Result<Overlay, AllocError>
+        ensures start { IfOk result (λ o. IsStart graph.now (state_of o)) }
+        ensures versions { IfOk result (λ o. o.versions ≡ range_with_len 0 graph.now.nodes) }
+        ensures bound { IfOk result (λ o. o.bound ≡ bound_of graph.now) }
+    {
+        let nodes = graph.nodes();
+        let least = least_arcs(alloc, graph.arcs())?;
+        let rows = shared(alloc, rows_of(alloc, nodes, least.as_slice())?)?;
+        let versions = first_versions(alloc, nodes)?;
+        let order = Vec::with_capacity(alloc, nodes as usize)?;
+        Ok(Overlay {
+            bound: graph.bound(),
+            rows,
+            versions,
+            order,
+        })
+    }
+
+    /// How many nodes there are, contracted or not.
+    pub fn nodes(&self) -> u32
+        ensures count { result ≡ length self.now.rows }
+        ensures holds { IsOverlay self.now }
+    {
+        self.rows.len() as u32
+    }
+
+    /// How many nodes aren't contracted.
+    pub fn alive(&self) -> u32
+        ensures { result + length self.now.order ≡ length self.now.rows }
+    {
+        (self.rows.len() - self.order.len()) as u32
+    }
+
+    // How many nodes are contracted.
+    fn contracted(&self) -> u32
+        ensures { result ≡ length self.now.order }
+    {
+        self.order.len() as u32
+    }
+
+    /// What no cost of an entry is above: the bound of the graph.
+    pub fn bound(&self) -> Cost
+        ensures { result ≡ self.now.bound }
+    {
+        self.bound
+    }
+
+    /// The row of a node, which is in range.
+    pub fn row(&self, node: u32) -> &Arc<Row>
+        requires { node < length self.now.rows }
+        ensures { arc_value result.now ≡ row_at self.now.rows node }
+    {
+        &self.rows[node as usize]
+    }
+
+    /// The version of a node's row. The node is in range.
+    pub fn version(&self, node: u32) -> u64
+        requires { node < length self.now.rows }
+        ensures { result ≡ slice_index self.now.versions node }
+    {
+        self.versions[node as usize]
+    }
+
+    /// The new rows of a contraction of `node` that puts these shortcuts in. Nothing changes yet.
+    ///
+    /// The node isn't contracted. Each shortcut is from a node with an arc to `node` to another one with an arc from
+    /// it, at most one for each pair, and costs the sum of the two arcs, at most the bound and less than the arc of
+    /// the pair where it has one. Takes memory for the rows; sorts the shortcuts, and is linear in the entries of the
+    /// rows otherwise.
+    pub fn plan(
+        &self,
+        alloc: Global,
+        node: u32,
+        shortcuts: &[Shortcut],
+    ) -> Result<Change, AllocError>
+        requires { IsPlan self.now.bound (state_of self.now) node shortcuts.now }
+        ensures node { IfOk result (λ change. change.node ≡ node) }
+        ensures change { IfOk result (λ change. IsChange self.now shortcuts.now change) }
+    {
+        let row = self.row(node);
+        let out = out_entries(alloc, node, shortcuts)?;
+        let inn = in_entries(alloc, node, shortcuts)?;
+        let neighbours = row.others(alloc)?;
+        let ranked = ranked_row(alloc, row, self.contracted())?;
+        let mut rows = Vec::with_capacity(alloc, neighbours.len() + 1)?;
+        rows.push((node, ranked))?;
+        push_changed(
+            alloc,
+            &mut rows,
+            self.rows.as_slice(),
+            node,
+            neighbours.as_slice(),
+            out.as_slice(),
+            inn.as_slice(),
+        )?;
+        Ok(Change { node, rows })
+    }
+
+    /// Contracts the node of a change, which was planned from this overlay: its rows become the rows of their nodes,
+    /// with these versions, one for each in the order of [`Change::rows`], rising, and above all that were given so
+    /// far.
+    ///
+    /// Takes no memory, and looks at no other row.
+    pub fn apply(&mut self, change: Change, versions: &[u64])
+        requires planned { IsOf self.old change }
+        requires count { length versions.now ≡ length change.rows }
+        requires rising { AllPairs (λ a b. a < b) versions.now }
+        requires above { All (λ a. All (λ b. a < b) versions.now) self.old.versions }
+        ensures state { (put : List Shortcut) → IsChange self.old put change → state_of self.new ≡ contracted (state_of self.old) change.node put }
+        ensures rows { self.new.rows ≡ puts self.old.rows change.rows }
+        ensures versions { self.new.versions ≡ puts self.old.versions (zip (changed_nodes change) versions.now) }
+        ensures bound { self.new.bound ≡ self.old.bound }
+        ensures holds { IsOverlay self.new }
+    {
+        let Change { node, rows } = change;
+        put_versions(self.versions.as_mut_slice(), rows.as_slice(), versions);
+        put_rows(self.rows.as_mut_slice(), rows);
+        self.order.push_reserved(node);
+    }
+}
+
+#[cfg(test)]
+mod tests {
+    use super::*;
+    use ch_graph::Road;
+    use ch_laws::Entry;
+
+    fn road(from: u32, to: u32, weight: u32) -> Road {
+        Road { from, to, weight }
+    }
+
+    fn entry(other: u32, weight: u32) -> Entry {
+        Entry {
+            other,
+            cost: Cost::of_weight(weight),
+            middle: None,
+        }
+    }
+
+    // The overlay of a graph, or none where a road isn't allowed.
+    fn overlay(alloc: Global, nodes: u32, roads: Vec<Road>) -> Result<Option<Overlay>, AllocError> {
+        let few = nodes <= 1 << 25 && roads.len() <= 1 << 27;
+        let allowed = roads.iter().all(|road| (road.from < nodes)
+            & (road.to < nodes)
+            & (road.weight > 0));
+        if few && allowed {
+            let graph = Graph::new(nodes, roads);
+            let overlay = Overlay::start(alloc, &graph)?;
+            Ok(Some(overlay))
+        } else {
+            Ok(None)
+        }
+    }
+
+    // Whether the row of a node has these entries and no rank.
+    fn has_row(overlay: &Overlay, node: u32, out: &[Entry], inn: &[Entry]) -> bool {
+        if node < overlay.nodes() {
+            let row = overlay.row(node);
+            row.out.as_slice() == out && row.inn.as_slice() == inn && row.rank.is_none()
+        } else {
+            false
+        }
+    }
+
+    fn has_version(overlay: &Overlay, node: u32, version: u64) -> bool {
+        node < overlay.nodes() && overlay.version(node) == version
+    }
+
+    #[test]
+    fn opening_rows(rt: HostRuntime) -> Result<(), AllocError> {
+        let alloc = rt.alloc();
+        let roads = vec![in alloc; road(1, 0, 2), road(0, 2, 3)]?;
+        let found = overlay(alloc, 3, roads)?;
+        let holds = found.is_some_and(|overlay| {
+            has_row(&overlay, 0, &[entry(2, 3)], &[entry(1, 2)])
+                && has_row(&overlay, 1, &[entry(0, 2)], &[])
+                && has_row(&overlay, 2, &[], &[entry(0, 3)])
+                && has_version(&overlay, 0, 0)
+                && has_version(&overlay, 1, 1)
+                && has_version(&overlay, 2, 2)
+                && overlay.alive() == 3
+                && overlay.bound() == Cost::of_arcs(2, 3)
+        });
+        assert!(rt; holds);
+        Ok(())
+    }
+
+    #[test]
+    fn parallel_arcs_and_a_loop(rt: HostRuntime) -> Result<(), AllocError> {
+        let alloc = rt.alloc();
+        let roads = vec![in alloc; road(0, 0, 12), road(0, 1, 9), road(0, 1, 4), road(0, 1, 6)]?;
+        let found = overlay(alloc, 2, roads)?;
+        let holds = found.is_some_and(|overlay| {
+            has_row(&overlay, 0, &[entry(1, 4)], &[])
+                && has_row(&overlay, 1, &[], &[entry(0, 4)])
+                && overlay.bound() == Cost::of_weight(12)
+        });
+        assert!(rt; holds);
+        Ok(())
+    }
+}

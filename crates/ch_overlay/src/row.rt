@@ -1,0 +1,113 @@
+ghost use Rattle.std.specs.Prelude.{◌≡◌, ◌↔◌, ◌<◌, ◌⊎◌, ℕ, IfOk, List, [], ◌∷◌, ◌++◌, Some, None, AllPairs, Contains, map, filter, not, nat_eq};
+ghost use Rattle.ch_overlay.specs.Merging.{merged};
+ghost use Rattle.ch_overlay.specs.Overlay.{no_arcs};
+
+use crate::merge::Merge;
+use ch_laws::Entry;
+use std::alloc::{AllocError, Global};
+use std::marker::Model;
+
+/// What a node has of its arcs, as a state of contraction shows it.
+///
+/// Each list has at most one entry for each other node, by rising number. A node that isn't contracted has entries
+/// for such nodes alone; one that is keeps those that it had when it was contracted.
+#[derive(Drop)]
+pub struct Row {
+    /// The arcs out of the node.
+    pub out: Vec<Entry>,
+    /// The arcs into the node.
+    pub inn: Vec<Entry>,
+    /// How many nodes were contracted before it, or none where it isn't contracted.
+    pub rank: Option<u32>,
+}
+
+impl Model for Row {
+    ghost use Rattle.ch_laws.specs.Rows as rows;
+
+    ghost Value = { rows.Row };
+
+    ghost view = { λ r. record { out = r.out.items; inn = r.inn.items; rank = r.rank } };
+}
+
+impl Row {
+    // The row of a node without arcs.
+    pub(crate) fn without_arcs(alloc: Global) -> Row
+        ensures { result ≡ no_arcs }
+    {
+        Row {
+            out: Vec::new(alloc),
+            inn: Vec::new(alloc),
+            rank: None,
+        }
+    }
+
+    pub(crate) fn add_out(&mut self, entry: Entry) -> Result<(), AllocError>
+        ensures { IfOk result (λ _. self.new ≡ record self.old { out = self.old.out ++ entry ∷ [] }) }
+    {
+        self.out.push(entry)?;
+        Ok(())
+    }
+
+    pub(crate) fn add_in(&mut self, entry: Entry) -> Result<(), AllocError>
+        ensures { IfOk result (λ _. self.new ≡ record self.old { inn = self.old.inn ++ entry ∷ [] }) }
+    {
+        self.inn.push(entry)?;
+        Ok(())
+    }
+
+    // The row with its entries and this rank.
+    pub(crate) fn ranked(&self, alloc: Global, rank: u32) -> Result<Row, AllocError>
+        ensures { IfOk result (λ row. row ≡ record self.now { rank = Some rank }) }
+    {
+        let out = self.out.iter().copied().collect(alloc)?;
+        let inn = self.inn.iter().copied().collect(alloc)?;
+        Ok(Row {
+            out,
+            inn,
+            rank: Some(rank),
+        })
+    }
+
+    // The row without its entries for `gone`, and with these in place of what it has for their nodes. All lists rise.
+    pub(crate) fn changed(
+        &self,
+        alloc: Global,
+        gone: u32,
+        out: &[Entry],
+        inn: &[Entry],
+    ) -> Result<Row, AllocError>
+        ensures { IfOk result (λ row. row ≡ record self.now {
+          out = filter (λ e. not (nat_eq e.other gone)) (merged self.now.out out.now);
+          inn = filter (λ e. not (nat_eq e.other gone)) (merged self.now.inn inn.now);
+        }) }
+    {
+        let out = replaced(alloc, gone, self.out.as_slice(), out)?;
+        let inn = replaced(alloc, gone, self.inn.as_slice(), inn)?;
+        Ok(Row {
+            out,
+            inn,
+            rank: self.rank,
+        })
+    }
+
+    // The nodes of its entries in either direction, rising, each once.
+    pub(crate) fn others(&self, alloc: Global) -> Result<Vec<u32>, AllocError>
+        ensures { IfOk result (λ nodes. nodes.items ≡ map (λ e. e.other) (merged self.now.out self.now.inn)) }
+    {
+        let both = Merge::new(self.out.as_slice(), self.inn.as_slice());
+        both.map(|e| e.other).collect(alloc)
+    }
+}
+
+// The new entries and those old ones that none of them replaces, without the entry for `gone`.
+fn replaced(
+    alloc: Global,
+    gone: u32,
+    old: &[Entry],
+    new: &[Entry],
+) -> Result<Vec<Entry>, AllocError>
+    ensures { IfOk result (λ es. es.items ≡ filter (λ e. not (nat_eq e.other gone)) (merged old.now new.now)) }
+{
+    let both = Merge::new(old, new);
+    both.filter(|e| e.other != gone).collect(alloc)
+}
