@@ -1,15 +1,15 @@
 -- The arcs of an overlay's state: between different nodes, not free and not heavy.
-use Rattle.std.proofs.Common.{ℕ, ◌≡◌, ◌≢◌, ◌+◌, ◌<◌, ◌≤◌, ◌⊎◌, cond, true, false, List, [], ◌∷◌, ◌++◌, length, get_or, Option, Some, None, Contains, arith, refl, sym, ◌∙◌, ap, subst, inl, inr}
+use Rattle.std.proofs.Common.{ℕ, ◌≡◌, ◌≢◌, ◌<◌, cond, true, false, List, [], length, get_or, Some, Contains, refl, sym, ◌∙◌, ap, subst, inl, inr}
 use Rattle.std.proofs.lemmas.Bool.{cases_lt}
 use Rattle.std.proofs.lemmas.List.{get_or_past, get_or_default}
 use Rattle.std.proofs.lemmas.List.Elements.{All-contains}
 use Rattle.ch_cost.specs.declared.cost.Cost.{Cost}
-use Rattle.ch_cost.specs.Cost.{zero_cost, ◌⊕◌, ◌≺◌, IsWithin}
+use Rattle.ch_cost.specs.Cost.{zero_cost, ◌≺◌, IsWithin}
 use Rattle.ch_cost.specs.Cost.Laws.{below_trans_at_most, at_most_sum_left}
 use Rattle.ch_laws.specs.declared.entry.Entry.{Entry}
 use Rattle.ch_laws.specs.declared.shortcut.Shortcut.{Shortcut}
-use Rattle.ch_laws.specs.Contraction.{State, StateArc, HasArc, IsPlan, contracted}
-use Rattle.ch_laws.specs.Rows.{Row, IsRow, arc_of, arc_to}
+use Rattle.ch_laws.specs.Contraction.{State, StateArc, IsPlan, contracted}
+use Rattle.ch_laws.specs.Rows.{Row, IsRow, arc_to}
 use Rattle.ch_overlay.specs.Overlay.{Overlay, IsOverlay, IsEntry, AreEntries, no_arcs, row_at, state_of, ranks_before, arc_by_rows}
 use Rattle.ch_overlay.proofs.Entries.{some_inside, contains_none, entry_of, member-arc_to}
 use Rattle.ch_overlay.proofs.NewRows.{IsLoopless, find_shortcut, arc-put, arc-kept}

@@ -1,7 +1,6 @@
 -- The changed rows of neighbours.
-use Rattle.std.proofs.Common.{ℕ, ◌≡◌, ◌≢◌, ◌+◌, ◌<◌, ◌≤◌, ◌⊎◌, ◌↔◌, not, nat_eq, true, false, Bool, List, [], ◌∷◌, ◌++◌, length, get_or, map, Option, Some, Contains, AllPairs, arith, refl, sym, ◌∙◌, ap, subst, inl, inr}
+use Rattle.std.proofs.Common.{ℕ, ◌≡◌, ◌≢◌, ◌<◌, ◌⊎◌, ◌↔◌, not, nat_eq, true, List, map, Option, Some, Contains, arith, refl, sym, ◌∙◌, ap, subst, inl, inr}
 use Rattle.std.specs.List.{filter}
-use Rattle.std.specs.List.Sorted.{IsPermutation}
 use Rattle.std.proofs.lemmas.Bool.Decides.{nat_tests}
 use Rattle.std.proofs.lemmas.List.Sorted.{Contains-permutation, IsPermutation-sym}
 use Rattle.std.proofs.lemmas.List.Kept.{AllPairs-filter}
@@ -13,7 +12,7 @@ use Rattle.ch_laws.specs.Rows.{Row, Rises, IsChanged, IsOfShortcut}
 use Rattle.ch_overlay.specs.declared.placed.Placed.{Placed}
 use Rattle.ch_overlay.specs.Merging.{merged}
 use Rattle.ch_overlay.specs.Placing.{ArePlaced, out_place, in_place}
-use Rattle.ch_overlay.proofs.Merged.{IsAbsent, IsMerged, merged_is}
+use Rattle.ch_overlay.proofs.Merged.{merged_is}
 use Rattle.ch_overlay.proofs.Puts.{contains-map, contains-mapped}
 use Rattle.ch_overlay.proofs.KeptArcs.{kept_in, in_kept}
 

@@ -1,10 +1,10 @@
 -- The first arc of each two nodes, of sorted arcs, is their least.
-use Rattle.std.proofs.Common.{ℕ, ◌≡◌, ◌≢◌, ◌+◌, ◌<◌, ◌≤◌, ◌⊎◌, cond, not, nat_eq, true, false, Bool, List, [], ◌∷◌, length, get_or, All, AllPairs, Contains, arith, refl, sym, ◌∙◌, subst, inl, inr}
+use Rattle.std.proofs.Common.{ℕ, ◌≡◌, ◌≢◌, ◌<◌, ◌≤◌, ◌⊎◌, cond, not, nat_eq, true, false, Bool, List, [], ◌∷◌, length, get_or, AllPairs, Contains, arith, refl, sym, ◌∙◌, subst, inl, inr}
 use Rattle.std.specs.List.{dedup, dedup_from, filter}
 use Rattle.std.specs.List.Sorted.{IsPermutation}
-use Rattle.std.proofs.lemmas.Bool.{cases_lt, cases_eq}
+use Rattle.std.proofs.lemmas.Bool.{cases_lt}
 use Rattle.std.proofs.lemmas.Bool.Decides.{nat_tests}
-use Rattle.std.proofs.lemmas.List.Elements.{All-contains, Contains-get_or}
+use Rattle.std.proofs.lemmas.List.Elements.{Contains-get_or}
 use Rattle.std.proofs.lemmas.List.Sorted.{Contains-permutation, IsPermutation-sym}
 use Rattle.std.proofs.lemmas.List.Kept.{AllPairs-cons, Contains-from_dedup}
 use Rattle.ch_graph.specs.declared.road.Road.{Road}

@@ -1,12 +1,11 @@
 -- The neighbours of a node, by its row, and the change that a plan makes.
-use Rattle.std.proofs.Common.{ℕ, ◌≡◌, ◌≢◌, ◌+◌, ◌<◌, ◌≤◌, ◌⊎◌, ◌↔◌, List, [], ◌∷◌, ◌++◌, length, get_or, map, Option, Some, None, Contains, AllPairs, arith, refl, sym, ◌∙◌, ap, subst, inl, inr}
+use Rattle.std.proofs.Common.{ℕ, ◌≡◌, ◌<◌, List, [], ◌∷◌, length, map, Option, Some, None, Contains, AllPairs, arith, refl, sym, ◌∙◌, subst, inl, inr}
 use Rattle.std.specs.List.Sorted.{IsPermutation}
 use Rattle.std.proofs.lemmas.List.{get_or_default}
 use Rattle.std.proofs.lemmas.List.Elements.{All-contains}
-use Rattle.ch_cost.specs.declared.cost.Cost.{Cost}
 use Rattle.ch_laws.specs.declared.entry.Entry.{Entry}
 use Rattle.ch_laws.specs.declared.shortcut.Shortcut.{Shortcut}
-use Rattle.ch_laws.specs.Contraction.{State, StateArc, Before, IsAlive, HasArc, IsPlan, IsNeighbour}
+use Rattle.ch_laws.specs.Contraction.{StateArc, Before, IsAlive, IsPlan, IsNeighbour}
 use Rattle.ch_laws.specs.Rows.{Row, IsRow, arc_of, arc_to}
 use Rattle.ch_overlay.specs.declared.placed.Placed.{Placed}
 use Rattle.ch_overlay.specs.Merging.{merged}
@@ -15,7 +14,7 @@ use Rattle.ch_overlay.specs.Placing.{ArePlaced, AreChanged, RowsRise, out_place,
 use Rattle.ch_overlay.specs.Change.{Change, IsChange}
 use Rattle.ch_overlay.proofs.Entries.{entry_of, arc_to-member, member-arc_to}
 use Rattle.ch_overlay.proofs.Orders.{before-contains}
-use Rattle.ch_overlay.proofs.Merged.{IsMerged, IsAbsent, merged_is}
+use Rattle.ch_overlay.proofs.Merged.{IsMerged, merged_is}
 use Rattle.ch_overlay.proofs.Puts.{contains-map, contains-mapped}
 use Rattle.ch_overlay.proofs.Placing.{pairs-map, pairs-mapped}
 use Rattle.ch_overlay.proofs.Arcs.{loopless, overlay_sound}

@@ -1,12 +1,12 @@
 -- The rows of the state after one contraction.
-use Rattle.std.proofs.Common.{ℕ, ◌≡◌, ◌≢◌, ◌+◌, ◌<◌, ◌≤◌, ◌⊎◌, ◌↔◌, cond, nat_eq, ◌&&◌, true, false, List, [], ◌∷◌, ◌++◌, length, get_or, Option, Some, None, Contains, AllPairs, arith, refl, sym, ◌∙◌, ap, subst, inl, inr}
+use Rattle.std.proofs.Common.{ℕ, ◌≡◌, ◌≢◌, ◌<◌, ◌⊎◌, ◌↔◌, nat_eq, ◌&&◌, true, false, List, [], ◌∷◌, ◌++◌, length, get_or, Option, Some, None, Contains, AllPairs, arith, refl, sym, ◌∙◌, ap, subst, inl, inr}
 use Rattle.std.proofs.lemmas.Bool.{cases_eq}
 use Rattle.std.proofs.lemmas.Bool.Decides.{nat_tests}
 use Rattle.ch_cost.specs.declared.cost.Cost.{Cost}
 use Rattle.ch_laws.specs.declared.entry.Entry.{Entry}
 use Rattle.ch_laws.specs.declared.shortcut.Shortcut.{Shortcut}
-use Rattle.ch_laws.specs.Contraction.{State, StateArc, Before, IsAlive, HasArc, IsFor, NoShortcut, IsPlan, IsNeighbour, shortcut_arc, contracted}
-use Rattle.ch_laws.specs.Rows.{Row, IsRow, IsChanged, IsOfShortcut, IsEntryAfter, arc_of}
+use Rattle.ch_laws.specs.Contraction.{State, StateArc, Before, HasArc, IsFor, NoShortcut, IsPlan, IsNeighbour, shortcut_arc, contracted}
+use Rattle.ch_laws.specs.Rows.{Row, IsRow, IsChanged, IsOfShortcut, arc_of}
 use Rattle.ch_overlay.proofs.Entries.{some_inside, contains_first, contains_later, contains_cases, contains_none, contains_place, pairs_first, pairs_later}
 use Rattle.ch_overlay.proofs.Orders.{before-contains, before-push, before-last, before-pushed, place-pushed, place-push, place-last}
 

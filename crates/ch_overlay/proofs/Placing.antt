@@ -1,8 +1,7 @@
 -- Entries in order, and those for one node.
-use Rattle.std.proofs.Common.{ℕ, ◌≡◌, ◌≢◌, ◌+◌, ◌-◌, ◌<◌, ◌≤◌, ◌⊎◌, ◌↔◌, ◌&&◌, nat_eq, true, false, Bool, Option, None, Some, List, [], ◌∷◌, length, get_or, map, slice_range, Contains, AllPairs, arith, refl, sym, ◌∙◌, ap, subst, inl, inr}
-use Rattle.std.specs.List.{IsDistinct}
+use Rattle.std.proofs.Common.{ℕ, ◌≡◌, ◌≢◌, ◌+◌, ◌-◌, ◌<◌, ◌≤◌, ◌⊎◌, ◌↔◌, ◌&&◌, nat_eq, true, Bool, None, List, length, get_or, map, slice_range, Contains, AllPairs, arith, sym, ◌∙◌, ap, subst, inl, inr}
 use Rattle.std.specs.List.Sorted.{IsPartitionPoint, IsPermutation, IsNonDecreasingBy}
-use Rattle.std.proofs.lemmas.Bool.{cases_lt, cases_eq}
+use Rattle.std.proofs.lemmas.Bool.{cases_lt}
 use Rattle.std.proofs.lemmas.Bool.Decides.{nat_tests}
 use Rattle.std.proofs.lemmas.List.{get_or-map, length-map, get_or_default}
 use Rattle.std.proofs.lemmas.List.Edits.{length-between, get_or-between}

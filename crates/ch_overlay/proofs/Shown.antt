@@ -1,11 +1,11 @@
 -- The rows of a state show its arcs.
-use Rattle.std.proofs.Common.{ℕ, ◌≡◌, ◌≢◌, ◌+◌, ◌<◌, ◌≤◌, ◌⊎◌, ◌↔◌, cond, nat_lt, true, false, Bool, List, [], ◌∷◌, ◌++◌, length, get_or, Option, Some, None, Contains, arith, refl, sym, ◌∙◌, ap, subst, inl, inr}
+use Rattle.std.proofs.Common.{ℕ, ◌≡◌, ◌<◌, ◌≤◌, cond, true, false, List, length, Option, Some, None, Contains, arith, refl, sym, ◌∙◌, ap, subst, inl, inr}
 use Rattle.std.proofs.lemmas.Bool.{cases_lt}
 use Rattle.std.proofs.lemmas.Bool.Decides.{nat_tests}
 use Rattle.std.proofs.lemmas.List.{get_or_past}
 use Rattle.std.proofs.Math.Path.{fun_ext}
 use Rattle.ch_laws.specs.declared.entry.Entry.{Entry}
-use Rattle.ch_laws.specs.Contraction.{State, StateArc, Before}
+use Rattle.ch_laws.specs.Contraction.{State, StateArc}
 use Rattle.ch_laws.specs.Rows.{Row, IsRow, arc_of, arc_to, Rises}
 use Rattle.ch_overlay.specs.Overlay.{no_arcs, row_at, ranks_before, arc_by_rows}
 use Rattle.ch_overlay.proofs.Entries.{entry_of, arc_to-member, member-arc_to}

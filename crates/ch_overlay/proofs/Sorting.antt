@@ -1,7 +1,7 @@
 -- Lists that are sorted by a pair or a triple of numbers.
-use Rattle.std.proofs.Common.{ℕ, zero, suc, ◌≡◌, ◌≢◌, ◌+◌, ◌<◌, ◌≤◌, ◌⊎◌, cond, true, false, Bool, List, [], ◌∷◌, length, get_or, AllPairs, arith, refl, sym, ◌∙◌, subst, inl, inr, nat_cmp, is_lt}
+use Rattle.std.proofs.Common.{ℕ, zero, suc, ◌≡◌, ◌+◌, ◌<◌, ◌≤◌, false, List, length, get_or, AllPairs, arith, subst, inl, inr, nat_cmp, is_lt}
 use Rattle.std.specs.Ordering.{ordering_then}
-use Rattle.std.proofs.lemmas.Bool.{cases_lt, cases_eq}
+use Rattle.std.proofs.lemmas.Bool.{cases_lt}
 use Rattle.std.proofs.lemmas.Bool.Decides.{nat_tests}
 use Rattle.ch_graph.specs.declared.road.Road.{Road}
 use Rattle.ch_overlay.specs.Opening.{ComesNoLater}

@@ -1,26 +1,26 @@
 -- The overlay of a graph in which no node is contracted.
-use Rattle.std.proofs.Common.{ℕ, ◌≡◌, ◌≢◌, ◌+◌, ◌-◌, ◌<◌, ◌≤◌, ◌⊎◌, ◌↔◌, ◌^◌, cond, max, nat_eq, true, false, Bool, List, [], ◌∷◌, length, get_or, map, Option, Some, None, All, AllPairs, Contains, arith, refl, sym, ◌∙◌, ap, subst, inl, inr}
+use Rattle.std.proofs.Common.{ℕ, ◌≡◌, ◌≢◌, ◌+◌, ◌-◌, ◌<◌, ◌≤◌, ◌⊎◌, ◌↔◌, max, nat_eq, true, List, [], ◌∷◌, length, get_or, map, Option, Some, None, Contains, arith, refl, sym, ◌∙◌, ap, subst, inl, inr}
 use Rattle.std.specs.List.{filter}
-use Rattle.std.proofs.lemmas.Bool.{cases_lt, cases_eq}
+use Rattle.std.proofs.lemmas.Bool.{cases_lt}
 use Rattle.std.proofs.lemmas.Bool.Decides.{nat_tests}
 use Rattle.std.proofs.lemmas.List.{get_or_past, get_or-map, length-map}
-use Rattle.std.proofs.lemmas.List.Elements.{All-contains, All-nil}
+use Rattle.std.proofs.lemmas.List.Elements.{All-contains}
 use Rattle.std.proofs.lemmas.List.Kept.{AllPairs-filter}
 use Rattle.std.proofs.lemmas.List.Elements.{filter_passes}
 use Rattle.ch_cost.specs.declared.cost.Cost.{Cost}
 use Rattle.ch_cost.specs.Cost.{zero_cost, ◌≼◌, ◌≺◌, of_weight, cost_of_arcs, IsWithin}
 use Rattle.ch_cost.specs.Cost.Laws.{arc_above, arc_at_most, arc_and_arcs_within, zero_cost_within, sum-zero_cost}
 use Rattle.ch_graph.specs.declared.road.Road.{Road}
-use Rattle.ch_graph.specs.Graph.{Graph, IsGraph, IsRoad, ArcOf, heaviest, bound_of}
+use Rattle.ch_graph.specs.Graph.{Graph, IsGraph, IsRoad, heaviest, bound_of}
 use Rattle.ch_laws.specs.declared.entry.Entry.{Entry}
-use Rattle.ch_laws.specs.Contraction.{State, StateArc, IsStart, IsStartArc, Before}
+use Rattle.ch_laws.specs.Contraction.{StateArc, IsStart, IsStartArc, Before}
 use Rattle.ch_laws.specs.Rows.{Row, Rises, IsRow, arc_of, arc_to}
-use Rattle.ch_overlay.specs.Overlay.{Overlay, IsOverlay, no_arcs, row_at, state_of, arc_by_rows}
+use Rattle.ch_overlay.specs.Overlay.{IsOverlay, no_arcs, row_at, state_of, arc_by_rows}
 use Rattle.ch_overlay.specs.Opening.{out_entry, in_entry, opening_row, AreLeast, EndsRise}
-use Rattle.ch_overlay.proofs.Entries.{some_inside, contains_first, contains_later, contains_cases, contains_none, entry_of, arc_to-member, member-arc_to}
+use Rattle.ch_overlay.proofs.Entries.{contains_cases, contains_none, entry_of, arc_to-member, member-arc_to}
 use Rattle.ch_overlay.proofs.Puts.{contains-map, contains-mapped}
 use Rattle.ch_overlay.proofs.KeptArcs.{kept_in, in_kept}
-use Rattle.ch_overlay.proofs.Arcs.{IsSoundArc, IsSound, entries-sound}
+use Rattle.ch_overlay.proofs.Arcs.{IsSound, entries-sound}
 
 -- What an opening row has
 

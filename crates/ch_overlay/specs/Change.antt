@@ -1,6 +1,5 @@
 -- What a contraction changes in an overlay.
 use Rattle.std.specs.Prelude.{ℕ, ◌≡◌, ◌<◌, ◌↔◌, List, [], ◌∷◌, length, map, Some, All, AllPairs, Contains, slice_set}
-use Rattle.std.specs.List.{zip}
 use Rattle.ch_laws.specs.declared.shortcut.Shortcut.{Shortcut}
 use Rattle.ch_laws.specs.Contraction.{IsPlan, IsNeighbour}
 use Rattle.ch_laws.specs.Rows.{Row, IsChanged}

@@ -1,5 +1,5 @@
 -- Two lists of entries become one.
-use Rattle.std.specs.Prelude.{ℕ, ◌≡◌, ◌<◌, ◌⊎◌, cond, nat_lt, nat_eq, List, [], ◌∷◌, AllPairs}
+use Rattle.std.specs.Prelude.{cond, nat_lt, nat_eq, List, [], ◌∷◌}
 use Rattle.ch_laws.specs.declared.entry.Entry.{Entry}
 
 -- the entry e stands before what `rest` makes of the new ones, at its place among them; a new one of the same other

@@ -1,4 +1,4 @@
-ghost use Rattle.std.specs.Prelude.{◌≡◌, ◌+◌, ◌<◌, ℕ, List, IfOk, All, AllPairs, length, map, slice_index};
+ghost use Rattle.std.specs.Prelude.{◌≡◌, ◌+◌, ◌^◌, ◌<◌, ℕ, List, [], IfOk, IfSome, IsTrue, All, AllPairs, length, map, slice_index};
 ghost use Rattle.std.specs.List.{zip, range_with_len};
 ghost use Rattle.std.specs.Arc.{arc_value};
 ghost use Rattle.ch_graph.specs.Graph.{bound_of};
@@ -187,19 +187,38 @@ mod tests {
         }
     }
 
+    fn all_allowed(nodes: u32, roads: &[Road]) -> bool
+        ensures { IsTrue result → All (λ r. (r.from < nodes) × (r.to < nodes) × (0 < r.weight) × (r.weight < 2 ^ 32)) roads.now }
+    {
+        roads.iter().all(|road| road.from < nodes && road.to < nodes && road.weight > 0)
+    }
+
     // The overlay of a graph, or none where a road isn't allowed.
-    fn overlay(alloc: Global, nodes: u32, roads: Vec<Road>) -> Result<Option<Overlay>, AllocError> {
-        let few = nodes <= 1 << 25 && roads.len() <= 1 << 27;
-        let allowed = roads.iter().all(|road| (road.from < nodes)
-            & (road.to < nodes)
-            & (road.weight > 0));
-        if few && allowed {
-            let graph = Graph::new(nodes, roads);
-            let overlay = Overlay::start(alloc, &graph)?;
-            Ok(Some(overlay))
-        } else {
-            Ok(None)
+    fn overlay(alloc: Global, nodes: u32, roads: Vec<Road>) -> Result<Option<Overlay>, AllocError>
+        ensures { IfOk result (λ found. IfSome found (λ o. o.order ≡ [])) }
+    {
+        if nodes > 1 << 25 || roads.len() > 1 << 27 || !all_allowed(nodes, roads.as_slice()) {
+            return Ok(None);
         }
+        let graph = Graph::new(nodes, roads);
+        let overlay = Overlay::start(alloc, &graph)?;
+        Ok(Some(overlay))
+    }
+
+    // The change of a contraction that puts no shortcut in, or none where the node isn't in range.
+    fn plan_without_shortcuts(
+        alloc: Global,
+        overlay: &Overlay,
+        node: u32,
+    ) -> Result<Option<Change>, AllocError>
+        requires { overlay.now.order ≡ [] }
+        ensures { IfOk result (λ found. IfSome found (λ change. IsOf overlay.now change)) }
+    {
+        if node >= overlay.nodes() {
+            return Ok(None);
+        }
+        let change = overlay.plan(alloc, node, &[])?;
+        Ok(Some(change))
     }
 
     // Whether the row of a node has these entries and no rank.
@@ -231,6 +250,41 @@ mod tests {
                 && overlay.alive() == 3
                 && overlay.bound() == Cost::of_arcs(2, 3)
         });
+        assert!(rt; holds);
+        Ok(())
+    }
+
+    // Whether the new row is this node's, and has these entries and this rank.
+    fn is_row(
+        new: Option<&(u32, Arc<Row>)>,
+        node: u32,
+        out: &[Entry],
+        inn: &[Entry],
+        rank: Option<u32>,
+    ) -> bool {
+        match new {
+            Some((at, row)) => *at == node
+                && row.out.as_slice() == out
+                && row.inn.as_slice() == inn
+                && row.rank == rank,
+            None => false,
+        }
+    }
+
+    #[test]
+    fn rows_without_a_shortcut(rt: HostRuntime) -> Result<(), AllocError> {
+        let alloc = rt.alloc();
+        let roads = vec![in alloc; road(1, 0, 2), road(0, 2, 3), road(1, 2, 4)]?;
+        let mut holds = false;
+        if let Some(overlay) = overlay(alloc, 3, roads)? {
+            if let Some(change) = plan_without_shortcuts(alloc, &overlay, 0)? {
+                let rows = change.rows();
+                holds = rows.len() == 3
+                    && is_row(rows.first(), 0, &[entry(2, 3)], &[entry(1, 2)], Some(0))
+                    && is_row(rows.get(1), 1, &[entry(2, 4)], &[], None)
+                    && is_row(rows.get(2), 2, &[], &[entry(1, 4)], None);
+            }
+        }
         assert!(rt; holds);
         Ok(())
     }

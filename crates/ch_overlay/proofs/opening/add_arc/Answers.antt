@@ -1,4 +1,4 @@
-use Rattle.std.proofs.Common.{ℕ, ◌+◌, ◌<◌, ◌≡◌, set, length, ◌++◌, ◌∷◌, [], None, arith, ◌∙◌, ap, refl}
+use Rattle.std.proofs.Common.{ℕ, ◌<◌, set, length, ◌++◌, ◌∷◌, [], None, arith, ◌∙◌, ap, refl}
 use Rattle.std.proofs.lemmas.List.{get_or_default, length-set}
 use Rattle.ch_cost.specs.declared.cost.Cost.{Cost}
 use Rattle.ch_laws.specs.declared.entry.Entry.{Entry}

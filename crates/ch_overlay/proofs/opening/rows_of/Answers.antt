@@ -1,4 +1,4 @@
-use Rattle.std.proofs.Common.{ℕ, ◌≡◌, ◌+◌, ◌<◌, length, get_or, List, arith, sym, ◌∙◌, ap}
+use Rattle.std.proofs.Common.{◌≡◌, ◌<◌, length, get_or, List, arith, sym, ◌∙◌, ap}
 use Rattle.std.proofs.lemmas.List.{with_items_is, length-replicate, get_or-replicate}
 use Rattle.ch_graph.specs.declared.road.Road.{Road}
 use Rattle.ch_laws.specs.Rows.{Row}

@@ -1,4 +1,4 @@
-use Rattle.std.proofs.Common.{rules, arith}
+use Rattle.std.proofs.Common.{rules}
 use Rattle.ch_overlay.proofs.Placing.{first_before_end, group_rises, group_all}
 use Rattle.ch_overlay.proofs.placed.entries_at.Goals as goal
 

@@ -1,8 +1,7 @@
-use Rattle.std.proofs.Common.{◌≡◌, map, sym, ap, subst}
+use Rattle.std.proofs.Common.{map, ap, subst}
 use Rattle.std.specs.List.Sorted.{IsPermutation}
-use Rattle.ch_overlay.specs.declared.placed.Placed.{Placed}
 use Rattle.ch_overlay.specs.Placing.{out_place}
-use Rattle.ch_overlay.proofs.Placing.{ends, in_order, places_differ}
+use Rattle.ch_overlay.proofs.Placing.{in_order, places_differ}
 use Rattle.ch_overlay.proofs.placed.out_entries.Goals as goal
 
 pub returns-clause-all : goal.returns-clause-all

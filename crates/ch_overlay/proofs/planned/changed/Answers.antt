@@ -1,4 +1,4 @@
-use Rattle.std.proofs.Common.{◌≡◌, ◌↔◌, List, Contains, sym, subst}
+use Rattle.std.proofs.Common.{◌↔◌, List, Contains, sym, subst}
 use Rattle.ch_laws.specs.declared.entry.Entry.{Entry}
 use Rattle.ch_laws.specs.Rows.{Row, Rises, IsChanged}
 use Rattle.ch_overlay.specs.declared.placed.Placed.{Placed}

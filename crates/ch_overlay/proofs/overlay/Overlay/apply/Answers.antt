@@ -1,14 +1,12 @@
-use Rattle.std.proofs.Common.{ℕ, ◌≡◌, ◌+◌, ◌<◌, ◌≤◌, List, [], ◌∷◌, ◌++◌, length, map, All, arith, sym, ◌∙◌, ap, subst}
+use Rattle.std.proofs.Common.{ℕ, ◌≡◌, ◌<◌, List, [], ◌∷◌, ◌++◌, length, map, All, arith, sym, ◌∙◌, ap, subst}
 use Rattle.std.specs.Arc.{arc_value}
 use Rattle.std.specs.List.{zip}
-use Rattle.std.specs.Vec.{vec_len, vec_capacity}
 use Rattle.std.proofs.lemmas.List.{length-map, with_items_is}
 use Rattle.ch_cost.specs.declared.cost.Cost.{Cost}
-use Rattle.ch_laws.specs.Contraction.{State, contracted}
 use Rattle.ch_laws.specs.Rows.{Row}
 use Rattle.ch_overlay.specs.Overlay.{Overlay, IsOverlay, state_of}
-use Rattle.ch_overlay.specs.Change.{Change, IsChange, IsOf, changed_nodes, puts}
-use Rattle.ch_overlay.proofs.Applied.{applied, state-applied, overlay-applied, change_in_range}
+use Rattle.ch_overlay.specs.Change.{Change, changed_nodes, puts}
+use Rattle.ch_overlay.proofs.Applied.{state-applied, overlay-applied, change_in_range}
 use Rattle.ch_overlay.proofs.Puts.{length-puts, map-puts, all-mapped, map-map}
 use Rattle.ch_overlay.proofs.Room.{order_has_room}
 use Rattle.ch_overlay.proofs.overlay.Overlay.apply.Goals as goal

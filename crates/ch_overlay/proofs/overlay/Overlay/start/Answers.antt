@@ -1,4 +1,4 @@
-use Rattle.std.proofs.Common.{ℕ, ◌≡◌, ◌+◌, ◌<◌, ◌≤◌, List, [], length, get_or, map, Contains, arith, sym, ◌∙◌, ap, subst}
+use Rattle.std.proofs.Common.{ℕ, ◌≡◌, ◌<◌, List, [], length, get_or, map, Contains, arith, sym, ◌∙◌, ap, subst}
 use Rattle.std.specs.Arc.{arc_value}
 use Rattle.std.specs.List.{range_with_len}
 use Rattle.std.proofs.lemmas.List.{length-map}
@@ -6,10 +6,10 @@ use Rattle.std.proofs.lemmas.List.FromFn.{length-range_with_len}
 use Rattle.std.proofs.lemmas.List.Elements.{All-contains}
 use Rattle.ch_cost.specs.declared.cost.Cost.{Cost}
 use Rattle.ch_graph.specs.declared.road.Road.{Road}
-use Rattle.ch_graph.specs.Graph.{Graph, IsGraph, IsRoad, bound_of}
+use Rattle.ch_graph.specs.Graph.{Graph, IsGraph, IsRoad}
 use Rattle.ch_laws.specs.Contraction.{IsStart}
 use Rattle.ch_laws.specs.Rows.{Row}
-use Rattle.ch_overlay.specs.Overlay.{Overlay, IsOverlay, row_at, state_of}
+use Rattle.ch_overlay.specs.Overlay.{IsOverlay, row_at, state_of}
 use Rattle.ch_overlay.specs.Opening.{AreLeast, opening_row}
 use Rattle.ch_overlay.proofs.Started.{starts, opens}
 use Rattle.ch_overlay.proofs.overlay.Overlay.start.Goals as goal
