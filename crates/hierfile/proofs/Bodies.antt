@@ -1,14 +1,14 @@
 -- The faults of what follows a head.
-use Rattle.std.proofs.Common.{ℕ, ◌≡◌, ◌+◌, ◌-◌, ◌*◌, ◌^◌, ◌<◌, ◌≤◌, List, [], ◌∷◌, ◌++◌, length, take, drop, Option, None, Some, All, sym, refl, ap, ◌∙◌, subst, arith, append_assoc, append-nil}
+use Rattle.std.proofs.Common.{ℕ, ◌≡◌, ◌*◌, ◌^◌, ◌<◌, List, ◌++◌, length, drop, Option, Some, All, sym, refl, ap, ◌∙◌, arith, append_assoc, append-nil}
 use Rattle.std.specs.List.{flat_map}
 use Rattle.std.proofs.Math.Seq.{drop-append_seam}
 use Rattle.ch_cost.specs.Cost.{of_length}
 use Rattle.ch_graph.specs.declared.link.Link.{Link}
 use Rattle.hierfile.specs.declared.error.HierError.{HierError}
 use Rattle.hierfile.specs.Spelling.{word, link_bytes, words_in, links_in}
-use Rattle.hierfile.specs.Fault.{◌otherwise◌, cut, rank_fault, ranks_fault, link_fault_at, links_fault, half_fault, first_along, end_fault, body_fault}
+use Rattle.hierfile.specs.Fault.{◌otherwise◌, rank_fault, ranks_fault, link_fault_at, links_fault, half_fault, first_along, end_fault, body_fault}
 use Rattle.hierfile.specs.Bytes.{NoneBelow, IsWritable}
-use Rattle.hierfile.proofs.Faults.{earlier, later, neither}
+use Rattle.hierfile.proofs.Faults.{earlier}
 use Rattle.hierfile.proofs.Spelled.{words_in-front, links_in-front, length-words, length-links}
 use Rattle.hierfile.proofs.RankFaults.{ranks_none, all_small}
 use Rattle.hierfile.proofs.LinkFaults.{links_none}
