@@ -18,16 +18,16 @@ pub body_ranks : (n k b : ℕ) (bytes : List ℕ) {e : HierError} → ranks_faul
 unfolding body_fault
 body_ranks n k b bytes h = earlier _ (earlier _ (earlier _ h))
 
-drop-words : (n : ℕ) (ranks rest : List ℕ) → length ranks ≡ n → drop (4 * n) (flat_map word ranks ++ rest) ≡ rest
+pub drop-words : (n : ℕ) (ranks rest : List ℕ) → length ranks ≡ n → drop (4 * n) (flat_map word ranks ++ rest) ≡ rest
 drop-words n ranks rest len = ap (λ m. drop m (flat_map word ranks ++ rest)) (ap (λ m. 4 * m) (sym len) ∙ sym (length-words ranks)) ∙ drop-append_seam (flat_map word ranks) rest
 
 drop-links : (k : ℕ) (links : List Link) (rest : List ℕ) → length links ≡ k → drop (20 * k) (flat_map link_bytes links ++ rest) ≡ rest
 drop-links k links rest len = ap (λ m. drop m (flat_map link_bytes links ++ rest)) (ap (λ m. 20 * m) (sym len) ∙ sym (length-links links)) ∙ drop-append_seam (flat_map link_bytes links) rest
 
-words-all : (n : ℕ) (ranks rest : List ℕ) → length ranks ≡ n → All (λ r. r < 2 ^ 32) ranks → words_in n (flat_map word ranks ++ rest) ≡ ranks
+pub words-all : (n : ℕ) (ranks rest : List ℕ) → length ranks ≡ n → All (λ r. r < 2 ^ 32) ranks → words_in n (flat_map word ranks ++ rest) ≡ ranks
 words-all n ranks rest len small = words_in-front n 0 ranks rest (omega arith) small ∙ append-nil ranks
 
-links-all : (k : ℕ) (links : List Link) (rest : List ℕ) → length links ≡ k → All IsWritable links → links_in k (flat_map link_bytes links ++ rest) ≡ links
+pub links-all : (k : ℕ) (links : List Link) (rest : List ℕ) → length links ≡ k → All IsWritable links → links_in k (flat_map link_bytes links ++ rest) ≡ links
 links-all k links rest len fits = links_in-front k 0 links rest (omega arith) fits ∙ append-nil links
 
 -- what is left of a body's fault where its ranks have none

@@ -9,6 +9,7 @@
 
 mod error;
 mod input;
+mod laws;
 mod links;
 mod output;
 mod ranks;
@@ -18,5 +19,6 @@ mod tests;
 mod writing;
 
 pub use error::{HierError, WriteFault};
+pub use laws::hierarchies_have_one_spelling;
 pub use reading::read;
 pub use writing::write;
