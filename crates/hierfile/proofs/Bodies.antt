@@ -1,14 +1,14 @@
 -- The faults of what follows a head.
-use Rattle.std.proofs.Common.{ℕ, ◌≡◌, ◌+◌, ◌-◌, ◌*◌, ◌^◌, ◌<◌, ◌≤◌, List, [], ◌∷◌, ◌++◌, length, take, drop, Option, None, Some, All, sym, refl, ap, ◌∙◌, subst, arith, append_assoc, append-nil}
+use Rattle.std.proofs.Common.{ℕ, ◌≡◌, ◌*◌, ◌^◌, ◌<◌, List, ◌++◌, length, drop, Option, Some, All, sym, refl, ap, ◌∙◌, arith, append_assoc, append-nil}
 use Rattle.std.specs.List.{flat_map}
 use Rattle.std.proofs.Math.Seq.{drop-append_seam}
 use Rattle.ch_cost.specs.Cost.{of_length}
 use Rattle.ch_graph.specs.declared.link.Link.{Link}
 use Rattle.hierfile.specs.declared.error.HierError.{HierError}
 use Rattle.hierfile.specs.Spelling.{word, link_bytes, words_in, links_in}
-use Rattle.hierfile.specs.Fault.{◌otherwise◌, cut, rank_fault, ranks_fault, link_fault_at, links_fault, half_fault, first_along, end_fault, body_fault}
+use Rattle.hierfile.specs.Fault.{◌otherwise◌, rank_fault, ranks_fault, link_fault_at, links_fault, half_fault, first_along, end_fault, body_fault}
 use Rattle.hierfile.specs.Bytes.{NoneBelow, IsWritable}
-use Rattle.hierfile.proofs.Faults.{earlier, later, neither}
+use Rattle.hierfile.proofs.Faults.{earlier}
 use Rattle.hierfile.proofs.Spelled.{words_in-front, links_in-front, length-words, length-links}
 use Rattle.hierfile.proofs.RankFaults.{ranks_none, all_small}
 use Rattle.hierfile.proofs.LinkFaults.{links_none}
@@ -18,16 +18,16 @@ pub body_ranks : (n k b : ℕ) (bytes : List ℕ) {e : HierError} → ranks_faul
 unfolding body_fault
 body_ranks n k b bytes h = earlier _ (earlier _ (earlier _ h))
 
-drop-words : (n : ℕ) (ranks rest : List ℕ) → length ranks ≡ n → drop (4 * n) (flat_map word ranks ++ rest) ≡ rest
+pub drop-words : (n : ℕ) (ranks rest : List ℕ) → length ranks ≡ n → drop (4 * n) (flat_map word ranks ++ rest) ≡ rest
 drop-words n ranks rest len = ap (λ m. drop m (flat_map word ranks ++ rest)) (ap (λ m. 4 * m) (sym len) ∙ sym (length-words ranks)) ∙ drop-append_seam (flat_map word ranks) rest
 
 drop-links : (k : ℕ) (links : List Link) (rest : List ℕ) → length links ≡ k → drop (20 * k) (flat_map link_bytes links ++ rest) ≡ rest
 drop-links k links rest len = ap (λ m. drop m (flat_map link_bytes links ++ rest)) (ap (λ m. 20 * m) (sym len) ∙ sym (length-links links)) ∙ drop-append_seam (flat_map link_bytes links) rest
 
-words-all : (n : ℕ) (ranks rest : List ℕ) → length ranks ≡ n → All (λ r. r < 2 ^ 32) ranks → words_in n (flat_map word ranks ++ rest) ≡ ranks
+pub words-all : (n : ℕ) (ranks rest : List ℕ) → length ranks ≡ n → All (λ r. r < 2 ^ 32) ranks → words_in n (flat_map word ranks ++ rest) ≡ ranks
 words-all n ranks rest len small = words_in-front n 0 ranks rest (omega arith) small ∙ append-nil ranks
 
-links-all : (k : ℕ) (links : List Link) (rest : List ℕ) → length links ≡ k → All IsWritable links → links_in k (flat_map link_bytes links ++ rest) ≡ links
+pub links-all : (k : ℕ) (links : List Link) (rest : List ℕ) → length links ≡ k → All IsWritable links → links_in k (flat_map link_bytes links ++ rest) ≡ links
 links-all k links rest len fits = links_in-front k 0 links rest (omega arith) fits ∙ append-nil links
 
 -- what is left of a body's fault where its ranks have none

@@ -1,16 +1,12 @@
 -- The bytes that wait in a buffer, and those behind them.
-use Rattle.std.proofs.Common.{ℕ, zero, suc, ◌≡◌, ◌+◌, ◌-◌, ◌<◌, ◌≤◌, List, [], ◌∷◌, ◌++◌, length, get_or, take, drop, Option, None, Some, Result, Ok, Err, inl, inr, zero-add, add-zero, sym, refl, ap, ◌∙◌, subst, arith, append_assoc, length-append}
-use Rattle.std.specs.Prelude.{IfOk, OnErr, IfErr, IfSome}
-use Rattle.std.specs.Io.{ReadsAtMost}
-use Rattle.std.specs.Io.KnownBytes.{Consumes, Keeps, IsAtEnd, ReadConsumes}
-use Rattle.std.proofs.KnownBytes.{Keeps-refl, Keeps-trans, Consumes-kept}
-use Rattle.std.proofs.lemmas.List.{drop-take, take-append-le, take-append-drop, length-take-le, length-take, length-drop, get_or-drop, get_or-take, get_or_read, get_or_past}
-use Rattle.std.proofs.lemmas.Bool.{cases_lt}
+use Rattle.std.proofs.Common.{ℕ, zero, suc, ◌≡◌, ◌+◌, ◌-◌, ◌<◌, ◌≤◌, List, [], ◌∷◌, ◌++◌, length, get_or, take, drop, Option, None, Some, zero-add, add-zero, sym, refl, ap, ◌∙◌, subst, arith, append_assoc}
+use Rattle.std.specs.Io.KnownBytes.{Consumes, Keeps}
+use Rattle.std.proofs.lemmas.List.{drop-take, take-append-le, take-append-drop, length-take-le, length-drop, get_or-drop, get_or-take, get_or_read}
 use Rattle.std.proofs.lemmas.List.Edits.{take-paste}
 use Rattle.std.proofs.lemmas.Slice.{take-put_mid_below}
 use Rattle.std.proofs.Math.Seq.{paste, take-add, drop-append_seam}
 use borrow.Rule.Slice.PartMut.{put_mid, post_of}
-use Rattle.std.specs.Int.{w32, w64, to_be_bytes, from_be_bytes}
+use Rattle.std.specs.Int.{w32, w64, from_be_bytes}
 use Rattle.std.proofs.lemmas.Nat.{be_bytes_4, be_bytes_8}
 use Rattle.hierfile.specs.Spelling.{word, long}
 use Rattle.hierfile.specs.Bytes.{coming}

@@ -1,12 +1,12 @@
 -- How faults of parts are faults of the whole.
-use Rattle.std.proofs.Common.{ℕ, zero, suc, ◌≡◌, ◌+◌, ◌*◌, ◌<◌, ◌≤◌, List, [], ◌∷◌, ◌++◌, length, get_or, take, drop, Option, None, Some, Result, Ok, Err, sym, refl, ap, ◌∙◌, subst, arith, inl, inr, append_assoc, length-append, Bool, true, false}
-use Rattle.std.specs.Prelude.{IfErr, IfOk, IfSome, IsErrAnd, nat_lt}
-use Rattle.std.specs.Io.KnownBytes.{Consumes, Keeps, IsAtEnd}
-use Rattle.std.proofs.lemmas.Bool.{cases_lt, ltb-true, lt-ltb}
+use Rattle.std.proofs.Common.{ℕ, zero, suc, ◌≡◌, ◌+◌, ◌<◌, ◌≤◌, List, ◌++◌, length, Option, None, Some, Result, Ok, Err, sym, refl, subst, arith, inl, inr, length-append}
+use Rattle.std.specs.Prelude.{IfErr, IfSome, IsErrAnd}
+use Rattle.std.specs.Io.KnownBytes.{Consumes}
+use Rattle.std.proofs.lemmas.Bool.{cases_lt}
 use Rattle.std.proofs.lemmas.Bool.Decides.{nat_tests}
 use Rattle.hierfile.specs.declared.error.HierError.{HierError}
 use Rattle.hierfile.specs.declared.error.HierError.TheVariants.{OutOfMemory, Read, BadMagic, Truncated, TooBig, BoundTooBig, RankRange, RankTwice, LinkEnds, LinkOrder, LinkWeight, MiddleRange, MiddleRank, HalfMissing, HalfSum, Trailing}
-use Rattle.hierfile.specs.Fault.{◌otherwise◌, fault_if, first_below, cut}
+use Rattle.hierfile.specs.Fault.{◌otherwise◌, first_below, cut}
 use Rattle.hierfile.specs.Bytes.{OfBytes, IsFaultOf, NoneBelow}
 
 -- Parts and the whole

@@ -1,5 +1,5 @@
 -- Links by their ends, and the halves of a link.
-use Rattle.std.proofs.Common.{ℕ, zero, suc, ◌≡◌, ◌+◌, ◌<◌, ◌≤◌, ◌==◌, Bool, true, false, cond, ◌&&◌, not, List, [], ◌∷◌, length, get_or, Option, None, Some, AllPairs, inl, inr, sym, refl, ap, ◌∙◌, subst, arith}
+use Rattle.std.proofs.Common.{ℕ, zero, suc, ◌≡◌, ◌+◌, ◌==◌, Bool, true, false, cond, not, List, [], ◌∷◌, get_or, Option, None, Some, AllPairs, inl, inr, sym, refl, ap, ◌∙◌, subst, arith}
 use Rattle.std.specs.List.{find}
 use Rattle.std.specs.Option.{option_map}
 use Rattle.std.proofs.lemmas.Bool.Decides.{nat_tests}
@@ -7,9 +7,8 @@ use Rattle.ch_cost.specs.declared.cost.Cost.{Cost}
 use Rattle.ch_cost.specs.Cost.{length_of}
 use Rattle.ch_graph.specs.declared.link.Link.{Link}
 use Rattle.ch_graph.specs.Hierarchy.{ComesBefore, IsLinkAt}
-use Rattle.hierfile.specs.declared.error.HierError.{HierError}
 use Rattle.hierfile.specs.declared.error.HierError.TheVariants.{HalfMissing, HalfSum}
-use Rattle.hierfile.specs.Fault.{leads, sum_fault, fault_if, half_fault}
+use Rattle.hierfile.specs.Fault.{leads, sum_fault, fault_if}
 
 pub leads-from : (x y : ℕ) (l : Link) → l.from ≡ x → l.to ≡ y → leads x y l ≡ true
 leads-from x y l e f = grind (arith, nat_tests)

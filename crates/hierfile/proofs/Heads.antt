@@ -1,11 +1,10 @@
 -- What the bytes of a head say.
-use Rattle.std.proofs.Common.{ℕ, ◌≡◌, ◌+◌, ◌*◌, ◌^◌, ◌<◌, ◌≤◌, List, [], ◌∷◌, ◌++◌, length, take, drop, Option, None, Some, sym, refl, ap, ◌∙◌, subst, arith, length-append}
+use Rattle.std.proofs.Common.{ℕ, ◌≡◌, ◌+◌, ◌^◌, ◌<◌, ◌≤◌, List, ◌++◌, length, drop, Option, None, Some, sym, refl, subst, arith, length-append}
 use Rattle.std.proofs.lemmas.Nat.{from_be_bytes-to_be_bytes_4, from_be_bytes-to_be_bytes_8}
 use Rattle.hierfile.specs.declared.error.HierError.{HierError}
-use Rattle.hierfile.specs.Spelling.{magic, word, long, word_in, long_in}
-use Rattle.hierfile.specs.Fault.{◌otherwise◌, cut, magic_fault, size_fault, head_fault}
-use Rattle.hierfile.proofs.Faults.{earlier, later, neither, cut_behind, cut_none}
-use Rattle.hierfile.proofs.Spelled.{length-word, length-long}
+use Rattle.hierfile.specs.Spelling.{word, long, word_in, long_in}
+use Rattle.hierfile.specs.Fault.{◌otherwise◌, cut, size_fault, head_fault}
+use Rattle.hierfile.proofs.Faults.{earlier, cut_behind, cut_none}
 
 -- the numbers of a head
 abbrev pub sizes : ℕ → ℕ → ℕ → List ℕ

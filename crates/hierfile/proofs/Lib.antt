@@ -9,3 +9,4 @@ pub mod WellMade
 pub mod Bodies
 pub mod Whole
 pub mod Handing
+pub mod OneSpelling

@@ -1,5 +1,5 @@
 -- Faults among links that were read.
-use Rattle.std.proofs.Common.{ℕ, zero, suc, ◌≡◌, ◌+◌, ◌-◌, ◌*◌, ◌^◌, ◌<◌, ◌≤◌, List, [], ◌∷◌, ◌++◌, length, get_or, take, drop, Option, None, Some, All, inl, inr, sym, refl, ap, ◌∙◌, subst, arith, length-append}
+use Rattle.std.proofs.Common.{ℕ, zero, suc, ◌≡◌, ◌+◌, ◌-◌, ◌*◌, ◌<◌, ◌≤◌, List, [], ◌∷◌, ◌++◌, length, take, Option, None, Some, All, inl, inr, sym, refl, ap, ◌∙◌, subst, arith, length-append}
 use Rattle.std.specs.List.{flat_map, slice_get}
 use Rattle.std.specs.Option.{option_and_then}
 use Rattle.std.proofs.lemmas.Bool.{cases_lt}
@@ -10,7 +10,7 @@ use Rattle.ch_cost.specs.declared.cost.Cost.{Cost}
 use Rattle.ch_graph.specs.declared.link.Link.{Link}
 use Rattle.hierfile.specs.declared.error.HierError.{HierError}
 use Rattle.hierfile.specs.Spelling.{link_bytes, links_in}
-use Rattle.hierfile.specs.Fault.{◌otherwise◌, cut, first_below, link_fault, link_fault_at, links_fault}
+use Rattle.hierfile.specs.Fault.{◌otherwise◌, cut, link_fault, link_fault_at, links_fault}
 use Rattle.hierfile.specs.Bytes.{NoneBelow, IsWritable}
 use Rattle.hierfile.proofs.Faults.{earlier, first_at, none_below, cut_behind, cut_none}
 use Rattle.hierfile.proofs.Spelled.{links_in-front, length-links}

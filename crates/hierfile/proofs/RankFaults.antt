@@ -1,18 +1,17 @@
 -- Faults among ranks that were read.
-use Rattle.std.proofs.Common.{ℕ, zero, suc, ◌≡◌, ◌+◌, ◌-◌, ◌*◌, ◌^◌, ◌<◌, ◌≤◌, List, [], ◌∷◌, ◌++◌, length, get_or, take, drop, Bool, ◌==◌, Option, None, Some, All, inl, inr, sym, refl, ap, ◌∙◌, subst, arith, length-append, append-nil}
+use Rattle.std.proofs.Common.{ℕ, ◌≡◌, ◌+◌, ◌-◌, ◌*◌, ◌^◌, ◌<◌, ◌≤◌, List, [], ◌∷◌, ◌++◌, length, get_or, take, Bool, ◌==◌, Option, None, Some, All, inl, inr, sym, ap, ◌∙◌, subst, arith, length-append}
 use Rattle.std.specs.List.{flat_map, list_any}
 use Rattle.std.proofs.lemmas.Bool.{cases_lt, le-leb}
 use Rattle.std.proofs.lemmas.Grind.{get_or_default_zero}
-use Rattle.std.proofs.lemmas.Bool.Decides.{nat_tests}
 use Rattle.std.proofs.lemmas.List.{take-append-le, get_or_append_left}
 use Rattle.std.proofs.lemmas.List.Elements.{All-push}
 use Rattle.std.proofs.Math.Seq.{get_or-append_seam, take-append_seam}
 use Rattle.hierfile.specs.declared.error.HierError.{HierError}
 use Rattle.hierfile.specs.declared.error.HierError.TheVariants.{RankRange, RankTwice}
 use Rattle.hierfile.specs.Spelling.{word, words_in}
-use Rattle.hierfile.specs.Fault.{◌otherwise◌, fault_if, cut, first_below, rank_test, rank_fault, ranks_fault}
+use Rattle.hierfile.specs.Fault.{◌otherwise◌, fault_if, cut, rank_test, rank_fault, ranks_fault}
 use Rattle.hierfile.specs.Bytes.{NoneBelow}
-use Rattle.hierfile.proofs.Faults.{earlier, later, neither, first_at, none_below, cut_behind, cut_none}
+use Rattle.hierfile.proofs.Faults.{earlier, first_at, none_below, cut_behind, cut_none}
 use Rattle.hierfile.proofs.Spelled.{words_in-front, length-words}
 
 out_of_range : (n : ℕ) (before : List ℕ) (rank : ℕ) → n ≤ rank → rank_test n before rank ≡ None → ⊥

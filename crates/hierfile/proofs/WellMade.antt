@@ -1,5 +1,5 @@
 -- Without faults a hierarchy is well made.
-use Rattle.std.proofs.Common.{ℕ, zero, suc, ◌≡◌, ◌≢◌, ◌+◌, ◌-◌, ◌*◌, ◌^◌, ◌<◌, ◌≤◌, ◌⊎◌, ◌==◌, ◌||◌, ◌&&◌, not, Bool, true, false, cond, List, [], ◌∷◌, length, get_or, take, Option, None, Some, All, AllPairs, Contains, inl, inr, sym, refl, ap, ◌∙◌, subst, arith}
+use Rattle.std.proofs.Common.{ℕ, zero, suc, ◌≡◌, ◌≢◌, ◌+◌, ◌-◌, ◌*◌, ◌^◌, ◌<◌, ◌≤◌, ◌==◌, ◌||◌, ◌&&◌, not, Bool, true, false, cond, List, [], ◌∷◌, length, get_or, take, Option, None, Some, All, AllPairs, Contains, inl, inr, sym, refl, ap, ◌∙◌, subst, arith}
 use Rattle.std.specs.Prelude.{nat_lt, nat_le, slice_index, slice_get, option_and_then}
 use Rattle.std.specs.List.{list_any, find}
 use Rattle.std.proofs.lemmas.Bool.{cases_lt}
@@ -8,13 +8,13 @@ use Rattle.std.proofs.lemmas.Grind.{get_or_default_zero}
 use Rattle.std.proofs.lemmas.List.{length-take-le, get_or-take}
 use Rattle.std.proofs.lemmas.List.Folds.{list_any_at}
 use Rattle.ch_cost.specs.declared.cost.Cost.{Cost}
-use Rattle.ch_cost.specs.Cost.{zero_cost, ◌⊕◌, ◌≺◌, cost_of_arcs, length_of, of_length, IsWithin}
+use Rattle.ch_cost.specs.Cost.{zero_cost, ◌⊕◌, cost_of_arcs, length_of, of_length}
 use Rattle.ch_cost.specs.Cost.Laws.{length_of-zero_cost, length_of-sum}
 use Rattle.ch_cost.specs.Cost.Lengths.{length_of-of_length, of_length-length_of, length_of-cost_of_arcs, below-from_lengths, within-from_lengths}
 use Rattle.ch_graph.specs.declared.link.Link.{Link}
-use Rattle.ch_graph.specs.Hierarchy.{Hierarchy, IsWellMade, IsLinkWellMade, AreHalves, IsLink, ComesBefore}
+use Rattle.ch_graph.specs.Hierarchy.{Hierarchy, IsWellMade, AreHalves, ComesBefore}
 use Rattle.hierfile.specs.declared.error.HierError.{HierError}
-use Rattle.hierfile.specs.declared.error.HierError.TheVariants.{RankTwice, RankRange, LinkEnds, LinkOrder, LinkWeight, MiddleRange, MiddleRank, HalfMissing, HalfSum, TooBig, BoundTooBig}
+use Rattle.hierfile.specs.declared.error.HierError.TheVariants.{RankTwice, RankRange, LinkEnds, LinkOrder, LinkWeight, MiddleRange, MiddleRank, HalfSum, TooBig, BoundTooBig}
 use Rattle.hierfile.specs.Fault.{◌otherwise◌, fault_if, size_fault, rank_test, rank_fault, link_fault, link_fault_at, middle_fault, is_before, is_in_order, half_fault, halves_fault, sum_fault, leads, first_along}
 use Rattle.hierfile.specs.Bytes.{NoneBelow}
 use Rattle.hierfile.proofs.Faults.{first_none, second_none}

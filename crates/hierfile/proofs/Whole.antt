@@ -1,5 +1,5 @@
 -- The faults of a whole file.
-use Rattle.std.proofs.Common.{ℕ, zero, suc, ◌≡◌, ◌+◌, ◌*◌, ◌^◌, ◌<◌, ◌≤◌, List, [], ◌∷◌, ◌++◌, length, drop, Option, None, Some, sym, refl, ap, ◌∙◌, subst, arith, append_assoc, length-append}
+use Rattle.std.proofs.Common.{ℕ, zero, suc, ◌≡◌, ◌+◌, ◌^◌, ◌<◌, List, [], ◌++◌, length, drop, Option, None, Some, sym, refl, ap, ◌∙◌, subst, arith, append_assoc}
 use Rattle.std.specs.Prelude.{IfSome, not, ◌==◌, slice_index}
 use Rattle.std.specs.List.{flat_map}
 use Rattle.std.specs.Io.KnownBytes.{Consumes}
@@ -8,8 +8,8 @@ use Rattle.ch_cost.specs.Cost.{length_of}
 use Rattle.ch_graph.specs.Hierarchy.{Hierarchy}
 use Rattle.hierfile.specs.declared.error.HierError.{HierError}
 use Rattle.hierfile.specs.declared.error.HierError.TheVariants.{BadMagic}
-use Rattle.hierfile.specs.Spelling.{magic, word, long, word_in, long_in, link_bytes, head_bytes, bytes_of}
-use Rattle.hierfile.specs.Fault.{◌otherwise◌, cut, magic_fault, head_fault, size_fault, body_fault, first_fault, first_below, fault_if}
+use Rattle.hierfile.specs.Spelling.{magic, word, word_in, long_in, link_bytes, head_bytes, bytes_of}
+use Rattle.hierfile.specs.Fault.{◌otherwise◌, cut, magic_fault, head_fault, size_fault, body_fault, first_fault, fault_if}
 use Rattle.hierfile.specs.Bytes.{coming, IsBodyOf, IsFaultOf}
 use Rattle.hierfile.proofs.Faults.{earlier, later, neither, none_below, cut_none}
 use Rattle.hierfile.proofs.Heads.{sizes, head_fault-sizes, nodes-sizes, links-sizes, bound-sizes, drop-sizes}

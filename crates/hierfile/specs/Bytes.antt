@@ -6,7 +6,7 @@ use Rattle.ch_cost.specs.Cost.{length_of}
 use Rattle.ch_graph.specs.declared.link.Link.{Link}
 use Rattle.ch_graph.specs.Hierarchy.{Hierarchy}
 use Rattle.hierfile.specs.declared.error.HierError.{HierError}
-use Rattle.hierfile.specs.declared.error.HierError.TheVariants.{OutOfMemory, Read, BadMagic, Truncated, TooBig, BoundTooBig, RankRange, RankTwice, LinkEnds, LinkOrder, LinkWeight, MiddleRange, MiddleRank, HalfMissing, HalfSum, Trailing}
+use Rattle.hierfile.specs.declared.error.HierError.TheVariants.{OutOfMemory, Read}
 
 -- the bytes that are still to come: those that wait in the buffer, and then the reader's
 abbrev pub coming : List ℕ → Option (List ℕ) → Option (List ℕ)

@@ -1,11 +1,11 @@
 -- The first fault of the bytes of a file, in the order in which faults are told.
-use Rattle.std.specs.Prelude.{ℕ, zero, suc, ◌≡◌, ◌+◌, ◌-◌, ◌*◌, ◌^◌, ◌==◌, Bool, not, ◌||◌, ◌&&◌, nat_lt, nat_le, List, [], ◌∷◌, length, drop, take, Option, Some, None, if◌then◌else◌, slice_index, slice_get, option_and_then, true}
+use Rattle.std.specs.Prelude.{ℕ, zero, suc, ◌+◌, ◌-◌, ◌*◌, ◌^◌, ◌==◌, Bool, not, ◌||◌, ◌&&◌, nat_lt, nat_le, List, [], ◌∷◌, length, drop, take, Option, Some, None, if◌then◌else◌, slice_index, slice_get, option_and_then, true}
 use Rattle.std.specs.List.{list_any, find}
 use Rattle.ch_cost.specs.declared.cost.Cost.{Cost}
 use Rattle.ch_cost.specs.Cost.{length_of, of_length}
 use Rattle.ch_graph.specs.declared.link.Link.{Link}
 use Rattle.hierfile.specs.declared.error.HierError.{HierError}
-use Rattle.hierfile.specs.declared.error.HierError.TheVariants.{OutOfMemory, Read, BadMagic, Truncated, TooBig, BoundTooBig, RankRange, RankTwice, LinkEnds, LinkOrder, LinkWeight, MiddleRange, MiddleRank, HalfMissing, HalfSum, Trailing}
+use Rattle.hierfile.specs.declared.error.HierError.TheVariants.{BadMagic, Truncated, TooBig, BoundTooBig, RankRange, RankTwice, LinkEnds, LinkOrder, LinkWeight, MiddleRange, MiddleRank, HalfMissing, HalfSum, Trailing}
 use Rattle.hierfile.specs.Spelling.{magic, word_in, long_in, words_in, links_in}
 
 infixl 20 ◌otherwise◌

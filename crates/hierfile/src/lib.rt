@@ -2,13 +2,14 @@
 //!
 //! Stands on `ch_graph` for hierarchies and links and on `ch_cost` for lengths; numbers are written by `byteorder`.
 //! [`write`] and [`read`] carry its promise: what is written is the spelling of the hierarchy (`bytes_of` in
-//! `specs/Spelling.antt`), and what is read is a hierarchy exactly where the bytes are its spelling, else their first
-//! fault (`first_fault` in `specs/Fault.antt`). [`faultless_bytes_spell_hierarchies`] and
-//! [`hierarchies_have_one_spelling`] say that these two definitions fit together.
+//! `specs/Spelling.antt`); what is read is a hierarchy whose spelling the bytes are, and what is refused has the
+//! first fault that is told (`first_fault` in `specs/Fault.antt`). [`hierarchies_have_one_spelling`] says that a
+//! hierarchy can be told by its bytes, so that what is read is what was written.
 #![tactic(auto)]
 
 mod error;
 mod input;
+mod laws;
 mod links;
 mod output;
 mod ranks;
@@ -18,5 +19,6 @@ mod tests;
 mod writing;
 
 pub use error::{HierError, WriteFault};
+pub use laws::hierarchies_have_one_spelling;
 pub use reading::read;
 pub use writing::write;

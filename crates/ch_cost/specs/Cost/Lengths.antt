@@ -2,7 +2,7 @@
 -- and reads them back, rests on them.
 use Rattle.std.specs.Prelude.{ℕ, ◌≡◌, ◌*◌, ◌<◌, ◌≤◌, refl}
 use Rattle.ch_cost.specs.declared.cost.Cost.{Cost}
-use Rattle.ch_cost.specs.Cost.{zero_cost, cost_of_arcs, length_of, of_length, ◌≼◌, ◌≺◌, IsWithin}
+use Rattle.ch_cost.specs.Cost.{cost_of_arcs, length_of, of_length, ◌≺◌, IsWithin}
 
 pub length_of-of_length : (n : ℕ) → length_of (of_length n) ≡ n
 unfolding length_of of_length

@@ -1,5 +1,4 @@
-use Rattle.std.proofs.Common.{◌≡◌, Some, Option, ℕ, sym, ◌∙◌, ap}
-use Rattle.std.specs.Option.{option_map}
+use Rattle.std.proofs.Common.{Some, ℕ, sym, ◌∙◌, ap}
 use Rattle.hierfile.proofs.Halves.{find-at, find-none, length_in}
 use Rattle.hierfile.proofs.links.length_between.Goals as goal
 

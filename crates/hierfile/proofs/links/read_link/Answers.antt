@@ -1,10 +1,9 @@
-use Rattle.std.proofs.Common.{◌+◌, ◌++◌, ◌≤◌, ◌≡◌, length, rules, arith, ◌∙◌, ap, sym, subst, length-append, append_assoc}
+use Rattle.std.proofs.Common.{◌+◌, ◌++◌, ◌≤◌, length, arith, length-append}
 use Rattle.std.proofs.KnownBytes.{Consumes-trans}
 use Rattle.hierfile.proofs.Faults.{hands_on, behind, cut_behind}
 use Rattle.hierfile.proofs.Spelled.{length-word, length-long}
 use Rattle.hierfile.specs.Spelling.{word, long, link_bytes}
 use Rattle.hierfile.specs.Fault.{cut}
-use Rattle.hierfile.specs.Bytes.{IsFaultOf, coming}
 use Rattle.ch_cost.specs.Cost.Lengths.{length_of-of_length}
 use Rattle.hierfile.proofs.links.read_link.Goals as goal
 

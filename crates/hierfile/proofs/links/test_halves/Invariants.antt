@@ -1,4 +1,4 @@
-use Rattle.std.proofs.Common.{◌≡◌, take, drop}
+use Rattle.std.proofs.Common.{◌≡◌, drop}
 use Rattle.hierfile.specs.Fault.{first_along, half_fault}
 use Rattle.hierfile.proofs.links.test_halves.Given as goal
 

@@ -1,4 +1,4 @@
-use Rattle.std.proofs.Common.{ℕ, ◌+◌, ◌-◌, ◌*◌, ◌≤◌, length, take}
+use Rattle.std.proofs.Common.{◌+◌, ◌-◌, ◌*◌, ◌≤◌, length, take}
 use Rattle.std.specs.Io.KnownBytes.{Appends}
 use Rattle.hierfile.specs.declared.output.TheConstants.{CALLS}
 use Rattle.hierfile.proofs.output.write_bytes.Given as goal

@@ -4,7 +4,7 @@ use Rattle.std.proofs.lemmas.List.{flat_map_more}
 use Rattle.std.specs.Io.KnownBytes.{Consumes}
 use Rattle.std.proofs.KnownBytes.{Consumes-trans}
 use Rattle.hierfile.specs.Spelling.{word}
-use Rattle.hierfile.specs.Fault.{cut, rank_fault, rank_test, ranks_fault}
+use Rattle.hierfile.specs.Fault.{cut, rank_fault, ranks_fault}
 use Rattle.hierfile.specs.Bytes.{NoneBelow, coming}
 use Rattle.hierfile.proofs.Faults.{hands_on, behind, found}
 use Rattle.hierfile.proofs.RankFaults.{ranks_cut, ranks_stop, none-push}

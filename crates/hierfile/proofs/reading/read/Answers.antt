@@ -1,9 +1,9 @@
-use Rattle.std.proofs.Common.{ℕ, ◌≡◌, ◌++◌, [], sym, ◌∙◌, ap, subst, arith}
+use Rattle.std.proofs.Common.{◌≡◌, ◌++◌, [], subst, arith}
 use Rattle.std.specs.Prelude.{IfSome}
 use Rattle.std.proofs.KnownBytes.{Consumes-trans, Consumes-nil}
 use Rattle.hierfile.specs.Spelling.{magic, bytes_of}
 use Rattle.hierfile.specs.Fault.{magic_fault, head_fault, body_fault, first_fault}
-use Rattle.hierfile.specs.Bytes.{coming, IsFaultOf}
+use Rattle.hierfile.specs.Bytes.{coming}
 use Rattle.hierfile.proofs.Faults.{hands_on, behind}
 use Rattle.hierfile.proofs.Heads.{sizes}
 use Rattle.hierfile.proofs.Whole.{from_start, first_magic, first_head, first_body, nothing_waits, spelled_whole}

@@ -1,11 +1,11 @@
-use Rattle.std.proofs.Common.{ℕ, ◌≡◌, ◌+◌, ◌-◌, ◌^◌, ◌++◌, ◌∷◌, [], ◌<◌, ◌≤◌, List, length, sym, refl, ◌∙◌, ap, subst, arith, None, Some, AllPairs}
+use Rattle.std.proofs.Common.{ℕ, ◌^◌, ◌++◌, [], ◌<◌, List, length, sym, ◌∙◌, ap, subst, arith, AllPairs}
 use Rattle.std.specs.List.{flat_map}
 use Rattle.std.proofs.KnownBytes.{Consumes-trans, Consumes-nil}
 use Rattle.ch_cost.specs.declared.cost.Cost.{Cost}
 use Rattle.ch_cost.specs.Cost.{of_length, length_of}
 use Rattle.ch_cost.specs.Cost.Lengths.{length_of-of_length}
 use Rattle.ch_graph.specs.declared.link.Link.{Link}
-use Rattle.ch_graph.specs.Hierarchy.{ComesBefore, IsWellMade}
+use Rattle.ch_graph.specs.Hierarchy.{ComesBefore}
 use Rattle.hierfile.specs.Spelling.{word, link_bytes}
 use Rattle.hierfile.specs.Fault.{link_fault_at, links_fault, ranks_fault, half_fault, first_along, end_fault, body_fault}
 use Rattle.hierfile.specs.Bytes.{NoneBelow}

@@ -1,11 +1,10 @@
-use Rattle.std.proofs.Common.{◌+◌, ◌++◌, ◌≤◌, ◌≡◌, ◌∙◌, length, arith, length-append}
+use Rattle.std.proofs.Common.{◌+◌, ◌++◌, ◌≤◌, ◌∙◌, length, arith, length-append}
 use Rattle.std.proofs.KnownBytes.{Consumes-trans}
 use Rattle.hierfile.proofs.Faults.{hands_on, behind, found}
 use Rattle.hierfile.proofs.Spelled.{length-word, length-long}
 use Rattle.hierfile.proofs.Heads.{sizes, head_cut, head_fault-sizes}
 use Rattle.hierfile.specs.Spelling.{word, long}
 use Rattle.hierfile.specs.Fault.{cut, head_fault}
-use Rattle.hierfile.specs.Bytes.{OfBytes}
 use Rattle.hierfile.proofs.Faults.{of_bytes}
 use Rattle.hierfile.proofs.reading.read_head.Goals as goal
 

@@ -1,6 +1,5 @@
-use Rattle.std.proofs.Common.{ℕ, ◌≡◌, ◌++◌, List, [], length, refl, sym, ap, ◌∙◌, subst, append-nil, append_assoc}
+use Rattle.std.proofs.Common.{ℕ, ◌++◌, List, [], refl, sym, subst, append-nil, append_assoc}
 use Rattle.hierfile.specs.Spelling.{word, long, link_bytes, middle_number}
-use Rattle.hierfile.specs.Bytes.{Gathered, IsPartOf}
 use Rattle.hierfile.proofs.Faults.{hands_on}
 use Rattle.hierfile.proofs.Handing.{Handed, handed_then, part_then, part_none}
 use Rattle.ch_cost.specs.Cost.{length_of}

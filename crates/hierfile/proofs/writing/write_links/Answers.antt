@@ -1,10 +1,8 @@
-use Rattle.std.proofs.Common.{ℕ, ◌≡◌, ◌+◌, ◌++◌, ◌<◌, List, length, get_or, take, drop, sym, subst, arith}
+use Rattle.std.proofs.Common.{ℕ, ◌+◌, ◌<◌, List, length, get_or, take, drop, subst, arith}
 use Rattle.std.specs.List.{flat_map}
-use Rattle.ch_graph.specs.declared.link.Link.{Link}
 use Rattle.hierfile.specs.Spelling.{link_bytes}
-use Rattle.hierfile.specs.Bytes.{IsPartOf}
 use Rattle.hierfile.proofs.Faults.{hands_on}
-use Rattle.hierfile.proofs.Handing.{Handed, handed_then, part_then, part_none, spelled-more, spelled-parts}
+use Rattle.hierfile.proofs.Handing.{Handed, handed_then, part_then, spelled-more, spelled-parts}
 use Rattle.hierfile.proofs.writing.write_links.Goals as goal
 
 pub returns-in_err-write_link-clause-err : goal.returns-in_err-write_link-clause-err

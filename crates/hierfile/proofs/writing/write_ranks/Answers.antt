@@ -1,6 +1,5 @@
-use Rattle.std.proofs.Common.{ℕ, ◌≡◌, ◌+◌, ◌++◌, ◌<◌, List, length, get_or, take, drop, sym, subst, arith}
+use Rattle.std.proofs.Common.{ℕ, ◌+◌, ◌<◌, List, length, get_or, take, drop, subst, arith}
 use Rattle.std.specs.List.{flat_map}
-use Rattle.ch_graph.specs.declared.link.Link.{Link}
 use Rattle.hierfile.specs.Spelling.{word}
 use Rattle.hierfile.specs.Bytes.{IsPartOf}
 use Rattle.hierfile.proofs.Faults.{hands_on}

@@ -1,5 +1,4 @@
-use Rattle.std.proofs.Common.{ℕ, ◌≡◌, ◌+◌, ◌-◌, ◌≤◌, ◌++◌, List, length, take, ap, ◌∙◌, arith}
-use Rattle.std.proofs.lemmas.List.{length-take-le}
+use Rattle.std.proofs.Common.{ℕ, ◌≡◌, ◌-◌, ◌≤◌, ◌++◌, List, length, take, ap, ◌∙◌, arith}
 use Rattle.hierfile.specs.Spelling.{long}
 use Rattle.hierfile.specs.Bytes.{Gathered}
 use Rattle.hierfile.proofs.Buffer.{put_behind}
