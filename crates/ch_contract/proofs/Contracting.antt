@@ -1,0 +1,135 @@
+-- One contraction of a board: the change that was planned makes a lawful step, and the versions stay in order.
+use Rattle.std.proofs.Common.{ℕ, ◌≡◌, ◌+◌, ◌*◌, ◌^◌, ◌<◌, ◌≤◌, ◌↔◌, List, [], ◌∷◌, ◌++◌, AllPairs, All, Contains, Some, length, map, drop, get_or, slice_index_or, slice_set, mul-le-mul, arith, ap, sym, subst, refl, ◌∙◌}
+use Rattle.std.specs.List.{range_with_len, zip}
+use Rattle.std.proofs.lemmas.List.{length-map}
+use Rattle.std.proofs.lemmas.List.Elements.{Contains-get_or, All-map, All-cons, All-head, All-tail, All-set}
+use Rattle.std.proofs.lemmas.List.FromFn.{get_or-range_with_len, length-range_with_len}
+use Rattle.std.proofs.lemmas.List.Kept.{AllPairs-cons}
+use Rattle.ch_contract.proofs.Ranges.{AllPairs-head, AllPairs-tail, rising_below-short}
+use Rattle.ch_graph.specs.Graph.{bound_of}
+use Rattle.ch_cost.specs.declared.cost.Cost.{Cost}
+use Rattle.ch_laws.specs.declared.shortcut.Shortcut.{Shortcut}
+use Rattle.ch_laws.specs.Contraction.{State, Contraction, Step, Puts, IsPlan, IsNeighbour, contracted}
+use Rattle.ch_laws.specs.Rows.{Row}
+use Rattle.ch_laws.proofs.Lawful.{plan_is_lawful, reaches_on}
+use Rattle.ch_overlay.specs.Overlay.{Overlay, IsOverlay, row_at, state_of}
+use Rattle.ch_overlay.specs.Change.{Change, IsChange, puts, changed_nodes}
+use Rattle.ch_contract.specs.Board.{Board, IsBoard, AreLawful, Contracts, IsContracted, receipt_of}
+
+-- the entry of the contraction of a node by a change that puts these shortcuts in
+pub entry_of : Board → List Shortcut → Change → Contraction
+entry_of b put c = record { node = c.node; rank = length b.overlay.order; neighbours = map (λ (a : ℕ × Row). a.0) (drop 1 c.rows); shortcuts = length put }
+
+pairs-map : {X : Type 0} (f : X → ℕ) (xs : List X) → AllPairs (λ a b. f a < f b) xs → AllPairs (λ x y. x < y) (map f xs)
+pairs-map f [] rises = λ i j d low high. absurd (omega (arith, high))
+pairs-map f (x ∷ xs) rises = AllPairs-cons (λ y z. y < z) (f x) (map f xs) (All-map (λ y. f x < y) f xs (AllPairs-head (λ a b. f a < f b) x xs rises)) (pairs-map f xs (AllPairs-tail (λ a b. f a < f b) x xs rises))
+
+-- a change that was planned is a lawful step to the state that it makes
+pub steps : (b : Board) (put : List Shortcut) (c : Change) (new : State) → IsBoard b → AreLawful b c.node put → IsChange b.overlay put c → new ≡ contracted (state_of b.overlay) c.node put → Step (bound_of b.graph) (state_of b.overlay) (entry_of b put c) new
+unfolding entry_of
+steps b put c new is lawful planned made =
+    let others_is : drop 1 c.rows ≡ planned.others = ap (drop 1) planned.rows in
+    let puts_it : Puts b.overlay.bound (state_of b.overlay) c.node put (contracted (state_of b.overlay) c.node put) = plan_is_lawful b.overlay.bound (state_of b.overlay) c.node put lawful.plan lawful.witnessed in
+    let by_bound : Puts (bound_of b.graph) (state_of b.overlay) c.node put (contracted (state_of b.overlay) c.node put) = subst (λ (bound : Cost). Puts bound (state_of b.overlay) c.node put (contracted (state_of b.overlay) c.node put)) is.bound puts_it in
+    record {
+      put = put;
+      puts = subst (λ (s : State). Puts (bound_of b.graph) (state_of b.overlay) c.node put s) (sym made) by_bound;
+      rank = refl;
+      shortcuts = refl;
+      rising = rw others_is (pairs-map (λ (a : ℕ × Row). a.0) planned.others planned.rising);
+      neighbours = λ x. rw others_is (planned.neighbours x);
+    }
+
+-- what holds of each element and of each that is put holds afterwards
+puts-all : {A : Type 0} (P : A → Type 0) (xs : List A) (ps : List (ℕ × A)) → All P xs → All (λ (p : ℕ × A). P p.1) ps → All P (puts xs ps)
+puts-all P xs [] all each = all
+puts-all {A} P xs (p ∷ ps) all each = puts-all P (slice_set xs p.0 p.1) ps (All-set P xs p.0 p.1 (All-head (λ (q : ℕ × A). P q.1) p ps each) all) (All-tail (λ (q : ℕ × A). P q.1) p ps each)
+
+-- what holds of each second holds of a zip
+zip-all : (P : ℕ → Type 0) (ks vs : List ℕ) → All P vs → All (λ (p : ℕ × ℕ). P p.1) (zip ks vs)
+zip-all P [] vs each = λ k d h. absurd (omega (arith, h))
+zip-all P (k ∷ ks) [] each = λ i d h. absurd (omega (arith, h))
+zip-all P (k ∷ ks) (v ∷ vs) each = All-cons (λ (p : ℕ × ℕ). P p.1) (k, v) (zip ks vs) (All-head P v vs each) (zip-all P ks vs (All-tail P v vs each))
+
+-- the versions of a range are from its first number on and below its end
+range-within : (first count : ℕ) → All (λ v. (first ≤ v) × (v < first + count)) (range_with_len first count)
+range-within first count k d h =
+    let end : length (range_with_len first count) ≡ count = length-range_with_len first count in
+    let low : k < count = omega arith in
+    rw (get_or-range_with_len first count k d low) (omega arith, omega arith)
+
+-- new versions are above all old ones
+pub versions-above : (old vs : List ℕ) (first count : ℕ) → All (λ v. v < first) old → vs ≡ range_with_len first count → All (λ a. All (λ b. a < b) vs) old
+versions-above old vs first count below is k d h j e g =
+    let new : (first ≤ get_or vs j e) × (get_or vs j e < first + count) = subst (λ (ws : List ℕ). All (λ v. (first ≤ v) × (v < first + count)) ws) (sym is) (range-within first count) j e g in
+    let low : get_or old k d < first = below k d h in
+    omega (arith, new.0, low)
+
+-- after they are given, all versions are below the end of the new ones
+pub versions-below : (old nodes vs : List ℕ) (first count : ℕ) → All (λ v. v < first) old → vs ≡ range_with_len first count → All (λ v. v < first + count) (puts old (zip nodes vs))
+versions-below old nodes vs first count below is =
+    puts-all (λ v. v < first + count) old (zip nodes vs) (λ k d h. omega (arith, below k d h))
+    (zip-all (λ v. v < first + count) nodes vs (subst (λ (ws : List ℕ). All (λ v. v < first + count) ws) (sym is) (λ k d h. (range-within first count k d h).1)))
+
+-- no more rows change than there are nodes, but for the contracted node's
+pub few_rows : (b : Board) (put : List Shortcut) (c : Change) → IsBoard b → IsChange b.overlay put c → length c.rows ≤ length b.overlay.rows + 1
+few_rows b put c is planned =
+    let nodes : List ℕ = map (λ (a : ℕ × Row). a.0) planned.others in
+    let rising : AllPairs (λ x y. x < y) nodes = pairs-map (λ (a : ℕ × Row). a.0) planned.others planned.rising in
+    let in_range : (x : ℕ) → Contains nodes x → x < length b.overlay.rows = λ x among. ((planned.neighbours x).0 among).alive.in_range in
+    let few : length nodes ≤ length b.overlay.rows = rising_below-short nodes (length b.overlay.rows) rising (λ k d h. in_range (get_or nodes k d) (Contains-get_or nodes k d h)) in
+    let count : length c.rows ≡ length planned.others + 1 = ap length planned.rows ∙ (omega arith) in
+    omega (arith, count, few, length-map planned.others (λ (a : ℕ × Row). a.0))
+
+-- so the versions of a change fit, and the next ones are few enough again
+pub versions-fit : (nodes done count next : ℕ) → nodes ≤ 2 ^ 25 → done ≤ nodes → count ≤ nodes + 1 → next ≤ (nodes + 1) * (done + 1) → next + count < 2 ^ 64
+versions-fit nodes done count next few some each so_far =
+    let most : (nodes + 1) * (done + 1) ≤ (2 ^ 25 + 1) * (2 ^ 25 + 1) =
+    let nodes_few : nodes + 1 ≤ 2 ^ 25 + 1 = omega arith in
+    let done_few : done + 1 ≤ 2 ^ 25 + 1 = omega arith in
+    mul-le-mul nodes_few done_few in
+    omega (arith, most)
+
+pub versions-few : (nodes done count next : ℕ) → count ≤ nodes + 1 → next ≤ (nodes + 1) * (done + 1) → next + count ≤ (nodes + 1) * (done + 1 + 1)
+versions-few nodes done count next each so_far = omega (arith, each, so_far)
+
+-- the board after a contraction is one, and the node is contracted
+pub board_after : (b : Board) (put : List Shortcut) (c : Change) (new : Overlay) → IsBoard b → AreLawful b c.node put → IsChange b.overlay put c → IsOverlay new → new.bound ≡ b.overlay.bound → state_of new ≡ contracted (state_of b.overlay) c.node put → IsBoard (record { graph = b.graph; overlay = new; log = b.log ++ entry_of b put c ∷ [] })
+board_after b put c new is lawful planned overlay bound made = record {
+  graph = is.graph;
+  overlay = overlay;
+  bound = bound ∙ is.bound;
+  reached = reaches_on b.graph b.log (state_of b.overlay) (entry_of b put c) (state_of new) is.reached (steps b put c (state_of new) is lawful planned made);
+}
+
+pub contracted_after : (b : Board) (put : List Shortcut) (c : Change) (new : Overlay) → IsBoard b → AreLawful b c.node put → IsChange b.overlay put c → state_of new ≡ contracted (state_of b.overlay) c.node put → IsContracted b c.node put (record { node = c.node; rank = length b.overlay.order }) (record { graph = b.graph; overlay = new; log = b.log ++ entry_of b put c ∷ [] })
+unfolding entry_of
+contracted_after b put c new is lawful planned made = record {
+  entry = entry_of b put c;
+  of_node = refl;
+  of_shortcuts = refl;
+  handed = refl;
+  contracts = record { graph = refl; log = refl; step = steps b put c (state_of new) is lawful planned made };
+  state = made;
+}
+
+-- the nodes of shared rows are those of the rows
+pub nodes_behind_first : {A : Type 0} (f : A → Row) (rows : List (ℕ × A)) (c : Change) → map (λ (a : ℕ × A). (a.0, f a.1)) rows ≡ c.rows → map (λ (a : ℕ × A). a.0) (drop 1 rows) ≡ map (λ (a : ℕ × Row). a.0) (drop 1 c.rows)
+nodes_behind_first f rows c e = same_behind f rows ∙ ap (λ (rs : List (ℕ × Row)). map (λ (a : ℕ × Row). a.0) (drop 1 rs)) e
+  where
+    same : {A : Type 0} (g : A → Row) (xs : List (ℕ × A)) → map (λ (a : ℕ × A). a.0) xs ≡ map (λ (a : ℕ × Row). a.0) (map (λ (a : ℕ × A). (a.0, g a.1)) xs)
+    same g [] = refl
+    same g (x ∷ xs) = ap (λ ns. x.0 ∷ ns) (same g xs)
+
+    same_behind : {A : Type 0} (g : A → Row) (xs : List (ℕ × A)) → map (λ (a : ℕ × A). a.0) (drop 1 xs) ≡ map (λ (a : ℕ × Row). a.0) (drop 1 (map (λ (a : ℕ × A). (a.0, g a.1)) xs))
+    same_behind g [] = refl
+    same_behind g (x ∷ xs) = same g xs
+
+abbrev pub entry : ℕ → ℕ → List ℕ → ℕ → Contraction
+entry node rank neighbours shortcuts = record { node = node; rank = rank; neighbours = neighbours; shortcuts = shortcuts }
+
+-- the entry that the code writes
+pub entry_of-is : (b : Board) (put : List Shortcut) (c : Change) (node rank : ℕ) (neighbours : List ℕ) → c.node ≡ node → rank ≡ length b.overlay.order → neighbours ≡ map (λ (a : ℕ × Row). a.0) (drop 1 c.rows) → entry node rank neighbours (length put) ≡ entry_of b put c
+unfolding entry_of
+entry_of-is b put c node rank neighbours node_is rank_is neighbours_is =
+    ap (λ n. entry n rank neighbours (length put)) (sym node_is) ∙ ap (λ r. entry c.node r neighbours (length put)) rank_is ∙ ap (λ ns. entry c.node (length b.overlay.order) ns (length put)) neighbours_is

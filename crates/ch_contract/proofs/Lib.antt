@@ -1,0 +1,9 @@
+pub mod Ranges
+pub mod Search
+pub mod Direct
+pub mod Contracting
+pub mod Sweeping
+pub mod NodesLeft
+pub mod Links
+pub mod Sorting
+pub mod Finishing

@@ -1,0 +1,4 @@
+pub mod Board
+pub mod Shortcuts
+pub mod Sweep
+pub mod Finish
