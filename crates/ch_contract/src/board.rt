@@ -163,7 +163,7 @@ impl Board {
         ensures err { OnErr result (self.new ≡ self.old) }
     {
         let rank = self.overlay.nodes() - self.overlay.alive();
-        let change = self.overlay.plan(self.alloc, node, shortcuts)?;
+        let change = self.overlay.plan(node, shortcuts)?;
         let count = change.rows().len();
         let versions = versions_from(self.alloc, self.next_version, count)?;
         let neighbours = neighbours_in(self.alloc, change.rows())?;

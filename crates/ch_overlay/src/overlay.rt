@@ -117,16 +117,12 @@ impl Overlay {
     /// it, at most one for each pair, and costs the sum of the two arcs, at most the bound and less than the arc of
     /// the pair where it has one. Takes memory for the rows; sorts the shortcuts, and is linear in the entries of the
     /// rows otherwise.
-    pub fn plan(
-        &self,
-        alloc: Global,
-        node: u32,
-        shortcuts: &[Shortcut],
-    ) -> Result<Change, AllocError>
+    pub fn plan(&self, node: u32, shortcuts: &[Shortcut]) -> Result<Change, AllocError>
         requires { IsPlan self.now.bound (state_of self.now) node shortcuts.now }
         ensures node { IfOk result (λ change. change.node ≡ node) }
         ensures change { IfOk result (λ change. IsChange self.now shortcuts.now change) }
     {
+        let alloc = *self.rows.allocator();
         let row = self.row(node);
         let out = out_entries(alloc, node, shortcuts)?;
         let inn = in_entries(alloc, node, shortcuts)?;
@@ -206,18 +202,14 @@ mod tests {
     }
 
     // The change of a contraction that puts no shortcut in, or none where the node isn't in range.
-    fn plan_without_shortcuts(
-        alloc: Global,
-        overlay: &Overlay,
-        node: u32,
-    ) -> Result<Option<Change>, AllocError>
+    fn plan_without_shortcuts(overlay: &Overlay, node: u32) -> Result<Option<Change>, AllocError>
         requires { overlay.now.order ≡ [] }
         ensures { IfOk result (λ found. IfSome found (λ change. IsOf overlay.now change)) }
     {
         if node >= overlay.nodes() {
             return Ok(None);
         }
-        let change = overlay.plan(alloc, node, &[])?;
+        let change = overlay.plan(node, &[])?;
         Ok(Some(change))
     }
 
@@ -277,7 +269,7 @@ mod tests {
         let roads = vec![in alloc; road(1, 0, 2), road(0, 2, 3), road(1, 2, 4)]?;
         let mut holds = false;
         if let Some(overlay) = overlay(alloc, 3, roads)? {
-            if let Some(change) = plan_without_shortcuts(alloc, &overlay, 0)? {
+            if let Some(change) = plan_without_shortcuts(&overlay, 0)? {
                 let rows = change.rows();
                 holds = rows.len() == 3
                     && is_row(rows.first(), 0, &[entry(2, 3)], &[entry(1, 2)], Some(0))
