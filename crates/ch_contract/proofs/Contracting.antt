@@ -1,28 +1,23 @@
 -- One contraction of a board: the change that was planned makes a lawful step, and the versions stay in order.
-use Rattle.std.proofs.Common.{ℕ, ◌≡◌, ◌+◌, ◌*◌, ◌^◌, ◌<◌, ◌≤◌, ◌↔◌, List, [], ◌∷◌, ◌++◌, AllPairs, All, Contains, Some, length, map, drop, get_or, slice_index_or, slice_set, mul-le-mul, arith, ap, sym, subst, refl, ◌∙◌}
+use Rattle.std.proofs.Common.{ℕ, ◌≡◌, ◌+◌, ◌*◌, ◌^◌, ◌<◌, ◌≤◌, List, [], ◌∷◌, ◌++◌, AllPairs, All, Contains, length, map, drop, get_or, slice_set, mul-le-mul, arith, ap, sym, subst, refl, ◌∙◌}
 use Rattle.std.specs.List.{range_with_len, zip}
 use Rattle.std.proofs.lemmas.List.{length-map}
-use Rattle.std.proofs.lemmas.List.Elements.{Contains-get_or, All-map, All-cons, All-head, All-tail, All-set}
+use Rattle.std.proofs.lemmas.List.Elements.{Contains-get_or, All-cons, All-head, All-tail, All-set}
 use Rattle.std.proofs.lemmas.List.FromFn.{get_or-range_with_len, length-range_with_len}
-use Rattle.std.proofs.lemmas.List.Kept.{AllPairs-cons}
-use Rattle.ch_contract.proofs.Ranges.{AllPairs-head, AllPairs-tail, rising_below-short}
+use Rattle.ch_contract.proofs.Ranges.{pairs-map, rising_below-short}
 use Rattle.ch_graph.specs.Graph.{bound_of}
 use Rattle.ch_cost.specs.declared.cost.Cost.{Cost}
 use Rattle.ch_laws.specs.declared.shortcut.Shortcut.{Shortcut}
-use Rattle.ch_laws.specs.Contraction.{State, Contraction, Step, Puts, IsPlan, IsNeighbour, contracted}
+use Rattle.ch_laws.specs.Contraction.{State, Contraction, Step, Puts, contracted}
 use Rattle.ch_laws.specs.Rows.{Row}
 use Rattle.ch_laws.proofs.Lawful.{plan_is_lawful, reaches_on}
-use Rattle.ch_overlay.specs.Overlay.{Overlay, IsOverlay, row_at, state_of}
-use Rattle.ch_overlay.specs.Change.{Change, IsChange, puts, changed_nodes}
-use Rattle.ch_contract.specs.Board.{Board, IsBoard, AreLawful, Contracts, IsContracted, receipt_of}
+use Rattle.ch_overlay.specs.Overlay.{Overlay, IsOverlay, state_of}
+use Rattle.ch_overlay.specs.Change.{Change, IsChange, puts}
+use Rattle.ch_contract.specs.Board.{Board, IsBoard, AreLawful, IsContracted}
 
 -- the entry of the contraction of a node by a change that puts these shortcuts in
 pub entry_of : Board → List Shortcut → Change → Contraction
 entry_of b put c = record { node = c.node; rank = length b.overlay.order; neighbours = map (λ (a : ℕ × Row). a.0) (drop 1 c.rows); shortcuts = length put }
-
-pairs-map : {X : Type 0} (f : X → ℕ) (xs : List X) → AllPairs (λ a b. f a < f b) xs → AllPairs (λ x y. x < y) (map f xs)
-pairs-map f [] rises = λ i j d low high. absurd (omega (arith, high))
-pairs-map f (x ∷ xs) rises = AllPairs-cons (λ y z. y < z) (f x) (map f xs) (All-map (λ y. f x < y) f xs (AllPairs-head (λ a b. f a < f b) x xs rises)) (pairs-map f xs (AllPairs-tail (λ a b. f a < f b) x xs rises))
 
 -- a change that was planned is a lawful step to the state that it makes
 pub steps : (b : Board) (put : List Shortcut) (c : Change) (new : State) → IsBoard b → AreLawful b c.node put → IsChange b.overlay put c → new ≡ contracted (state_of b.overlay) c.node put → Step (bound_of b.graph) (state_of b.overlay) (entry_of b put c) new
@@ -36,7 +31,7 @@ steps b put c new is lawful planned made =
       puts = subst (λ (s : State). Puts (bound_of b.graph) (state_of b.overlay) c.node put s) (sym made) by_bound;
       rank = refl;
       shortcuts = refl;
-      rising = rw others_is (pairs-map (λ (a : ℕ × Row). a.0) planned.others planned.rising);
+      rising = rw others_is (pairs-map (λ x y. x < y) (λ (a : ℕ × Row). a.0) planned.others planned.rising);
       neighbours = λ x. rw others_is (planned.neighbours x);
     }
 
@@ -75,7 +70,7 @@ versions-below old nodes vs first count below is =
 pub few_rows : (b : Board) (put : List Shortcut) (c : Change) → IsBoard b → IsChange b.overlay put c → length c.rows ≤ length b.overlay.rows + 1
 few_rows b put c is planned =
     let nodes : List ℕ = map (λ (a : ℕ × Row). a.0) planned.others in
-    let rising : AllPairs (λ x y. x < y) nodes = pairs-map (λ (a : ℕ × Row). a.0) planned.others planned.rising in
+    let rising : AllPairs (λ x y. x < y) nodes = pairs-map (λ x y. x < y) (λ (a : ℕ × Row). a.0) planned.others planned.rising in
     let in_range : (x : ℕ) → Contains nodes x → x < length b.overlay.rows = λ x among. ((planned.neighbours x).0 among).alive.in_range in
     let few : length nodes ≤ length b.overlay.rows = rising_below-short nodes (length b.overlay.rows) rising (λ k d h. in_range (get_or nodes k d) (Contains-get_or nodes k d h)) in
     let count : length c.rows ≡ length planned.others + 1 = ap length planned.rows ∙ (omega arith) in

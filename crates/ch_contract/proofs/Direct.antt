@@ -1,20 +1,19 @@
 -- The shortcuts that are needed where a direct arc is the only other walk: gathered pair by pair, and lawful.
-use Rattle.std.proofs.Common.{ℕ, zero, suc, ◌≡◌, ◌≢◌, ◌+◌, ◌<◌, ◌≤◌, ◌⊎◌, List, [], ◌∷◌, ◌++◌, length, get_or, take, drop, map, append_assoc, All, AllPairs, Contains, SomeIff, Option, Some, None, arith, ap, sym, subst, refl, ◌∙◌, inl, inr}
-use Rattle.std.specs.List.{flat_map}
-use Rattle.std.proofs.lemmas.Bool.{cases_eq, cases_lt}
+use Rattle.std.proofs.Common.{ℕ, ◌≡◌, ◌≢◌, ◌+◌, ◌<◌, ◌≤◌, ◌⊎◌, List, [], ◌∷◌, ◌++◌, length, get_or, take, drop, append_assoc, AllPairs, Contains, arith, ap, sym, subst, refl, ◌∙◌, inl, inr}
+use Rattle.std.proofs.lemmas.Bool.{cases_eq}
 use Rattle.std.proofs.lemmas.List.{get_or_append_left, get_or_push, length_push, map_more, take_all, take_more, take-append-drop, append-nil, map-append}
 use Rattle.std.proofs.lemmas.List.Concat.{flat_map-append}
 use Rattle.std.proofs.lemmas.List.Kept.{AllPairs-cons}
 use Rattle.std.proofs.lemmas.List.Elements.{All-contains, All-map, Contains-append_left, Contains-append_right, Contains-append_cases, Contains-push, Contains-push_cases, Contains-get_or}
 use Rattle.std.proofs.lemmas.List.Quantifiers.{all_pairs_push}
 use Rattle.ch_cost.specs.declared.cost.Cost.{Cost}
-use Rattle.ch_cost.specs.Cost.{zero_cost, ◌⊕◌, ◌≼◌, ◌≺◌, IsWithin}
+use Rattle.ch_cost.specs.Cost.{◌⊕◌, ◌≼◌, IsWithin}
 use Rattle.ch_cost.specs.Cost.Laws.{cases_cost, sum-zero_cost, below_not_at_most}
 use Rattle.ch_graph.specs.Walk.{Walk, Walk.stay, Walk.go}
 use Rattle.ch_laws.specs.declared.entry.Entry.{Entry}
 use Rattle.ch_laws.specs.declared.shortcut.Shortcut.{Shortcut}
-use Rattle.ch_laws.specs.Contraction.{State, StateArc, Before, IsAlive, HasArc, Remains, Through, Avoids, HasWitness, NoShortcut, IsFor, IsAllowed, IsPlan, IsWitnessed}
-use Rattle.ch_laws.specs.Rows.{Row, Rises, IsRow}
+use Rattle.ch_laws.specs.Contraction.{State, Before, IsAlive, Remains, Avoids, HasWitness, NoShortcut, IsAllowed, IsPlan, IsWitnessed}
+use Rattle.ch_laws.specs.Rows.{Rises}
 use Rattle.ch_laws.proofs.Members.{contains_first, contains_later, contains_cases, contains_place, place_of}
 use Rattle.ch_laws.proofs.Order.{before_not_alive}
 use Rattle.ch_overlay.specs.Overlay.{Overlay, IsOverlay, IsEntry, row_at, state_of}

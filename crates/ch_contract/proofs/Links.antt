@@ -1,26 +1,24 @@
 -- The links of all rows are the arcs of the state, each once.
-use Rattle.std.proofs.Common.{ℕ, zero, suc, ◌≡◌, ◌≢◌, ◌+◌, ◌<◌, ◌≤◌, ◌⊎◌, ◌↔◌, Bool, true, false, nat_eq, ◌&&◌, List, [], ◌∷◌, ◌++◌, Option, Some, None, length, map, get_or, slice_index, All, AllPairs, Contains, arith, ap, sym, subst, refl, ◌∙◌, inl, inr}
+use Rattle.std.proofs.Common.{ℕ, ◌≡◌, ◌≢◌, ◌<◌, ◌≤◌, ◌⊎◌, ◌↔◌, Bool, true, false, nat_eq, ◌&&◌, List, [], ◌∷◌, Some, length, map, get_or, slice_index, AllPairs, Contains, arith, ap, sym, subst, refl, ◌∙◌, inl, inr}
 use Rattle.std.specs.List.{flat_map, range_with_len, IsDistinct}
 use Rattle.std.specs.List.Sorted.{IsPermutation}
 use Rattle.std.proofs.lemmas.Bool.{cases_Bool, cases_lt, cases_eq, false≢true}
 use Rattle.std.proofs.lemmas.Bool.Decides.{nat_tests}
 use Rattle.std.proofs.lemmas.Map.Keys.{IsDistinct-IsPermutation}
-use Rattle.std.proofs.lemmas.List.Elements.{All-contains, All-from_recursion, All-map, recursion_from_All, Contains-append_left, Contains-append_right, Contains-append_cases}
-use Rattle.std.proofs.lemmas.List.FromFn.{get_or-range_with_len, length-range_with_len}
+use Rattle.std.proofs.lemmas.List.Elements.{All-contains, All-from_recursion, recursion_from_All, Contains-append_left, Contains-append_right, Contains-append_cases}
 use Rattle.std.proofs.lemmas.List.Kept.{AllPairs-cons}
 use Rattle.std.proofs.lemmas.List.Sorted.{Contains-permutation, IsPermutation-sym}
 use Rattle.ch_cost.specs.declared.cost.Cost.{Cost}
 use Rattle.ch_graph.specs.declared.link.Link.{Link}
-use Rattle.ch_graph.specs.Graph.{Graph, IsGraph, bound_of}
-use Rattle.ch_graph.specs.Hierarchy.{Hierarchy, ComesBefore, rank_of}
+use Rattle.ch_graph.specs.Graph.{Graph, bound_of}
+use Rattle.ch_graph.specs.Hierarchy.{ComesBefore}
 use Rattle.ch_laws.specs.declared.entry.Entry.{Entry}
-use Rattle.ch_laws.specs.Contraction.{State, StateArc, Before, IsOver, IsMade}
-use Rattle.ch_laws.specs.Rows.{Row, Rises, IsRow}
+use Rattle.ch_laws.specs.Contraction.{Before, IsOver, IsMade}
 use Rattle.ch_laws.proofs.Members.{contains_first, contains_later, contains_cases, place_of}
-use Rattle.ch_laws.proofs.Sound.{IsSound, IsSoundArc}
+use Rattle.ch_laws.proofs.Sound.{IsSound}
 use Rattle.ch_overlay.specs.Overlay.{Overlay, IsOverlay, row_at, state_of}
 use Rattle.ch_contract.specs.Finish.{AreRanks, AreLinks, link_out, link_in, row_links, links_below}
-use Rattle.ch_contract.proofs.Ranges.{AllPairs-append, AllPairs-head, AllPairs-tail, range_with_len-rises}
+use Rattle.ch_contract.proofs.Ranges.{AllPairs-append, AllPairs-head, AllPairs-tail, contains-range, pairs-map, range-contains, range_with_len-rises}
 
 -- Lists
 
@@ -71,23 +69,6 @@ pairs-flat_map R f (x ∷ xs) rises within across =
     (λ a b here later.
     let rest = flat_map-contains f xs b later in
     across x rest.of a b (All-contains (λ y. x < y) xs rest.of (AllPairs-head (λ y z. y < z) x xs rises) rest.among) (contains_first x xs) (contains_later x xs rest.of rest.among) here rest.part)
-
-pairs-map : {X Y : Type 0} (R : Y → Y → Type 0) (f : X → Y) (xs : List X) → AllPairs (λ a b. R (f a) (f b)) xs → AllPairs R (map f xs)
-pairs-map R f [] pairs = λ i j d low high. absurd (omega (arith, high))
-pairs-map R f (x ∷ xs) pairs = AllPairs-cons R (f x) (map f xs) (All-map (R (f x)) f xs (AllPairs-head (λ a b. R (f a) (f b)) x xs pairs)) (pairs-map R f xs (AllPairs-tail (λ a b. R (f a) (f b)) x xs pairs))
-
-range-contains : (n x : ℕ) → Contains (range_with_len 0 n) x → x < n
-range-contains n x among =
-    let long : length (range_with_len 0 n) ≡ n = length-range_with_len 0 n in
-    let low : among.0 < n = omega (arith, among.1) in
-    let is : 0 + among.0 ≡ x = sym (get_or-range_with_len 0 n among.0 x low) ∙ among.2 in
-    omega (arith, is, low)
-
-contains-range : (n x : ℕ) → x < n → Contains (range_with_len 0 n) x
-contains-range n x h =
-    let long : length (range_with_len 0 n) ≡ n = length-range_with_len 0 n in
-    let plain : 0 + x ≡ x = omega arith in
-    (x, omega arith, get_or-range_with_len 0 n x x h ∙ plain)
 
 -- Links with the same ends
 

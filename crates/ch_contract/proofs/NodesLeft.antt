@@ -1,5 +1,5 @@
 -- Whether all nodes are contracted, by how many are.
-use Rattle.std.proofs.Common.{ℕ, zero, suc, ◌≡◌, ◌≢◌, ◌<◌, ◌≤◌, ◌⊎◌, Bool, true, false, eqb, List, [], ◌∷◌, is_none, length, All, AllPairs, Contains, arith, ap, sym, subst, refl, ◌∙◌, inl, inr}
+use Rattle.std.proofs.Common.{ℕ, zero, suc, ◌≡◌, ◌≢◌, ◌<◌, ◌≤◌, ◌⊎◌, true, eqb, List, [], ◌∷◌, is_none, length, All, AllPairs, Contains, arith, sym, subst, refl, ◌∙◌, inl, inr}
 use Rattle.std.specs.List.{list_any}
 use Rattle.std.proofs.lemmas.Bool.{cases_Bool, cases_lt}
 use Rattle.std.proofs.lemmas.Bool.Decides.{nat_tests, Decides-eqb}
@@ -9,8 +9,8 @@ use Rattle.std.proofs.lemmas.List.Folds.{Any-from_list_any}
 use Rattle.std.proofs.lemmas.List.Kept.{AllPairs-cons}
 use Rattle.std.proofs.lemmas.Map.Made.{IsDistinct-from_AllPairs}
 use Rattle.std.proofs.lemmas.Map.Steps.{length-le_from_distinct_below, le-length_from_below}
-use Rattle.ch_laws.specs.Contraction.{State, IsAlive, IsOver}
-use Rattle.ch_laws.proofs.Members.{contains_cases, contains_first}
+use Rattle.ch_laws.specs.Contraction.{IsAlive, IsOver}
+use Rattle.ch_laws.proofs.Members.{contains_cases}
 use Rattle.ch_overlay.specs.Overlay.{Overlay, IsOverlay, row_at, state_of}
 use Rattle.ch_contract.proofs.Sweeping.{waits-from_none, gone-from_some, alive-from_none}
 

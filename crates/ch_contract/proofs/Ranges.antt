@@ -1,8 +1,8 @@
--- Numbers in a row, one more at the end.
-use Rattle.std.proofs.Common.{ℕ, zero, suc, ◌≡◌, ◌+◌, ◌<◌, List, [], ◌∷◌, ◌++◌, AllPairs, All, ◌≤◌, Contains, take, drop, length, get_or, length-append, arith, add-one, ap, sym, subst, refl, ◌∙◌}
+-- Numbers in a row, and what holds of each two elements of a list.
+use Rattle.std.proofs.Common.{ℕ, zero, suc, ◌≡◌, ◌+◌, ◌<◌, List, [], ◌∷◌, ◌++◌, AllPairs, All, ◌≤◌, Contains, take, drop, map, length, get_or, length-append, arith, add-one, ap, sym, subst, refl, ◌∙◌}
 use Rattle.std.specs.List.{range_with_len}
 use Rattle.std.proofs.lemmas.List.{get_or_append_left, take-append-drop}
-use Rattle.std.proofs.lemmas.List.Elements.{All-append, All-head, All-tail, Contains-get_or}
+use Rattle.std.proofs.lemmas.List.Elements.{All-append, All-head, All-map, All-tail, Contains-get_or}
 use Rattle.std.proofs.lemmas.List.Kept.{AllPairs-cons}
 use Rattle.std.proofs.lemmas.List.FromFn.{get_or-range_with_len, length-range_with_len}
 
@@ -72,3 +72,22 @@ rising-short (x ∷ xs) a n few rises within =
 
 pub rising_below-short : (xs : List ℕ) (n : ℕ) → AllPairs (λ x y. x < y) xs → All (λ x. x < n) xs → length xs ≤ n
 rising_below-short xs n rises within = omega (arith, rising-short xs 0 n (omega arith) rises (λ k d h. (omega arith, within k d h)))
+
+-- of the images of elements it holds where it holds of the elements through the map
+pub pairs-map : {X Y : Type 0} (R : Y → Y → Type 0) (f : X → Y) (xs : List X) → AllPairs (λ a b. R (f a) (f b)) xs → AllPairs R (map f xs)
+pairs-map R f [] pairs = λ i j d low high. absurd (omega (arith, high))
+pairs-map R f (x ∷ xs) pairs = AllPairs-cons R (f x) (map f xs) (All-map (R (f x)) f xs (AllPairs-head (λ a b. R (f a) (f b)) x xs pairs)) (pairs-map R f xs (AllPairs-tail (λ a b. R (f a) (f b)) x xs pairs))
+
+-- the numbers of a range are those below its end
+pub range-contains : (n x : ℕ) → Contains (range_with_len 0 n) x → x < n
+range-contains n x among =
+    let long : length (range_with_len 0 n) ≡ n = length-range_with_len 0 n in
+    let low : among.0 < n = omega (arith, among.1) in
+    let is : 0 + among.0 ≡ x = sym (get_or-range_with_len 0 n among.0 x low) ∙ among.2 in
+    omega (arith, is, low)
+
+pub contains-range : (n x : ℕ) → x < n → Contains (range_with_len 0 n) x
+contains-range n x h =
+    let long : length (range_with_len 0 n) ≡ n = length-range_with_len 0 n in
+    let plain : 0 + x ≡ x = omega arith in
+    (x, omega arith, get_or-range_with_len 0 n x x h ∙ plain)

@@ -1,18 +1,18 @@
 -- A sweep, node by node.
-use Rattle.std.proofs.Common.{ℕ, zero, suc, ◌≡◌, ◌≢◌, ◌+◌, ◌-◌, ◌<◌, ◌≤◌, ◌⊎◌, ◌↔◌, Bool, true, false, cond, List, [], ◌∷◌, ◌++◌, Option, Some, None, is_none, length, map, filter, get_or, All, Contains, append_assoc, arith, ap, sym, subst, refl, ◌∙◌, inl, inr}
+use Rattle.std.proofs.Common.{ℕ, ◌≡◌, ◌+◌, ◌-◌, ◌<◌, ◌≤◌, Bool, true, false, cond, List, [], ◌∷◌, ◌++◌, Option, Some, None, is_none, length, map, filter, All, Contains, append_assoc, arith, ap, sym, subst, refl, ◌∙◌, inl, inr}
 use Rattle.std.specs.List.{range_with_len}
 use Rattle.std.proofs.lemmas.Bool.{cases_Bool, false≢true}
-use Rattle.std.proofs.lemmas.List.{append-nil, length_push, map-append}
+use Rattle.std.proofs.lemmas.List.{append-nil, map-append}
 use Rattle.std.proofs.lemmas.List.Elements.{All-contains, All-filter, Contains-append_left, Contains-append_right, Contains-append_cases, filter-append}
 use Rattle.std.proofs.lemmas.List.FromFn.{get_or-range_with_len, length-range_with_len}
-use Rattle.ch_laws.specs.Contraction.{State, Contraction, IsAlive, IsOver}
+use Rattle.ch_laws.specs.Contraction.{State, Contraction, IsAlive}
 use Rattle.ch_laws.specs.Rows.{Row, IsRow}
 use Rattle.ch_laws.proofs.Members.{contains_first, contains_later, contains_cases, contains_place, place_of}
 use Rattle.ch_overlay.specs.Overlay.{Overlay, IsOverlay, row_at, state_of}
 use Rattle.ch_contract.specs.declared.contraction.Receipt.{Receipt}
-use Rattle.ch_contract.specs.Board.{Board, IsBoard, IsContracted, receipt_of, alive_nodes}
-use Rattle.ch_contract.specs.Sweep.{AreContracted, IsSwept, IsPartlySwept, IsTaken, IsPassed, IsVisited}
-use Rattle.ch_contract.proofs.Ranges.{range_with_len-more, range_with_len-append}
+use Rattle.ch_contract.specs.Board.{Board, receipt_of}
+use Rattle.ch_contract.specs.Sweep.{AreContracted, IsSwept, IsPartlySwept, IsTaken, IsVisited}
+use Rattle.ch_contract.proofs.Ranges.{contains-range, range_with_len-more, range_with_len-append}
 
 -- Ranks
 
@@ -155,9 +155,6 @@ contains-filter p (y ∷ ys) x passes among = elim (contains_cases y ys x among)
     | inr drops ↦ rw drops (contains-filter p ys x passes later)
   ]
 ]
-
-contains-range : (n x : ℕ) → x < n → Contains (range_with_len 0 n) x
-contains-range n x h = (x, (let long : length (range_with_len 0 n) ≡ n = length-range_with_len 0 n in omega arith), (let plain : 0 + x ≡ x = omega arith in get_or-range_with_len 0 n x x h ∙ plain))
 
 module _ (old now : Board) (i : ℕ) (receipts : List Receipt) (is : IsOverlay old.overlay) (so_far : IsSweptTo old i receipts now) where
   -- once all nodes were visited, all are contracted

@@ -1,5 +1,5 @@
 -- A graph under contraction: its rows, and the log of what was done.
-use Rattle.std.specs.Prelude.{ℕ, ◌≡◌, ◌+◌, ◌*◌, ◌<◌, ◌≤◌, List, [], ◌∷◌, ◌++◌, length, map, filter, is_none, All, AllPairs}
+use Rattle.std.specs.Prelude.{ℕ, ◌≡◌, List, [], ◌∷◌, ◌++◌, length, filter, is_none}
 use Rattle.std.specs.List.{range_with_len}
 use Rattle.ch_graph.specs.Graph.{Graph, IsGraph, bound_of}
 use Rattle.ch_laws.specs.declared.shortcut.Shortcut.{Shortcut}

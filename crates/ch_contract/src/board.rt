@@ -169,7 +169,6 @@ impl Board {
         let neighbours = neighbours_in(self.alloc, change.rows())?;
         self.log.reserve(1)?;
         self.overlay.apply(change, versions.as_slice());
-        let _ = self.overlay.nodes();
         self.next_version += count as u64;
         self.log.push_reserved(Contraction {
             node,

@@ -1,3 +1,5 @@
+pub mod ByDistances
+pub mod Exact
 pub mod Handing
 pub mod JoinedLines
 pub mod Progress

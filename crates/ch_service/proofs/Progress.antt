@@ -3,71 +3,76 @@ use Rattle.std.proofs.Common.{ℕ, ◌≡◌, ◌+◌, ◌≤◌, List, [], ◌�
 use Rattle.std.specs.Io.KnownBytes.{Appends}
 use Rattle.std.proofs.KnownBytes.{Appends-trans, Appends-nil}
 use Rattle.std.proofs.Math.Seq.{take-append_seam}
-use Rattle.ch_graph.specs.Graph.{Graph}
-use Rattle.ch_service.specs.Answer.{IsAnswer, Answered, nothing, one_more}
+use Rattle.ch_cost.specs.declared.cost.Cost.{Cost}
+use Rattle.ch_service.specs.Answer.{IsAnswer, AreAnswers, nothing, one_more}
 use Rattle.ch_service.specs.Output.{HandsOn}
 use Rattle.ch_service.specs.Outcome.{StopsShort}
-use Rattle.ch_service.specs.declared.error.WriteFault.{WriteFault}
+use Rattle.hierfile.specs.declared.error.WriteFault.{WriteFault}
 use Rattle.ch_service.specs.declared.error.ServiceError.{ServiceError}
 use Rattle.ch_service.specs.declared.error.ServiceError.TheVariants.{Write}
-use Rattle.std.specs.Prelude.{⊤, Result, Ok, Err, IfErr, IsErrAnd, OnErr, OnOk, true, false}
+use Rattle.grfile.specs.Reading.{IsPair}
+use Rattle.std.specs.Prelude.{⊤, All, Result, Ok, Err, IfErr, IsErrAnd, OnErr, OnOk, true, false}
 use Rattle.std.specs.Result.{is_err}
 use Rattle.std.proofs.lemmas.List.{take_more}
 use Rattle.std.proofs.Common.{get_or, ◌<◌}
 
+-- what is told of two nodes
+abbrev pub Told : Type 1
+Told = ℕ → ℕ → Option Cost → Type 0
+
 -- the writer took the first part of the answers to these pairs, and the lines are the rest
-pub record IsGathered (g : Graph) (pairs : List (ℕ × ℕ)) (old new : Option (List ℕ)) (lines : List ℕ) (written : ℕ) : Type 0 where
+pub record IsGathered (Is : Told) (pairs : List (ℕ × ℕ)) (old new : Option (List ℕ)) (lines : List ℕ) (written : ℕ) : Type 0 where
   pub given : List ℕ
-  pub answered : Answered g pairs (given ++ lines)
+  pub answered : AreAnswers Is pairs (given ++ lines)
   pub taken : Appends old new given
   pub counted : written ≡ length given
 
-pub gathered-start : (g : Graph) (old : Option (List ℕ)) (lines : List ℕ) (written : ℕ) → lines ≡ [] → written ≡ 0 → IsGathered g [] old old lines written
-gathered-start g old lines written none zero = record {
+pub gathered-start : (Is : Told) (old : Option (List ℕ)) (lines : List ℕ) (written : ℕ) → lines ≡ [] → written ≡ 0 → IsGathered Is [] old old lines written
+gathered-start Is old lines written none zero = record {
   given = [];
-  answered = subst (Answered g []) (sym none) nothing;
+  answered = subst (AreAnswers Is []) (sym none) nothing;
   taken = Appends-nil old;
   counted = zero;
 }
 
 -- answers to some pairs and an answer to the next
-answered-push : {g : Graph} {pairs : List (ℕ × ℕ)} {text : List ℕ} (pair : ℕ × ℕ) (line : List ℕ) → Answered g pairs text → IsAnswer g pair line → Answered g (pairs ++ pair ∷ []) (text ++ line)
-answered-push {g} pair line nothing a = subst (Answered g (pair ∷ [])) (append-nil line) (one_more a nothing)
-answered-push {g} pair line (one_more {pair = p} {pairs = ps} {line = l} {rest = r} first rest) a =
-    subst (Answered g (p ∷ (ps ++ pair ∷ []))) (sym (append_assoc l r line)) (one_more first (answered-push pair line rest a))
+answered-push : {Is : Told} {pairs : List (ℕ × ℕ)} {text : List ℕ} (pair : ℕ × ℕ) (line : List ℕ) → AreAnswers Is pairs text → IsAnswer Is pair line → AreAnswers Is (pairs ++ pair ∷ []) (text ++ line)
+answered-push {Is} pair line nothing a = subst (AreAnswers Is (pair ∷ [])) (append-nil line) (one_more a nothing)
+answered-push {Is} pair line (one_more {pair = p} {pairs = ps} {line = l} {rest = r} first rest) a =
+    subst (AreAnswers Is (p ∷ (ps ++ pair ∷ []))) (sym (append_assoc l r line)) (one_more first (answered-push pair line rest a))
 
-pub gathered-push : {g : Graph} {pairs : List (ℕ × ℕ)} {old new : Option (List ℕ)} {lines : List ℕ} {written : ℕ} (pair : ℕ × ℕ) (line more : List ℕ) → IsGathered g pairs old new lines written
-    → IsAnswer g pair line → more ≡ lines ++ line → IsGathered g (pairs ++ pair ∷ []) old new more written
-gathered-push {g} {pairs} {lines = lines} pair line more h a e = record {
+pub gathered-push : {Is : Told} {pairs : List (ℕ × ℕ)} {old new : Option (List ℕ)} {lines : List ℕ} {written : ℕ} (pair : ℕ × ℕ) (line more : List ℕ) → IsGathered Is pairs old new lines written
+    → IsAnswer Is pair line → more ≡ lines ++ line → IsGathered Is (pairs ++ pair ∷ []) old new more written
+gathered-push {Is} {pairs} {lines = lines} pair line more h a e = record {
   given = h.given;
-  answered = subst (Answered g (pairs ++ pair ∷ [])) (append_assoc h.given lines line ∙ ap (λ l. h.given ++ l) (sym e)) (answered-push pair line h.answered a);
+  answered = subst (AreAnswers Is (pairs ++ pair ∷ [])) (append_assoc h.given lines line ∙ ap (λ l. h.given ++ l) (sym e)) (answered-push pair line h.answered a);
   taken = h.taken;
   counted = h.counted;
 }
 
 -- the writer took some more of it
-pub gathered-hand_on : {g : Graph} {pairs : List (ℕ × ℕ)} {old mid new : Option (List ℕ)} {lines rest : List ℕ} {before after : ℕ} → IsGathered g pairs old mid lines before
-    → HandsOn mid new lines rest before after → IsGathered g pairs old new rest after
-gathered-hand_on {g} {pairs} {old} {mid} {new} {rest = rest} h k = record {
+pub gathered-hand_on : {Is : Told} {pairs : List (ℕ × ℕ)} {old mid new : Option (List ℕ)} {lines rest : List ℕ} {before after : ℕ} → IsGathered Is pairs old mid lines before
+    → HandsOn mid new lines rest before after → IsGathered Is pairs old new rest after
+gathered-hand_on {Is} {pairs} {old} {mid} {new} {rest = rest} h k = record {
   given = h.given ++ k.taken;
-  answered = subst (Answered g pairs) (ap (λ l. h.given ++ l) k.parts ∙ sym (append_assoc h.given k.taken rest)) h.answered;
+  answered = subst (AreAnswers Is pairs) (ap (λ l. h.given ++ l) k.parts ∙ sym (append_assoc h.given k.taken rest)) h.answered;
   taken = Appends-trans old mid new h.given k.taken h.taken k.given;
   counted = omega (arith, h.counted, k.counted, length-append h.given k.taken);
 }
 
 -- the same lines
-pub gathered-same : {g : Graph} {pairs : List (ℕ × ℕ)} {old new : Option (List ℕ)} {lines more : List ℕ} {written : ℕ} → IsGathered g pairs old new lines written → more ≡ lines
-    → IsGathered g pairs old new more written
-gathered-same {g} {pairs} {old} {new} {written = written} h e = subst (λ l. IsGathered g pairs old new l written) (sym e) h
+pub gathered-same : {Is : Told} {pairs : List (ℕ × ℕ)} {old new : Option (List ℕ)} {lines more : List ℕ} {written : ℕ} → IsGathered Is pairs old new lines written → more ≡ lines
+    → IsGathered Is pairs old new more written
+gathered-same {Is} {pairs} {old} {new} {written = written} h e = subst (λ l. IsGathered Is pairs old new l written) (sym e) h
 
 -- the bytes that the writer took, of the answers to the first pairs
-AreTaken : Graph → List (ℕ × ℕ) → Option (List ℕ) → Option (List ℕ) → ℕ → Type 0
-AreTaken g pairs old new written = (text : List ℕ) × ((count : ℕ) × Answered g (take count pairs) text) × (written ≤ length text) × Appends old new (take written text)
+AreTaken : Told → List (ℕ × ℕ) → Option (List ℕ) → Option (List ℕ) → ℕ → Type 0
+AreTaken Is pairs old new written = (text : List ℕ) × ((count : ℕ) × AreAnswers Is (take count pairs) text) × (written ≤ length text) × Appends old new (take written text)
 
-gathered-taken : {g : Graph} (pairs : List (ℕ × ℕ)) (count : ℕ) {old mid new : Option (List ℕ)} {lines rest : List ℕ} {before after : ℕ} → IsGathered g (take count pairs) old mid lines before
-    → HandsOn mid new lines rest before after → AreTaken g pairs old new after
+gathered-taken : {Is : Told} (pairs : List (ℕ × ℕ)) (count : ℕ) {old mid new : Option (List ℕ)} {lines rest : List ℕ} {before after : ℕ} → IsGathered Is (take count pairs) old mid lines before
+    → HandsOn mid new lines rest before after → AreTaken Is pairs old new after
 unfolding AreTaken
-gathered-taken {g} pairs count {old} {mid} {new} {lines} {rest} {before} {after} h k =
+gathered-taken {Is} pairs count {old} {mid} {new} {lines} {rest} {before} {after} h k =
     let given : List ℕ = h.given ++ k.taken in
     let counted : after ≡ length given = omega (arith, h.counted, k.counted, length-append h.given k.taken) in
     let whole : h.given ++ lines ≡ given ++ rest = ap (λ l. h.given ++ l) k.parts ∙ sym (append_assoc h.given k.taken rest) in
@@ -78,17 +83,17 @@ gathered-taken {g} pairs count {old} {mid} {new} {lines} {rest} {before} {after}
       subst (Appends old new) (sym first) (Appends-trans old mid new h.given k.taken h.taken k.given),
     )
 
-stops-from_taken : (g : Graph) (pairs : List (ℕ × ℕ)) (old new : Option (List ℕ)) (fault : WriteFault) (r : Result ⊤ ServiceError) → IsErrAnd r (λ e. e ≡ Write fault) → AreTaken g pairs old new fault.written
-    → IfErr r (StopsShort (λ text. (count : ℕ) × Answered g (take count pairs) text) old new)
+stops-from_taken : (Is : Told) (pairs : List (ℕ × ℕ)) (old new : Option (List ℕ)) (fault : WriteFault) (r : Result ⊤ ServiceError) → IsErrAnd r (λ e. e ≡ Write fault) → AreTaken Is pairs old new fault.written
+    → IfErr r (StopsShort (λ text. (count : ℕ) × AreAnswers Is (take count pairs) text) old new)
 unfolding AreTaken
-stops-from_taken g pairs old new fault (Ok x) is h = tt
-stops-from_taken g pairs old new fault (Err e) is h = subst (StopsShort (λ text. (count : ℕ) × Answered g (take count pairs) text) old new) (sym is) h
+stops-from_taken Is pairs old new fault (Ok x) is h = tt
+stops-from_taken Is pairs old new fault (Err e) is h = subst (StopsShort (λ text. (count : ℕ) × AreAnswers Is (take count pairs) text) old new) (sym is) h
 
 -- where the writer failed
-pub stops-from_gathered : {g : Graph} (pairs : List (ℕ × ℕ)) (count : ℕ) {old mid new : Option (List ℕ)} {lines : List ℕ} {before : ℕ} (fault : WriteFault) (r : Result ⊤ ServiceError) → IsErrAnd r (λ e. e ≡ Write fault)
-    → IsGathered g (take count pairs) old mid lines before → (rest : List ℕ) × HandsOn mid new lines rest before fault.written
-    → IfErr r (StopsShort (λ text. (count : ℕ) × Answered g (take count pairs) text) old new)
-stops-from_gathered {g} pairs count {old} {new = new} fault r is h k = stops-from_taken g pairs old new fault r is (gathered-taken pairs count h k.1)
+pub stops-from_gathered : {Is : Told} (pairs : List (ℕ × ℕ)) (count : ℕ) {old mid new : Option (List ℕ)} {lines : List ℕ} {before : ℕ} (fault : WriteFault) (r : Result ⊤ ServiceError) → IsErrAnd r (λ e. e ≡ Write fault)
+    → IsGathered Is (take count pairs) old mid lines before → (rest : List ℕ) × HandsOn mid new lines rest before fault.written
+    → IfErr r (StopsShort (λ text. (count : ℕ) × AreAnswers Is (take count pairs) text) old new)
+stops-from_gathered {Is} pairs count {old} {new = new} fault r is h k = stops-from_taken Is pairs old new fault r is (gathered-taken pairs count h k.1)
 
 -- what was said of one outcome, where that outcome came
 
@@ -100,8 +105,17 @@ pub at_ok : {T E P : Type 0} (r : Result T E) → is_err r ≡ false → OnOk r 
 at_ok (Ok x) e h = h
 at_ok (Err y) e h = absurd (cc)
 
+-- a value of the same state: its pairs are in range, and its answers are answers
+
+pub pair-same : {S : Type 0} (nodes : S → ℕ) {d e : S} (pairs : List (ℕ × ℕ)) (k : ℕ) → d ≡ e → All (IsPair (nodes e)) pairs → k < length pairs → IsPair (nodes d) (get_or pairs k (0, 0))
+pair-same {S} nodes pairs k same within less = subst (λ (x : S). IsPair (nodes x) (get_or pairs k (0, 0))) (sym same) (within k (0, 0) less)
+
+pub pushed-same : {S : Type 0} (tells : S → Told) {d e : S} (pair : ℕ × ℕ) (lines more : List ℕ) → d ≡ e → ((line : List ℕ) × IsAnswer (tells d) pair line × (more ≡ lines ++ line))
+    → (line : List ℕ) × IsAnswer (tells e) pair line × (more ≡ lines ++ line)
+pushed-same {S} tells pair lines more same pushed = subst (λ (x : S). (line : List ℕ) × IsAnswer (tells x) pair line × (more ≡ lines ++ line)) same pushed
+
 -- the answer to the next of the pairs
-pub gathered-next : {g : Graph} (pairs : List (ℕ × ℕ)) (i : ℕ) {old new : Option (List ℕ)} {lines more : List ℕ} {written : ℕ} → i < length pairs → IsGathered g (take i pairs) old new lines written
-    → ((line : List ℕ) × IsAnswer g (get_or pairs i (0, 0)) line × (more ≡ lines ++ line)) → IsGathered g (take (i + 1) pairs) old new more written
-gathered-next {g} pairs i {old} {new} {more = more} {written = written} within h a =
-    subst (λ ps. IsGathered g ps old new more written) (sym (take_more pairs i (0, 0) within)) (gathered-push (get_or pairs i (0, 0)) a.0 more h a.1 a.2)
+pub gathered-next : {Is : Told} (pairs : List (ℕ × ℕ)) (i : ℕ) {old new : Option (List ℕ)} {lines more : List ℕ} {written : ℕ} → i < length pairs → IsGathered Is (take i pairs) old new lines written
+    → ((line : List ℕ) × IsAnswer Is (get_or pairs i (0, 0)) line × (more ≡ lines ++ line)) → IsGathered Is (take (i + 1) pairs) old new more written
+gathered-next {Is} pairs i {old} {new} {more = more} {written = written} within h a =
+    subst (λ ps. IsGathered Is ps old new more written) (sym (take_more pairs i (0, 0) within)) (gathered-push (get_or pairs i (0, 0)) a.0 more h a.1 a.2)

@@ -14,16 +14,20 @@ abbrev pub line_of : ℕ × ℕ → Option Cost → List ℕ
 line_of pair (Some c) = codes "r" ++ named pair ++ codes " " ++ decimal (length_of c) ++ codes "\n"
 line_of pair None = codes "n" ++ named pair ++ codes "\n"
 
--- the line answers the pair: it tells the distance from the first node to the second
-pub record IsAnswer (g : Graph) (pair : ℕ × ℕ) (line : List ℕ) : Type 0 where
-  pub distance : Option Cost
-  pub least : IsDistance g pair.0 pair.1 distance
-  pub told : line ≡ line_of pair distance
+-- the line answers the pair: it tells the cost from the first node to the second, which is told of by `IsFrom`
+pub record IsAnswer (IsFrom : ℕ → ℕ → Option Cost → Type 0) (pair : ℕ × ℕ) (line : List ℕ) : Type 0 where
+  pub cost : Option Cost
+  pub least : IsFrom pair.0 pair.1 cost
+  pub told : line ≡ line_of pair cost
 
 -- the text has one answer for each pair, in order, and nothing else
-pub data Answered (g : Graph) : List (ℕ × ℕ) → List ℕ → Type 0 where
-  nothing : Answered g [] []
-  one_more : {pair : ℕ × ℕ} {pairs : List (ℕ × ℕ)} {line rest : List ℕ} → IsAnswer g pair line → Answered g pairs rest → Answered g (pair ∷ pairs) (line ++ rest)
+pub data AreAnswers (IsFrom : ℕ → ℕ → Option Cost → Type 0) : List (ℕ × ℕ) → List ℕ → Type 0 where
+  nothing : AreAnswers IsFrom [] []
+  one_more : {pair : ℕ × ℕ} {pairs : List (ℕ × ℕ)} {line rest : List ℕ} → IsAnswer IsFrom pair line → AreAnswers IsFrom pairs rest → AreAnswers IsFrom (pair ∷ pairs) (line ++ rest)
+
+-- answers by the distances of a graph
+abbrev pub Answered : Graph → List (ℕ × ℕ) → List ℕ → Type 0
+Answered g = AreAnswers (IsDistance g)
 
 -- the text answers all pairs of the second text over the graph of the first
 pub record Answers (graph_text pairs_text text : List ℕ) : Type 0 where

@@ -3,3 +3,4 @@ pub mod Joined
 pub mod Outcome
 pub mod Output
 pub mod Shown
+pub mod Route

@@ -1,12 +1,16 @@
 -- What an answering call has done where it refuses.
-use Rattle.std.specs.Prelude.{ℕ, ◌≡◌, ◌≤◌, ◌⊎◌, ⊤, List, take, length, Option, IfSome, Ok, Err}
+use Rattle.std.specs.Prelude.{ℕ, ◌≡◌, ◌≤◌, ◌⊎◌, ⊤, List, take, length, Option, Some, IfSome, Ok, Err}
 use Rattle.std.specs.Io.KnownBytes.{Appends, Keeps}
 use Rattle.ch_graph.specs.Graph.{Graph}
+use Rattle.ch_graph.specs.Hierarchy.{Hierarchy}
 use Rattle.grfile.specs.Outcome.{FromText}
 use Rattle.grfile.specs.Reading.{graph_of, pairs_of}
 use Rattle.grfile.specs.declared.error.GrErrorKind.TheVariants.{Read}
+use Rattle.hierfile.specs.Bytes.{OfBytes}
+use Rattle.hierfile.specs.Fault.{first_fault}
 use Rattle.ch_service.specs.declared.error.ServiceError.{ServiceError}
-use Rattle.ch_service.specs.declared.error.ServiceError.TheVariants.{Graph as GraphFault, Queries, Write, OutOfMemory}
+use Rattle.ch_service.specs.declared.error.ServiceError.TheVariants.{Graph as GraphFault, Queries, Hierarchy as HierarchyFault, Write, OutOfMemory}
+use Rattle.ch_service.specs.Route.{Spells}
 
 -- a fact of two texts, where both readers tell theirs
 abbrev pub IfTold : Option (List ℕ) → Option (List ℕ) → (List ℕ → List ℕ → Type 0) → Type 0
@@ -16,33 +20,67 @@ IfTold graph pairs P = IfSome graph (λ graph_text. IfSome pairs (λ pairs_text.
 abbrev pub Writes : (List ℕ → Type 0) → Option (List ℕ) → Option (List ℕ) → Type 0
 Writes P old new = (text : List ℕ) × P text × Appends old new text
 
+-- the writer took so many bytes of a text of this kind, from the first on
+abbrev pub WritesFirst : (List ℕ → Type 0) → Option (List ℕ) → Option (List ℕ) → ℕ → Type 0
+WritesFirst P old new written = (text : List ℕ) × P text × (written ≤ length text) × Appends old new (take written text)
+
 -- A fault of a text is the first that it has, and one of the pairs comes only where the graph has none. Want of
 -- memory and a failed read or write say nothing of the texts.
 abbrev pub IsFaultOf : List ℕ → List ℕ → ServiceError → Type 0
 IsFaultOf graph_text pairs_text (GraphFault fault) = FromText fault.kind (graph_of graph_text ≡ Err fault)
 IsFaultOf graph_text pairs_text (Queries fault) = (g : Graph) × (graph_of graph_text ≡ Ok g) × FromText fault.kind (pairs_of g.nodes pairs_text ≡ Err fault)
+IsFaultOf graph_text pairs_text (HierarchyFault e) = ⊥
 IsFaultOf graph_text pairs_text (Write fault) = ⊤
 IsFaultOf graph_text pairs_text OutOfMemory = ⊤
 
--- where a text is at fault, nothing is written
+-- The same where a hierarchy is prepared from the text of a graph.
+abbrev pub IsPreparingFault : List ℕ → ServiceError → Type 0
+IsPreparingFault graph_text (GraphFault fault) = FromText fault.kind (graph_of graph_text ≡ Err fault)
+IsPreparingFault graph_text (Queries fault) = ⊥
+IsPreparingFault graph_text (HierarchyFault e) = ⊥
+IsPreparingFault graph_text (Write fault) = ⊤
+IsPreparingFault graph_text OutOfMemory = ⊤
+
+-- And where pairs are answered by a hierarchy: a fault of the pairs comes only where the bytes spell one.
+abbrev pub IsRoutingFault : List ℕ → List ℕ → ServiceError → Type 0
+IsRoutingFault bytes pairs_text (GraphFault fault) = ⊥
+IsRoutingFault bytes pairs_text (Queries fault) = (h : Hierarchy) × Spells bytes h × FromText fault.kind (pairs_of (length h.ranks) pairs_text ≡ Err fault)
+IsRoutingFault bytes pairs_text (HierarchyFault e) = OfBytes e (first_fault bytes ≡ Some e)
+IsRoutingFault bytes pairs_text (Write fault) = ⊤
+IsRoutingFault bytes pairs_text OutOfMemory = ⊤
+
+-- where what is read is at fault, nothing is written
 abbrev pub KeepsAtFault : Option (List ℕ) → Option (List ℕ) → ServiceError → Type 0
 KeepsAtFault old new (GraphFault fault) = Keeps old new
 KeepsAtFault old new (Queries fault) = Keeps old new
+KeepsAtFault old new (HierarchyFault e) = Keeps old new
 KeepsAtFault old new (Write fault) = ⊤
 KeepsAtFault old new OutOfMemory = ⊤
+
+-- only where a write fails, something may be written
+abbrev pub KeepsUnlessWriting : Option (List ℕ) → Option (List ℕ) → ServiceError → Type 0
+KeepsUnlessWriting old new (Write fault) = ⊤
+KeepsUnlessWriting old new e = Keeps old new
+
+-- where it fails, the writer took the first `written` bytes of a text of this kind
+abbrev pub BreaksOff : (List ℕ → Type 0) → Option (List ℕ) → Option (List ℕ) → ServiceError → Type 0
+BreaksOff P old new (Write fault) = WritesFirst P old new fault.written
+BreaksOff P old new e = ⊤
 
 -- Where a write fails, the writer took the first `written` bytes of a text of this kind. Where memory is refused, it
 -- took nothing, or a whole text of this kind.
 abbrev pub StopsShort : (List ℕ → Type 0) → Option (List ℕ) → Option (List ℕ) → ServiceError → Type 0
 StopsShort P old new (GraphFault fault) = ⊤
 StopsShort P old new (Queries fault) = ⊤
-StopsShort P old new (Write fault) = (text : List ℕ) × P text × (fault.written ≤ length text) × Appends old new (take fault.written text)
+StopsShort P old new (HierarchyFault e) = ⊤
+StopsShort P old new (Write fault) = WritesFirst P old new fault.written
 StopsShort P old new OutOfMemory = Keeps old new ⊎ Writes P old new
 
 -- the refusals that come while pairs are answered
 abbrev pub ComesOfAnswering : ServiceError → Type 0
 ComesOfAnswering (GraphFault fault) = ⊥
 ComesOfAnswering (Queries fault) = ⊥
+ComesOfAnswering (HierarchyFault e) = ⊥
 ComesOfAnswering (Write fault) = ⊤
 ComesOfAnswering OutOfMemory = ⊤
 
@@ -50,5 +88,6 @@ ComesOfAnswering OutOfMemory = ⊤
 abbrev pub ComesOfReading : ServiceError → Type 0
 ComesOfReading (GraphFault fault) = fault.kind ≡ Read
 ComesOfReading (Queries fault) = ⊥
+ComesOfReading (HierarchyFault e) = ⊥
 ComesOfReading (Write fault) = ⊥
 ComesOfReading OutOfMemory = ⊤

@@ -1,15 +1,12 @@
-ghost use Rattle.std.specs.Prelude.{ℕ, All, OnOk, IfErr, IfSome, take};
-ghost use Rattle.grfile.specs.Reading.{IsPair};
-ghost use Rattle.ch_service.specs.Answer.{Answers, AnswersFirst, Answered};
+ghost use Rattle.std.specs.Prelude.{OnOk, IfErr, IfSome};
+ghost use Rattle.ch_service.specs.Answer.{Answers, AnswersFirst};
 ghost use Rattle.ch_service.specs.Joined.{graph_part, pairs_part};
-ghost use Rattle.ch_service.specs.Outcome.{IfTold, Writes, IsFaultOf, KeepsAtFault, StopsShort, ComesOfAnswering};
+ghost use Rattle.ch_service.specs.Outcome.{IfTold, Writes, IsFaultOf, KeepsAtFault, StopsShort};
 
 use crate::error::ServiceError;
 use crate::input::read_whole;
 use crate::joined::parts;
-use crate::line::push_answer;
-use crate::output::Output;
-use ch_graph::Graph;
+use crate::pairs::answer_pairs;
 use grfile::{read_graph, read_queries};
 use std::alloc::Global;
 use std::io::{Read, Write};
@@ -36,9 +33,9 @@ pub fn answer<G: Read, Q: Read, W: Write>(
     ensures stops { IfErr result (λ e. IfTold (G.remaining gr.old) (Q.remaining queries.old)
         (λ graph pairs. StopsShort (AnswersFirst graph pairs) (W.contents out.old) (W.contents out.new) e)) }
 {
-    let graph = read_graph(alloc, gr).map_err(ServiceError::Graph)?;
+    let mut graph = read_graph(alloc, gr).map_err(ServiceError::Graph)?;
     let pairs = read_queries(alloc, queries, graph.nodes()).map_err(ServiceError::Queries)?;
-    answer_pairs(alloc, &graph, pairs.as_slice(), out)
+    answer_pairs(alloc, &mut graph, pairs.as_slice(), out)
 }
 
 /// Answers pairs of nodes as [`answer`] does, where one input holds both texts: the graph's, a line that is the
@@ -64,28 +61,4 @@ pub fn answer_joined<R: Read, W: Write>(
     let text = read_whole(alloc, input)?;
     let (mut graph, mut pairs) = parts(text.as_slice());
     answer(alloc, &mut graph, &mut pairs, out)
-}
-
-// Writes the answers to the pairs, in order.
-fn answer_pairs<W: Write>(
-    alloc: Global,
-    graph: &Graph,
-    pairs: &[(u32, u32)],
-    out: &mut W,
-) -> Result<(), ServiceError>
-    requires { All (IsPair graph.now.nodes) pairs.now }
-    ensures answers { OnOk result (Writes (Answered graph.now pairs.now) (W.contents out.old) (W.contents out.new)) }
-    ensures kinds { IfErr result ComesOfAnswering }
-    ensures stops { IfErr result (StopsShort (λ text. (count : ℕ) × Answered graph.now (take count pairs.now) text) (W.contents out.old) (W.contents out.new)) }
-{
-    let mut output = Output::new(alloc);
-    for pair in pairs {
-        if push_answer(graph, *pair, &mut output.lines).is_err() {
-            output.hand_over(out)?;
-            return Err(ServiceError::OutOfMemory);
-        }
-        output.hand_over_if_many(out)?;
-    }
-    output.hand_over(out)?;
-    Ok(())
 }

@@ -3,18 +3,12 @@ ghost use Rattle.ch_service.specs.Shown.{shown};
 ghost use Rattle.ch_service.specs.declared.error.ServiceError.TheVariants.{OutOfMemory, Write};
 
 use grfile::{GrError, GrErrorKind};
+use hierfile::{HierError, WriteFault};
 use std::alloc::AllocError;
 use std::error::Error;
 use std::fmt;
 
-/// A writer failed, or took no byte of what it was given.
-#[derive(Clone, Copy, Debug, PartialEq, Eq)]
-pub struct WriteFault {
-    /// How many bytes it had taken.
-    pub written: u64,
-}
-
-/// Why a call didn't answer all pairs.
+/// Why a call didn't do its work.
 ///
 /// What is shown of one is the line that the program prints: want of memory and failed reads are shown alike,
 /// whichever part of the work met them.
@@ -24,9 +18,11 @@ pub enum ServiceError {
     Graph(GrError),
     /// The text of the pairs was refused, or couldn't be read.
     Queries(GrError),
-    /// The answers couldn't be written.
+    /// The file of the hierarchy was refused, or couldn't be read.
+    Hierarchy(HierError),
+    /// The answers, or the file of the hierarchy, couldn't be written.
     Write(WriteFault),
-    /// Memory was refused beside the reading of the texts.
+    /// Memory was refused beside the reading.
     OutOfMemory,
 }
 
@@ -44,6 +40,11 @@ impl fmt::Display for ServiceError {
                 GrErrorKind::OutOfMemory => write!(f, "memory"),
                 GrErrorKind::Read => write!(f, "read"),
                 _ => write!(f, "queries: {fault}"),
+            },
+            ServiceError::Hierarchy(fault) => match fault {
+                HierError::OutOfMemory => write!(f, "memory"),
+                HierError::Read => write!(f, "read"),
+                _ => write!(f, "hierarchy: {fault}"),
             },
             ServiceError::Write(_) => write!(f, "write"),
             ServiceError::OutOfMemory => write!(f, "memory"),

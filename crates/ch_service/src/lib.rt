@@ -1,23 +1,36 @@
 //! The work of the program `routecli`, over readers and writers of any kind.
 //!
-//! Stands on `ch_graph` for distances, on `grfile` for the two texts, and on `itoa` for decimals. Its calls are
-//! [`answer`] and [`answer_joined`]; [`ServiceError`] says why a call didn't answer all pairs. The promise of the layer
-//! is the contract of these two: what is written has one line for each pair, in order, with the least length over all
-//! walks of the text's graph, or with none where there is no walk. After a refusal it says which text was at fault, or
-//! which first part of such answers the writer took.
+//! Stands on `grfile` for the two texts, on `ch_contract` for hierarchies and `hierfile` for their files, on `ch_query`
+//! and `ch_graph` for distances, and on `itoa` for decimals. [`prepare`] writes a hierarchy of a graph, and [`route`]
+//! answers pairs of nodes by it; [`answer`] and [`answer_joined`] answer them over the graph itself. [`ServiceError`]
+//! says why a call didn't do its work. The promise of the layer is the contract of these calls: what is written has
+//! one line for each pair, in order, with the least length over all walks of the text's graph, or with none where
+//! there is no walk. For `prepare` and `route` together it is [`routes_are_exact`]. After a refusal a contract says
+//! which text was at fault, or which first part of such answers the writer took.
 //!
 //! Nodes are numbered from 0 inside, and from 1 in every text.
 #![tactic(auto)]
 
 mod answering;
+mod distances;
 mod error;
 mod input;
 mod joined;
+mod laws;
 mod line;
 mod output;
+mod pairs;
+mod preparing;
+mod routing;
 
 pub use answering::{answer, answer_joined};
-pub use error::{ServiceError, WriteFault};
+pub use error::ServiceError;
+pub use hierfile::WriteFault;
+pub use laws::{first_routes_are_exact, routes_are_exact};
+pub use preparing::prepare;
+pub use routing::route;
 
+#[cfg(test)]
+mod route_tests;
 #[cfg(test)]
 mod tests;

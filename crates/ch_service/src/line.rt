@@ -3,18 +3,23 @@ ghost use Rattle.std.specs.Io.{StartsWith};
 ghost use Rattle.ch_service.specs.Answer.{named, line_of, IsAnswer};
 ghost use Rattle.grfile.specs.Reading.{IsPair};
 
+use crate::distances::Distances;
 use ch_cost::Cost;
-use ch_graph::Graph;
 use itoa::Buffer;
 use std::alloc::AllocError;
 
 /// Appends the line that answers the pair. Where memory is refused the lines stay as they were.
-pub fn push_answer(graph: &Graph, pair: (u32, u32), lines: &mut Vec<u8>) -> Result<(), AllocError>
-    requires { IsPair graph.now.nodes pair }
-    ensures ok { OnOk result ((line : List ℕ) × IsAnswer graph.now pair line × (lines.new.items ≡ lines.old.items ++ line)) }
+pub fn push_answer<D: Distances>(
+    distances: &mut D,
+    pair: (u32, u32),
+    lines: &mut Vec<u8>,
+) -> Result<(), AllocError>
+    requires { IsPair (D.nodes distances.old) pair }
+    ensures ok { OnOk result ((line : List ℕ) × IsAnswer (D.tells distances.old) pair line × (lines.new.items ≡ lines.old.items ++ line)) }
     ensures err { OnErr result (lines.new.items ≡ lines.old.items) }
+    ensures kept { distances.new ≡ distances.old }
 {
-    let distance = graph.least(pair.0, pair.1)?;
+    let distance = distances.distance(pair.0, pair.1)?;
     let start = lines.len();
     let pushed = push_line(pair, distance, lines);
     if pushed.is_err() {

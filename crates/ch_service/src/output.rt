@@ -2,7 +2,7 @@ ghost use Rattle.std.specs.Prelude.{◌≡◌, ◌+◌, ◌*◌, ◌≤◌, ℕ,
 ghost use Rattle.std.specs.Io.KnownBytes.{Appends, Keeps};
 ghost use Rattle.ch_service.specs.declared.output.TheConstants.{CALLS, PIECE};
 
-use crate::error::WriteFault;
+use hierfile::WriteFault;
 use std::alloc::Global;
 use std::io::{ErrorKind, Write};
 

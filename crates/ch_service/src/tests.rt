@@ -1,5 +1,6 @@
 use crate::{ServiceError, WriteFault, answer, answer_joined};
 use grfile::{GrError, GrErrorKind};
+use hierfile::HierError;
 use std::alloc::{AllocError, Global};
 use std::io::{self, ErrorKind, Read, Write};
 use std::test::Fail;
@@ -406,6 +407,12 @@ fn shown(rt: HostRuntime) -> Result<(), Fail> {
         (ServiceError::Queries(memory), "memory"),
         (ServiceError::Graph(read), "read"),
         (ServiceError::Queries(read), "read"),
+        (
+            ServiceError::Hierarchy(HierError::HalfSum),
+            "hierarchy: HalfSum",
+        ),
+        (ServiceError::Hierarchy(HierError::OutOfMemory), "memory"),
+        (ServiceError::Hierarchy(HierError::Read), "read"),
         (ServiceError::Write(WriteFault { written: 3 }), "write"),
         (ServiceError::OutOfMemory, "memory"),
     ];

@@ -1,17 +1,22 @@
 -- How the program ends.
-use Rattle.std.specs.Prelude.{ℕ, ◌≡◌, ◌⊎◌, List, Option, Ok, Err}
+use Rattle.std.specs.Prelude.{ℕ, ◌≡◌, ◌⊎◌, List, length, Option, Some, Ok, Err}
 use Rattle.std.specs.Io.KnownBytes.{Keeps}
 use Rattle.ch_graph.specs.Graph.{Graph}
+use Rattle.ch_graph.specs.Hierarchy.{Hierarchy}
 use Rattle.grfile.specs.Reading.{graph_of, pairs_of}
 use Rattle.grfile.specs.declared.error.GrError.{GrError}
 use Rattle.grfile.specs.declared.error.GrErrorKind.{GrErrorKind}
 use Rattle.grfile.specs.declared.error.GrErrorKind.TheVariants as kinds
+use Rattle.hierfile.specs.Fault.{first_fault}
+use Rattle.hierfile.specs.declared.error.HierError.{HierError}
+use Rattle.hierfile.specs.declared.error.HierError.TheVariants as faults
 use Rattle.routecli.specs.declared.job.Stop.{Stop}
 use Rattle.routecli.specs.declared.job.Stop.TheVariants as stops
 use Rattle.ch_service.specs.declared.error.ServiceError.{ServiceError}
 use Rattle.ch_service.specs.declared.error.ServiceError.TheVariants as service
 use Rattle.ch_service.specs.Answer.{Answers}
 use Rattle.ch_service.specs.Outcome.{Writes}
+use Rattle.ch_service.specs.Route.{Spells, Prepares, Routes}
 
 -- want of memory and a failed read have statuses of their own, whichever text they came with
 abbrev pub status_unless_own : GrErrorKind → ℕ → ℕ
@@ -19,10 +24,17 @@ status_unless_own kinds.OutOfMemory status = 6
 status_unless_own kinds.Read status = 7
 status_unless_own kind status = status
 
+-- and whatever they were met in
+abbrev pub hierarchy_status : HierError → ℕ
+hierarchy_status faults.OutOfMemory = 6
+hierarchy_status faults.Read = 7
+hierarchy_status e = 4
+
 -- the status of a refusal
 abbrev pub status_of : ServiceError → ℕ
 status_of (service.Graph fault) = status_unless_own fault.kind 3
 status_of (service.Queries fault) = status_unless_own fault.kind 5
+status_of (service.Hierarchy fault) = hierarchy_status fault
 status_of (service.Write fault) = 7
 status_of service.OutOfMemory = 6
 
@@ -43,6 +55,29 @@ pub record Tells (status : ℕ) (graph_text pairs_text : List ℕ) (old new : Op
   pub done : status ≡ 0 → Writes (Answers graph_text pairs_text) old new
   pub graph : status ≡ 3 → HasGraphFault graph_text × Keeps old new
   pub pairs : status ≡ 5 → HasPairsFault graph_text pairs_text × Keeps old new
+
+-- what the status of a preparing job tells of the graph's text, and of what was written
+pub record TellsPrepared (status : ℕ) (graph_text : List ℕ) (old new : Option (List ℕ)) : Type 0 where
+  pub done : status ≡ 0 → Writes (Prepares graph_text) old new
+  pub graph : status ≡ 3 → HasGraphFault graph_text × Keeps old new
+
+-- the bytes have a fault, so they are the file of no hierarchy
+pub record HasHierarchyFault (bytes : List ℕ) : Type 0 where
+  pub fault : HierError
+  pub reads : first_fault bytes ≡ Some fault
+
+-- the bytes have none, and the text of the pairs has one
+pub record HasRoutedPairsFault (bytes pairs_text : List ℕ) : Type 0 where
+  pub hierarchy : Hierarchy
+  pub fault : GrError
+  pub spells : Spells bytes hierarchy
+  pub pairs_read : pairs_of (length hierarchy.ranks) pairs_text ≡ Err fault
+
+-- what the status of a routing job tells of the file and the text, and of what was written
+pub record TellsRouted (status : ℕ) (bytes pairs_text : List ℕ) (old new : Option (List ℕ)) : Type 0 where
+  pub done : status ≡ 0 → Writes (Routes bytes pairs_text) old new
+  pub hierarchy : status ≡ 4 → HasHierarchyFault bytes × Keeps old new
+  pub pairs : status ≡ 5 → HasRoutedPairsFault bytes pairs_text × Keeps old new
 
 -- The status where there is no job. Help that can't be written ends as a failed write does.
 abbrev pub HasStatus : Stop → ℕ → Type 0

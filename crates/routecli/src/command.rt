@@ -3,7 +3,7 @@ ghost use Rattle.clap.specs.declared.builder.command.Command.TheViews.{out-Comma
 
 use crate::job::{Job, Stop};
 use clap::error::ErrorKind;
-use clap::{Arg, ArgAction, Command, Error};
+use clap::{Arg, ArgAction, ArgMatches, Command, Error};
 use std::alloc::{AllocError, Global};
 
 /// What the words of a command line ask for. The first word is the program's name.
@@ -32,22 +32,37 @@ fn stop_of(alloc: Global, error: &Error) -> Stop {
 fn read_words(alloc: Global, words: &[String]) -> Result<Job<'_>, Error> {
     let program = program(alloc)?;
     let matches = program.try_get_matches_from(words)?;
-    let Some((_, found)) = matches.subcommand() else {
+    let Some((name, found)) = matches.subcommand() else {
         unreachable!()
     };
-    match (found.get_str("GRAPH"), found.get_str("QUERIES")) {
-        (Some(graph), Some(queries)) => Ok(Job::Answer { graph, queries }),
-        _ => Err(missing_file(alloc)?),
+    match job_of(name, found) {
+        Some(job) => Ok(job),
+        None => Err(missing_file(alloc)?),
+    }
+}
+
+// The job of a command by its name, if both its files are there.
+fn job_of<'a>(name: &str, found: &ArgMatches<'a>) -> Option<Job<'a>> {
+    match name {
+        "prepare" => Some(Job::Prepare {
+            graph: found.get_str("GRAPH")?,
+            out: found.get_str("OUT")?,
+        }),
+        "route" => Some(Job::Route {
+            hierarchy: found.get_str("HIER")?,
+            queries: found.get_str("QUERIES")?,
+        }),
+        _ => Some(Job::Answer {
+            graph: found.get_str("GRAPH")?,
+            queries: found.get_str("QUERIES")?,
+        }),
     }
 }
 
 // The error of a command line without a file that is required.
 fn missing_file(alloc: Global) -> Result<Error, AllocError> {
     let mut answer = answer(alloc)?;
-    answer.error(
-        ErrorKind::MissingRequiredArgument,
-        "GRAPH and QUERIES are required",
-    )
+    answer.error(ErrorKind::MissingRequiredArgument, "two files are required")
 }
 
 // The program's command line.
@@ -58,34 +73,63 @@ fn program<'a>(alloc: Global) -> Result<Command<'a>, AllocError>
     let program = Command::new(alloc, "routecli")
         .about("Answers pairs of nodes of a road graph with the least length of a walk")
         .after_help(STATUSES)
-        .subcommand(answer(alloc)?)?;
+        .subcommand(answer(alloc)?)?
+        .subcommand(prepare(alloc)?)?
+        .subcommand(route(alloc)?)?;
     Ok(program.subcommand_required(true))
 }
 
 fn answer<'a>(alloc: Global) -> Result<Command<'a>, AllocError>
     ensures { IfOk result (λ answer. (out-Command answer).has_globals ≡ false) }
 {
-    let graph = Arg::new(alloc, "GRAPH")
-        .help(
-            "File of the graph: p sp N M, and a line a U V W for each arc from U to V of weight W",
-        )
-        .required(true)
-        .action(ArgAction::Set);
-    let queries = Arg::new(alloc, "QUERIES")
-        .help("File of the pairs: p aux sp p2p K, and a line q S T for each pair")
-        .required(true)
-        .action(ArgAction::Set);
     Command::new(alloc, "answer")
         .about(
             "Answers pairs of nodes: r S T LENGTH with the least length of a walk, or n S T where there is none",
         )
         .after_help(JOINED)
-        .arg(graph)?
-        .arg(queries)
+        .arg(file(alloc, "GRAPH", GRAPH))?
+        .arg(file(alloc, "QUERIES", QUERIES))
 }
 
+fn prepare<'a>(alloc: Global) -> Result<Command<'a>, AllocError>
+    ensures { IfOk result (λ prepare. (out-Command prepare).has_globals ≡ false) }
+{
+    Command::new(alloc, "prepare")
+        .about("Prepares a hierarchy of a graph, by which route answers pairs of nodes")
+        .arg(file(alloc, "GRAPH", GRAPH))?
+        .arg(file(alloc, "OUT", OUT))
+}
+
+fn route<'a>(alloc: Global) -> Result<Command<'a>, AllocError>
+    ensures { IfOk result (λ route. (out-Command route).has_globals ≡ false) }
+{
+    Command::new(alloc, "route")
+        .about("Answers pairs of nodes, as answer does, by a hierarchy that was prepared")
+        .arg(file(alloc, "HIER", HIER))?
+        .arg(file(alloc, "QUERIES", QUERIES))
+}
+
+// A file that has to be named.
+fn file<'a>(alloc: Global, name: &'a str, help: &'a str) -> Arg<'a>
+    ensures { result.global ≡ false }
+{
+    Arg::new(alloc, name)
+        .help(help)
+        .required(true)
+        .action(ArgAction::Set)
+}
+
+const GRAPH: &str =
+    "File of the graph: p sp N M, and a line a U V W for each arc from U to V of weight W";
+
+const QUERIES: &str = "File of the pairs: p aux sp p2p K, and a line q S T for each pair";
+
+const OUT: &str = "File that is made for the hierarchy, once it is prepared";
+
+const HIER: &str = "File of a hierarchy that prepare made";
+
 const STATUSES: &str =
-    "Exit status: 0 done, 2 command line, 3 graph text, 5 text of pairs, 6 memory, 7 reading or writing";
+    "Exit status: 0 done, 2 command line, 3 graph text, 4 hierarchy, 5 text of pairs, 6 memory, 7 reading or writing";
 
 const JOINED: &str =
     "With - for both files standard input has both texts, parted by a line that is %.";

@@ -10,6 +10,20 @@ pub enum Job<'a> {
         /// The file with the text of the pairs.
         queries: &'a str,
     },
+    /// To prepare a hierarchy of a graph.
+    Prepare {
+        /// The file with the graph's text.
+        graph: &'a str,
+        /// The file that is made for the hierarchy.
+        out: &'a str,
+    },
+    /// To answer pairs by a hierarchy.
+    Route {
+        /// The file of the hierarchy.
+        hierarchy: &'a str,
+        /// The file with the text of the pairs.
+        queries: &'a str,
+    },
 }
 
 /// Why a command line names no job, with the text for the user.
@@ -26,12 +40,14 @@ pub enum Stop {
 impl Job<'_> {
     ghost use Rattle.routecli.specs.Job.{is_joined};
 
-    /// Whether both texts stand in one input, which is standard input: both files are named `-`.
+    /// Whether a graph's text and that of the pairs stand in one input, which is standard input: both files of
+    /// `answer` are named `-`.
     pub fn is_joined(&self) -> bool
         ensures { result ≡ is_joined self.now }
     {
         match self {
             Job::Answer { graph, queries } => *graph == "-" && *queries == "-",
+            Job::Prepare { .. } | Job::Route { .. } => false,
         }
     }
 }

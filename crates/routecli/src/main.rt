@@ -1,25 +1,27 @@
-//! The program `routecli`: answers pairs of nodes of a road graph with least lengths.
+//! The program `routecli`: prepares hierarchies of road graphs, and answers pairs of nodes with least lengths.
 //!
 //! Stands on `ch_service`, which does the work, and on `clap`, which reads the command line. [`command`] turns the
 //! words of a command line into a [`Job`], and [`perform`] does the job over readers and writers and answers the exit
 //! status; between the two `main` opens the files. The promise is in the contract of [`perform`]: a status of 0 means
-//! that what was written answers all pairs.
+//! that what was written answers all pairs, or is a hierarchy that is right for the graph.
 #![tactic(auto)]
 
 mod command;
 mod job;
+mod new_file;
 mod perform;
 #[cfg(test)]
 mod tests;
 
 use command::command;
 use job::Job;
+use new_file::NewFile;
 use perform::{end, perform, stop};
 use std::env::Env;
-use std::fs::File;
 use std::io::ErrorKind;
 use std::process::ExitCode;
-use std::{env, io};
+use std::rt::Files;
+use std::{env, fs, io};
 
 fn main(rt: HostRuntime) -> ExitCode {
     let mut out = rt.stdout();
@@ -32,31 +34,62 @@ fn main(rt: HostRuntime) -> ExitCode {
         Ok(job) => job,
         Err(why) => return ExitCode::from(stop(&why, &mut out, &mut err)),
     };
-    if job.is_joined() {
-        let mut nothing: &[u8] = b"";
-        return ExitCode::from(perform(
+    let mut nothing: &[u8] = b"";
+    let status = match job {
+        Job::Answer { .. } if job.is_joined() => perform(
             rt.alloc(),
             &job,
             &mut rt.stdin(),
             &mut nothing,
             &mut out,
             &mut err,
-        ));
-    }
-    let Job::Answer { graph, queries } = job;
-    let status = match (File::open(&rt, graph), File::open(&rt, queries)) {
-        (Ok(mut graph), Ok(mut queries)) => perform(
-            rt.alloc(),
-            &job,
-            &mut graph,
-            &mut queries,
-            &mut out,
-            &mut err,
         ),
-        (Err(error), _) => refuse_file(&error, &mut err),
-        (_, Err(error)) => refuse_file(&error, &mut err),
+        Job::Answer {
+            graph: first,
+            queries: second,
+        }
+        | Job::Route {
+            hierarchy: first,
+            queries: second,
+        } => perform_files(&rt, &job, first, second, &mut out, &mut err),
+        Job::Prepare { graph, out } => {
+            prepare_file(&rt, &job, graph, &mut NewFile::new(&rt, out), &mut err)
+        }
     };
     ExitCode::from(status)
+}
+
+// Does a job that reads two files.
+fn perform_files<R: Files + AllocGlobal, W: io::Write, E: io::Write>(
+    rt: &R,
+    job: &Job<'_>,
+    first: &str,
+    second: &str,
+    out: &mut W,
+    err: &mut E,
+) -> u8 {
+    match (fs::open(rt, first), fs::open(rt, second)) {
+        (Ok(mut first), Ok(mut second)) => {
+            perform(rt.alloc(), job, &mut first, &mut second, out, err)
+        }
+        (Err(error), _) => refuse_file(&error, err),
+        (_, Err(error)) => refuse_file(&error, err),
+    }
+}
+
+// Does a job that reads one file.
+fn prepare_file<R: Files + AllocGlobal, W: io::Write, E: io::Write>(
+    rt: &R,
+    job: &Job<'_>,
+    graph: &str,
+    out: &mut W,
+    err: &mut E,
+) -> u8 {
+    let mut nothing: &[u8] = b"";
+    match fs::open(rt, graph) {
+        Ok(mut graph) => perform(rt.alloc(), job, &mut graph, &mut nothing, out, err),
+        Err(error) => refuse_file(&error, err),
+    }
 }
 
 // The words of the command line, the program's name first.

@@ -1,19 +1,22 @@
 ghost use Rattle.std.specs.Prelude.{◌≡◌, true, false, IfSome};
 ghost use Rattle.ch_service.specs.Joined.{graph_part, pairs_part};
 ghost use Rattle.ch_service.specs.Outcome.{IfTold};
-ghost use Rattle.routecli.specs.Job.{is_joined};
-ghost use Rattle.routecli.specs.Status.{HasStatus, Tells, status_of, status_unless_own};
+ghost use Rattle.routecli.specs.Job.{is_joined, IsAnswering, IsPreparing, IsRouting};
+ghost use Rattle.routecli.specs.Status.{HasStatus, Tells, TellsPrepared, TellsRouted, status_of, status_unless_own, hierarchy_status};
 
 use crate::job::{Job, Stop};
-use ch_service::{ServiceError, answer, answer_joined};
+use ch_service::{ServiceError, answer, answer_joined, prepare, route};
 use grfile::GrErrorKind;
+use hierfile::HierError;
 use std::alloc::Global;
 use std::io::{Read, Write};
 
 /// Does the job and answers the program's exit status.
 ///
-/// `first` gives the graph's text and `second` that of the pairs; where both stand in one input, `first` gives it and
-/// `second` isn't read. Answers go to `out`. Of a refusal one line goes to `err`.
+/// To answer, `first` gives the graph's text and `second` that of the pairs; where both stand in one input, `first`
+/// gives it and `second` isn't read. To prepare, `first` gives the graph's text, `second` isn't read, and `out` gets
+/// the hierarchy. To route, `first` gives the hierarchy and `second` the text of the pairs. Answers go to `out`. Of a
+/// refusal one line goes to `err`.
 pub fn perform<A: Read, B: Read, W: Write, E: Write>(
     alloc: Global,
     job: &Job<'_>,
@@ -22,15 +25,54 @@ pub fn perform<A: Read, B: Read, W: Write, E: Write>(
     out: &mut W,
     err: &mut E,
 ) -> u8
-    ensures two { is_joined job.now ≡ false → IfTold (A.remaining first.old) (B.remaining second.old)
+    ensures two { IsAnswering job.now → is_joined job.now ≡ false → IfTold (A.remaining first.old) (B.remaining second.old)
         (λ graph pairs. Tells result graph pairs (W.contents out.old) (W.contents out.new)) }
     ensures joined { is_joined job.now ≡ true → IfSome (A.remaining first.old)
         (λ text. Tells result (graph_part text) (pairs_part text) (W.contents out.old) (W.contents out.new)) }
+    ensures prepared { IsPreparing job.now → IfSome (A.remaining first.old)
+        (λ text. TellsPrepared result text (W.contents out.old) (W.contents out.new)) }
+    ensures routed { IsRouting job.now → IfTold (A.remaining first.old) (B.remaining second.old)
+        (λ bytes pairs. TellsRouted result bytes pairs (W.contents out.old) (W.contents out.new)) }
 {
-    if job.is_joined() {
-        return perform_joined(alloc, first, out, err);
+    match job {
+        Job::Answer { .. } if job.is_joined() => perform_joined(alloc, first, out, err),
+        Job::Answer { .. } => perform_two(alloc, first, second, out, err),
+        Job::Prepare { .. } => perform_prepare(alloc, first, out, err),
+        Job::Route { .. } => perform_route(alloc, first, second, out, err),
     }
-    perform_two(alloc, first, second, out, err)
+}
+
+// Prepares a hierarchy of a graph.
+fn perform_prepare<A: Read, W: Write, E: Write>(
+    alloc: Global,
+    graph: &mut A,
+    out: &mut W,
+    err: &mut E,
+) -> u8
+    ensures { IfSome (A.remaining graph.old)
+        (λ text. TellsPrepared result text (W.contents out.old) (W.contents out.new)) }
+{
+    match prepare(alloc, graph, out) {
+        Ok(()) => 0,
+        Err(error) => report(&error, err),
+    }
+}
+
+// Answers the pairs by a hierarchy.
+fn perform_route<A: Read, B: Read, W: Write, E: Write>(
+    alloc: Global,
+    hierarchy: &mut A,
+    queries: &mut B,
+    out: &mut W,
+    err: &mut E,
+) -> u8
+    ensures { IfTold (A.remaining hierarchy.old) (B.remaining queries.old)
+        (λ bytes pairs. TellsRouted result bytes pairs (W.contents out.old) (W.contents out.new)) }
+{
+    match route(alloc, hierarchy, queries, out) {
+        Ok(()) => 0,
+        Err(error) => report(&error, err),
+    }
 }
 
 // Answers the pairs of one text over the graph of another.
@@ -80,6 +122,7 @@ fn status(error: &ServiceError) -> u8
     match error {
         ServiceError::Graph(fault) => status_unless_own(fault.kind, 3),
         ServiceError::Queries(fault) => status_unless_own(fault.kind, 5),
+        ServiceError::Hierarchy(fault) => hierarchy_status(*fault),
         ServiceError::Write(_) => 7,
         ServiceError::OutOfMemory => 6,
     }
@@ -93,6 +136,17 @@ fn status_unless_own(kind: GrErrorKind, status: u8) -> u8
         GrErrorKind::OutOfMemory => 6,
         GrErrorKind::Read => 7,
         _ => status,
+    }
+}
+
+// The status of a hierarchy's fault, where it is one of the file's own.
+fn hierarchy_status(fault: HierError) -> u8
+    ensures { result ≡ hierarchy_status fault }
+{
+    match fault {
+        HierError::OutOfMemory => 6,
+        HierError::Read => 7,
+        _ => 4,
     }
 }
 

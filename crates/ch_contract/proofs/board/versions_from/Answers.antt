@@ -1,4 +1,4 @@
-use Rattle.std.proofs.Common.{◌≡◌, ap, sym, ◌++◌, ◌∷◌, [], ◌∙◌, ◌+◌}
+use Rattle.std.proofs.Common.{ap, sym, ◌++◌, ◌∷◌, [], ◌∙◌, ◌+◌}
 use Rattle.ch_contract.proofs.Ranges.{range_with_len-more}
 use Rattle.ch_contract.proofs.board.versions_from.Goals as goal
 

@@ -1,9 +1,8 @@
-use Rattle.std.proofs.Common.{◌≡◌, ◌+◌, List, ◌++◌, length, rules, arith, ap, sym, subst, ◌∙◌}
+use Rattle.std.proofs.Common.{◌≡◌, List, ◌++◌, length, rules, arith, ap, sym, subst, ◌∙◌}
 use Rattle.std.specs.List.Sorted.{IsPermutation}
 use Rattle.std.proofs.lemmas.List.Sorted.{answers_always}
 use Rattle.ch_graph.specs.declared.link.Link.{Link}
 use Rattle.ch_laws.specs.Rows.{Row}
-use Rattle.ch_overlay.specs.Overlay.{row_at}
 use Rattle.ch_contract.specs.Finish.{row_links, links_below}
 use Rattle.ch_contract.proofs.Sorting.{sorted-pairs, links_below-more}
 use Rattle.ch_contract.proofs.parts.links_of.Goals as goal

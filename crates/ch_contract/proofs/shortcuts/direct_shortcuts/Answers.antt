@@ -1,9 +1,7 @@
-use Rattle.std.proofs.Common.{◌≡◌, ◌≤◌, List, length, All, take, arith, ap, sym, subst, ◌∙◌}
-use Rattle.std.proofs.lemmas.List.{take_all}
+use Rattle.std.proofs.Common.{List, length, All, take, arith, ap, sym, subst, ◌∙◌}
 use Rattle.ch_laws.specs.declared.entry.Entry.{Entry}
 use Rattle.ch_laws.specs.declared.shortcut.Shortcut.{Shortcut}
 use Rattle.ch_laws.specs.Rows.{Row, Rises}
-use Rattle.ch_cost.specs.declared.cost.Cost.{Cost}
 use Rattle.ch_overlay.specs.Overlay.{IsEntry, row_at}
 use Rattle.ch_contract.specs.Shortcuts.{pairs_of, AreDirect}
 use Rattle.ch_contract.proofs.Direct.{sources_of, direct-none, next-into, direct-all, direct-plan, direct-witnessed}

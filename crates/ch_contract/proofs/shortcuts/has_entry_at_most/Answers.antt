@@ -1,4 +1,4 @@
-use Rattle.std.proofs.Common.{rules, arith, false, IsTrue, ◌≡◌}
+use Rattle.std.proofs.Common.{rules}
 use Rattle.std.proofs.lemmas.Bool.{false≢true}
 use Rattle.std.proofs.lemmas.List.Sorted.{answers_always}
 use Rattle.ch_laws.specs.declared.entry.Entry.{Entry}

@@ -1,4 +1,4 @@
-use Rattle.std.proofs.Common.{ℕ, ◌≤◌, List, ◌++◌, length, arith, subst, ap, ◌∙◌}
+use Rattle.std.proofs.Common.{◌≤◌, List, ◌++◌, length, arith, subst, ap, ◌∙◌}
 use Rattle.std.proofs.lemmas.List.{take_all}
 use Rattle.ch_laws.specs.declared.entry.Entry.{Entry}
 use Rattle.ch_contract.specs.Shortcuts.{pairs_with, AreDirect}

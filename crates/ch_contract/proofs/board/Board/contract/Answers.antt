@@ -1,5 +1,4 @@
-use Rattle.std.proofs.Common.{◌≡◌, ℕ, ◌+◌, ◌*◌, ◌<◌, ◌≤◌, ◌-◌, List, [], ◌∷◌, ◌++◌, length, map, drop, All, AllPairs, arith, ap, sym, subst, ◌∙◌}
-use Rattle.std.specs.List.{range_with_len}
+use Rattle.std.proofs.Common.{◌≡◌, ℕ, ◌+◌, ◌*◌, ◌<◌, ◌≤◌, ◌-◌, List, [], ◌∷◌, ◌++◌, length, map, All, AllPairs, arith, ap, sym, subst, ◌∙◌}
 use Rattle.std.proofs.lemmas.List.{length-map, length_push}
 use Rattle.std.proofs.lemmas.List.FromFn.{length-range_with_len}
 use Rattle.std.specs.Arc.{arc_value}
@@ -61,7 +60,7 @@ few_versions c =
 
 pub invariant_of-self-2 : goal.invariant_of-self-2
 invariant_of-self-2 c =
-    let after = board_after (board c) c.args.shortcuts.now c.in_ok-change.change c.apply.new.self c.self.invariant.0 (lawful c) c.in_ok-change.ensures.change c.nodes-2.ensures.holds c.apply.ensures.bound (c.apply.ensures.state c.args.shortcuts.now c.in_ok-change.ensures.change) in
+    let after = board_after (board c) c.args.shortcuts.now c.in_ok-change.change c.apply.new.self c.self.invariant.0 (lawful c) c.in_ok-change.ensures.change c.apply.ensures.holds c.apply.ensures.bound (c.apply.ensures.state c.args.shortcuts.now c.in_ok-change.ensures.change) in
     let versions = versions-below c.self.inside.overlay.versions (changed_nodes c.in_ok-change.change) c.as_slice.result.now c.self.inside.next_version (length c.rows-count.result.now) c.self.invariant.1 (c.as_slice.ensures.value ∙ c.in_ok-versions.ensures) in (
       subst (λ (log : List Contraction). IsBoard (record { graph = c.self.inside.graph; overlay = c.apply.new.self; log = log })) (sym (made_entry c)) after,
       subst (λ (vs : List ℕ). All (λ v. v < c.self.inside.next_version + length c.rows-count.result.now) vs) (sym c.apply.ensures.versions) versions,

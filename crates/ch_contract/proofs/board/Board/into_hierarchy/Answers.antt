@@ -1,4 +1,4 @@
-use Rattle.std.proofs.Common.{◌≡◌, ◌<◌, ◌≤◌, length, arith, sym, subst, refl}
+use Rattle.std.proofs.Common.{◌<◌, length, arith, sym, subst, refl}
 use Rattle.ch_graph.specs.Hierarchy.{Hierarchy, IsRight}
 use Rattle.ch_laws.specs.Contraction.{IsMade}
 use Rattle.ch_overlay.specs.Overlay.{state_of}

@@ -2,7 +2,7 @@ use Rattle.std.proofs.Common.{◌≡◌, ◌<◌, ◌↔◌, Bool, true, false, 
 use Rattle.std.proofs.lemmas.Bool.{false≢true}
 use Rattle.ch_laws.specs.Contraction.{IsAlive}
 use Rattle.ch_laws.specs.Rows.{Row}
-use Rattle.ch_overlay.specs.Overlay.{row_at, state_of}
+use Rattle.ch_overlay.specs.Overlay.{state_of}
 use Rattle.ch_contract.specs.Board.{Board}
 use Rattle.ch_contract.proofs.Sweeping.{alive-from_none, none-from_alive}
 use Rattle.ch_contract.proofs.board.Board.is_alive.Goals as goal

@@ -1,8 +1,8 @@
-use Rattle.std.proofs.Common.{◌≡◌, ℕ, ◌+◌, ◌*◌, ◌<◌, ◌≤◌, List, [], slice_index_or, length, arith, sym, subst, refl, ap, ◌∙◌}
+use Rattle.std.proofs.Common.{◌≡◌, ℕ, ◌<◌, List, [], slice_index_or, length, arith, sym, subst, ap, ◌∙◌}
 use Rattle.std.specs.List.{range_with_len}
 use Rattle.std.proofs.lemmas.List.FromFn.{get_or-range_with_len, length-range_with_len}
 use Rattle.ch_graph.specs.Graph.{Graph, IsGraph}
-use Rattle.ch_laws.specs.Contraction.{Contraction, IsReached, Run, Run.rest}
+use Rattle.ch_laws.specs.Contraction.{Contraction, IsReached, Run}
 use Rattle.ch_overlay.specs.Overlay.{state_of}
 use Rattle.ch_contract.proofs.board.Board.new.Goals as goal
 

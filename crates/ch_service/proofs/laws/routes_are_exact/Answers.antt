@@ -1,0 +1,5 @@
+use Rattle.ch_service.proofs.Exact.{routes-exact}
+use Rattle.ch_service.proofs.laws.routes_are_exact.Goals as goal
+
+pub returns : goal.returns
+returns c = routes-exact c.hierarchies_have_one_spelling.ensures

@@ -1,0 +1,52 @@
+-- Hierarchies as they are written, and answers by them.
+use Rattle.std.specs.Prelude.{ℕ, ◌≡◌, List, length, take, Ok}
+use Rattle.ch_graph.specs.Graph.{Graph}
+use Rattle.ch_graph.specs.Hierarchy.{Hierarchy, IsWellMade, IsRight, IsValue}
+use Rattle.grfile.specs.Reading.{graph_of, pairs_of}
+use Rattle.hierfile.specs.Spelling.{bytes_of}
+use Rattle.ch_service.specs.Answer.{AreAnswers, Answered, Answers, AnswersFirst}
+
+-- the bytes are the file of the hierarchy
+pub record Spells (bytes : List ℕ) (h : Hierarchy) : Type 0 where
+  pub made : IsWellMade h
+  pub spelled : bytes ≡ bytes_of h
+
+-- the bytes are the file of a hierarchy that is right for the graph of the text
+pub record Prepares (graph_text bytes : List ℕ) : Type 0 where
+  pub graph : Graph
+  pub hierarchy : Hierarchy
+  pub graph_reads : graph_of graph_text ≡ Ok graph
+  pub right : IsRight graph hierarchy
+  pub spells : Spells bytes hierarchy
+
+-- The text answers the pairs by the values of the hierarchy; where the hierarchy is right for a graph, it answers
+-- them by the distances of that graph.
+pub record Routed (h : Hierarchy) (pairs : List (ℕ × ℕ)) (text : List ℕ) : Type 0 where
+  pub by_values : AreAnswers (IsValue h) pairs text
+  pub by_distances : (g : Graph) → IsRight g h → Answered g pairs text
+
+-- the bytes are the file of a hierarchy, by which the text answers all pairs of the second text
+pub record Routes (bytes pairs_text text : List ℕ) : Type 0 where
+  pub hierarchy : Hierarchy
+  pub pairs : List (ℕ × ℕ)
+  pub spells : Spells bytes hierarchy
+  pub pairs_read : pairs_of (length hierarchy.ranks) pairs_text ≡ Ok pairs
+  pub routed : Routed hierarchy pairs text
+
+-- it answers the first of them, as many as `count` says, and no others
+pub record RoutesFirst (bytes pairs_text text : List ℕ) : Type 0 where
+  pub hierarchy : Hierarchy
+  pub pairs : List (ℕ × ℕ)
+  pub spells : Spells bytes hierarchy
+  pub pairs_read : pairs_of (length hierarchy.ranks) pairs_text ≡ Ok pairs
+  pub count : ℕ
+  pub routed : Routed hierarchy (take count pairs) text
+
+-- Where the bytes were prepared from the text of a graph, routes by these bytes are answers over that graph: each line
+-- tells the least length over all walks, or that there is no walk.
+abbrev pub RoutesAreExact : Type 0
+RoutesAreExact = (graph_text bytes pairs_text text : List ℕ) → Prepares graph_text bytes → Routes bytes pairs_text text → Answers graph_text pairs_text text
+
+-- and so are the first of them
+abbrev pub FirstRoutesAreExact : Type 0
+FirstRoutesAreExact = (graph_text bytes pairs_text text : List ℕ) → Prepares graph_text bytes → RoutesFirst bytes pairs_text text → AnswersFirst graph_text pairs_text text
