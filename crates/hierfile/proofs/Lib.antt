@@ -10,3 +10,5 @@ pub mod Bodies
 pub mod Whole
 pub mod Handing
 pub mod OneSpelling
+pub mod FewLinks
+pub mod NoFault

@@ -119,7 +119,7 @@ link_facts ranks bound earlier l h =
       middle = second_none (ends otherwise order otherwise weight) middle h;
     }
 
-slice_get-at : (ls : List Link) (k : ℕ) (d : Link) → k < length ls → slice_get ls k ≡ Some (get_or ls k d)
+pub slice_get-at : (ls : List Link) (k : ℕ) (d : Link) → k < length ls → slice_get ls k ≡ Some (get_or ls k d)
 slice_get-at [] k d h = absurd (omega arith)
 slice_get-at (l ∷ ls) zero d h = refl
 slice_get-at (l ∷ ls) (suc k) d h = slice_get-at ls k d (omega arith)

@@ -1,8 +1,13 @@
 -- What is true of spellings.
-use Rattle.std.specs.Prelude.{◌≡◌}
+use Rattle.std.specs.Prelude.{◌≡◌, None}
 use Rattle.ch_graph.specs.Hierarchy.{Hierarchy, IsWellMade}
 use Rattle.hierfile.specs.Spelling.{bytes_of}
+use Rattle.hierfile.specs.Fault.{first_fault}
 
 -- two well made hierarchies of one spelling are the same
 abbrev pub HierarchiesHaveOneSpelling : Type 0
 HierarchiesHaveOneSpelling = (g h : Hierarchy) → IsWellMade g → IsWellMade h → bytes_of g ≡ bytes_of h → g ≡ h
+
+-- the spelling of a well made hierarchy has no fault
+abbrev pub SpellingsHaveNoFault : Type 0
+SpellingsHaveNoFault = (h : Hierarchy) → IsWellMade h → first_fault (bytes_of h) ≡ None
