@@ -12,3 +12,4 @@ pub mod Handing
 pub mod OneSpelling
 pub mod FewLinks
 pub mod NoFault
+pub mod ReadBack

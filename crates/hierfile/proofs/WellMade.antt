@@ -263,3 +263,12 @@ well_made n k b ranks links sizes count_ranks ranks_ok count_links links_ok halv
             middle = has_halves h (get_or links i d) facts.middle (along_none (half_fault links) links halves_ok i d less);
           };
     }
+
+-- the same of parts that go by other names
+pub well_made_of : (n k b : ℕ) (ranks seen : List ℕ) (links tested : List Link) (bound : Cost) → size_fault n k b ≡ None → length ranks ≡ n → NoneBelow n (rank_fault n ranks) → length links ≡ k
+    → NoneBelow k (link_fault_at seen bound links) → first_along (half_fault tested) tested ≡ None → seen ≡ ranks → tested ≡ links → bound ≡ of_length b → IsWellMade (record { ranks = ranks; links = links; bound = bound })
+well_made_of n k b ranks seen links tested bound sizes count_ranks ranks_ok count_links links_ok halves_ok same_ranks same_links same_bound =
+    let at_ranks : NoneBelow k (link_fault_at ranks bound links) = subst (λ (r : List ℕ). NoneBelow k (link_fault_at r bound links)) same_ranks links_ok in
+    let at_bound : NoneBelow k (link_fault_at ranks (of_length b) links) = subst (λ (c : Cost). NoneBelow k (link_fault_at ranks c links)) same_bound at_ranks in
+    let halves : first_along (half_fault links) links ≡ None = subst (λ (l : List Link). first_along (half_fault l) l ≡ None) same_links halves_ok in
+    subst (λ (c : Cost). IsWellMade (record { ranks = ranks; links = links; bound = c })) (sym same_bound) (well_made n k b ranks links sizes count_ranks ranks_ok count_links at_bound halves)

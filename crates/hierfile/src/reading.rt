@@ -2,9 +2,10 @@ ghost use Rattle.std.specs.Prelude.{◌≡◌, ◌++◌, [], ◌*◌, length, No
 ghost use Rattle.std.specs.List.{flat_map};
 ghost use Rattle.std.specs.Io.KnownBytes.{Consumes, IsAtEnd};
 ghost use Rattle.ch_cost.specs.Cost.{of_length};
+ghost use Rattle.ch_graph.specs.Hierarchy.{IsWellMade};
 ghost use Rattle.hierfile.specs.Spelling.{bytes_of, magic, word, long, link_bytes};
 ghost use Rattle.hierfile.specs.Fault.{first_fault, magic_fault, head_fault, size_fault, body_fault, end_fault};
-ghost use Rattle.hierfile.specs.Bytes.{coming, IsFaultOf, Tells, IsBodyOf};
+ghost use Rattle.hierfile.specs.Bytes.{coming, IsFaultOf, ReadsSpellings, Tells, IsBodyOf};
 
 use crate::error::HierError;
 use crate::input::Input;
@@ -41,6 +42,8 @@ struct Head {
 /// for two binary searches for each link with a middle.
 pub fn read<R: Read>(alloc: Global, reader: &mut R) -> Result<Hierarchy, HierError>
     ensures ok { IfOk result (λ hierarchy. IfSome (R.remaining reader.old) (λ bytes. bytes ≡ bytes_of hierarchy)) }
+    ensures made { IfOk result IsWellMade }
+    ensures spelling { IfSome (R.remaining reader.old) (λ bytes. ReadsSpellings bytes result) }
     ensures err { IfErr result (IsFaultOf first_fault (R.remaining reader.old)) }
 {
     let mut input = Input::new(alloc)?;
@@ -104,6 +107,7 @@ fn read_body<R: Read>(
     head: Head,
 ) -> Result<Hierarchy, HierError>
     requires { size_fault head.nodes head.links head.bound ≡ None }
+    ensures made { IfOk result IsWellMade }
     ensures sizes { IfOk result (λ hierarchy. IsBodyOf hierarchy head.nodes head.links head.bound) }
     ensures ok { IfOk result (λ hierarchy. IfSome (coming input.old (R.remaining reader.old)) (λ bytes. bytes ≡ flat_map word hierarchy.ranks ++ flat_map link_bytes hierarchy.links)) }
     ensures err { IfErr result (IsFaultOf (body_fault head.nodes head.links head.bound) (coming input.old (R.remaining reader.old))) }
