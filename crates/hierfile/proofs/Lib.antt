@@ -13,3 +13,5 @@ pub mod OneSpelling
 pub mod FewLinks
 pub mod NoFault
 pub mod ReadBack
+pub mod Respelled
+pub mod Faultless

@@ -14,7 +14,7 @@ use Rattle.hierfile.specs.Bytes.{coming, IsBodyOf, IsFaultOf}
 use Rattle.hierfile.proofs.Faults.{earlier, later, neither, none_below, cut_none}
 use Rattle.hierfile.proofs.Heads.{sizes, head_fault-sizes, nodes-sizes, links-sizes, bound-sizes, drop-sizes}
 
-abbrev at_magic : List ℕ → ℕ → Option HierError
+abbrev pub at_magic : List ℕ → ℕ → Option HierError
 at_magic bytes k = cut (k + 1) bytes otherwise fault_if (not (slice_index bytes k == slice_index magic k)) BadMagic
 
 magic_at : (rest : List ℕ) (k : ℕ) → k < 4 → at_magic (magic ++ rest) k ≡ None

@@ -1,5 +1,5 @@
 -- What is true of spellings.
-use Rattle.std.specs.Prelude.{◌≡◌, None}
+use Rattle.std.specs.Prelude.{ℕ, ◌≡◌, ◌^◌, ◌<◌, List, None, All}
 use Rattle.ch_graph.specs.Hierarchy.{Hierarchy, IsWellMade}
 use Rattle.hierfile.specs.Spelling.{bytes_of}
 use Rattle.hierfile.specs.Fault.{first_fault}
@@ -11,3 +11,11 @@ HierarchiesHaveOneSpelling = (g h : Hierarchy) → IsWellMade g → IsWellMade h
 -- the spelling of a well made hierarchy has no fault
 abbrev pub SpellingsHaveNoFault : Type 0
 SpellingsHaveNoFault = (h : Hierarchy) → IsWellMade h → first_fault (bytes_of h) ≡ None
+
+-- bytes that spell a well made hierarchy
+abbrev pub IsSpelling : List ℕ → Type 0
+IsSpelling bytes = (h : Hierarchy) × IsWellMade h × (bytes ≡ bytes_of h)
+
+-- bytes without a fault spell a well made hierarchy
+abbrev pub FaultlessBytesAreSpellings : Type 0
+FaultlessBytesAreSpellings = (bytes : List ℕ) → All (λ b. b < 2 ^ 8) bytes → first_fault bytes ≡ None → IsSpelling bytes

@@ -19,6 +19,6 @@ mod tests;
 mod writing;
 
 pub use error::{HierError, WriteFault};
-pub use laws::{hierarchies_have_one_spelling, spellings_have_no_fault};
+pub use laws::{faultless_bytes_are_spellings, hierarchies_have_one_spelling, spellings_have_no_fault};
 pub use reading::read;
 pub use writing::write;
