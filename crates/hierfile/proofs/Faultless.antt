@@ -1,5 +1,5 @@
 -- Bytes without a fault spell a well made hierarchy.
-use Rattle.std.proofs.Common.{ℕ, zero, suc, ◌≡◌, ◌+◌, ◌-◌, ◌*◌, ◌^◌, ◌<◌, ◌≤◌, ◌==◌, not, true, false, Bool, List, [], ◌∷◌, ◌++◌, length, get_or, take, drop, Option, None, Some, All, sym, refl, ap, ◌∙◌, subst, arith, append_assoc, append-nil, length-drop}
+use Rattle.std.proofs.Common.{ℕ, zero, suc, ◌≡◌, ◌+◌, ◌*◌, ◌^◌, ◌<◌, ◌≤◌, ◌==◌, not, false, List, [], ◌++◌, length, get_or, take, drop, Option, None, All, sym, refl, ap, ◌∙◌, arith, append-nil}
 use Rattle.std.specs.Prelude.{nat_lt, slice_index}
 use Rattle.std.specs.List.{flat_map}
 use Rattle.std.proofs.lemmas.Bool.Decides.{nat_tests}
@@ -7,12 +7,11 @@ use Rattle.std.proofs.lemmas.List.{take-append-drop, nil_from_length}
 use Rattle.ch_cost.specs.declared.cost.Cost.{Cost}
 use Rattle.ch_cost.specs.Cost.{length_of, of_length}
 use Rattle.ch_cost.specs.Cost.Lengths.{length_of-of_length}
-use Rattle.ch_graph.specs.declared.link.Link.{Link}
 use Rattle.ch_graph.specs.Hierarchy.{Hierarchy, IsWellMade}
 use Rattle.hierfile.specs.declared.error.HierError.{HierError}
 use Rattle.hierfile.specs.declared.error.HierError.TheVariants.{BadMagic, Trailing}
 use Rattle.hierfile.specs.Spelling.{magic, word, word_in, long_in, link_bytes, words_in, links_in, bytes_of}
-use Rattle.hierfile.specs.Fault.{◌otherwise◌, fault_if, first_below, cut, magic_fault, head_fault, size_fault, rank_fault, ranks_fault, link_fault_at, links_fault, half_fault, first_along, end_fault, body_fault, first_fault}
+use Rattle.hierfile.specs.Fault.{◌otherwise◌, fault_if, cut, magic_fault, head_fault, size_fault, rank_fault, ranks_fault, link_fault_at, links_fault, half_fault, first_along, end_fault, body_fault, first_fault}
 use Rattle.hierfile.specs.Laws.{IsSpelling}
 use Rattle.hierfile.specs.Bytes.{NoneBelow}
 use Rattle.hierfile.proofs.Buffer.{first_four}
@@ -21,7 +20,7 @@ use Rattle.hierfile.proofs.Heads.{sizes}
 use Rattle.hierfile.proofs.RankFaults.{at_rank}
 use Rattle.hierfile.proofs.LinkFaults.{at_link}
 use Rattle.hierfile.proofs.WellMade.{untrue, well_made}
-use Rattle.hierfile.proofs.Whole.{at_magic}
+use Rattle.hierfile.proofs.Whole.{at_magic, same_head}
 use Rattle.hierfile.proofs.OneSpelling.{parts}
 use Rattle.hierfile.proofs.Respelled.{AreBytes, behind_bytes, respelled_sizes, respelled_words, respelled_links, length-words_in, length-links_in}
 
@@ -128,12 +127,9 @@ said_body n k b bytes all is =
     let whole_links : links ≡ rest = sym (append-nil links) ∙ ap (λ l. links ++ l) (sym (ends (drop (20 * k) rest) is.end)) ∙ respelled_links k rest links_room (behind_bytes (4 * n) bytes all) in
     ap (λ l. ranks ++ l) whole_links ∙ respelled_words n bytes words_room all
 
-same_sizes : {m n k l b c : ℕ} → m ≡ n → k ≡ l → b ≡ c → sizes m k b ≡ sizes n l c
-same_sizes p q r = cc
-
 said_sizes : (n k b : ℕ) (bytes : List ℕ) → sizes (length (said n k b bytes).ranks) (length (said n k b bytes).links) (length_of (said n k b bytes).bound) ≡ sizes n k b
 unfolding said
-said_sizes n k b bytes = same_sizes (length-words_in n bytes) (length-links_in k (drop (4 * n) bytes)) (length_of-of_length b)
+said_sizes n k b bytes = same_head (length-words_in n bytes) (length-links_in k (drop (4 * n) bytes)) (length_of-of_length b)
 
 spelled : (n k b : ℕ) (head bytes rest : List ℕ) → magic ++ head ≡ bytes → sizes n k b ++ rest ≡ head → AreBytes rest → AreFaultless n k b rest → bytes ≡ bytes_of (said n k b rest)
 spelled n k b head bytes rest begin numbers all is =

@@ -1,6 +1,6 @@
 -- The spelling of a well made hierarchy has no fault.
-use Rattle.std.proofs.Common.{ℕ, zero, suc, ◌≡◌, ◌≢◌, ◌+◌, ◌-◌, ◌*◌, ◌^◌, ◌<◌, ◌≤◌, ◌==◌, ◌||◌, ◌&&◌, not, Bool, true, false, List, [], ◌∷◌, ◌++◌, length, get_or, take, Option, None, Some, All, AllPairs, Contains, inl, inr, sym, refl, ap, ◌∙◌, subst, arith, append-nil, append_assoc}
-use Rattle.std.specs.Prelude.{nat_lt, nat_le, slice_index, slice_get, option_and_then, IfSome}
+use Rattle.std.proofs.Common.{ℕ, zero, suc, ◌≡◌, ◌≢◌, ◌+◌, ◌-◌, ◌*◌, ◌^◌, ◌<◌, ◌≤◌, ◌==◌, ◌||◌, ◌&&◌, not, Bool, true, false, List, [], ◌∷◌, ◌++◌, length, get_or, take, Option, None, Some, All, AllPairs, inl, inr, sym, refl, ap, ◌∙◌, subst, arith, append-nil, append_assoc}
+use Rattle.std.specs.Prelude.{nat_lt, nat_le, slice_index, slice_get, option_and_then}
 use Rattle.std.specs.List.{list_any, find, flat_map}
 use Rattle.std.proofs.lemmas.Bool.Decides.{nat_tests}
 use Rattle.std.proofs.lemmas.Grind.{get_or_default_zero}
@@ -12,16 +12,16 @@ use Rattle.ch_cost.specs.Cost.{zero_cost, ◌⊕◌, cost_of_arcs, length_of, of
 use Rattle.ch_cost.specs.Cost.Laws.{length_of-zero_cost, length_of-sum}
 use Rattle.ch_cost.specs.Cost.Lengths.{of_length-length_of, length_of-cost_of_arcs, lengths-from_below, lengths-from_within}
 use Rattle.ch_graph.specs.declared.link.Link.{Link}
-use Rattle.ch_graph.specs.Hierarchy.{Hierarchy, IsWellMade, IsLinkWellMade, IsLink, IsLinkAt, AreHalves, ComesBefore}
+use Rattle.ch_graph.specs.Hierarchy.{Hierarchy, IsWellMade, IsLinkWellMade, IsLink, IsLinkAt, ComesBefore}
 use Rattle.hierfile.specs.declared.error.HierError.{HierError}
 use Rattle.hierfile.specs.declared.error.HierError.TheVariants.{LinkEnds, LinkOrder, LinkWeight, MiddleRange, MiddleRank, HalfSum, TooBig, BoundTooBig, RankRange, RankTwice}
 use Rattle.hierfile.specs.Spelling.{magic, word, link_bytes, head_bytes, bytes_of}
-use Rattle.hierfile.specs.Fault.{◌otherwise◌, fault_if, size_fault, rank_test, rank_fault, link_fault, link_fault_at, middle_fault, is_before, is_in_order, half_fault, halves_fault, sum_fault, leads, first_along, end_fault, body_fault, first_fault}
+use Rattle.hierfile.specs.Fault.{fault_if, size_fault, rank_test, rank_fault, link_fault, link_fault_at, middle_fault, is_before, is_in_order, half_fault, halves_fault, sum_fault, leads, first_along, body_fault, first_fault}
 use Rattle.hierfile.specs.Bytes.{NoneBelow}
 use Rattle.hierfile.proofs.Faults.{neither}
 use Rattle.hierfile.proofs.Halves.{find-at}
 use Rattle.hierfile.proofs.Heads.{sizes}
-use Rattle.hierfile.proofs.WellMade.{slice_get-at}
+use Rattle.hierfile.proofs.WellMade.{slice_get-at, equal_tests}
 use Rattle.hierfile.proofs.Bodies.{body_after_links}
 use Rattle.hierfile.proofs.Whole.{first_fault-sizes}
 use Rattle.hierfile.proofs.OneSpelling.{bound_fits, links_fit}
@@ -139,9 +139,6 @@ links_none h made k less =
     subst (λ (o : Option Link). option_and_then (link_fault h.ranks h.bound earlier) o ≡ None) (sym (slice_get-at h.links k d less)) (link_none_at h k d made less)
 
 -- Halves
-
-equal_tests : (a b : ℕ) → a ≡ b → (a == b) ≡ true
-equal_tests a b h = grind (arith, nat_tests)
 
 -- the link between two nodes is the one that is found
 found_link : (h : Hierarchy) (x y : ℕ) (l : Link) → IsWellMade h → IsLink h x y l → find (leads x y) h.links ≡ Some l

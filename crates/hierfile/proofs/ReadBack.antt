@@ -1,11 +1,11 @@
 -- How a spelling is read.
-use Rattle.std.proofs.Common.{ℕ, ◌≡◌, List, Option, None, Some, Result, Ok, Err, sym, ap, ◌∙◌, subst}
+use Rattle.std.proofs.Common.{ℕ, ◌≡◌, List, Option, None, Some, Result, Ok, Err, sym, ap, ◌∙◌}
 use Rattle.std.specs.Prelude.{IfErr, IfSome, IsErrAnd}
 use Rattle.ch_graph.specs.Hierarchy.{Hierarchy, IsWellMade}
 use Rattle.hierfile.specs.declared.error.HierError.{HierError}
 use Rattle.hierfile.specs.Spelling.{bytes_of}
 use Rattle.hierfile.specs.Fault.{first_fault}
-use Rattle.hierfile.specs.Bytes.{IsFaultOf, ReadsSpellings, SaysNothing}
+use Rattle.hierfile.specs.Bytes.{IsFaultOf, ReadsSpellings}
 use Rattle.hierfile.proofs.Faults.{of_bytes-map}
 use Rattle.hierfile.proofs.NoFault.{no_fault}
 use Rattle.hierfile.proofs.OneSpelling.{one_spelling}

@@ -46,7 +46,7 @@ unlike : (n : ℕ) (before : List ℕ) (rank : ℕ) → rank_test n before rank 
 unfolding rank_test
 unlike n before rank h = untrue _ RankTwice (second_none (fault_if (nat_le n rank) RankRange) (fault_if (list_any (λ r. r == rank) before) RankTwice) h)
 
-equal_tests : (a b : ℕ) → a ≡ b → (a == b) ≡ true
+pub equal_tests : (a b : ℕ) → a ≡ b → (a == b) ≡ true
 equal_tests a b h = grind (arith, nat_tests)
 
 pub ranks_once : (n : ℕ) (ranks : List ℕ) → NoneBelow (length ranks) (rank_fault n ranks) → AllPairs (λ q r. q ≢ r) ranks
