@@ -57,14 +57,14 @@ waits_at items at end k x h room is =
     let read : x ≡ get_or items (at + k) 0 = get_or_read items (at + k) x (omega arith) is 0 in
     get_or-drop at (take end items) k 0 ∙ get_or-take end items (at + k) 0 h ∙ sym read
 
-first_four : (w : List ℕ) → 4 ≤ length w → take 4 w ≡ get_or w 0 0 ∷ get_or w 1 0 ∷ get_or w 2 0 ∷ get_or w 3 0 ∷ []
+pub first_four : (w : List ℕ) → 4 ≤ length w → take 4 w ≡ get_or w 0 0 ∷ get_or w 1 0 ∷ get_or w 2 0 ∷ get_or w 3 0 ∷ []
 first_four [] h = absurd (omega arith)
 first_four (a ∷ []) h = absurd (omega arith)
 first_four (a ∷ b ∷ []) h = absurd (omega arith)
 first_four (a ∷ b ∷ c ∷ []) h = absurd (omega arith)
 first_four (a ∷ b ∷ c ∷ d ∷ w) h = refl
 
-first_eight : (w : List ℕ) → 8 ≤ length w → take 8 w ≡ get_or w 0 0 ∷ get_or w 1 0 ∷ get_or w 2 0 ∷ get_or w 3 0 ∷ get_or w 4 0 ∷ get_or w 5 0 ∷ get_or w 6 0 ∷ get_or w 7 0 ∷ []
+pub first_eight : (w : List ℕ) → 8 ≤ length w → take 8 w ≡ get_or w 0 0 ∷ get_or w 1 0 ∷ get_or w 2 0 ∷ get_or w 3 0 ∷ get_or w 4 0 ∷ get_or w 5 0 ∷ get_or w 6 0 ∷ get_or w 7 0 ∷ []
 first_eight w h =
     let e = first_four w (omega arith) in
     let room : 4 ≤ length (drop 4 w) = omega (arith, length-drop 4 w) in
@@ -75,7 +75,7 @@ first_eight w h =
 pub waiting_length : (items : List ℕ) (at end : ℕ) → end ≤ length items → length (drop at (take end items)) ≡ end - at
 waiting_length items at end h = omega (arith, length-drop at (take end items), length-take-le end items h)
 
-four_fit : (a b c d : ℕ) → a < 256 → b < 256 → c < 256 → d < 256 → (i : ℕ) → get_or (a ∷ b ∷ c ∷ d ∷ []) i 0 < 256
+pub four_fit : (a b c d : ℕ) → a < 256 → b < 256 → c < 256 → d < 256 → (i : ℕ) → get_or (a ∷ b ∷ c ∷ d ∷ []) i 0 < 256
 four_fit a b c d ha hb hc hd zero = ha
 four_fit a b c d ha hb hc hd (suc zero) = hb
 four_fit a b c d ha hb hc hd (suc (suc zero)) = hc
@@ -98,7 +98,7 @@ next_word items at end a b c d n h room wa wb wc wd is =
     ∙ rw (waits_at items at end 0 a (omega arith) room (subst (λ k. a ≡ get_or items k a) (sym (add-zero at)) wa.is), waits_at items at end 1 b (omega arith) room wb.is, waits_at items at end 2 c (omega arith) room wc.is, waits_at items at end 3 d (omega arith) room wd.is) refl in
     be_bytes_4 (a ∷ b ∷ c ∷ d ∷ []) n refl (four_fit a b c d wa.fits wb.fits wc.fits wd.fits) is ∙ sym four
 
-eight_fit : (a b c d e f g h : ℕ) → a < 256 → b < 256 → c < 256 → d < 256 → e < 256 → f < 256 → g < 256 → h < 256 → (i : ℕ) → get_or (a ∷ b ∷ c ∷ d ∷ e ∷ f ∷ g ∷ h ∷ []) i 0 < 256
+pub eight_fit : (a b c d e f g h : ℕ) → a < 256 → b < 256 → c < 256 → d < 256 → e < 256 → f < 256 → g < 256 → h < 256 → (i : ℕ) → get_or (a ∷ b ∷ c ∷ d ∷ e ∷ f ∷ g ∷ h ∷ []) i 0 < 256
 eight_fit a b c d e f g h ha hb hc hd he hf hg hh zero = ha
 eight_fit a b c d e f g h ha hb hc hd he hf hg hh (suc zero) = hb
 eight_fit a b c d e f g h ha hb hc hd he hf hg hh (suc (suc zero)) = hc

@@ -10,3 +10,8 @@ pub mod Bodies
 pub mod Whole
 pub mod Handing
 pub mod OneSpelling
+pub mod FewLinks
+pub mod NoFault
+pub mod ReadBack
+pub mod Respelled
+pub mod Faultless

@@ -46,7 +46,7 @@ unlike : (n : ℕ) (before : List ℕ) (rank : ℕ) → rank_test n before rank 
 unfolding rank_test
 unlike n before rank h = untrue _ RankTwice (second_none (fault_if (nat_le n rank) RankRange) (fault_if (list_any (λ r. r == rank) before) RankTwice) h)
 
-equal_tests : (a b : ℕ) → a ≡ b → (a == b) ≡ true
+pub equal_tests : (a b : ℕ) → a ≡ b → (a == b) ≡ true
 equal_tests a b h = grind (arith, nat_tests)
 
 pub ranks_once : (n : ℕ) (ranks : List ℕ) → NoneBelow (length ranks) (rank_fault n ranks) → AllPairs (λ q r. q ≢ r) ranks
@@ -119,7 +119,7 @@ link_facts ranks bound earlier l h =
       middle = second_none (ends otherwise order otherwise weight) middle h;
     }
 
-slice_get-at : (ls : List Link) (k : ℕ) (d : Link) → k < length ls → slice_get ls k ≡ Some (get_or ls k d)
+pub slice_get-at : (ls : List Link) (k : ℕ) (d : Link) → k < length ls → slice_get ls k ≡ Some (get_or ls k d)
 slice_get-at [] k d h = absurd (omega arith)
 slice_get-at (l ∷ ls) zero d h = refl
 slice_get-at (l ∷ ls) (suc k) d h = slice_get-at ls k d (omega arith)
@@ -263,3 +263,12 @@ well_made n k b ranks links sizes count_ranks ranks_ok count_links links_ok halv
             middle = has_halves h (get_or links i d) facts.middle (along_none (half_fault links) links halves_ok i d less);
           };
     }
+
+-- the same of parts that go by other names
+pub well_made_of : (n k b : ℕ) (ranks seen : List ℕ) (links tested : List Link) (bound : Cost) → size_fault n k b ≡ None → length ranks ≡ n → NoneBelow n (rank_fault n ranks) → length links ≡ k
+    → NoneBelow k (link_fault_at seen bound links) → first_along (half_fault tested) tested ≡ None → seen ≡ ranks → tested ≡ links → bound ≡ of_length b → IsWellMade (record { ranks = ranks; links = links; bound = bound })
+well_made_of n k b ranks seen links tested bound sizes count_ranks ranks_ok count_links links_ok halves_ok same_ranks same_links same_bound =
+    let at_ranks : NoneBelow k (link_fault_at ranks bound links) = subst (λ (r : List ℕ). NoneBelow k (link_fault_at r bound links)) same_ranks links_ok in
+    let at_bound : NoneBelow k (link_fault_at ranks (of_length b) links) = subst (λ (c : Cost). NoneBelow k (link_fault_at ranks c links)) same_bound at_ranks in
+    let halves : first_along (half_fault links) links ≡ None = subst (λ (l : List Link). first_along (half_fault l) l ≡ None) same_links halves_ok in
+    subst (λ (c : Cost). IsWellMade (record { ranks = ranks; links = links; bound = c })) (sym same_bound) (well_made n k b ranks links sizes count_ranks ranks_ok count_links at_bound halves)

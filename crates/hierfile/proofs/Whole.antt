@@ -14,7 +14,7 @@ use Rattle.hierfile.specs.Bytes.{coming, IsBodyOf, IsFaultOf}
 use Rattle.hierfile.proofs.Faults.{earlier, later, neither, none_below, cut_none}
 use Rattle.hierfile.proofs.Heads.{sizes, head_fault-sizes, nodes-sizes, links-sizes, bound-sizes, drop-sizes}
 
-abbrev at_magic : List ℕ → ℕ → Option HierError
+abbrev pub at_magic : List ℕ → ℕ → Option HierError
 at_magic bytes k = cut (k + 1) bytes otherwise fault_if (not (slice_index bytes k == slice_index magic k)) BadMagic
 
 magic_at : (rest : List ℕ) (k : ℕ) → k < 4 → at_magic (magic ++ rest) k ≡ None
@@ -63,7 +63,7 @@ nothing_waits waiting known e = ap (λ l. coming l known) e ∙ prepend_known-ni
 pub from_start : (waiting : List ℕ) (known : Option (List ℕ)) (e : HierError) → waiting ≡ [] → IsFaultOf first_fault (coming waiting known) e → IsFaultOf first_fault known e
 from_start waiting known e none h = subst (λ (o : Option (List ℕ)). IsFaultOf first_fault o e) (nothing_waits waiting known none) h
 
-same_head : {m n k l b c : ℕ} → m ≡ n → k ≡ l → b ≡ c → sizes m k b ≡ sizes n l c
+pub same_head : {m n k l b c : ℕ} → m ≡ n → k ≡ l → b ≡ c → sizes m k b ≡ sizes n l c
 same_head p q r = cc
 
 -- a head and the rest of a hierarchy

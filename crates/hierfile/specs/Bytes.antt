@@ -1,10 +1,11 @@
 -- What is known of the bytes of a reader and of a writer on the way.
-use Rattle.std.specs.Prelude.{ℕ, ◌≡◌, ◌+◌, ◌-◌, ◌≤◌, take, ◌^◌, ◌<◌, List, ◌++◌, length, Option, Some, None, IfSome, Result, Ok, Err, ⊤, Bool, false, ◌==◌, slice_index_or}
+use Rattle.std.specs.Prelude.{ℕ, ◌≡◌, ◌+◌, ◌-◌, ◌≤◌, take, ◌^◌, ◌<◌, List, ◌++◌, length, Option, Some, None, IfSome, IfOk, IfErr, Result, Ok, Err, ⊤, Bool, false, ◌==◌, slice_index_or}
 use Rattle.std.specs.List.{list_any}
 use Rattle.std.specs.Io.KnownBytes.{Appends, prepend_known}
 use Rattle.ch_cost.specs.Cost.{length_of}
 use Rattle.ch_graph.specs.declared.link.Link.{Link}
-use Rattle.ch_graph.specs.Hierarchy.{Hierarchy}
+use Rattle.ch_graph.specs.Hierarchy.{Hierarchy, IsWellMade}
+use Rattle.hierfile.specs.Spelling.{bytes_of}
 use Rattle.hierfile.specs.declared.error.HierError.{HierError}
 use Rattle.hierfile.specs.declared.error.HierError.TheVariants.{OutOfMemory, Read}
 
@@ -17,6 +18,14 @@ abbrev pub OfBytes : HierError → Type 0 → Type 0
 OfBytes OutOfMemory P = Unit {0}
 OfBytes Read P = Unit {0}
 OfBytes e P = P
+
+-- a refusal that says nothing of the bytes: OutOfMemory or Read
+abbrev pub SaysNothing : HierError → Type 0
+SaysNothing e = OfBytes e ⊥
+
+-- the spelling of a well made hierarchy is read as that hierarchy, and no refusal finds a fault in it
+abbrev pub ReadsSpellings : List ℕ → Result Hierarchy HierError → Type 0
+ReadsSpellings bytes result = (h : Hierarchy) → IsWellMade h → bytes ≡ bytes_of h → IfOk result (λ read. read ≡ h) × IfErr result SaysNothing
 
 -- a refusal is the fault that the coming bytes have, where they are known
 abbrev pub IsFaultOf : (List ℕ → Option HierError) → Option (List ℕ) → HierError → Type 0

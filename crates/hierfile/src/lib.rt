@@ -3,8 +3,11 @@
 //! Stands on `ch_graph` for hierarchies and links and on `ch_cost` for lengths; numbers are written by `byteorder`.
 //! [`write`] and [`read`] carry its promise: what is written is the spelling of the hierarchy (`bytes_of` in
 //! `specs/Spelling.antt`); what is read is a hierarchy whose spelling the bytes are, and what is refused has the
-//! first fault that is told (`first_fault` in `specs/Fault.antt`). [`hierarchies_have_one_spelling`] says that a
-//! hierarchy can be told by its bytes, so that what is read is what was written.
+//! first fault that is told (`first_fault` in `specs/Fault.antt`).
+//!
+//! Three laws tie the two together. [`hierarchies_have_one_spelling`] says that a hierarchy can be told by its bytes,
+//! so that what is read is what was written. [`spellings_have_no_fault`] says that no spelling is refused for its
+//! bytes, and [`faultless_bytes_are_spellings`] that all other bytes are.
 #![tactic(auto)]
 
 mod error;
@@ -19,6 +22,8 @@ mod tests;
 mod writing;
 
 pub use error::{HierError, WriteFault};
-pub use laws::hierarchies_have_one_spelling;
+pub use laws::{
+    faultless_bytes_are_spellings, hierarchies_have_one_spelling, spellings_have_no_fault,
+};
 pub use reading::read;
 pub use writing::write;

@@ -2,9 +2,10 @@ ghost use Rattle.std.specs.Prelude.{◌≡◌, ◌++◌, [], ◌*◌, length, No
 ghost use Rattle.std.specs.List.{flat_map};
 ghost use Rattle.std.specs.Io.KnownBytes.{Consumes, IsAtEnd};
 ghost use Rattle.ch_cost.specs.Cost.{of_length};
+ghost use Rattle.ch_graph.specs.Hierarchy.{IsWellMade};
 ghost use Rattle.hierfile.specs.Spelling.{bytes_of, magic, word, long, link_bytes};
 ghost use Rattle.hierfile.specs.Fault.{first_fault, magic_fault, head_fault, size_fault, body_fault, end_fault};
-ghost use Rattle.hierfile.specs.Bytes.{coming, IsFaultOf, Tells, IsBodyOf};
+ghost use Rattle.hierfile.specs.Bytes.{coming, IsFaultOf, ReadsSpellings, Tells, IsBodyOf};
 
 use crate::error::HierError;
 use crate::input::Input;
@@ -35,12 +36,15 @@ struct Head {
 /// Reads a hierarchy from a file's bytes, to the end of the reader.
 ///
 /// On Ok the bytes were its spelling, and on an error this was their first fault: which bytes spell a hierarchy and
-/// how faults are ordered is told in `docs/FORMATS.md`. `Read` stands where the reader fails, also after 2^40 calls;
-/// an interrupted call is tried again. `OutOfMemory` stands where a growth is refused. Memory is taken as bytes come
-/// in, beside a buffer of 64 KiB: 4 bytes and one for each node, and about 32 for each link. Linear in the bytes, but
-/// for two binary searches for each link with a middle.
+/// how faults are ordered is told in `docs/FORMATS.md`. A spelling has no fault, so only `Read` and `OutOfMemory`
+/// refuse one. `Read` stands where the reader fails, also after 2^40 calls; an interrupted call is tried again.
+/// `OutOfMemory` stands where a growth is refused. Memory is taken as bytes come in, beside a buffer of 64 KiB:
+/// 4 bytes and one for each node, and about 32 for each link. Linear in the bytes, but for two binary searches for
+/// each link with a middle.
 pub fn read<R: Read>(alloc: Global, reader: &mut R) -> Result<Hierarchy, HierError>
     ensures ok { IfOk result (λ hierarchy. IfSome (R.remaining reader.old) (λ bytes. bytes ≡ bytes_of hierarchy)) }
+    ensures made { IfOk result IsWellMade }
+    ensures spelling { IfSome (R.remaining reader.old) (λ bytes. ReadsSpellings bytes result) }
     ensures err { IfErr result (IsFaultOf first_fault (R.remaining reader.old)) }
 {
     let mut input = Input::new(alloc)?;
@@ -104,6 +108,7 @@ fn read_body<R: Read>(
     head: Head,
 ) -> Result<Hierarchy, HierError>
     requires { size_fault head.nodes head.links head.bound ≡ None }
+    ensures made { IfOk result IsWellMade }
     ensures sizes { IfOk result (λ hierarchy. IsBodyOf hierarchy head.nodes head.links head.bound) }
     ensures ok { IfOk result (λ hierarchy. IfSome (coming input.old (R.remaining reader.old)) (λ bytes. bytes ≡ flat_map word hierarchy.ranks ++ flat_map link_bytes hierarchy.links)) }
     ensures err { IfErr result (IsFaultOf (body_fault head.nodes head.links head.bound) (coming input.old (R.remaining reader.old))) }

@@ -7,6 +7,7 @@ use Rattle.hierfile.specs.Bytes.{coming}
 use Rattle.hierfile.proofs.Faults.{hands_on, behind}
 use Rattle.hierfile.proofs.Heads.{sizes}
 use Rattle.hierfile.proofs.Whole.{from_start, first_magic, first_head, first_body, nothing_waits, spelled_whole}
+use Rattle.hierfile.proofs.ReadBack.{refused, read_back}
 use Rattle.hierfile.proofs.reading.read.Goals as goal
 
 pub returns-in_err-read_magic-clause-err : goal.returns-in_err-read_magic-clause-err
@@ -43,3 +44,15 @@ returns-clause-ok g c =
     let start = nothing_waits c.in_ok-input.input (g.R.Read.remaining c.args.reader.now) c.in_ok-input.ensures in
     let so_far = Consumes-trans _ _ _ _ _ c.in_ok-read_magic.ensures.ok c.in_ok-head.ensures.ok in
     subst (λ o. IfSome o (λ bytes. bytes ≡ bytes_of hierarchy)) start (spelled_whole head.nodes head.links head.bound hierarchy _ _ so_far c.in_ok-hierarchy.ensures.sizes c.in_ok-hierarchy.ensures.ok)
+
+pub returns-in_err-read_magic-clause-spelling : goal.returns-in_err-read_magic-clause-spelling
+returns-in_err-read_magic-clause-spelling g c = refused (g.R.Read.remaining c.args.reader.now) c.from_residual-in_err-read_magic.result _ c.from_residual-in_err-read_magic.ensures.1 (returns-in_err-read_magic-clause-err g c)
+
+pub returns-in_err-head-clause-spelling : goal.returns-in_err-head-clause-spelling
+returns-in_err-head-clause-spelling g c = refused (g.R.Read.remaining c.args.reader.now) c.from_residual-in_err-head.result _ c.from_residual-in_err-head.ensures.1 (returns-in_err-head-clause-err g c)
+
+pub returns-in_err-hierarchy-clause-spelling : goal.returns-in_err-hierarchy-clause-spelling
+returns-in_err-hierarchy-clause-spelling g c = refused (g.R.Read.remaining c.args.reader.now) c.from_residual-in_err-hierarchy.result _ c.from_residual-in_err-hierarchy.ensures.1 (returns-in_err-hierarchy-clause-err g c)
+
+pub returns-clause-spelling : goal.returns-clause-spelling
+returns-clause-spelling g c = read_back (g.R.Read.remaining c.args.reader.now) c.in_ok-hierarchy.hierarchy c.in_ok-hierarchy.ensures.made (returns-clause-ok g c)

@@ -11,7 +11,8 @@ use Rattle.hierfile.specs.Fault.{link_fault_at, links_fault, ranks_fault, half_f
 use Rattle.hierfile.specs.Bytes.{NoneBelow}
 use Rattle.hierfile.proofs.Faults.{hands_on, behind, found, of_bytes, earlier, later}
 use Rattle.hierfile.proofs.Bodies.{body_ranks, body_links, body_after_links}
-use Rattle.hierfile.proofs.WellMade.{links_sorted, few_nodes, well_made}
+use Rattle.hierfile.proofs.WellMade.{links_sorted, few_nodes, well_made_of}
+use Rattle.ch_graph.specs.Hierarchy.{IsWellMade}
 use Rattle.hierfile.proofs.reading.read_body.Goals as goal
 
 pub returns-in_err-ranks-clause-err : goal.returns-in_err-ranks-clause-err
@@ -68,13 +69,13 @@ returns-in_err-read_end-clause-err g c =
 
 pub new-requires : goal.new-requires
 new-requires g c =
-    let head = c.args.head in
-    let ranks = c.in_ok-ranks.ranks.items in
-    let links = c.in_ok-links.links.items in
-    let links_ok : NoneBelow head.links (link_fault_at ranks (of_length head.bound) links) = λ i less. ap (λ (r : List ℕ). link_fault_at r (of_length head.bound) links i) (sym c.as_slice.ensures.value) ∙ ap (λ (b : Cost). link_fault_at c.as_slice.result.now b links i) (sym c.of_length-bound.ensures) ∙ c.in_ok-links.ensures.faultless i less in
-    let halves_ok = ap (λ (l : List Link). first_along (half_fault l) l) (sym c.as_slice-2.ensures.value) ∙ c.in_ok-test_halves.ensures in
-    rw c.of_length-bound.ensures (well_made head.nodes head.links head.bound ranks links c.requires c.in_ok-ranks.ensures.count c.in_ok-ranks.ensures.faultless c.in_ok-links.ensures.count links_ok halves_ok)
+    well_made_of c.args.head.nodes c.args.head.links c.args.head.bound c.in_ok-ranks.ranks.items c.as_slice.result.now c.in_ok-links.links.items c.as_slice-2.result.now c.of_length-bound.result c.requires c.in_ok-ranks.ensures.count c.in_ok-ranks.ensures.faultless c.in_ok-links.ensures.count c.in_ok-links.ensures.faultless c.in_ok-test_halves.ensures c.as_slice.ensures.value c.as_slice-2.ensures.value c.of_length-bound.ensures
 
 pub returns-clause-sizes : goal.returns-clause-sizes
 returns-clause-sizes g c =
     rw c.new.ensures (record { ranks = c.in_ok-ranks.ensures.count; links = c.in_ok-links.ensures.count; bound = ap length_of c.of_length-bound.ensures ∙ length_of-of_length c.args.head.bound })
+
+pub returns-clause-made : goal.returns-clause-made
+returns-clause-made g c =
+    subst IsWellMade (sym c.new.ensures)
+    (well_made_of c.args.head.nodes c.args.head.links c.args.head.bound c.in_ok-ranks.ranks.items c.as_slice.result.now c.in_ok-links.links.items c.as_slice-2.result.now c.of_length-bound.result c.requires c.in_ok-ranks.ensures.count c.in_ok-ranks.ensures.faultless c.in_ok-links.ensures.count c.in_ok-links.ensures.faultless c.in_ok-test_halves.ensures c.as_slice.ensures.value c.as_slice-2.ensures.value c.of_length-bound.ensures)
