@@ -3,3 +3,4 @@ pub mod Overlay
 pub mod Opening
 pub mod Placing
 pub mod Change
+pub mod Source

@@ -3,7 +3,7 @@
 //!
 //! Stands on `ch_graph` for graphs and on `ch_laws` for what contraction is. Its main types are [`Row`], what one
 //! node has, [`Overlay`], the rows of all nodes with a version number each, and [`Change`], the new rows of one
-//! contraction. Rows are shared by `Arc` and never changed in place, so who has read a row keeps it. The promise of
+//! contraction. [`RowSource`] is what gives rows one by one. Rows are shared by `Arc` and never changed in place, so who has read a row keeps it. The promise of
 //! the layer stands on [`Overlay::start`], [`Overlay::plan`] and [`Overlay::apply`]: the rows are those of the state
 //! that the contractions so far lead to.
 #![tactic(auto)]
@@ -16,8 +16,10 @@ mod overlay;
 mod placed;
 mod planned;
 mod row;
+mod source;
 
 pub use ch_laws::{Entry, Shortcut};
 pub use change::Change;
 pub use overlay::Overlay;
 pub use row::Row;
+pub use source::{RowSource, SeeError, Seen};

@@ -1,0 +1,3 @@
+pub mod Frontier
+pub mod Tree
+pub mod Ways

@@ -1,0 +1,45 @@
+ghost use Rattle.std.specs.Prelude.{◌≡◌, ◌≢◌, IfOk, length, map, reverse};
+ghost use Rattle.ch_witness.specs.Tree.{AreSteps, IsReached};
+ghost use Rattle.ch_witness.specs.Ways.{IsWay};
+
+use crate::label::Label;
+use crate::rule::Rule;
+use crate::tree::Step;
+use crate::way::Way;
+use smallvec::SmallVec;
+use std::alloc::{AllocError, Global};
+
+/// The way to a node that the search has come to, by what is known of it.
+pub fn way_to(
+    alloc: Global,
+    rule: Rule,
+    steps: &[Step],
+    target: u32,
+    label: Label,
+) -> Result<Way, AllocError>
+    requires steps { AreSteps rule steps.now }
+    requires reached { IsReached rule.from steps.now (length steps.now) label.before target label.cost }
+    requires apart { target ≢ rule.avoid }
+    ensures leads { IfOk result (IsWay (map (λ s. s.seen) steps.now) rule.avoid rule.from target) }
+    ensures costs { IfOk result (λ way. way.cost ≡ label.cost) }
+{
+    let mut backward: SmallVec<u32, 8> = SmallVec::new(alloc);
+    backward.push(target)?;
+    let mut before = label.before;
+    'steps: while let Some(place) = before {
+        let step = &steps[place];
+        backward.push(step.seen.node)?;
+        before = step.before;
+    }
+    Ok(Way {
+        nodes: reversed(alloc, &backward)?,
+        cost: label.cost,
+    })
+}
+
+/// These nodes, the last first.
+fn reversed(alloc: Global, nodes: &SmallVec<u32, 8>) -> Result<SmallVec<u32, 8>, AllocError>
+    ensures { IfOk result (λ all. all.items ≡ reverse nodes.now.items) }
+{
+    nodes.iter().rev().copied().collect(alloc)
+}

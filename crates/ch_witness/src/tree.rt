@@ -1,0 +1,158 @@
+ghost use Rattle.std.specs.Prelude.{◌≡◌, ◌≢◌, ◌+◌, ◌^◌, ◌<◌, ◌≤◌, ℕ, IsTrue, IfOk, OnOk, Some, true, length, slice_index};
+ghost use Rattle.ch_cost.specs.Cost.{IsWithin};
+ghost use Rattle.ch_overlay.specs.declared.source.Seen.{Seen};
+ghost use Rattle.ch_witness.specs.declared.error.SearchError.TheVariants.{Unseen};
+ghost use Rattle.ch_witness.specs.Tree.{labels_of, IsTree, IsNew, IsGoneOn, IsLater, IsStartSeen, AllAre, AllSeen};
+
+use crate::error::SearchError;
+use crate::follow::follow;
+use crate::frontier::{Frontier, Reached};
+use crate::rule::Rule;
+use ch_cost::Cost;
+use ch_overlay::{RowSource, Seen};
+use std::alloc::Global;
+
+/// A node that a search went on from: its row, what the way to it costs, and the place of the step before it.
+#[derive(Drop)]
+pub struct Step {
+    pub seen: Seen,
+    pub cost: Cost,
+    pub before: Option<usize>,
+}
+
+/// The steps of a search, in its order, and what it knows of the nodes that it has come to.
+#[derive(Drop)]
+pub struct Tree {
+    pub steps: Vec<Step>,
+    pub frontier: Frontier,
+}
+
+impl Tree {
+    /// The tree of a whole search, which settles at most so many nodes.
+    pub fn new<S: RowSource>(
+        alloc: Global,
+        source: &mut S,
+        rule: Rule,
+        targets: &[u32],
+        settle: u32,
+    ) -> Result<Tree, SearchError>
+        requires start { rule.from ≢ rule.avoid }
+        requires cutoff { IsWithin rule.cutoff (S.bound_of source.old) }
+        requires some { 1 ≤ settle }
+        requires few { settle ≤ 2 ^ 16 }
+        ensures tree { IfOk result (λ tree. IsTree rule tree.steps.items (labels_of tree.frontier)) }
+        ensures bears { IfOk result (λ tree. AllSeen S.bears tree.steps.items) }
+        ensures shows { IfOk result (λ tree. AllSeen (S.shows source.new) tree.steps.items) }
+        ensures start { IfOk result (λ tree. (k : ℕ) → k < length targets.now → slice_index targets.now k ≢ rule.from → (seen : Seen) × S.bears seen × S.shows source.new seen × IsStartSeen rule seen tree.steps.items (labels_of tree.frontier)) }
+        ensures stays { S.stays source.old source.new }
+        ensures found { S.whole source.old rule.from → result ≡ Err Unseen → ⊥ }
+    {
+        let mut tree = Tree {
+            steps: Vec::new(alloc),
+            frontier: Frontier::new(alloc, rule.from)?,
+        };
+        if are_all(targets, rule.from) {
+            return Ok(tree);
+        }
+        let start = Reached {
+            node: rule.from,
+            cost: Cost::ZERO,
+            before: None,
+        };
+        tree.go_on_from(source, rule, start)?;
+        tree.grow(source, rule, targets, settle - 1)?;
+        Ok(tree)
+    }
+
+    /// Goes on with the search: settles node after node and goes on from each, until so many turns are over, no node
+    /// is open, or every target is settled, whose last one's row isn't read.
+    pub fn grow<S: RowSource>(
+        &mut self,
+        source: &mut S,
+        rule: Rule,
+        targets: &[u32],
+        turns: u32,
+    ) -> Result<(), SearchError>
+        requires tree { IsTree rule self.old.steps.items (labels_of self.old.frontier) }
+        requires few { length self.old.steps.items + turns ≤ 2 ^ 16 }
+        requires cutoff { IsWithin rule.cutoff (S.bound_of source.old) }
+        ensures tree { OnOk result (IsTree rule self.new.steps.items (labels_of self.new.frontier)) }
+        ensures later { OnOk result (IsLater self.old.steps.items self.new.steps.items (labels_of self.old.frontier) (labels_of self.new.frontier)) }
+        ensures bears { AllSeen S.bears self.old.steps.items → OnOk result (AllSeen S.bears self.new.steps.items) }
+        ensures shows { AllSeen (S.shows source.old) self.old.steps.items → OnOk result (AllSeen (S.shows source.new) self.new.steps.items) }
+        ensures stays { S.stays source.old source.new }
+        ensures found { AllAre (S.whole source.old) (labels_of self.old.frontier) → result ≡ Err Unseen → ⊥ }
+    {
+        let mut done = 0;
+        'turns: for _ in 0..turns {
+            let Some(reached) = self.frontier.settle_next() else {
+                break;
+            };
+            done = self.settled_targets(targets, done);
+            if done >= targets.len() {
+                break;
+            }
+            self.go_on_from(source, rule, reached)?;
+        }
+        Ok(())
+    }
+
+    /// How many targets at the beginning of the list are settled, where it is known of so many.
+    fn settled_targets(&self, targets: &[u32], known: usize) -> usize {
+        let mut done = known;
+        'targets: while done < targets.len() {
+            if !self.is_settled(targets[done]) {
+                break;
+            }
+            done += 1;
+        }
+        done
+    }
+
+    /// Whether the way to a node is final.
+    fn is_settled(&self, node: u32) -> bool {
+        self.frontier.label(node).is_some_and(|label| label.settled)
+    }
+
+    /// Goes on from a node that was settled: reads its row and, where that has no rank, makes it a step and follows
+    /// its arcs.
+    pub fn go_on_from<S: RowSource>(
+        &mut self,
+        source: &mut S,
+        rule: Rule,
+        reached: Reached,
+    ) -> Result<(), SearchError>
+        requires tree { IsTree rule self.old.steps.items (labels_of self.old.frontier) }
+        requires label { labels_of self.old.frontier reached.node ≡ Some (record { cost = reached.cost; before = reached.before; settled = true }) }
+        requires new { IsNew reached.node self.old.steps.items }
+        requires few { length self.old.steps.items < 2 ^ 16 }
+        requires cutoff { IsWithin rule.cutoff (S.bound_of source.old) }
+        ensures tree { OnOk result (IsTree rule self.new.steps.items (labels_of self.new.frontier)) }
+        ensures later { OnOk result (IsLater self.old.steps.items self.new.steps.items (labels_of self.old.frontier) (labels_of self.new.frontier)) }
+        ensures few { OnOk result (length self.new.steps.items ≤ length self.old.steps.items + 1) }
+        ensures gone { OnOk result ((seen : Seen) × S.bears seen × S.shows source.new seen × IsGoneOn rule reached seen self.old.steps.items self.new.steps.items (labels_of self.old.frontier) (labels_of self.new.frontier)) }
+        ensures stays { S.stays source.old source.new }
+        ensures found { AllAre (S.whole source.old) (labels_of self.old.frontier) → result ≡ Err Unseen → ⊥ }
+        ensures names { AllAre (S.whole source.old) (labels_of self.old.frontier) → OnOk result (AllAre (S.whole source.new) (labels_of self.new.frontier)) }
+    {
+        let seen = source.row_of(reached.node)?;
+        if seen.row.rank.is_some() {
+            return Ok(());
+        }
+        let place = self.steps.len();
+        follow(rule, &seen.row.out, reached.cost, place, &mut self.frontier)?;
+        self.steps.push(Step {
+            seen,
+            cost: reached.cost,
+            before: reached.before,
+        })?;
+        Ok(())
+    }
+}
+
+/// Whether each of these nodes is that node.
+fn are_all(nodes: &[u32], node: u32) -> bool
+    ensures { IsTrue result → (k : ℕ) → k < length nodes.now → slice_index nodes.now k ≡ node }
+{
+    nodes.iter().all(|other| *other == node)
+}
