@@ -143,6 +143,81 @@ fn joined_input_without_a_percent_line(rt: HostRuntime) {
     assert!(rt; err.as_slice() == b"routecli: queries: NoProblemLine line 0\n".as_slice());
 }
 
+const ROUTE: Job<'static> = Job::Route {
+    hierarchy: "a.rch",
+    queries: "pairs.p2p",
+};
+
+/// The file of one arc of weight 7, from node 1 to node 2: two nodes, one link, bound 7, two ranks, the link.
+const ONE_ARC: &[u8] = b"RCH1\0\0\0\x02\0\0\0\0\0\0\0\x01\0\0\0\0\0\0\0\x07\0\0\0\0\0\0\0\x01\
+\0\0\0\0\0\0\0\x01\0\0\0\0\0\0\0\x07\xff\xff\xff\xff";
+
+/// What a route ends with: the file, the pairs, the status, the answers and the line on standard error.
+type Routed = (
+    &'static [u8],
+    &'static [u8],
+    u8,
+    &'static [u8],
+    &'static [u8],
+);
+
+const ROUTED: [Routed; 4] = [
+    (ONE_ARC, PAIRS, 0, b"r 1 2 7\nn 2 1\n", b""),
+    (b"RCH2", b"", 4, b"", b"routecli: hierarchy: BadMagic\n"),
+    (b"RCH", b"", 4, b"", b"routecli: hierarchy: Truncated\n"),
+    (
+        ONE_ARC,
+        b"",
+        5,
+        b"",
+        b"routecli: queries: NoProblemLine line 0\n",
+    ),
+];
+
+#[test]
+fn routes(rt: HostRuntime) {
+    for (mut hierarchy, mut pairs, status, answers, line) in ROUTED {
+        let mut out = Vec::new(rt.alloc());
+        let mut err = Vec::new(rt.alloc());
+        let result = perform(
+            rt.alloc(),
+            &ROUTE,
+            &mut hierarchy,
+            &mut pairs,
+            &mut out,
+            &mut err,
+        );
+        assert_eq!(rt; result, status);
+        assert!(rt; out.as_slice() == answers && err.as_slice() == line);
+    }
+}
+
+#[test]
+fn failed_reads_of_routes(rt: HostRuntime) {
+    let mut err = Vec::new(rt.alloc());
+    let mut out = Vec::new(rt.alloc());
+    let (mut hierarchy, mut pairs) = (ONE_ARC, PAIRS);
+    let status = perform(
+        rt.alloc(),
+        &ROUTE,
+        &mut Broken,
+        &mut pairs,
+        &mut out,
+        &mut err,
+    );
+    assert_eq!(rt; status, 7);
+    let status = perform(
+        rt.alloc(),
+        &ROUTE,
+        &mut hierarchy,
+        &mut Broken,
+        &mut out,
+        &mut err,
+    );
+    assert_eq!(rt; status, 7);
+    assert!(rt; err.as_slice() == b"routecli: read\nroutecli: read\n".as_slice());
+}
+
 #[test]
 fn failed_reads_and_writes(rt: HostRuntime) {
     let mut err = Vec::new(rt.alloc());
@@ -210,13 +285,33 @@ fn words_that_name_a_job(rt: HostRuntime) -> Result<(), Fail> {
     for (graph, queries) in cases {
         let words = words(rt.alloc(), &["routecli", "answer", graph, queries])?;
         let job = command(rt.alloc(), words.as_slice()).ok().ok_or("a job")?;
-        let Job::Answer {
-            graph: first,
-            queries: second,
-        } = job;
-        assert!(rt; first == graph && second == queries);
+        assert!(rt; job == Job::Answer { graph, queries });
         assert_eq!(rt; job.is_joined(), graph == "-" && queries == "-");
     }
+    Ok(())
+}
+
+#[test]
+fn words_that_name_a_file_of_a_hierarchy(rt: HostRuntime) -> Result<(), Fail> {
+    let words = words(rt.alloc(), &["routecli", "prepare", "a.gr", "a.rch"])?;
+    let job = command(rt.alloc(), words.as_slice()).ok().ok_or("a job")?;
+    let prepare = Job::Prepare {
+        graph: "a.gr",
+        out: "a.rch",
+    };
+    assert!(rt; job == prepare && !job.is_joined());
+    Ok(())
+}
+
+#[test]
+fn words_that_name_a_route(rt: HostRuntime) -> Result<(), Fail> {
+    let words = words(rt.alloc(), &["routecli", "route", "-", "-"])?;
+    let job = command(rt.alloc(), words.as_slice()).ok().ok_or("a job")?;
+    let route = Job::Route {
+        hierarchy: "-",
+        queries: "-",
+    };
+    assert!(rt; job == route && !job.is_joined());
     Ok(())
 }
 
@@ -229,6 +324,9 @@ fn words_that_are_refused(rt: HostRuntime) -> Result<(), Fail> {
         ["routecli", "answer", "a.gr", "b.p2p", "c"].as_slice(),
         ["routecli", "answer", "--fast", "a.gr", "b.p2p"].as_slice(),
         ["routecli", "solve", "a.gr", "b.p2p"].as_slice(),
+        ["routecli", "prepare", "a.gr"].as_slice(),
+        ["routecli", "route", "a.rch"].as_slice(),
+        ["routecli", "prepare", "a.gr", "a.rch", "b"].as_slice(),
     ];
     for texts in cases {
         let words = words(rt.alloc(), texts)?;
@@ -250,6 +348,8 @@ fn words_that_ask_for_help(rt: HostRuntime) -> Result<(), Fail> {
         ["routecli", "help"].as_slice(),
         ["routecli", "help", "answer"].as_slice(),
         ["routecli", "answer", "-h"].as_slice(),
+        ["routecli", "prepare", "--help"].as_slice(),
+        ["routecli", "route", "--help"].as_slice(),
     ];
     for texts in cases {
         let words = words(rt.alloc(), texts)?;
