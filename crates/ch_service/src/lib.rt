@@ -31,6 +31,8 @@ pub use preparing::prepare;
 pub use routing::route;
 
 #[cfg(test)]
+mod prepare_tests;
+#[cfg(test)]
 mod route_tests;
 #[cfg(test)]
 mod tests;

@@ -5,14 +5,16 @@ use std::alloc::{AllocError, Global};
 use std::test::Fail;
 
 /// The file of the graph of no node.
-const NO_NODE: &[u8] = b"RCH1\0\0\0\0\0\0\0\0\0\0\0\0\0\0\0\0\0\0\0\0";
+pub(crate) const NO_NODE: &[u8] = b"RCH1\0\0\0\0\0\0\0\0\0\0\0\0\0\0\0\0\0\0\0\0";
 
 /// The file of one arc of weight 7, from node 1 to node 2: two nodes, one link, bound 7, two ranks, the link.
-const ONE_ARC: &[u8] = b"RCH1\0\0\0\x02\0\0\0\0\0\0\0\x01\0\0\0\0\0\0\0\x07\0\0\0\0\0\0\0\x01\
+pub(crate) const ONE_ARC: &[u8] =
+    b"RCH1\0\0\0\x02\0\0\0\0\0\0\0\x01\0\0\0\0\0\0\0\x07\0\0\0\0\0\0\0\x01\
 \0\0\0\0\0\0\0\x01\0\0\0\0\0\0\0\x07\xff\xff\xff\xff";
 
 /// The file of a row of three nodes, 2 to 1 of weight 2 and 1 to 3 of weight 3: its last link is the shortcut.
-const ROW: &[u8] = b"RCH1\0\0\0\x03\0\0\0\0\0\0\0\x03\0\0\0\0\0\0\0\x06\0\0\0\0\0\0\0\x01\0\0\0\x02\
+pub(crate) const ROW: &[u8] =
+    b"RCH1\0\0\0\x03\0\0\0\0\0\0\0\x03\0\0\0\0\0\0\0\x06\0\0\0\0\0\0\0\x01\0\0\0\x02\
 \0\0\0\0\0\0\0\x02\0\0\0\0\0\0\0\x03\xff\xff\xff\xff\
 \0\0\0\x01\0\0\0\0\0\0\0\0\0\0\0\x02\xff\xff\xff\xff\
 \0\0\0\x01\0\0\0\x02\0\0\0\0\0\0\0\x05\0\0\0\0";

@@ -192,6 +192,56 @@ fn routes(rt: HostRuntime) {
     }
 }
 
+const PREPARE: Job<'static> = Job::Prepare {
+    graph: "a.gr",
+    out: "a.rch",
+};
+
+#[test]
+fn hierarchies_are_prepared(rt: HostRuntime) {
+    let cases = [
+        (GRAPH, 0, ONE_ARC, b"".as_slice()),
+        (
+            b"p sp 2 1\na 1 2\n".as_slice(),
+            3,
+            b"".as_slice(),
+            b"routecli: graph: FieldCount line 2\n".as_slice(),
+        ),
+    ];
+    for (text, ended, file, line) in cases {
+        let (mut graph, mut nothing) = (text, b"".as_slice());
+        let mut out = Vec::new(rt.alloc());
+        let mut err = Vec::new(rt.alloc());
+        let status = perform(
+            rt.alloc(),
+            &PREPARE,
+            &mut graph,
+            &mut nothing,
+            &mut out,
+            &mut err,
+        );
+        assert_eq!(rt; status, ended);
+        assert!(rt; out.as_slice() == file);
+        assert!(rt; err.as_slice() == line);
+    }
+}
+
+#[test]
+fn a_hierarchy_that_cannot_be_written(rt: HostRuntime) {
+    let (mut graph, mut nothing) = (GRAPH, b"".as_slice());
+    let mut err = Vec::new(rt.alloc());
+    let status = perform(
+        rt.alloc(),
+        &PREPARE,
+        &mut graph,
+        &mut nothing,
+        &mut Broken,
+        &mut err,
+    );
+    assert_eq!(rt; status, 7);
+    assert!(rt; err.as_slice() == b"routecli: write\n".as_slice());
+}
+
 #[test]
 fn failed_reads_of_routes(rt: HostRuntime) {
     let mut err = Vec::new(rt.alloc());
