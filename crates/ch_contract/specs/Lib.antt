@@ -2,3 +2,5 @@ pub mod Board
 pub mod Shortcuts
 pub mod Sweep
 pub mod Finish
+pub mod Proposal
+pub mod Commit

@@ -5,6 +5,39 @@ use std::alloc::AllocError;
 use std::error::Error;
 use std::fmt;
 
+/// Why a node wasn't proposed.
+#[derive(Clone, Copy, Debug, PartialEq, Eq)]
+pub enum ProposeError {
+    /// A growth was refused.
+    OutOfMemory = 1,
+    /// The source has no row of a node that was asked for.
+    Unseen,
+    /// The node is contracted already, by its row.
+    Contracted,
+}
+
+/// Why a proposal wasn't committed. The board is as it was.
+#[derive(Clone, Copy, Debug, PartialEq, Eq)]
+pub enum CommitError {
+    /// The node is contracted already.
+    Contracted,
+    /// A row that the proposal rests on has changed since.
+    Stale {
+        /// The node of the first such row.
+        node: u32,
+        /// The version that the proposal rests on.
+        seen: u64,
+        /// The version of the node's row now.
+        now: u64,
+        /// How many nodes were contracted so far.
+        front: u64,
+    },
+    /// The versions agree, and a row or the bound doesn't: the proposal is of another board.
+    Broken,
+    /// A growth was refused.
+    OutOfMemory,
+}
+
 /// Why a sweep ended early.
 #[derive(Clone, Copy, Debug, PartialEq, Eq)]
 pub enum SweepError {

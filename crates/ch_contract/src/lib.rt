@@ -9,11 +9,19 @@
 mod board;
 mod contraction;
 mod error;
+mod facts;
 mod parts;
+mod proposal;
+mod proposing;
 mod shortcuts;
 #[cfg(test)]
 mod tests;
+mod verdict;
 
 pub use board::Board;
 pub use contraction::{Contraction, Receipt};
-pub use error::{FinishError, SweepError};
+pub use error::{CommitError, FinishError, ProposeError, SweepError};
+pub use facts::Facts;
+pub use proposal::Proposal;
+pub use proposing::propose;
+pub use verdict::Verdict;

@@ -53,11 +53,11 @@ module _ {g : Graph} {s : State} (sound : IsSound g s) where
       verdict-allowed : (p : Shortcut) → IsForShortcut bound seen verdicts.row p → IsAllowed bound s v p
       verdict-allowed p is =
           let through : Through s v p.from p.to p.cost = listed-through is.through in
-          let first : IsRow s p.from is.first_row = are p.from is.first_row is.first_read in
+          let first = shows-remaining sound (are p.from is.first_row is.first_read) through.first.from_alive in
           record {
             through = through;
             within = is.within;
-            less = λ c has. is.less c (((shows-remaining sound first through.first.from_alive).out p.to c).0 (record { from_alive = through.first.from_alive; to_alive = through.second.to_alive; arc = has }));
+            less = λ c has. is.less first.unranked c ((first.out p.to c).0 (record { from_alive = through.first.from_alive; to_alive = through.second.to_alive; arc = has }));
           }
 
       verdicts-plan : IsPlan bound s v put

@@ -35,13 +35,13 @@ pub record ListsThrough (row : Row) (u w : ℕ) (sum : Cost) : Type 0 where
   pub adds : sum ≡ into ⊕ out
 
 -- The verdict on the pair is a shortcut: by the row of v it costs this much and isn't heavy, and the row of the first
--- node lists no arc of at most that cost.
+-- node, where it has no rank, lists no arc of at most that cost.
 pub record IsForShortcut (bound : Cost) (seen : ℕ → Option Row) (row : Row) (p : Shortcut) : Type 0 where
   pub through : ListsThrough row p.from p.to p.cost
   pub within : IsWithin p.cost bound
   pub first_row : Row
   pub first_read : seen p.from ≡ Some first_row
-  pub less : (c : Cost) → Lists first_row.out p.to c → p.cost ≺ c
+  pub less : first_row.rank ≡ None → (c : Cost) → Lists first_row.out p.to c → p.cost ≺ c
 
 -- The row of v was read, each of these shortcuts is a verdict by the rows that were read, at most one for each pair,
 -- and each other pair that isn't heavy has a way.

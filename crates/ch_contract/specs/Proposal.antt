@@ -1,0 +1,70 @@
+-- Proposals to contract a node: the rows that they rest on, and a verdict for each pair of neighbours.
+use Rattle.std.specs.Prelude.{ℕ, ◌≡◌, ◌≢◌, ◌⊎◌, ◌<◌, ◌≤◌, ◌*◌, ◌^◌, List, ◌∷◌, length, Option, Some, None, All, AllPairs, Contains}
+use Rattle.ch_cost.specs.declared.cost.Cost.{Cost}
+use Rattle.ch_cost.specs.Cost.{IsWithin}
+use Rattle.ch_laws.specs.declared.shortcut.Shortcut.{Shortcut}
+use Rattle.ch_laws.specs.Contraction.{NoShortcut}
+use Rattle.ch_laws.specs.Rows.{Row}
+use Rattle.ch_laws.specs.Verdicts.{HasWay, ListsThrough, AreVerdicts}
+use Rattle.ch_overlay.specs.declared.source.Seen.{Seen}
+use Rattle.ch_overlay.specs.Source.{row_in, row_of, IsBound, IsSeenRow}
+use Rattle.ch_contract.specs.declared.facts.Facts.{Facts}
+use Rattle.ch_contract.specs.declared.verdict.Verdict.{Verdict}
+use Rattle.ch_contract.specs.declared.verdict.Verdict.TheVariants as verdicts
+
+-- the bound that it was made under, the node, the rows that it rests on, the node's first, and the shortcuts that it
+-- would put in
+pub record Proposal : Type 0 where
+  pub bound : Cost
+  pub node : ℕ
+  pub rests_on : List Seen
+  pub shortcuts : List Shortcut
+
+-- by the ends, the first end before the second
+abbrev pub ShortcutBefore : Shortcut → Shortcut → Type 0
+ShortcutBefore p q = (p.from < q.from) ⊎ ((p.from ≡ q.from) × (p.to < q.to))
+
+-- The rows are of different nodes, the proposal's first, and can be relied on. By these rows each shortcut is a
+-- verdict, and each other pair of neighbours is heavy or has a way.
+pub record IsProposal (p : Proposal) : Type 0 where
+  pub bound : IsBound p.bound
+  pub first : Seen
+  pub others : List Seen
+  pub rests_on : p.rests_on ≡ first ∷ others
+  pub of_node : first.node ≡ p.node
+  pub once : AllPairs (λ a b. a.node ≢ b.node) p.rests_on
+  pub rows : All (IsSeenRow p.bound) p.rests_on
+  pub sorted : AllPairs ShortcutBefore p.shortcuts
+  pub verdicts : AreVerdicts p.bound (row_of p.rests_on) p.node p.shortcuts
+
+-- by the row that was read of the node, the pair (u, w) is joined by way of it at this sum
+pub record Joins (p : Proposal) (u w : ℕ) (sum : Cost) : Type 0 where
+  pub row : Row
+  pub read : row_of p.rests_on p.node ≡ Some row
+  pub through : ListsThrough row u w sum
+
+-- the verdict on a pair that is joined at this sum
+abbrev pub IsVerdictAt : Proposal → ℕ → ℕ → Cost → Verdict → Type 0
+IsVerdictAt p u w sum verdicts.Heavy = IsWithin sum p.bound → ⊥
+IsVerdictAt p u w sum verdicts.Witness = IsWithin sum p.bound × NoShortcut p.shortcuts u w × HasWay (row_of p.rests_on) p.node u w sum
+IsVerdictAt p u w sum verdicts.Shortcut = IsWithin sum p.bound × Contains p.shortcuts (record { from = u; to = w; cost = sum })
+
+-- the verdict on a pair, or none where the node doesn't join it
+abbrev pub IsVerdict : Proposal → ℕ → ℕ → Option Verdict → Type 0
+IsVerdict p u w (Some verdict) = (sum : Cost) × Joins p u w sum × IsVerdictAt p u w sum verdict
+IsVerdict p u w None = (sum : Cost) → Joins p u w sum → ⊥
+
+-- as many arcs and shortcuts as a node can have
+pub record AreFacts (f : Facts) : Type 0 where
+  pub ins : f.ins < 2 ^ 25
+  pub outs : f.outs < 2 ^ 25
+  pub shortcuts : f.shortcuts ≤ f.ins * f.outs
+
+-- the counts of a proposal, by the row that was read of its node
+pub record AreFactsOf (p : Proposal) (f : Facts) : Type 0 where
+  pub node : f.node ≡ p.node
+  pub row : Row
+  pub read : row_of p.rests_on p.node ≡ Some row
+  pub ins : f.ins ≡ length row.inn
+  pub outs : f.outs ≡ length row.out
+  pub shortcuts : f.shortcuts ≡ length p.shortcuts
