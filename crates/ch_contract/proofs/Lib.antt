@@ -1,6 +1,10 @@
 pub mod Ranges
 pub mod Search
 pub mod Direct
+pub mod Drafting
+pub mod Pairing
+pub mod Joining
+pub mod Gathering
 pub mod Contracting
 pub mod Sweeping
 pub mod NodesLeft

@@ -4,3 +4,4 @@ pub mod Sweep
 pub mod Finish
 pub mod Proposal
 pub mod Commit
+pub mod Drafts

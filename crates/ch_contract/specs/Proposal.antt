@@ -1,5 +1,5 @@
 -- Proposals to contract a node: the rows that they rest on, and a verdict for each pair of neighbours.
-use Rattle.std.specs.Prelude.{ℕ, ◌≡◌, ◌≢◌, ◌⊎◌, ◌<◌, ◌≤◌, ◌*◌, ◌^◌, List, ◌∷◌, length, Option, Some, None, All, AllPairs, Contains}
+use Rattle.std.specs.Prelude.{ℕ, ◌≡◌, ◌≢◌, ◌⊎◌, ◌<◌, ◌≤◌, ◌*◌, ◌^◌, List, ◌∷◌, length, Option, Some, None, All, AllPairs, Contains, codes}
 use Rattle.ch_cost.specs.declared.cost.Cost.{Cost}
 use Rattle.ch_cost.specs.Cost.{IsWithin}
 use Rattle.ch_laws.specs.declared.shortcut.Shortcut.{Shortcut}
@@ -8,6 +8,8 @@ use Rattle.ch_laws.specs.Rows.{Row}
 use Rattle.ch_laws.specs.Verdicts.{HasWay, ListsThrough, AreVerdicts}
 use Rattle.ch_overlay.specs.declared.source.Seen.{Seen}
 use Rattle.ch_overlay.specs.Source.{row_in, row_of, IsBound, IsSeenRow}
+use Rattle.ch_contract.specs.declared.error.ProposeError.{ProposeError}
+use Rattle.ch_contract.specs.declared.error.ProposeError.TheVariants.{OutOfMemory, Unseen, Contracted}
 use Rattle.ch_contract.specs.declared.facts.Facts.{Facts}
 use Rattle.ch_contract.specs.declared.verdict.Verdict.{Verdict}
 use Rattle.ch_contract.specs.declared.verdict.Verdict.TheVariants as verdicts
@@ -68,3 +70,9 @@ pub record AreFactsOf (p : Proposal) (f : Facts) : Type 0 where
   pub ins : f.ins ≡ length row.inn
   pub outs : f.outs ≡ length row.out
   pub shortcuts : f.shortcuts ≡ length p.shortcuts
+
+-- the variant's name
+abbrev pub propose_error_name : ProposeError → List ℕ
+propose_error_name OutOfMemory = codes "OutOfMemory"
+propose_error_name Unseen = codes "Unseen"
+propose_error_name Contracted = codes "Contracted"

@@ -1,7 +1,13 @@
-ghost use Rattle.std.specs.Prelude.{◌≡◌, Some, codes};
+ghost use Rattle.std.specs.Prelude.{◌≡◌, ◌≢◌, Some, codes};
+ghost use Rattle.ch_overlay.specs.declared.source.SeeError.TheVariants as see;
+ghost use Rattle.ch_witness.specs.declared.error.SearchError.TheVariants as search;
+ghost use Rattle.ch_contract.specs.Proposal.{propose_error_name};
+ghost use Rattle.ch_contract.specs.declared.error.ProposeError.TheVariants as propose;
 ghost use Rattle.ch_contract.specs.declared.error.SweepError.TheVariants.{OutOfMemory};
 
-use std::alloc::AllocError;
+use ch_overlay::SeeError;
+use ch_witness::SearchError;
+use std::alloc::{AllocError, AllocFailed};
 use std::error::Error;
 use std::fmt;
 
@@ -68,6 +74,58 @@ impl fmt::Display for FinishError {
             FinishError::OutOfMemory => write!(f, "OutOfMemory"),
             FinishError::NodesLeft => write!(f, "NodesLeft"),
         }
+    }
+}
+
+impl fmt::Display for ProposeError {
+    ghost output = { λ e. Some (propose_error_name e) };
+
+    fn fmt<W: fmt::Write>(&self, f: &mut fmt::Formatter<W>) -> fmt::Result {
+        match self {
+            ProposeError::OutOfMemory => write!(f, "OutOfMemory"),
+            ProposeError::Unseen => write!(f, "Unseen"),
+            ProposeError::Contracted => write!(f, "Contracted"),
+        }
+    }
+}
+
+impl Error for ProposeError {}
+
+impl From<SeeError> for ProposeError {
+    ghost from_gives = { λ s e. (e ≢ propose.Contracted) × (e ≡ propose.Unseen → s ≡ see.Unseen) };
+
+    fn from(refused: SeeError) -> ProposeError {
+        match refused {
+            SeeError::OutOfMemory => ProposeError::OutOfMemory,
+            SeeError::Unseen => ProposeError::Unseen,
+        }
+    }
+}
+
+impl From<SearchError> for ProposeError {
+    ghost from_gives = { λ s e. (e ≢ propose.Contracted) × (e ≡ propose.Unseen → s ≡ search.Unseen) };
+
+    fn from(refused: SearchError) -> ProposeError {
+        match refused {
+            SearchError::OutOfMemory => ProposeError::OutOfMemory,
+            SearchError::Unseen => ProposeError::Unseen,
+        }
+    }
+}
+
+impl From<AllocError> for ProposeError {
+    ghost from_gives = { λ _ e. e ≡ propose.OutOfMemory };
+
+    fn from(_refused: AllocError) -> ProposeError {
+        ProposeError::OutOfMemory
+    }
+}
+
+impl<T: Drop> From<AllocFailed<T>> for ProposeError {
+    ghost from_gives = { λ _ e. e ≡ propose.OutOfMemory };
+
+    fn from(_refused: AllocFailed<T>) -> ProposeError {
+        ProposeError::OutOfMemory
     }
 }
 

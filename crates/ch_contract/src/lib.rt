@@ -8,6 +8,7 @@
 
 mod board;
 mod contraction;
+mod draft;
 mod error;
 mod facts;
 mod parts;

@@ -1,12 +1,18 @@
-ghost use Rattle.std.specs.Prelude.{◌≡◌, ◌≢◌, ◌≤◌, IfOk, All, None};
+ghost use Rattle.std.specs.Prelude.{◌≡◌, ◌≢◌, ◌≤◌, ◌^◌, IfOk, OnOk, All, None};
 ghost use Rattle.ch_overlay.specs.declared.source.Seen.{Seen};
-ghost use Rattle.ch_overlay.specs.Source.{row_in};
+ghost use Rattle.ch_overlay.specs.Overlay.{AreEntries};
+ghost use Rattle.ch_overlay.specs.Source.{row_in, IsBound, NamesAlone};
+ghost use Rattle.ch_laws.specs.Rows.{Rises};
+ghost use Rattle.ch_witness.specs.Kept.{kept_of, AllNamed, AreKept, IsMore};
+ghost use Rattle.ch_contract.specs.Drafts.{IsBegun, IsDrafted};
 ghost use Rattle.ch_contract.specs.Proposal.{IsProposal};
 ghost use Rattle.ch_contract.specs.declared.error.ProposeError.TheVariants.{Unseen, Contracted};
 
+use crate::draft::{Draft, Task, draft_pairs};
 use crate::error::ProposeError;
 use crate::proposal::Proposal;
-use ch_overlay::RowSource;
+use ch_overlay::{Row, RowSource};
+use ch_witness::Rows;
 use std::alloc::Global;
 
 /// Works out the contraction of a node by the rows that a source answers, each node asked for at most once.
@@ -33,6 +39,54 @@ pub fn propose<S: RowSource>(
     ensures stays { S.stays source.old source.new }
     ensures found { S.whole source.old node → result ≡ Err Unseen → ⊥ }
 {
-    let _ = (alloc, source.bound(), node, settle);
-    Err(ProposeError::OutOfMemory)
+    let task = Task {
+        node,
+        bound: source.bound(),
+        settle,
+    };
+    let mut rows = Rows::new(alloc);
+    let own = rows.read(source, node)?;
+    if own.row.rank.is_some() {
+        return Err(ProposeError::Contracted);
+    }
+    let mut draft = Draft::new(alloc, node)?;
+    draft_all(alloc, source, &mut rows, task, &own.row, &mut draft)?;
+    let Draft { listed, shortcuts } = draft;
+    Ok(Proposal {
+        bound: task.bound,
+        node,
+        rests_on: rows.into_listed(alloc, &listed)?,
+        shortcuts,
+    })
+}
+
+/// Works out the pairs of every neighbour with an arc to the node, whose row is given.
+fn draft_all<S: RowSource>(
+    alloc: Global,
+    source: &mut S,
+    rows: &mut Rows,
+    task: Task,
+    row: &Row,
+    draft: &mut Draft,
+) -> Result<(), ProposeError>
+    requires some { 1 ≤ task.settle }
+    requires few { task.settle ≤ 2 ^ 16 }
+    requires bound { task.bound ≡ S.bound_of source.old }
+    requires limit { IsBound task.bound }
+    requires inn_rises { Rises row.now.inn }
+    requires out_rises { Rises row.now.out }
+    requires entries { AreEntries (2 ^ 25) task.bound task.node row.now }
+    requires kept { AreKept S.bears (S.shows source.old) (S.bound_of source.old) (kept_of rows.old) }
+    requires begun { IsBegun task.node draft.old }
+    ensures draft { OnOk result (IsDrafted task.bound task.node row.now row.now.inn (kept_of rows.new) draft.new) }
+    ensures kept { AreKept S.bears (S.shows source.new) (S.bound_of source.new) (kept_of rows.new) }
+    ensures more { IsMore (kept_of rows.old) (kept_of rows.new) }
+    ensures stays { S.stays source.old source.new }
+    ensures never { result ≡ Err Contracted → ⊥ }
+    ensures found { AllNamed (S.whole source.old) (kept_of rows.old) → NamesAlone (S.whole source.old) row.now → result ≡ Err Unseen → ⊥ }
+{
+    'inns: for into in &row.inn {
+        draft_pairs(alloc, source, rows, task, row, *into, draft)?;
+    }
+    Ok(())
 }

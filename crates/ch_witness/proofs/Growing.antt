@@ -270,3 +270,12 @@ start_seen r z zero_is seen mid steps labels between new start begun gone later 
 
 pub seen_none : (IsKind : Seen → Type 0) (steps : List Step) → steps ≡ [] → AllSeen IsKind steps
 seen_none IsKind steps none k s is = absurd (nothing k s (subst (λ (ss : List Step). slice_get ss k ≡ Some s) none is))
+
+-- only the start is known
+pub all_start : (IsKind : ℕ → Type 0) (from : ℕ) (labels : Labels) → IsStart from labels → IsKind from → AllAre IsKind labels
+all_start IsKind from labels start kind v l is = elim (cases_eq v from) [
+  | inl at ↦ subst IsKind (sym at) kind
+  | inr other ↦ absurd (none-some (labels v) l is (start.others v other))
+] where
+  none-some : (o : Option Label) (k : Label) → o ≡ Some k → o ≡ None → ⊥
+  none-some o k a b = cc

@@ -1,7 +1,9 @@
 pub mod Following
 pub mod Giving
 pub mod Growing
+pub mod Keeping
 pub mod Limits
+pub mod Listing
 pub mod Offering
 pub mod RisingEntries
 pub mod SmallBounds

@@ -1,3 +1,4 @@
 pub mod Frontier
+pub mod Kept
 pub mod Tree
 pub mod Ways

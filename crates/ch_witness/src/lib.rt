@@ -10,6 +10,7 @@ mod error;
 mod follow;
 mod frontier;
 mod label;
+mod rows;
 mod rule;
 mod searching;
 #[cfg(test)]
@@ -19,5 +20,6 @@ mod tree;
 mod way;
 
 pub use error::SearchError;
-pub use searching::search;
+pub use rows::Rows;
+pub use searching::search_with;
 pub use way::{Found, Way};

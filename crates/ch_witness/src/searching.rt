@@ -1,11 +1,13 @@
-ghost use Rattle.std.specs.Prelude.{◌≡◌, ◌≢◌, ◌^◌, ◌<◌, ◌≤◌, ℕ, All, Contains, IfOk, length, map, slice_index, slice_index_or, None};
+ghost use Rattle.std.specs.Prelude.{◌≡◌, ◌≢◌, ◌^◌, ◌<◌, ◌≤◌, ℕ, All, Contains, IfOk, OnOk, length, map, slice_index, slice_index_or, None};
 ghost use Rattle.ch_cost.specs.Cost.{IsWithin};
 ghost use Rattle.ch_overlay.specs.declared.source.Seen.{Seen};
 ghost use Rattle.ch_witness.specs.declared.error.SearchError.TheVariants.{Unseen};
+ghost use Rattle.ch_witness.specs.Kept.{kept_of, AllNamed, AreKept, IsKept, IsMore};
 ghost use Rattle.ch_witness.specs.Tree.{labels_of, IsTree};
 ghost use Rattle.ch_witness.specs.Ways.{AreRows, AreWays, IsStartRow, IsWayOf, way_at};
 
 use crate::error::SearchError;
+use crate::rows::Rows;
 use crate::rule::Rule;
 use crate::trace::way_to;
 use crate::tree::{Step, Tree};
@@ -24,9 +26,10 @@ use std::alloc::{AllocError, Global};
 /// `from` and the targets differ from `avoid`, and the cutoff is within the bound of the source. `OutOfMemory` where a
 /// growth was refused, `Unseen` where the source has no row of a node that is gone on from; the source has then moved
 /// as reading moves it, and nothing else. Memory and time go by the nodes that are settled and their neighbours.
-pub fn search<S: RowSource>(
+pub fn search_with<S: RowSource>(
     alloc: Global,
     source: &mut S,
+    rows: &mut Rows,
     from: u32,
     avoid: u32,
     cutoff: Cost,
@@ -36,22 +39,25 @@ pub fn search<S: RowSource>(
     requires start { from ≢ avoid }
     requires targets { Contains targets.now avoid → ⊥ }
     requires cutoff { IsWithin cutoff (S.bound_of source.old) }
+    requires kept { AreKept S.bears (S.shows source.old) (S.bound_of source.old) (kept_of rows.old) }
     requires some { 1 ≤ settle }
     requires few { settle ≤ 2 ^ 16 }
     ensures ways { IfOk result (λ found. AreWays found.seen.items from avoid cutoff targets.now found.ways.items) }
-    ensures direct { IfOk result (λ found. (k : ℕ) → k < length targets.now → slice_index targets.now k ≢ from → (s : Seen) × S.bears s × S.shows source.new s × IsStartRow found.seen.items from cutoff targets.now found.ways.items s) }
+    ensures direct { IfOk result (λ found. (k : ℕ) → k < length targets.now → slice_index targets.now k ≢ from → (s : Seen) × IsKept (kept_of rows.new) s × IsStartRow found.seen.items from cutoff targets.now found.ways.items s) }
     ensures rows { IfOk result (λ found. AreRows found.seen.items) }
-    ensures bears { IfOk result (λ found. All S.bears found.seen.items) }
-    ensures shows { IfOk result (λ found. All (S.shows source.new) found.seen.items) }
+    ensures copies { IfOk result (λ found. All (IsKept (kept_of rows.new)) found.seen.items) }
+    ensures kept { AreKept S.bears (S.shows source.new) (S.bound_of source.new) (kept_of rows.new) }
+    ensures more { IsMore (kept_of rows.old) (kept_of rows.new) }
     ensures stays { S.stays source.old source.new }
-    ensures found { S.whole source.old from → result ≡ Err Unseen → ⊥ }
+    ensures found { AllNamed (S.whole source.old) (kept_of rows.old) → S.whole source.old from → result ≡ Err Unseen → ⊥ }
+    ensures names { AllNamed (S.whole source.old) (kept_of rows.old) → S.whole source.old from → OnOk result (AllNamed (S.whole source.new) (kept_of rows.new)) }
 {
     let rule = Rule {
         from,
         avoid,
         cutoff,
     };
-    let tree = Tree::new(alloc, source, rule, targets, settle)?;
+    let tree = Tree::new(alloc, source, rows, rule, targets, settle)?;
     let ways = ways_to(alloc, rule, &tree, targets)?;
     let seen = rows_of(alloc, tree)?;
     Ok(Found { ways, seen })

@@ -2,11 +2,13 @@ ghost use Rattle.std.specs.Prelude.{◌≡◌, ◌≢◌, ◌+◌, ◌^◌, ◌<
 ghost use Rattle.ch_cost.specs.Cost.{IsWithin};
 ghost use Rattle.ch_overlay.specs.declared.source.Seen.{Seen};
 ghost use Rattle.ch_witness.specs.declared.error.SearchError.TheVariants.{Unseen};
+ghost use Rattle.ch_witness.specs.Kept.{kept_of, AllNamed, AreKept, IsKept, IsMore};
 ghost use Rattle.ch_witness.specs.Tree.{labels_of, IsTree, IsNew, IsGoneOn, IsLater, IsStartSeen, AllAre, AllSeen};
 
 use crate::error::SearchError;
 use crate::follow::follow;
 use crate::frontier::{Frontier, Reached};
+use crate::rows::Rows;
 use crate::rule::Rule;
 use ch_cost::Cost;
 use ch_overlay::{RowSource, Seen};
@@ -32,20 +34,24 @@ impl Tree {
     pub fn new<S: RowSource>(
         alloc: Global,
         source: &mut S,
+        rows: &mut Rows,
         rule: Rule,
         targets: &[u32],
         settle: u32,
     ) -> Result<Tree, SearchError>
         requires start { rule.from ≢ rule.avoid }
         requires cutoff { IsWithin rule.cutoff (S.bound_of source.old) }
+        requires kept { AreKept S.bears (S.shows source.old) (S.bound_of source.old) (kept_of rows.old) }
         requires some { 1 ≤ settle }
         requires few { settle ≤ 2 ^ 16 }
         ensures tree { IfOk result (λ tree. IsTree rule tree.steps.items (labels_of tree.frontier)) }
-        ensures bears { IfOk result (λ tree. AllSeen S.bears tree.steps.items) }
-        ensures shows { IfOk result (λ tree. AllSeen (S.shows source.new) tree.steps.items) }
-        ensures start { IfOk result (λ tree. (k : ℕ) → k < length targets.now → slice_index targets.now k ≢ rule.from → (seen : Seen) × S.bears seen × S.shows source.new seen × IsStartSeen rule seen tree.steps.items (labels_of tree.frontier)) }
+        ensures copies { IfOk result (λ tree. AllSeen (IsKept (kept_of rows.new)) tree.steps.items) }
+        ensures start { IfOk result (λ tree. (k : ℕ) → k < length targets.now → slice_index targets.now k ≢ rule.from → (seen : Seen) × IsKept (kept_of rows.new) seen × IsStartSeen rule seen tree.steps.items (labels_of tree.frontier)) }
+        ensures kept { AreKept S.bears (S.shows source.new) (S.bound_of source.new) (kept_of rows.new) }
+        ensures more { IsMore (kept_of rows.old) (kept_of rows.new) }
         ensures stays { S.stays source.old source.new }
-        ensures found { S.whole source.old rule.from → result ≡ Err Unseen → ⊥ }
+        ensures found { AllNamed (S.whole source.old) (kept_of rows.old) → S.whole source.old rule.from → result ≡ Err Unseen → ⊥ }
+        ensures names { AllNamed (S.whole source.old) (kept_of rows.old) → S.whole source.old rule.from → OnOk result (AllNamed (S.whole source.new) (kept_of rows.new)) }
     {
         let mut tree = Tree {
             steps: Vec::new(alloc),
@@ -59,8 +65,8 @@ impl Tree {
             cost: Cost::ZERO,
             before: None,
         };
-        tree.go_on_from(source, rule, start)?;
-        tree.grow(source, rule, targets, settle - 1)?;
+        tree.go_on_from(source, rows, rule, start)?;
+        tree.grow(source, rows, rule, targets, settle - 1)?;
         Ok(tree)
     }
 
@@ -69,6 +75,7 @@ impl Tree {
     pub fn grow<S: RowSource>(
         &mut self,
         source: &mut S,
+        rows: &mut Rows,
         rule: Rule,
         targets: &[u32],
         turns: u32,
@@ -76,12 +83,15 @@ impl Tree {
         requires tree { IsTree rule self.old.steps.items (labels_of self.old.frontier) }
         requires few { length self.old.steps.items + turns ≤ 2 ^ 16 }
         requires cutoff { IsWithin rule.cutoff (S.bound_of source.old) }
+        requires kept { AreKept S.bears (S.shows source.old) (S.bound_of source.old) (kept_of rows.old) }
         ensures tree { OnOk result (IsTree rule self.new.steps.items (labels_of self.new.frontier)) }
         ensures later { OnOk result (IsLater self.old.steps.items self.new.steps.items (labels_of self.old.frontier) (labels_of self.new.frontier)) }
-        ensures bears { AllSeen S.bears self.old.steps.items → OnOk result (AllSeen S.bears self.new.steps.items) }
-        ensures shows { AllSeen (S.shows source.old) self.old.steps.items → OnOk result (AllSeen (S.shows source.new) self.new.steps.items) }
+        ensures copies { AllSeen (IsKept (kept_of rows.old)) self.old.steps.items → OnOk result (AllSeen (IsKept (kept_of rows.new)) self.new.steps.items) }
+        ensures kept { AreKept S.bears (S.shows source.new) (S.bound_of source.new) (kept_of rows.new) }
+        ensures more { IsMore (kept_of rows.old) (kept_of rows.new) }
         ensures stays { S.stays source.old source.new }
-        ensures found { AllAre (S.whole source.old) (labels_of self.old.frontier) → result ≡ Err Unseen → ⊥ }
+        ensures found { AllNamed (S.whole source.old) (kept_of rows.old) → AllAre (S.whole source.old) (labels_of self.old.frontier) → result ≡ Err Unseen → ⊥ }
+        ensures names { AllNamed (S.whole source.old) (kept_of rows.old) → AllAre (S.whole source.old) (labels_of self.old.frontier) → OnOk result (AllNamed (S.whole source.new) (kept_of rows.new)) }
     {
         let mut done = 0;
         'turns: for _ in 0..turns {
@@ -92,7 +102,7 @@ impl Tree {
             if done >= targets.len() {
                 break;
             }
-            self.go_on_from(source, rule, reached)?;
+            self.go_on_from(source, rows, rule, reached)?;
         }
         Ok(())
     }
@@ -119,6 +129,7 @@ impl Tree {
     pub fn go_on_from<S: RowSource>(
         &mut self,
         source: &mut S,
+        rows: &mut Rows,
         rule: Rule,
         reached: Reached,
     ) -> Result<(), SearchError>
@@ -127,15 +138,19 @@ impl Tree {
         requires new { IsNew reached.node self.old.steps.items }
         requires few { length self.old.steps.items < 2 ^ 16 }
         requires cutoff { IsWithin rule.cutoff (S.bound_of source.old) }
+        requires kept { AreKept S.bears (S.shows source.old) (S.bound_of source.old) (kept_of rows.old) }
         ensures tree { OnOk result (IsTree rule self.new.steps.items (labels_of self.new.frontier)) }
         ensures later { OnOk result (IsLater self.old.steps.items self.new.steps.items (labels_of self.old.frontier) (labels_of self.new.frontier)) }
         ensures few { OnOk result (length self.new.steps.items ≤ length self.old.steps.items + 1) }
-        ensures gone { OnOk result ((seen : Seen) × S.bears seen × S.shows source.new seen × IsGoneOn rule reached seen self.old.steps.items self.new.steps.items (labels_of self.old.frontier) (labels_of self.new.frontier)) }
+        ensures gone { OnOk result ((seen : Seen) × IsKept (kept_of rows.new) seen × IsGoneOn rule reached seen self.old.steps.items self.new.steps.items (labels_of self.old.frontier) (labels_of self.new.frontier)) }
+        ensures kept { AreKept S.bears (S.shows source.new) (S.bound_of source.new) (kept_of rows.new) }
+        ensures more { IsMore (kept_of rows.old) (kept_of rows.new) }
         ensures stays { S.stays source.old source.new }
         ensures found { AllAre (S.whole source.old) (labels_of self.old.frontier) → result ≡ Err Unseen → ⊥ }
-        ensures names { AllAre (S.whole source.old) (labels_of self.old.frontier) → OnOk result (AllAre (S.whole source.new) (labels_of self.new.frontier)) }
+        ensures names { AllNamed (S.whole source.old) (kept_of rows.old) → AllAre (S.whole source.old) (labels_of self.old.frontier) → OnOk result (AllNamed (S.whole source.new) (kept_of rows.new)) }
+        ensures whole { AllNamed (S.whole source.old) (kept_of rows.old) → AllAre (S.whole source.old) (labels_of self.old.frontier) → OnOk result (AllAre (S.whole source.new) (labels_of self.new.frontier)) }
     {
-        let seen = source.row_of(reached.node)?;
+        let seen = rows.read(source, reached.node)?;
         if seen.row.rank.is_some() {
             return Ok(());
         }

@@ -3,7 +3,7 @@ use Rattle.std.specs.Option.{is_some}
 use Rattle.ch_cost.specs.Cost.{IsInLimit}
 use Rattle.ch_laws.specs.declared.entry.Entry.{Entry}
 use Rattle.ch_laws.specs.Rows.{Row}
-use Rattle.ch_overlay.specs.Source.{row_in}
+use Rattle.ch_overlay.specs.Source.{row_in, NamesAlone}
 use Rattle.ch_witness.specs.declared.tree.Step.{Step}
 use Rattle.ch_witness.specs.Frontier.{AreFollowed}
 use Rattle.ch_witness.specs.Tree.{labels_of, IsTree, IsLater, step_from}
@@ -45,5 +45,9 @@ returns-clause-later g c =
     subst (λ (ss : List Step). IsLater c.args.self.now.steps.items ss (labels_of c.args.self.now.frontier) (labels_of c.follow.new.frontier)) (sym c.in_ok-push.ensures.items)
     (step_later c.args.self.now.steps.items (step_from c.args.reached c.in_ok-seen.seen) (labels_of c.args.self.now.frontier) (labels_of c.follow.new.frontier) (followed g c).kept)
 
-pub returns-clause-names : goal.returns-clause-names
-returns-clause-names g c = λ all. names_kept c.args.rule (g.S.RowSource.whole c.args.source.now) (g.S.RowSource.whole c.row_of.new.self) (λ v h. g.met.S.RowSource.still_whole c.args.source.now c.row_of.new.self v c.in_ok-seen.ensures.stays h) (row_in c.in_ok-seen.seen) c.args.reached.cost (length c.args.self.now.steps.items) (labels_of c.args.self.now.frontier) (labels_of c.follow.new.frontier) (c.in_ok-seen.ensures.names (all c.args.reached.node _ c.requires.label)) all (followed g c)
+pub returns-clause-whole : goal.returns-clause-whole
+returns-clause-whole g c = λ named all.
+    let seen = c.in_ok-seen.seen in
+    let kept = c.in_ok-seen.ensures.copy in
+    let now = c.in_ok-seen.ensures.names (all c.args.reached.node _ c.requires.label) named seen.node kept.original kept.here in
+    names_kept c.args.rule (g.S.RowSource.whole c.args.source.now) (g.S.RowSource.whole c.read.new.source) (λ v h. g.met.S.RowSource.still_whole c.args.source.now c.read.new.source v c.in_ok-seen.ensures.stays h) (row_in seen) c.args.reached.cost (length c.args.self.now.steps.items) (labels_of c.args.self.now.frontier) (labels_of c.follow.new.frontier) (subst (NamesAlone (g.S.RowSource.whole c.read.new.source)) (sym kept.same.row) now) all (followed g c)

@@ -2,7 +2,9 @@ use Rattle.std.proofs.Common.{sym, subst, arith}
 use Rattle.std.proofs.lemmas.Result.{err_from_is_err_and}
 use Rattle.ch_cost.specs.declared.cost.Cost.{Cost}
 use Rattle.ch_cost.specs.Cost.{IsWithin}
+use Rattle.ch_witness.specs.Kept.{kept_of, IsKept}
 use Rattle.ch_witness.specs.Tree.{labels_of}
+use Rattle.ch_witness.proofs.Keeping.{kept_still, more_refl, more_trans}
 use Rattle.ch_witness.proofs.Growing.{tree_settled, tree_same, settled_new, all_settled, later_start, later_more, later_settled, later_same, seen_gone}
 use Rattle.ch_witness.proofs.tree.Tree.grow.Goals as goal
 
@@ -12,9 +14,11 @@ turns-init g c = record {
   few = omega arith;
   later = later_start c.args.self.now.steps.items (labels_of c.args.self.now.frontier);
   stays = g.met.S.RowSource.stays_self c.args.source.now;
-  bears = λ h. h;
-  shows = λ h. h;
-  whole = λ h. h;
+  kept = c.requires.kept;
+  more = more_refl (kept_of c.args.rows.now);
+  copies = λ h. h;
+  names = λ h k. h;
+  whole = λ h k. k;
 }
 
 pub go_on_from-requires-clause-tree : goal.go_on_from-requires-clause-tree
@@ -33,12 +37,12 @@ pub returns-in_err-go_on_from-clause-stays : goal.returns-in_err-go_on_from-clau
 returns-in_err-go_on_from-clause-stays g c = g.met.S.RowSource.stays_more c.args.source.now c.turns.source c.go_on_from.new.source c.turns.invariant.stays c.in_err-go_on_from.ensures.stays
 
 pub returns-in_err-go_on_from-clause-found : goal.returns-in_err-go_on_from-clause-found
-returns-in_err-go_on_from-clause-found g c = λ all e.
+returns-in_err-go_on_from-clause-found g c = λ named all e.
     let p = err_from_is_err_and c.from_residual.result c.from_residual.ensures.1 in
     let was = c.in_err-go_on_from.was in
     let one = p.1 in
     let two = p.2 in
-    c.in_err-go_on_from.ensures.found (all_settled (g.S.RowSource.whole c.turns.source) _ _ c.in-Some.reached c.in-Some.ensures.settled (c.turns.invariant.whole all)) (cc (was, one, two, e))
+    c.in_err-go_on_from.ensures.found (all_settled (g.S.RowSource.whole c.turns.source) _ _ c.in-Some.reached c.in-Some.ensures.settled (c.turns.invariant.whole named all)) (cc (was, one, two, e))
 
 pub turns-preserved : goal.turns-preserved
 turns-preserved g c =
@@ -50,9 +54,11 @@ turns-preserved g c =
       few = omega (arith, c.in_ok-go_on_from.ensures.few, c.turns.invariant.few);
       later = later_more _ _ _ _ _ _ (later_more _ _ _ _ _ _ inv.later (later_settled c.turns.self.steps.items _ _ c.in-Some.reached now)) c.in_ok-go_on_from.ensures.later;
       stays = g.met.S.RowSource.stays_more c.args.source.now c.turns.source c.go_on_from.new.source inv.stays c.in_ok-go_on_from.ensures.stays;
-      bears = λ h. seen_gone g.S.RowSource.bears c.args.rule c.in-Some.reached gone.0 _ _ _ _ gone.1 (inv.bears h) gone.3;
-      shows = λ h. seen_gone (g.S.RowSource.shows c.go_on_from.new.source) c.args.rule c.in-Some.reached gone.0 _ _ _ _ gone.2 (λ k s is. g.met.S.RowSource.still_shows c.turns.source c.go_on_from.new.source s.seen c.in_ok-go_on_from.ensures.stays (inv.shows h k s is)) gone.3;
-      whole = λ h. c.in_ok-go_on_from.ensures.names (all_settled (g.S.RowSource.whole c.turns.source) _ _ c.in-Some.reached now (inv.whole h));
+      kept = c.in_ok-go_on_from.ensures.kept;
+      more = more_trans _ _ _ inv.more c.in_ok-go_on_from.ensures.more;
+      copies = λ h. seen_gone (IsKept (kept_of c.go_on_from.new.rows)) c.args.rule c.in-Some.reached gone.0 _ _ _ _ gone.1 (λ k s is. kept_still (kept_of c.turns.rows) (kept_of c.go_on_from.new.rows) s.seen c.in_ok-go_on_from.ensures.more (inv.copies h k s is)) gone.2;
+      names = λ h k. c.in_ok-go_on_from.ensures.names (inv.names h k) (all_settled (g.S.RowSource.whole c.turns.source) _ _ c.in-Some.reached now (inv.whole h k));
+      whole = λ h k. c.in_ok-go_on_from.ensures.whole (inv.names h k) (all_settled (g.S.RowSource.whole c.turns.source) _ _ c.in-Some.reached now (inv.whole h k));
     }
 
 pub returns-after-turns-clause-tree : goal.returns-after-turns-clause-tree
@@ -61,11 +67,17 @@ returns-after-turns-clause-tree g c = c.turns.invariant.tree
 pub returns-after-turns-clause-later : goal.returns-after-turns-clause-later
 returns-after-turns-clause-later g c = c.turns.invariant.later
 
-pub returns-after-turns-clause-bears : goal.returns-after-turns-clause-bears
-returns-after-turns-clause-bears g c = c.turns.invariant.bears
+pub returns-after-turns-clause-copies : goal.returns-after-turns-clause-copies
+returns-after-turns-clause-copies g c = c.turns.invariant.copies
 
-pub returns-after-turns-clause-shows : goal.returns-after-turns-clause-shows
-returns-after-turns-clause-shows g c = c.turns.invariant.shows
+pub returns-after-turns-clause-kept : goal.returns-after-turns-clause-kept
+returns-after-turns-clause-kept g c = c.turns.invariant.kept
+
+pub returns-after-turns-clause-more : goal.returns-after-turns-clause-more
+returns-after-turns-clause-more g c = c.turns.invariant.more
+
+pub returns-after-turns-clause-names : goal.returns-after-turns-clause-names
+returns-after-turns-clause-names g c = c.turns.invariant.names
 
 pub returns-after-turns-clause-stays : goal.returns-after-turns-clause-stays
 returns-after-turns-clause-stays g c = c.turns.invariant.stays
@@ -76,11 +88,17 @@ returns-in_default-clause-tree g c = tree_same c.args.rule c.turns.self.steps.it
 pub returns-in_default-clause-later : goal.returns-in_default-clause-later
 returns-in_default-clause-later g c = later_more _ _ _ _ _ _ c.turns.invariant.later (later_same c.turns.self.steps.items _ _ c.in_default.ensures.stays)
 
-pub returns-in_default-clause-bears : goal.returns-in_default-clause-bears
-returns-in_default-clause-bears g c = c.turns.invariant.bears
+pub returns-in_default-clause-copies : goal.returns-in_default-clause-copies
+returns-in_default-clause-copies g c = c.turns.invariant.copies
 
-pub returns-in_default-clause-shows : goal.returns-in_default-clause-shows
-returns-in_default-clause-shows g c = c.turns.invariant.shows
+pub returns-in_default-clause-kept : goal.returns-in_default-clause-kept
+returns-in_default-clause-kept g c = c.turns.invariant.kept
+
+pub returns-in_default-clause-more : goal.returns-in_default-clause-more
+returns-in_default-clause-more g c = c.turns.invariant.more
+
+pub returns-in_default-clause-names : goal.returns-in_default-clause-names
+returns-in_default-clause-names g c = c.turns.invariant.names
 
 pub returns-in_default-clause-stays : goal.returns-in_default-clause-stays
 returns-in_default-clause-stays g c = c.turns.invariant.stays
@@ -91,11 +109,20 @@ returns-then-done-targets-clause-tree g c = tree_settled c.args.rule c.turns.sel
 pub returns-then-done-targets-clause-later : goal.returns-then-done-targets-clause-later
 returns-then-done-targets-clause-later g c = later_more _ _ _ _ _ _ c.turns.invariant.later (later_settled c.turns.self.steps.items _ _ c.in-Some.reached c.in-Some.ensures.settled)
 
-pub returns-then-done-targets-clause-bears : goal.returns-then-done-targets-clause-bears
-returns-then-done-targets-clause-bears g c = c.turns.invariant.bears
+pub returns-then-done-targets-clause-copies : goal.returns-then-done-targets-clause-copies
+returns-then-done-targets-clause-copies g c = c.turns.invariant.copies
 
-pub returns-then-done-targets-clause-shows : goal.returns-then-done-targets-clause-shows
-returns-then-done-targets-clause-shows g c = c.turns.invariant.shows
+pub returns-then-done-targets-clause-kept : goal.returns-then-done-targets-clause-kept
+returns-then-done-targets-clause-kept g c = c.turns.invariant.kept
+
+pub returns-then-done-targets-clause-more : goal.returns-then-done-targets-clause-more
+returns-then-done-targets-clause-more g c = c.turns.invariant.more
+
+pub returns-then-done-targets-clause-names : goal.returns-then-done-targets-clause-names
+returns-then-done-targets-clause-names g c = c.turns.invariant.names
 
 pub returns-then-done-targets-clause-stays : goal.returns-then-done-targets-clause-stays
 returns-then-done-targets-clause-stays g c = c.turns.invariant.stays
+
+pub returns-in_err-go_on_from-clause-more : goal.returns-in_err-go_on_from-clause-more
+returns-in_err-go_on_from-clause-more g c = more_trans _ _ _ c.turns.invariant.more c.in_err-go_on_from.ensures.more

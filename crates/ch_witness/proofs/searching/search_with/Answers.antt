@@ -1,10 +1,11 @@
 use Rattle.std.proofs.Common.{List, sym, subst}
 use Rattle.std.specs.List.{All}
 use Rattle.ch_overlay.specs.declared.source.Seen.{Seen}
+use Rattle.ch_witness.specs.Kept.{kept_of, IsKept}
 use Rattle.ch_witness.specs.Tree.{labels_of}
 use Rattle.ch_witness.specs.Ways.{AreWays, AreRows, IsStartRow}
 use Rattle.ch_witness.proofs.Giving.{all_seen, rows, ways_given, start_given}
-use Rattle.ch_witness.proofs.searching.search.Goals as goal
+use Rattle.ch_witness.proofs.searching.search_with.Goals as goal
 
 pub returns-clause-ways : goal.returns-clause-ways
 returns-clause-ways g c = subst (λ (ss : List Seen). AreWays ss c.args.from c.args.avoid c.args.cutoff c.args.targets.now c.in_ok-ways.ways.items) (sym c.in_ok-seen.ensures) (ways_given _ c.in_ok-tree.tree.steps.items (labels_of c.in_ok-tree.tree.frontier) c.args.targets.now c.in_ok-ways.ways.items c.in_ok-tree.ensures.tree c.in_ok-ways.ensures.many c.in_ok-ways.ensures.ways)
@@ -14,15 +15,11 @@ returns-clause-direct g c = λ k h other.
     let start = c.in_ok-tree.ensures.start k h other in (
       start.0,
       start.1,
-      start.2,
-      subst (λ (ss : List Seen). IsStartRow ss c.args.from c.args.cutoff c.args.targets.now c.in_ok-ways.ways.items start.0) (sym c.in_ok-seen.ensures) (start_given _ c.in_ok-tree.tree.steps.items (labels_of c.in_ok-tree.tree.frontier) c.args.targets.now c.in_ok-ways.ways.items start.0 c.requires.targets c.in_ok-ways.ensures.ways start.3),
+      subst (λ (ss : List Seen). IsStartRow ss c.args.from c.args.cutoff c.args.targets.now c.in_ok-ways.ways.items start.0) (sym c.in_ok-seen.ensures) (start_given _ c.in_ok-tree.tree.steps.items (labels_of c.in_ok-tree.tree.frontier) c.args.targets.now c.in_ok-ways.ways.items start.0 c.requires.targets c.in_ok-ways.ensures.ways start.2),
     )
 
 pub returns-clause-rows : goal.returns-clause-rows
 returns-clause-rows g c = subst AreRows (sym c.in_ok-seen.ensures) (rows _ c.in_ok-tree.tree.steps.items c.in_ok-tree.ensures.tree.grown)
 
-pub returns-clause-bears : goal.returns-clause-bears
-returns-clause-bears g c = subst (All g.S.RowSource.bears) (sym c.in_ok-seen.ensures) (all_seen g.S.RowSource.bears c.in_ok-tree.tree.steps.items c.in_ok-tree.ensures.bears)
-
-pub returns-clause-shows : goal.returns-clause-shows
-returns-clause-shows g c = subst (All (g.S.RowSource.shows c.new.new.source)) (sym c.in_ok-seen.ensures) (all_seen (g.S.RowSource.shows c.new.new.source) c.in_ok-tree.tree.steps.items c.in_ok-tree.ensures.shows)
+pub returns-clause-copies : goal.returns-clause-copies
+returns-clause-copies g c = subst (All (IsKept (kept_of c.new.new.rows))) (sym c.in_ok-seen.ensures) (all_seen (IsKept (kept_of c.new.new.rows)) c.in_ok-tree.tree.steps.items c.in_ok-tree.ensures.copies)

@@ -1,0 +1,83 @@
+use Rattle.std.proofs.Common.{ℕ, Bool, ◌≡◌, ◌+◌, List, [], ◌∷◌, ◌++◌, length, map, Contains, Some, None, Err, true, false, Result, refl, ap, sym, subst, ◌∙◌, arith, append_assoc}
+use Rattle.std.specs.List.{All}
+use Rattle.std.proofs.lemmas.Bool.Decides.{nat_tests}
+use Rattle.std.proofs.lemmas.Result.{err_from_is_err_and}
+use Rattle.std.proofs.lemmas.List.Elements.{All-contains}
+use Rattle.ch_cost.specs.declared.cost.Cost.{Cost}
+use Rattle.ch_cost.specs.Cost.{◌≼◌, IsWithin}
+use Rattle.ch_laws.specs.declared.entry.Entry.{Entry}
+use Rattle.ch_laws.specs.declared.shortcut.Shortcut.{Shortcut}
+use Rattle.ch_laws.specs.Rows.{Row}
+use Rattle.ch_overlay.specs.declared.source.Seen.{Seen}
+use Rattle.ch_overlay.specs.Overlay.{IsEntry}
+use Rattle.ch_witness.specs.Kept.{kept_of, AllNamed, IsKept}
+use Rattle.ch_witness.specs.Ways.{AreWays, IsStartRow}
+use Rattle.ch_contract.specs.declared.error.ProposeError.{ProposeError}
+use Rattle.ch_contract.specs.declared.error.ProposeError.TheVariants.{Unseen}
+use Rattle.ch_witness.specs.declared.error.SearchError.{SearchError}
+use Rattle.ch_contract.specs.Drafts.{AreJudged, ArePairs}
+use Rattle.ch_contract.proofs.Joining.{direct_for, drafted_idle, drafted_search, idle_alone, judged_for, no_target, through_pair, pair_through}
+use Rattle.ch_contract.proofs.draft.draft_pairs.Goals as goal
+
+not-true : (b : Bool) → b ≡ false → b ≡ true → ⊥
+not-true b f t = cc
+
+no-items : (xs : List Shortcut) → length xs ≡ 0 → xs ≡ []
+no-items [] e = refl
+no-items (x ∷ xs) e = absurd (omega (arith, e))
+
+pub returns-then-not-leads_on-clause-draft : goal.returns-then-not-leads_on-clause-draft
+returns-then-not-leads_on-clause-draft g c =
+    let outs : c.deref.result.now ≡ c.args.row.now.out = c.deref.ensures.value ∙ ap (λ (r : Row). r.out) c.row.view_is in
+    idle_alone c.args.task.bound c.args.task.node c.args.row.now c.args.into.other (kept_of c.args.rows.now) c.args.draft.now (subst (All (λ (e : Entry). e.other ≡ c.args.into.other)) outs (c.leads_on.ensures (λ yes. not-true _ c.if-not-leads_on.true yes)))
+
+pub returns-then-is_empty-clause-draft : goal.returns-then-is_empty-clause-draft
+returns-then-is_empty-clause-draft g c =
+    let long : length c.in_ok-pairs.pairs.items ≡ 0 = grind (arith, nat_tests, c.is_empty.ensures, c.if-is_empty.true, c.in_ok-pairs.pairs.ok) in
+    let none = no-items c.in_ok-pairs.pairs.items long in
+    drafted_idle c.args.task.bound c.args.task.node c.args.row.now c.args.into.other (kept_of c.read.new.self) c.args.draft.now _ (c.args.into.other ∷ []) (λ w sum t within. empty _ (subst (λ (ps : List Shortcut). Contains ps (record { from = c.args.into.other; to = w; cost = sum })) none (through_pair c.args.task.bound c.args.row.now c.args.into c.in_ok-pairs.pairs.items c.requires.among c.requires.inn_rises (subst (λ (es : List Entry). ArePairs c.args.task.bound c.args.into es c.in_ok-pairs.pairs.items) (c.deref-2.ensures.value ∙ ap (λ (r : Row). r.out) c.row.view_is) c.in_ok-pairs.ensures) w sum t within))) refl c.in_ok-push.ensures.items
+  where
+    empty : (p : Shortcut) → Contains [] p → ⊥
+    empty p among = omega (arith, among.1)
+
+pub search_with-requires-clause-targets : goal.search_with-requires-clause-targets
+search_with-requires-clause-targets g c =
+    let targets : c.deref-5.result.now ≡ map (λ (p : Shortcut). p.to) c.in_ok-pairs.pairs.items = c.deref-5.ensures.value ∙ c.in_ok-targets.ensures ∙ ap (map (λ (p : Shortcut). p.to)) c.deref-3.ensures.value in
+    λ among. no_target c.args.task.bound c.args.task.node c.args.row.now c.args.into c.in_ok-pairs.pairs.items (subst (λ (es : List Entry). ArePairs c.args.task.bound c.args.into es c.in_ok-pairs.pairs.items) (c.deref-2.ensures.value ∙ ap (λ (r : Row). r.out) c.row.view_is) c.in_ok-pairs.ensures) c.requires.entries (subst (λ (ts : List ℕ). Contains ts c.args.task.node) targets among)
+
+pub search_with-requires-clause-cutoff : goal.search_with-requires-clause-cutoff
+search_with-requires-clause-cutoff g c =
+    let bound : c.args.task.bound ≡ g.S.RowSource.bound_of c.read.new.source = c.requires.bound ∙ sym (g.met.S.RowSource.same_bound c.args.source.now c.read.new.source c.in_ok-read.ensures.stays) in
+    subst (λ (b : Cost). IsWithin c.greatest-cutoff.result b) bound (c.greatest-cutoff.ensures.within c.args.task.bound (λ p among. (pair_through c.args.task.bound c.args.row.now c.args.into c.in_ok-pairs.pairs.items c.requires.among c.requires.inn_rises (subst (λ (es : List Entry). ArePairs c.args.task.bound c.args.into es c.in_ok-pairs.pairs.items) (c.deref-2.ensures.value ∙ ap (λ (r : Row). r.out) c.row.view_is) c.in_ok-pairs.ensures) p (subst (λ (ps : List Shortcut). Contains ps p) c.deref-4.ensures.value among)).1))
+
+pub returns-in_err-found-clause-found : goal.returns-in_err-found-clause-found
+returns-in_err-found-clause-found g c = λ named names e.
+    let p = err_from_is_err_and c.from_residual-in_err-found.result c.from_residual-in_err-found.ensures.1 in
+    let was = c.in_err-found.was in
+    let one = p.1 in
+    let it : p.0 ≡ Unseen = cc (one, e) in
+    let refused = p.2.1 it in
+    let whole = All-contains (λ (x : Entry). g.S.RowSource.whole c.args.source.now x.other) c.args.row.now.inn c.args.into names.inn c.requires.among in
+    c.in_err-found.ensures.found (c.in_ok-read.ensures.names whole named) (g.met.S.RowSource.still_whole c.args.source.now c.read.new.source c.args.into.other c.in_ok-read.ensures.stays whole) (cc (was, refused))
+
+pub returns-clause-names : goal.returns-clause-names
+returns-clause-names g c = λ named names.
+    let whole = All-contains (λ (x : Entry). g.S.RowSource.whole c.args.source.now x.other) c.args.row.now.inn c.args.into names.inn c.requires.among in
+    c.in_ok-found.ensures.names (c.in_ok-read.ensures.names whole named) (g.met.S.RowSource.still_whole c.args.source.now c.read.new.source c.args.into.other c.in_ok-read.ensures.stays whole)
+
+pub returns-clause-draft : goal.returns-clause-draft
+returns-clause-draft g c =
+    let pairs = c.in_ok-pairs.pairs.items in
+    let targets : c.deref-5.result.now ≡ map (λ (p : Shortcut). p.to) pairs = c.deref-5.ensures.value ∙ c.in_ok-targets.ensures ∙ ap (map (λ (p : Shortcut). p.to)) c.deref-3.ensures.value in
+    let first = c.in_ok-read.ensures.copy in
+    let ways = c.in_ok-found.found.ways.items in
+    let rows = c.in_ok-found.found.seen.items in
+    drafted_search c.args.task.bound c.args.task.node c.args.row.now c.args.into pairs c.requires.among c.requires.inn_rises (subst (λ (es : List Entry). ArePairs c.args.task.bound c.args.into es c.in_ok-pairs.pairs.items) (c.deref-2.ensures.value ∙ ap (λ (r : Row). r.out) c.row.view_is) c.in_ok-pairs.ensures)
+    (kept_of c.search_with.new.rows) first.original (c.in_ok-found.ensures.more c.args.into.other first.original (subst (λ (x : ℕ). kept_of c.read.new.self x ≡ Some first.original) c.in_ok-read.ensures.node first.here))
+    rows c.greatest-cutoff.result ways (subst (λ (ts : List ℕ). AreWays rows c.args.into.other c.args.task.node c.greatest-cutoff.result ts ways) targets c.in_ok-found.ensures.ways)
+    (λ p among. c.greatest-cutoff.ensures.most p (subst (λ (ps : List Shortcut). Contains ps p) (sym c.deref-4.ensures.value) among))
+    (direct_for (kept_of c.search_with.new.rows) rows c.args.into.other c.greatest-cutoff.result ways _ (map (λ (p : Shortcut). p.to) pairs) targets c.in_ok-found.ensures.direct)
+    c.in_ok-found.ensures.copies
+    c.args.draft.now _ c.judge.new.self
+    (judged_for _ pairs _ ways _ c.judge.new.self c.deref-6.ensures.value c.deref-7.ensures.value c.in_ok-judge.ensures)
+    refl c.in_ok-push.ensures.items

@@ -1,0 +1,44 @@
+use Rattle.std.proofs.Common.{List, take, Contains, ap, sym, subst, ◌∙◌}
+use Rattle.std.proofs.lemmas.List.{take_all}
+use Rattle.std.proofs.lemmas.List.Elements.{Contains-get_or}
+use Rattle.std.proofs.lemmas.Result.{err_from_is_err_and}
+use Rattle.ch_cost.specs.declared.cost.Cost.{Cost}
+use Rattle.ch_laws.specs.declared.entry.Entry.{Entry}
+use Rattle.ch_laws.specs.Rows.{Row}
+use Rattle.ch_overlay.specs.Source.{NamesAlone}
+use Rattle.ch_witness.specs.Kept.{kept_of}
+use Rattle.ch_contract.specs.Drafts.{IsDrafted}
+use Rattle.ch_contract.proofs.Gathering.{drafted_none, next_drafted, names_moved}
+use Rattle.ch_contract.proofs.proposing.draft_all.Goals as goal
+
+pub inns-init : goal.inns-init
+inns-init g c = record {
+  draft = drafted_none c.args.task.bound c.args.task.node c.args.row.now (kept_of c.args.rows.now) c.args.draft.now c.requires.begun;
+  kept = c.requires.kept;
+  more = λ x s is. is;
+  stays = g.met.S.RowSource.stays_self c.args.source.now;
+  names = λ named names. named;
+}
+
+pub inns-preserved : goal.inns-preserved
+inns-preserved g c =
+    let inns = c.deref-into-items.ensures.value ∙ ap (λ (r : Row). r.inn) c.row.view_is in
+    let inv = c.inns.invariant in
+    let step = c.in_ok-draft_pairs.ensures in
+    record {
+      draft = next_drafted c.args.task.bound c.args.task.node c.args.row.now c.deref-into-items.result.now inns c.requires.inn_rises c.inns.into-index _ c.inns-test.true (kept_of c.inns.rows) (kept_of c.draft_pairs.new.rows) c.inns.draft c.draft_pairs.new.draft step.more inv.draft step.draft;
+      kept = step.kept;
+      more = λ x s is. step.more x s (inv.more x s is);
+      stays = g.met.S.RowSource.stays_more c.args.source.now c.inns.source c.draft_pairs.new.source inv.stays step.stays;
+      names = λ named names. step.names (inv.names named names) (names_moved _ _ c.args.row.now (λ v h. g.met.S.RowSource.still_whole c.args.source.now c.inns.source v inv.stays h) names);
+    }
+
+pub returns-in_err-draft_pairs-clause-found : goal.returns-in_err-draft_pairs-clause-found
+returns-in_err-draft_pairs-clause-found g c = λ named names e.
+    let inv = c.inns.invariant in
+    let p = err_from_is_err_and c.from_residual.result c.from_residual.ensures.1 in
+    let was = c.in_err-draft_pairs.was in
+    let one = p.1 in
+    let two = p.2 in
+    c.in_err-draft_pairs.ensures.found (inv.names named names) (names_moved _ _ c.args.row.now (λ v h. g.met.S.RowSource.still_whole c.args.source.now c.inns.source v inv.stays h) names) (cc (was, one, two, e))
+

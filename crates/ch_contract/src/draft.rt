@@ -1,0 +1,205 @@
+ghost use Rattle.std.specs.Prelude.{◌≡◌, ◌≢◌, ◌≤◌, ◌^◌, ℕ, List, [], ◌∷◌, ◌++◌, IfOk, OnOk, All, Contains, IsTrue, length, map};
+ghost use Rattle.ch_cost.specs.declared.cost.Cost.{Cost};
+ghost use Rattle.ch_cost.specs.Cost.{◌≼◌, IsWithin};
+ghost use Rattle.ch_laws.specs.declared.shortcut.Shortcut.{Shortcut};
+ghost use Rattle.ch_laws.specs.Rows.{Rises};
+ghost use Rattle.ch_overlay.specs.Overlay.{AreEntries};
+ghost use Rattle.ch_overlay.specs.Source.{IsBound, NamesAlone};
+ghost use Rattle.ch_witness.specs.Kept.{kept_of, AllNamed, AreKept, IsMore};
+ghost use Rattle.ch_contract.specs.Drafts.{ArePairs, AreJudged, IsPairAdded, IsPairJudged, IsPairOf, IsDraftedFrom, IsFront, Lengthens};
+ghost use Rattle.ch_contract.specs.declared.error.ProposeError.TheVariants.{Unseen, Contracted};
+
+use crate::error::ProposeError;
+use ch_cost::Cost;
+use ch_laws::Entry;
+use ch_overlay::{Row, RowSource, Shortcut};
+use ch_witness::{Rows, Way, search_with};
+use std::alloc::{AllocError, Global};
+
+/// What the pairs of a proposal have in common.
+#[derive(Clone, Copy, Debug)]
+pub struct Task {
+    /// The node that it would contract.
+    pub node: u32,
+    /// The bound of the source.
+    pub bound: Cost,
+    /// How many nodes a search settles at most.
+    pub settle: u32,
+}
+
+/// A proposal in the making.
+#[derive(Drop)]
+pub struct Draft {
+    /// The nodes whose rows it rests on, in their order; a node may come again.
+    pub listed: Vec<u32>,
+    /// The shortcuts, by their ends.
+    pub shortcuts: Vec<Shortcut>,
+}
+
+impl Draft {
+    /// A draft that rests on the row of the node, and has worked out no pair.
+    pub fn new(alloc: Global, node: u32) -> Result<Draft, AllocError>
+        ensures listed { IfOk result (λ d. d.listed.items ≡ node ∷ []) }
+        ensures shortcuts { IfOk result (λ d. d.shortcuts.items ≡ []) }
+    {
+        let mut listed = Vec::new(alloc);
+        listed.push(node)?;
+        Ok(Draft {
+            listed,
+            shortcuts: Vec::new(alloc),
+        })
+    }
+
+    /// Puts in a shortcut for each pair to which no way leads that costs at most as much, and lists the nodes of the
+    /// other ways.
+    fn judge(&mut self, pairs: &[Shortcut], ways: &[Option<Way>]) -> Result<(), AllocError>
+        requires many { length ways.now ≡ length pairs.now }
+        ensures { OnOk result (AreJudged pairs.now ways.now (length pairs.now) self.old self.new) }
+    {
+        'pairs: for place in 0..pairs.len() {
+            self.judge_pair(pairs[place], &ways[place])?;
+        }
+        Ok(())
+    }
+
+    /// Judges one pair by the best way that was found.
+    fn judge_pair(&mut self, pair: Shortcut, way: &Option<Way>) -> Result<(), AllocError>
+        ensures { OnOk result (IsPairJudged pair way.now self.old self.new) }
+    {
+        if let Some(way) = way {
+            if way.cost.is_at_most(pair.cost) {
+                return self.list_front(&way.nodes);
+            }
+        }
+        self.shortcuts.push(pair)?;
+        Ok(())
+    }
+
+    /// Lists the nodes of a way but the last.
+    fn list_front(&mut self, nodes: &[u32]) -> Result<(), AllocError>
+        ensures shortcuts { OnOk result (self.new.shortcuts.items ≡ self.old.shortcuts.items) }
+        ensures listed { OnOk result ((more : List ℕ) × Lengthens more self.old self.new × IsFront nodes.now more) }
+    {
+        if let Some((_, front)) = nodes.split_last() {
+            self.listed.extend_from_slice(front)?;
+        }
+        Ok(())
+    }
+}
+
+/// Works out the pairs from one neighbour, which has this arc to the node, to the others that the node's row lists.
+///
+/// Where there is another, the neighbour's row is read and listed; where a pair isn't heavy, a search is made.
+pub fn draft_pairs<S: RowSource>(
+    alloc: Global,
+    source: &mut S,
+    rows: &mut Rows,
+    task: Task,
+    row: &Row,
+    into: Entry,
+    draft: &mut Draft,
+) -> Result<(), ProposeError>
+    requires some { 1 ≤ task.settle }
+    requires few { task.settle ≤ 2 ^ 16 }
+    requires bound { task.bound ≡ S.bound_of source.old }
+    requires limit { IsBound task.bound }
+    requires inn_rises { Rises row.now.inn }
+    requires out_rises { Rises row.now.out }
+    requires entries { AreEntries (2 ^ 25) task.bound task.node row.now }
+    requires among { Contains row.now.inn into }
+    requires kept { AreKept S.bears (S.shows source.old) (S.bound_of source.old) (kept_of rows.old) }
+    ensures draft { OnOk result (IsDraftedFrom task.bound task.node row.now into.other (kept_of rows.new) draft.old draft.new) }
+    ensures kept { AreKept S.bears (S.shows source.new) (S.bound_of source.new) (kept_of rows.new) }
+    ensures more { IsMore (kept_of rows.old) (kept_of rows.new) }
+    ensures stays { S.stays source.old source.new }
+    ensures found { AllNamed (S.whole source.old) (kept_of rows.old) → NamesAlone (S.whole source.old) row.now → result ≡ Err Unseen → ⊥ }
+    ensures never { result ≡ Err Contracted → ⊥ }
+    ensures names { AllNamed (S.whole source.old) (kept_of rows.old) → NamesAlone (S.whole source.old) row.now → OnOk result (AllNamed (S.whole source.new) (kept_of rows.new)) }
+{
+    if !leads_on(&row.out, into.other) {
+        return Ok(());
+    }
+    rows.read(source, into.other)?;
+    draft.listed.push(into.other)?;
+    let pairs = light_pairs(alloc, task.bound, into, &row.out)?;
+    if pairs.is_empty() {
+        return Ok(());
+    }
+    let targets = ends_of(alloc, &pairs)?;
+    let cutoff = greatest(&pairs);
+    let found = search_with(alloc, source, rows, into.other, task.node, cutoff, &targets, task.settle)?;
+    draft.judge(&pairs, &found.ways)?;
+    Ok(())
+}
+
+/// Whether one of the entries is for another node than this.
+fn leads_on(entries: &[Entry], node: u32) -> bool
+    ensures { (IsTrue result → ⊥) → All (λ e. e.other ≡ node) entries.now }
+{
+    entries.iter().any(|entry| entry.other != node)
+}
+
+/// The pairs from one neighbour to the others that aren't heavy, with what their two arcs cost together.
+fn light_pairs(alloc: Global, bound: Cost, into: Entry, outs: &[Entry]) -> Result<Vec<Shortcut>, AllocError>
+    requires rises { Rises outs.now }
+    ensures { IfOk result (λ pairs. ArePairs bound into outs.now pairs.items) }
+{
+    let mut pairs = Vec::new(alloc);
+    'outs: for out in outs {
+        add_pair(bound, into, *out, &mut pairs)?;
+    }
+    Ok(pairs)
+}
+
+/// Adds the pair of two arcs, unless it is heavy or they join a node with itself.
+fn add_pair(bound: Cost, into: Entry, out: Entry, pairs: &mut Vec<Shortcut>) -> Result<(), AllocError>
+    ensures { OnOk result (IsPairAdded bound into out pairs.old.items pairs.new.items) }
+{
+    if let Some(pair) = light_pair(bound, into, out) {
+        pairs.push(pair)?;
+    }
+    Ok(())
+}
+
+/// The pair of two arcs, unless it is heavy or they join a node with itself.
+fn light_pair(bound: Cost, into: Entry, out: Entry) -> Option<Shortcut>
+    ensures { IsPairOf bound into out result }
+{
+    if into.other == out.other {
+        return None;
+    }
+    let cost = into.cost.plus_within(out.cost, bound)?;
+    Some(Shortcut {
+        from: into.other,
+        to: out.other,
+        cost,
+    })
+}
+
+/// The nodes to which the pairs lead.
+fn ends_of(alloc: Global, pairs: &[Shortcut]) -> Result<Vec<u32>, AllocError>
+    ensures { IfOk result (λ nodes. nodes.items ≡ map (λ p. p.to) pairs.now) }
+{
+    pairs.iter().map(|pair| pair.to).collect(alloc)
+}
+
+/// What the most costly pair costs, or nothing where there is none.
+fn greatest(pairs: &[Shortcut]) -> Cost
+    ensures most { (p : Shortcut) → Contains pairs.now p → p.cost ≼ result }
+    ensures within { (bound : Cost) → ((p : Shortcut) → Contains pairs.now p → IsWithin p.cost bound) → IsWithin result bound }
+{
+    let mut most = Cost::ZERO;
+    'pairs: for pair in pairs {
+        most = greater(most, pair.cost);
+    }
+    most
+}
+
+/// The greater of two costs.
+fn greater(a: Cost, b: Cost) -> Cost
+    ensures first { a ≼ result }
+    ensures second { b ≼ result }
+    ensures within { (bound : Cost) → IsWithin a bound → IsWithin b bound → IsWithin result bound }
+{
+    if a.is_at_most(b) { b } else { a }
+}

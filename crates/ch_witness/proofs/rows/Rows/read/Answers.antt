@@ -1,0 +1,47 @@
+use Rattle.std.proofs.Common.{ℕ, ◌≡◌, Some, sym, subst, ◌∙◌}
+use Rattle.ch_overlay.specs.Source.{IsBound, IsSeenRow}
+use Rattle.ch_cost.specs.declared.cost.Cost.{Cost}
+use Rattle.ch_witness.specs.Kept.{kept_of, IsCopy, IsKept}
+use Rattle.ch_witness.proofs.Keeping.{copy_known, copy_row, kept_moved, kept_put}
+use Rattle.ch_witness.proofs.rows.Rows.read.Goals as goal
+
+pub returns-in-Some-clause-node : goal.returns-in-Some-clause-node
+returns-in-Some-clause-node g c =
+    let known = copy_known (kept_of c.args.self.now c.args.node) c.in-Some.copy (subst (IsCopy (kept_of c.args.self.now c.args.node)) c.in-Some.is c.in_ok-known.ensures) in
+    known.2.node ∙ (c.requires.kept c.args.node known.0 known.1).node
+
+pub returns-in-Some-clause-copy : goal.returns-in-Some-clause-copy
+returns-in-Some-clause-copy g c =
+    let known = copy_known (kept_of c.args.self.now c.args.node) c.in-Some.copy (subst (IsCopy (kept_of c.args.self.now c.args.node)) c.in-Some.is c.in_ok-known.ensures) in
+    record { original = known.0; here = subst (λ (x : ℕ). kept_of c.args.self.now x ≡ Some known.0) (sym (known.2.node ∙ (c.requires.kept c.args.node known.0 known.1).node)) known.1; same = known.2 }
+
+pub returns-in_err-seen-clause-kept : goal.returns-in_err-seen-clause-kept
+returns-in_err-seen-clause-kept g c = kept_moved g.S.RowSource.bears (g.S.RowSource.shows c.args.source.now) (g.S.RowSource.shows c.row_of.new.self) (g.S.RowSource.bound_of c.args.source.now) (g.S.RowSource.bound_of c.row_of.new.self) (kept_of c.args.self.now) (g.met.S.RowSource.same_bound c.args.source.now c.row_of.new.self c.in_err-seen.ensures.stays) (λ s h. g.met.S.RowSource.still_shows c.args.source.now c.row_of.new.self s c.in_err-seen.ensures.stays h) c.requires.kept
+
+pub returns-in_err-copy-clause-kept : goal.returns-in_err-copy-clause-kept
+returns-in_err-copy-clause-kept g c = kept_moved g.S.RowSource.bears (g.S.RowSource.shows c.args.source.now) (g.S.RowSource.shows c.row_of.new.self) (g.S.RowSource.bound_of c.args.source.now) (g.S.RowSource.bound_of c.row_of.new.self) (kept_of c.args.self.now) (g.met.S.RowSource.same_bound c.args.source.now c.row_of.new.self c.in_ok-seen.ensures.stays) (λ s h. g.met.S.RowSource.still_shows c.args.source.now c.row_of.new.self s c.in_ok-seen.ensures.stays h) c.requires.kept
+
+pub returns-in_err-insert-clause-kept : goal.returns-in_err-insert-clause-kept
+returns-in_err-insert-clause-kept g c = rw c.in_err-insert.ensures.err (kept_moved g.S.RowSource.bears (g.S.RowSource.shows c.args.source.now) (g.S.RowSource.shows c.row_of.new.self) (g.S.RowSource.bound_of c.args.source.now) (g.S.RowSource.bound_of c.row_of.new.self) (kept_of c.args.self.now) (g.met.S.RowSource.same_bound c.args.source.now c.row_of.new.self c.in_ok-seen.ensures.stays) (λ s h. g.met.S.RowSource.still_shows c.args.source.now c.row_of.new.self s c.in_ok-seen.ensures.stays h) c.requires.kept)
+
+pub returns-clause-kept : goal.returns-clause-kept
+returns-clause-kept g c = kept_put g.S.RowSource.bears (g.S.RowSource.shows c.args.source.now) (g.S.RowSource.shows c.row_of.new.self) (g.S.RowSource.bound_of c.args.source.now) (g.S.RowSource.bound_of c.row_of.new.self) (kept_of c.args.self.now) (g.met.S.RowSource.same_bound c.args.source.now c.row_of.new.self c.in_ok-seen.ensures.stays) (λ s h. g.met.S.RowSource.still_shows c.args.source.now c.row_of.new.self s c.in_ok-seen.ensures.stays h) c.requires.kept (kept_of (record { kept = c.insert.new.self })) c.args.node c.in_ok-seen.seen (record {
+  node = c.in_ok-seen.ensures.node;
+  bears = c.in_ok-seen.ensures.bears;
+  shows = c.in_ok-seen.ensures.shows;
+  row = subst (λ (b : Cost). IsSeenRow b c.in_ok-seen.seen) (sym (g.met.S.RowSource.same_bound c.args.source.now c.row_of.new.self c.in_ok-seen.ensures.stays)) c.in_ok-seen.ensures.row;
+  limit = subst IsBound (sym (g.met.S.RowSource.same_bound c.args.source.now c.row_of.new.self c.in_ok-seen.ensures.stays)) c.in_ok-seen.ensures.bound;
+}) c.in_ok-insert.ensures.updates.1 c.in_ok-insert.ensures.updates.2
+
+pub returns-in-Some-clause-row : goal.returns-in-Some-clause-row
+returns-in-Some-clause-row g c =
+    let known = copy_known (kept_of c.args.self.now c.args.node) c.in-Some.copy (subst (IsCopy (kept_of c.args.self.now c.args.node)) c.in-Some.is c.in_ok-known.ensures) in
+    copy_row (g.S.RowSource.bound_of c.args.source.now) known.0 c.in-Some.copy known.2 (c.requires.kept c.args.node known.0 known.1).row
+
+pub returns-in-Some-clause-bound : goal.returns-in-Some-clause-bound
+returns-in-Some-clause-bound g c =
+    let known = copy_known (kept_of c.args.self.now c.args.node) c.in-Some.copy (subst (IsCopy (kept_of c.args.self.now c.args.node)) c.in-Some.is c.in_ok-known.ensures) in
+    (c.requires.kept c.args.node known.0 known.1).limit
+
+pub returns-clause-row : goal.returns-clause-row
+returns-clause-row g c = copy_row (g.S.RowSource.bound_of c.args.source.now) c.in_ok-seen.seen c.in_ok-copy.copy (record { node = c.in_ok-copy.ensures.node; version = c.in_ok-copy.ensures.version; row = c.in_ok-copy.ensures.row }) c.in_ok-seen.ensures.row

@@ -1,0 +1,72 @@
+-- The answers of a source that are kept.
+use Rattle.std.specs.Prelude.{ℕ, ◌≡◌, ◌≢◌, List, [], ◌∷◌, ◌++◌, Option, Some, None, AllPairs, Contains, nat_eq}
+use Rattle.std.specs.HashMap as hash
+use Rattle.ch_cost.specs.declared.cost.Cost.{Cost}
+use Rattle.ch_overlay.specs.declared.source.Seen.{Seen}
+use Rattle.ch_overlay.specs.Source.{row_in, IsBound, IsSeenRow, NamesAlone}
+use Rattle.ch_witness.specs.declared.rows.Rows.{Rows}
+
+-- the answer that is kept for each node
+abbrev pub Kept : Type 0
+Kept = ℕ → Option Seen
+
+abbrev pub kept_of : Rows → Kept
+kept_of r x = hash.get nat_eq r.kept x
+
+-- one answer is that of another: the same row of the same node, in the same version
+pub record IsSame (s c : Seen) : Type 0 where
+  pub node : c.node ≡ s.node
+  pub version : c.version ≡ s.version
+  pub row : row_in c ≡ row_in s
+
+-- the second is the same answer as the first, or neither is there
+abbrev pub IsCopy : Option Seen → Option Seen → Type 0
+IsCopy None None = Unit {0}
+IsCopy (Some s) (Some c) = IsSame s c
+IsCopy None (Some c) = ⊥
+IsCopy (Some s) None = ⊥
+
+-- the answer is the same as the one that is kept for its node
+pub record IsKept (kept : Kept) (c : Seen) : Type 0 where
+  pub original : Seen
+  pub here : kept c.node ≡ Some original
+  pub same : IsSame original c
+
+-- an answer for x that the source has given and stands by
+pub record IsAnswer (Bears Shows : Seen → Type 0) (bound : Cost) (x : ℕ) (s : Seen) : Type 0 where
+  pub node : s.node ≡ x
+  pub bears : Bears s
+  pub shows : Shows s
+  pub row : IsSeenRow bound s
+  pub limit : IsBound bound
+
+-- each answer that is kept is of its node, and the source stands by it
+abbrev pub AreKept : (Seen → Type 0) → (Seen → Type 0) → Cost → Kept → Type 0
+AreKept Bears Shows bound kept = (x : ℕ) (s : Seen) → kept x ≡ Some s → IsAnswer Bears Shows bound x s
+
+-- what was kept is kept on
+abbrev pub IsMore : Kept → Kept → Type 0
+IsMore old new = (x : ℕ) (s : Seen) → old x ≡ Some s → new x ≡ Some s
+
+-- the rows that are kept name nodes of this kind alone
+abbrev pub AllNamed : (ℕ → Type 0) → Kept → Type 0
+AllNamed IsKind kept = (x : ℕ) (s : Seen) → kept x ≡ Some s → NamesAlone IsKind (row_in s)
+
+-- each answer that is kept is of its node
+abbrev pub OfTheirNodes : Kept → Type 0
+OfTheirNodes kept = (x : ℕ) (s : Seen) → kept x ≡ Some s → s.node ≡ x
+
+-- the answer for x, if one is kept, moved to the end of the list
+abbrev pub IsListedFrom : Option Seen → Kept → ℕ → List Seen → Kept → List Seen → Type 0
+IsListedFrom None kept x listed new more = ((y : ℕ) → new y ≡ kept y) × (more ≡ listed)
+IsListedFrom (Some s) kept x listed new more = (new x ≡ None) × ((y : ℕ) → y ≢ x → new y ≡ kept y) × (more ≡ listed ++ s ∷ [])
+
+abbrev pub IsListed : Kept → ℕ → List Seen → Kept → List Seen → Type 0
+IsListed kept x listed new more = IsListedFrom (kept x) kept x listed new more
+
+-- The list has the answers that are kept for these nodes, each once, that of the first node first.
+pub record AreListed (kept : Kept) (nodes : List ℕ) (listed : List Seen) : Type 0 where
+  pub once : AllPairs (λ a b. a.node ≢ b.node) listed
+  pub from_kept : (s : Seen) → Contains listed s → kept s.node ≡ Some s
+  pub every : (x : ℕ) (s : Seen) → Contains nodes x → kept x ≡ Some s → Contains listed s
+  pub first : (x : ℕ) (others : List ℕ) (s : Seen) → nodes ≡ x ∷ others → kept x ≡ Some s → (more : List Seen) × (listed ≡ s ∷ more)
