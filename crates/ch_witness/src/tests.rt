@@ -3,7 +3,7 @@ ghost use Rattle.ch_cost.specs.Cost.{cost_of_arcs};
 ghost use Rattle.ch_laws.specs.Rows.{Rises};
 ghost use Rattle.ch_overlay.specs.Overlay.{IsEntry};
 
-use crate::{Found, SearchError, search};
+use crate::{Found, Rows, SearchError, search_with};
 use ch_cost::Cost;
 use ch_laws::Entry;
 use ch_overlay::{Row, RowSource, SeeError, Seen};
@@ -169,7 +169,11 @@ fn found(
     if settle == 0 || settle > 65_536 {
         return Ok(None);
     }
-    Ok(Some(search(alloc, shelf, from, avoid, cutoff, targets, settle)?))
+    let mut rows = Rows::new(alloc);
+    let found = search_with(
+        alloc, shelf, &mut rows, from, avoid, cutoff, targets, settle,
+    )?;
+    Ok(Some(found))
 }
 
 /// The nodes of the way to the one target, none where there is no way, and the nodes that were asked for.
