@@ -67,14 +67,18 @@ module _ (bound : Cost) (row : Row) (into : Entry) (pairs : List Shortcut) (amon
       let was = are.each p h in
       let out = was.0 in
       let is : p ≡ over into out = was.2.2 in
-      subst (λ (q : Shortcut). ListsThrough row q.from q.to q.cost × IsWithin q.cost bound × (q.from ≡ into.other)) (sym is) (record {
-        into = into.cost;
-        out = out.cost;
-        apart = was.2.0;
-        first = record { entry = into; among = among; other = refl; costs = refl };
-        second = record { entry = out; among = was.1; other = refl; costs = refl };
-        adds = refl;
-      }, was.2.1, refl)
+      subst (λ (q : Shortcut). ListsThrough row q.from q.to q.cost × IsWithin q.cost bound × (q.from ≡ into.other)) (sym is) (
+        record {
+          into = into.cost;
+          out = out.cost;
+          apart = was.2.0;
+          first = record { entry = into; among = among; other = refl; costs = refl };
+          second = record { entry = out; among = was.1; other = refl; costs = refl };
+          adds = refl;
+        },
+        was.2.1,
+        refl,
+      )
 
 -- where no pair is worth a search, nothing is put in
 pub drafted_idle : (bound : Cost) (v : ℕ) (row : Row) (u : ℕ) (kept : Kept) (old new : Draft) (more : List ℕ) → ((w : ℕ) (sum : Cost) → ListsThrough row u w sum → IsWithin sum bound → ⊥) → new.shortcuts.items ≡ old.shortcuts.items → Lengthens more old new → IsDraftedFrom bound v row u kept old new
@@ -111,13 +115,12 @@ leads_of : (seen : List Seen) (v u t : ℕ) (o : Option Way) (w : Way) → o ≡
 leads_of seen v u t o w is h = subst (λ (p : Option Way). IfSome p (IsWay seen v u t)) is h
 
 module _ (bound : Cost) (v : ℕ) (row : Row) (into : Entry) (pairs : List Shortcut) (among : Contains row.inn into) (rises : Rises row.inn) (are : ArePairs bound into row.out pairs)
-  (kept : Kept) (first : Seen) (first_kept : kept into.other ≡ Some first)
-  (rows : List Seen) (cutoff : Cost) (ways : List (Option Way)) (found : AreWays rows into.other v cutoff (map (λ (q : Shortcut). q.to) pairs) ways)
-  (most : (p : Shortcut) → Contains pairs p → p.cost ≼ cutoff)
-  (direct : (k : ℕ) → k < length (map (λ (q : Shortcut). q.to) pairs) → slice_index (map (λ (q : Shortcut). q.to) pairs) k ≢ into.other → (s : Seen) × IsKept kept s × IsStartRow rows into.other cutoff (map (λ (q : Shortcut). q.to) pairs) ways s)
-  (copies : All (IsKept kept) rows)
-  (old mid new : Draft) (judged : AreJudged pairs ways (length pairs) mid new) (same : mid.shortcuts.items ≡ old.shortcuts.items) (longer : mid.listed.items ≡ old.listed.items ++ into.other ∷ []) where
-
+    (kept : Kept) (first : Seen) (first_kept : kept into.other ≡ Some first)
+    (rows : List Seen) (cutoff : Cost) (ways : List (Option Way)) (found : AreWays rows into.other v cutoff (map (λ (q : Shortcut). q.to) pairs) ways)
+    (most : (p : Shortcut) → Contains pairs p → p.cost ≼ cutoff)
+    (direct : (k : ℕ) → k < length (map (λ (q : Shortcut). q.to) pairs) → slice_index (map (λ (q : Shortcut). q.to) pairs) k ≢ into.other → (s : Seen) × IsKept kept s × IsStartRow rows into.other cutoff (map (λ (q : Shortcut). q.to) pairs) ways s)
+    (copies : All (IsKept kept) rows)
+    (old mid new : Draft) (judged : AreJudged pairs ways (length pairs) mid new) (same : mid.shortcuts.items ≡ old.shortcuts.items) (longer : mid.listed.items ≡ old.listed.items ++ into.other ∷ []) where
   among_pairs : (k : ℕ) (p : Shortcut) → slice_get pairs k ≡ Some p → Contains pairs p
   among_pairs k p is = (k, slice_get_within pairs k p is, get_or_from_slice_get pairs k p p is)
 

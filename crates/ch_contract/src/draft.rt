@@ -127,7 +127,16 @@ pub fn draft_pairs<S: RowSource>(
     }
     let targets = ends_of(alloc, &pairs)?;
     let cutoff = greatest(&pairs);
-    let found = search_with(alloc, source, rows, into.other, task.node, cutoff, &targets, task.settle)?;
+    let found = search_with(
+        alloc,
+        source,
+        rows,
+        into.other,
+        task.node,
+        cutoff,
+        &targets,
+        task.settle,
+    )?;
     draft.judge(&pairs, &found.ways)?;
     Ok(())
 }
@@ -140,7 +149,12 @@ fn leads_on(entries: &[Entry], node: u32) -> bool
 }
 
 /// The pairs from one neighbour to the others that aren't heavy, with what their two arcs cost together.
-fn light_pairs(alloc: Global, bound: Cost, into: Entry, outs: &[Entry]) -> Result<Vec<Shortcut>, AllocError>
+fn light_pairs(
+    alloc: Global,
+    bound: Cost,
+    into: Entry,
+    outs: &[Entry],
+) -> Result<Vec<Shortcut>, AllocError>
     requires rises { Rises outs.now }
     ensures { IfOk result (λ pairs. ArePairs bound into outs.now pairs.items) }
 {
@@ -152,7 +166,12 @@ fn light_pairs(alloc: Global, bound: Cost, into: Entry, outs: &[Entry]) -> Resul
 }
 
 /// Adds the pair of two arcs, unless it is heavy or they join a node with itself.
-fn add_pair(bound: Cost, into: Entry, out: Entry, pairs: &mut Vec<Shortcut>) -> Result<(), AllocError>
+fn add_pair(
+    bound: Cost,
+    into: Entry,
+    out: Entry,
+    pairs: &mut Vec<Shortcut>,
+) -> Result<(), AllocError>
     ensures { OnOk result (IsPairAdded bound into out pairs.old.items pairs.new.items) }
 {
     if let Some(pair) = light_pair(bound, into, out) {

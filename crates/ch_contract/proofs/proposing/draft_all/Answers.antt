@@ -41,4 +41,3 @@ returns-in_err-draft_pairs-clause-found g c = λ named names e.
     let one = p.1 in
     let two = p.2 in
     c.in_err-draft_pairs.ensures.found (inv.names named names) (names_moved _ _ c.args.row.now (λ v h. g.met.S.RowSource.still_whole c.args.source.now c.inns.source v inv.stays h) names) (cc (was, one, two, e))
-
