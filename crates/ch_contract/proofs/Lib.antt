@@ -1,9 +1,12 @@
 pub mod Ranges
-pub mod Search
-pub mod Direct
 pub mod Contracting
 pub mod Sweeping
 pub mod NodesLeft
+pub mod Logs
 pub mod Links
 pub mod Sorting
 pub mod Finishing
+pub mod SameRows
+pub mod Current
+pub mod ShownRows
+pub mod Lawful
