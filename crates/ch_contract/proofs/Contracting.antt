@@ -13,7 +13,8 @@ use Rattle.ch_laws.specs.Rows.{Row}
 use Rattle.ch_laws.proofs.Lawful.{plan_is_lawful, reaches_on}
 use Rattle.ch_overlay.specs.Overlay.{Overlay, IsOverlay, state_of}
 use Rattle.ch_overlay.specs.Change.{Change, IsChange, puts}
-use Rattle.ch_contract.specs.Board.{Board, IsBoard, AreLawful, IsContracted}
+use Rattle.ch_contract.specs.Board.{Board, IsBoard, AreLawful, IsContracted, receipt_of}
+use Rattle.ch_contract.specs.Planned.{Planned, IsPlanned}
 
 -- the entry of the contraction of a node by a change that puts these shortcuts in
 pub entry_of : Board → List Shortcut → Change → Contraction
@@ -88,18 +89,24 @@ versions-fit nodes done count next few some each so_far =
 pub versions-few : (nodes done count next : ℕ) → count ≤ nodes + 1 → next ≤ (nodes + 1) * (done + 1) → next + count ≤ (nodes + 1) * (done + 1 + 1)
 versions-few nodes done count next each so_far = omega (arith, each, so_far)
 
--- the board after a contraction is one, and the node is contracted
-pub board_after : (b : Board) (put : List Shortcut) (c : Change) (new : Overlay) → IsBoard b → AreLawful b c.node put → IsChange b.overlay put c → IsOverlay new → new.bound ≡ b.overlay.bound → state_of new ≡ contracted (state_of b.overlay) c.node put → IsBoard (record { graph = b.graph; overlay = new; log = b.log ++ entry_of b put c ∷ [] })
-board_after b put c new is lawful planned overlay bound made = record {
+-- the next version is that after the last one
+abbrev pub board_with : Board → Overlay → Contraction → ℕ → Board
+board_with b new e next = record { graph = b.graph; overlay = new; log = b.log ++ e ∷ []; next = next }
+
+-- the board after a contraction is one
+pub board_after : (b : Board) (put : List Shortcut) (c : Change) (new : Overlay) (next : ℕ) → IsBoard b → AreLawful b c.node put → IsChange b.overlay put c → IsOverlay new → new.bound ≡ b.overlay.bound → state_of new ≡ contracted (state_of b.overlay) c.node put → All (λ v. v < next) new.versions → IsBoard (board_with b new (entry_of b put c) next)
+board_after b put c new next is lawful planned overlay bound made below = record {
   graph = is.graph;
   overlay = overlay;
   bound = bound ∙ is.bound;
   reached = reaches_on b.graph b.log (state_of b.overlay) (entry_of b put c) (state_of new) is.reached (steps b put c (state_of new) is lawful planned made);
+  versions = below;
 }
 
-pub contracted_after : (b : Board) (put : List Shortcut) (c : Change) (new : Overlay) → IsBoard b → AreLawful b c.node put → IsChange b.overlay put c → state_of new ≡ contracted (state_of b.overlay) c.node put → IsContracted b c.node put (record { node = c.node; rank = length b.overlay.order }) (record { graph = b.graph; overlay = new; log = b.log ++ entry_of b put c ∷ [] })
+-- and the node is contracted
+pub contracted_after : (b : Board) (put : List Shortcut) (c : Change) (new : Overlay) (next : ℕ) → IsBoard b → AreLawful b c.node put → IsChange b.overlay put c → state_of new ≡ contracted (state_of b.overlay) c.node put → IsContracted b c.node put (receipt_of (entry_of b put c)) (board_with b new (entry_of b put c) next)
 unfolding entry_of
-contracted_after b put c new is lawful planned made = record {
+contracted_after b put c new next is lawful planned made = record {
   entry = entry_of b put c;
   of_node = refl;
   of_shortcuts = refl;
@@ -123,8 +130,33 @@ nodes_behind_first f rows c e = same_behind f rows ∙ ap (λ (rs : List (ℕ ×
 abbrev pub entry : ℕ → ℕ → List ℕ → ℕ → Contraction
 entry node rank neighbours shortcuts = record { node = node; rank = rank; neighbours = neighbours; shortcuts = shortcuts }
 
--- the entry that the code writes
-pub entry_of-is : (b : Board) (put : List Shortcut) (c : Change) (node rank : ℕ) (neighbours : List ℕ) → c.node ≡ node → rank ≡ length b.overlay.order → neighbours ≡ map (λ (a : ℕ × Row). a.0) (drop 1 c.rows) → entry node rank neighbours (length put) ≡ entry_of b put c
+-- the entry that was planned
+pub planned_entry : (b : Board) (node : ℕ) (put : List Shortcut) (p : Planned) → IsPlanned b node put p → p.entry ≡ entry_of b put p.change
 unfolding entry_of
-entry_of-is b put c node rank neighbours node_is rank_is neighbours_is =
-    ap (λ n. entry n rank neighbours (length put)) (sym node_is) ∙ ap (λ r. entry c.node r neighbours (length put)) rank_is ∙ ap (λ ns. entry c.node (length b.overlay.order) ns (length put)) neighbours_is
+planned_entry b node put p is =
+    ap (λ n. entry n p.entry.rank p.entry.neighbours p.entry.shortcuts) (is.entry_node ∙ sym is.of_node)
+    ∙ ap (λ r. entry p.change.node r p.entry.neighbours p.entry.shortcuts) is.entry_rank
+    ∙ ap (λ ns. entry p.change.node (length b.overlay.order) ns p.entry.shortcuts) is.entry_neighbours
+    ∙ ap (λ n. entry p.change.node (length b.overlay.order) (map (λ (a : ℕ × Row). a.0) (drop 1 p.change.rows)) n) is.entry_shortcuts
+
+-- what was planned is lawful for the change's node
+pub planned_lawful : (b : Board) (node : ℕ) (put : List Shortcut) (p : Planned) → IsPlanned b node put p → AreLawful b p.change.node put
+planned_lawful b node put p is = subst (λ n. AreLawful b n put) (sym is.of_node) is.lawful
+
+module _ (b : Board) (node : ℕ) (put : List Shortcut) (p : Planned) (new : Overlay) (next : ℕ) (is : IsBoard b) (plan : IsPlanned b node put p) (made : state_of new ≡ contracted (state_of b.overlay) p.change.node put) where
+  -- once it is entered, the board is one
+  pub board_entered : IsOverlay new → new.bound ≡ b.overlay.bound → All (λ v. v < next) new.versions → IsBoard (board_with b new p.entry next)
+  board_entered overlay bound below =
+      subst (λ (e : Contraction). IsBoard (board_with b new e next)) (sym (planned_entry b node put p plan))
+      (board_after b put p.change new next is (planned_lawful b node put p plan) plan.change overlay bound made below)
+
+  -- and the node is contracted
+  pub contracted_entered : IsContracted b node put (receipt_of p.entry) (board_with b new p.entry next)
+  contracted_entered =
+      subst (λ n. IsContracted b n put (receipt_of p.entry) (board_with b new p.entry next)) plan.of_node
+      (subst (λ (e : Contraction). IsContracted b p.change.node put (receipt_of e) (board_with b new e next)) (sym (planned_entry b node put p plan))
+      (contracted_after b put p.change new next is (planned_lawful b node put p plan) plan.change made))
+
+-- as many rows change as the code counts
+pub counted : {A : Type 0} (f : A → Row) (rows : List (ℕ × A)) (all : List (ℕ × Row)) → map (λ (a : ℕ × A). (a.0, f a.1)) rows ≡ all → length rows ≡ length all
+counted {A} f rows all e = sym (length-map rows (λ (a : ℕ × A). (a.0, f a.1))) ∙ ap length e

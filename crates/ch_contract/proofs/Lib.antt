@@ -1,6 +1,4 @@
 pub mod Ranges
-pub mod Search
-pub mod Direct
 pub mod Drafting
 pub mod Pairing
 pub mod Joining
@@ -8,6 +6,11 @@ pub mod Gathering
 pub mod Contracting
 pub mod Sweeping
 pub mod NodesLeft
+pub mod Logs
 pub mod Links
 pub mod Sorting
 pub mod Finishing
+pub mod SameRows
+pub mod Current
+pub mod ShownRows
+pub mod Lawful

@@ -26,7 +26,7 @@ contains-any (x ∷ xs) q among = elim (contains_cases x xs q among) [
 ]
 
 -- numbers below n, each once, are at most n
-distinct_below-few : (xs : List ℕ) (n : ℕ) → AllPairs (λ x y. x ≢ y) xs → All (λ x. x < n) xs → length xs ≤ n
+pub distinct_below-few : (xs : List ℕ) (n : ℕ) → AllPairs (λ x y. x ≢ y) xs → All (λ x. x < n) xs → length xs ≤ n
 distinct_below-few xs n once low = length-le_from_distinct_below xs n (IsDistinct-from_AllPairs Decides-eqb xs once) (λ q among.
     let found = Any-from_list_any (λ x. eqb q x) xs among in
     let same : q ≡ found.1 = grind (arith, nat_tests, found.4) in
@@ -66,3 +66,11 @@ module _ (o : Overlay) (is : IsOverlay o) where
     | inl left ↦ left
     | inr gone ↦ absurd (omega (arith, few, le-length_from_below o.order (length o.rows) (λ q low. contains-any o.order q (gone q low))))
   ]
+
+-- a node that isn't contracted leaves room for one more
+pub order-has_room : (o : Overlay) → IsOverlay o → (x : ℕ) → IsAlive (state_of o) x → length o.order < length o.rows
+order-has_room o is x alive =
+    let apart : All (λ y. x ≢ y) o.order = λ k d h same. alive.waits (k, h, get_or_default o.order k x d h ∙ sym same) in
+    let once : AllPairs (λ y z. y ≢ z) (x ∷ o.order) = AllPairs-cons (λ y z. y ≢ z) x o.order apart is.once in
+    let low : All (λ y. y < length o.rows) (x ∷ o.order) = All-cons (λ y. y < length o.rows) x o.order alive.in_range is.in_range in
+    omega (arith, distinct_below-few (x ∷ o.order) (length o.rows) once low)

@@ -1,17 +1,19 @@
 -- A graph under contraction: its rows, and the log of what was done.
-use Rattle.std.specs.Prelude.{ℕ, ◌≡◌, List, [], ◌∷◌, ◌++◌, length, filter, is_none}
-use Rattle.std.specs.List.{range_with_len}
+use Rattle.std.specs.Prelude.{ℕ, ◌≡◌, ◌<◌, ◌≤◌, ◌^◌, Some, List, [], ◌∷◌, ◌++◌, length, filter, is_none, All, AllPairs}
+use Rattle.std.specs.List.{range_with_len, slice_get}
 use Rattle.ch_graph.specs.Graph.{Graph, IsGraph, bound_of}
 use Rattle.ch_laws.specs.declared.shortcut.Shortcut.{Shortcut}
 use Rattle.ch_laws.specs.Contraction.{Contraction, Step, IsReached, IsPlan, IsWitnessed, contracted}
 use Rattle.ch_overlay.specs.Overlay.{Overlay, IsOverlay, row_at, state_of}
 use Rattle.ch_contract.specs.declared.contraction.Receipt.{Receipt}
 
--- the graph, the rows that its contractions so far lead to, and the entries of these contractions, first to last
+-- the graph, the rows that its contractions so far lead to, the entries of these contractions, first to last, and the
+-- version that the next changed row gets
 pub record Board : Type 0 where
   pub graph : Graph
   pub overlay : Overlay
   pub log : List Contraction
+  pub next : ℕ
 
 -- the entries of the log lead from the start of the graph to the rows
 pub record IsBoard (b : Board) : Type 0 where
@@ -19,6 +21,14 @@ pub record IsBoard (b : Board) : Type 0 where
   pub overlay : IsOverlay b.overlay
   pub bound : b.overlay.bound ≡ bound_of b.graph
   pub reached : IsReached b.graph b.log (state_of b.overlay)
+  pub versions : All (λ v. v < b.next) b.overlay.versions
+
+-- the entry of rank k stands at k, and its neighbours rise
+pub record IsLog (log : List Contraction) : Type 0 where
+  pub few : length log ≤ 2 ^ 25
+  pub ranks : (k : ℕ) (e : Contraction) → slice_get log k ≡ Some e → e.rank ≡ k
+  pub rising : (k : ℕ) (e : Contraction) → slice_get log k ≡ Some e → AllPairs (λ x y. x < y) e.neighbours
+  pub nodes : (k : ℕ) (e : Contraction) → slice_get log k ≡ Some e → e.node < 2 ^ 25
 
 -- Shortcuts that a board may put in when it contracts a node: they are a plan, and each other pair by way of the
 -- node is heavy or has a witness.

@@ -1,5 +1,5 @@
 -- When a board accepts a proposal.
-use Rattle.std.specs.Prelude.{ℕ, ◌≡◌, ◌≢◌, ◌<◌, ◌⊎◌, List, ◌∷◌, ◌++◌, length, All, Contains, slice_index}
+use Rattle.std.specs.Prelude.{ℕ, ◌≡◌, ◌≢◌, ◌<◌, List, ◌∷◌, ◌++◌, length, All, Contains, slice_index}
 use Rattle.ch_overlay.specs.declared.source.Seen.{Seen}
 use Rattle.ch_overlay.specs.Source.{row_in}
 use Rattle.ch_overlay.specs.Overlay.{row_at}
@@ -22,6 +22,15 @@ pub record IsFirstOld (b : Board) (p : Proposal) (s : Seen) : Type 0 where
   pub among : p.rests_on ≡ before ++ s ∷ after
   pub old : IsOld b s
   pub earlier : All (λ t. IsOld b t → ⊥) before
+
+-- the first row of the proposal of which the board has another version is this node's, seen in the one and now in the
+-- other
+pub record IsFirstChange (b : Board) (p : Proposal) (node seen now : ℕ) : Type 0 where
+  pub row : Seen
+  pub first : IsFirstOld b p row
+  pub of_node : node ≡ row.node
+  pub of_version : seen ≡ row.version
+  pub current : now ≡ slice_index b.overlay.versions row.node
 
 -- the node isn't contracted, and a row isn't current, the first of them this node's, with this version and that one now
 pub record IsStale (b : Board) (p : Proposal) (node seen now front : ℕ) : Type 0 where

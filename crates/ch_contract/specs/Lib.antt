@@ -1,5 +1,5 @@
 pub mod Board
-pub mod Shortcuts
+pub mod Planned
 pub mod Sweep
 pub mod Finish
 pub mod Proposal

@@ -1,93 +1,117 @@
-ghost use Rattle.std.specs.Prelude.{◌≡◌, ◌+◌, ◌<◌, ◌≤◌, ◌++◌, ◌↔◌, IsTrue, List, [], ◌∷◌, ℕ, IfOk, IfErr, IsErrOf, OnErr, OnOk, All, length, map, drop, ◌^◌};
-ghost use Rattle.std.specs.List.{range_with_len};
+ghost use Rattle.std.specs.Prelude.{◌≡◌, ◌<◌, ◌≤◌, ◌↔◌, ℕ, [], IfOk, IfErr, IsErrOf, IsTrue, OnErr, All, length};
 ghost use Rattle.ch_graph.specs.Hierarchy.{IsRight};
 ghost use Rattle.ch_laws.specs.Contraction.{IsStart, IsAlive, IsMade};
 ghost use Rattle.ch_overlay.specs.Overlay.{state_of};
-ghost use Rattle.ch_contract.specs.Board.{IsBoard, AreLawful, IsContracted};
+ghost use Rattle.ch_contract.specs.declared.error.CommitError.TheVariants as commits;
+ghost use Rattle.ch_contract.specs.Board.{IsBoard, IsLog, IsContracted};
+ghost use Rattle.ch_contract.specs.Commit.{IsContractedYet, IsOld, Agrees, IsStale, IsBroken};
 ghost use Rattle.ch_contract.specs.Finish.{HasNodesLeft};
 ghost use Rattle.ch_contract.specs.Sweep.{IsSwept, IsPartlySwept, IsVisited};
 
+use crate::accepting::accepted;
 use crate::contraction::{Contraction, Receipt};
-use crate::error::{FinishError, SweepError};
-use crate::parts::{links_of, ranks_of};
-use crate::shortcuts::direct_shortcuts;
+use crate::error::{CommitError, FinishError, ProposeError, SweepError};
+use crate::finish::hierarchy_of;
+use crate::ledger::Ledger;
+use crate::proposal::Proposal;
+use crate::proposing::propose;
+use crate::shown::shown;
+use crate::site::Site;
+use ch_cost::Cost;
 use ch_graph::{Graph, Hierarchy};
-use ch_overlay::{Overlay, Row, Shortcut};
+use ch_overlay::{Overlay, RowSource, SeeError, Seen};
 use std::alloc::{AllocError, Global};
-use std::marker::Model;
-use std::sync::Arc;
+use std::marker::{Model, PhantomData};
 
-/// A graph whose nodes are contracted one by one, and the log of their contractions.
+/// A graph whose nodes are contracted by proposals, and the log of their contractions.
 ///
-/// Whatever happens to a board, its rows are those that its log leads to from its graph by lawful contractions: each
-/// pair of neighbours of a contracted node got a shortcut, was heavy, or had another walk as cheap.
+/// The type names the graph. Whatever happens to a board, its rows are those that its log leads to from that graph by
+/// lawful contractions.
 #[derive(Drop)]
-pub struct Board {
-    alloc: Global,
-    graph: Graph,
-    overlay: Overlay,
-    log: Vec<Contraction>,
-    next_version: u64,
+pub struct Board<S: Site> {
+    ledger: Ledger,
+    of: PhantomData<S>,
 }
 
-impl Model for Board {
-    ghost use Rattle.std.specs.Prelude.{◌+◌, ◌*◌, ◌<◌, ◌≤◌, length, All};
+impl<S: Site> Model for Board<S> {
+    ghost use Rattle.std.specs.Prelude.{◌≡◌};
     ghost use Rattle.ch_contract.specs.Board as boards;
 
     ghost Value = { boards.Board };
 
-    ghost view = { λ b. record { graph = b.graph; overlay = b.overlay; log = b.log.items } };
+    ghost view = { λ b. b.ledger };
 
-    ghost invariant = { λ b. boards.IsBoard (record { graph = b.graph; overlay = b.overlay; log = b.log.items }) × All (λ v. v < b.next_version) b.overlay.versions × (b.next_version ≤ (length b.overlay.rows + 1) * (length b.overlay.order + 1)) };
+    ghost invariant = { λ b. b.ledger.graph ≡ S.graph };
 }
 
-impl Board {
-    /// A board of this graph, with no node contracted.
+impl<S: Site> Board<S> {
+    /// A board of this graph, with no node contracted. Node x has the version x.
     ///
-    /// Takes memory for the rows: an entry for each end of an arc.
-    pub fn new(alloc: Global, graph: Graph) -> Result<Board, AllocError>
-        ensures graph { IfOk result (λ board. board.graph ≡ graph) }
+    /// Takes memory for the rows, an entry for each end of an arc, and for the log of all contractions.
+    pub fn new(alloc: Global, graph: Graph) -> Result<Board<S>, AllocError>
+        requires named { S.graph ≡ graph }
         ensures log { IfOk result (λ board. board.log ≡ []) }
         ensures start { IfOk result (λ board. IsStart graph (state_of board.overlay)) }
     {
-        let overlay = Overlay::start(alloc, &graph)?;
-        let next_version = u64::from(overlay.nodes());
+        let ledger = Ledger::new(alloc, graph)?;
         Ok(Board {
-            alloc,
-            graph,
-            overlay,
-            log: Vec::new(alloc),
-            next_version,
+            ledger,
+            of: PhantomData,
         })
     }
 
     /// The graph that the board was made of.
     pub fn graph(&self) -> &Graph
-        ensures { result.now ≡ self.now.graph }
+        ensures graph { result.now ≡ self.now.graph }
+        ensures named { result.now ≡ S.graph }
     {
-        &self.graph
+        self.ledger.graph()
     }
 
     /// The rows of the nodes, as the contractions so far left them.
     pub fn overlay(&self) -> &Overlay
         ensures { result.now ≡ self.now.overlay }
     {
-        &self.overlay
+        self.ledger.overlay()
     }
 
-    /// What was done so far, first to last.
+    /// What was done so far, first to last: the entry of rank k stands at k.
     pub fn log(&self) -> &[Contraction]
         ensures entries { result.now ≡ self.now.log }
+        ensures log { IsLog self.now.log }
         ensures holds { IsBoard self.now }
+        ensures named { self.now.graph ≡ S.graph }
     {
-        self.log.as_slice()
+        self.ledger.log()
     }
 
-    /// Contracts each node that isn't contracted, by rising number, and answers their receipts. A pair of neighbours
-    /// gets a shortcut unless it is heavy or has a direct arc of at most its sum.
+    /// Contracts the node of a proposal, whose rows are still the board's, and answers a receipt.
     ///
-    /// `settle`, from 1 to 65,536, has no effect yet. After a refusal the contractions that were made stand in the log.
-    /// Takes memory for the receipts, the log, and the rows that change.
+    /// Refused, in this order, where the node is contracted already, where a row that the proposal rests on has
+    /// another version now, where all versions agree and yet a row or the bound differs, and for want of memory. The
+    /// board is then as it was. Takes memory for the rows that change.
+    pub fn commit(&mut self, proposal: Proposal) -> Result<Receipt, CommitError>
+        ensures ok { IfOk result (λ receipt. IsContracted self.old proposal.node proposal.shortcuts receipt self.new) }
+        ensures err { OnErr result (self.new ≡ self.old) }
+        ensures contracted { (result ≡ Err commits.Contracted) ↔ IsContractedYet self.old proposal }
+        ensures stale { (node seen now front : ℕ) → (result ≡ Err (commits.Stale node seen now front)) ↔ IsStale self.old proposal node seen now front }
+        ensures broken { (result ≡ Err commits.Broken) ↔ IsBroken self.old proposal }
+    {
+        if let Err(refused) = accepted(&self.ledger, &proposal) {
+            return Err(refused);
+        }
+        let Ok(planned) = self.ledger.plan(proposal.node(), proposal.shortcuts()) else {
+            return Err(CommitError::OutOfMemory);
+        };
+        Ok(self.ledger.enter(planned))
+    }
+
+    /// Contracts each node that isn't contracted, by rising number, by proposals whose searches settle at most
+    /// `settle` nodes (1 to 65,536), and answers their receipts.
+    ///
+    /// The more nodes a search settles, the fewer shortcuts are put in, and the longer the sweep takes. After a refusal
+    /// the contractions that were made stand in the log. Takes memory for the receipts, for the searches, and for the
+    /// rows that change.
     pub fn sweep(&mut self, settle: u32) -> Result<Vec<Receipt>, SweepError>
         requires low { 0 < settle }
         requires high { settle ≤ 65536 }
@@ -95,11 +119,11 @@ impl Board {
         ensures refused { OnErr result (IsPartlySwept self.old self.new) }
         ensures graph { self.new.graph ≡ self.old.graph }
     {
-        let _ = settle;
-        let nodes = self.overlay.nodes();
-        let mut receipts = Vec::with_capacity(self.alloc, self.overlay.alive() as usize)?;
-        for node in 0..nodes {
-            self.visit(node, &mut receipts)?;
+        let nodes = self.overlay().nodes();
+        let alloc = self.ledger.allocator();
+        let mut receipts = Vec::with_capacity(alloc, self.overlay().alive() as usize)?;
+        'nodes: for node in 0..nodes {
+            self.visit(node, settle, &mut receipts)?;
         }
         Ok(receipts)
     }
@@ -109,36 +133,37 @@ impl Board {
     ///
     /// Refused while a node isn't contracted, which is tested first, or for want of memory; the board is handed back as
     /// it was. Takes memory for the ranks and the links, which it sorts.
-    pub fn into_hierarchy(self) -> Result<Hierarchy, (Board, FinishError)>
+    pub fn into_hierarchy(self) -> Result<Hierarchy, (Board<S>, FinishError)>
         ensures made { IfOk result (λ h. IsMade self.graph (state_of self.overlay) h) }
-        ensures right { IfOk result (λ h. IsRight self.graph h) }
+        ensures right { IfOk result (λ h. IsRight S.graph h) }
         ensures left { IsErrOf result (self, FinishError.NodesLeft) ↔ HasNodesLeft self }
         ensures back { IfErr result (λ refused. refused.0 ≡ self) }
     {
-        if self.overlay.alive() > 0 {
-            return Err((self, FinishError::NodesLeft));
+        match hierarchy_of(&self.ledger) {
+            Ok(hierarchy) => Ok(hierarchy),
+            Err(error) => Err((self, error)),
         }
-        let Ok(ranks) = ranks_of(self.alloc, &self.overlay) else {
-            return Err((self, FinishError::OutOfMemory));
-        };
-        let Ok(links) = links_of(self.alloc, &self.overlay) else {
-            return Err((self, FinishError::OutOfMemory));
-        };
-        Ok(Hierarchy::new(ranks, links, self.graph.bound()))
     }
 
     // Contracts the node unless it is contracted already, and puts its receipt behind the others.
-    fn visit(&mut self, node: u32, receipts: &mut Vec<Receipt>) -> Result<(), AllocError>
-        requires { node < length self.old.overlay.rows }
+    fn visit(
+        &mut self,
+        node: u32,
+        settle: u32,
+        receipts: &mut Vec<Receipt>,
+    ) -> Result<(), AllocError>
+        requires in_range { node < length self.old.overlay.rows }
+        requires low { 0 < settle }
+        requires high { settle ≤ 65536 }
         ensures ok { IfOk result (λ _. IsVisited self.old node receipts.old.items self.new receipts.new.items) }
         ensures err { OnErr result (self.new ≡ self.old) }
     {
         if !self.is_alive(node) {
             return Ok(());
         }
-        let shortcuts = direct_shortcuts(self.alloc, &self.overlay, node)?;
         receipts.reserve(1)?;
-        let receipt = self.contract(node, shortcuts.as_slice())?;
+        let proposal = self.proposed(node, settle)?;
+        let receipt = self.taken(proposal)?;
         receipts.push_reserved(receipt);
         Ok(())
     }
@@ -148,54 +173,94 @@ impl Board {
         requires { node < length self.now.overlay.rows }
         ensures { IsTrue result ↔ IsAlive (state_of self.now.overlay) node }
     {
-        let _ = self.overlay.nodes();
-        self.overlay.row(node).rank.is_none()
+        let _ = self.overlay().nodes();
+        self.overlay().row(node).rank.is_none()
     }
 
-    // Contracts a node and puts these shortcuts in. All memory is taken before anything changes.
-    pub(crate) fn contract(
-        &mut self,
-        node: u32,
-        shortcuts: &[Shortcut],
-    ) -> Result<Receipt, AllocError>
-        requires { AreLawful self.old node shortcuts.now }
-        ensures ok { IfOk result (λ receipt. IsContracted self.old node shortcuts.now receipt self.new) }
+    // A proposal of a node that isn't contracted, by the rows as they are.
+    fn proposed(&mut self, node: u32, settle: u32) -> Result<Proposal, AllocError>
+        requires alive { IsAlive (state_of self.old.overlay) node }
+        requires low { 0 < settle }
+        requires high { settle ≤ 65536 }
+        ensures node { IfOk result (λ p. p.node ≡ node) }
+        ensures agrees { IfOk result (λ p. Agrees self.old p) }
+        ensures current { IfOk result (λ p. All (λ s. IsOld self.old s → ⊥) p.rests_on) }
+        ensures same { self.new ≡ self.old }
+    {
+        let _ = self.log();
+        let alloc = self.ledger.allocator();
+        match propose(alloc, self, node, settle) {
+            Ok(proposal) => Ok(proposal),
+            Err(ProposeError::OutOfMemory) => Err(AllocError),
+            Err(ProposeError::Unseen) => unreachable!(),
+            Err(ProposeError::Contracted) => unreachable!(),
+        }
+    }
+
+    // Contracts the node of a proposal by rows that are all current.
+    fn taken(&mut self, proposal: Proposal) -> Result<Receipt, AllocError>
+        requires waits { IsContractedYet self.old proposal → ⊥ }
+        requires agrees { Agrees self.old proposal }
+        requires current { All (λ s. IsOld self.old s → ⊥) proposal.rests_on }
+        ensures ok { IfOk result (λ receipt. IsContracted self.old proposal.node proposal.shortcuts receipt self.new) }
         ensures err { OnErr result (self.new ≡ self.old) }
     {
-        let rank = self.overlay.nodes() - self.overlay.alive();
-        let change = self.overlay.plan(node, shortcuts)?;
-        let count = change.rows().len();
-        let versions = versions_from(self.alloc, self.next_version, count)?;
-        let neighbours = neighbours_in(self.alloc, change.rows())?;
-        self.log.reserve(1)?;
-        self.overlay.apply(change, versions.as_slice());
-        self.next_version += count as u64;
-        self.log.push_reserved(Contraction {
-            node,
-            rank,
-            neighbours,
-            shortcuts: shortcuts.len() as u64,
-        });
-        Ok(Receipt { node, rank })
+        match self.commit(proposal) {
+            Ok(receipt) => Ok(receipt),
+            Err(CommitError::OutOfMemory) => Err(AllocError),
+            Err(CommitError::Contracted) => unreachable!(),
+            Err(CommitError::Stale { .. }) => unreachable!(),
+            Err(CommitError::Broken) => unreachable!(),
+        }
     }
 }
 
-// So many versions, from this one on.
-fn versions_from(alloc: Global, first: u64, count: usize) -> Result<Vec<u64>, AllocError>
-    requires { first + count < 2 ^ 64 }
-    ensures { IfOk result (λ versions. versions.items ≡ range_with_len first count) }
-{
-    let mut versions = Vec::with_capacity(alloc, count)?;
-    for i in 0..count as u64 {
-        versions.push(first + i)?;
-    }
-    Ok(versions)
-}
+/// A board shows its rows as they are, and is left as it is when they are read.
+impl<S: Site> RowSource for Board<S> {
+    ghost use Rattle.std.specs.Prelude.{◌≡◌, ◌↔◌, ◌<◌, ℕ, IfOk, length, refl};
+    ghost use Rattle.std.proofs.Common.{sym, subst, ap, ◌∙◌};
+    ghost use Rattle.ch_overlay.specs.declared.source.Seen.{Seen};
+    ghost use Rattle.ch_overlay.specs.declared.source.SeeError.TheVariants as see;
+    ghost use Rattle.ch_overlay.specs.Source.{row_in, IsBound, IsSeenRow, NamesAlone};
+    ghost use Rattle.ch_contract.specs.Board as boards;
+    ghost use Rattle.ch_contract.specs.Commit.{IsShown};
 
-// The nodes of the rows behind the first.
-fn neighbours_in(alloc: Global, rows: &[(u32, Arc<Row>)]) -> Result<Vec<u32>, AllocError>
-    requires { 0 < length rows.now }
-    ensures { IfOk result (λ nodes. nodes.items ≡ map (λ row. row.0) (drop 1 rows.now)) }
-{
-    rows[1..].iter().map(|row| row.0).collect(alloc)
+    ghost bears = { λ _. Unit {0} };
+
+    ghost shows = { λ b s. IsShown b s };
+
+    ghost stays = { λ a b. b ≡ a };
+
+    ghost whole = { λ b x. x < length b.overlay.rows };
+
+    ghost bound_of = { λ b. b.overlay.bound };
+
+    fn row_of(&mut self, node: u32) -> Result<Seen, SeeError>
+        ensures node { IfOk result (λ seen. seen.node ≡ node) }
+        ensures row { IfOk result (IsSeenRow self.old.overlay.bound) }
+        ensures bound { IsBound self.old.overlay.bound }
+        ensures bears { IfOk result (λ _. Unit {0}) }
+        ensures shows { IfOk result (IsShown self.new) }
+        ensures stays { self.new ≡ self.old }
+        ensures found { node < length self.old.overlay.rows → result ≡ Err see.Unseen → ⊥ }
+        ensures names { node < length self.old.overlay.rows → IfOk result (λ seen. NamesAlone (λ x. x < length self.new.overlay.rows) (row_in seen)) }
+        ensures unseen { (result ≡ Err see.Unseen) ↔ ((node < length self.old.overlay.rows) → ⊥) }
+    {
+        shown(&self.ledger, node)
+    }
+
+    fn bound(&self) -> Cost {
+        let _ = self.ledger.log();
+        self.ledger.overlay().bound()
+    }
+
+    ghost stays_self = { λ a. refl };
+
+    ghost stays_more = { λ a b c e f. f ∙ e };
+
+    ghost still_shows = { λ a b s e h. subst (λ (b : boards.Board). IsShown b s) (sym e) h };
+
+    ghost still_whole = { λ a b x e h. subst (λ (b : boards.Board). x < length b.overlay.rows) (sym e) h };
+
+    ghost same_bound = { λ a b e. ap (λ (b : boards.Board). b.overlay.bound) e };
 }

@@ -1,28 +1,36 @@
 //! Contraction of the nodes of a graph, one by one, into a hierarchy.
 //!
-//! Stands on `ch_overlay`, whose rows it changes, and on the laws of `ch_laws`. Its main type is [`Board`]: a graph,
-//! its rows, and the log of the contractions that were made. The promise of the layer is the contract of
+//! Stands on `ch_overlay`, whose rows it changes, on the searches of `ch_witness`, and on the laws of `ch_laws`. Its
+//! main types are [`Proposal`], a contraction that was worked out by rows, and [`Board`]: a graph, its rows, and the
+//! log of the contractions that were made. A board contracts a node by a proposal, [`Board::commit`], as long as the
+//! rows that the proposal rests on are still its own. The promise of the layer is the contract of
 //! [`Board::into_hierarchy`]: what it answers is right for the graph, so its values are the graph's distances. It
-//! rests on what every board keeps, that its rows come from the graph's by the lawful contractions of its log.
+//! rests on what every [`Ledger`] keeps, that its rows come from the graph's by the lawful contractions of its log.
 #![tactic(auto)]
 
+mod accepting;
 mod board;
 mod contraction;
 mod draft;
 mod error;
 mod facts;
+mod finish;
+mod ledger;
 mod parts;
 mod proposal;
 mod proposing;
-mod shortcuts;
-#[cfg(test)]
-mod tests;
+mod shown;
+mod site;
+mod sweep;
 mod verdict;
 
 pub use board::Board;
 pub use contraction::{Contraction, Receipt};
 pub use error::{CommitError, FinishError, ProposeError, SweepError};
 pub use facts::Facts;
+pub use ledger::{Ledger, Planned};
 pub use proposal::Proposal;
 pub use proposing::propose;
+pub use site::Site;
+pub use sweep::contract_by_sweep;
 pub use verdict::Verdict;

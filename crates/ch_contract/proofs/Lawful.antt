@@ -1,0 +1,49 @@
+-- A proposal that agrees with a board is a lawful contraction of it.
+use Rattle.std.proofs.Common.{◌≡◌, ◌<◌, cond, nat_eq, List, [], ◌∷◌, Some, length, All, arith, ap, sym, subst, ◌∙◌, inl, inr}
+use Rattle.std.proofs.lemmas.Bool.{cases_Bool}
+use Rattle.std.proofs.lemmas.Bool.Decides.{nat_tests}
+use Rattle.std.proofs.lemmas.List.Elements.{All-head, All-tail}
+use Rattle.ch_cost.specs.declared.cost.Cost.{Cost}
+use Rattle.ch_graph.specs.Graph.{bound_of}
+use Rattle.ch_laws.specs.Contraction.{IsPlan, IsWitnessed}
+use Rattle.ch_laws.specs.Rows.{Row, IsRow}
+use Rattle.ch_laws.specs.Verdicts.{AreRead, AreVerdicts}
+use Rattle.ch_laws.proofs.ByVerdicts.{verdicts_are_lawful}
+use Rattle.ch_overlay.specs.declared.source.Seen.{Seen}
+use Rattle.ch_overlay.specs.Overlay.{state_of}
+use Rattle.ch_overlay.specs.Source.{row_in, row_of}
+use Rattle.ch_contract.specs.Board.{Board, IsBoard, AreLawful}
+use Rattle.ch_contract.specs.Proposal.{Proposal, IsProposal}
+use Rattle.ch_contract.specs.Commit.{IsRowOf, Agrees}
+
+module _ (b : Board) (is : IsBoard b) where
+  -- a row that is the board's is the row of its node
+  row_of_node : (s : Seen) → IsRowOf b s → IsRow (state_of b.overlay) s.node (row_in s)
+  row_of_node s here = subst (λ (r : Row). IsRow (state_of b.overlay) s.node r) (sym here.same) (is.overlay.rows s.node here.in_range)
+
+  -- so are all rows that were read
+  are_read : (seen : List Seen) → All (IsRowOf b) seen → AreRead (state_of b.overlay) (row_of seen)
+  are_read [] all x r found = absurd (cc)
+  are_read (s ∷ seen) all x r found = elim (cases_Bool (nat_eq s.node x)) [
+    | inl here ↦
+        let node : s.node ≡ x = grind (arith, nat_tests, here) in
+        let row : row_in s ≡ r = some_is (row_in s) r (sym (ap (λ t. cond t (Some (row_in s)) (row_of seen x)) here) ∙ found) in
+        subst (λ (q : Row). IsRow (state_of b.overlay) x q) row (subst (λ y. IsRow (state_of b.overlay) y (row_in s)) node (row_of_node s (All-head (IsRowOf b) s seen all)))
+    | inr other ↦ are_read seen (All-tail (IsRowOf b) s seen all) x r (sym (ap (λ t. cond t (Some (row_in s)) (row_of seen x)) other) ∙ found)
+  ]
+    where
+      some_is : (q r : Row) → Some q ≡ Some r → q ≡ r
+      some_is q r e = cc
+
+  -- and the verdicts on them are lawful
+  pub agrees-lawful : (p : Proposal) → IsProposal p → Agrees b p → AreLawful b p.node p.shortcuts
+  agrees-lawful p made agrees =
+      let first : All (IsRowOf b) (made.first ∷ made.others) = subst (λ (rows : List Seen). All (IsRowOf b) rows) made.rests_on agrees.rows in
+      let low : p.node < length b.overlay.rows = subst (λ n. n < length b.overlay.rows) made.of_node (All-head (IsRowOf b) made.first made.others first).in_range in
+      let bound : p.bound ≡ bound_of b.graph = agrees.bound ∙ is.bound in
+      let verdicts : AreVerdicts (bound_of b.graph) (row_of p.rests_on) p.node p.shortcuts = subst (λ (c : Cost). AreVerdicts c (row_of p.rests_on) p.node p.shortcuts) bound made.verdicts in
+      let lawful = verdicts_are_lawful b.graph b.log (state_of b.overlay) (row_of p.rests_on) p.node p.shortcuts is.graph is.reached low (are_read p.rests_on agrees.rows) verdicts in
+      record {
+        plan = subst (λ (c : Cost). IsPlan c (state_of b.overlay) p.node p.shortcuts) (sym is.bound) lawful.0;
+        witnessed = subst (λ (c : Cost). IsWitnessed c (state_of b.overlay) p.node p.shortcuts) (sym is.bound) lawful.1;
+      }

@@ -1,0 +1,42 @@
+-- The rows that a board shows can be relied on.
+use Rattle.std.proofs.Common.{◌≡◌, ◌-◌, ◌^◌, ◌<◌, List, All, length, arith, sym, subst}
+use Rattle.ch_cost.specs.declared.cost.Cost.{Cost}
+use Rattle.ch_cost.specs.Cost.{cost_of_arcs, IsWithin}
+use Rattle.ch_cost.specs.Cost.Laws.{within_trans, more_arcs_within}
+use Rattle.ch_graph.specs.Graph.{bound_of}
+use Rattle.ch_graph.proofs.Bound.{bound-within}
+use Rattle.ch_laws.specs.declared.entry.Entry.{Entry}
+use Rattle.ch_laws.specs.Rows.{Row, IsRow}
+use Rattle.ch_overlay.specs.declared.source.Seen.{Seen}
+use Rattle.ch_overlay.specs.Overlay.{Overlay, IsOverlay, IsEntry, AreEntries, row_at, state_of}
+use Rattle.ch_overlay.specs.Source.{row_in, IsBound, IsSeenRow, NamesAlone}
+use Rattle.ch_contract.specs.Board.{Board, IsBoard}
+
+module _ (o : Overlay) (is : IsOverlay o) (s : Seen) (inside : s.node < length o.rows) (row_is : row_in s ≡ row_at o.rows s.node) where
+  wide : (es : List Entry) → All (IsEntry (length o.rows) o.bound s.node) es → All (IsEntry (2 ^ 25) o.bound s.node) es
+  wide es all k d h =
+      let e = all k d h in
+      let few = is.few_nodes in
+      record { in_range = omega (arith, e.in_range, few); apart = e.apart; above = e.above; within = e.within }
+
+  -- the row of a node is one that can be relied on
+  pub seen_row : IsSeenRow o.bound s
+  seen_row =
+      let row : IsRow (state_of o) s.node (row_in s) = subst (λ (r : Row). IsRow (state_of o) s.node r) (sym row_is) (is.rows s.node inside) in
+      let entries : AreEntries (length o.rows) o.bound s.node (row_in s) = subst (λ (r : Row). AreEntries (length o.rows) o.bound s.node r) (sym row_is) (is.entries s.node inside) in
+      let few = is.few_nodes in
+      record { in_range = omega (arith, few, inside); out_rises = row.out_rises; inn_rises = row.inn_rises; entries = record { out = wide (row_in s).out entries.out; inn = wide (row_in s).inn entries.inn } }
+
+  -- and names nodes alone
+  pub names_nodes : NamesAlone (λ x. x < length o.rows) (row_in s)
+  names_nodes =
+      let entries : AreEntries (length o.rows) o.bound s.node (row_in s) = subst (λ (r : Row). AreEntries (length o.rows) o.bound s.node r) (sym row_is) (is.entries s.node inside) in
+      record { out = λ k d h. (entries.out k d h).in_range; inn = λ k d h. (entries.inn k d h).in_range }
+
+-- the bound of a board is one that sources have
+pub board_bound : (b : Board) → IsBoard b → IsBound b.overlay.bound
+board_bound b is =
+    let few = is.graph.few_nodes in
+    let bound : IsWithin (bound_of b.graph) (cost_of_arcs (b.graph.nodes - 1) (2 ^ 32 - 1)) = bound-within b.graph is.graph in
+    let wider : IsWithin (cost_of_arcs (b.graph.nodes - 1) (2 ^ 32 - 1)) (cost_of_arcs (2 ^ 25 - 1) (2 ^ 32 - 1)) = more_arcs_within (b.graph.nodes - 1) (2 ^ 25 - 1) (2 ^ 32 - 1) (omega (arith, few)) in
+    subst (λ (c : Cost). IsBound c) (sym is.bound) (within_trans bound wider)

@@ -1,0 +1,34 @@
+use Rattle.std.proofs.Common.{◌≡◌, ◌↔◌, List, sym, subst, ◌∙◌}
+use Rattle.ch_laws.specs.declared.shortcut.Shortcut.{Shortcut}
+use Rattle.ch_contract.specs.declared.error.CommitError.TheVariants as commits
+use Rattle.ch_contract.specs.Board.{Board, AreLawful}
+use Rattle.ch_contract.specs.Commit.{IsStale}
+use Rattle.ch_contract.proofs.Current.{of_commit, same_refusal, accepted-apart}
+use Rattle.ch_contract.proofs.board.Board.commit.Goals as goal
+
+pub returns-in-Err-clause-stale : goal.returns-in-Err-clause-stale
+returns-in-Err-clause-stale g c node seen now front =
+    let tested = c.in-Err.ensures.stale node seen now front in
+    let same = same_refusal c.in-Err.refused (commits.Stale node seen now front) in
+    subst (λ (b : Board). (of_commit c.in-Err.refused ≡ of_commit (commits.Stale node seen now front)) ↔ IsStale b c.args.proposal node seen now front) c.self.view_is
+    (λ e. tested.0 (same.1 e), λ stale. same.0 (tested.1 stale))
+
+pub plan-requires : goal.plan-requires
+plan-requires g c =
+    subst (λ n. AreLawful c.self.inside.ledger n c.shortcuts.result.now) (sym c.node.ensures)
+    (subst (λ (put : List Shortcut). AreLawful c.self.inside.ledger c.args.proposal.node put) (sym c.shortcuts.ensures) c.in_default.ensures.lawful)
+
+pub returns-in_default-plan-clause-stale : goal.returns-in_default-plan-clause-stale
+returns-in_default-plan-clause-stale g c node seen now front = (
+  λ e. absurd (cc),
+  λ stale. absurd (accepted-apart _ _ ((c.in_default.ensures.stale node seen now front).1 (subst (λ (b : Board). IsStale b c.args.proposal node seen now front) (sym c.self.view_is) stale))),
+)
+
+pub invariant_of-self : goal.invariant_of-self
+invariant_of-self g c = (c.enter.ensures.contracted c.node.result c.shortcuts.result.now c.in-Ok.ensures).contracts.graph ∙ c.self.invariant
+
+pub returns-clause-stale : goal.returns-clause-stale
+returns-clause-stale g c node seen now front = (
+  λ e. absurd (cc),
+  λ stale. absurd (accepted-apart _ _ ((c.in_default.ensures.stale node seen now front).1 (subst (λ (b : Board). IsStale b c.args.proposal node seen now front) (sym c.self.view_is) stale))),
+)

@@ -1,0 +1,134 @@
+ghost use Rattle.std.specs.Prelude.{◌≡◌, ◌↔◌, ◌<◌, ℕ, IsTrue, IfOk, IfNone, IfSome, SomeIff, All, Contains, length, slice_index};
+ghost use Rattle.ch_overlay.specs.declared.source.Seen.{Seen};
+ghost use Rattle.ch_contract.specs.declared.error.CommitError.TheVariants as commits;
+ghost use Rattle.ch_contract.specs.Board.{AreLawful};
+ghost use Rattle.ch_contract.specs.Proposal.{IsProposal};
+ghost use Rattle.ch_contract.specs.Commit.{IsContractedYet, IsOld, IsFirstChange, IsRowOf, Agrees, IsStale, IsBroken};
+
+use crate::error::CommitError;
+use crate::ledger::Ledger;
+use crate::proposal::Proposal;
+use ch_overlay::{Row, Seen};
+
+// A row that was seen in another version than the ledger has now.
+#[derive(Clone, Copy)]
+struct Changed {
+    // The node, which is in range.
+    node: u32,
+    // The version that was seen.
+    seen: u64,
+    // The version now.
+    now: u64,
+}
+
+// Whether a ledger can contract the node of a proposal by it, and if not, why: the node is contracted already, or
+// else a row has another version now, the first of them, or else a row or the bound is another one.
+//
+// Takes no memory. Looks once at the version of each row that the proposal rests on, and once at its entries.
+pub fn accepted(ledger: &Ledger, proposal: &Proposal) -> Result<(), CommitError>
+    ensures lawful { IfOk result (λ _. AreLawful ledger.now proposal.now.node proposal.now.shortcuts) }
+    ensures contracted { (result ≡ Err commits.Contracted) ↔ IsContractedYet ledger.now proposal.now }
+    ensures stale { (node seen now front : ℕ) → (result ≡ Err (commits.Stale node seen now front)) ↔ IsStale ledger.now proposal.now node seen now front }
+    ensures broken { (result ≡ Err commits.Broken) ↔ IsBroken ledger.now proposal.now }
+{
+    if is_contracted(ledger, proposal.node()) {
+        return Err(CommitError::Contracted);
+    }
+    let front = ledger.log().len() as u64;
+    if let Some(changed) = first_old(ledger, proposal) {
+        return Err(CommitError::Stale {
+            node: changed.node,
+            seen: changed.seen,
+            now: changed.now,
+            front,
+        });
+    }
+    if !agrees(ledger, proposal) {
+        return Err(CommitError::Broken);
+    }
+    Ok(())
+}
+
+// Whether a node is in range and contracted.
+fn is_contracted(ledger: &Ledger, node: u32) -> bool
+    ensures { IsTrue result ↔ Contains ledger.now.overlay.order node }
+{
+    let overlay = ledger.overlay();
+    if node >= overlay.nodes() {
+        return false;
+    }
+    overlay.row(node).rank.is_some()
+}
+
+// The first of the rows that a proposal rests on of which the ledger has another version now.
+fn first_old(ledger: &Ledger, proposal: &Proposal) -> Option<Changed>
+    ensures none { IfNone result (All (λ s. IsOld ledger.now s → ⊥) proposal.now.rests_on) }
+    ensures some { IfSome result (λ changed. IsFirstChange ledger.now proposal.now changed.node changed.seen changed.now) }
+{
+    'rows: for seen in proposal.rests_on() {
+        if let Some(now) = newer(ledger, seen) {
+            return Some(Changed {
+                node: seen.node,
+                seen: seen.version,
+                now,
+            });
+        }
+    }
+    None
+}
+
+// The version that the ledger has now, where it is another than the one that was seen.
+fn newer(ledger: &Ledger, seen: &Seen) -> Option<u64>
+    ensures { SomeIff result (IsOld ledger.now seen.now) (slice_index ledger.now.overlay.versions seen.now.node) }
+{
+    let overlay = ledger.overlay();
+    if seen.node >= overlay.nodes() {
+        return None;
+    }
+    let now = overlay.version(seen.node);
+    if seen.version == now {
+        return None;
+    }
+    Some(now)
+}
+
+// Whether all rows that a proposal rests on, and its bound, are the ledger's.
+fn agrees(ledger: &Ledger, proposal: &Proposal) -> bool
+    ensures agrees { IsTrue result ↔ Agrees ledger.now proposal.now }
+    ensures holds { IsProposal proposal.now }
+{
+    let rows = proposal.rests_on();
+    proposal.bound() == ledger.overlay().bound() && are_rows_of(ledger, rows)
+}
+
+// Whether all of these rows are the ledger's rows of their nodes.
+fn are_rows_of(ledger: &Ledger, rows: &[Seen]) -> bool
+    ensures { IsTrue result ↔ All (IsRowOf ledger.now) rows.now }
+{
+    'rows: for seen in rows {
+        if !is_row_of(ledger, seen) {
+            return false;
+        }
+    }
+    true
+}
+
+// Whether a row is the ledger's row of its node.
+fn is_row_of(ledger: &Ledger, seen: &Seen) -> bool
+    ensures { IsTrue result ↔ IsRowOf ledger.now seen.now }
+{
+    let overlay = ledger.overlay();
+    if seen.node >= overlay.nodes() {
+        return false;
+    }
+    is_same_row(&seen.row, overlay.row(seen.node))
+}
+
+// Whether two rows have the same entries and the same rank.
+fn is_same_row(row: &Row, other: &Row) -> bool
+    ensures { IsTrue result ↔ (row.now ≡ other.now) }
+{
+    (row.rank == other.rank)
+        & (row.out.as_slice() == other.out.as_slice())
+        & (row.inn.as_slice() == other.inn.as_slice())
+}

@@ -1,0 +1,31 @@
+ghost use Rattle.std.specs.Prelude.{◌≡◌, ◌↔◌, IfOk};
+ghost use Rattle.ch_graph.specs.Hierarchy.{IsRight};
+ghost use Rattle.ch_laws.specs.Contraction.{IsMade};
+ghost use Rattle.ch_overlay.specs.Overlay.{state_of};
+ghost use Rattle.ch_contract.specs.Finish.{HasNodesLeft};
+
+use crate::error::FinishError;
+use crate::ledger::Ledger;
+use crate::parts::{links_of, ranks_of};
+use ch_graph::Hierarchy;
+
+// The hierarchy that the contractions of a ledger lead to. Refused while a node isn't contracted, which is tested
+// first, or for want of memory. Takes memory for the ranks and the links, which it sorts.
+pub fn hierarchy_of(ledger: &Ledger) -> Result<Hierarchy, FinishError>
+    ensures made { IfOk result (λ h. IsMade ledger.now.graph (state_of ledger.now.overlay) h) }
+    ensures right { IfOk result (λ h. IsRight ledger.now.graph h) }
+    ensures left { (result ≡ Err FinishError.NodesLeft) ↔ HasNodesLeft ledger.now }
+{
+    let _ = ledger.log();
+    let overlay = ledger.overlay();
+    if overlay.alive() > 0 {
+        return Err(FinishError::NodesLeft);
+    }
+    let Ok(ranks) = ranks_of(ledger.allocator(), overlay) else {
+        return Err(FinishError::OutOfMemory);
+    };
+    let Ok(links) = links_of(ledger.allocator(), overlay) else {
+        return Err(FinishError::OutOfMemory);
+    };
+    Ok(Hierarchy::new(ranks, links, ledger.graph().bound()))
+}

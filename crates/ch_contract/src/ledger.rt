@@ -1,0 +1,193 @@
+ghost use Rattle.std.specs.Prelude.{◌≡◌, ◌+◌, ◌<◌, ◌^◌, ℕ, List, [], IfOk, length, map, drop};
+ghost use Rattle.std.specs.List.{zip, range_with_len};
+ghost use Rattle.std.specs.Arc.{arc_value};
+ghost use Rattle.ch_laws.specs.declared.shortcut.Shortcut.{Shortcut};
+ghost use Rattle.ch_laws.specs.Contraction.{IsStart};
+ghost use Rattle.ch_overlay.specs.Overlay.{state_of};
+ghost use Rattle.ch_overlay.specs.Change.{puts, changed_nodes};
+ghost use Rattle.ch_contract.specs.Board.{IsBoard, IsLog, AreLawful, IsContracted};
+ghost use Rattle.ch_contract.specs.Planned.{IsPlanned, WasPlanned};
+
+use crate::contraction::{Contraction, Receipt};
+use ch_graph::Graph;
+use ch_overlay::{Change, Overlay, Row, Shortcut};
+use std::alloc::{AllocError, Global};
+use std::marker::Model;
+use std::sync::Arc;
+
+/// A graph whose nodes are contracted one by one: its rows, and the log of the contractions that made them.
+///
+/// Whatever happens to a ledger, its rows are those that its log leads to from its graph by lawful contractions: each
+/// pair of neighbours of a contracted node got a shortcut, was heavy, or had another walk as cheap.
+#[derive(Drop)]
+pub struct Ledger {
+    alloc: Global,
+    graph: Graph,
+    overlay: Overlay,
+    log: Vec<Contraction>,
+    next_version: u64,
+}
+
+impl Model for Ledger {
+    ghost use Rattle.std.specs.Prelude.{◌+◌, ◌*◌, ◌≤◌, length, vec_capacity};
+    ghost use Rattle.ch_contract.specs.Board as boards;
+
+    ghost Value = { boards.Board };
+
+    ghost view = { λ b. record { graph = b.graph; overlay = b.overlay; log = b.log.items; next = b.next_version } };
+
+    ghost invariant = { λ b. boards.IsBoard (record { graph = b.graph; overlay = b.overlay; log = b.log.items; next = b.next_version }) × (b.next_version ≤ (length b.overlay.rows + 1) * (length b.overlay.order + 1)) × (length b.overlay.rows ≤ vec_capacity b.log) };
+}
+
+/// A contraction whose new rows are made and whose entry is written, and that isn't entered yet.
+#[derive(Drop)]
+pub struct Planned {
+    change: Change,
+    versions: Vec<u64>,
+    entry: Contraction,
+}
+
+impl Model for Planned {
+    ghost use Rattle.ch_contract.specs.Planned as planned;
+
+    ghost Value = { planned.Planned };
+
+    ghost view = { λ p. record { change = p.change; versions = p.versions.items; entry = p.entry } };
+}
+
+impl Planned {
+    /// The new rows, each with its node: first the row of the contracted node, and then those of its neighbours, by
+    /// rising number.
+    pub fn rows(&self) -> &[(u32, Arc<Row>)]
+        ensures { map (λ a. (a.0, arc_value a.1)) result.now ≡ self.now.change.rows }
+    {
+        self.change.rows()
+    }
+
+    /// The versions that the new rows get, in the order of [`Planned::rows`].
+    pub fn versions(&self) -> &[u64]
+        ensures { result.now ≡ self.now.versions }
+    {
+        self.versions.as_slice()
+    }
+}
+
+impl Ledger {
+    /// The ledger of this graph, with no node contracted. Node x has the version x.
+    ///
+    /// Takes memory for the rows, an entry for each end of an arc, and for the log of all contractions.
+    pub fn new(alloc: Global, graph: Graph) -> Result<Ledger, AllocError>
+        ensures graph { IfOk result (λ l. l.graph ≡ graph) }
+        ensures log { IfOk result (λ l. l.log ≡ []) }
+        ensures start { IfOk result (λ l. IsStart graph (state_of l.overlay)) }
+        ensures versions { IfOk result (λ l. l.overlay.versions ≡ range_with_len 0 graph.nodes) }
+        ensures next { IfOk result (λ l. l.next ≡ graph.nodes) }
+    {
+        let overlay = Overlay::start(alloc, &graph)?;
+        let nodes = overlay.nodes();
+        let log = Vec::with_capacity(alloc, nodes as usize)?;
+        Ok(Ledger {
+            alloc,
+            graph,
+            overlay,
+            log,
+            next_version: u64::from(nodes),
+        })
+    }
+
+    /// The graph that the ledger was made of.
+    pub fn graph(&self) -> &Graph
+        ensures { result.now ≡ self.now.graph }
+    {
+        &self.graph
+    }
+
+    /// The rows of the nodes, as the contractions so far left them.
+    pub fn overlay(&self) -> &Overlay
+        ensures { result.now ≡ self.now.overlay }
+    {
+        &self.overlay
+    }
+
+    /// What was done so far, first to last: the entry of rank k stands at k.
+    pub fn log(&self) -> &[Contraction]
+        ensures entries { result.now ≡ self.now.log }
+        ensures log { IsLog self.now.log }
+        ensures holds { IsBoard self.now }
+    {
+        self.log.as_slice()
+    }
+
+    // What its rows and its log are allocated by.
+    pub(crate) fn allocator(&self) -> Global {
+        self.alloc
+    }
+
+    /// The contraction of a node that puts these shortcuts in. Nothing changes yet, and nothing can be refused any
+    /// more. Takes memory for the new rows and the entry.
+    pub fn plan(&self, node: u32, shortcuts: &[Shortcut]) -> Result<Planned, AllocError>
+        requires { AreLawful self.now node shortcuts.now }
+        ensures { IfOk result (λ planned. IsPlanned self.now node shortcuts.now planned) }
+    {
+        let rank = self.overlay.nodes() - self.overlay.alive();
+        let change = self.overlay.plan(node, shortcuts)?;
+        let count = change.rows().len();
+        let versions = versions_from(self.alloc, self.next_version, count)?;
+        let neighbours = neighbours_in(self.alloc, change.rows())?;
+        let entry = Contraction {
+            node,
+            rank,
+            neighbours,
+            shortcuts: shortcuts.len() as u64,
+        };
+        Ok(Planned {
+            change,
+            versions,
+            entry,
+        })
+    }
+
+    /// Contracts the node of what was planned: the new rows become current, with the versions that follow the last
+    /// one, and the entry stands at the end of the log. Takes no memory.
+    pub fn enter(&mut self, planned: Planned) -> Receipt
+        requires planned { WasPlanned self.old planned }
+        ensures contracted { (node : ℕ) (put : List Shortcut) → IsPlanned self.old node put planned → IsContracted self.old node put result self.new }
+        ensures rows { self.new.overlay.rows ≡ puts self.old.overlay.rows planned.change.rows }
+        ensures versions { self.new.overlay.versions ≡ puts self.old.overlay.versions (zip (changed_nodes planned.change) planned.versions) }
+        ensures next { self.new.next ≡ self.old.next + length planned.change.rows }
+    {
+        let Planned {
+            change,
+            versions,
+            entry,
+        } = planned;
+        let receipt = Receipt {
+            node: entry.node,
+            rank: entry.rank,
+        };
+        self.overlay.apply(change, versions.as_slice());
+        self.next_version += versions.len() as u64;
+        self.log.push_reserved(entry);
+        receipt
+    }
+}
+
+// So many versions, from this one on.
+fn versions_from(alloc: Global, first: u64, count: usize) -> Result<Vec<u64>, AllocError>
+    requires { first + count < 2 ^ 64 }
+    ensures { IfOk result (λ versions. versions.items ≡ range_with_len first count) }
+{
+    let mut versions = Vec::with_capacity(alloc, count)?;
+    for i in 0..count as u64 {
+        versions.push(first + i)?;
+    }
+    Ok(versions)
+}
+
+// The nodes of the rows behind the first.
+fn neighbours_in(alloc: Global, rows: &[(u32, Arc<Row>)]) -> Result<Vec<u32>, AllocError>
+    requires { 0 < length rows.now }
+    ensures { IfOk result (λ nodes. nodes.items ≡ map (λ row. row.0) (drop 1 rows.now)) }
+{
+    rows[1..].iter().map(|row| row.0).collect(alloc)
+}
