@@ -1,0 +1,77 @@
+-- A contraction that a ledger entered is what an accepted offer does.
+use Rattle.std.proofs.Common.{ℕ, ◌≡◌, ◌+◌, List, [], ◌∷◌, ◌++◌, length, map, All, Contains, ap, sym, subst, refl, ◌∙◌}
+use Rattle.std.specs.List.{zip, range_with_len}
+use Rattle.ch_cost.specs.declared.cost.Cost.{Cost}
+use Rattle.ch_graph.specs.Graph.{Graph, bound_of}
+use Rattle.ch_laws.specs.declared.shortcut.Shortcut.{Shortcut}
+use Rattle.ch_laws.specs.Contraction.{State, Contraction, IsNeighbour}
+use Rattle.ch_laws.specs.Rows.{Row}
+use Rattle.ch_overlay.specs.Overlay.{Overlay, state_of}
+use Rattle.ch_overlay.specs.Change.{Change, IsChange, puts, changed_nodes}
+use Rattle.ch_contract.specs.declared.contraction.Receipt.{Receipt}
+use Rattle.ch_contract.specs.Board.{Board, IsBoard, IsContracted}
+use Rattle.ch_contract.specs.Planned.{Planned, IsPlanned}
+use Rattle.ch_contract.specs.Proposal.{Proposal}
+use Rattle.ch_core.specs.World.{World, MayOffer, IsDone, IsCurrent, AreNewRows, IsEntryOf, entered, version_of, IsAccepted}
+use Rattle.ch_core.specs.Keeping.{IsWorld}
+use Rattle.ch_core.proofs.Kept.{world_after}
+
+board_of : Graph → Cost → List Row → List ℕ → List ℕ → List Contraction → ℕ → Board
+board_of graph bound rows versions order log next = record { graph = graph; overlay = record { bound = bound; rows = rows; versions = versions; order = order }; log = log; next = next }
+
+-- the new rows of a change
+new_rows : (o : Overlay) (put : List Shortcut) (c : Change) (node : ℕ) → IsChange o put c → c.node ≡ node → AreNewRows o node put c.rows
+new_rows o put c node is of_node = subst (λ n. AreNewRows o n put c.rows) of_node (record { others = is.others; listed = is.rows; rising = is.rising; neighbours = is.neighbours; changed = is.changed })
+
+module _ (w : World) (p : Proposal) (plan : Planned) (planned : IsPlanned w.ledger p.node p.shortcuts plan) (receipt : Receipt) (new : Board) (contracted : IsContracted w.ledger p.node p.shortcuts receipt new) (goes : IsBoard new) where
+  its_entry : IsEntryOf (state_of w.ledger.overlay) p.node p.shortcuts contracted.entry
+  its_entry = record {
+    of_node = contracted.of_node;
+    rank = contracted.contracts.step.rank;
+    rising = contracted.contracts.step.rising;
+    neighbours = subst (λ n. (x : ℕ) → (Contains contracted.entry.neighbours x → IsNeighbour (state_of w.ledger.overlay) n x) × (IsNeighbour (state_of w.ledger.overlay) n x → Contains contracted.entry.neighbours x)) contracted.of_node contracted.contracts.step.neighbours;
+    shortcuts = contracted.of_shortcuts;
+  }
+
+  module _ (is : IsWorld w) (rows : new.overlay.rows ≡ puts w.ledger.overlay.rows plan.change.rows) (versions : new.overlay.versions ≡ puts w.ledger.overlay.versions (zip (changed_nodes plan.change) plan.versions)) (next : new.next ≡ w.ledger.next + length plan.change.rows) where
+    versions_are : new.overlay.versions ≡ puts w.ledger.overlay.versions (zip (map (λ a. a.0) plan.change.rows) (range_with_len w.ledger.next (length plan.change.rows)))
+    versions_are = versions ∙ ap (λ vs. puts w.ledger.overlay.versions (zip (changed_nodes plan.change) vs)) planned.versions
+
+    bound_stays : new.overlay.bound ≡ w.ledger.overlay.bound
+    bound_stays = goes.bound ∙ ap bound_of contracted.contracts.graph ∙ sym is.board.bound
+
+    order_is : new.overlay.order ≡ w.ledger.overlay.order ++ p.node ∷ []
+    order_is = ap (λ (s : State). s.order) contracted.state
+
+    ledger_is : new ≡ entered w.ledger p.node plan.change.rows contracted.entry
+    unfolding board_of
+    ledger_is =
+        ap (λ (g : Graph). board_of g new.overlay.bound new.overlay.rows new.overlay.versions new.overlay.order new.log new.next) contracted.contracts.graph
+        ∙ ap (λ (b : Cost). board_of w.ledger.graph b new.overlay.rows new.overlay.versions new.overlay.order new.log new.next) bound_stays
+        ∙ ap (λ (rs : List Row). board_of w.ledger.graph w.ledger.overlay.bound rs new.overlay.versions new.overlay.order new.log new.next) rows
+        ∙ ap (λ vs. board_of w.ledger.graph w.ledger.overlay.bound (puts w.ledger.overlay.rows plan.change.rows) vs new.overlay.order new.log new.next) versions_are
+        ∙ ap (λ xs. board_of w.ledger.graph w.ledger.overlay.bound (puts w.ledger.overlay.rows plan.change.rows) (puts w.ledger.overlay.versions (zip (map (λ a. a.0) plan.change.rows) (range_with_len w.ledger.next (length plan.change.rows)))) xs new.log new.next) order_is
+        ∙ ap (λ (es : List Contraction). board_of w.ledger.graph w.ledger.overlay.bound (puts w.ledger.overlay.rows plan.change.rows) (puts w.ledger.overlay.versions (zip (map (λ a. a.0) plan.change.rows) (range_with_len w.ledger.next (length plan.change.rows)))) (w.ledger.overlay.order ++ p.node ∷ []) es new.next) contracted.contracts.log
+        ∙ ap (λ n. board_of w.ledger.graph w.ledger.overlay.bound (puts w.ledger.overlay.rows plan.change.rows) (puts w.ledger.overlay.versions (zip (map (λ a. a.0) plan.change.rows) (range_with_len w.ledger.next (length plan.change.rows)))) (w.ledger.overlay.order ++ p.node ∷ []) (w.ledger.log ++ contracted.entry ∷ []) n) next
+
+    -- the world after it
+    abbrev pub world_then : World
+    world_then = record { ledger = new; book = w.book ++ map version_of plan.change.rows; views = w.views }
+
+    pub then_world : IsWorld world_then
+    then_world = world_after w is p.shortcuts plan.change planned.change new goes contracted.contracts.graph rows versions_are next
+
+    pub then_accepted : (worker : ℕ) → MayOffer w worker p → (IsDone w p → ⊥) → All (IsCurrent w) p.rests_on → IsAccepted w worker p receipt world_then
+    then_accepted worker may waits current = record {
+      may = may;
+      waits = waits;
+      current = current;
+      rows = plan.change.rows;
+      are_new = new_rows w.ledger.overlay p.shortcuts plan.change p.node planned.change planned.of_node;
+      entry = contracted.entry;
+      is_entry = its_entry;
+      handed = contracted.handed;
+      ledger = ledger_is;
+      book = refl;
+      views = refl;
+    }

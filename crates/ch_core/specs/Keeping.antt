@@ -1,0 +1,39 @@
+-- What holds of every world.
+use Rattle.std.specs.Prelude.{ℕ, ◌≡◌, ◌^◌, ◌<◌, Some, length, All, slice_index}
+use Rattle.ch_cost.specs.declared.cost.Cost.{Cost}
+use Rattle.ch_laws.specs.Rows.{Row, Rises}
+use Rattle.ch_overlay.specs.Source.{IsBound}
+use Rattle.ch_overlay.specs.Overlay.{Overlay, AreEntries, row_at}
+use Rattle.ch_contract.specs.Board.{IsBoard}
+use Rattle.ch_core.specs.World.{World, Version, View, Standing, stands_at, has, IsIn}
+
+-- a row that can be relied on, of a node among so many
+pub record IsSound (nodes : ℕ) (bound : Cost) (x : ℕ) (r : Row) : Type 0 where
+  pub in_range : x < nodes
+  pub out_rises : Rises r.out
+  pub inn_rises : Rises r.inn
+  pub entries : AreEntries nodes bound x r
+
+abbrev pub IsSoundVersion : Overlay → Version → Type 0
+IsSoundVersion o v = IsSound (length o.rows) o.bound v.node v.row
+
+-- The rows are those that the log leads to from the graph. The book has each current row at its current version, and
+-- what each worker read at the version that it read.
+pub record IsWorld (w : World) : Type 0 where
+  pub board : IsBoard w.ledger
+  pub bound : IsBound w.ledger.overlay.bound
+  pub next : length w.book ≡ w.ledger.next
+  pub few_workers : length w.views < 2 ^ 32
+  pub current : (x : ℕ) → x < length w.ledger.overlay.rows → IsIn w.book x (slice_index w.ledger.overlay.versions x) (row_at w.ledger.overlay.rows x)
+  pub views : (k x : ℕ) (s : Standing) → has w k x ≡ Some s → IsIn w.book x s.version s.row
+  pub sound : All (IsSoundVersion w.ledger.overlay) w.book
+
+-- what a worker sees: its view, and the bound of the graph
+pub record Sight : Type 0 where
+  pub view : View
+  pub bound : Cost
+
+-- the bound is one, and each row can be relied on
+pub record IsSight (s : Sight) : Type 0 where
+  pub limit : IsBound s.bound
+  pub rows : (x : ℕ) (t : Standing) → stands_at s.view x ≡ Some t → IsSound (2 ^ 25) s.bound x t.row

@@ -1,0 +1,4 @@
+pub mod Offering
+pub mod World
+pub mod Steps
+pub mod Keeping

@@ -1,0 +1,83 @@
+ghost use Rattle.std.specs.Prelude.{◌≡◌, ◌+◌, ◌<◌, ◌≤◌, ◌++◌, ℕ, IfOk, MatchOption, length, map, vec_len, vec_capacity};
+ghost use Rattle.std.specs.Arc.{arc_value};
+ghost use Rattle.ch_laws.specs.Rows.{Row};
+ghost use Rattle.ch_overlay.specs.Overlay.{row_at};
+ghost use Rattle.ch_core.specs.World.{IsIn, version_of};
+
+use crate::reads::Standing;
+use ch_overlay::{Overlay, Row};
+use std::alloc::{AllocError, Global};
+use std::marker::Model;
+use std::sync::Arc;
+
+/// A row that its node has or had. Its number is its place in the book.
+#[derive(Drop)]
+pub struct Version {
+    node: u32,
+    row: Arc<Row>,
+}
+
+impl Model for Version {
+    ghost use Rattle.std.specs.Arc.{arc_value};
+    ghost use Rattle.ch_core.specs.World as worlds;
+
+    ghost Value = { worlds.Version };
+
+    ghost view = { λ v. record { node = v.node; row = arc_value v.row } };
+}
+
+/// The book of the first versions: that of each node, at its number.
+///
+/// Takes memory for an entry a node; the rows are shared.
+pub fn opening_book(alloc: Global, overlay: &Overlay) -> Result<Vec<Version>, AllocError>
+    ensures many { IfOk result (λ book. length book.items ≡ length overlay.now.rows) }
+    ensures rows { IfOk result (λ book. (x : ℕ) → x < length overlay.now.rows → IsIn book.items x x (row_at overlay.now.rows x)) }
+{
+    let nodes = overlay.nodes();
+    let mut book = Vec::with_capacity(alloc, nodes as usize)?;
+    'nodes: for node in 0..nodes {
+        let row = Arc::try_clone(overlay.row(node))?;
+        book.push(Version { node, row })?;
+    }
+    Ok(book)
+}
+
+/// The versions of these rows, each with its node, in their order.
+///
+/// Takes memory for an entry a row; the rows are shared.
+pub fn versions_of(alloc: Global, rows: &[(u32, Arc<Row>)]) -> Result<Vec<Version>, AllocError>
+    ensures { IfOk result (λ fresh. fresh.items ≡ map (λ a. version_of (a.0, arc_value a.1)) rows.now) }
+{
+    let mut fresh = Vec::with_capacity(alloc, rows.len())?;
+    'rows: for (node, row) in rows {
+        let row = Arc::try_clone(row)?;
+        fresh.push(Version { node: *node, row })?;
+    }
+    Ok(fresh)
+}
+
+/// Adds versions at the end of the book, which has room for them. Takes no memory.
+pub fn append(book: &mut Vec<Version>, fresh: Vec<Version>)
+    requires { length book.old.items + length fresh.items ≤ vec_capacity book.old }
+    ensures { book.new.items ≡ book.old.items ++ fresh.items }
+{
+    'fresh: for version in fresh {
+        book.push_reserved(version);
+    }
+}
+
+/// The version of this number where it is the node's, or none. The numbers may be any. Takes no memory.
+pub fn standing(book: &[Version], node: u32, version: u64) -> Result<Option<Standing>, AllocError>
+    ensures { IfOk result (λ found. MatchOption found ((row : Row) → IsIn book.now node version row → ⊥) (λ s. (s.version ≡ version) × IsIn book.now node version s.row)) }
+{
+    let place = version as usize;
+    if place >= book.len() {
+        return Ok(None);
+    }
+    let found = &book[place];
+    if found.node != node {
+        return Ok(None);
+    }
+    let row = Arc::try_clone(&found.row)?;
+    Ok(Some(Standing { version, row }))
+}

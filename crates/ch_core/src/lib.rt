@@ -1,0 +1,24 @@
+//! Workers who contract the nodes of one graph, in any order: each reads rows as old as it likes, works out proposals
+//! by what it read, and offers them.
+//!
+//! Stands on `ch_contract`, whose ledgers it holds, and on the rows of `ch_overlay`. Its main type is [`World`]: a
+//! ledger, the book of all versions of the rows, and what each worker read. The promise of the layer is the contract
+//! of [`World::step`]: an offer whose rows are all current by their version numbers alone is a lawful contraction. By
+//! [`run`] so is every run of reads and offers, however they are mixed.
+#![tactic(auto)]
+
+mod book;
+mod event;
+mod offering;
+mod reads;
+mod running;
+mod view;
+mod world;
+
+pub use event::{Event, Outcome};
+pub use running::run;
+pub use view::View;
+pub use world::World;
+
+#[cfg(test)]
+mod tests;

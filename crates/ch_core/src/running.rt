@@ -1,0 +1,33 @@
+ghost use Rattle.std.specs.Prelude.{◌≡◌, IfOk};
+ghost use Rattle.ch_laws.specs.Contraction.{IsReached};
+ghost use Rattle.ch_overlay.specs.Overlay.{state_of};
+ghost use Rattle.ch_core.specs.Steps.{IsRun};
+ghost use Rattle.ch_core.specs.Keeping.{IsWorld};
+
+use crate::event::{Event, Outcome};
+use crate::world::World;
+use ch_graph::Graph;
+use std::alloc::{AllocError, Global};
+
+/// The world of this graph with so many workers after these events, one after the other, and the outcome of each.
+///
+/// Fails only for want of memory, which goes by the book and by what is read.
+pub fn run(
+    alloc: Global,
+    graph: Graph,
+    workers: u32,
+    events: Vec<Event>,
+) -> Result<(World, Vec<Outcome>), AllocError>
+    ensures run { IfOk result (λ r. IsRun graph workers events.items r.1.items r.0) }
+    ensures graph { IfOk result (λ r. r.0.ledger.graph ≡ graph) }
+    ensures reached { IfOk result (λ r. IsReached graph r.0.ledger.log (state_of r.0.ledger.overlay)) }
+{
+    let mut world = World::new(alloc, graph, workers)?;
+    let mut outcomes = Vec::with_capacity(alloc, events.len())?;
+    'events: for event in events {
+        let outcome = world.step(event)?;
+        outcomes.push(outcome)?;
+    }
+    let _ = world.log();
+    Ok((world, outcomes))
+}

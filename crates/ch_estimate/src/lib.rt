@@ -1,0 +1,30 @@
+//! Estimators: what an order of contraction is chosen by.
+//!
+//! Stands on `ch_contract`, of which it uses the counts of a proposal and the entries of the log, and on
+//! `crossbeam_utils`, for the leases. Its main item is the trait [`Estimator`]: it is told of each contraction in turn,
+//! and gives keys, smaller ones first. Three kinds are here: [`EdgeDifference`], [`Neighbours`] and [`Depth`]. What
+//! they know of the nodes stands in a [`WorkSpace`], and each works under a [`Lease`]. The promise of the layer is the
+//! contract of `note`, that a note is what the told entries tell, and that of each kind's `key`, which says which
+//! number it is. No promise on answers rests on either.
+#![tactic(auto)]
+
+mod depth;
+mod edge_difference;
+mod estimator;
+mod heard;
+mod lease;
+mod neighbours;
+mod note;
+mod notes;
+mod work_space;
+
+pub use depth::Depth;
+pub use edge_difference::EdgeDifference;
+pub use estimator::Estimator;
+pub use lease::{Lease, Leases};
+pub use neighbours::Neighbours;
+pub use note::Note;
+pub use work_space::WorkSpace;
+
+#[cfg(test)]
+mod tests;

@@ -1,0 +1,76 @@
+ghost use Rattle.std.specs.Prelude.{◌≡◌, ℕ, ◌<◌, ◌^◌, [], ◌∷◌, ◌++◌, length, AllPairs, OnOk, OnErr};
+ghost use Rattle.ch_estimate.specs.Notes as told;
+
+use crate::heard::Heard;
+use crate::lease::Lease;
+use crate::note::Note;
+use crate::notes::{Notes, lose_all, note_of};
+use ch_contract::Contraction;
+use std::alloc::{AllocError, Global};
+use std::collections::HashMap;
+use std::marker::Model;
+
+/// What an estimator keeps between two questions: the notes of the nodes that were named, and the lease under which
+/// it works.
+///
+/// It is seen as the entries that it was told, which it doesn't keep.
+#[derive(Drop)]
+pub struct WorkSpace {
+    notes: Notes,
+    heard: Heard,
+    lease: Lease,
+}
+
+impl Model for WorkSpace {
+    ghost use Rattle.std.specs.Prelude.{◌≡◌, ℕ, List};
+    ghost use Rattle.std.specs.Coded.{coded_list};
+    ghost use Rattle.ch_laws.specs.Contraction.{Contraction};
+    ghost use Rattle.ch_estimate.specs.Heard.{coded_entry};
+    ghost use Rattle.ch_estimate.specs.Notes.{note_in, note_of};
+
+    ghost Value = { List Contraction };
+
+    ghost coded = { coded_list coded_entry };
+
+    ghost view = { λ w. w.heard.entries };
+
+    ghost invariant = { λ w. (x : ℕ) → note_in w.notes x ≡ note_of w.heard.entries x };
+}
+
+impl WorkSpace {
+    /// One that was told nothing. Takes no memory.
+    pub fn new(alloc: Global, lease: Lease) -> WorkSpace
+        ensures { result ≡ [] }
+    {
+        WorkSpace {
+            notes: HashMap::new(alloc),
+            heard: Heard::new(),
+            lease,
+        }
+    }
+
+    /// What the entries tell of a node. Takes the time of a look-up.
+    pub fn note(&self, node: u32) -> Note
+        ensures { result ≡ told.note_of self.now node }
+    {
+        note_of(&self.notes, node)
+    }
+
+    /// Takes in the next entry of the log.
+    ///
+    /// Takes memory for a note of each neighbour, and time for that. Refused where that memory is; it is then as it was.
+    pub fn told(&mut self, entry: &Contraction) -> Result<(), AllocError>
+        requires rank { entry.now.rank ≡ length self.old }
+        requires few { entry.now.rank < 2 ^ 25 }
+        requires rising { AllPairs (λ x y. x < y) entry.now.neighbours }
+        ensures told { OnOk result (self.new ≡ self.old ++ entry.now ∷ []) }
+        ensures err { OnErr result (self.new ≡ self.old) }
+    {
+        let depth = note_of(&self.notes, entry.node).depth;
+        let neighbours = entry.neighbours.as_slice();
+        self.notes.reserve(neighbours.len())?;
+        lose_all(&mut self.notes, neighbours, depth);
+        self.heard = self.heard.and(entry);
+        Ok(())
+    }
+}

@@ -1,0 +1,30 @@
+ghost use Rattle.std.specs.Prelude.{Some};
+ghost use Rattle.ch_multiqueue.specs.Closing.{error_name};
+
+use std::error::Error;
+use std::fmt;
+
+/// Why a queue wasn't closed. Queue and passes are handed back as they were.
+#[derive(Clone, Copy, Debug, PartialEq, Eq)]
+pub enum CloseError {
+    /// A growth was refused.
+    OutOfMemory = 1,
+    /// A pass that was made isn't among those that were handed in.
+    PassMissing,
+    /// The accounts of passes and heaps don't agree. No accounts are kept yet, so this is never answered.
+    Mixed,
+}
+
+impl fmt::Display for CloseError {
+    ghost output = { λ e. Some (error_name e) };
+
+    fn fmt<W: fmt::Write>(&self, f: &mut fmt::Formatter<W>) -> fmt::Result {
+        match self {
+            CloseError::OutOfMemory => write!(f, "OutOfMemory"),
+            CloseError::PassMissing => write!(f, "PassMissing"),
+            CloseError::Mixed => write!(f, "Mixed"),
+        }
+    }
+}
+
+impl Error for CloseError {}

@@ -1,0 +1,217 @@
+ghost use Rattle.std.specs.Prelude.{◌≡◌, ◌≢◌, ◌+◌, ◌<◌, ◌≤◌, ◌↔◌, ◌⊎◌, AllPairs, IfErr, IfOk, IfSome, IsErrAnd, IsPermutation, IsTrue, OnErr, OnOk};
+ghost use Rattle.ch_multiqueue.specs.Closing.{IsAmong, IsLacking};
+ghost use Rattle.ch_multiqueue.specs.Items.{IsNotAfter};
+ghost use Rattle.ch_multiqueue.specs.Passes.{pass_of, moved_on};
+
+use crate::better::{Better, better_of};
+use crate::error::CloseError;
+use crate::heap::Heap;
+use crate::item::Item;
+use crate::pass::Pass;
+use std::alloc::{AllocError, Global};
+use std::marker::Model;
+use std::sync::{Mutex, Wait};
+
+/// A relaxed priority queue, which threads share by reference, each with a [`Pass`] of its own.
+///
+/// It has 1 to 256 heaps, and at most 256 passes are made. Each heap keeps the room that its items once took, and
+/// nothing else grows. A `pop` takes the top of one heap as it is when that heap is locked; nothing is said of the order
+/// of the items that it gives, nor of how long a call waits for a lock.
+#[derive(Drop)]
+pub struct MultiQueue {
+    heaps: Vec<Mutex<Heap>>,
+    seed: u64,
+    passes: u32,
+}
+
+impl Model for MultiQueue {
+    ghost use Rattle.std.specs.Prelude.{◌<◌, ◌≤◌, length};
+    ghost use Rattle.ch_multiqueue.specs.Passes.{Queue};
+
+    ghost Value = { Queue };
+
+    ghost view = { λ q. record { heaps = length q.heaps.items; passes = q.passes; seed = q.seed } };
+
+    ghost invariant = { λ q. (0 < length q.heaps.items) × (length q.heaps.items ≤ 256) × (0 < q.passes) × (q.passes ≤ 256) };
+}
+
+impl MultiQueue {
+    /// An empty queue of so many heaps, and its first pass, which has the number 0.
+    ///
+    /// There are 1 to 256 heaps. Takes memory for the locks alone: a heap takes its own when items come.
+    pub fn new(alloc: Global, heaps: u32, seed: u64) -> Result<(MultiQueue, Pass), AllocError>
+        requires some { 0 < heaps }
+        requires few { heaps ≤ 256 }
+        ensures queue { IfOk result (λ made. made.0 ≡ record { heaps = heaps; passes = 1; seed = seed }) }
+        ensures pass { IfOk result (λ made. made.1 ≡ pass_of seed 0) }
+    {
+        let mut locks = Vec::with_capacity(alloc, heaps as usize)?;
+        'heaps: for _ in 0..heaps {
+            locks.push_reserved(Mutex::new(Heap::new(alloc)));
+        }
+        let queue = MultiQueue {
+            heaps: locks,
+            seed,
+            passes: 1,
+        };
+        Ok((queue, Pass::new(seed, 0)))
+    }
+
+    /// The next pass. Passes are numbered from 0, in the order that they are made.
+    ///
+    /// Fewer than 256 passes were made so far. Where memory is refused, the queue is unchanged; today no memory is
+    /// taken.
+    pub fn pass(&mut self) -> Result<Pass, AllocError>
+        requires { self.old.passes < 256 }
+        ensures pass { IfOk result (λ pass. pass ≡ pass_of self.old.seed self.old.passes) }
+        ensures made { OnOk result (self.new ≡ record self.old { passes = self.old.passes + 1 }) }
+        ensures refused { OnErr result (self.new ≡ self.old) }
+    {
+        let pass = Pass::new(self.seed, self.passes);
+        self.passes += 1;
+        Ok(pass)
+    }
+
+    /// How many heaps there are.
+    pub fn heaps(&self) -> usize
+        ensures count { result ≡ self.now.heaps }
+        ensures some { 0 < result }
+        ensures few { result ≤ 256 }
+    {
+        self.heaps.len()
+    }
+
+    /// Puts an item into a heap that the pass draws.
+    ///
+    /// Draws one word, also where it is refused. Refused only for memory: the item is handed back then, and the queue
+    /// is unchanged. It may wait for the heap's lock, and takes time by the logarithm of the number of items there.
+    pub fn push<R: Wait>(&self, rt: &R, pass: &mut Pass, item: Item) -> Result<(), Item>
+        ensures pass { pass.new ≡ moved_on pass.old }
+        ensures back { IfErr result (λ refused. refused ≡ item) }
+    {
+        let place = pass.draw(self.heaps());
+        self.heaps[place].lock(rt).put(item)
+    }
+
+    /// Takes an item out: the better top of two heaps that the pass draws, or any top where those have none. None
+    /// where each heap was found empty once.
+    ///
+    /// Draws two words, always. The tops are looked at one after the other, each under its heap's lock, and the better
+    /// heap gives its top as it is when it is locked again; of two equal tops the first drawn counts. Where both
+    /// heaps were empty, or the better one has become empty since, the heaps are gone through once from the first, and
+    /// the first top found is taken. Takes no memory today; where memory is refused, the queue is unchanged.
+    pub fn pop<R: Wait>(&self, rt: &R, pass: &mut Pass) -> Result<Option<Item>, AllocError>
+        ensures { pass.new ≡ moved_on (moved_on pass.old) }
+    {
+        let first = pass.draw(self.heaps());
+        let second = pass.draw(self.heaps());
+        if let Some(place) = self.choose(rt, first, second) {
+            if let Some(item) = self.take_from(rt, place) {
+                return Ok(Some(item));
+            }
+        }
+        Ok(self.take_first_found(rt))
+    }
+
+    /// Ends the queue, and answers what is left in it, in order.
+    ///
+    /// All passes that were made are to be handed in, in any order. Refused where one is missing, and then where memory
+    /// is refused for the list; queue and passes are handed back as they were. Takes memory for the list alone, and
+    /// time by the number of items times its logarithm.
+    pub fn close(self, passes: Vec<Pass>) -> Result<Vec<Item>, (CloseError, MultiQueue, Vec<Pass>)>
+        ensures missing { IsErrAnd result (λ refused. refused.0 ≡ CloseError.PassMissing) ↔ IsLacking self.passes passes.items }
+        ensures sorted { IfOk result (λ items. AllPairs IsNotAfter items.items) }
+        ensures never_mixed { IfErr result (λ refused. refused.0 ≢ CloseError.Mixed) }
+        ensures queue { IfErr result (λ refused. refused.1 ≡ self) }
+        ensures passes { IfErr result (λ refused. refused.2 ≡ passes) }
+    {
+        let mut queue = self;
+        if is_lacking(passes.as_slice(), queue.passes) {
+            return Err((CloseError::PassMissing, queue, passes));
+        }
+        match queue.left() {
+            Ok(items) => Ok(items),
+            Err(_refused) => Err((CloseError::OutOfMemory, queue, passes)),
+        }
+    }
+
+    /// Which of two heaps has the better top, or none where both are empty.
+    fn choose<R: Wait>(&self, rt: &R, first: usize, second: usize) -> Option<usize>
+        requires first { first < self.now.heaps }
+        requires second { second < self.now.heaps }
+        ensures { IfSome result (λ place. (place ≡ first) ⊎ (place ≡ second)) }
+    {
+        let top = self.top_of(rt, first);
+        let other = self.top_of(rt, second);
+        match better_of(top, other) {
+            Better::First => Some(first),
+            Better::Second => Some(second),
+            Better::Neither => None,
+        }
+    }
+
+    /// The top of a heap, under its lock.
+    fn top_of<R: Wait>(&self, rt: &R, place: usize) -> Option<Item>
+        requires { place < self.now.heaps }
+    {
+        self.heaps[place].lock(rt).top()
+    }
+
+    /// Takes the top of a heap, under its lock.
+    fn take_from<R: Wait>(&self, rt: &R, place: usize) -> Option<Item>
+        requires { place < self.now.heaps }
+    {
+        self.heaps[place].lock(rt).take()
+    }
+
+    /// Goes through the heaps once, from the first, and takes the first top that is found. None where each heap was
+    /// found empty.
+    fn take_first_found<R: Wait>(&self, rt: &R) -> Option<Item> {
+        'heaps: for heap in &self.heaps {
+            if let Some(item) = heap.lock(rt).take() {
+                return Some(item);
+            }
+        }
+        None
+    }
+
+    /// A list of what is left, in order. The queue stays as it is.
+    fn left(&mut self) -> Result<Vec<Item>, AllocError>
+        ensures queue { self.new ≡ self.old }
+        ensures sorted { IfOk result (λ items. AllPairs IsNotAfter items.items) }
+    {
+        let mut items = Vec::new(*self.heaps.allocator());
+        'heaps: for heap in self.heaps.iter_mut() {
+            heap.get_mut().copy_into(&mut items)?;
+        }
+        Ok(in_order(items))
+    }
+}
+
+/// The same items, in order.
+fn in_order(mut items: Vec<Item>) -> Vec<Item>
+    ensures same { IsPermutation items.items result.items }
+    ensures sorted { AllPairs IsNotAfter result.items }
+{
+    items.as_mut_slice().sort_unstable();
+    items
+}
+
+/// Whether one of the first `made` passes isn't among these.
+fn is_lacking(passes: &[Pass], made: u32) -> bool
+    ensures { IsTrue result ↔ IsLacking made passes.now }
+{
+    'numbers: for number in 0..made {
+        if !has_number(passes, number) {
+            return true;
+        }
+    }
+    false
+}
+
+/// Whether the pass of this number is among these.
+fn has_number(passes: &[Pass], number: u32) -> bool
+    ensures { IsTrue result ↔ IsAmong number passes.now }
+{
+    passes.iter().any(|pass| pass.number() == number)
+}
