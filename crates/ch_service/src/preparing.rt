@@ -38,8 +38,8 @@ pub fn prepare<G: Read, W: Write>(
     Ok(())
 }
 
-// The hierarchy of a graph, whose nodes are contracted in the order of their numbers.
-fn build(alloc: Global, graph: Graph) -> Result<Hierarchy, AllocError>
+/// The hierarchy of a graph, whose nodes are contracted in the order of their numbers.
+pub fn build(alloc: Global, graph: Graph) -> Result<Hierarchy, AllocError>
     ensures { IfOk result (IsRight graph) }
 {
     let mut board = Board::new(alloc, graph)?;
