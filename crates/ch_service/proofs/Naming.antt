@@ -17,4 +17,4 @@ named-push nodes n =
 pub named-more : (old lines more : List ℕ) (nodes : List ℕ) (k n : ℕ) → k < length nodes → lines ≡ old ++ named (take k nodes) → n ≡ get_or nodes k 0 → more ≡ (lines ++ codes " ") ++ decimal (n + 1) → more ≡ old ++ named (take (k + 1) nodes)
 named-more old lines more nodes k n within so_far same pushed =
     pushed ∙ append_assoc lines (codes " ") (decimal (n + 1)) ∙ ap (λ m. lines ++ node_text m) same ∙ ap (λ (l : List ℕ). l ++ node_text (get_or nodes k 0)) so_far
-        ∙ append_assoc old (named (take k nodes)) (node_text (get_or nodes k 0)) ∙ ap (λ (l : List ℕ). old ++ l) (sym (named-push (take k nodes) (get_or nodes k 0)) ∙ ap named (sym (take_more nodes k 0 within)))
+    ∙ append_assoc old (named (take k nodes)) (node_text (get_or nodes k 0)) ∙ ap (λ (l : List ℕ). old ++ l) (sym (named-push (take k nodes) (get_or nodes k 0)) ∙ ap named (sym (take_more nodes k 0 within)))
