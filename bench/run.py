@@ -1,15 +1,17 @@
 #!/usr/bin/env python3
-"""Times `routecli` and the plain search in C++ on the same networks and pairs, one after the other on this machine,
-and compares their answers byte by byte.
+"""Times `routecli` and the plain search in C++ on the same networks and pairs, one after the other on this machine.
 
     bench/run.py [SIDE ..]        sides of the square networks, by default 10 32 64 100 128 316
 
-It needs g++ and the proved program crates/routecli/out/routecli (README.md says how to build it). Times are of whole
-runs, reading included: the best of three. Memory is the greatest resident size, of which up to 15 MB may be this
-script's own. `prepare` contracts the nodes in the order of their numbers without a search for witnesses, which fills
-in fast: it is left out above a side of 128. Reading the graph is `answer` of no pair.
+Each answer's length is compared with that of the plain search, and its nodes are followed along the arcs of the
+network: the least arcs between them have to sum to that length. It needs g++ and the proved program
+crates/routecli/out/routecli (README.md says how to build it). Times are of whole runs, reading included: the best of
+three. Memory is the greatest resident size, of which up to 15 MB may be this script's own. `prepare` contracts the
+nodes in the order of their numbers without a search for witnesses, which fills in fast, and `answer` prepares for each
+call: both are left out above a side of 128. Reading the graph is `answer` with a text of pairs that is refused. The
+last column counts the pairs that `route` answers in a second, what it takes with no pair left out.
 """
-import filecmp
+import itertools
 import os
 import pathlib
 import subprocess
@@ -23,7 +25,7 @@ PAIRS = 100
 MOST_PREPARED = 128
 
 
-def run(words, out):
+def run(words, out, wanted=0):
     best, memory = None, 0
     for _ in range(3):
         start = time.perf_counter()
@@ -31,7 +33,7 @@ def run(words, out):
             child = subprocess.Popen(words, stdout=sink, stderr=subprocess.DEVNULL)
             _, status, usage = os.wait4(child.pid, 0)
         seconds = time.perf_counter() - start
-        if status != 0:
+        if os.waitstatus_to_exitcode(status) != wanted:
             sys.exit(f"{words[0]} ended with {status}")
         best = seconds if best is None else min(best, seconds)
         memory = max(memory, usage.ru_maxrss / 1024)
@@ -48,33 +50,65 @@ def arcs_in(graph):
         return int([source.readline() for _ in range(2)][1].split()[3])
 
 
+def least_arcs_of(graph):
+    least = {}
+    with open(graph) as source:
+        for line in source:
+            if line.startswith("a "):
+                u, v, weight = map(int, line.split()[1:])
+                least[u, v] = min(weight, least.get((u, v), weight))
+    return least
+
+
+def is_answer(ours, theirs, least):
+    """Whether the line has the pair and the length of the plain search, and nodes along which a walk is as long."""
+    if ours[:4] != theirs:
+        return False
+    if ours[0] == "n":
+        return len(ours) == 3
+    source, target, length, arcs, *nodes = map(int, ours[1:])
+    steps = list(zip(nodes, nodes[1:]))
+    return (
+        len(steps) == arcs
+        and (nodes[0], nodes[-1]) == (source, target)
+        and all(step in least for step in steps)
+        and sum(least[step] for step in steps) == length
+    )
+
+
+def are_answers(ours, theirs, least):
+    with open(ours) as our_lines, open(theirs) as their_lines:
+        pairs = list(itertools.zip_longest(our_lines, their_lines, fillvalue=""))
+    return all(is_answer(line.split(), other.split(), least) for line, other in pairs)
+
+
+def cell(measured):
+    seconds, memory = measured
+    return f"{seconds:.3f} s, {memory:.0f} MB"
+
+
 def times_of(side, plain, folder):
     graph, pairs, file = folder / "network.gr", folder / "network.pairs", folder / "network.rch"
     words = [sys.executable, ROOT / "bench/make_network.py", str(side), str(PAIRS), "1", graph, pairs]
     subprocess.run(words, check=True)
-    arcs = arcs_in(graph)
-    cells = [f"{side * side:,}", f"{arcs:,}"]
+    arcs, least = arcs_in(graph), least_arcs_of(graph)
     (folder / "no.pairs").write_text("p aux sp p2p 0\n")
-    parsed, memory = run([PROGRAM, "answer", graph, folder / "no.pairs"], os.devnull)
-    cells.append(f"{parsed:.3f} s, {memory:.0f} MB")
-    theirs, memory = run([plain, graph, pairs], folder / "theirs")
-    cells.append(f"{theirs:.3f} s, {memory:.0f} MB")
-    jobs = [("answer", [PROGRAM, "answer", graph, pairs])]
-    if side <= MOST_PREPARED:
-        made, memory = run([PROGRAM, "prepare", graph, file], os.devnull)
-        jobs.append(("route", [PROGRAM, "route", file, pairs]))
-        prepared = [f"{made:.3f} s, {memory:.0f} MB", f"{links_in(file) / arcs:.1f}"]
-    else:
-        prepared = ["", ""]
-    for name, words in jobs:
-        ours, memory = run(words, folder / "ours")
-        if not filecmp.cmp(folder / "ours", folder / "theirs", shallow=False):
-            sys.exit(f"side {side}: the answers of {name} differ")
-        if name == "answer":
-            cells += [f"{ours:.3f} s, {memory:.0f} MB"] + prepared
-        else:
-            cells.append(f"{ours:.3f} s, {memory:.0f} MB")
-    return cells + [""] * (8 - len(cells))
+    (folder / "bad.pairs").write_text("p\n")
+    cells = [f"{side * side:,}", f"{arcs:,}"]
+    cells.append(cell(run([PROGRAM, "answer", graph, folder / "bad.pairs"], os.devnull, wanted=5)))
+    cells.append(cell(run([plain, graph, pairs], folder / "theirs")))
+    if side > MOST_PREPARED:
+        return cells + [""] * 5
+    answered = run([PROGRAM, "answer", graph, pairs], folder / "answered")
+    prepared = run([PROGRAM, "prepare", graph, file], os.devnull)
+    routed = run([PROGRAM, "route", file, pairs], folder / "routed")
+    read, _ = run([PROGRAM, "route", file, folder / "no.pairs"], os.devnull)
+    for name in ["answered", "routed"]:
+        if not are_answers(folder / name, folder / "theirs", least):
+            sys.exit(f"side {side}: what was {name} differs")
+    pace = PAIRS / max(routed[0] - read, 0.001)
+    links = f"{links_in(file) / arcs:.1f}"
+    return cells + [cell(answered), cell(prepared), links, cell(routed), f"{pace:,.0f}"]
 
 
 def main():
@@ -86,8 +120,8 @@ def main():
         plain = folder / "plain_search"
         subprocess.run(["g++", "-O2", "-std=c++17", "-o", plain, ROOT / "bench/plain_search.cpp"], check=True)
         print(f"{PAIRS} pairs each\n")
-        print("| Nodes | Arcs | reading the graph | plain search in C++ | routecli answer | routecli prepare | links per arc | routecli route |")
-        print("|---|---|---|---|---|---|---|---|")
+        print("| Nodes | Arcs | reading the graph | plain search in C++ | routecli answer | routecli prepare | links per arc | routecli route | pairs a second with routes |")
+        print("|---|---|---|---|---|---|---|---|---|")
         for side in sides:
             print("| " + " | ".join(times_of(side, plain, folder)) + " |", flush=True)
 

@@ -1,5 +1,5 @@
 -- The links of a climb, from its top back to its start.
-use Rattle.std.proofs.Common.{ℕ, ◌≡◌, ◌<◌, List, [], ◌∷◌, ◌++◌, length, reverse, Option, Some, None, All, ap, refl, sym, subst, ◌∙◌, append_assoc}
+use Rattle.std.proofs.Common.{ℕ, ◌≡◌, ◌<◌, List, [], ◌∷◌, ◌++◌, length, map, reverse, Option, Some, None, All, ap, refl, sym, subst, ◌∙◌, append_assoc}
 use Rattle.std.proofs.lemmas.List.{append-nil, map-append, reverse-append}
 use Rattle.std.proofs.lemmas.List.Elements.{All-nil, All-cons, All-same, All-push, All-head, All-tail}
 use Rattle.ch_cost.specs.declared.cost.Cost.{Cost}
@@ -11,11 +11,15 @@ use Rattle.ch_graph.specs.Hierarchy.{Hierarchy, Chain, Chain.nothing, Chain.then
 use Rattle.ch_query.specs.declared.label.Label.{Label}
 use Rattle.ch_query.specs.declared.side.Side.{Side}
 use Rattle.ch_query.specs.declared.side.Side.TheVariants.{Rise, Fall}
-use Rattle.ch_query.specs.Positions.{link_at, links_at}
+use Rattle.ch_query.specs.Positions.{link_at}
 use Rattle.ch_query.specs.Climb.{foot_at, head_at, cost_at, ClimbsFrom, Descends, Descends.there, Descends.down}
 use Rattle.ch_query.specs.Labelling.{label_of, option_cost, option_link, costs_of, ComesBy, IsFrom, IsLabelling}
 use Rattle.ch_query.proofs.Sides.{link-among}
 use Rattle.ch_query.proofs.Finishing.{from_cost}
+
+-- the links at these positions, in order
+abbrev pub links_at : Hierarchy → List LinkId → List Link
+links_at h ids = map (λ (id : LinkId). link_at h id.0) ids
 
 -- a chain with one more link at its end
 pub chain-push : {Kind : Link → Type 0} {ls : List Link} {x y : ℕ} {c : Cost} → Chain Kind ls x y c → (l : Link) → Kind l → l.from ≡ y → Chain Kind (ls ++ l ∷ []) x l.to (c ⊕ l.cost)

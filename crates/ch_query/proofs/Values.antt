@@ -9,20 +9,22 @@ use Rattle.ch_cost.specs.Cost.Laws.{sum_comm}
 use Rattle.ch_graph.specs.declared.link.Link.{Link}
 use Rattle.ch_graph.specs.declared.hierarchy.LinkId.{LinkId}
 use Rattle.ch_graph.specs.Hierarchy.{Hierarchy, IsWellMade, IsRiseFall, IsValue, rank_of}
+use Rattle.ch_graph.specs.Unfolding.{Joined}
+use Rattle.ch_graph.proofs.Places.{are_at-get_or, joined-from_rise_fall}
 use Rattle.ch_query.specs.declared.label.Label.{Label}
 use Rattle.ch_query.specs.declared.labels.Climb.{Climb}
 use Rattle.ch_query.specs.declared.meeting.Meeting.{Meeting}
 use Rattle.ch_query.specs.declared.side.Side.{Side}
 use Rattle.ch_query.specs.declared.side.Side.TheVariants.{Rise, Fall}
 use Rattle.ch_query.specs.Labels.{HasAtMost, AreUpLabels, AreDownLabels, Meets}
-use Rattle.ch_query.specs.Positions.{link_at, links_at}
+use Rattle.ch_query.specs.Positions.{link_at, IsRiseFallAt}
 use Rattle.ch_query.specs.Climb.{foot_of, head_of, head_at, cost_at, ClimbsFrom, Descends, Descends.there, Descends.down}
 use Rattle.ch_query.specs.Labelling.{label_of, option_cost, costs_of, IsFrom, IsLabelling, IsLabelled, AreLabels}
 use Rattle.ch_query.specs.Meeting.{IsLeastOf, IsLeastMeeting}
 use Rattle.ch_query.proofs.LeastSum.{labels_right}
 use Rattle.ch_query.proofs.Ranks.{rank_below}
 use Rattle.ch_query.proofs.Finishing.{from_cost}
-use Rattle.ch_query.proofs.Descents.{IsPosition, rise-chain, fall-chain, descends-positions, all-reverse}
+use Rattle.ch_query.proofs.Descents.{IsPosition, links_at, rise-chain, fall-chain, descends-positions, all-reverse}
 
 -- a link of the hierarchy has a position
 link_is : (h : Hierarchy) (l : Link) (among : Contains h.links l) → link_at h among.0 ≡ l
@@ -102,7 +104,7 @@ module _ (h : Hierarchy) (made : IsWellMade h) (s t : ℕ) (up down : List (Opti
   meeting_in m meets = labelled_in rises m.node meets.rise meets.risen
 
 -- the links of both sides make the walk
-pub walk_leads : (h : Hierarchy) (s t x : ℕ) (a b c : Cost) (ups downs : List LinkId) → Descends h Rise s ups x a → Descends h Fall t downs x b → c ≡ a ⊕ b → IsRiseFall h (links_at h (reverse ups ++ downs)) s t c
+walk_leads : (h : Hierarchy) (s t x : ℕ) (a b c : Cost) (ups downs : List LinkId) → Descends h Rise s ups x a → Descends h Fall t downs x b → c ≡ a ⊕ b → IsRiseFall h (links_at h (reverse ups ++ downs)) s t c
 walk_leads h s t x a b c ups downs rises falls sum = record {
   rise = links_at h (reverse ups);
   fall = links_at h downs;
@@ -115,8 +117,18 @@ walk_leads h s t x a b c ups downs rises falls sum = record {
   sum = sum;
 }
 
-pub walk_positions : (h : Hierarchy) (s t x : ℕ) (a b : Cost) (ups downs : List LinkId) → Descends h Rise s ups x a → Descends h Fall t downs x b → All (IsPosition h) (reverse ups ++ downs)
+walk_positions : (h : Hierarchy) (s t x : ℕ) (a b : Cost) (ups downs : List LinkId) → Descends h Rise s ups x a → Descends h Fall t downs x b → All (IsPosition h) (reverse ups ++ downs)
 walk_positions h s t x a b ups downs rises falls = All-append (IsPosition h) (reverse ups) downs (all-reverse (IsPosition h) ups (descends-positions rises)) (descends-positions falls)
+
+pub walk_at : (h : Hierarchy) (s t x : ℕ) (a b c : Cost) (ups downs : List LinkId) → Descends h Rise s ups x a → Descends h Fall t downs x b → c ≡ a ⊕ b → IsRiseFallAt h (reverse ups ++ downs) s t c
+walk_at h s t x a b c ups downs rises falls sum = record {
+  links = links_at h (reverse ups ++ downs);
+  are_at = are_at-get_or h _ (reverse ups ++ downs) (walk_positions h s t x a b ups downs rises falls);
+  leads = walk_leads h s t x a b c ups downs rises falls sum;
+}
+
+pub walk_joined : (h : Hierarchy) (places : List LinkId) (s t : ℕ) (c : Cost) → IsRiseFallAt h places s t c → Joined h s places
+walk_joined h places s t c is = joined-from_rise_fall h places is.links s t c is.are_at is.leads
 
 -- the labels of a side that is known
 pub labelled_of : {h : Hierarchy} {side : Side} {climb : Climb} → AreLabels h side climb → IsLabelled h side climb.start climb.labels.items

@@ -1,9 +1,10 @@
-ghost use Rattle.std.specs.Prelude.{◌≡◌, ◌<◌, length, option_map, All, IfOk, IfSome};
-ghost use Rattle.ch_graph.specs.Hierarchy.{IsValue, IsRiseFall};
+ghost use Rattle.std.specs.Prelude.{◌≡◌, ◌<◌, length, option_map, IfOk, IfSome};
+ghost use Rattle.ch_graph.specs.Hierarchy.{IsValue};
+ghost use Rattle.ch_graph.specs.Unfolding.{Joined};
 ghost use Rattle.ch_query.specs.declared.side.Side.TheVariants.{Rise, Fall};
 ghost use Rattle.ch_query.specs.Labels.{Meets};
 ghost use Rattle.ch_query.specs.Labelling.{costs_of, AreLabels};
-ghost use Rattle.ch_query.specs.Positions.{links_at};
+ghost use Rattle.ch_query.specs.Positions.{IsRiseFallAt};
 
 use crate::descent::descent;
 use crate::labels::Climb;
@@ -75,8 +76,8 @@ impl<'a> Search<'a> {
         requires source_in { source < length self.old.ranks }
         requires target_in { target < length self.old.ranks }
         ensures value { IfOk result (λ found. IsValue self.old source target (option_map (λ f. f.cost) found)) }
-        ensures walk { IfOk result (λ found. IfSome found (λ f. IsRiseFall self.old (links_at self.old f.links.items) source target f.cost)) }
-        ensures positions { IfOk result (λ found. IfSome found (λ f. All (λ id. id.0 < length self.old.links) f.links.items)) }
+        ensures walk { IfOk result (λ found. IfSome found (λ f. IsRiseFallAt self.old f.links.items source target f.cost)) }
+        ensures joined { IfOk result (λ found. IfSome found (λ f. Joined self.old source f.links.items)) }
         ensures kept { self.new ≡ self.old }
     {
         let alloc = *self.order.allocator();
@@ -111,8 +112,8 @@ fn least_walk(
     requires up { AreLabels hierarchy.now Rise up.now }
     requires down { AreLabels hierarchy.now Fall down.now }
     ensures value { IfOk result (λ found. IsValue hierarchy.now up.now.start down.now.start (option_map (λ f. f.cost) found)) }
-    ensures walk { IfOk result (λ found. IfSome found (λ f. IsRiseFall hierarchy.now (links_at hierarchy.now f.links.items) up.now.start down.now.start f.cost)) }
-    ensures positions { IfOk result (λ found. IfSome found (λ f. All (λ id. id.0 < length hierarchy.now.links) f.links.items)) }
+    ensures walk { IfOk result (λ found. IfSome found (λ f. IsRiseFallAt hierarchy.now f.links.items up.now.start down.now.start f.cost)) }
+    ensures joined { IfOk result (λ found. IfSome found (λ f. Joined hierarchy.now up.now.start f.links.items)) }
 {
     let Some(meeting) = least_meeting(hierarchy, &up.labels, &down.labels) else {
         return Ok(None);
@@ -134,8 +135,8 @@ fn walk_over(
     requires meets { Meets hierarchy.now (costs_of up.now.labels.items) (costs_of down.now.labels.items) meeting.node meeting.cost }
     requires node_in { meeting.node < length hierarchy.now.ranks }
     ensures cost { IfOk result (λ f. f.cost ≡ meeting.cost) }
-    ensures walk { IfOk result (λ f. IsRiseFall hierarchy.now (links_at hierarchy.now f.links.items) up.now.start down.now.start meeting.cost) }
-    ensures positions { IfOk result (λ f. All (λ id. id.0 < length hierarchy.now.links) f.links.items) }
+    ensures walk { IfOk result (λ f. IsRiseFallAt hierarchy.now f.links.items up.now.start down.now.start meeting.cost) }
+    ensures joined { IfOk result (λ f. Joined hierarchy.now up.now.start f.links.items) }
 {
     let mut links = descent(alloc, hierarchy, up, meeting.node)?;
     links.reverse();

@@ -1,5 +1,7 @@
-pub mod ByDistances
+pub mod ByWalks
 pub mod Exact
 pub mod Handing
 pub mod JoinedLines
+pub mod Naming
 pub mod Progress
+pub mod Unpacked

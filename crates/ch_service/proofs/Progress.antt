@@ -3,22 +3,21 @@ use Rattle.std.proofs.Common.{ℕ, ◌≡◌, ◌+◌, ◌≤◌, List, [], ◌�
 use Rattle.std.specs.Io.KnownBytes.{Appends}
 use Rattle.std.proofs.KnownBytes.{Appends-trans, Appends-nil}
 use Rattle.std.proofs.Math.Seq.{take-append_seam}
-use Rattle.ch_cost.specs.declared.cost.Cost.{Cost}
-use Rattle.ch_service.specs.Answer.{IsAnswer, AreAnswers, nothing, one_more}
+use Rattle.ch_service.specs.Answer.{Route, IsAnswer, AreAnswers, nothing, one_more}
 use Rattle.ch_service.specs.Output.{HandsOn}
-use Rattle.ch_service.specs.Outcome.{StopsShort}
+use Rattle.ch_service.specs.Outcome.{Writes, StopsShort}
 use Rattle.hierfile.specs.declared.error.WriteFault.{WriteFault}
 use Rattle.ch_service.specs.declared.error.ServiceError.{ServiceError}
 use Rattle.ch_service.specs.declared.error.ServiceError.TheVariants.{Write}
 use Rattle.grfile.specs.Reading.{IsPair}
 use Rattle.std.specs.Prelude.{⊤, All, Result, Ok, Err, IfErr, IsErrAnd, OnErr, OnOk, true, false}
 use Rattle.std.specs.Result.{is_err}
-use Rattle.std.proofs.lemmas.List.{take_more}
+use Rattle.std.proofs.lemmas.List.{take_more, take_all}
 use Rattle.std.proofs.Common.{get_or, ◌<◌}
 
 -- what is told of two nodes
 abbrev pub Told : Type 1
-Told = ℕ → ℕ → Option Cost → Type 0
+Told = ℕ → ℕ → Option Route → Type 0
 
 -- the writer took the first part of the answers to these pairs, and the lines are the rest
 pub record IsGathered (Is : Told) (pairs : List (ℕ × ℕ)) (old new : Option (List ℕ)) (lines : List ℕ) (written : ℕ) : Type 0 where
@@ -95,27 +94,16 @@ pub stops-from_gathered : {Is : Told} (pairs : List (ℕ × ℕ)) (count : ℕ) 
     → IfErr r (StopsShort (λ text. (count : ℕ) × AreAnswers Is (take count pairs) text) old new)
 stops-from_gathered {Is} pairs count {old} {new = new} fault r is h k = stops-from_taken Is pairs old new fault r is (gathered-taken pairs count h k.1)
 
--- what was said of one outcome, where that outcome came
-
-pub at_err : {T E P : Type 0} (r : Result T E) → is_err r ≡ true → OnErr r P → P
-at_err (Ok x) e h = absurd (cc)
-at_err (Err y) e h = h
-
-pub at_ok : {T E P : Type 0} (r : Result T E) → is_err r ≡ false → OnOk r P → P
-at_ok (Ok x) e h = h
-at_ok (Err y) e h = absurd (cc)
-
--- a value of the same state: its pairs are in range, and its answers are answers
-
-pub pair-same : {S : Type 0} (nodes : S → ℕ) {d e : S} (pairs : List (ℕ × ℕ)) (k : ℕ) → d ≡ e → All (IsPair (nodes e)) pairs → k < length pairs → IsPair (nodes d) (get_or pairs k (0, 0))
-pair-same {S} nodes pairs k same within less = subst (λ (x : S). IsPair (nodes x) (get_or pairs k (0, 0))) (sym same) (within k (0, 0) less)
-
-pub pushed-same : {S : Type 0} (tells : S → Told) {d e : S} (pair : ℕ × ℕ) (lines more : List ℕ) → d ≡ e → ((line : List ℕ) × IsAnswer (tells d) pair line × (more ≡ lines ++ line))
-    → (line : List ℕ) × IsAnswer (tells e) pair line × (more ≡ lines ++ line)
-pushed-same {S} tells pair lines more same pushed = subst (λ (x : S). (line : List ℕ) × IsAnswer (tells x) pair line × (more ≡ lines ++ line)) same pushed
-
 -- the answer to the next of the pairs
 pub gathered-next : {Is : Told} (pairs : List (ℕ × ℕ)) (i : ℕ) {old new : Option (List ℕ)} {lines more : List ℕ} {written : ℕ} → i < length pairs → IsGathered Is (take i pairs) old new lines written
     → ((line : List ℕ) × IsAnswer Is (get_or pairs i (0, 0)) line × (more ≡ lines ++ line)) → IsGathered Is (take (i + 1) pairs) old new more written
 gathered-next {Is} pairs i {old} {new} {more = more} {written = written} within h a =
     subst (λ ps. IsGathered Is ps old new more written) (sym (take_more pairs i (0, 0) within)) (gathered-push (get_or pairs i (0, 0)) a.0 more h a.1 a.2)
+
+-- nothing is left to hand over
+pub gathered-whole : {Is : Told} {pairs : List (ℕ × ℕ)} {old new : Option (List ℕ)} {lines : List ℕ} {written : ℕ} → IsGathered Is pairs old new lines written → lines ≡ [] → Writes (AreAnswers Is pairs) old new
+gathered-whole {Is} {pairs} {lines = lines} h none = (h.given, subst (AreAnswers Is pairs) (ap (λ l. h.given ++ l) none ∙ append-nil h.given) h.answered, h.taken)
+
+-- all pairs are answered
+pub gathered-all : {Is : Told} (pairs : List (ℕ × ℕ)) (i : ℕ) {old new : Option (List ℕ)} {lines : List ℕ} {written : ℕ} → length pairs ≤ i → IsGathered Is (take i pairs) old new lines written → IsGathered Is pairs old new lines written
+gathered-all {Is} pairs i {old} {new} {lines} {written} done h = subst (λ ps. IsGathered Is ps old new lines written) (take_all i pairs done) h

@@ -1,33 +1,50 @@
 -- Answered texts: one line for each pair of nodes, in their order.
-use Rattle.std.specs.Prelude.{ℕ, ◌≡◌, ◌+◌, List, [], ◌∷◌, ◌++◌, take, codes, decimal, Option, Some, None, Ok}
+use Rattle.std.specs.Prelude.{ℕ, ◌≡◌, ◌+◌, ◌-◌, List, [], ◌∷◌, ◌++◌, length, map, take, codes, decimal, Option, Some, None, Ok}
+use Rattle.std.specs.List.{concat}
 use Rattle.ch_cost.specs.declared.cost.Cost.{Cost}
 use Rattle.ch_cost.specs.Cost.{length_of}
-use Rattle.ch_graph.specs.Graph.{Graph, IsDistance}
+use Rattle.ch_graph.specs.Walk.{Along}
+use Rattle.ch_graph.specs.Graph.{Graph, ArcOf, IsDistance}
 use Rattle.grfile.specs.Reading.{graph_of, pairs_of}
 
--- two nodes as a text names them, numbered from 1
-abbrev pub named : ℕ × ℕ → List ℕ
-named pair = codes " " ++ decimal (pair.0 + 1) ++ codes " " ++ decimal (pair.1 + 1)
+-- what a way from one node to another costs, and the nodes along it, both ends among them
+pub record Route : Type 0 where
+  pub cost : Cost
+  pub nodes : List ℕ
 
--- the line that tells a distance, or that there is none
-abbrev pub line_of : ℕ × ℕ → Option Cost → List ℕ
-line_of pair (Some c) = codes "r" ++ named pair ++ codes " " ++ decimal (length_of c) ++ codes "\n"
-line_of pair None = codes "n" ++ named pair ++ codes "\n"
+-- nodes as a text names them, numbered from 1, a space before each
+abbrev pub named : List ℕ → List ℕ
+named nodes = concat (map (λ (n : ℕ). codes " " ++ decimal (n + 1)) nodes)
 
--- the line answers the pair: it tells the cost from the first node to the second, which is told of by `IsFrom`
-pub record IsAnswer (IsFrom : ℕ → ℕ → Option Cost → Type 0) (pair : ℕ × ℕ) (line : List ℕ) : Type 0 where
-  pub cost : Option Cost
-  pub least : IsFrom pair.0 pair.1 cost
-  pub told : line ≡ line_of pair cost
+-- what a line tells of a route: its length, how many arcs it has, and its nodes
+abbrev pub told : Route → List ℕ
+told r = codes " " ++ decimal (length_of r.cost) ++ codes " " ++ decimal (length r.nodes - 1) ++ named r.nodes
+
+-- the line of a pair and its route, or that there is none
+abbrev pub line_of : ℕ × ℕ → Option Route → List ℕ
+line_of pair (Some r) = codes "r" ++ named (pair.0 ∷ pair.1 ∷ []) ++ told r ++ codes "\n"
+line_of pair None = codes "n" ++ named (pair.0 ∷ pair.1 ∷ []) ++ codes "\n"
+
+-- the line answers the pair: it tells a route from the first node to the second, of the kind that is asked for
+pub record IsAnswer (IsRoute : ℕ → ℕ → Option Route → Type 0) (pair : ℕ × ℕ) (line : List ℕ) : Type 0 where
+  pub route : Option Route
+  pub leads : IsRoute pair.0 pair.1 route
+  pub tells : line ≡ line_of pair route
 
 -- the text has one answer for each pair, in order, and nothing else
-pub data AreAnswers (IsFrom : ℕ → ℕ → Option Cost → Type 0) : List (ℕ × ℕ) → List ℕ → Type 0 where
-  nothing : AreAnswers IsFrom [] []
-  one_more : {pair : ℕ × ℕ} {pairs : List (ℕ × ℕ)} {line rest : List ℕ} → IsAnswer IsFrom pair line → AreAnswers IsFrom pairs rest → AreAnswers IsFrom (pair ∷ pairs) (line ++ rest)
+pub data AreAnswers (IsRoute : ℕ → ℕ → Option Route → Type 0) : List (ℕ × ℕ) → List ℕ → Type 0 where
+  nothing : AreAnswers IsRoute [] []
+  one_more : {pair : ℕ × ℕ} {pairs : List (ℕ × ℕ)} {line rest : List ℕ} → IsAnswer IsRoute pair line → AreAnswers IsRoute pairs rest → AreAnswers IsRoute (pair ∷ pairs) (line ++ rest)
 
--- answers by the distances of a graph
+-- the cost is the least over all walks of the graph, and some walk of exactly that cost goes along the nodes; or there
+-- is no walk
+abbrev pub IsLeastWalk : Graph → ℕ → ℕ → Option Route → Type 0
+IsLeastWalk g s t (Some r) = IsDistance g s t (Some r.cost) × Along (ArcOf g) r.nodes s t r.cost
+IsLeastWalk g s t None = IsDistance g s t None
+
+-- answers by least walks of a graph
 abbrev pub Answered : Graph → List (ℕ × ℕ) → List ℕ → Type 0
-Answered g = AreAnswers (IsDistance g)
+Answered g = AreAnswers (IsLeastWalk g)
 
 -- the text answers all pairs of the second text over the graph of the first
 pub record Answers (graph_text pairs_text text : List ℕ) : Type 0 where

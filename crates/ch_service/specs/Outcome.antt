@@ -9,8 +9,10 @@ use Rattle.grfile.specs.declared.error.GrErrorKind.TheVariants.{Read}
 use Rattle.hierfile.specs.Bytes.{OfBytes}
 use Rattle.hierfile.specs.Fault.{first_fault}
 use Rattle.ch_service.specs.declared.error.ServiceError.{ServiceError}
-use Rattle.ch_service.specs.declared.error.ServiceError.TheVariants.{Graph as GraphFault, Queries, Hierarchy as HierarchyFault, Write, OutOfMemory}
-use Rattle.ch_service.specs.Route.{Spells}
+use Rattle.ch_service.specs.declared.error.ServiceError.TheVariants.{Graph as GraphFault, Queries, Hierarchy as HierarchyFault, Unpack, Write, OutOfMemory}
+use Rattle.ch_unpack.specs.declared.error.UnpackError.{UnpackError}
+use Rattle.ch_unpack.specs.declared.error.UnpackError.TheVariants as unpacking
+use Rattle.ch_service.specs.Route.{Spells, HasTooLong}
 
 -- a fact of two texts, where both readers tell theirs
 abbrev pub IfTold : Option (List ℕ) → Option (List ℕ) → (List ℕ → List ℕ → Type 0) → Type 0
@@ -25,11 +27,12 @@ abbrev pub WritesFirst : (List ℕ → Type 0) → Option (List ℕ) → Option 
 WritesFirst P old new written = (text : List ℕ) × P text × (written ≤ length text) × Appends old new (take written text)
 
 -- A fault of a text is the first that it has, and one of the pairs comes only where the graph has none. Want of
--- memory and a failed read or write say nothing of the texts.
+-- memory and a failed read or write say nothing of the texts. No route over a graph is too long.
 abbrev pub IsFaultOf : List ℕ → List ℕ → ServiceError → Type 0
 IsFaultOf graph_text pairs_text (GraphFault fault) = FromText fault.kind (graph_of graph_text ≡ Err fault)
 IsFaultOf graph_text pairs_text (Queries fault) = (g : Graph) × (graph_of graph_text ≡ Ok g) × FromText fault.kind (pairs_of g.nodes pairs_text ≡ Err fault)
 IsFaultOf graph_text pairs_text (HierarchyFault e) = ⊥
+IsFaultOf graph_text pairs_text (Unpack e) = e ≡ unpacking.OutOfMemory
 IsFaultOf graph_text pairs_text (Write fault) = ⊤
 IsFaultOf graph_text pairs_text OutOfMemory = ⊤
 
@@ -38,14 +41,21 @@ abbrev pub IsPreparingFault : List ℕ → ServiceError → Type 0
 IsPreparingFault graph_text (GraphFault fault) = FromText fault.kind (graph_of graph_text ≡ Err fault)
 IsPreparingFault graph_text (Queries fault) = ⊥
 IsPreparingFault graph_text (HierarchyFault e) = ⊥
+IsPreparingFault graph_text (Unpack e) = ⊥
 IsPreparingFault graph_text (Write fault) = ⊤
 IsPreparingFault graph_text OutOfMemory = ⊤
+
+-- A route is too long only where the hierarchy has one that is.
+abbrev pub IsUnpackingFault : Hierarchy → UnpackError → Type 0
+IsUnpackingFault h unpacking.OutOfMemory = ⊤
+IsUnpackingFault h unpacking.TooLong = HasTooLong h
 
 -- And where pairs are answered by a hierarchy: a fault of the pairs comes only where the bytes spell one.
 abbrev pub IsRoutingFault : List ℕ → List ℕ → ServiceError → Type 0
 IsRoutingFault bytes pairs_text (GraphFault fault) = ⊥
 IsRoutingFault bytes pairs_text (Queries fault) = (h : Hierarchy) × Spells bytes h × FromText fault.kind (pairs_of (length h.ranks) pairs_text ≡ Err fault)
 IsRoutingFault bytes pairs_text (HierarchyFault e) = OfBytes e (first_fault bytes ≡ Some e)
+IsRoutingFault bytes pairs_text (Unpack e) = (h : Hierarchy) × Spells bytes h × IsUnpackingFault h e
 IsRoutingFault bytes pairs_text (Write fault) = ⊤
 IsRoutingFault bytes pairs_text OutOfMemory = ⊤
 
@@ -54,6 +64,7 @@ abbrev pub KeepsAtFault : Option (List ℕ) → Option (List ℕ) → ServiceErr
 KeepsAtFault old new (GraphFault fault) = Keeps old new
 KeepsAtFault old new (Queries fault) = Keeps old new
 KeepsAtFault old new (HierarchyFault e) = Keeps old new
+KeepsAtFault old new (Unpack e) = ⊤
 KeepsAtFault old new (Write fault) = ⊤
 KeepsAtFault old new OutOfMemory = ⊤
 
@@ -67,27 +78,36 @@ abbrev pub BreaksOff : (List ℕ → Type 0) → Option (List ℕ) → Option (L
 BreaksOff P old new (Write fault) = WritesFirst P old new fault.written
 BreaksOff P old new e = ⊤
 
--- Where a write fails, the writer took the first `written` bytes of a text of this kind. Where memory is refused, it
--- took nothing, or a whole text of this kind.
+-- Where a write fails, the writer took the first `written` bytes of a text of this kind. Where a route is refused, it
+-- took a whole text of this kind, and where memory is refused, nothing or such a text.
 abbrev pub StopsShort : (List ℕ → Type 0) → Option (List ℕ) → Option (List ℕ) → ServiceError → Type 0
 StopsShort P old new (GraphFault fault) = ⊤
 StopsShort P old new (Queries fault) = ⊤
 StopsShort P old new (HierarchyFault e) = ⊤
+StopsShort P old new (Unpack e) = Writes P old new
 StopsShort P old new (Write fault) = WritesFirst P old new fault.written
 StopsShort P old new OutOfMemory = Keeps old new ⊎ Writes P old new
 
--- the refusals that come while pairs are answered
-abbrev pub ComesOfAnswering : ServiceError → Type 0
-ComesOfAnswering (GraphFault fault) = ⊥
-ComesOfAnswering (Queries fault) = ⊥
-ComesOfAnswering (HierarchyFault e) = ⊥
-ComesOfAnswering (Write fault) = ⊤
-ComesOfAnswering OutOfMemory = ⊤
+-- the refusals that come while pairs are answered by a hierarchy
+abbrev pub IsAnsweringFault : Hierarchy → ServiceError → Type 0
+IsAnsweringFault h (GraphFault fault) = ⊥
+IsAnsweringFault h (Queries fault) = ⊥
+IsAnsweringFault h (HierarchyFault e) = ⊥
+IsAnsweringFault h (Unpack e) = IsUnpackingFault h e
+IsAnsweringFault h (Write fault) = ⊤
+IsAnsweringFault h OutOfMemory = ⊤
+
+-- the refusals that come while a route is found
+abbrev pub IsSearchFault : Hierarchy → ServiceError → Type 0
+IsSearchFault h (Unpack e) = IsUnpackingFault h e
+IsSearchFault h OutOfMemory = ⊤
+IsSearchFault h e = ⊥
 
 -- the refusals that come while a joined input is read
 abbrev pub ComesOfReading : ServiceError → Type 0
 ComesOfReading (GraphFault fault) = fault.kind ≡ Read
 ComesOfReading (Queries fault) = ⊥
 ComesOfReading (HierarchyFault e) = ⊥
+ComesOfReading (Unpack e) = ⊥
 ComesOfReading (Write fault) = ⊥
 ComesOfReading OutOfMemory = ⊤

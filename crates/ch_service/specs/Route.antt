@@ -1,10 +1,13 @@
 -- Hierarchies as they are written, and answers by them.
-use Rattle.std.specs.Prelude.{ℕ, ◌≡◌, List, length, take, Ok}
-use Rattle.ch_graph.specs.Graph.{Graph}
+use Rattle.std.specs.Prelude.{ℕ, ◌≡◌, ◌-◌, ◌<◌, ◌≤◌, List, ◌∷◌, length, map, take, Option, Some, None, Ok}
+use Rattle.ch_cost.specs.declared.cost.Cost.{Cost}
+use Rattle.ch_graph.specs.declared.link.Link.{Link}
+use Rattle.ch_graph.specs.Graph.{Graph, IsGraph}
 use Rattle.ch_graph.specs.Hierarchy.{Hierarchy, IsWellMade, IsRight, IsValue}
+use Rattle.ch_laws.specs.Theorems.{IsLeastRoute}
 use Rattle.grfile.specs.Reading.{graph_of, pairs_of}
 use Rattle.hierfile.specs.Spelling.{bytes_of}
-use Rattle.ch_service.specs.Answer.{AreAnswers, Answered, Answers, AnswersFirst}
+use Rattle.ch_service.specs.Answer.{Route, AreAnswers, Answered, Answers, AnswersFirst}
 
 -- the bytes are the file of the hierarchy
 pub record Spells (bytes : List ℕ) (h : Hierarchy) : Type 0 where
@@ -19,11 +22,37 @@ pub record Prepares (graph_text bytes : List ℕ) : Type 0 where
   pub right : IsRight graph hierarchy
   pub spells : Spells bytes hierarchy
 
--- The text answers the pairs by the values of the hierarchy; where the hierarchy is right for a graph, it answers
--- them by the distances of that graph.
+-- The cost is the value of the hierarchy, and the nodes are those of the arcs that a rise-fall walk of that cost stands
+-- for, fewer than there are nodes.
+pub record IsUnfoldedRoute (h : Hierarchy) (s t : ℕ) (r : Route) : Type 0 where
+  pub links : List Link
+  pub arcs : List Link
+  pub least : IsLeastRoute h s t r.cost links arcs
+  pub few : length arcs ≤ length h.ranks - 1
+  pub along : r.nodes ≡ s ∷ map (λ (l : Link). l.to) arcs
+
+-- such a route, or none where the hierarchy has no value
+abbrev pub IsRouteBy : Hierarchy → ℕ → ℕ → Option Route → Type 0
+IsRouteBy h s t (Some r) = IsUnfoldedRoute h s t r
+IsRouteBy h s t None = IsValue h s t None
+
+-- The text answers the pairs by routes of the hierarchy; where the hierarchy is right for a graph, it answers them by
+-- least walks of that graph.
 pub record Routed (h : Hierarchy) (pairs : List (ℕ × ℕ)) (text : List ℕ) : Type 0 where
-  pub by_values : AreAnswers (IsValue h) pairs text
-  pub by_distances : (g : Graph) → IsRight g h → Answered g pairs text
+  pub by_hierarchy : AreAnswers (IsRouteBy h) pairs text
+  pub by_walks : (g : Graph) → IsGraph g → IsRight g h → Answered g pairs text
+
+-- A least rise-fall walk between two nodes stands for as many arcs as there are nodes, or more. So the hierarchy is
+-- right for no graph.
+pub record HasTooLong (h : Hierarchy) : Type 0 where
+  pub source : ℕ
+  pub target : ℕ
+  pub cost : Cost
+  pub links : List Link
+  pub arcs : List Link
+  pub least : IsLeastRoute h source target cost links arcs
+  pub many : length h.ranks - 1 < length arcs
+  pub right_for_none : (g : Graph) → IsGraph g → IsRight g h → ⊥
 
 -- the bytes are the file of a hierarchy, by which the text answers all pairs of the second text
 pub record Routes (bytes pairs_text text : List ℕ) : Type 0 where
@@ -43,7 +72,7 @@ pub record RoutesFirst (bytes pairs_text text : List ℕ) : Type 0 where
   pub routed : Routed hierarchy (take count pairs) text
 
 -- Where the bytes were prepared from the text of a graph, routes by these bytes are answers over that graph: each line
--- tells the least length over all walks, or that there is no walk.
+-- tells the least length over all walks and the nodes along a walk of that length, or that there is no walk.
 abbrev pub RoutesAreExact : Type 0
 RoutesAreExact = (graph_text bytes pairs_text text : List ℕ) → Prepares graph_text bytes → Routes bytes pairs_text text → Answers graph_text pairs_text text
 

@@ -7,16 +7,18 @@ use crate::error::ServiceError;
 use crate::input::read_whole;
 use crate::joined::parts;
 use crate::pairs::answer_pairs;
+use crate::preparing::build;
 use grfile::{read_graph, read_queries};
 use std::alloc::Global;
 use std::io::{Read, Write};
 
-/// Answers pairs of nodes over a graph, by a plain search for each pair.
+/// Answers pairs of nodes over a graph, by a hierarchy that is made of it for this call.
 ///
 /// `gr` gives the text of the graph, `queries` the text of the pairs, and `out` gets one line for each pair, in
-/// order. The texts are read first, the graph's before the pairs', and where one is refused nothing is written.
-/// Where memory is refused while pairs are answered, the lines of the pairs before are written first. Takes memory
-/// for the graph, the pairs, one search at a time, and about 64 KiB of lines.
+/// order: its least length, how many arcs its route has, and the nodes of the route. The texts are read first, the
+/// graph's before the pairs', and the hierarchy is made next; where one of them is refused nothing is written. Where
+/// memory is refused while pairs are answered, the lines of the pairs before are written first. Takes the time and
+/// memory of [`prepare`](crate::prepare), and then those of [`route`](crate::route).
 pub fn answer<G: Read, Q: Read, W: Write>(
     alloc: Global,
     gr: &mut G,
@@ -33,9 +35,10 @@ pub fn answer<G: Read, Q: Read, W: Write>(
     ensures stops { IfErr result (λ e. IfTold (G.remaining gr.old) (Q.remaining queries.old)
         (λ graph pairs. StopsShort (AnswersFirst graph pairs) (W.contents out.old) (W.contents out.new) e)) }
 {
-    let mut graph = read_graph(alloc, gr).map_err(ServiceError::Graph)?;
+    let graph = read_graph(alloc, gr).map_err(ServiceError::Graph)?;
     let pairs = read_queries(alloc, queries, graph.nodes()).map_err(ServiceError::Queries)?;
-    answer_pairs(alloc, &mut graph, pairs.as_slice(), out)
+    let hierarchy = build(alloc, graph)?;
+    answer_pairs(alloc, &hierarchy, pairs.as_slice(), out)
 }
 
 /// Answers pairs of nodes as [`answer`] does, where one input holds both texts: the graph's, a line that is the

@@ -1,7 +1,8 @@
 ghost use Rattle.std.specs.Prelude.{◌≡◌, Some};
 ghost use Rattle.ch_service.specs.Shown.{shown};
-ghost use Rattle.ch_service.specs.declared.error.ServiceError.TheVariants.{OutOfMemory, Write};
+ghost use Rattle.ch_service.specs.declared.error.ServiceError.TheVariants.{OutOfMemory, Unpack, Write};
 
+use ch_unpack::UnpackError;
 use grfile::{GrError, GrErrorKind};
 use hierfile::{HierError, WriteFault};
 use std::alloc::AllocError;
@@ -20,6 +21,9 @@ pub enum ServiceError {
     Queries(GrError),
     /// The file of the hierarchy was refused, or couldn't be read.
     Hierarchy(HierError),
+    /// A route couldn't be told node by node: memory was refused, or the hierarchy isn't right for any graph, since
+    /// the route would repeat a node.
+    Unpack(UnpackError),
     /// The answers, or the file of the hierarchy, couldn't be written.
     Write(WriteFault),
     /// Memory was refused beside the reading.
@@ -46,6 +50,10 @@ impl fmt::Display for ServiceError {
                 HierError::Read => write!(f, "read"),
                 _ => write!(f, "hierarchy: {fault}"),
             },
+            ServiceError::Unpack(fault) => match fault {
+                UnpackError::OutOfMemory => write!(f, "memory"),
+                _ => write!(f, "hierarchy: {fault}"),
+            },
             ServiceError::Write(_) => write!(f, "write"),
             ServiceError::OutOfMemory => write!(f, "memory"),
         }
@@ -67,5 +75,13 @@ impl From<WriteFault> for ServiceError {
 
     fn from(fault: WriteFault) -> ServiceError {
         ServiceError::Write(fault)
+    }
+}
+
+impl From<UnpackError> for ServiceError {
+    ghost from_gives = { λ fault e. e ≡ Unpack fault };
+
+    fn from(fault: UnpackError) -> ServiceError {
+        ServiceError::Unpack(fault)
     }
 }

@@ -3,8 +3,9 @@ ghost use Rattle.ch_service.specs.Route.{RoutesAreExact, FirstRoutesAreExact};
 use hierfile::hierarchies_have_one_spelling;
 
 /// Routes are exact: whenever [`prepare`](crate::prepare) has written a hierarchy from the text of a graph,
-/// [`route`](crate::route), reading those bytes, answers each pair with the least length of a walk in that graph, and
-/// answers none exactly where there is no walk. It does nothing when it runs.
+/// [`route`](crate::route), reading those bytes, answers each pair with the least length of a walk in that graph and the
+/// nodes along a walk of exactly that length, and answers none exactly where there is no walk. It does nothing when it
+/// runs.
 pub fn routes_are_exact()
     ensures { RoutesAreExact }
 {

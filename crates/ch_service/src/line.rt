@@ -1,72 +1,79 @@
-ghost use Rattle.std.specs.Prelude.{◌≡◌, ◌+◌, ◌++◌, ℕ, List, OnOk, OnErr, codes, decimal};
+ghost use Rattle.std.specs.Prelude.{◌≡◌, ◌+◌, ◌++◌, [], ◌∷◌, OnOk, OnErr, codes, decimal};
 ghost use Rattle.std.specs.Io.{StartsWith};
-ghost use Rattle.ch_service.specs.Answer.{named, line_of, IsAnswer};
-ghost use Rattle.grfile.specs.Reading.{IsPair};
+ghost use Rattle.ch_service.specs.Answer.{named, told, line_of};
 
-use crate::distances::Distances;
-use ch_cost::Cost;
+use crate::finding::Route;
 use itoa::Buffer;
 use std::alloc::AllocError;
 
-/// Appends the line that answers the pair. Where memory is refused the lines stay as they were.
-pub fn push_answer<D: Distances>(
-    distances: &mut D,
+/// Appends the line that answers the pair by the route. Where memory is refused the lines stay as they were. Takes
+/// memory for the line.
+pub fn push_line(
     pair: (u32, u32),
+    route: &Option<Route>,
     lines: &mut Vec<u8>,
 ) -> Result<(), AllocError>
-    requires { IsPair (D.nodes distances.old) pair }
-    ensures ok { OnOk result ((line : List ℕ) × IsAnswer (D.tells distances.old) pair line × (lines.new.items ≡ lines.old.items ++ line)) }
+    ensures ok { OnOk result (lines.new.items ≡ lines.old.items ++ line_of pair route.now) }
     ensures err { OnErr result (lines.new.items ≡ lines.old.items) }
-    ensures kept { distances.new ≡ distances.old }
 {
-    let distance = distances.distance(pair.0, pair.1)?;
     let start = lines.len();
-    let pushed = push_line(pair, distance, lines);
+    let pushed = push_answer(pair, route, lines);
     if pushed.is_err() {
         lines.truncate(start);
     }
     pushed
 }
 
-// Appends the line that tells the distance, or a part of it where memory is refused.
-fn push_line(
+// Appends the line that answers the pair, or a part of it where memory is refused.
+fn push_answer(
     pair: (u32, u32),
-    distance: Option<Cost>,
+    route: &Option<Route>,
     lines: &mut Vec<u8>,
 ) -> Result<(), AllocError>
-    ensures ok { OnOk result (lines.new.items ≡ lines.old.items ++ line_of pair distance) }
+    ensures ok { OnOk result (lines.new.items ≡ lines.old.items ++ line_of pair route.now) }
     ensures err { StartsWith lines.new.items lines.old.items }
 {
-    match distance {
-        Some(cost) => {
+    match route {
+        Some(route) => {
             lines.push(b'r')?;
-            push_nodes(pair, lines)?;
-            lines.push(b' ')?;
-            lines.extend_from_slice(Buffer::new().format(cost.length()).as_bytes())?;
+            push_nodes(&[pair.0, pair.1], lines)?;
+            push_route(route, lines)?;
         }
         None => {
             lines.push(b'n')?;
-            push_nodes(pair, lines)?;
+            push_nodes(&[pair.0, pair.1], lines)?;
         }
     }
     lines.push(b'\n')?;
     Ok(())
 }
 
-// Appends the two nodes, or a part of them where memory is refused.
-fn push_nodes(pair: (u32, u32), lines: &mut Vec<u8>) -> Result<(), AllocError>
-    ensures ok { OnOk result (lines.new.items ≡ lines.old.items ++ named pair) }
+// Appends what is told of the route, or a part of it where memory is refused.
+fn push_route(route: &Route, lines: &mut Vec<u8>) -> Result<(), AllocError>
+    ensures ok { OnOk result (lines.new.items ≡ lines.old.items ++ told route.now) }
     ensures err { StartsWith lines.new.items lines.old.items }
 {
-    push_node(pair.0, lines)?;
-    push_node(pair.1, lines)
+    push_number(route.cost.length(), lines)?;
+    push_number(route.nodes.len().saturating_sub(1) as u64, lines)?;
+    push_nodes(route.nodes.as_slice(), lines)
 }
 
-// Appends a space and the node's number, which counts from 1, or a part of them where memory is refused.
-fn push_node(node: u32, lines: &mut Vec<u8>) -> Result<(), AllocError>
-    ensures ok { OnOk result (lines.new.items ≡ lines.old.items ++ codes " " ++ decimal (node + 1)) }
+// Appends the nodes, or a part of them where memory is refused.
+fn push_nodes(nodes: &[u32], lines: &mut Vec<u8>) -> Result<(), AllocError>
+    ensures ok { OnOk result (lines.new.items ≡ lines.old.items ++ named nodes.now) }
+    ensures err { StartsWith lines.new.items lines.old.items }
+{
+    'nodes: for node in nodes {
+        push_number(u64::from(*node) + 1, lines)?;
+    }
+    Ok(())
+}
+
+// Appends a space and the number, or a part of them where memory is refused.
+fn push_number(number: u64, lines: &mut Vec<u8>) -> Result<(), AllocError>
+    ensures ok { OnOk result (lines.new.items ≡ lines.old.items ++ codes " " ++ decimal number) }
     ensures err { StartsWith lines.new.items lines.old.items }
 {
     lines.push(b' ')?;
-    lines.extend_from_slice(Buffer::new().format(u64::from(node) + 1).as_bytes())
+    lines.extend_from_slice(Buffer::new().format(number).as_bytes())
 }

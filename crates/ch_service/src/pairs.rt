@@ -1,35 +1,61 @@
-ghost use Rattle.std.specs.Prelude.{ℕ, All, OnOk, IfErr, take};
+ghost use Rattle.std.specs.Prelude.{◌≡◌, ◌++◌, ℕ, List, All, OnOk, IfErr, length, take};
 ghost use Rattle.grfile.specs.Reading.{IsPair};
-ghost use Rattle.ch_service.specs.Answer.{AreAnswers};
-ghost use Rattle.ch_service.specs.Outcome.{Writes, StopsShort, ComesOfAnswering};
+ghost use Rattle.ch_service.specs.Answer.{IsAnswer};
+ghost use Rattle.ch_service.specs.Outcome.{Writes, StopsShort, IsSearchFault, IsAnsweringFault};
+ghost use Rattle.ch_service.specs.Route.{IsRouteBy, Routed};
 
-use crate::distances::Distances;
 use crate::error::ServiceError;
-use crate::line::push_answer;
+use crate::finding::least_route;
+use crate::line::push_line;
 use crate::output::Output;
+use ch_graph::Hierarchy;
+use ch_laws::least_route_is_a_least_walk;
+use ch_query::Search;
 use std::alloc::Global;
 use std::io::Write;
 
-/// Writes the answers to the pairs, in order. Where memory is refused, the lines of the pairs before are written first.
-pub fn answer_pairs<D: Distances, W: Write>(
+/// Writes the answers to the pairs, in order, by one search of the hierarchy. Where one of them is refused, the lines
+/// of the pairs before are written first.
+pub fn answer_pairs<W: Write>(
     alloc: Global,
-    distances: &mut D,
+    hierarchy: &Hierarchy,
     pairs: &[(u32, u32)],
     out: &mut W,
 ) -> Result<(), ServiceError>
-    requires { All (IsPair (D.nodes distances.old)) pairs.now }
-    ensures answers { OnOk result (Writes (AreAnswers (D.tells distances.old) pairs.now) (W.contents out.old) (W.contents out.new)) }
-    ensures kinds { IfErr result ComesOfAnswering }
-    ensures stops { IfErr result (StopsShort (λ text. (count : ℕ) × AreAnswers (D.tells distances.old) (take count pairs.now) text) (W.contents out.old) (W.contents out.new)) }
+    requires { All (IsPair (length hierarchy.now.ranks)) pairs.now }
+    ensures routed { OnOk result (Writes (Routed hierarchy.now pairs.now) (W.contents out.old) (W.contents out.new)) }
+    ensures fault { IfErr result (IsAnsweringFault hierarchy.now) }
+    ensures stops { IfErr result (StopsShort (λ text. (count : ℕ) × Routed hierarchy.now (take count pairs.now) text) (W.contents out.old) (W.contents out.new)) }
 {
+    least_route_is_a_least_walk();
+    let mut search = Search::new(alloc, hierarchy)?;
     let mut output = Output::new(alloc);
-    for pair in pairs {
-        if push_answer(distances, *pair, &mut output.lines).is_err() {
+    'pairs: for pair in pairs {
+        if let Err(refused) = push_pair(alloc, hierarchy, &mut search, *pair, &mut output.lines) {
             output.hand_over(out)?;
-            return Err(ServiceError::OutOfMemory);
+            return Err(refused);
         }
         output.hand_over_if_many(out)?;
     }
     output.hand_over(out)?;
+    Ok(())
+}
+
+// Appends the line that answers the pair. Where it is refused the lines stay as they were.
+fn push_pair(
+    alloc: Global,
+    hierarchy: &Hierarchy,
+    search: &mut Search<'_>,
+    pair: (u32, u32),
+    lines: &mut Vec<u8>,
+) -> Result<(), ServiceError>
+    requires same { search.old ≡ hierarchy.now }
+    requires in_range { IsPair (length hierarchy.now.ranks) pair }
+    ensures ok { OnOk result ((line : List ℕ) × IsAnswer (IsRouteBy hierarchy.now) pair line × (lines.new.items ≡ lines.old.items ++ line)) }
+    ensures err { IfErr result (λ e. IsSearchFault hierarchy.now e × (lines.new.items ≡ lines.old.items)) }
+    ensures kept { search.new ≡ search.old }
+{
+    let route = least_route(alloc, hierarchy, search, pair)?;
+    push_line(pair, &route, lines)?;
     Ok(())
 }

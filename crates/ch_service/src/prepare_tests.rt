@@ -81,38 +81,54 @@ fn through(alloc: Global, graph: &[u8], mut pairs: &[u8]) -> Result<Vec<u8>, Ser
 }
 
 #[test]
-fn lengths_by_prepared_files(rt: HostRuntime) -> Result<(), Fail> {
+fn routes_by_prepared_files(rt: HostRuntime) -> Result<(), Fail> {
     let cases = [
         (
             b"p sp 1 0\n".as_slice(),
             b"p aux sp p2p 1\nq 1 1\n".as_slice(),
-            b"r 1 1 0\n".as_slice(),
+            b"r 1 1 0 0 1\n".as_slice(),
         ),
         (
-            b"p sp 4 4\na 3 1 1\na 1 4 1\na 3 2 1\na 2 4 1\n".as_slice(),
-            b"p aux sp p2p 2\nq 3 4\nq 4 3\n".as_slice(),
-            b"r 3 4 2\nn 4 3\n".as_slice(),
+            b"p sp 2 1\na 1 2 7\n".as_slice(),
+            b"p aux sp p2p 2\nq 1 2\nq 2 1\n".as_slice(),
+            b"r 1 2 7 1 1 2\nn 2 1\n".as_slice(),
+        ),
+        (
+            ROW_TEXT,
+            b"p aux sp p2p 1\nq 2 3\n".as_slice(),
+            b"r 2 3 5 2 2 1 3\n".as_slice(),
         ),
         (
             b"p sp 2 4\na 1 1 12\na 1 2 9\na 1 2 4\na 1 2 6\n".as_slice(),
             b"p aux sp p2p 1\nq 1 2\n".as_slice(),
-            b"r 1 2 4\n".as_slice(),
+            b"r 1 2 4 1 1 2\n".as_slice(),
         ),
         (
             b"p sp 2 1\na 1 2 4294967295\n".as_slice(),
             b"p aux sp p2p 1\nq 1 2\n".as_slice(),
-            b"r 1 2 4294967295\n".as_slice(),
+            b"r 1 2 4294967295 1 1 2\n".as_slice(),
         ),
         (
             HEAVIEST,
             b"p aux sp p2p 2\nq 3 4\nq 4 3\n".as_slice(),
-            b"r 3 4 8589934590\nn 4 3\n".as_slice(),
+            b"r 3 4 8589934590 2 3 1 4\nn 4 3\n".as_slice(),
         ),
     ];
     for (graph, pairs, answers) in cases {
         let out = through(rt.alloc(), graph, pairs)?;
         assert!(rt; out.as_slice() == answers);
     }
+    Ok(())
+}
+
+#[test]
+fn either_way_of_a_tie(rt: HostRuntime) -> Result<(), Fail> {
+    let graph = b"p sp 4 4\na 3 1 1\na 1 4 1\na 3 2 1\na 2 4 1\n";
+    let out = through(rt.alloc(), graph, b"p aux sp p2p 2\nq 3 4\nq 4 3\n")?;
+    assert!(rt;
+        out.as_slice() == b"r 3 4 2 2 3 1 4\nn 4 3\n".as_slice()
+            || out.as_slice() == b"r 3 4 2 2 3 2 4\nn 4 3\n".as_slice()
+    );
     Ok(())
 }
 

@@ -1,11 +1,13 @@
-ghost use Rattle.std.specs.Prelude.{OnOk, IfErr, IfSome};
+ghost use Rattle.std.specs.Prelude.{IfOk, OnOk, IfErr, IfSome};
+ghost use Rattle.ch_graph.specs.Hierarchy.{IsRight};
 ghost use Rattle.ch_service.specs.Outcome.{Writes, IsPreparingFault, KeepsUnlessWriting, BreaksOff};
 ghost use Rattle.ch_service.specs.Route.{Prepares};
 
 use crate::error::ServiceError;
 use ch_contract::contract_by_sweep;
+use ch_graph::{Graph, Hierarchy};
 use grfile::read_graph;
-use std::alloc::Global;
+use std::alloc::{AllocError, Global};
 use std::io::{Read, Write};
 
 /// How many nodes a search for another walk settles at most.
@@ -31,7 +33,14 @@ pub fn prepare<G: Read, W: Write>(
         (λ text. BreaksOff (Prepares text) (W.contents out.old) (W.contents out.new) e)) }
 {
     let graph = read_graph(alloc, gr).map_err(ServiceError::Graph)?;
-    let hierarchy = contract_by_sweep(alloc, graph, SETTLE)?;
+    let hierarchy = build(alloc, graph)?;
     hierfile::write(&hierarchy, out)?;
     Ok(())
+}
+
+/// The hierarchy of a graph, whose nodes are contracted in the order of their numbers.
+pub fn build(alloc: Global, graph: Graph) -> Result<Hierarchy, AllocError>
+    ensures { IfOk result (IsRight graph) }
+{
+    contract_by_sweep(alloc, graph, SETTLE)
 }

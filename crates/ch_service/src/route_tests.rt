@@ -1,4 +1,5 @@
 use crate::{ServiceError, WriteFault, route};
+use ch_unpack::UnpackError;
 use grfile::{GrError, GrErrorKind};
 use hierfile::HierError;
 use std::alloc::{AllocError, Global};
@@ -33,12 +34,12 @@ fn routes_by_written_files(rt: HostRuntime) -> Result<(), Fail> {
         (
             ONE_ARC,
             b"p aux sp p2p 3\nq 1 2\nq 2 1\nq 2 2\n".as_slice(),
-            b"r 1 2 7\nn 2 1\nr 2 2 0\n".as_slice(),
+            b"r 1 2 7 1 1 2\nn 2 1\nr 2 2 0 0 2\n".as_slice(),
         ),
         (
             ROW,
             b"p aux sp p2p 3\nq 2 3\nq 2 1\nq 3 2\n".as_slice(),
-            b"r 2 3 5\nr 2 1 2\nn 3 2\n".as_slice(),
+            b"r 2 3 5 2 2 1 3\nr 2 1 2 1 2 1\nn 3 2\n".as_slice(),
         ),
     ];
     for (hier, pairs, answers) in cases {
@@ -111,19 +112,30 @@ fn push_links(file: &mut Vec<u8>, from: u32) -> Result<(), AllocError> {
 #[test]
 fn the_cascade_of_shortcuts(rt: HostRuntime) -> Result<(), Fail> {
     let file = cascade(rt.alloc())?;
-    let pairs = b"p aux sp p2p 1\nq 38 37\n".as_slice();
-    let out = routes(rt.alloc(), file.as_slice(), pairs)?;
-    assert!(rt; out.as_slice() == b"r 38 37 68719476736\n".as_slice());
+    let cases = [
+        (b"p aux sp p2p 1\nq 38 37\n".as_slice(), b"".as_slice()),
+        (
+            b"p aux sp p2p 4\nq 1 2\nq 2 3\nq 38 37\nq 1 2\n".as_slice(),
+            b"r 1 2 1 1 1 2\nr 2 3 2 2 2 1 3\n".as_slice(),
+        ),
+    ];
+    for (pairs, lines) in cases {
+        let mut out = Vec::new(rt.alloc());
+        let (mut hier, mut pairs) = (file.as_slice(), pairs);
+        let result = route(rt.alloc(), &mut hier, &mut pairs, &mut out);
+        assert_eq!(rt; result, Err(ServiceError::Unpack(UnpackError::TooLong)));
+        assert!(rt; out.as_slice() == lines);
+    }
     Ok(())
 }
 
 #[test]
 fn writes_of_routes_that_fail(rt: HostRuntime) {
-    let mut room = [0u8; 10];
+    let mut room = [0u8; 16];
     let mut out = room.as_mut_slice();
     let (mut hier, mut pairs) = (ONE_ARC, b"p aux sp p2p 2\nq 1 2\nq 2 1\n".as_slice());
     let result = route(rt.alloc(), &mut hier, &mut pairs, &mut out);
-    let written = 10;
+    let written = 16;
     assert_eq!(rt; result, Err(ServiceError::Write(WriteFault { written })));
-    assert!(rt; room.as_slice() == b"r 1 2 7\nn ".as_slice());
+    assert!(rt; room.as_slice() == b"r 1 2 7 1 1 2\nn ".as_slice());
 }

@@ -1,12 +1,9 @@
-ghost use Rattle.std.specs.Prelude.{ℕ, All, OnOk, IfErr, length, take};
-ghost use Rattle.grfile.specs.Reading.{IsPair};
-ghost use Rattle.ch_service.specs.Outcome.{IfTold, Writes, IsRoutingFault, KeepsAtFault, StopsShort, ComesOfAnswering};
-ghost use Rattle.ch_service.specs.Route.{Routed, Routes, RoutesFirst};
+ghost use Rattle.std.specs.Prelude.{OnOk, IfErr};
+ghost use Rattle.ch_service.specs.Outcome.{IfTold, Writes, IsRoutingFault, KeepsAtFault, StopsShort};
+ghost use Rattle.ch_service.specs.Route.{Routes, RoutesFirst};
 
 use crate::error::ServiceError;
 use crate::pairs::answer_pairs;
-use ch_graph::Hierarchy;
-use ch_query::Search;
 use grfile::read_queries;
 use std::alloc::Global;
 use std::io::{Read, Write};
@@ -14,9 +11,11 @@ use std::io::{Read, Write};
 /// Answers pairs of nodes by a hierarchy.
 ///
 /// `hier` gives the file of the hierarchy, `queries` the text of the pairs, and `out` gets one line for each pair, in
-/// order. The hierarchy is read before the pairs, and where one is refused nothing is written. Where memory is refused
-/// while pairs are answered, the lines of the pairs before are written first. Takes memory for the hierarchy and once
-/// more for its links by their ends, for the pairs, one query at a time, and about 64 KiB of lines.
+/// order: its least length, how many arcs its route has, and the nodes of the route. The hierarchy is read before the
+/// pairs, and where one is refused nothing is written. Where a pair is refused, for want of memory or since its route is
+/// too long, the lines of the pairs before are written first; no route is too long where the hierarchy is right for
+/// some graph. Takes memory for the hierarchy and once more for its links by their ends, for the pairs, one query at a
+/// time, and for about 64 KiB of lines and one line more.
 pub fn route<H: Read, Q: Read, W: Write>(
     alloc: Global,
     hier: &mut H,
@@ -35,21 +34,5 @@ pub fn route<H: Read, Q: Read, W: Write>(
 {
     let hierarchy = hierfile::read(alloc, hier).map_err(ServiceError::Hierarchy)?;
     let pairs = read_queries(alloc, queries, hierarchy.nodes()).map_err(ServiceError::Queries)?;
-    route_pairs(alloc, &hierarchy, pairs.as_slice(), out)
-}
-
-// Writes the answers to the pairs, in order, by one search of the hierarchy.
-fn route_pairs<W: Write>(
-    alloc: Global,
-    hierarchy: &Hierarchy,
-    pairs: &[(u32, u32)],
-    out: &mut W,
-) -> Result<(), ServiceError>
-    requires { All (IsPair (length hierarchy.now.ranks)) pairs.now }
-    ensures routed { OnOk result (Writes (Routed hierarchy.now pairs.now) (W.contents out.old) (W.contents out.new)) }
-    ensures kinds { IfErr result ComesOfAnswering }
-    ensures stops { IfErr result (StopsShort (λ text. (count : ℕ) × Routed hierarchy.now (take count pairs.now) text) (W.contents out.old) (W.contents out.new)) }
-{
-    let mut search = Search::new(alloc, hierarchy)?;
-    answer_pairs(alloc, &mut search, pairs, out)
+    answer_pairs(alloc, &hierarchy, pairs.as_slice(), out)
 }

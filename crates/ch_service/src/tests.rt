@@ -1,4 +1,5 @@
 use crate::{ServiceError, WriteFault, answer, answer_joined};
+use ch_unpack::UnpackError;
 use grfile::{GrError, GrErrorKind};
 use hierfile::HierError;
 use std::alloc::{AllocError, Global};
@@ -14,48 +15,42 @@ struct Example {
     answers: &'static [u8],
 }
 
-const EXAMPLES: [Example; 8] = [
+const EXAMPLES: [Example; 7] = [
     Example {
         name: "one node and itself",
         graph: b"p sp 1 0\n",
         pairs: b"p aux sp p2p 1\nq 1 1\n",
-        answers: b"r 1 1 0\n",
+        answers: b"r 1 1 0 0 1\n",
     },
     Example {
         name: "one arc, with and against it",
         graph: b"p sp 2 1\na 1 2 7\n",
         pairs: b"p aux sp p2p 2\nq 1 2\nq 2 1\n",
-        answers: b"r 1 2 7\nn 2 1\n",
+        answers: b"r 1 2 7 1 1 2\nn 2 1\n",
     },
     Example {
         name: "three nodes",
         graph: b"p sp 3 2\na 2 1 2\na 1 3 3\n",
         pairs: b"p aux sp p2p 3\nq 2 3\nq 2 1\nq 3 2\n",
-        answers: b"r 2 3 5\nr 2 1 2\nn 3 2\n",
-    },
-    Example {
-        name: "the tie of four nodes",
-        graph: b"p sp 4 4\na 3 1 1\na 1 4 1\na 3 2 1\na 2 4 1\n",
-        pairs: b"p aux sp p2p 1\nq 3 4\n",
-        answers: b"r 3 4 2\n",
+        answers: b"r 2 3 5 2 2 1 3\nr 2 1 2 1 2 1\nn 3 2\n",
     },
     Example {
         name: "a loop and parallel arcs",
         graph: b"p sp 2 4\na 1 1 12\na 1 2 9\na 1 2 4\na 1 2 6\n",
         pairs: b"p aux sp p2p 1\nq 1 2\n",
-        answers: b"r 1 2 4\n",
+        answers: b"r 1 2 4 1 1 2\n",
     },
     Example {
         name: "the heaviest weight",
         graph: b"p sp 2 1\na 1 2 4294967295\n",
         pairs: b"p aux sp p2p 1\nq 1 2\n",
-        answers: b"r 1 2 4294967295\n",
+        answers: b"r 1 2 4294967295 1 1 2\n",
     },
     Example {
         name: "a length above 32 bits",
         graph: b"p sp 4 4\na 3 1 4294967295\na 1 2 4294967295\na 2 1 4294967295\na 1 4 4294967295\n",
         pairs: b"p aux sp p2p 2\nq 3 4\nq 4 3\n",
-        answers: b"r 3 4 8589934590\nn 4 3\n",
+        answers: b"r 3 4 8589934590 2 3 1 4\nn 4 3\n",
     },
     Example {
         name: "no pairs",
@@ -157,7 +152,7 @@ const GRAPH: &[u8] = b"p sp 2 1\na 1 2 7\n";
 
 const PAIRS: &[u8] = b"p aux sp p2p 2\nq 1 2\nq 2 1\n";
 
-const ANSWERS: &[u8] = b"r 1 2 7\nn 2 1\n";
+const ANSWERS: &[u8] = b"r 1 2 7 1 1 2\nn 2 1\n";
 
 fn short_writer(alloc: Global, left: usize, end: End) -> Short {
     Short {
@@ -365,9 +360,9 @@ fn many_pairs(alloc: Global) -> Result<Vec<u8>, AllocError> {
 fn many_answers(rt: HostRuntime) -> Result<(), Fail> {
     let pairs = many_pairs(rt.alloc())?;
     let out = answers(rt.alloc(), b"p sp 1 0\n", pairs.as_slice())?;
-    assert_eq!(rt; out.len(), 160000);
-    for line in out.chunks(8) {
-        assert!(rt; line == b"r 1 1 0\n".as_slice());
+    assert_eq!(rt; out.len(), 240000);
+    for line in out.chunks(12) {
+        assert!(rt; line == b"r 1 1 0 0 1\n".as_slice());
     }
     Ok(())
 }
@@ -382,7 +377,68 @@ fn a_write_that_fails_behind_many_answers(rt: HostRuntime) -> Result<(), Fail> {
     let written = 131075;
     assert_eq!(rt; result, Err(ServiceError::Write(WriteFault { written })));
     assert_eq!(rt; out.taken.len(), 131075);
-    assert!(rt; out.taken.ends_with(b"r 1 1 0\nr 1"));
+    assert!(rt; out.taken.ends_with(b"\nr 1 1 0 0 1\nr 1 1 0 0 1"));
+    Ok(())
+}
+
+/// How many nodes the row has: its line doesn't fit into what is gathered.
+const LONG: u32 = 13000;
+
+/// The text of a row of so many nodes, each with an arc of weight 1 to the next.
+fn long_row(alloc: Global) -> Result<String, AllocError> {
+    let mut text = format!(in alloc; "p sp {LONG} 12999\n")?;
+    for node in 1..LONG {
+        let arc = format!(in alloc; "a {node} {} 1\n", node + 1)?;
+        text.push_str(arc.as_str())?;
+    }
+    Ok(text)
+}
+
+/// The answers to the first node and the last, and to the second and the first.
+fn long_answers(alloc: Global) -> Result<String, AllocError> {
+    let mut text = String::from_str(alloc, "r 1 13000 12999 12999")?;
+    for node in 1..=LONG {
+        let word = format!(in alloc; " {node}")?;
+        text.push_str(word.as_str())?;
+    }
+    text.push_str("\nn 2 1\n")?;
+    Ok(text)
+}
+
+const LONG_PAIRS: &[u8] = b"p aux sp p2p 2\nq 1 13000\nq 2 1\n";
+
+#[test]
+fn a_line_of_many_nodes(rt: HostRuntime) -> Result<(), Fail> {
+    let row = long_row(rt.alloc())?;
+    let expected = long_answers(rt.alloc())?;
+    assert_eq!(rt; expected.len(), 66922);
+    let out = answers(rt.alloc(), row.as_bytes(), LONG_PAIRS)?;
+    assert!(rt; out.as_slice() == expected.as_bytes());
+    Ok(())
+}
+
+#[test]
+fn a_write_that_fails_within_a_long_line(rt: HostRuntime) -> Result<(), Fail> {
+    let row = long_row(rt.alloc())?;
+    let expected = long_answers(rt.alloc())?;
+    let mut graph = row.as_bytes();
+    let mut pairs = LONG_PAIRS;
+    let mut out = short_writer(rt.alloc(), 66000, End::Fails);
+    let result = answer(rt.alloc(), &mut graph, &mut pairs, &mut out);
+    let written = 66000;
+    assert_eq!(rt; result, Err(ServiceError::Write(WriteFault { written })));
+    assert!(rt; out.taken.as_slice() == &expected.as_bytes()[..66000]);
+    Ok(())
+}
+
+#[test]
+fn either_way_of_a_tie(rt: HostRuntime) -> Result<(), Fail> {
+    let graph = b"p sp 4 4\na 3 1 1\na 1 4 1\na 3 2 1\na 2 4 1\n";
+    let out = answers(rt.alloc(), graph, b"p aux sp p2p 1\nq 3 4\n")?;
+    assert!(rt;
+        out.as_slice() == b"r 3 4 2 2 3 1 4\n".as_slice()
+            || out.as_slice() == b"r 3 4 2 2 3 2 4\n".as_slice()
+    );
     Ok(())
 }
 
@@ -413,6 +469,11 @@ fn shown(rt: HostRuntime) -> Result<(), Fail> {
         ),
         (ServiceError::Hierarchy(HierError::OutOfMemory), "memory"),
         (ServiceError::Hierarchy(HierError::Read), "read"),
+        (
+            ServiceError::Unpack(UnpackError::TooLong),
+            "hierarchy: TooLong",
+        ),
+        (ServiceError::Unpack(UnpackError::OutOfMemory), "memory"),
         (ServiceError::Write(WriteFault { written: 3 }), "write"),
         (ServiceError::OutOfMemory, "memory"),
     ];

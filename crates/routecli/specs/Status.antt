@@ -10,13 +10,15 @@ use Rattle.grfile.specs.declared.error.GrErrorKind.TheVariants as kinds
 use Rattle.hierfile.specs.Fault.{first_fault}
 use Rattle.hierfile.specs.declared.error.HierError.{HierError}
 use Rattle.hierfile.specs.declared.error.HierError.TheVariants as faults
+use Rattle.ch_unpack.specs.declared.error.UnpackError.{UnpackError}
+use Rattle.ch_unpack.specs.declared.error.UnpackError.TheVariants as unpacking
 use Rattle.routecli.specs.declared.job.Stop.{Stop}
 use Rattle.routecli.specs.declared.job.Stop.TheVariants as stops
 use Rattle.ch_service.specs.declared.error.ServiceError.{ServiceError}
 use Rattle.ch_service.specs.declared.error.ServiceError.TheVariants as service
 use Rattle.ch_service.specs.Answer.{Answers}
 use Rattle.ch_service.specs.Outcome.{Writes}
-use Rattle.ch_service.specs.Route.{Spells, Prepares, Routes}
+use Rattle.ch_service.specs.Route.{Spells, Prepares, Routes, RoutesFirst, HasTooLong}
 
 -- want of memory and a failed read have statuses of their own, whichever text they came with
 abbrev pub status_unless_own : GrErrorKind → ℕ → ℕ
@@ -30,11 +32,17 @@ hierarchy_status faults.OutOfMemory = 6
 hierarchy_status faults.Read = 7
 hierarchy_status e = 4
 
+-- a route that is too long is a fault of the hierarchy
+abbrev pub unpacking_status : UnpackError → ℕ
+unpacking_status unpacking.OutOfMemory = 6
+unpacking_status unpacking.TooLong = 4
+
 -- the status of a refusal
 abbrev pub status_of : ServiceError → ℕ
 status_of (service.Graph fault) = status_unless_own fault.kind 3
 status_of (service.Queries fault) = status_unless_own fault.kind 5
 status_of (service.Hierarchy fault) = hierarchy_status fault
+status_of (service.Unpack e) = unpacking_status e
 status_of (service.Write fault) = 7
 status_of service.OutOfMemory = 6
 
@@ -54,6 +62,7 @@ pub record HasPairsFault (graph_text pairs_text : List ℕ) : Type 0 where
 pub record Tells (status : ℕ) (graph_text pairs_text : List ℕ) (old new : Option (List ℕ)) : Type 0 where
   pub done : status ≡ 0 → Writes (Answers graph_text pairs_text) old new
   pub graph : status ≡ 3 → HasGraphFault graph_text × Keeps old new
+  pub hierarchy : status ≡ 4 → ⊥
   pub pairs : status ≡ 5 → HasPairsFault graph_text pairs_text × Keeps old new
 
 -- what the status of a preparing job tells of the graph's text, and of what was written
@@ -73,10 +82,14 @@ pub record HasRoutedPairsFault (bytes pairs_text : List ℕ) : Type 0 where
   pub spells : Spells bytes hierarchy
   pub pairs_read : pairs_of (length hierarchy.ranks) pairs_text ≡ Err fault
 
+-- the bytes are the file of a hierarchy by which a route is too long, so it is right for no graph
+abbrev pub HasLongRoute : List ℕ → Type 0
+HasLongRoute bytes = (h : Hierarchy) × Spells bytes h × HasTooLong h
+
 -- what the status of a routing job tells of the file and the text, and of what was written
 pub record TellsRouted (status : ℕ) (bytes pairs_text : List ℕ) (old new : Option (List ℕ)) : Type 0 where
   pub done : status ≡ 0 → Writes (Routes bytes pairs_text) old new
-  pub hierarchy : status ≡ 4 → HasHierarchyFault bytes × Keeps old new
+  pub hierarchy : status ≡ 4 → (HasHierarchyFault bytes × Keeps old new) ⊎ (HasLongRoute bytes × Writes (RoutesFirst bytes pairs_text) old new)
   pub pairs : status ≡ 5 → HasRoutedPairsFault bytes pairs_text × Keeps old new
 
 -- The status where there is no job. Help that can't be written ends as a failed write does.

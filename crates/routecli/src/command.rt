@@ -71,7 +71,9 @@ fn program<'a>(alloc: Global) -> Result<Command<'a>, AllocError>
     ensures needs { IfOk result (λ program. (out-Command program).subcommand_required ≡ true) }
 {
     let program = Command::new(alloc, "routecli")
-        .about("Answers pairs of nodes of a road graph with the least length of a walk")
+        .about(
+            "Answers pairs of nodes of a road graph with least routes: lengths and nodes along the way",
+        )
         .after_help(STATUSES)
         .subcommand(answer(alloc)?)?
         .subcommand(prepare(alloc)?)?
@@ -84,9 +86,9 @@ fn answer<'a>(alloc: Global) -> Result<Command<'a>, AllocError>
 {
     Command::new(alloc, "answer")
         .about(
-            "Answers pairs of nodes: r S T LENGTH with the least length of a walk, or n S T where there is none",
+            "Answers pairs of nodes over a small graph: r S T LENGTH ARCS and the nodes of a least route, or n S T where there is none",
         )
-        .after_help(JOINED)
+        .after_help(ANSWERING)
         .arg(file(alloc, "GRAPH", GRAPH))?
         .arg(file(alloc, "QUERIES", QUERIES))
 }
@@ -131,5 +133,6 @@ const HIER: &str = "File of a hierarchy that prepare made";
 const STATUSES: &str =
     "Exit status: 0 done, 2 command line, 3 graph text, 4 hierarchy, 5 text of pairs, 6 memory, 7 reading or writing";
 
-const JOINED: &str =
-    "With - for both files standard input has both texts, parted by a line that is %.";
+const ANSWERING: &str =
+    "With - for both files standard input has both texts, parted by a line that is %.\n\n\
+It prepares the graph for every call: for more than some thousand nodes use prepare once, and then route.";

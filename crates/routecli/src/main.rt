@@ -1,4 +1,4 @@
-//! The program `routecli`: prepares hierarchies of road graphs, and answers pairs of nodes with least lengths.
+//! The program `routecli`: prepares hierarchies of road graphs, and answers pairs of nodes with least routes.
 //!
 //! Stands on `ch_service`, which does the work, and on `clap`, which reads the command line. [`command`] turns the
 //! words of a command line into a [`Job`], and [`perform`] does the job over readers and writers and answers the exit

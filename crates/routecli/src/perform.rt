@@ -2,10 +2,11 @@ ghost use Rattle.std.specs.Prelude.{◌≡◌, true, false, IfSome};
 ghost use Rattle.ch_service.specs.Joined.{graph_part, pairs_part};
 ghost use Rattle.ch_service.specs.Outcome.{IfTold};
 ghost use Rattle.routecli.specs.Job.{is_joined, IsAnswering, IsPreparing, IsRouting};
-ghost use Rattle.routecli.specs.Status.{HasStatus, Tells, TellsPrepared, TellsRouted, status_of, status_unless_own, hierarchy_status};
+ghost use Rattle.routecli.specs.Status.{HasStatus, Tells, TellsPrepared, TellsRouted, status_of, status_unless_own, hierarchy_status, unpacking_status};
 
 use crate::job::{Job, Stop};
 use ch_service::{ServiceError, answer, answer_joined, prepare, route};
+use ch_unpack::UnpackError;
 use grfile::GrErrorKind;
 use hierfile::HierError;
 use std::alloc::Global;
@@ -123,6 +124,7 @@ fn status(error: &ServiceError) -> u8
         ServiceError::Graph(fault) => status_unless_own(fault.kind, 3),
         ServiceError::Queries(fault) => status_unless_own(fault.kind, 5),
         ServiceError::Hierarchy(fault) => hierarchy_status(*fault),
+        ServiceError::Unpack(fault) => unpacking_status(*fault),
         ServiceError::Write(_) => 7,
         ServiceError::OutOfMemory => 6,
     }
@@ -147,6 +149,16 @@ fn hierarchy_status(fault: HierError) -> u8
         HierError::OutOfMemory => 6,
         HierError::Read => 7,
         _ => 4,
+    }
+}
+
+// The status of a route that can't be told: one that is too long is a fault of the hierarchy's file.
+fn unpacking_status(fault: UnpackError) -> u8
+    ensures { result ≡ unpacking_status fault }
+{
+    match fault {
+        UnpackError::OutOfMemory => 6,
+        UnpackError::TooLong => 4,
     }
 }
 

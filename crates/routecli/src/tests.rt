@@ -63,7 +63,7 @@ const ENDED: [Ended; 4] = [
         graph: GRAPH,
         pairs: PAIRS,
         status: 0,
-        out: b"r 1 2 7\nn 2 1\n",
+        out: b"r 1 2 7 1 1 2\nn 2 1\n",
         err: b"",
     },
     Ended {
@@ -162,7 +162,7 @@ type Routed = (
 );
 
 const ROUTED: [Routed; 4] = [
-    (ONE_ARC, PAIRS, 0, b"r 1 2 7\nn 2 1\n", b""),
+    (ONE_ARC, PAIRS, 0, b"r 1 2 7 1 1 2\nn 2 1\n", b""),
     (b"RCH2", b"", 4, b"", b"routecli: hierarchy: BadMagic\n"),
     (b"RCH", b"", 4, b"", b"routecli: hierarchy: Truncated\n"),
     (
@@ -190,6 +190,57 @@ fn routes(rt: HostRuntime) {
         assert_eq!(rt; result, status);
         assert!(rt; out.as_slice() == answers && err.as_slice() == line);
     }
+}
+
+/// The file of 38 nodes, each of the rank of its number: for each two of them a link, of the weight that two to the
+/// lesser number is, by way of the node before the lesser.
+fn cascade(alloc: Global) -> Result<Vec<u8>, AllocError> {
+    let mut file = Vec::from_slice(alloc, b"RCH1")?;
+    file.extend_from_slice(&38u32.to_be_bytes())?;
+    file.extend_from_slice(&1406u64.to_be_bytes())?;
+    file.extend_from_slice(&158_913_789_915u64.to_be_bytes())?;
+    for rank in 0..38u32 {
+        file.extend_from_slice(&rank.to_be_bytes())?;
+    }
+    for from in 0..38u32 {
+        push_links(&mut file, from)?;
+    }
+    Ok(file)
+}
+
+/// The links of the cascade that leave a node.
+fn push_links(file: &mut Vec<u8>, from: u32) -> Result<(), AllocError> {
+    for to in 0..38u32 {
+        let least = from.min(to);
+        let middle = least.checked_sub(1).unwrap_or(u32::MAX);
+        if from != to {
+            file.extend_from_slice(&from.to_be_bytes())?;
+            file.extend_from_slice(&to.to_be_bytes())?;
+            file.extend_from_slice(&(1u64.wrapping_shl(least)).to_be_bytes())?;
+            file.extend_from_slice(&middle.to_be_bytes())?;
+        }
+    }
+    Ok(())
+}
+
+#[test]
+fn a_route_that_is_too_long(rt: HostRuntime) -> Result<(), Fail> {
+    let file = cascade(rt.alloc())?;
+    let (mut hierarchy, mut pairs) = (file.as_slice(), b"p aux sp p2p 1\nq 38 37\n".as_slice());
+    let mut out = Vec::new(rt.alloc());
+    let mut err = Vec::new(rt.alloc());
+    let status = perform(
+        rt.alloc(),
+        &ROUTE,
+        &mut hierarchy,
+        &mut pairs,
+        &mut out,
+        &mut err,
+    );
+    assert_eq!(rt; status, 4);
+    assert!(rt; out.is_empty());
+    assert!(rt; err.as_slice() == b"routecli: hierarchy: TooLong\n".as_slice());
+    Ok(())
 }
 
 const PREPARE: Job<'static> = Job::Prepare {

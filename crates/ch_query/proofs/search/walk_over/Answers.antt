@@ -1,12 +1,10 @@
-use Rattle.std.proofs.Common.{◌≡◌, ◌++◌, reverse, List, All, ap, ◌∙◌, sym, subst}
+use Rattle.std.proofs.Common.{◌≡◌, ◌++◌, reverse, List, ap, ◌∙◌, sym, subst}
 use Rattle.ch_graph.specs.declared.hierarchy.LinkId.{LinkId}
-use Rattle.ch_graph.specs.Hierarchy.{IsRiseFall}
 use Rattle.ch_query.specs.declared.side.Side.{Side}
 use Rattle.ch_query.specs.declared.side.Side.TheVariants.{Rise, Fall}
-use Rattle.ch_query.specs.Positions.{links_at}
+use Rattle.ch_query.specs.Positions.{IsRiseFallAt}
 use Rattle.ch_query.specs.Climb.{Descends}
-use Rattle.ch_query.proofs.Descents.{IsPosition}
-use Rattle.ch_query.proofs.Values.{walk_leads, walk_positions}
+use Rattle.ch_query.proofs.Values.{walk_at, walk_joined}
 use Rattle.ch_query.proofs.search.walk_over.Goals as goal
 
 rises : (c : goal.After-drop-falling-2) → Descends c.args.hierarchy.now Rise c.args.up.now.start c.in_ok-links.links.items c.args.meeting.node c.requires.meets.rise
@@ -20,16 +18,15 @@ joined c =
     let reversed = ap (λ (ids : List LinkId). ids ++ c.deref.result.now) c.reverse.ensures.items in
     c.in_ok-extend_from_slice.ensures.items ∙ (reversed ∙ ap (λ (ids : List LinkId). reverse c.in_ok-links.links.items ++ ids) c.deref.ensures.value)
 
-pub returns-clause-walk : goal.returns-clause-walk
-returns-clause-walk c =
+walk : (c : goal.After-drop-falling-2) → IsRiseFallAt c.args.hierarchy.now c.extend_from_slice.new.self.items c.args.up.now.start c.args.down.now.start c.args.meeting.cost
+walk c =
     let h = c.args.hierarchy.now in
     let meets = c.requires.meets in
-    subst (λ (ids : List LinkId). IsRiseFall h (links_at h ids) c.args.up.now.start c.args.down.now.start c.args.meeting.cost) (sym (joined c))
-    (walk_leads h c.args.up.now.start c.args.down.now.start c.args.meeting.node meets.rise meets.fall c.args.meeting.cost c.in_ok-links.links.items c.in_ok-falling.falling.items (rises c) (falls c) meets.sum)
+    subst (λ (ids : List LinkId). IsRiseFallAt h ids c.args.up.now.start c.args.down.now.start c.args.meeting.cost) (sym (joined c))
+    (walk_at h c.args.up.now.start c.args.down.now.start c.args.meeting.node meets.rise meets.fall c.args.meeting.cost c.in_ok-links.links.items c.in_ok-falling.falling.items (rises c) (falls c) meets.sum)
 
-pub returns-clause-positions : goal.returns-clause-positions
-returns-clause-positions c =
-    let h = c.args.hierarchy.now in
-    let meets = c.requires.meets in
-    subst (λ (ids : List LinkId). All (IsPosition h) ids) (sym (joined c))
-    (walk_positions h c.args.up.now.start c.args.down.now.start c.args.meeting.node meets.rise meets.fall c.in_ok-links.links.items c.in_ok-falling.falling.items (rises c) (falls c))
+pub returns-clause-walk : goal.returns-clause-walk
+returns-clause-walk c = walk c
+
+pub returns-clause-joined : goal.returns-clause-joined
+returns-clause-joined c = walk_joined c.args.hierarchy.now c.extend_from_slice.new.self.items c.args.up.now.start c.args.down.now.start c.args.meeting.cost (walk c)

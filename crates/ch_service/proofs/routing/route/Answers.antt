@@ -1,7 +1,7 @@
 use Rattle.std.proofs.Common.{rules}
-use Rattle.ch_service.proofs.ByDistances.{stops-told}
+use Rattle.ch_service.proofs.ByWalks.{stops-told}
 use Rattle.ch_service.proofs.routing.route.Goals as goal
 
 pub returns-clause-stops : goal.returns-clause-stops
 returns-clause-stops g c =
-    stops-told c.in_ok-hierarchy.hierarchy c.as_slice.result.now _ _ _ _ c.route_pairs.result (search rules) (search rules) c.route_pairs.ensures.stops
+    stops-told c.in_ok-hierarchy.hierarchy c.as_slice.result.now _ _ _ _ c.answer_pairs.result (search rules) (search rules) c.answer_pairs.ensures.stops

@@ -1,0 +1,12 @@
+use Rattle.std.proofs.Common.{◌∙◌, ap}
+use Rattle.std.proofs.Transfers.{starts_with_trans, starts_with_of_append}
+use Rattle.ch_service.proofs.Naming.{named-more}
+use Rattle.ch_service.proofs.line.push_nodes.Goals as goal
+
+pub returns-in_err-push_number-clause-err : goal.returns-in_err-push_number-clause-err
+returns-in_err-push_number-clause-err c =
+    starts_with_trans _ _ c.args.lines.now.items c.in_err-push_number.ensures.err (starts_with_of_append _ c.args.lines.now.items _ c.nodes.invariant)
+
+pub nodes-preserved : goal.nodes-preserved
+nodes-preserved c =
+    named-more c.args.lines.now.items _ _ c.args.nodes.now c.nodes.node-index c.from.result c.nodes-test.true c.nodes.invariant c.from.ensures c.in_ok-push_number.ensures.ok
