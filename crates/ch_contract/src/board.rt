@@ -11,7 +11,7 @@ ghost use Rattle.ch_contract.specs.Sweep.{IsSwept, IsPartlySwept, IsVisited};
 use crate::accepting::accepted;
 use crate::contraction::{Contraction, Receipt};
 use crate::error::{CommitError, FinishError, ProposeError, SweepError};
-use crate::finish::hierarchy_of;
+use crate::finish::{Finished, hierarchy_of};
 use crate::ledger::Ledger;
 use crate::proposal::Proposal;
 use crate::proposing::propose;
@@ -141,6 +141,23 @@ impl<S: Site> Board<S> {
     {
         match hierarchy_of(&self.ledger) {
             Ok(hierarchy) => Ok(hierarchy),
+            Err(error) => Err((self, error)),
+        }
+    }
+
+    /// The hierarchy that the contractions lead to, as [`Board::into_hierarchy`] makes it, and the log.
+    pub fn finish(self) -> Result<Finished, (Board<S>, FinishError)>
+        ensures made { IfOk result (λ f. IsMade self.graph (state_of self.overlay) f.hierarchy) }
+        ensures right { IfOk result (λ f. IsRight S.graph f.hierarchy) }
+        ensures log { IfOk result (λ f. f.log.items ≡ self.log) }
+        ensures left { IsErrOf result (self, FinishError.NodesLeft) ↔ HasNodesLeft self }
+        ensures back { IfErr result (λ refused. refused.0 ≡ self) }
+    {
+        match hierarchy_of(&self.ledger) {
+            Ok(hierarchy) => Ok(Finished {
+                hierarchy,
+                log: self.ledger.into_log(),
+            }),
             Err(error) => Err((self, error)),
         }
     }

@@ -4,10 +4,20 @@ ghost use Rattle.ch_laws.specs.Contraction.{IsMade};
 ghost use Rattle.ch_overlay.specs.Overlay.{state_of};
 ghost use Rattle.ch_contract.specs.Finish.{HasNodesLeft};
 
+use crate::contraction::Contraction;
 use crate::error::FinishError;
 use crate::ledger::Ledger;
 use crate::parts::{links_of, ranks_of};
 use ch_graph::Hierarchy;
+
+/// What a board comes to when each node is contracted.
+#[derive(Drop)]
+pub struct Finished {
+    /// The hierarchy that the contractions lead to.
+    pub hierarchy: Hierarchy,
+    /// What was done, first to last: the entry of rank k stands at k.
+    pub log: Vec<Contraction>,
+}
 
 // The hierarchy that the contractions of a ledger lead to. Refused while a node isn't contracted, which is tested
 // first, or for want of memory. Takes memory for the ranks and the links, which it sorts.

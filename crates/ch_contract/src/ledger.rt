@@ -118,6 +118,13 @@ impl Ledger {
         self.log.as_slice()
     }
 
+    /// What was done, without the rest. Takes no memory.
+    pub fn into_log(self) -> Vec<Contraction>
+        ensures { result.items ≡ self.log }
+    {
+        self.log
+    }
+
     // What its rows and its log are allocated by.
     pub(crate) fn allocator(&self) -> Global {
         self.alloc

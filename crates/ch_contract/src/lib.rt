@@ -28,6 +28,7 @@ pub use board::Board;
 pub use contraction::{Contraction, Receipt};
 pub use error::{CommitError, FinishError, ProposeError, SweepError};
 pub use facts::Facts;
+pub use finish::Finished;
 pub use ledger::{Ledger, Planned};
 pub use proposal::Proposal;
 pub use proposing::propose;
