@@ -1,0 +1,196 @@
+// A textbook contraction hierarchy, to compare with: nodes by edge difference with lazy updates, witness searches that
+// settle at most 64 nodes, and a query by two upward searches that meet.
+//
+//     hierarchy GRAPH PAIRS    reads both, prepares, answers, and prints the times on standard error:
+//                              seconds to prepare, links per arc, seconds to answer. Lines `r S T LENGTH` or `n S T`.
+#include <algorithm>
+#include <chrono>
+#include <cstdint>
+#include <cstdio>
+#include <queue>
+#include <utility>
+#include <vector>
+
+using Cost = std::uint64_t;
+struct Arc {
+    std::uint32_t other;
+    Cost cost;
+};
+using Rows = std::vector<std::vector<Arc>>;
+using Entry = std::pair<Cost, std::uint32_t>;
+using Heap = std::priority_queue<Entry, std::vector<Entry>, std::greater<Entry>>;
+static const Cost FAR = ~Cost{0};
+static const int SETTLE = 64;
+
+static double now() {
+    return std::chrono::duration<double>(std::chrono::steady_clock::now().time_since_epoch()).count();
+}
+
+static void put(std::vector<Arc> &row, std::uint32_t other, Cost cost) {
+    for (Arc &arc : row) {
+        if (arc.other == other) {
+            arc.cost = std::min(arc.cost, cost);
+            return;
+        }
+    }
+    row.push_back({other, cost});
+}
+
+static void take_out(std::vector<Arc> &row, std::uint32_t other) {
+    for (std::size_t i = 0; i < row.size(); i++) {
+        if (row[i].other == other) {
+            row[i] = row.back();
+            row.pop_back();
+            return;
+        }
+    }
+}
+
+struct Hierarchy {
+    Rows out, in, up, down;
+    std::vector<Cost> label;
+    std::vector<std::uint32_t> touched;
+    std::size_t links = 0;
+    struct Shortcut {
+        std::uint32_t from, to;
+        Cost cost;
+    };
+
+    void search(std::uint32_t from, std::uint32_t avoid, Cost cutoff) {
+        for (std::uint32_t node : touched) label[node] = FAR;
+        touched.assign(1, from);
+        label[from] = 0;
+        Heap heap;
+        heap.push({0, from});
+        for (int settled = 0; !heap.empty() && settled < SETTLE;) {
+            auto [cost, node] = heap.top();
+            heap.pop();
+            if (cost > label[node]) continue;
+            if (cost > cutoff) break;
+            settled++;
+            for (const Arc &arc : out[node]) {
+                Cost sum = cost + arc.cost;
+                if (arc.other == avoid || sum > cutoff || sum >= label[arc.other]) continue;
+                if (label[arc.other] == FAR) touched.push_back(arc.other);
+                label[arc.other] = sum;
+                heap.push({sum, arc.other});
+            }
+        }
+    }
+
+    std::vector<Shortcut> shortcuts(std::uint32_t node) {
+        std::vector<Shortcut> found;
+        for (const Arc &into : in[node]) {
+            Cost most = 0;
+            for (const Arc &outof : out[node])
+                if (outof.other != into.other) most = std::max(most, into.cost + outof.cost);
+            if (most == 0) continue;
+            search(into.other, node, most);
+            for (const Arc &outof : out[node])
+                if (outof.other != into.other && label[outof.other] > into.cost + outof.cost)
+                    found.push_back({into.other, outof.other, into.cost + outof.cost});
+        }
+        return found;
+    }
+
+    std::int64_t key(std::uint32_t node, const std::vector<Shortcut> &found) const {
+        return static_cast<std::int64_t>(found.size()) - static_cast<std::int64_t>(in[node].size() + out[node].size());
+    }
+
+    void prepare() {
+        std::uint32_t nodes = out.size();
+        label.assign(nodes, FAR);
+        up.resize(nodes);
+        down.resize(nodes);
+        std::priority_queue<std::pair<std::int64_t, std::uint32_t>, std::vector<std::pair<std::int64_t, std::uint32_t>>, std::greater<>> order;
+        for (std::uint32_t node = 0; node < nodes; node++) order.push({key(node, shortcuts(node)), node});
+        while (!order.empty()) {
+            std::uint32_t node = order.top().second;
+            order.pop();
+            std::vector<Shortcut> found = shortcuts(node);
+            std::int64_t current = key(node, found);
+            if (!order.empty() && current > order.top().first) {
+                order.push({current, node});
+                continue;
+            }
+            for (const Arc &arc : in[node]) take_out(out[arc.other], node);
+            for (const Arc &arc : out[node]) take_out(in[arc.other], node);
+            for (const Shortcut &s : found) {
+                put(out[s.from], s.to, s.cost);
+                put(in[s.to], s.from, s.cost);
+            }
+            links += in[node].size() + out[node].size();
+            up[node].swap(out[node]);
+            down[node].swap(in[node]);
+        }
+    }
+
+    static void climb(const Rows &rows, std::uint32_t start, std::vector<Cost> &costs, std::vector<std::uint32_t> &seen) {
+        for (std::uint32_t node : seen) costs[node] = FAR;
+        seen.assign(1, start);
+        costs[start] = 0;
+        Heap heap;
+        heap.push({0, start});
+        while (!heap.empty()) {
+            auto [cost, node] = heap.top();
+            heap.pop();
+            if (cost > costs[node]) continue;
+            for (const Arc &arc : rows[node]) {
+                Cost sum = cost + arc.cost;
+                if (sum >= costs[arc.other]) continue;
+                if (costs[arc.other] == FAR) seen.push_back(arc.other);
+                costs[arc.other] = sum;
+                heap.push({sum, arc.other});
+            }
+        }
+    }
+};
+
+int main(int count, char **words) {
+    if (count != 3) return 2;
+    Hierarchy h;
+    std::size_t arcs = 0;
+    FILE *file = std::fopen(words[1], "r");
+    if (!file) return 7;
+    char line[256];
+    while (std::fgets(line, sizeof line, file)) {
+        unsigned long u, v, w;
+        if (std::sscanf(line, "p sp %lu %lu", &u, &v) == 2) {
+            h.out.resize(u);
+            h.in.resize(u);
+        } else if (std::sscanf(line, "a %lu %lu %lu", &u, &v, &w) == 3) {
+            arcs++;
+            if (u == v) continue;
+            put(h.out[u - 1], v - 1, w);
+            put(h.in[v - 1], u - 1, w);
+        }
+    }
+    std::fclose(file);
+    double start = now();
+    h.prepare();
+    double prepared = now();
+    file = std::fopen(words[2], "r");
+    if (!file) return 7;
+    std::vector<std::pair<unsigned long, unsigned long>> pairs;
+    while (std::fgets(line, sizeof line, file)) {
+        unsigned long s, t;
+        if (std::sscanf(line, "q %lu %lu", &s, &t) == 2) pairs.push_back({s, t});
+    }
+    std::fclose(file);
+    std::vector<Cost> there(h.up.size(), FAR), back(h.up.size(), FAR);
+    std::vector<std::uint32_t> seen_there, seen_back;
+    double asked = now();
+    for (auto [s, t] : pairs) {
+        Hierarchy::climb(h.up, s - 1, there, seen_there);
+        Hierarchy::climb(h.down, t - 1, back, seen_back);
+        Cost best = FAR;
+        for (std::uint32_t node : seen_there)
+            if (back[node] != FAR) best = std::min(best, there[node] + back[node]);
+        if (best == FAR)
+            std::printf("n %lu %lu\n", s, t);
+        else
+            std::printf("r %lu %lu %llu\n", s, t, static_cast<unsigned long long>(best));
+    }
+    double answered = now();
+    std::fprintf(stderr, "%.3f %.2f %.3f\n", prepared - start, static_cast<double>(h.links) / arcs, answered - asked);
+}
