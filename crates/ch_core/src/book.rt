@@ -13,7 +13,9 @@ use std::sync::Arc;
 /// A row that its node has or had. Its number is its place in the book.
 #[derive(Drop)]
 pub struct Version {
+    /// The node, numbered from 0.
     node: u32,
+    /// Its row of this version.
     row: Arc<Row>,
 }
 

@@ -40,12 +40,12 @@ fn stands(view: &Reads, seen: &Seen) -> bool
 }
 
 /// The first of these rows of which another version is current. Their nodes are in range. Looks at no row.
-pub fn first_old(overlay: &Overlay, rows: &[Seen]) -> Option<Outdated>
-    requires { All (λ s. s.node < length overlay.now.rows) rows.now }
-    ensures none { IfNone result (All (IsCurrentIn overlay.now) rows.now) }
-    ensures some { IfSome result (λ old. IsFirstOld overlay.now rows.now old.node old.seen old.now) }
+pub fn first_old(overlay: &Overlay, listed: &[Seen]) -> Option<Outdated>
+    requires { All (λ s. s.node < length overlay.now.rows) listed.now }
+    ensures none { IfNone result (All (IsCurrentIn overlay.now) listed.now) }
+    ensures some { IfSome result (λ old. IsFirstOld overlay.now listed.now old.node old.seen old.now) }
 {
-    'rows: for seen in rows {
+    'rows: for seen in listed {
         let now = overlay.version(seen.node);
         if seen.version != now {
             return Some(Outdated {

@@ -11,7 +11,9 @@ use std::sync::Arc;
 /// What a worker has of a node: the row that it read, and the number of that version.
 #[derive(Drop)]
 pub struct Standing {
+    /// The number of the version.
     pub version: u64,
+    /// The row of that version.
     pub row: Arc<Row>,
 }
 
@@ -58,6 +60,7 @@ fn is_same_row(row: &Row, other: &Row) -> bool
 /// What a worker has of the nodes that it read.
 #[derive(Drop)]
 pub struct Reads {
+    /// What it has of each node that it read.
     rows: HashMap<u32, Standing>,
 }
 

@@ -1,10 +1,12 @@
-ghost use Rattle.std.specs.Prelude.{◌≡◌, ◌<◌, All, IsTrue};
+ghost use Rattle.std.specs.Prelude.{◌<◌, ◌^◌, All, IsTrue};
 
 use crate::{Event, Outcome, World, run};
 use ch_contract::{CommitError, Proposal, Receipt, propose};
 use ch_graph::{Graph, Road};
 use std::alloc::{AllocError, Global};
 use std::test::Fail;
+
+mod walk;
 
 fn road(from: u32, to: u32, weight: u32) -> Road {
     Road { from, to, weight }
@@ -61,9 +63,20 @@ fn all_shown(world: &mut World, nodes: u32) -> Result<bool, AllocError> {
     Ok(shown)
 }
 
+/// Whether these are the current versions of all nodes.
+fn has_versions(world: &World, versions: &[u64]) -> bool {
+    let overlay = world.overlay();
+    let mut same = overlay.nodes() as usize == versions.len();
+    for node in 0..overlay.nodes() {
+        same = same && versions.get(node as usize) == Some(&overlay.version(node));
+    }
+    same
+}
+
 /// A diamond: node 2 leads to 3 by way of 0 and of 1.
 fn diamond(alloc: Global) -> Result<Vec<Road>, AllocError> {
-    vec![in alloc; road(2, 0, 1), road(0, 3, 1), road(2, 1, 1), road(1, 3, 1)]
+    let roads = vec![in alloc; road(2, 0, 1), road(0, 3, 1), road(2, 1, 1), road(1, 3, 1)]?;
+    Ok(roads)
 }
 
 #[test]
@@ -185,10 +198,8 @@ fn offers_that_share_no_row(rt: HostRuntime) -> Result<(), Fail> {
         proposal: second,
     })?;
     assert_eq!(rt; outcome, Outcome::Committed(Receipt { node: 4, rank: 1 }));
-    let versions = [(0, 8), (1, 6), (2, 7), (3, 10), (4, 9), (5, 11)];
-    for (node, _) in versions {
-        assert!(rt; node < world.overlay().nodes());
-    }
+    let shown = has_versions(&world, [7, 6, 8, 10, 9, 11].as_slice());
+    assert!(rt; shown);
     Ok(())
 }
 

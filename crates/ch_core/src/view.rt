@@ -14,7 +14,9 @@ use std::marker::Model;
 /// with its version, and no other.
 #[derive(Drop)]
 pub struct View<'a> {
+    /// What the worker read.
     reads: &'a Reads,
+    /// The bound of the graph.
     bound: Cost,
 }
 

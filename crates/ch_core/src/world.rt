@@ -2,7 +2,7 @@ ghost use Rattle.std.specs.Prelude.{◌≡◌, ◌↔◌, ◌<◌, [], IfOk, OnE
 ghost use Rattle.ch_graph.specs.Graph.{bound_of};
 ghost use Rattle.ch_laws.specs.Contraction.{IsReached};
 ghost use Rattle.ch_overlay.specs.Overlay.{state_of};
-ghost use Rattle.ch_contract.specs.Board.{IsContracted};
+ghost use Rattle.ch_contract.specs.Board.{IsContracted, IsLog};
 ghost use Rattle.ch_contract.specs.Proposal.{IsProposal};
 ghost use Rattle.ch_core.specs.declared.event.Event.TheVariants as events;
 ghost use Rattle.ch_core.specs.declared.event.Outcome.TheVariants as outcomes;
@@ -27,8 +27,11 @@ use std::marker::Model;
 /// offer, and in whatever order.
 #[derive(Drop)]
 pub struct World {
+    /// The graph, its rows that are current, and the log.
     ledger: Ledger,
+    /// All versions that the rows had, each at its number.
     book: Vec<Version>,
+    /// What each worker read.
     views: Vec<Reads>,
 }
 
@@ -80,6 +83,7 @@ impl World {
     pub fn log(&self) -> &[Contraction]
         ensures entries { result.now ≡ self.now.ledger.log }
         ensures reached { IsReached self.now.ledger.graph self.now.ledger.log (state_of self.now.ledger.overlay) }
+        ensures log { IsLog self.now.ledger.log }
         ensures holds { IsWorld self.now }
     {
         self.ledger.log()

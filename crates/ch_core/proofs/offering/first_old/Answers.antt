@@ -7,7 +7,7 @@ use Rattle.ch_core.proofs.offering.first_old.Goals as goal
 
 pub returns-then-seen-now-clause-some : goal.returns-then-seen-now-clause-some
 returns-then-seen-now-clause-some c =
-    let rows = c.args.rows.now in
+    let rows = c.args.listed.now in
     let place = c.rows.seen-index in
     let s = c.seen-item.result in
     record {
@@ -26,9 +26,9 @@ returns-then-seen-now-clause-some c =
 
 pub rows-preserved : goal.rows-preserved
 rows-preserved c =
-    All-more (IsCurrentIn c.args.overlay.now) c.args.rows.now c.rows.seen-index c.seen-item.result c.rows-test.true c.rows.invariant
+    All-more (IsCurrentIn c.args.overlay.now) c.args.listed.now c.rows.seen-index c.seen-item.result c.rows-test.true c.rows.invariant
     (subst (λ (s : Seen). IsCurrentIn c.args.overlay.now s) c.seen-item.is (c.if-seen-now.false ∙ c.version-now.ensures))
 
 pub returns-clause-none : goal.returns-clause-none
 returns-clause-none c =
-    subst (λ (rows : List Seen). All (IsCurrentIn c.args.overlay.now) rows) (take_all c.rows.seen-index c.args.rows.now c.rows-test.false) c.rows.invariant
+    subst (λ (rows : List Seen). All (IsCurrentIn c.args.overlay.now) rows) (take_all c.rows.seen-index c.args.listed.now c.rows-test.false) c.rows.invariant
