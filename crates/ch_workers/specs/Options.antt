@@ -1,0 +1,21 @@
+-- The options with which workers contract the nodes of a graph.
+use Rattle.std.specs.Prelude.{ℕ, ◌≡◌, ◌<◌, ◌≤◌, ◌^◌}
+use Rattle.ch_workers.specs.declared.options.Options.{Options}
+
+-- from the least to the greatest
+pub record IsFrom (least greatest n : ℕ) : Type 0 where
+  pub above : least ≤ n
+  pub below : n ≤ greatest
+
+-- each number is in its range, and there is a list for each worker
+pub record AreGood (o : Options) (lists : ℕ) : Type 0 where
+  pub workers : o.workers ≤ 64
+  pub heaps : IsFrom 1 4 o.heaps
+  pub settle : IsFrom 1 (2 ^ 16) o.settle
+  pub defer : o.defer < 2 ^ 16
+  pub turns : IsFrom 1 (2 ^ 40) o.turns
+  pub a_list_each : lists ≡ o.workers
+
+-- a number is outside its range, or there isn't a list for each worker
+abbrev pub AreBad : Options → ℕ → Type 0
+AreBad o lists = AreGood o lists → ⊥

@@ -1,0 +1,13 @@
+use ch_contract::{Contraction, Receipt};
+use ch_graph::Hierarchy;
+
+/// What workers and the sweep made of a graph.
+#[derive(Drop)]
+pub struct Built {
+    /// The hierarchy that the contractions lead to.
+    pub hierarchy: Hierarchy,
+    /// The receipts of each worker, in the order that it was handed them, and then those of the sweep.
+    pub receipts: Vec<Vec<Receipt>>,
+    /// What was done, first to last: the entry of rank k stands at k.
+    pub log: Vec<Contraction>,
+}

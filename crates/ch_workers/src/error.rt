@@ -1,0 +1,30 @@
+ghost use Rattle.std.specs.Prelude.{Some};
+ghost use Rattle.ch_workers.specs.Built.{error_name};
+
+use std::error::Error;
+use std::fmt;
+
+/// Why a hierarchy wasn't built.
+#[derive(Clone, Copy, Debug, PartialEq, Eq)]
+pub enum BuildError {
+    /// A growth was refused.
+    OutOfMemory = 1,
+    /// A number of the options is outside its range, or there isn't one list of estimators for each worker.
+    BadOptions,
+    /// The receipts and the log, or the accounts of the queue, don't agree.
+    Mixed,
+}
+
+impl fmt::Display for BuildError {
+    ghost output = { λ e. Some (error_name e) };
+
+    fn fmt<W: fmt::Write>(&self, f: &mut fmt::Formatter<W>) -> fmt::Result {
+        match self {
+            BuildError::OutOfMemory => write!(f, "OutOfMemory"),
+            BuildError::BadOptions => write!(f, "BadOptions"),
+            BuildError::Mixed => write!(f, "Mixed"),
+        }
+    }
+}
+
+impl Error for BuildError {}

@@ -1,0 +1,78 @@
+ghost use Rattle.std.specs.Prelude.{◌≡◌, ◌<◌, ◌≤◌, ◌*◌, [], All, IfOk, vec_len};
+ghost use Rattle.ch_workers.specs.Options.{AreGood};
+
+use crate::listener::{Listener, listeners_of};
+use crate::options::Options;
+use crate::worker::Worker;
+use ch_estimate::Estimator;
+use ch_multiqueue::{MultiQueue, Pass};
+use std::alloc::{AllocError, Global};
+
+/// The workers of a build, and the queue of which each has a pass.
+#[derive(Drop)]
+pub(crate) struct Crew<E: Estimator> {
+    pub(crate) queue: MultiQueue,
+    pub(crate) workers: Vec<Worker<E>>,
+}
+
+/// As many workers as there are lists of estimators, and their queue.
+pub(crate) fn hire<E: Estimator>(
+    alloc: Global,
+    options: Options,
+    estimators: Vec<Vec<E>>,
+) -> Result<Crew<E>, AllocError>
+    requires good { AreGood options (vec_len estimators) }
+    requires some { 0 < options.workers }
+    requires untold { All (λ list. All (λ estimator. E.heard estimator ≡ []) list.items) estimators.items }
+    ensures count { IfOk result (λ crew. vec_len crew.workers ≡ options.workers) }
+{
+    let lists = listeners_of(alloc, estimators)?;
+    let heaps = options.workers * options.heaps;
+    let (mut queue, first) = MultiQueue::new(alloc, heaps, options.seed)?;
+    let passes = passes_of(alloc, &mut queue, first, options.workers)?;
+    let workers = workers_of(alloc, passes, lists)?;
+    Ok(Crew { queue, workers })
+}
+
+/// The first pass of a queue, and those that follow it, so many in all.
+fn passes_of(
+    alloc: Global,
+    queue: &mut MultiQueue,
+    first: Pass,
+    count: u32,
+) -> Result<Vec<Pass>, AllocError>
+    requires one { queue.old.passes ≡ 1 }
+    requires some { 0 < count }
+    requires few { count ≤ 64 }
+    ensures count { IfOk result (λ passes. vec_len passes ≡ count) }
+{
+    let mut passes = Vec::new(alloc);
+    passes.push(first)?;
+    'passes: for _ in 1..count {
+        passes.push(queue.pass()?)?;
+    }
+    Ok(passes)
+}
+
+/// The workers with these passes and estimators, numbered from 0.
+fn workers_of<E: Estimator>(
+    alloc: Global,
+    passes: Vec<Pass>,
+    lists: Vec<Vec<Listener<E>>>,
+) -> Result<Vec<Worker<E>>, AllocError>
+    requires as_many { vec_len passes ≡ vec_len lists }
+    ensures count { IfOk result (λ workers. vec_len workers ≡ vec_len lists) }
+{
+    let mut workers = Vec::new(alloc);
+    'workers: for (pass, listeners) in passes.into_iter().zip(lists) {
+        let number = pass.number();
+        workers.push(Worker {
+            number,
+            pass,
+            listeners,
+            deferred: 0,
+            receipts: Vec::new(alloc),
+        })?;
+    }
+    Ok(workers)
+}

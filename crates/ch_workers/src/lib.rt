@@ -1,0 +1,39 @@
+//! Workers that contract the nodes of a graph together.
+//!
+//! Stands on `ch_contract`, whose board they share behind a lock, on `ch_estimate` for the keys by which they choose
+//! nodes, and on `ch_multiqueue` for the nodes that wait. Each worker takes the node of the least key that it finds,
+//! proposes its contraction, and commits it where no row that the proposal rests on has changed. What they leave is
+//! contracted by a sweep. [`Options`] says how they work, a [`Gate`] sees where they are, and [`is_account`] tests
+//! whether the receipts that they were handed account for the log of their board. The promise of the layer is the
+//! contract of [`build`]: whatever threads and estimators do, the log leads to the hierarchy, which is right for the
+//! graph.
+#![tactic(auto)]
+
+mod account;
+#[cfg(test)]
+mod account_tests;
+mod boxed;
+mod building;
+mod built;
+mod error;
+mod finishing;
+mod gate;
+mod hiring;
+mod listener;
+mod options;
+mod run;
+mod shared;
+mod trouble;
+mod worker;
+
+pub use account::is_account;
+pub use building::build;
+pub use built::Built;
+pub use error::BuildError;
+pub use gate::{Gate, OpenGate, Point};
+pub use options::Options;
+
+#[cfg(test)]
+mod estimator_tests;
+#[cfg(test)]
+mod tests;

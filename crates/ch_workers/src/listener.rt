@@ -1,0 +1,81 @@
+ghost use Rattle.std.specs.Prelude.{◌≡◌, ◌+◌, ◌<◌, ◌^◌, [], All, AllPairs, IfOk, length, OnOk, OnErr, vec_len};
+ghost use Rattle.ch_contract.specs.Proposal.{AreFacts};
+
+use ch_contract::{Contraction, Facts};
+use ch_estimate::Estimator;
+use std::alloc::{AllocError, Global};
+
+/// An estimator of a worker, and how many entries of the log it was told.
+#[derive(Drop)]
+pub(crate) struct Listener<E: Estimator> {
+    estimator: E,
+    told: u32,
+    ghost told_is: { told ≡ length (E.heard estimator) },
+}
+
+impl<E: Estimator> Listener<E> {
+    /// An estimator that wasn't told anything.
+    pub(crate) fn new(estimator: E) -> Listener<E>
+        requires untold { E.heard estimator ≡ [] }
+        ensures { result.told ≡ 0 }
+    {
+        Listener { estimator, told: 0 }
+    }
+
+    /// How many entries it was told: the rank of the next.
+    pub(crate) fn told(&self) -> u32
+        ensures { result ≡ self.now.told }
+    {
+        self.told
+    }
+
+    /// The key of a node, by the counts of its proposal.
+    pub(crate) fn key(&mut self, facts: &Facts) -> u64
+        requires few { AreFacts facts.now }
+        ensures { self.new.told ≡ self.old.told }
+    {
+        self.estimator.key(facts)
+    }
+
+    /// Tells it the next entry of the log. Refused for want of memory; it is then as it was.
+    pub(crate) fn tell(&mut self, entry: &Contraction) -> Result<(), AllocError>
+        requires rank { entry.now.rank ≡ self.old.told }
+        requires few { entry.now.rank < 2 ^ 25 }
+        requires rising { AllPairs (λ x y. x < y) entry.now.neighbours }
+        ensures told { OnOk result (self.new.told ≡ self.old.told + 1) }
+        ensures err { OnErr result (self.new.told ≡ self.old.told) }
+    {
+        self.estimator.told(entry)?;
+        self.told += 1;
+        Ok(())
+    }
+}
+
+/// The estimators of each list, with the number of entries that they were told: none.
+pub(crate) fn listeners_of<E: Estimator>(
+    alloc: Global,
+    lists: Vec<Vec<E>>,
+) -> Result<Vec<Vec<Listener<E>>>, AllocError>
+    requires untold { All (λ list. All (λ estimator. E.heard estimator ≡ []) list.items) lists.items }
+    ensures count { IfOk result (λ made. vec_len made ≡ vec_len lists) }
+{
+    let mut made = Vec::new(alloc);
+    'lists: for list in lists {
+        made.push(listeners(alloc, list)?)?;
+    }
+    Ok(made)
+}
+
+/// The estimators of a list, with the number of entries that they were told: none.
+fn listeners<E: Estimator>(
+    alloc: Global,
+    estimators: Vec<E>,
+) -> Result<Vec<Listener<E>>, AllocError>
+    requires untold { All (λ estimator. E.heard estimator ≡ []) estimators.items }
+{
+    let mut made = Vec::new(alloc);
+    'estimators: for estimator in estimators {
+        made.push(Listener::new(estimator))?;
+    }
+    Ok(made)
+}

@@ -1,0 +1,121 @@
+ghost use Rattle.std.specs.Prelude.{◌≡◌, ◌<◌, ◌≤◌, [], All, IfOk, vec_len};
+ghost use Rattle.ch_workers.specs.Options.{AreGood};
+
+use crate::gate::Gate;
+use crate::hiring::{Crew, hire};
+use crate::options::Options;
+use crate::shared::Shared;
+use crate::trouble::Trouble;
+use crate::worker::{Worker, work};
+use ch_contract::{Board, Receipt, Site};
+use ch_estimate::Estimator;
+use ch_multiqueue::{CloseError, MultiQueue, Pass};
+use std::alloc::{AllocError, Global};
+use std::sync::Wait;
+use std::thread;
+use std::thread::Threads;
+
+/// A board on which workers have worked, and the receipts of each.
+#[derive(Drop)]
+pub(crate) struct Worked<S: Site> {
+    pub(crate) board: Board<S>,
+    pub(crate) receipts: Vec<Vec<Receipt>>,
+}
+
+/// What is left of workers: their passes and their receipts.
+#[derive(Drop)]
+struct Left {
+    passes: Vec<Pass>,
+    receipts: Vec<Vec<Receipt>>,
+}
+
+/// Lets workers contract nodes of a board, as many as there are lists of estimators. The estimators are dropped.
+pub(crate) fn contract<
+    S: Site + Send + Sync,
+    E: Estimator + Send,
+    G: Gate,
+    R: Threads + Wait + Sync,
+>(
+    rt: &R,
+    alloc: Global,
+    board: Board<S>,
+    options: Options,
+    estimators: Vec<Vec<E>>,
+    gate: &G,
+) -> Result<Worked<S>, Trouble>
+    requires good { AreGood options (vec_len estimators) }
+    requires untold { All (λ list. All (λ estimator. E.heard estimator ≡ []) list.items) estimators.items }
+    ensures lists { IfOk result (λ worked. vec_len worked.receipts ≡ options.workers) }
+{
+    if options.workers == 0 {
+        let receipts = Vec::new(alloc);
+        return Ok(Worked { board, receipts });
+    }
+    let crew = hire(alloc, options, estimators)?;
+    contract_by(rt, alloc, board, options, crew, gate)
+}
+
+/// Lets these workers contract nodes of a board.
+fn contract_by<S: Site + Send + Sync, E: Estimator + Send, G: Gate, R: Threads + Wait + Sync>(
+    rt: &R,
+    alloc: Global,
+    board: Board<S>,
+    options: Options,
+    crew: Crew<E>,
+    gate: &G,
+) -> Result<Worked<S>, Trouble>
+    requires workers { 0 < options.workers }
+    requires some { 0 < options.settle }
+    requires few { options.settle ≤ 65536 }
+    ensures lists { IfOk result (λ worked. vec_len worked.receipts ≡ vec_len crew.workers) }
+{
+    let Crew { queue, mut workers } = crew;
+    let shared = Shared::new(alloc, board, queue, options);
+    run_all(rt, &shared, gate, workers.as_mut_slice());
+    let Left { passes, receipts } = take_apart(alloc, workers)?;
+    let (board, queue) = shared.into_parts();
+    close(queue, passes)?;
+    Ok(Worked { board, receipts })
+}
+
+/// Lends each worker to a thread of its own, and joins them all. A worker whose thread can't be started does nothing.
+pub(crate) fn run_all<
+    's,
+    'w: 's,
+    E: Estimator + Send,
+    S: Site + Send + Sync,
+    G: Gate,
+    R: Threads + Wait + Sync,
+>(rt: &'s R, shared: &'s Shared<S>, gate: &'s G, workers: &'w mut [Worker<E>]) {
+    thread::scope(thread::scope_env(), rt, |scope| {
+        'workers: for worker in workers.iter_mut() {
+            let _ = scope.spawn(move || work(rt, shared, gate, worker));
+        }
+    });
+}
+
+/// Takes the workers apart, and drops their estimators.
+fn take_apart<E: Estimator>(alloc: Global, workers: Vec<Worker<E>>) -> Result<Left, AllocError>
+    ensures lists { IfOk result (λ left. vec_len left.receipts ≡ vec_len workers) }
+{
+    let mut passes = Vec::new(alloc);
+    let mut lists = Vec::new(alloc);
+    'workers: for worker in workers {
+        let Worker { pass, receipts, .. } = worker;
+        passes.push(pass)?;
+        lists.push(receipts)?;
+    }
+    Ok(Left {
+        passes,
+        receipts: lists,
+    })
+}
+
+/// Ends the queue. The items that are left in it are dropped.
+fn close(queue: MultiQueue, passes: Vec<Pass>) -> Result<(), Trouble> {
+    match queue.close(passes) {
+        Ok(_items) => Ok(()),
+        Err((CloseError::OutOfMemory, _, _)) => Err(Trouble::OutOfMemory),
+        Err((CloseError::PassMissing | CloseError::Mixed, _, _)) => Err(Trouble::Mixed),
+    }
+}

@@ -1,0 +1,39 @@
+ghost use Rattle.std.specs.Prelude.{◌≡◌, ◌≢◌};
+ghost use Rattle.ch_workers.specs.declared.error.BuildError.TheVariants.{BadOptions};
+
+use crate::error::BuildError;
+use ch_contract::SweepError;
+use std::alloc::AllocError;
+
+/// Why a hierarchy wasn't built by good options.
+#[derive(Clone, Copy, Debug)]
+pub(crate) enum Trouble {
+    /// A growth was refused.
+    OutOfMemory,
+    /// The receipts and the log, or the accounts of the queue, don't agree.
+    Mixed,
+}
+
+impl Trouble {
+    /// The error that tells it.
+    pub(crate) fn error(self) -> BuildError
+        ensures { result ≢ BadOptions }
+    {
+        match self {
+            Trouble::OutOfMemory => BuildError::OutOfMemory,
+            Trouble::Mixed => BuildError::Mixed,
+        }
+    }
+}
+
+impl From<AllocError> for Trouble {
+    fn from(_refused: AllocError) -> Trouble {
+        Trouble::OutOfMemory
+    }
+}
+
+impl From<SweepError> for Trouble {
+    fn from(_refused: SweepError) -> Trouble {
+        Trouble::OutOfMemory
+    }
+}

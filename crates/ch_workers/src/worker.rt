@@ -1,0 +1,195 @@
+ghost use Rattle.std.specs.Prelude.{◌≡◌, ◌<◌};
+
+use crate::gate::{Gate, Point};
+use crate::listener::Listener;
+use crate::shared::Shared;
+use ch_contract::{CommitError, Proposal, ProposeError, Receipt, Site};
+use ch_estimate::Estimator;
+use ch_multiqueue::{Item, Pass};
+use std::alloc::AllocError;
+use std::sync::Wait;
+
+/// A worker ends here: it found no item, memory was refused, or a proposal didn't fit the board.
+#[derive(Drop)]
+pub(crate) struct End;
+
+impl From<AllocError> for End {
+    fn from(_refused: AllocError) -> End {
+        End
+    }
+}
+
+/// What a worker has of its own, in the builder's list.
+#[derive(Drop)]
+pub(crate) struct Worker<E: Estimator> {
+    pub(crate) number: u32,
+    pub(crate) pass: Pass,
+    pub(crate) listeners: Vec<Listener<E>>,
+    pub(crate) deferred: u32,
+    pub(crate) receipts: Vec<Receipt>,
+}
+
+/// Lets a worker do all its work, drops its estimators, and passes the gate at its end.
+pub(crate) fn work<E: Estimator, S: Site, G: Gate, R: Wait>(
+    rt: &R,
+    shared: &Shared<S>,
+    gate: &G,
+    worker: &mut Worker<E>,
+) {
+    let _ended = worker.run(rt, shared, gate);
+    worker.listeners.clear();
+    gate.pass(worker.number, Point::Done);
+}
+
+impl<E: Estimator> Worker<E> {
+    /// Puts its nodes into the queue, and takes its turns.
+    fn run<S: Site, G: Gate, R: Wait>(
+        &mut self,
+        rt: &R,
+        shared: &Shared<S>,
+        gate: &G,
+    ) -> Result<(), End> {
+        self.put_all(rt, shared)?;
+        'turns: for _ in 0..shared.options.turns {
+            self.turn(rt, shared, gate)?;
+        }
+        Ok(())
+    }
+
+    /// Puts each node that is its own, by the remainder of its number, into the queue.
+    fn put_all<S: Site, R: Wait>(&mut self, rt: &R, shared: &Shared<S>) -> Result<(), End> {
+        let workers = shared.options.workers;
+        'nodes: for node in 0..shared.nodes {
+            if node % workers == self.number {
+                self.put(rt, shared, node)?;
+            }
+        }
+        Ok(())
+    }
+
+    /// Puts a node into the queue, with the key that its estimator gives it. A contracted node is left out.
+    fn put<S: Site, R: Wait>(&mut self, rt: &R, shared: &Shared<S>, node: u32) -> Result<(), End> {
+        let Some(proposal) = self.propose(rt, shared, node)? else {
+            return Ok(());
+        };
+        let key = self.key(&proposal);
+        self.push(rt, shared, Item { key, node })
+    }
+
+    /// Takes an item, and commits the contraction of its node or puts it back.
+    fn turn<S: Site, G: Gate, R: Wait>(
+        &mut self,
+        rt: &R,
+        shared: &Shared<S>,
+        gate: &G,
+    ) -> Result<(), End> {
+        let item = self.take(rt, shared)?;
+        gate.pass(self.number, Point::Took);
+        let Some(proposal) = self.propose(rt, shared, item.node)? else {
+            return Ok(());
+        };
+        self.hear(rt, shared)?;
+        let key = self.key(&proposal);
+        if self.put_back(rt, shared, item, key)? {
+            return Ok(());
+        }
+        gate.pass(self.number, Point::Proposed);
+        self.commit(rt, shared, gate, item, proposal)
+    }
+
+    /// Takes an item from the queue. The worker ends where there is none.
+    fn take<S: Site, R: Wait>(&mut self, rt: &R, shared: &Shared<S>) -> Result<Item, End> {
+        match shared.queue.pop(rt, &mut self.pass)? {
+            Some(item) => Ok(item),
+            None => Err(End),
+        }
+    }
+
+    /// Puts an item into the queue. The worker ends where memory is refused.
+    fn push<S: Site, R: Wait>(
+        &mut self,
+        rt: &R,
+        shared: &Shared<S>,
+        item: Item,
+    ) -> Result<(), End> {
+        match shared.queue.push(rt, &mut self.pass, item) {
+            Ok(()) => Ok(()),
+            Err(_item) => Err(End),
+        }
+    }
+
+    /// Works out the contraction of a node, or answers none where it is contracted already.
+    fn propose<S: Site, R: Wait>(
+        &mut self,
+        rt: &R,
+        shared: &Shared<S>,
+        node: u32,
+    ) -> Result<Option<Proposal>, End> {
+        match shared.propose(rt, node) {
+            Ok(proposal) => Ok(Some(proposal)),
+            Err(ProposeError::OutOfMemory) => Err(End),
+            Err(ProposeError::Unseen | ProposeError::Contracted) => Ok(None),
+        }
+    }
+
+    /// Tells its current estimator, if it has one, what it wasn't told of the log.
+    fn hear<S: Site, R: Wait>(&mut self, rt: &R, shared: &Shared<S>) -> Result<(), End> {
+        if let Some(listener) = self.listeners.first_mut() {
+            shared.tell_all(rt, listener)?;
+        }
+        Ok(())
+    }
+
+    /// The key that its current estimator gives, or 0 where it has none.
+    fn key(&mut self, proposal: &Proposal) -> u64 {
+        match self.listeners.first_mut() {
+            Some(listener) => listener.key(&proposal.facts()),
+            None => 0,
+        }
+    }
+
+    /// Puts an item back with the key that its node has now, where that is greater and the worker hasn't put back as
+    /// many items as it may since its last commit. Answers whether it did.
+    fn put_back<S: Site, R: Wait>(
+        &mut self,
+        rt: &R,
+        shared: &Shared<S>,
+        item: Item,
+        key: u64,
+    ) -> Result<bool, End> {
+        if key <= item.key || self.deferred >= shared.options.defer {
+            return Ok(false);
+        }
+        self.deferred += 1;
+        let node = item.node;
+        self.push(rt, shared, Item { key, node })?;
+        Ok(true)
+    }
+
+    /// Commits a proposal and keeps the receipt, or puts the item back where a row has changed.
+    fn commit<S: Site, G: Gate, R: Wait>(
+        &mut self,
+        rt: &R,
+        shared: &Shared<S>,
+        gate: &G,
+        item: Item,
+        proposal: Proposal,
+    ) -> Result<(), End> {
+        self.receipts.reserve(1)?;
+        match shared.commit(rt, proposal) {
+            Ok(receipt) => {
+                self.receipts.push_reserved(receipt);
+                self.deferred = 0;
+                gate.pass(self.number, Point::Committed);
+                Ok(())
+            }
+            Err(CommitError::Stale { .. }) => {
+                self.push(rt, shared, item)?;
+                gate.pass(self.number, Point::Refused);
+                Ok(())
+            }
+            Err(CommitError::Contracted) => Ok(()),
+            Err(CommitError::Broken | CommitError::OutOfMemory) => Err(End),
+        }
+    }
+}
