@@ -5,6 +5,8 @@ pub mod Drafting
 pub mod Pairing
 pub mod Joining
 pub mod Gathering
+pub mod Judging
+pub mod Counting
 pub mod Contracting
 pub mod Sweeping
 pub mod NodesLeft

@@ -9,8 +9,9 @@ use Rattle.std.proofs.lemmas.List.{get_or_default}
 use Rattle.std.proofs.lemmas.List.Elements.{Contains-get_or}
 use Rattle.ch_cost.specs.declared.cost.Cost.{Cost}
 use Rattle.ch_cost.specs.Cost.{◌≼◌}
+use Rattle.ch_cost.specs.Cost.Laws.{at_most_refl}
 use Rattle.ch_laws.specs.declared.entry.Entry.{Entry}
-use Rattle.ch_laws.specs.Rows.{Rises}
+use Rattle.ch_laws.specs.Rows.{Rises, Lists}
 use Rattle.ch_contract.specs.Shortcuts.{HasEntryAtMost}
 
 module _ (es : List Entry) (rises : Rises es) (to : ℕ) where
@@ -34,6 +35,10 @@ module _ (es : List Entry) (rises : Rises es) (to : ℕ) where
         | inl low ↦ let less : (get_or es k has.entry).other < to = ranked _ to _ (sym ((parted comparisons_rise).0 k has.entry (omega arith) low)) in absurd (omega (arith, less, here))
         | inr high ↦ let more : to < (get_or es k has.entry).other = ranked _ to _ (sym ((parted comparisons_rise).1 k has.entry high has.among.1)) in absurd (omega (arith, more, here))
       ]
+
+  -- nor has one any cost
+  pub lists_none : (gap : ℕ) → IsBinarySearchResult (λ (e : Entry). nat_cmp e.other to) es (Err gap) → (c : Cost) → Lists es to c → ⊥
+  lists_none gap parted c listed = found_none gap c parted (record { entry = listed.entry; among = listed.among; other = listed.other; at_most = subst (λ (d : Cost). d ≼ c) (sym listed.costs) (at_most_refl c) })
 
   -- there is one place of a node
   one_place : (i j : ℕ) (d : Entry) → i < length es → j < length es → (get_or es i d).other ≡ to → (get_or es j d).other ≡ to → i ≡ j
