@@ -13,6 +13,8 @@ mod error;
 mod facts;
 mod parts;
 mod proposal;
+#[cfg(test)]
+mod propose_tests;
 mod proposing;
 mod shortcuts;
 #[cfg(test)]
