@@ -1,28 +1,14 @@
 -- Pairs that are worked out, and the verdicts on them.
-use Rattle.std.proofs.Common.{ℕ, zero, suc, ◌≡◌, ◌≢◌, ◌<◌, ◌⊎◌, List, [], ◌∷◌, ◌++◌, length, get_or, Option, Some, None, AllPairs, Contains, cond, nat_eq, true, false, refl, ap, sym, subst, ◌∙◌, arith, inl, inr}
-use Rattle.std.specs.List.{All, slice_get}
-use Rattle.std.specs.Option.{IsSomeAnd}
-use Rattle.std.proofs.lemmas.Bool.{cases_eq, cases_lt}
+use Rattle.std.proofs.Common.{ℕ, ◌≡◌, ◌≢◌, List, [], ◌∷◌, ◌++◌, Some, None, AllPairs, Contains, nat_eq, true, false, refl, sym, subst, ◌∙◌, arith, inl, inr}
+use Rattle.std.proofs.lemmas.Bool.{cases_eq}
 use Rattle.std.proofs.lemmas.Bool.Decides.{nat_tests}
-use Rattle.std.proofs.lemmas.List.Elements.{All-contains, Contains-append_left, Contains-append_right, Contains-append_cases, Contains-push, Contains-push_cases, Contains-get_or}
-use Rattle.std.proofs.lemmas.List.Quantifiers.{all_pairs_push}
 use Rattle.ch_laws.proofs.Members.{contains_first, contains_later, contains_cases, pairs_first, pairs_later}
 use Rattle.ch_cost.specs.declared.cost.Cost.{Cost}
-use Rattle.ch_cost.specs.Cost.{◌⊕◌, ◌≼◌, ◌≺◌, IsWithin}
-use Rattle.ch_cost.specs.Cost.Laws.{at_most_trans, cases_cost}
 use Rattle.ch_graph.specs.Walk.{Along, Walk, visited, Walk.stay, Walk.go}
-use Rattle.ch_laws.specs.declared.entry.Entry.{Entry}
-use Rattle.ch_laws.specs.declared.shortcut.Shortcut.{Shortcut}
-use Rattle.ch_laws.specs.Contraction.{NoShortcut}
-use Rattle.ch_laws.specs.Rows.{Row, Rises, Lists}
-use Rattle.ch_laws.specs.Verdicts.{HasWay, IsForShortcut, ListsThrough, SeenArc}
+use Rattle.ch_laws.specs.Rows.{Row}
 use Rattle.ch_overlay.specs.declared.source.Seen.{Seen}
 use Rattle.ch_overlay.specs.Source.{row_in, row_of}
-use Rattle.ch_witness.specs.declared.way.Way.{Way}
-use Rattle.ch_witness.specs.Kept.{Kept, IsKept}
-use Rattle.ch_witness.specs.Ways.{AreWays, IsFound, IsStartRow, IsWay, way_at}
-use Rattle.ch_contract.specs.declared.draft.Draft.{Draft}
-use Rattle.ch_contract.specs.Drafts.{Agrees, AreJudged, ArePairs, HasListedWay, IsFront, IsJoined, IsPairOf, Lengthens, over}
+use Rattle.ch_contract.specs.Drafts.{IsFront}
 
 same-some : {A : Type 0} (a b : A) → Some a ≡ Some b → a ≡ b
 same-some a b e = cc

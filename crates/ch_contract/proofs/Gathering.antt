@@ -1,18 +1,17 @@
 -- A draft over the neighbours, one by one, and the proposal that it makes.
-use Rattle.std.proofs.Common.{ℕ, ◌≡◌, ◌≢◌, ◌+◌, ◌<◌, ◌⊎◌, List, [], ◌∷◌, ◌++◌, length, get_or, take, Option, Some, None, AllPairs, Contains, append_assoc, refl, ap, sym, subst, ◌∙◌, arith, inl, inr}
+use Rattle.std.proofs.Common.{ℕ, ◌≡◌, ◌+◌, ◌<◌, ◌⊎◌, List, [], ◌∷◌, ◌++◌, length, get_or, take, Option, Some, None, AllPairs, Contains, ap, sym, subst, ◌∙◌, arith, inl, inr}
 use Rattle.std.proofs.lemmas.List.Elements.{Contains-append_left, Contains-append_right, Contains-append_cases, Contains-push, Contains-push_cases, Contains-get_or}
 use Rattle.ch_cost.specs.declared.cost.Cost.{Cost}
-use Rattle.ch_cost.specs.Cost.{IsWithin}
 use Rattle.ch_laws.specs.declared.entry.Entry.{Entry}
 use Rattle.ch_laws.specs.declared.shortcut.Shortcut.{Shortcut}
-use Rattle.ch_laws.specs.Contraction.{NoShortcut, IsFor}
+use Rattle.ch_laws.specs.Contraction.{IsFor}
 use Rattle.ch_laws.specs.Rows.{Row, Rises}
-use Rattle.ch_laws.specs.Verdicts.{HasWay, IsForShortcut, ListsThrough}
+use Rattle.ch_laws.specs.Verdicts.{HasWay, ListsThrough}
 use Rattle.ch_overlay.specs.declared.source.Seen.{Seen}
 use Rattle.ch_overlay.specs.Source.{row_in, row_of, IsBound, NamesAlone}
 use Rattle.ch_witness.specs.Kept.{Kept, AreKept, AreListed, IsAnswer, IsMore}
 use Rattle.ch_contract.specs.declared.draft.Draft.{Draft}
-use Rattle.ch_contract.specs.Drafts.{Agrees, IsBegun, IsDrafted, IsDraftedFrom, Names}
+use Rattle.ch_contract.specs.Drafts.{Agrees, IsBegun, IsDrafted, IsDraftedFrom}
 use Rattle.ch_contract.specs.Proposal.{IsProposal, ShortcutBefore}
 use Rattle.ch_contract.proofs.Ranges.{AllPairs-append, AllPairs-take}
 use Rattle.ch_contract.proofs.Drafting.{row_found}

@@ -1,5 +1,5 @@
 -- The pairs from one neighbour, by what a search found.
-use Rattle.std.proofs.Common.{ℕ, zero, suc, ◌≡◌, ◌≢◌, ◌<◌, ◌⊎◌, ◌^◌, List, [], ◌∷◌, ◌++◌, length, get_or, map, Option, Some, None, AllPairs, Contains, append_assoc, refl, ap, sym, subst, ◌∙◌, arith, inl, inr, slice_index}
+use Rattle.std.proofs.Common.{ℕ, zero, suc, ◌≡◌, ◌≢◌, ◌<◌, ◌^◌, List, [], ◌∷◌, ◌++◌, length, get_or, map, Option, Some, None, Contains, append_assoc, refl, ap, sym, subst, ◌∙◌, arith, inl, inr, slice_index}
 use Rattle.std.specs.List.{All, slice_get}
 use Rattle.std.specs.Option.{IfSome, IsSomeAnd}
 use Rattle.std.proofs.lemmas.Bool.{cases_eq, cases_lt}
@@ -14,16 +14,15 @@ use Rattle.ch_laws.specs.declared.entry.Entry.{Entry}
 use Rattle.ch_laws.specs.declared.shortcut.Shortcut.{Shortcut}
 use Rattle.ch_laws.proofs.Members.{contains_cases, contains_first, contains_later}
 use Rattle.ch_overlay.specs.Overlay.{AreEntries, IsEntry}
-use Rattle.ch_laws.specs.Contraction.{NoShortcut}
 use Rattle.ch_laws.specs.Rows.{Row, Rises, Lists}
-use Rattle.ch_laws.specs.Verdicts.{HasWay, IsForShortcut, ListsThrough, SeenArc}
+use Rattle.ch_laws.specs.Verdicts.{ListsThrough, SeenArc}
 use Rattle.ch_overlay.specs.declared.source.Seen.{Seen}
 use Rattle.ch_overlay.specs.Source.{row_in, row_of}
 use Rattle.ch_witness.specs.declared.way.Way.{Way}
 use Rattle.ch_witness.specs.Kept.{Kept, IsKept}
-use Rattle.ch_witness.specs.Ways.{AreWays, IsFound, IsStartRow, IsWay, way_at}
+use Rattle.ch_witness.specs.Ways.{AreWays, IsStartRow, IsWay, way_at}
 use Rattle.ch_contract.specs.declared.draft.Draft.{Draft}
-use Rattle.ch_contract.specs.Drafts.{Agrees, AreJudged, ArePairs, HasListedWay, IsDraftedFrom, IsJoined, IsPairOf, Lengthens, over}
+use Rattle.ch_contract.specs.Drafts.{Agrees, AreJudged, ArePairs, IsDraftedFrom, IsJoined, Lengthens, over}
 use Rattle.ch_contract.proofs.Drafting.{moved_along, row_among}
 
 empty : (p : Shortcut) → Contains [] p → ⊥

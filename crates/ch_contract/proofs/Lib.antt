@@ -1,8 +1,11 @@
 pub mod Ranges
+pub mod Search
 pub mod Drafting
 pub mod Pairing
 pub mod Joining
 pub mod Gathering
+pub mod Judging
+pub mod Counting
 pub mod Contracting
 pub mod Sweeping
 pub mod NodesLeft

@@ -1,8 +1,7 @@
 -- Pairs and their verdicts, one by one.
 use Rattle.std.proofs.Common.{ℕ, ◌≡◌, ◌≢◌, ◌+◌, ◌<◌, ◌⊎◌, List, [], ◌∷◌, ◌++◌, length, get_or, take, Option, Some, None, AllPairs, Contains, append_assoc, refl, ap, sym, subst, ◌∙◌, arith, inl, inr}
 use Rattle.std.specs.List.{slice_get}
-use Rattle.std.specs.Option.{IsSomeAnd}
-use Rattle.std.proofs.lemmas.Bool.{cases_eq, cases_lt}
+use Rattle.std.proofs.lemmas.Bool.{cases_lt}
 use Rattle.std.proofs.lemmas.List.{append-nil, get_or_append_left, get_or_default, get_or_push, length_push, take_more}
 use Rattle.std.proofs.lemmas.List.Elements.{Contains-append_left, Contains-append_right, Contains-push, Contains-push_cases, Contains-get_or}
 use Rattle.std.proofs.lemmas.List.Quantifiers.{all_pairs_push}
@@ -16,7 +15,7 @@ use Rattle.ch_witness.specs.declared.way.Way.{Way}
 use Rattle.ch_witness.specs.Ways.{IsFound, way_at}
 use Rattle.ch_contract.proofs.Ranges.{AllPairs-take}
 use Rattle.ch_contract.specs.declared.draft.Draft.{Draft}
-use Rattle.ch_contract.specs.Drafts.{AreJudged, ArePairs, HasListedWay, IsFront, IsPairAdded, IsPairJudged, IsPairOf, Lengthens, over}
+use Rattle.ch_contract.specs.Drafts.{AreJudged, ArePairs, HasListedWay, IsPairAdded, IsPairJudged, IsPairOf, over}
 
 empty : {A : Type 0} (x : A) → Contains [] x → ⊥
 empty x among = omega (arith, among.1)

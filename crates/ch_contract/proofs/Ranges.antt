@@ -62,7 +62,7 @@ AllPairs-append R (x ∷ xs) ys first second across =
     (AllPairs-append R xs ys (AllPairs-tail R x xs first) second (λ y z among later. across y z (suc among.0, omega (arith, among.1), among.2) later))
 
 -- a rising list of numbers from a on and below n has n - a of them at most
-rising-short : (xs : List ℕ) (a n : ℕ) → a ≤ n → AllPairs (λ x y. x < y) xs → All (λ x. (a ≤ x) × (x < n)) xs → length xs + a ≤ n
+pub rising-short : (xs : List ℕ) (a n : ℕ) → a ≤ n → AllPairs (λ x y. x < y) xs → All (λ x. (a ≤ x) × (x < n)) xs → length xs + a ≤ n
 rising-short [] a n few rises within = omega arith
 rising-short (x ∷ xs) a n few rises within =
     let head : (a ≤ x) × (x < n) = All-head (λ y. (a ≤ y) × (y < n)) x xs within in

@@ -4,10 +4,11 @@ use Rattle.ch_cost.specs.declared.cost.Cost.{Cost}
 use Rattle.ch_cost.specs.Cost.{IsWithin}
 use Rattle.ch_laws.specs.declared.shortcut.Shortcut.{Shortcut}
 use Rattle.ch_laws.specs.Contraction.{NoShortcut}
-use Rattle.ch_laws.specs.Rows.{Row}
+use Rattle.ch_laws.specs.declared.entry.Entry.{Entry}
+use Rattle.ch_laws.specs.Rows.{Row, Lists}
 use Rattle.ch_laws.specs.Verdicts.{HasWay, ListsThrough, AreVerdicts}
 use Rattle.ch_overlay.specs.declared.source.Seen.{Seen}
-use Rattle.ch_overlay.specs.Source.{row_in, row_of, IsBound, IsSeenRow}
+use Rattle.ch_overlay.specs.Source.{row_of, IsBound, IsSeenRow}
 use Rattle.ch_contract.specs.declared.error.ProposeError.{ProposeError}
 use Rattle.ch_contract.specs.declared.error.ProposeError.TheVariants.{OutOfMemory, Unseen, Contracted}
 use Rattle.ch_contract.specs.declared.facts.Facts.{Facts}
@@ -55,6 +56,15 @@ IsVerdictAt p u w sum verdicts.Shortcut = IsWithin sum p.bound × Contains p.sho
 abbrev pub IsVerdict : Proposal → ℕ → ℕ → Option Verdict → Type 0
 IsVerdict p u w (Some verdict) = (sum : Cost) × Joins p u w sum × IsVerdictAt p u w sum verdict
 IsVerdict p u w None = (sum : Cost) → Joins p u w sum → ⊥
+
+-- what the entry for this node costs, or none where no entry is for it
+abbrev pub IsCostOf : List Entry → ℕ → Option Cost → Type 0
+IsCostOf entries y (Some c) = Lists entries y c
+IsCostOf entries y None = (c : Cost) → Lists entries y c → ⊥
+
+-- one of the shortcuts joins these nodes
+abbrev pub HasShortcut : List Shortcut → ℕ → ℕ → Type 0
+HasShortcut put u w = (p : Shortcut) × Contains put p × (p.from ≡ u) × (p.to ≡ w)
 
 -- as many arcs and shortcuts as a node can have
 pub record AreFacts (f : Facts) : Type 0 where

@@ -18,6 +18,8 @@ mod finish;
 mod ledger;
 mod parts;
 mod proposal;
+#[cfg(test)]
+mod propose_tests;
 mod proposing;
 mod shown;
 mod site;

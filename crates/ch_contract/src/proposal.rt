@@ -1,10 +1,14 @@
-ghost use Rattle.std.specs.Prelude.{◌≡◌};
-ghost use Rattle.ch_contract.specs.Proposal.{IsProposal, IsVerdict, AreFacts, AreFactsOf};
+ghost use Rattle.std.specs.Prelude.{◌≡◌, ◌<◌, ◌^◌, IsTrue, Some};
+ghost use Rattle.ch_laws.specs.Contraction.{NoShortcut};
+ghost use Rattle.ch_laws.specs.Rows.{Rises};
+ghost use Rattle.ch_overlay.specs.Overlay.{AreEntries};
+ghost use Rattle.ch_overlay.specs.Source.{row_of};
+ghost use Rattle.ch_contract.specs.Proposal.{HasShortcut, IsCostOf, IsProposal, IsVerdict, AreFacts, AreFactsOf};
 
 use crate::facts::Facts;
 use crate::verdict::Verdict;
 use ch_cost::Cost;
-use ch_overlay::{Seen, Shortcut};
+use ch_overlay::{Entry, Row, Seen, Shortcut};
 use std::marker::Model;
 
 /// A contraction of a node that was worked out by rows, and the rows that it rests on.
@@ -61,25 +65,74 @@ impl Proposal {
     }
 
     /// The verdict on a pair of neighbours, or none for any other pair.
+    ///
+    /// The node's row is searched by halves, and the shortcuts one by one.
     pub fn verdict(&self, from: u32, to: u32) -> Option<Verdict>
-        requires never { ⊥ }
         ensures { IsVerdict self.now from to result }
     {
-        let _ = (from, to);
-        None
+        if from == to {
+            return None;
+        }
+        let row = self.own();
+        let Some(into) = cost_of(&row.inn, from) else {
+            return None;
+        };
+        let Some(out) = cost_of(&row.out, to) else {
+            return None;
+        };
+        if into.plus_within(out, self.bound).is_none() {
+            return Some(Verdict::Heavy);
+        }
+        if has_shortcut(&self.shortcuts, from, to) {
+            return Some(Verdict::Shortcut);
+        }
+        Some(Verdict::Witness)
     }
 
     /// Its counts.
     pub fn facts(&self) -> Facts
-        requires never { ⊥ }
         ensures counts { AreFactsOf self.now result }
         ensures few { AreFacts result }
     {
+        let row = self.own();
         Facts {
             node: self.node,
-            ins: 0,
-            outs: 0,
-            shortcuts: 0,
+            ins: row.inn.len() as u32,
+            outs: row.out.len() as u32,
+            shortcuts: self.shortcuts.len() as u64,
         }
     }
+
+    /// The row that was read of the node.
+    fn own(&self) -> &Row
+        ensures read { row_of self.now.rests_on self.now.node ≡ Some result.now }
+        ensures node { self.now.node < 2 ^ 25 }
+        ensures out_rises { Rises result.now.out }
+        ensures inn_rises { Rises result.now.inn }
+        ensures entries { AreEntries (2 ^ 25) self.now.bound self.now.node result.now }
+        ensures holds { IsProposal self.now }
+    {
+        &self.rests_on[0].row
+    }
+}
+
+/// What the entry for this node costs, or none where no entry is for it. The entries are searched by halves.
+fn cost_of(entries: &[Entry], other: u32) -> Option<Cost>
+    requires { Rises entries.now }
+    ensures { IsCostOf entries.now other result }
+{
+    let Ok(place) = entries.binary_search_by_key(&other, |entry| entry.other) else {
+        return None;
+    };
+    Some(entries[place].cost)
+}
+
+/// Whether one of the shortcuts joins these nodes.
+fn has_shortcut(shortcuts: &[Shortcut], from: u32, to: u32) -> bool
+    ensures some { IsTrue result → HasShortcut shortcuts.now from to }
+    ensures none { (IsTrue result → ⊥) → NoShortcut shortcuts.now from to }
+{
+    shortcuts
+        .iter()
+        .any(|shortcut| shortcut.from == from && shortcut.to == to)
 }

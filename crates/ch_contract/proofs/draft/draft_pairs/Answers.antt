@@ -1,21 +1,17 @@
-use Rattle.std.proofs.Common.{ℕ, Bool, ◌≡◌, ◌+◌, List, [], ◌∷◌, ◌++◌, length, map, Contains, Some, None, Err, true, false, Result, refl, ap, sym, subst, ◌∙◌, arith, append_assoc}
+use Rattle.std.proofs.Common.{ℕ, Bool, ◌≡◌, List, [], ◌∷◌, length, map, Contains, Some, true, false, refl, ap, sym, subst, ◌∙◌, arith}
 use Rattle.std.specs.List.{All}
 use Rattle.std.proofs.lemmas.Bool.Decides.{nat_tests}
 use Rattle.std.proofs.lemmas.Result.{err_from_is_err_and}
 use Rattle.std.proofs.lemmas.List.Elements.{All-contains}
 use Rattle.ch_cost.specs.declared.cost.Cost.{Cost}
-use Rattle.ch_cost.specs.Cost.{◌≼◌, IsWithin}
+use Rattle.ch_cost.specs.Cost.{IsWithin}
 use Rattle.ch_laws.specs.declared.entry.Entry.{Entry}
 use Rattle.ch_laws.specs.declared.shortcut.Shortcut.{Shortcut}
 use Rattle.ch_laws.specs.Rows.{Row}
-use Rattle.ch_overlay.specs.declared.source.Seen.{Seen}
-use Rattle.ch_overlay.specs.Overlay.{IsEntry}
-use Rattle.ch_witness.specs.Kept.{kept_of, AllNamed, IsKept}
-use Rattle.ch_witness.specs.Ways.{AreWays, IsStartRow}
-use Rattle.ch_contract.specs.declared.error.ProposeError.{ProposeError}
+use Rattle.ch_witness.specs.Kept.{kept_of}
+use Rattle.ch_witness.specs.Ways.{AreWays}
 use Rattle.ch_contract.specs.declared.error.ProposeError.TheVariants.{Unseen}
-use Rattle.ch_witness.specs.declared.error.SearchError.{SearchError}
-use Rattle.ch_contract.specs.Drafts.{AreJudged, ArePairs}
+use Rattle.ch_contract.specs.Drafts.{ArePairs}
 use Rattle.ch_contract.proofs.Joining.{direct_for, drafted_idle, drafted_search, idle_alone, judged_for, no_target, through_pair, pair_through}
 use Rattle.ch_contract.proofs.draft.draft_pairs.Goals as goal
 

@@ -1,6 +1,4 @@
 use Rattle.std.proofs.Common.{Bool, ◌≡◌, true, false, inl, inr}
-use Rattle.ch_cost.specs.declared.cost.Cost.{Cost}
-use Rattle.ch_cost.specs.Cost.{◌≼◌}
 use Rattle.ch_cost.specs.Cost.Laws.{at_most_refl, at_most-from_below, cases_cost}
 use Rattle.ch_contract.proofs.draft.greater.Goals as goal
 

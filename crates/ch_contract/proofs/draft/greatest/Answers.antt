@@ -1,4 +1,4 @@
-use Rattle.std.proofs.Common.{List, [], ◌∷◌, ◌++◌, take, get_or, Contains, arith, subst, sym, ◌∙◌, inl, inr}
+use Rattle.std.proofs.Common.{List, [], take, Contains, arith, subst, sym, ◌∙◌, inl, inr}
 use Rattle.std.proofs.lemmas.List.{get_or_default, take_all, take_more}
 use Rattle.std.proofs.lemmas.List.Elements.{Contains-get_or, Contains-push_cases}
 use Rattle.ch_cost.specs.declared.cost.Cost.{Cost}

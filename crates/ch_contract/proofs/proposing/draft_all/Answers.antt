@@ -1,13 +1,7 @@
-use Rattle.std.proofs.Common.{List, take, Contains, ap, sym, subst, ◌∙◌}
-use Rattle.std.proofs.lemmas.List.{take_all}
-use Rattle.std.proofs.lemmas.List.Elements.{Contains-get_or}
+use Rattle.std.proofs.Common.{ap, ◌∙◌}
 use Rattle.std.proofs.lemmas.Result.{err_from_is_err_and}
-use Rattle.ch_cost.specs.declared.cost.Cost.{Cost}
-use Rattle.ch_laws.specs.declared.entry.Entry.{Entry}
 use Rattle.ch_laws.specs.Rows.{Row}
-use Rattle.ch_overlay.specs.Source.{NamesAlone}
 use Rattle.ch_witness.specs.Kept.{kept_of}
-use Rattle.ch_contract.specs.Drafts.{IsDrafted}
 use Rattle.ch_contract.proofs.Gathering.{drafted_none, next_drafted, names_moved}
 use Rattle.ch_contract.proofs.proposing.draft_all.Goals as goal
 
