@@ -1,5 +1,5 @@
 -- Answers that are kept: what the source stands by, as it moves and answers more.
-use Rattle.std.proofs.Common.{ℕ, ◌≡◌, ◌≢◌, ◌⊎◌, ◌<◌, ◌^◌, false, Option, Some, None, refl, ap, sym, subst, ◌∙◌, nat_eq, inl, inr}
+use Rattle.std.proofs.Common.{ℕ, ◌≡◌, ◌<◌, ◌^◌, false, Option, Some, None, refl, sym, subst, ◌∙◌, nat_eq, inl, inr}
 use Rattle.std.proofs.lemmas.Bool.{cases_eq}
 use Rattle.ch_cost.specs.declared.cost.Cost.{Cost}
 use Rattle.ch_overlay.specs.declared.source.Seen.{Seen}

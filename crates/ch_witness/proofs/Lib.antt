@@ -1,3 +1,4 @@
+pub mod Copies
 pub mod Following
 pub mod Giving
 pub mod Growing

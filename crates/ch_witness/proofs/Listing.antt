@@ -1,10 +1,12 @@
 -- The answers that are kept, listed one by one.
-use Rattle.std.proofs.Common.{ℕ, ◌≡◌, ◌≢◌, ◌⊎◌, ◌<◌, List, [], ◌∷◌, ◌++◌, length, get_or, Option, Some, None, AllPairs, Contains, refl, ap, sym, subst, ◌∙◌, arith, inl, inr}
+use Rattle.std.proofs.Common.{ℕ, ◌≡◌, ◌≢◌, ◌⊎◌, List, [], ◌∷◌, ◌++◌, get_or, Option, Some, None, Contains, refl, ap, sym, subst, ◌∙◌, arith, inl, inr}
 use Rattle.std.proofs.lemmas.Bool.{cases_eq}
 use Rattle.std.proofs.lemmas.List.Elements.{Contains-append_left, Contains-push, Contains-push_cases, Contains-get_or}
 use Rattle.std.proofs.lemmas.List.Quantifiers.{all_pairs_push}
+use Rattle.std.specs.List.{All}
+use Rattle.ch_cost.specs.declared.cost.Cost.{Cost}
 use Rattle.ch_overlay.specs.declared.source.Seen.{Seen}
-use Rattle.ch_witness.specs.Kept.{Kept, AreListed, IsListed, IsListedFrom, OfTheirNodes}
+use Rattle.ch_witness.specs.Kept.{Kept, AreKept, AreListed, IsAnswer, IsListedFrom, OfTheirNodes}
 
 some-same : (a b : Seen) → Some a ≡ Some b → a ≡ b
 some-same a b e = cc
@@ -34,6 +36,7 @@ listing-start kept = record {
   is = record {
     once = λ i j d low high. absurd (omega (arith, high));
     from_kept = λ s among. absurd (empty s among);
+    of_nodes = λ s among. absurd (empty s among);
     every = λ x s among is. absurd (none-among x among);
     first = λ x others s e is. absurd (no-first x others e);
   };
@@ -77,7 +80,7 @@ module _ (whole kept new : Kept) (v : ℕ) where
 
   listing-none : (nodes : List ℕ) (listed : List Seen) → kept v ≡ None → ((y : ℕ) → new y ≡ kept y) → Listing whole kept nodes listed → Listing whole new (nodes ++ v ∷ []) listed
   listing-none nodes listed none same l = record {
-    is = record { once = l.is.once; from_kept = l.is.from_kept; every = every-none nodes listed none l; first = first-none nodes listed none l };
+    is = record { once = l.is.once; from_kept = l.is.from_kept; of_nodes = λ s among. Contains-append_left nodes (v ∷ []) s.node (l.is.of_nodes s among); every = every-none nodes listed none l; first = first-none nodes listed none l };
     gone = λ s among. same s.node ∙ l.gone s among;
     left = λ x s is. l.left x s (sym (same x) ∙ is);
     none = λ e. absurd (not-nothing nodes v e);
@@ -103,6 +106,10 @@ module _ (whole kept new : Kept) (v : ℕ) where
       from_kept = λ s among. elim (Contains-push_cases listed t s among) [
         | inl old ↦ l.is.from_kept s old
         | inr here ↦ subst (λ (u : Seen). whole u.node ≡ Some u) here at
+      ];
+      of_nodes = λ s among. elim (Contains-push_cases listed t s among) [
+        | inl old ↦ Contains-append_left nodes (v ∷ []) s.node (l.is.of_nodes s old)
+        | inr here ↦ subst (λ (u : Seen). Contains (nodes ++ v ∷ []) u.node) here (subst (λ (y : ℕ). Contains (nodes ++ v ∷ []) y) (sym node) (Contains-push nodes v))
       ];
       every = λ x s among is. elim (Contains-push_cases nodes v x among) [
         | inl old ↦ Contains-append_left listed (t ∷ []) s (l.is.every x s old is)
@@ -140,3 +147,9 @@ module _ (whole kept new : Kept) (v : ℕ) where
   pub listing-more : (nodes : List ℕ) (listed more : List Seen) → OfTheirNodes whole → (o : Option Seen) → kept v ≡ o → IsListedFrom o kept v listed new more → Listing whole kept nodes listed → Listing whole new (nodes ++ v ∷ []) more
   listing-more nodes listed more own None is step l = subst (Listing whole new (nodes ++ v ∷ [])) (sym step.1) (listing-none nodes listed is step.0 l)
   listing-more nodes listed more own (Some t) is step l = subst (Listing whole new (nodes ++ v ∷ [])) (sym step.2) (listing-some t nodes listed own is step.0 step.1 l)
+
+-- what is listed is of each kind that the answers are of
+pub all_listed_are : (Bears Shows IsKind : Seen → Type 0) (bound : Cost) (kept : Kept) (nodes : List ℕ) (listed : List Seen) → AreKept Bears Shows bound kept → AreListed kept nodes listed → ((x : ℕ) (s : Seen) → IsAnswer Bears Shows bound x s → IsKind s) → All IsKind listed
+all_listed_are Bears Shows IsKind bound kept nodes listed answers listing to k d h =
+    let s = get_or listed k d in
+    to s.node s (answers s.node s (listing.from_kept s (Contains-get_or listed k d h)))

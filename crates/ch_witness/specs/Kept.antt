@@ -68,5 +68,6 @@ IsListed kept x listed new more = IsListedFrom (kept x) kept x listed new more
 pub record AreListed (kept : Kept) (nodes : List ℕ) (listed : List Seen) : Type 0 where
   pub once : AllPairs (λ a b. a.node ≢ b.node) listed
   pub from_kept : (s : Seen) → Contains listed s → kept s.node ≡ Some s
+  pub of_nodes : (s : Seen) → Contains listed s → Contains nodes s.node
   pub every : (x : ℕ) (s : Seen) → Contains nodes x → kept x ≡ Some s → Contains listed s
   pub first : (x : ℕ) (others : List ℕ) (s : Seen) → nodes ≡ x ∷ others → kept x ≡ Some s → (more : List Seen) × (listed ≡ s ∷ more)

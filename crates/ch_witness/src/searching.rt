@@ -20,12 +20,49 @@ use std::alloc::{AllocError, Global};
 ///
 /// Dijkstra's algorithm (1959): it settles nodes in the order of their costs, of equal costs the smaller number first,
 /// at most `settle` of them (1 to 65,536) and none above the cutoff, and goes on from those whose rows have no rank. It
-/// reads each of their rows once, and ends early where every target is settled. A target's way is the best that was
-/// reached, settled or not.
+/// asks the source for each of their rows once, and ends early where every target is settled. A target's way is the
+/// best that was reached, settled or not. The rows that it hands over are the source's own answers.
 ///
 /// `from` and the targets differ from `avoid`, and the cutoff is within the bound of the source. `OutOfMemory` where a
 /// growth was refused, `Unseen` where the source has no row of a node that is gone on from; the source has then moved
 /// as reading moves it, and nothing else. Memory and time go by the nodes that are settled and their neighbours.
+pub fn search<S: RowSource>(
+    alloc: Global,
+    source: &mut S,
+    from: u32,
+    avoid: u32,
+    cutoff: Cost,
+    targets: &[u32],
+    settle: u32,
+) -> Result<Found, SearchError>
+    requires start { from ≢ avoid }
+    requires targets { Contains targets.now avoid → ⊥ }
+    requires cutoff { IsWithin cutoff (S.bound_of source.old) }
+    requires some { 1 ≤ settle }
+    requires few { settle ≤ 2 ^ 16 }
+    ensures ways { IfOk result (λ found. AreWays found.seen.items from avoid cutoff targets.now found.ways.items) }
+    ensures direct { IfOk result (λ found. (k : ℕ) → k < length targets.now → slice_index targets.now k ≢ from → (s : Seen) × S.bears s × S.shows source.new s × IsStartRow found.seen.items from cutoff targets.now found.ways.items s) }
+    ensures rows { IfOk result (λ found. AreRows found.seen.items) }
+    ensures bears { IfOk result (λ found. All S.bears found.seen.items) }
+    ensures shows { IfOk result (λ found. All (S.shows source.new) found.seen.items) }
+    ensures stays { S.stays source.old source.new }
+    ensures found { S.whole source.old from → result ≡ Err Unseen → ⊥ }
+{
+    let mut rows = Rows::new(alloc);
+    let copies = search_with(
+        alloc, source, &mut rows, from, avoid, cutoff, targets, settle,
+    )?;
+    let nodes = nodes_of(alloc, &copies.seen)?;
+    let seen = rows.into_listed(alloc, &nodes)?;
+    let ways = copies.ways;
+    Ok(Found { ways, seen })
+}
+
+/// The ways of [`search`], along rows that are kept from one search to the next.
+///
+/// The source is asked for a row only where none is kept for the node, and what it answers is kept, also where the
+/// search fails. The rows that are handed over are copies of those that are kept, so that several searches may rest on
+/// the same answers. The conditions and the errors are those of [`search`].
 pub fn search_with<S: RowSource>(
     alloc: Global,
     source: &mut S,
@@ -97,4 +134,11 @@ fn rows_of(alloc: Global, tree: Tree) -> Result<Vec<Seen>, AllocError>
     ensures { IfOk result (λ seen. seen.items ≡ map (λ s. s.seen) tree.steps.items) }
 {
     tree.steps.into_iter().map(|step| step.seen).collect(alloc)
+}
+
+/// The nodes of the rows, in order.
+fn nodes_of(alloc: Global, seen: &[Seen]) -> Result<Vec<u32>, AllocError>
+    ensures { IfOk result (λ nodes. nodes.items ≡ map (λ s. s.node) seen.now) }
+{
+    seen.iter().map(|seen| seen.node).collect(alloc)
 }

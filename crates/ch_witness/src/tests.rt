@@ -3,7 +3,7 @@ ghost use Rattle.ch_cost.specs.Cost.{cost_of_arcs};
 ghost use Rattle.ch_laws.specs.Rows.{Rises};
 ghost use Rattle.ch_overlay.specs.Overlay.{IsEntry};
 
-use crate::{Found, Rows, SearchError, search_with};
+use crate::{Found, Rows, SearchError, Way, search, search_with};
 use ch_cost::Cost;
 use ch_laws::Entry;
 use ch_overlay::{Row, RowSource, SeeError, Seen};
@@ -169,11 +169,7 @@ fn found(
     if settle == 0 || settle > 65_536 {
         return Ok(None);
     }
-    let mut rows = Rows::new(alloc);
-    let found = search_with(
-        alloc, shelf, &mut rows, from, avoid, cutoff, targets, settle,
-    )?;
-    Ok(Some(found))
+    Ok(Some(search(alloc, shelf, from, avoid, cutoff, targets, settle)?))
 }
 
 /// The nodes of the way to the one target, none where there is no way, and the nodes that were asked for.
@@ -252,5 +248,39 @@ fn over_three_arcs(rt: HostRuntime) -> Result<(), SearchError> {
     assert!(rt; nodes.as_slice() == [2u32, 1, 0, 3].as_slice());
     let (nodes, _) = way(rt.alloc(), &chain, None, (2, 0), 3, 3, 64)?;
     assert!(rt; nodes.is_empty());
+    Ok(())
+}
+
+/// Whether the one way is this.
+fn is_one_way(ways: &[Option<Way>], nodes: &[u32]) -> bool {
+    if ways.len() != 1 {
+        return false;
+    }
+    let Some(way) = &ways[0] else {
+        return false;
+    };
+    way.nodes.as_slice() == nodes
+}
+
+#[test]
+fn two_searches_ask_for_a_row_once(rt: HostRuntime) -> Result<(), SearchError> {
+    let alloc = rt.alloc();
+    let cutoff = Cost::of_weight(2);
+    if !cutoff.is_within(bound()) {
+        assert!(rt; false);
+        return Ok(());
+    }
+    let mut shelf = shelf_of(alloc, &TIE, None)?;
+    let mut rows = Rows::new(alloc);
+    let first = search_with(alloc, &mut shelf, &mut rows, 2, 0, cutoff, &[3], 64)?;
+    let second = search_with(alloc, &mut shelf, &mut rows, 2, 0, cutoff, &[3], 64)?;
+    assert!(rt; is_one_way(&first.ways, &[2, 1, 3]));
+    assert!(rt; is_one_way(&second.ways, &[2, 1, 3]));
+    assert!(rt; shelf.asked.as_slice() == [2u32, 1].as_slice());
+    // Node 3 wasn't read, and node 1 is named twice.
+    let listed = rows.into_listed(alloc, &[1, 2, 3, 1])?;
+    assert!(rt; listed.len() == 2);
+    assert!(rt; listed[0].node == 1);
+    assert!(rt; listed[1].node == 2);
     Ok(())
 }

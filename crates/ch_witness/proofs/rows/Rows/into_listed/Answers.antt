@@ -1,4 +1,4 @@
-use Rattle.std.proofs.Common.{ℕ, List, [], take, get_or, arith, subst, sym, refl}
+use Rattle.std.proofs.Common.{ℕ, List, [], take, get_or, subst, sym, refl}
 use Rattle.std.proofs.lemmas.List.{take_all, take_more}
 use Rattle.ch_overlay.specs.declared.source.Seen.{Seen}
 use Rattle.ch_witness.specs.Kept.{kept_of, AreListed}

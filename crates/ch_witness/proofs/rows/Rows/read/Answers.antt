@@ -1,7 +1,7 @@
 use Rattle.std.proofs.Common.{ℕ, ◌≡◌, Some, sym, subst, ◌∙◌}
 use Rattle.ch_overlay.specs.Source.{IsBound, IsSeenRow}
 use Rattle.ch_cost.specs.declared.cost.Cost.{Cost}
-use Rattle.ch_witness.specs.Kept.{kept_of, IsCopy, IsKept}
+use Rattle.ch_witness.specs.Kept.{kept_of, IsCopy}
 use Rattle.ch_witness.proofs.Keeping.{copy_known, copy_row, kept_moved, kept_put}
 use Rattle.ch_witness.proofs.rows.Rows.read.Goals as goal
 

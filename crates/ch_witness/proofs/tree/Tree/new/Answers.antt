@@ -4,7 +4,7 @@ use Rattle.ch_cost.specs.Cost.{IsWithin}
 use Rattle.ch_cost.specs.Cost.Laws.{ZERO-is}
 use Rattle.ch_witness.specs.declared.tree.Step.{Step}
 use Rattle.ch_witness.specs.Kept.{kept_of, IsKept}
-use Rattle.ch_witness.proofs.Keeping.{kept_still, more_trans}
+use Rattle.ch_witness.proofs.Keeping.{kept_still}
 use Rattle.ch_witness.specs.Tree.{labels_of, IsTree, IsGoneOn, IsLater}
 use Rattle.ch_witness.proofs.Offering.{begun}
 use Rattle.ch_witness.proofs.Growing.{all_start, tree_start, start_seen, seen_gone, seen_none}
