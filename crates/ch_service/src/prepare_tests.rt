@@ -13,6 +13,9 @@ const ROW_TEXT: &[u8] = b"p sp 3 2\na 2 1 2\na 1 3 3\n";
 const HEAVIEST: &[u8] =
     b"p sp 4 4\na 3 1 4294967295\na 1 2 4294967295\na 2 1 4294967295\na 1 4 4294967295\n";
 
+/// Arcs of weight 1 between four nodes; the ways 3, 1, 4 and 3, 2, 4 are equally long.
+const TIE: &[u8] = b"p sp 4 4\na 3 1 1\na 1 4 1\na 3 2 1\na 2 4 1\n";
+
 /// The file of the hierarchy of a graph, or why there is none.
 fn prepared(alloc: Global, mut graph: &[u8]) -> Result<Vec<u8>, ServiceError> {
     let mut out = Vec::new(alloc);
@@ -71,6 +74,22 @@ fn file_of_the_heaviest_weights(rt: HostRuntime) -> Result<(), Fail> {
     Ok(())
 }
 
+#[test]
+fn file_of_a_tie(rt: HostRuntime) -> Result<(), Fail> {
+    let none = u32::MAX;
+    let links = [
+        (0, 3, 1, none),
+        (1, 3, 1, none),
+        (2, 0, 1, none),
+        (2, 1, 1, none),
+        (2, 3, 2, 1),
+    ];
+    let file = file_of(rt.alloc(), 3, &links)?;
+    let out = prepared(rt.alloc(), TIE)?;
+    assert!(rt; out.as_slice() == file.as_slice());
+    Ok(())
+}
+
 /// The answers to pairs of a graph's nodes by its hierarchy, prepared and read again.
 fn through(alloc: Global, graph: &[u8], mut pairs: &[u8]) -> Result<Vec<u8>, ServiceError> {
     let file = prepared(alloc, graph)?;
@@ -113,22 +132,16 @@ fn routes_by_prepared_files(rt: HostRuntime) -> Result<(), Fail> {
             b"p aux sp p2p 2\nq 3 4\nq 4 3\n".as_slice(),
             b"r 3 4 8589934590 2 3 1 4\nn 4 3\n".as_slice(),
         ),
+        (
+            TIE,
+            b"p aux sp p2p 2\nq 3 4\nq 4 3\n".as_slice(),
+            b"r 3 4 2 2 3 2 4\nn 4 3\n".as_slice(),
+        ),
     ];
     for (graph, pairs, answers) in cases {
         let out = through(rt.alloc(), graph, pairs)?;
         assert!(rt; out.as_slice() == answers);
     }
-    Ok(())
-}
-
-#[test]
-fn either_way_of_a_tie(rt: HostRuntime) -> Result<(), Fail> {
-    let graph = b"p sp 4 4\na 3 1 1\na 1 4 1\na 3 2 1\na 2 4 1\n";
-    let out = through(rt.alloc(), graph, b"p aux sp p2p 2\nq 3 4\nq 4 3\n")?;
-    assert!(rt;
-        out.as_slice() == b"r 3 4 2 2 3 1 4\nn 4 3\n".as_slice()
-            || out.as_slice() == b"r 3 4 2 2 3 2 4\nn 4 3\n".as_slice()
-    );
     Ok(())
 }
 

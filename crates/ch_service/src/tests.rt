@@ -432,13 +432,10 @@ fn a_write_that_fails_within_a_long_line(rt: HostRuntime) -> Result<(), Fail> {
 }
 
 #[test]
-fn either_way_of_a_tie(rt: HostRuntime) -> Result<(), Fail> {
+fn one_way_of_a_tie(rt: HostRuntime) -> Result<(), Fail> {
     let graph = b"p sp 4 4\na 3 1 1\na 1 4 1\na 3 2 1\na 2 4 1\n";
     let out = answers(rt.alloc(), graph, b"p aux sp p2p 1\nq 3 4\n")?;
-    assert!(rt;
-        out.as_slice() == b"r 3 4 2 2 3 1 4\n".as_slice()
-            || out.as_slice() == b"r 3 4 2 2 3 2 4\n".as_slice()
-    );
+    assert!(rt; out.as_slice() == b"r 3 4 2 2 3 2 4\n".as_slice());
     Ok(())
 }
 
