@@ -1,4 +1,3 @@
-pub mod SameRows
 pub mod Ranked
 pub mod Lawful
 pub mod Growing

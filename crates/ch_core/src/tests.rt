@@ -51,6 +51,10 @@ fn read(worker: u32, node: u32, version: u64) -> Event {
     }
 }
 
+fn offer(worker: u32, proposal: Proposal) -> Event {
+    Event::Offer { worker, proposal }
+}
+
 /// Whether each of two workers is shown the opening version of each node.
 fn all_shown(world: &mut World, nodes: u32) -> Result<bool, AllocError> {
     let mut shown = true;
@@ -73,6 +77,15 @@ fn has_versions(world: &World, versions: &[u64]) -> bool {
     same
 }
 
+/// A world of two workers who read the opening version of each node.
+fn world_shown(alloc: Global, nodes: u32, roads: Vec<Road>) -> Result<World, Fail> {
+    let mut world = world_of(alloc, nodes, roads, 2)?;
+    if !all_shown(&mut world, nodes)? {
+        return Err(Fail::from("a version isn't shown"));
+    }
+    Ok(world)
+}
+
 /// A diamond: node 2 leads to 3 by way of 0 and of 1.
 fn diamond(alloc: Global) -> Result<Vec<Road>, AllocError> {
     let roads = vec![in alloc; road(2, 0, 1), road(0, 3, 1), road(2, 1, 1), road(1, 3, 1)]?;
@@ -82,21 +95,12 @@ fn diamond(alloc: Global) -> Result<Vec<Road>, AllocError> {
 #[test]
 fn later_offer_is_stale(rt: HostRuntime) -> Result<(), Fail> {
     let alloc = rt.alloc();
-    let mut world = world_of(alloc, 4, diamond(alloc)?, 2)?;
-    let shown = all_shown(&mut world, 4)?;
-    assert!(rt; shown);
+    let mut world = world_shown(alloc, 4, diamond(alloc)?)?;
     let first = proposal(alloc, &world, 0, 0)?;
     let second = proposal(alloc, &world, 1, 1)?;
-    let third = proposal(alloc, &world, 1, 1)?;
-    let outcome = world.step(Event::Offer {
-        worker: 0,
-        proposal: first,
-    })?;
+    let outcome = world.step(offer(0, first))?;
     assert_eq!(rt; outcome, Outcome::Committed(Receipt { node: 0, rank: 0 }));
-    let outcome = world.step(Event::Offer {
-        worker: 1,
-        proposal: second,
-    })?;
+    let outcome = world.step(offer(1, second))?;
     let stale = CommitError::Stale {
         node: 2,
         seen: 2,
@@ -104,16 +108,33 @@ fn later_offer_is_stale(rt: HostRuntime) -> Result<(), Fail> {
         front: 1,
     };
     assert_eq!(rt; outcome, Outcome::Refused(stale));
+    Ok(())
+}
+
+#[test]
+fn old_rows_are_read(rt: HostRuntime) -> Result<(), Fail> {
+    let alloc = rt.alloc();
+    let mut world = world_shown(alloc, 4, diamond(alloc)?)?;
+    let first = proposal(alloc, &world, 0, 0)?;
+    let outcome = world.step(offer(0, first))?;
+    assert_eq!(rt; outcome, Outcome::Committed(Receipt { node: 0, rank: 0 }));
     let outcome = world.step(read(1, 2, 2))?;
+    assert_eq!(rt; outcome, Outcome::Shown);
+    let outcome = world.step(read(1, 2, 5))?;
     assert_eq!(rt; outcome, Outcome::Shown);
     let outcome = world.step(read(1, 2, 9))?;
     assert_eq!(rt; outcome, Outcome::NoSuch);
+    Ok(())
+}
+
+#[test]
+fn forgotten_rows_are_not_offered(rt: HostRuntime) -> Result<(), Fail> {
+    let alloc = rt.alloc();
+    let mut world = world_shown(alloc, 4, diamond(alloc)?)?;
+    let mine = proposal(alloc, &world, 1, 1)?;
     let outcome = world.step(Event::Forget { worker: 1 })?;
     assert_eq!(rt; outcome, Outcome::Forgotten);
-    let outcome = world.step(Event::Offer {
-        worker: 1,
-        proposal: third,
-    })?;
+    let outcome = world.step(offer(1, mine))?;
     assert_eq!(rt; outcome, Outcome::NoSuch);
     Ok(())
 }
@@ -140,16 +161,11 @@ fn nothing_there(rt: HostRuntime) -> Result<(), Fail> {
 #[test]
 fn what_another_read_is_not_offered(rt: HostRuntime) -> Result<(), Fail> {
     let alloc = rt.alloc();
-    let mut world = world_of(alloc, 4, diamond(alloc)?, 2)?;
-    let shown = all_shown(&mut world, 4)?;
-    assert!(rt; shown);
+    let mut world = world_shown(alloc, 4, diamond(alloc)?)?;
     let mine = proposal(alloc, &world, 0, 0)?;
     let outcome = world.step(Event::Forget { worker: 1 })?;
     assert_eq!(rt; outcome, Outcome::Forgotten);
-    let outcome = world.step(Event::Offer {
-        worker: 1,
-        proposal: mine,
-    })?;
+    let outcome = world.step(offer(1, mine))?;
     assert_eq!(rt; outcome, Outcome::NoSuch);
     Ok(())
 }
@@ -157,9 +173,7 @@ fn what_another_read_is_not_offered(rt: HostRuntime) -> Result<(), Fail> {
 #[test]
 fn another_bound(rt: HostRuntime) -> Result<(), Fail> {
     let alloc = rt.alloc();
-    let mut world = world_of(alloc, 4, diamond(alloc)?, 2)?;
-    let shown = all_shown(&mut world, 4)?;
-    assert!(rt; shown);
+    let mut world = world_shown(alloc, 4, diamond(alloc)?)?;
     let heavy = vec![in alloc;
         road(2, 0, 1),
         road(0, 3, 1),
@@ -167,14 +181,9 @@ fn another_bound(rt: HostRuntime) -> Result<(), Fail> {
         road(1, 3, 1),
         road(3, 3, 9),
     ]?;
-    let mut other = world_of(alloc, 4, heavy, 2)?;
-    let shown = all_shown(&mut other, 4)?;
-    assert!(rt; shown);
+    let other = world_shown(alloc, 4, heavy)?;
     let foreign = proposal(alloc, &other, 0, 0)?;
-    let outcome = world.step(Event::Offer {
-        worker: 0,
-        proposal: foreign,
-    })?;
+    let outcome = world.step(offer(0, foreign))?;
     assert_eq!(rt; outcome, Outcome::NoSuch);
     Ok(())
 }
@@ -183,20 +192,12 @@ fn another_bound(rt: HostRuntime) -> Result<(), Fail> {
 fn offers_that_share_no_row(rt: HostRuntime) -> Result<(), Fail> {
     let alloc = rt.alloc();
     let roads = vec![in alloc; road(0, 1, 1), road(1, 2, 1), road(3, 4, 1), road(4, 5, 1)]?;
-    let mut world = world_of(alloc, 6, roads, 2)?;
-    let shown = all_shown(&mut world, 6)?;
-    assert!(rt; shown);
+    let mut world = world_shown(alloc, 6, roads)?;
     let first = proposal(alloc, &world, 0, 1)?;
     let second = proposal(alloc, &world, 1, 4)?;
-    let outcome = world.step(Event::Offer {
-        worker: 0,
-        proposal: first,
-    })?;
+    let outcome = world.step(offer(0, first))?;
     assert_eq!(rt; outcome, Outcome::Committed(Receipt { node: 1, rank: 0 }));
-    let outcome = world.step(Event::Offer {
-        worker: 1,
-        proposal: second,
-    })?;
+    let outcome = world.step(offer(1, second))?;
     assert_eq!(rt; outcome, Outcome::Committed(Receipt { node: 4, rank: 1 }));
     let shown = has_versions(&world, [7, 6, 8, 10, 9, 11].as_slice());
     assert!(rt; shown);

@@ -2,6 +2,7 @@ use super::{graph_of, read, road};
 use crate::{Event, Outcome, World};
 use ch_contract::{CommitError, Proposal, Receipt, propose};
 use ch_graph::Road;
+use ch_overlay::Seen;
 use std::alloc::{AllocError, Global};
 use std::test::Fail;
 
@@ -100,31 +101,46 @@ impl Slow {
         self.arcs.contains(&(node, other)) || self.arcs.contains(&(other, node))
     }
 
-    fn offer(&mut self, worker: u32, proposal: &Proposal) -> Result<Outcome, AllocError> {
-        let node = proposal.node();
-        for seen in proposal.rests_on() {
+    /// Whether the worker has all these rows, by their versions.
+    fn has_all(&self, worker: u32, rows: &[Seen]) -> bool {
+        let mut all = true;
+        for seen in rows {
             let had = Had {
                 worker,
                 node: seen.node,
                 version: seen.version,
             };
-            if !self.had.contains(&had) {
-                return Ok(Outcome::NoSuch);
-            }
+            all = all && self.had.contains(&had);
         }
-        if self.done.contains(&node) {
-            return Ok(Outcome::Refused(CommitError::Contracted));
-        }
-        for seen in proposal.rests_on() {
+        all
+    }
+
+    /// Why the first row of another version is refused, if there is one.
+    fn stale(&self, rows: &[Seen]) -> Option<CommitError> {
+        for seen in rows {
             let now = self.current(seen.node);
             if seen.version != now {
-                return Ok(Outcome::Refused(CommitError::Stale {
+                return Some(CommitError::Stale {
                     node: seen.node,
                     seen: seen.version,
                     now,
                     front: self.done.len() as u64,
-                }));
+                });
             }
+        }
+        None
+    }
+
+    fn offer(&mut self, worker: u32, proposal: &Proposal) -> Result<Outcome, AllocError> {
+        let node = proposal.node();
+        if !self.has_all(worker, proposal.rests_on()) {
+            return Ok(Outcome::NoSuch);
+        }
+        if self.done.contains(&node) {
+            return Ok(Outcome::Refused(CommitError::Contracted));
+        }
+        if let Some(error) = self.stale(proposal.rests_on()) {
+            return Ok(Outcome::Refused(error));
         }
         let rank = self.rank;
         self.contract(proposal)?;
@@ -199,10 +215,20 @@ impl Walk {
         Ok(())
     }
 
-    /// An event: a read, mostly of the current version, an offer of what waited longest, or rarely a forgetting.
+    /// An offer of what waited shortest, mostly by the worker that worked it out.
+    fn offer(&mut self, worker: u32, by_another: bool) -> Result<bool, AllocError> {
+        let Some((owner, proposal)) = self.waiting.pop() else {
+            return Ok(true);
+        };
+        let worker = if by_another { worker } else { owner };
+        self.step(Event::Offer { worker, proposal })
+    }
+
+    /// An event: a read, mostly of the current version, an offer of what waited shortest, or rarely a forgetting.
     fn next(&mut self, alloc: Global, dice: &mut Dice) -> Result<bool, AllocError> {
         let worker = dice.below(WORKERS);
         let node = dice.below(6);
+        let rarely = dice.below(8) == 0;
         match dice.below(10) {
             0 => {
                 let version = u64::from(dice.below(16));
@@ -216,15 +242,9 @@ impl Walk {
                 self.propose(alloc, worker, node)?;
                 Ok(true)
             }
-            8 => match self.waiting.pop() {
-                Some((owner, proposal)) => {
-                    let worker = if dice.below(8) == 0 { worker } else { owner };
-                    self.step(Event::Offer { worker, proposal })
-                }
-                None => Ok(true),
-            },
+            8 => self.offer(worker, rarely),
             _ => {
-                let worker = if dice.below(4) == 0 { worker } else { WORKERS };
+                let worker = if rarely { worker } else { WORKERS };
                 self.step(Event::Forget { worker })
             }
         }
@@ -240,26 +260,37 @@ fn random_roads(alloc: Global, dice: &mut Dice) -> Result<Vec<Road>, AllocError>
     Ok(roads)
 }
 
+/// A walk at its start, by eight roads that look random.
+fn walk_of(alloc: Global, dice: &mut Dice) -> Result<Walk, Fail> {
+    let roads = random_roads(alloc, dice)?;
+    let slow = Slow::new(alloc, roads.as_slice())?;
+    let graph = graph_of(NODES, roads).ok_or("a road that isn't allowed")?;
+    let world = World::new(alloc, graph, WORKERS)?;
+    Ok(Walk {
+        world,
+        slow,
+        waiting: Vec::new(alloc),
+    })
+}
+
+/// Whether the world answers as the slow one does all along a walk, and how many nodes were contracted.
+fn walked(alloc: Global, dice: &mut Dice) -> Result<(bool, usize), Fail> {
+    let mut walk = walk_of(alloc, dice)?;
+    let mut same = true;
+    for _ in 0..120 {
+        same = walk.next(alloc, dice)? && same;
+    }
+    Ok((same, walk.world.log().len()))
+}
+
 #[test]
 fn as_the_slow_world(rt: HostRuntime) -> Result<(), Fail> {
     let alloc = rt.alloc();
     let mut dice = Dice { state: 2008 };
     let mut committed = 0;
     for _ in 0..30 {
-        let roads = random_roads(alloc, &mut dice)?;
-        let slow = Slow::new(alloc, roads.as_slice())?;
-        let graph = graph_of(NODES, roads).ok_or("a road that isn't allowed")?;
-        let world = World::new(alloc, graph, WORKERS)?;
-        let mut walk = Walk {
-            world,
-            slow,
-            waiting: Vec::new(alloc),
-        };
-        for _ in 0..120 {
-            let same = walk.next(alloc, &mut dice)?;
-            assert!(rt; same);
-        }
-        let done = walk.world.log().len();
+        let (same, done) = walked(alloc, &mut dice)?;
+        assert!(rt; same);
         committed = done.max(committed);
     }
     assert!(rt; committed > 2);

@@ -1,7 +1,7 @@
 use Rattle.std.proofs.Common.{◌≡◌, ◌↔◌, ◌&&◌, IsTrue, ap, sym, subst, ◌∙◌}
 use Rattle.std.specs.Bool.{Decides}
 use Rattle.ch_laws.specs.Rows.{Row}
-use Rattle.ch_core.proofs.SameRows.{option_decides, entries_decide, row_decides}
+use Rattle.ch_contract.proofs.SameRows.{option_decides, entries_decide, row_decides}
 use Rattle.ch_core.proofs.reads.is_same_row.Goals as goal
 
 pub returns : goal.returns
