@@ -24,6 +24,8 @@ mod proposing;
 mod shown;
 mod site;
 mod sweep;
+#[cfg(test)]
+mod tests;
 mod verdict;
 
 pub use board::Board;
