@@ -1,7 +1,7 @@
+use crate::test_kit::{one_list, tie};
 use crate::{BuildError, OpenGate, Options, build};
 use ch_contract::{Contraction, Facts};
 use ch_estimate::{EdgeDifference, Estimator, Leases, Note};
-use ch_graph::{Graph, Road};
 use std::alloc::{AllocError, Global};
 use std::sync::Arc;
 use std::sync::atomic::{AtomicU64, Ordering};
@@ -71,21 +71,6 @@ fn no_traces(alloc: Global) -> Result<Arc<Traces>, AllocError> {
     Ok(traces)
 }
 
-/// An arc of weight 1.
-fn road(from: u32, to: u32) -> Road {
-    Road {
-        from,
-        to,
-        weight: 1,
-    }
-}
-
-/// Two ways from node 2 to node 3, by 0 and by 1, of one length.
-fn tie(alloc: Global) -> Result<Graph, AllocError> {
-    let arcs = vec![in alloc; road(2, 0), road(0, 3), road(2, 1), road(1, 3)]?;
-    Ok(Graph::new(4, arcs))
-}
-
 /// What the first entries of a log add up to by their places.
 fn sum_of(log: &[Contraction], told: u64) -> u64 {
     let mut sum = 0u64;
@@ -109,10 +94,7 @@ fn told_is_a_prefix_of_the_log(rt: HostRuntime) -> Result<(), Fail> {
     };
     let inner = EdgeDifference::new(alloc, leases.lease()?);
     let estimator: Box<dyn Estimator + Send> = Box::new(alloc, Stubborn { inner, mark })?;
-    let mut list = Vec::new(alloc);
-    list.push(estimator)?;
-    let mut lists = Vec::new(alloc);
-    lists.push(list)?;
+    let lists = one_list(alloc, estimator)?;
     let options = Options {
         workers: 1,
         heaps: 2,
@@ -151,10 +133,7 @@ fn bad_options_drop_the_estimators(rt: HostRuntime) -> Result<(), Fail> {
     };
     let inner = EdgeDifference::new(alloc, leases.lease()?);
     let estimator: Box<dyn Estimator + Send> = Box::new(alloc, Stubborn { inner, mark })?;
-    let mut list = Vec::new(alloc);
-    list.push(estimator)?;
-    let mut lists = Vec::new(alloc);
-    lists.push(list)?;
+    let lists = one_list(alloc, estimator)?;
     let options = Options {
         workers: 1,
         heaps: 0,

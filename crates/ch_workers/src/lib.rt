@@ -36,4 +36,6 @@ pub use options::Options;
 #[cfg(test)]
 mod estimator_tests;
 #[cfg(test)]
+mod test_kit;
+#[cfg(test)]
 mod tests;

@@ -1,5 +1,4 @@
-ghost use Rattle.std.specs.Prelude.{◌<◌};
-
+use crate::test_kit::{add_list, are_ranks, graph_of, one_list, road, tie};
 use crate::{BuildError, Gate, OpenGate, Options, Point, build};
 use ch_contract::Receipt;
 use ch_cost::Cost;
@@ -22,51 +21,38 @@ const ONE: Options = Options {
     turns: 100,
 };
 
-/// An arc.
-fn road(from: u32, to: u32, weight: u32) -> Road {
-    Road { from, to, weight }
-}
-
 /// Arcs from nodes 1 and 2 into node 0, and from there to nodes 3 and 4.
-fn star(alloc: Global) -> Result<Graph, AllocError> {
+fn star(alloc: Global) -> Result<Graph, Fail> {
     let arcs = vec![in alloc; road(1, 0, 1), road(2, 0, 1), road(0, 3, 1), road(0, 4, 1)]?;
-    Ok(Graph::new(5, arcs))
-}
-
-/// Two ways from node 2 to node 3, by 0 and by 1, of one length.
-fn tie(alloc: Global) -> Result<Graph, AllocError> {
-    let arcs = vec![in alloc; road(2, 0, 1), road(0, 3, 1), road(2, 1, 1), road(1, 3, 1)]?;
-    Ok(Graph::new(4, arcs))
+    graph_of(5, arcs)
 }
 
 /// The row of three nodes: 1 to 0, and 0 to 2.
-fn row(alloc: Global) -> Result<Graph, AllocError> {
+fn row(alloc: Global) -> Result<Graph, Fail> {
     let arcs = vec![in alloc; road(1, 0, 2), road(0, 2, 3)]?;
-    Ok(Graph::new(3, arcs))
+    graph_of(3, arcs)
 }
 
 /// The grid of 25 nodes `5i + j`, with both directions between nodes next to each other.
-fn grid(alloc: Global) -> Result<Graph, AllocError> {
+fn grid(alloc: Global) -> Result<Graph, Fail> {
     let mut arcs = Vec::new(alloc);
     'nodes: for node in 0..25u32 {
         if node % 5 != 4 {
-            arcs.push(road(node, node + 1, weight(node, node + 1)))?;
-            arcs.push(road(node + 1, node, weight(node, node + 1)))?;
+            add_both(&mut arcs, node, node + 1)?;
         }
         if node < 20 {
-            arcs.push(road(node, node + 5, weight(node, node + 5)))?;
-            arcs.push(road(node + 5, node, weight(node, node + 5)))?;
+            add_both(&mut arcs, node, node + 5)?;
         }
     }
-    Ok(Graph::new(25, arcs))
+    graph_of(25, arcs)
 }
 
-/// The weight between two nodes of the grid.
-fn weight(a: u32, b: u32) -> u32
-    requires first { a < 25 }
-    requires second { b < 25 }
-{
-    1 + (a + 1) * (b + 1) % 7
+/// Puts in the arcs between two nodes of the grid, in both directions.
+fn add_both(arcs: &mut Vec<Road>, a: u32, b: u32) -> Result<(), AllocError> {
+    let weight = 1 + a.wrapping_add(1).wrapping_mul(b.wrapping_add(1)) % 7;
+    arcs.push(road(a, b, weight))?;
+    arcs.push(road(b, a, weight))?;
+    Ok(())
 }
 
 /// A link without a middle.
@@ -199,19 +185,11 @@ fn a_star_by_one_worker(rt: HostRuntime) -> Result<(), Fail> {
     let mut leases = Leases::new(alloc)?;
     let lease = leases.lease()?;
     let estimator: Box<dyn Estimator + Send> = Box::new(alloc, EdgeDifference::new(alloc, lease))?;
-    let mut list = Vec::new(alloc);
-    list.push(estimator)?;
-    let mut lists = Vec::new(alloc);
-    lists.push(list)?;
+    let lists = one_list(alloc, estimator)?;
     let built = build(&rt, alloc, star(alloc)?, ONE, lists, &mut leases, &OpenGate)?;
-    let hierarchy = &built.hierarchy;
-    assert_eq!(rt; hierarchy.rank(0), 4);
-    assert_eq!(rt; hierarchy.rank(1), 0);
-    assert_eq!(rt; hierarchy.rank(2), 1);
-    assert_eq!(rt; hierarchy.rank(3), 2);
-    assert_eq!(rt; hierarchy.rank(4), 3);
+    assert!(rt; are_ranks(&built.hierarchy, [4, 0, 1, 2, 3].as_slice()));
     let links = [link(0, 3, 1), link(0, 4, 1), link(1, 0, 1), link(2, 0, 1)];
-    assert!(rt; hierarchy.links() == links.as_slice());
+    assert!(rt; built.hierarchy.links() == links.as_slice());
     Ok(())
 }
 
@@ -249,10 +227,7 @@ fn a_tie_by_one_worker(rt: HostRuntime) -> Result<(), Fail> {
     let mut leases = Leases::new(alloc)?;
     let lease = leases.lease()?;
     let estimator: Box<dyn Estimator + Send> = Box::new(alloc, EdgeDifference::new(alloc, lease))?;
-    let mut list = Vec::new(alloc);
-    list.push(estimator)?;
-    let mut lists = Vec::new(alloc);
-    lists.push(list)?;
+    let lists = one_list(alloc, estimator)?;
     let counts = Counts::new();
     let built = build(&rt, alloc, tie(alloc)?, ONE, lists, &mut leases, &counts)?;
     let order = [receipt(0, 0), receipt(1, 1), receipt(2, 2), receipt(3, 3)];
@@ -273,10 +248,7 @@ fn a_tie_by_one_turn_and_the_sweep(rt: HostRuntime) -> Result<(), Fail> {
     let mut leases = Leases::new(alloc)?;
     let lease = leases.lease()?;
     let estimator: Box<dyn Estimator + Send> = Box::new(alloc, EdgeDifference::new(alloc, lease))?;
-    let mut list = Vec::new(alloc);
-    list.push(estimator)?;
-    let mut lists = Vec::new(alloc);
-    lists.push(list)?;
+    let lists = one_list(alloc, estimator)?;
     let options = Options { turns: 1, ..ONE };
     let built = build(
         &rt,
@@ -359,13 +331,8 @@ fn a_worker_is_overtaken(rt: HostRuntime) -> Result<(), Fail> {
         alloc,
         EdgeDifference::new(alloc, leases.lease()?),
     )?;
-    let mut list = Vec::new(alloc);
-    list.push(first)?;
-    let mut other = Vec::new(alloc);
-    other.push(second)?;
-    let mut lists = Vec::new(alloc);
-    lists.push(list)?;
-    lists.push(other)?;
+    let mut lists = one_list(alloc, first)?;
+    add_list(alloc, &mut lists, second)?;
     let gate = Overtaken {
         committed: AtomicU64::new(0),
         late: AtomicU64::new(0),
@@ -390,13 +357,8 @@ fn two_workers_at_once(rt: HostRuntime) -> Result<(), Fail> {
         alloc,
         EdgeDifference::new(alloc, leases.lease()?),
     )?;
-    let mut list = Vec::new(alloc);
-    list.push(first)?;
-    let mut other = Vec::new(alloc);
-    other.push(second)?;
-    let mut lists = Vec::new(alloc);
-    lists.push(list)?;
-    lists.push(other)?;
+    let mut lists = one_list(alloc, first)?;
+    add_list(alloc, &mut lists, second)?;
     let gate = Together::new(2);
     let options = Options { workers: 2, ..ONE };
     let built = build(&rt, alloc, tie(alloc)?, options, lists, &mut leases, &gate)?;
@@ -415,9 +377,7 @@ fn five_workers_at_once(rt: HostRuntime) -> Result<(), Fail> {
             alloc,
             EdgeDifference::new(alloc, leases.lease()?),
         )?;
-        let mut list = Vec::new(alloc);
-        list.push(estimator)?;
-        lists.push(list)?;
+        add_list(alloc, &mut lists, estimator)?;
     }
     let gate = Together::new(5);
     let options = Options { workers: 5, ..ONE };
