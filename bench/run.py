@@ -1,5 +1,6 @@
 #!/usr/bin/env python3
-"""Times `routecli` and the plain search in C++ on the same networks and pairs, one after the other on this machine.
+"""Times `routecli`, the plain search in C++ and a textbook hierarchy in C++ (hierarchy.cpp) on the same networks and
+pairs, one after the other on this machine.
 
     bench/run.py [SIDE ..]        sides of the square networks, by default 10 32 64 100 128 316
 
@@ -7,9 +8,10 @@ Each answer's length is compared with that of the plain search, and its nodes ar
 network: the least arcs between them have to sum to that length. It needs g++ and the proved program
 crates/routecli/out/routecli (README.md says how to build it). Times are of whole runs, reading included: the best of
 three. Memory is the greatest resident size, of which up to 15 MB may be this script's own. `prepare` contracts the
-nodes in the order of their numbers without a search for witnesses, which fills in fast, and `answer` prepares for each
-call: both are left out above a side of 128. Reading the graph is `answer` with a text of pairs that is refused. The
-last column counts the pairs that `route` answers in a second, what it takes with no pair left out.
+nodes in the order of their numbers, which fills in fast, and `answer` prepares for each call: both are left out above
+a side of 128. Reading the graph is `answer` with a text of pairs that is refused. The paces count the pairs that are
+answered in a second, what is read before left out. The textbook hierarchy contracts in an adaptive order; its times are
+those of its preparation alone and of its lengths, without routes.
 """
 import itertools
 import os
@@ -87,7 +89,17 @@ def cell(measured):
     return f"{seconds:.3f} s, {memory:.0f} MB"
 
 
-def times_of(side, plain, folder):
+def textbook(program, graph, pairs, theirs, folder):
+    """What the textbook hierarchy takes to prepare, its links for each arc, and its pace."""
+    with open(folder / "textbook", "wb") as sink:
+        said = subprocess.run([program, graph, pairs], check=True, stdout=sink, stderr=subprocess.PIPE).stderr.split()
+    if (folder / "textbook").read_bytes() != theirs.read_bytes():
+        sys.exit("the textbook hierarchy differs")
+    prepared, links, answered = map(float, said)
+    return [f"{prepared:.3f} s", f"{links:.1f}", f"{PAIRS / max(answered, 0.001):,.0f}"]
+
+
+def times_of(side, plain, hierarchy, folder):
     graph, pairs, file = folder / "network.gr", folder / "network.pairs", folder / "network.rch"
     words = [sys.executable, ROOT / "bench/make_network.py", str(side), str(PAIRS), "1", graph, pairs]
     subprocess.run(words, check=True)
@@ -97,8 +109,9 @@ def times_of(side, plain, folder):
     cells = [f"{side * side:,}", f"{arcs:,}"]
     cells.append(cell(run([PROGRAM, "answer", graph, folder / "bad.pairs"], os.devnull, wanted=5)))
     cells.append(cell(run([plain, graph, pairs], folder / "theirs")))
+    beside = textbook(hierarchy, graph, pairs, folder / "theirs", folder)
     if side > MOST_PREPARED:
-        return cells + [""] * 5
+        return cells + [""] * 5 + beside
     answered = run([PROGRAM, "answer", graph, pairs], folder / "answered")
     prepared = run([PROGRAM, "prepare", graph, file], os.devnull)
     routed = run([PROGRAM, "route", file, pairs], folder / "routed")
@@ -108,7 +121,7 @@ def times_of(side, plain, folder):
             sys.exit(f"side {side}: what was {name} differs")
     pace = PAIRS / max(routed[0] - read, 0.001)
     links = f"{links_in(file) / arcs:.1f}"
-    return cells + [cell(answered), cell(prepared), links, cell(routed), f"{pace:,.0f}"]
+    return cells + [cell(answered), cell(prepared), links, cell(routed), f"{pace:,.0f}"] + beside
 
 
 def main():
@@ -118,12 +131,17 @@ def main():
     with tempfile.TemporaryDirectory() as folder:
         folder = pathlib.Path(folder)
         plain = folder / "plain_search"
+        hierarchy = folder / "hierarchy"
         subprocess.run(["g++", "-O2", "-std=c++17", "-o", plain, ROOT / "bench/plain_search.cpp"], check=True)
+        subprocess.run(["g++", "-O3", "-std=c++17", "-o", hierarchy, ROOT / "bench/hierarchy.cpp"], check=True)
         print(f"{PAIRS} pairs each\n")
-        print("| Nodes | Arcs | reading the graph | plain search in C++ | routecli answer | routecli prepare | links per arc | routecli route | pairs a second with routes |")
-        print("|---|---|---|---|---|---|---|---|---|")
+        print(
+            "| Nodes | Arcs | reading the graph | plain search in C++ | routecli answer | routecli prepare | links per arc | "
+            "routecli route | pairs a second with routes | textbook in C++: prepare | links per arc | pairs a second |"
+        )
+        print("|---" * 12 + "|")
         for side in sides:
-            print("| " + " | ".join(times_of(side, plain, folder)) + " |", flush=True)
+            print("| " + " | ".join(times_of(side, plain, hierarchy, folder)) + " |", flush=True)
 
 
 main()
