@@ -427,7 +427,8 @@ fn a_write_that_fails_within_a_long_line(rt: HostRuntime) -> Result<(), Fail> {
     let result = answer(rt.alloc(), &mut graph, &mut pairs, &mut out);
     let written = 66000;
     assert_eq!(rt; result, Err(ServiceError::Write(WriteFault { written })));
-    assert!(rt; out.taken.as_slice() == &expected.as_bytes()[..66000]);
+    assert_eq!(rt; out.taken.len(), 66000);
+    assert!(rt; expected.as_bytes().starts_with(out.taken.as_slice()));
     Ok(())
 }
 
