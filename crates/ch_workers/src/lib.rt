@@ -32,10 +32,3 @@ pub use built::Built;
 pub use error::BuildError;
 pub use gate::{Gate, OpenGate, Point};
 pub use options::Options;
-
-#[cfg(test)]
-mod estimator_tests;
-#[cfg(test)]
-mod test_kit;
-#[cfg(test)]
-mod tests;
