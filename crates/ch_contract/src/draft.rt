@@ -13,7 +13,7 @@ use crate::error::ProposeError;
 use ch_cost::Cost;
 use ch_laws::Entry;
 use ch_overlay::{Row, RowSource, Shortcut};
-use ch_witness::{Rows, Way, search_with};
+use ch_witness::{Frontier, Rows, Way, search_in};
 use std::alloc::{AllocError, Global};
 
 /// What the pairs of a proposal have in common.
@@ -89,11 +89,13 @@ impl Draft {
 
 /// Works out the pairs from one neighbour, which has this arc to the node, to the others that the node's row lists.
 ///
-/// Where there is another, the neighbour's row is read and listed; where a pair isn't heavy, a search is made.
+/// Where there is another, the neighbour's row is read and listed; where a pair isn't heavy, a search is made, in the
+/// memory of the frontier.
 pub fn draft_pairs<S: RowSource>(
     alloc: Global,
     source: &mut S,
     rows: &mut Rows,
+    frontier: &mut Frontier,
     task: Task,
     row: &Row,
     into: Entry,
@@ -127,10 +129,11 @@ pub fn draft_pairs<S: RowSource>(
     }
     let targets = ends_of(alloc, &pairs)?;
     let cutoff = greatest(&pairs);
-    let found = search_with(
+    let found = search_in(
         alloc,
         source,
         rows,
+        frontier,
         into.other,
         task.node,
         cutoff,

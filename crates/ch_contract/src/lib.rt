@@ -35,7 +35,7 @@ pub use facts::Facts;
 pub use finish::Finished;
 pub use ledger::{Ledger, Planned};
 pub use proposal::Proposal;
-pub use proposing::propose;
+pub use proposing::{Scratch, propose, propose_with};
 pub use site::Site;
 pub use sweep::contract_by_sweep;
 pub use verdict::Verdict;

@@ -1,4 +1,4 @@
-ghost use Rattle.std.specs.Prelude.{◌≡◌, ◌≢◌, ◌≤◌, ◌^◌, IfOk, OnOk, All, None};
+ghost use Rattle.std.specs.Prelude.{◌≡◌, ◌≢◌, ◌≤◌, ◌^◌, ℕ, IfOk, OnOk, All, None};
 ghost use Rattle.ch_overlay.specs.declared.source.Seen.{Seen};
 ghost use Rattle.ch_overlay.specs.Overlay.{AreEntries};
 ghost use Rattle.ch_overlay.specs.Source.{row_in, IsBound, NamesAlone};
@@ -12,7 +12,7 @@ use crate::draft::{Draft, Task, draft_pairs};
 use crate::error::ProposeError;
 use crate::proposal::Proposal;
 use ch_overlay::{Row, RowSource};
-use ch_witness::Rows;
+use ch_witness::{Frontier, Rows};
 use std::alloc::Global;
 
 /// Works out the contraction of a node by the rows that a source answers, each node asked for at most once.
@@ -39,23 +39,96 @@ pub fn propose<S: RowSource>(
     ensures stays { S.stays source.old source.new }
     ensures found { S.whole source.old node → result ≡ Err Unseen → ⊥ }
 {
+    let mut scratch = Scratch::new(alloc);
+    propose_with(alloc, source, &mut scratch, node, settle)
+}
+
+/// What proposals are worked out in, one after the other. It keeps their memory.
+#[derive(Drop)]
+pub struct Scratch {
+    rows: Rows,
+    frontier: Frontier,
+}
+
+impl Scratch {
+    /// It takes no memory yet.
+    pub fn new(alloc: Global) -> Scratch {
+        Scratch {
+            rows: Rows::new(alloc),
+            frontier: Frontier::new(alloc),
+        }
+    }
+}
+
+/// The proposal of [`propose`], worked out in memory that is used again.
+///
+/// The conditions and the errors are those of [`propose`]. Nothing rests on what was worked out there before.
+pub fn propose_with<S: RowSource>(
+    alloc: Global,
+    source: &mut S,
+    scratch: &mut Scratch,
+    node: u32,
+    settle: u32,
+) -> Result<Proposal, ProposeError>
+    requires some { 1 ≤ settle }
+    requires few { settle ≤ 65536 }
+    ensures node { IfOk result (λ p. p.node ≡ node) }
+    ensures bound { IfOk result (λ p. p.bound ≡ S.bound_of source.old) }
+    ensures holds { IfOk result IsProposal }
+    ensures bears { IfOk result (λ p. All S.bears p.rests_on) }
+    ensures shows { IfOk result (λ p. All (S.shows source.new) p.rests_on) }
+    ensures contracted { result ≡ Err Contracted → (s : Seen) × (s.node ≡ node) × S.bears s × S.shows source.new s × ((row_in s).rank ≢ None) }
+    ensures stays { S.stays source.old source.new }
+    ensures found { S.whole source.old node → result ≡ Err Unseen → ⊥ }
+{
+    scratch.rows.forget();
+    propose_in(
+        alloc,
+        source,
+        &mut scratch.rows,
+        &mut scratch.frontier,
+        node,
+        settle,
+    )
+}
+
+/// The same, where no row is kept yet.
+fn propose_in<S: RowSource>(
+    alloc: Global,
+    source: &mut S,
+    rows: &mut Rows,
+    frontier: &mut Frontier,
+    node: u32,
+    settle: u32,
+) -> Result<Proposal, ProposeError>
+    requires none { (x : ℕ) → kept_of rows.old x ≡ None }
+    requires some { 1 ≤ settle }
+    requires few { settle ≤ 65536 }
+    ensures node { IfOk result (λ p. p.node ≡ node) }
+    ensures bound { IfOk result (λ p. p.bound ≡ S.bound_of source.old) }
+    ensures holds { IfOk result IsProposal }
+    ensures bears { IfOk result (λ p. All S.bears p.rests_on) }
+    ensures shows { IfOk result (λ p. All (S.shows source.new) p.rests_on) }
+    ensures contracted { result ≡ Err Contracted → (s : Seen) × (s.node ≡ node) × S.bears s × S.shows source.new s × ((row_in s).rank ≢ None) }
+    ensures stays { S.stays source.old source.new }
+    ensures found { S.whole source.old node → result ≡ Err Unseen → ⊥ }
+{
     let task = Task {
         node,
         bound: source.bound(),
         settle,
     };
-    let mut rows = Rows::new(alloc);
     let own = rows.read(source, node)?;
     if own.row.rank.is_some() {
         return Err(ProposeError::Contracted);
     }
     let mut draft = Draft::new(alloc, node)?;
-    draft_all(alloc, source, &mut rows, task, &own.row, &mut draft)?;
+    draft_all(alloc, source, rows, frontier, task, &own.row, &mut draft)?;
     let Draft { listed, shortcuts } = draft;
     Ok(Proposal {
         bound: task.bound,
         node,
-        rests_on: rows.into_listed(alloc, &listed)?,
+        rests_on: rows.hand_out(alloc, &listed)?,
         shortcuts,
     })
 }
@@ -65,6 +138,7 @@ fn draft_all<S: RowSource>(
     alloc: Global,
     source: &mut S,
     rows: &mut Rows,
+    frontier: &mut Frontier,
     task: Task,
     row: &Row,
     draft: &mut Draft,
@@ -86,7 +160,7 @@ fn draft_all<S: RowSource>(
     ensures found { AllNamed (S.whole source.old) (kept_of rows.old) → NamesAlone (S.whole source.old) row.now → result ≡ Err Unseen → ⊥ }
 {
     'inns: for into in &row.inn {
-        draft_pairs(alloc, source, rows, task, row, *into, draft)?;
+        draft_pairs(alloc, source, rows, frontier, task, row, *into, draft)?;
     }
     Ok(())
 }

@@ -1,5 +1,5 @@
 -- Answers that are kept: what the source stands by, as it moves and answers more.
-use Rattle.std.proofs.Common.{ℕ, ◌≡◌, ◌<◌, ◌^◌, false, Option, Some, None, refl, sym, subst, ◌∙◌, nat_eq, inl, inr}
+use Rattle.std.proofs.Common.{ℕ, ◌≡◌, ◌≢◌, ◌<◌, ◌^◌, Option, Some, None, refl, sym, subst, ◌∙◌, inl, inr}
 use Rattle.std.proofs.lemmas.Bool.{cases_eq}
 use Rattle.ch_cost.specs.declared.cost.Cost.{Cost}
 use Rattle.ch_overlay.specs.declared.source.Seen.{Seen}
@@ -7,7 +7,6 @@ use Rattle.ch_overlay.specs.Source.{row_in, IsBound, IsSeenRow}
 use Rattle.ch_laws.specs.Rows.{Row, Rises}
 use Rattle.ch_overlay.specs.Overlay.{AreEntries}
 use Rattle.ch_witness.specs.Kept.{Kept, AreKept, IsAnswer, IsCopy, IsKept, IsMore, IsSame}
-use Rattle.ch_witness.proofs.Offering.{differ}
 
 some-same : (a b : Seen) → Some a ≡ Some b → a ≡ b
 some-same a b e = cc
@@ -31,12 +30,12 @@ module _ (Bears Shows Now : Seen → Type 0) (bound now : Cost) (kept : Kept) (s
       }
 
   -- and one more answer is kept
-  pub kept_put : (new : Kept) (v : ℕ) (t : Seen) → IsAnswer Bears Now now v t → new v ≡ Some t → ((q : ℕ) → nat_eq v q ≡ false → new q ≡ kept q) → AreKept Bears Now now new
+  pub kept_put : (new : Kept) (v : ℕ) (t : Seen) → IsAnswer Bears Now now v t → new v ≡ Some t → ((q : ℕ) → q ≢ v → new q ≡ kept q) → AreKept Bears Now now new
   kept_put new v t answer here others x s is = elim (cases_eq x v) [
     | inl at ↦
         let it : t ≡ s = some-same t s (sym here ∙ subst (λ (w : ℕ). new w ≡ Some s) at is) in
         subst (λ (u : Seen). IsAnswer Bears Now now x u) it (subst (λ (w : ℕ). IsAnswer Bears Now now w t) (sym at) answer)
-    | inr other ↦ kept_moved x s (sym (others x (differ v x other)) ∙ is)
+    | inr other ↦ kept_moved x s (sym (others x other) ∙ is)
   ]
 
 -- a copy of what is kept stays one

@@ -36,8 +36,8 @@ pub offer_none : (labels : Labels) (v : ℕ) (c : Cost) (place : ℕ) → (Impro
 offer_none labels v c place no_better = record { others = λ u apart. refl; here = inr (refl, not_better (labels v) c no_better) }
 
 -- the node is opened where it is
-pub offer_better : (old new : Labels) (v : ℕ) (c : Cost) (place : ℕ) → Improves c (old v) → new v ≡ Some (record { cost = c; before = Some place; settled = false }) → ((u : ℕ) → nat_eq v u ≡ false → new u ≡ old u) → IsOffered old v c place new
-offer_better old new v c place improves here others = record { others = λ u apart. others u (differ v u apart); here = inl (here, better (old v) c improves) }
+pub offer_better : (old new : Labels) (v : ℕ) (c : Cost) (place : ℕ) → Improves c (old v) → new v ≡ Some (record { cost = c; before = Some place; settled = false }) → ((u : ℕ) → u ≢ v → new u ≡ old u) → IsOffered old v c place new
+offer_better old new v c place improves here others = record { others = others; here = inl (here, better (old v) c improves) }
 
 -- the label of the start
 abbrev pub begun : Cost → Option Label

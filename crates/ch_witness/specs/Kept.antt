@@ -1,17 +1,22 @@
 -- The answers of a source that are kept.
-use Rattle.std.specs.Prelude.{ℕ, ◌≡◌, ◌≢◌, List, [], ◌∷◌, ◌++◌, Option, Some, None, AllPairs, Contains, nat_eq}
-use Rattle.std.specs.HashMap as hash
+use Rattle.std.specs.Prelude.{ℕ, ◌≡◌, ◌≢◌, List, [], ◌∷◌, ◌++◌, Option, Some, None, AllPairs, Contains}
 use Rattle.ch_cost.specs.declared.cost.Cost.{Cost}
 use Rattle.ch_overlay.specs.declared.source.Seen.{Seen}
 use Rattle.ch_overlay.specs.Source.{row_in, IsBound, IsSeenRow, NamesAlone}
 use Rattle.ch_witness.specs.declared.rows.Rows.{Rows}
+use Rattle.ch_witness.specs.Places.{value_in}
 
 -- the answer that is kept for each node
 abbrev pub Kept : Type 0
 Kept = ℕ → Option Seen
 
+-- the answer that stands there, if one does
+abbrev pub joined : Option (Option Seen) → Option Seen
+joined None = None
+joined (Some o) = o
+
 abbrev pub kept_of : Rows → Kept
-kept_of r x = hash.get nat_eq r.kept x
+kept_of r x = joined (value_in r.nodes r.kept.items x)
 
 -- one answer is that of another: the same row of the same node, in the same version
 pub record IsSame (s c : Seen) : Type 0 where

@@ -1,4 +1,5 @@
 pub mod Frontier
 pub mod Kept
+pub mod Places
 pub mod Tree
 pub mod Ways

@@ -1,7 +1,7 @@
 -- What a search has gone on from, and what it knows of the nodes that it has come to.
-use Rattle.std.specs.Prelude.{ℕ, ◌≡◌, ◌≢◌, ◌<◌, ◌⊎◌, true, List, [], ◌∷◌, ◌++◌, length, Option, Some, None, nat_eq}
+use Rattle.std.specs.Prelude.{ℕ, ◌≡◌, ◌≢◌, ◌<◌, ◌⊎◌, true, List, [], ◌∷◌, ◌++◌, length, Option, Some, None}
 use Rattle.std.specs.List.{slice_get}
-use Rattle.std.specs.HashMap as hash
+use Rattle.ch_witness.specs.Places.{value_in}
 use Rattle.ch_cost.specs.declared.cost.Cost.{Cost}
 use Rattle.ch_cost.specs.Cost.{zero_cost, ◌⊕◌, ◌≼◌, IsOfWalks}
 use Rattle.ch_laws.specs.Rows.{Row, Lists}
@@ -18,7 +18,7 @@ abbrev pub Labels : Type 0
 Labels = ℕ → Option Label
 
 abbrev pub labels_of : Frontier → Labels
-labels_of f v = hash.get nat_eq f.labels v
+labels_of f v = value_in f.nodes f.labels.items v
 
 -- the node of a step, and its row
 abbrev pub node_of : Step → ℕ

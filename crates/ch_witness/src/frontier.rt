@@ -1,21 +1,24 @@
-ghost use Rattle.std.specs.Prelude.{◌≡◌, ◌↔◌, ℕ, IsTrue, IfOk, OnOk, IfSome, IfNone};
-ghost use Rattle.std.specs.BinaryHeap.{heap_len};
-ghost use Rattle.ch_witness.specs.Tree.{labels_of};
-ghost use Rattle.ch_witness.specs.Frontier.{IsStart, Improves, IsOffered, IsSettledNow};
+ghost use Rattle.std.specs.Prelude.{◌≡◌, Some, false, length};
 
 use crate::label::Label;
+use crate::node_index::NodeIndex;
 use ch_cost::Cost;
 use std::alloc::{AllocError, Global};
 use std::cmp::Reverse;
-use std::collections::{BinaryHeap, HashMap};
+use std::collections::BinaryHeap;
 
 /// The labels of the nodes that a search has come to, and which of them is settled next.
 ///
-/// Its memory goes by the number of these nodes and of the offers, and not by the size of a network.
+/// Its memory goes by the number of these nodes and of the offers, and not by the size of a network. It is kept for
+/// the next search.
 #[derive(Drop)]
 pub struct Frontier {
-    pub labels: HashMap<u32, Label>,
+    /// The nodes that the search has come to.
+    pub nodes: NodeIndex,
+    /// What is known of each of them, in their order.
+    pub labels: Vec<Label>,
     pub queue: BinaryHeap<Reverse<(Cost, u32)>>,
+    ghost paired: { length labels.items ≡ length nodes },
 }
 
 /// A node that was settled, and the way to it.
@@ -27,40 +30,44 @@ pub struct Reached {
 }
 
 impl Frontier {
-    /// Labels the start alone, as settled at no cost.
-    pub fn new(alloc: Global, start: u32) -> Result<Frontier, AllocError>
-        ensures { IfOk result (λ f. IsStart start (labels_of f)) }
-    {
-        let mut labels = HashMap::new(alloc);
-        labels.insert(
-            start,
-            Label {
-                cost: Cost::ZERO,
-                before: None,
-                settled: true,
-            },
-        )?;
-        Ok(Frontier {
-            labels,
+    ghost use Rattle.std.specs.Prelude.{◌≡◌, ◌≢◌, ◌<◌, ℕ, OnOk, IfSome, IfNone, slice_index};
+    ghost use Rattle.std.specs.BinaryHeap.{heap_len};
+    ghost use Rattle.ch_witness.specs.Tree.{labels_of};
+    ghost use Rattle.ch_witness.specs.Frontier.{IsStart, IsOffered, IsSettledNow};
+    ghost use Rattle.ch_witness.specs.Places.{IsFirstAt};
+
+    /// Labels no node. It takes no memory yet.
+    pub fn new(alloc: Global) -> Frontier {
+        Frontier {
+            nodes: NodeIndex::new(alloc),
+            labels: Vec::new(alloc),
             queue: BinaryHeap::new(alloc),
-        })
+        }
+    }
+
+    /// Forgets all labels, and labels the start alone, as settled at no cost.
+    pub fn start(&mut self, start: u32) -> Result<(), AllocError>
+        ensures { OnOk result (IsStart start (labels_of self.new)) }
+    {
+        self.queue.clear();
+        self.labels.clear();
+        self.nodes.clear();
+        self.labels.reserve(1)?;
+        self.nodes.push(start)?;
+        self.labels.push_reserved(Label {
+            cost: Cost::ZERO,
+            before: None,
+            settled: true,
+        });
+        Ok(())
     }
 
     /// What is known of a node, or none where the search hasn't come to it.
     pub fn label(&self, node: u32) -> Option<Label>
         ensures { result ≡ labels_of self.now node }
     {
-        self.labels.get(&node).copied()
-    }
-
-    /// Whether a way of this cost to a node is better than what is known of it.
-    fn is_improved(&self, node: u32, cost: Cost) -> bool
-        ensures { IsTrue result ↔ Improves cost (labels_of self.now node) }
-    {
-        match self.label(node) {
-            None => true,
-            Some(known) => known.is_improved_by(cost),
-        }
+        let place = self.nodes.find(node)?;
+        Some(self.labels[place])
     }
 
     /// Tells of a way of this cost to a node, which goes on from the step at a place. It opens the node where it is
@@ -68,18 +75,34 @@ impl Frontier {
     pub fn offer(&mut self, node: u32, cost: Cost, place: usize) -> Result<(), AllocError>
         ensures { OnOk result (IsOffered (labels_of self.old) node cost place (labels_of self.new)) }
     {
-        if !self.is_improved(node, cost) {
+        match self.nodes.find(node) {
+            Some(at) => self.improve(at, node, cost, place),
+            None => self.open(node, cost, place),
+        }
+    }
+
+    /// The same for a node whose label stands at this place.
+    fn improve(&mut self, at: usize, node: u32, cost: Cost, place: usize) -> Result<(), AllocError>
+        requires { IsFirstAt self.old.nodes node at }
+        ensures { OnOk result (IsOffered (labels_of self.old) node cost place (labels_of self.new)) }
+    {
+        if !self.labels[at].is_improved_by(cost) {
             return Ok(());
         }
         self.queue.push(Reverse((cost, node)))?;
-        self.labels.insert(
-            node,
-            Label {
-                cost,
-                before: Some(place),
-                settled: false,
-            },
-        )?;
+        self.labels[at] = opened(cost, place);
+        Ok(())
+    }
+
+    /// The same for a node that the search hasn't come to.
+    fn open(&mut self, node: u32, cost: Cost, place: usize) -> Result<(), AllocError>
+        requires { (k : ℕ) → k < length self.old.nodes → slice_index self.old.nodes k ≢ node }
+        ensures { OnOk result (IsOffered (labels_of self.old) node cost place (labels_of self.new)) }
+    {
+        self.queue.push(Reverse((cost, node)))?;
+        self.labels.reserve(1)?;
+        self.nodes.push(node)?;
+        self.labels.push_reserved(opened(cost, place));
         Ok(())
     }
 
@@ -104,15 +127,31 @@ impl Frontier {
         ensures queue { heap_len self.new.queue ≡ heap_len self.old.queue }
         ensures stays { IfNone result ((v : ℕ) → labels_of self.new v ≡ labels_of self.old v) }
     {
-        let label = self.labels.get_mut(&node)?;
+        let place = self.nodes.find(node)?;
+        let label = self.labels[place];
         if label.settled {
             return None;
         }
-        label.settled = true;
+        self.labels[place] = Label {
+            cost: label.cost,
+            before: label.before,
+            settled: true,
+        };
         Some(Reached {
             node,
             cost: label.cost,
             before: label.before,
         })
+    }
+}
+
+/// The label of a node that is open, by a way of this cost that goes on from the step at a place.
+fn opened(cost: Cost, place: usize) -> Label
+    ensures { result ≡ record { cost = cost; before = Some place; settled = false } }
+{
+    Label {
+        cost,
+        before: Some(place),
+        settled: false,
     }
 }

@@ -9,10 +9,12 @@
 //! arcs do.
 #![tactic(auto)]
 
+mod copying;
 mod error;
 mod follow;
 mod frontier;
 mod label;
+mod node_index;
 mod rows;
 mod rule;
 mod searching;
@@ -23,6 +25,7 @@ mod tree;
 mod way;
 
 pub use error::SearchError;
+pub use frontier::Frontier;
 pub use rows::Rows;
-pub use searching::{search, search_with};
+pub use searching::{search, search_in, search_with};
 pub use way::{Found, Way};

@@ -1,30 +1,44 @@
-ghost use Rattle.std.specs.Prelude.{◌≡◌, ℕ, IfOk, OnOk, None};
-ghost use Rattle.ch_overlay.specs.declared.source.SeeError.TheVariants.{Unseen};
-ghost use Rattle.ch_overlay.specs.Source.{row_in, IsBound, IsSeenRow};
-ghost use Rattle.ch_witness.specs.Kept.{kept_of, AllNamed, AreKept, AreListed, IsCopy, IsKept, IsListed, IsMore, OfTheirNodes};
+ghost use Rattle.std.specs.Prelude.{◌≡◌, length};
 
+use crate::copying::{copy_of, copy_of_some};
+use crate::node_index::NodeIndex;
 use ch_overlay::{RowSource, SeeError, Seen};
 use std::alloc::{AllocError, Global};
-use std::collections::HashMap;
-use std::sync::Arc;
 
 /// The answers of a source that were read, each node asked for once.
 ///
 /// Its memory goes by the number of these nodes.
 #[derive(Drop)]
 pub struct Rows {
-    /// The answer for each node that was read.
-    pub kept: HashMap<u32, Seen>,
+    /// The nodes that were read.
+    pub nodes: NodeIndex,
+    /// The answer for each of them, in their order, or none where it was handed out.
+    pub kept: Vec<Option<Seen>>,
+    ghost paired: { length kept.items ≡ length nodes },
 }
 
 impl Rows {
+    ghost use Rattle.std.specs.Prelude.{◌≡◌, ◌≢◌, ◌<◌, ℕ, IfOk, OnOk, OnErr, None, Some, slice_index};
+    ghost use Rattle.ch_overlay.specs.declared.source.SeeError.TheVariants.{Unseen};
+    ghost use Rattle.ch_overlay.specs.Source.{IsBound, IsSeenRow};
+    ghost use Rattle.ch_witness.specs.Kept.{kept_of, AllNamed, AreKept, AreListed, IsCopy, IsKept, IsListed, IsMore, OfTheirNodes};
+
     /// No answers. It takes no memory yet.
     pub fn new(alloc: Global) -> Rows
         ensures { (x : ℕ) → kept_of result x ≡ None }
     {
         Rows {
-            kept: HashMap::new(alloc),
+            nodes: NodeIndex::new(alloc),
+            kept: Vec::new(alloc),
         }
+    }
+
+    /// Drops all answers, and keeps the memory for others.
+    pub fn forget(&mut self)
+        ensures { (x : ℕ) → kept_of self.new x ≡ None }
+    {
+        self.kept.clear();
+        self.nodes.clear();
     }
 
     /// A copy of the answer for a node: of the one that is kept, or of what the source answers now, which is then
@@ -50,7 +64,7 @@ impl Rows {
         }
         let seen = source.row_of(node)?;
         let copy = copy_of(&seen)?;
-        self.kept.insert(node, seen)?;
+        self.put(node, seen)?;
         Ok(copy)
     }
 
@@ -60,9 +74,17 @@ impl Rows {
         ensures { IfOk result (λ listed. AreListed (kept_of self) nodes.now listed.items) }
     {
         let mut rows = self;
-        let mut listed = Vec::new(alloc);
+        rows.hand_out(alloc, nodes)
+    }
+
+    /// The same, from rows that are used again. Of those nodes no answer is kept any more.
+    pub fn hand_out(&mut self, alloc: Global, nodes: &[u32]) -> Result<Vec<Seen>, AllocError>
+        requires nodes { OfTheirNodes (kept_of self.old) }
+        ensures { IfOk result (λ listed. AreListed (kept_of self.old) nodes.now listed.items) }
+    {
+        let mut listed = Vec::with_capacity(alloc, nodes.len())?;
         'nodes: for node in nodes {
-            rows.list(*node, &mut listed)?;
+            self.list(*node, &mut listed)?;
         }
         Ok(listed)
     }
@@ -71,9 +93,47 @@ impl Rows {
     fn list(&mut self, node: u32, listed: &mut Vec<Seen>) -> Result<(), AllocError>
         ensures { OnOk result (IsListed (kept_of self.old) node listed.old.items (kept_of self.new) listed.new.items) }
     {
-        if let Some(seen) = self.kept.remove(&node) {
+        if let Some(seen) = self.take(node) {
             listed.push(seen)?;
         }
+        Ok(())
+    }
+
+    /// The answer that is kept for a node, if any. It is kept no more.
+    fn take(&mut self, node: u32) -> Option<Seen>
+        ensures taken { result ≡ kept_of self.old node }
+        ensures here { kept_of self.new node ≡ None }
+        ensures others { (x : ℕ) → x ≢ node → kept_of self.new x ≡ kept_of self.old x }
+    {
+        let place = self.nodes.find(node)?;
+        self.kept[place].take()
+    }
+
+    /// Keeps the answer for a node. Refused for want of memory; what is kept is then what it was.
+    fn put(&mut self, node: u32, seen: Seen) -> Result<(), AllocError>
+        ensures here { OnOk result (kept_of self.new node ≡ Some seen) }
+        ensures others { (x : ℕ) → x ≢ node → kept_of self.new x ≡ kept_of self.old x }
+        ensures stays { OnErr result ((x : ℕ) → kept_of self.new x ≡ kept_of self.old x) }
+    {
+        match self.nodes.find(node) {
+            Some(place) => {
+                self.kept[place] = Some(seen);
+                Ok(())
+            }
+            None => self.push(node, seen),
+        }
+    }
+
+    /// The same for a node that wasn't read.
+    fn push(&mut self, node: u32, seen: Seen) -> Result<(), AllocError>
+        requires absent { (k : ℕ) → k < length self.old.nodes → slice_index self.old.nodes k ≢ node }
+        ensures here { OnOk result (kept_of self.new node ≡ Some seen) }
+        ensures others { (x : ℕ) → x ≢ node → kept_of self.new x ≡ kept_of self.old x }
+        ensures stays { OnErr result ((x : ℕ) → kept_of self.new x ≡ kept_of self.old x) }
+    {
+        self.kept.reserve(1)?;
+        self.nodes.push(node)?;
+        self.kept.push_reserved(Some(seen));
         Ok(())
     }
 
@@ -81,22 +141,9 @@ impl Rows {
     fn known(&self, node: u32) -> Result<Option<Seen>, AllocError>
         ensures { IfOk result (IsCopy (kept_of self.now node)) }
     {
-        let Some(seen) = self.kept.get(&node) else {
+        let Some(place) = self.nodes.find(node) else {
             return Ok(None);
         };
-        Ok(Some(copy_of(seen)?))
+        copy_of_some(&self.kept[place])
     }
-}
-
-/// The same answer again, by one more owner of its row.
-fn copy_of(seen: &Seen) -> Result<Seen, AllocError>
-    ensures node { IfOk result (λ copy. copy.node ≡ seen.now.node) }
-    ensures version { IfOk result (λ copy. copy.version ≡ seen.now.version) }
-    ensures row { IfOk result (λ copy. row_in copy ≡ row_in seen.now) }
-{
-    Ok(Seen {
-        node: seen.node,
-        version: seen.version,
-        row: Arc::try_clone(&seen.row)?,
-    })
 }

@@ -7,6 +7,7 @@ ghost use Rattle.ch_witness.specs.Tree.{labels_of, IsTree};
 ghost use Rattle.ch_witness.specs.Ways.{AreRows, AreWays, IsStartRow, IsWayOf, way_at};
 
 use crate::error::SearchError;
+use crate::frontier::Frontier;
 use crate::rows::Rows;
 use crate::rule::Rule;
 use crate::trace::way_to;
@@ -15,6 +16,7 @@ use crate::way::{Found, Way};
 use ch_cost::Cost;
 use ch_overlay::{RowSource, Seen};
 use std::alloc::{AllocError, Global};
+use std::mem;
 
 /// Ways from one node to others that don't enter the node `avoid`, along the arcs of the rows that a source shows.
 ///
@@ -89,14 +91,64 @@ pub fn search_with<S: RowSource>(
     ensures found { AllNamed (S.whole source.old) (kept_of rows.old) → S.whole source.old from → result ≡ Err Unseen → ⊥ }
     ensures names { AllNamed (S.whole source.old) (kept_of rows.old) → S.whole source.old from → OnOk result (AllNamed (S.whole source.new) (kept_of rows.new)) }
 {
+    let mut frontier = Frontier::new(alloc);
+    search_in(
+        alloc,
+        source,
+        rows,
+        &mut frontier,
+        from,
+        avoid,
+        cutoff,
+        targets,
+        settle,
+    )
+}
+
+/// The ways of [`search_with`], in the memory of an earlier search, which is kept for the next one.
+///
+/// What the frontier knows doesn't matter; where the search fails it has let its memory go.
+pub fn search_in<S: RowSource>(
+    alloc: Global,
+    source: &mut S,
+    rows: &mut Rows,
+    frontier: &mut Frontier,
+    from: u32,
+    avoid: u32,
+    cutoff: Cost,
+    targets: &[u32],
+    settle: u32,
+) -> Result<Found, SearchError>
+    requires start { from ≢ avoid }
+    requires targets { Contains targets.now avoid → ⊥ }
+    requires cutoff { IsWithin cutoff (S.bound_of source.old) }
+    requires kept { AreKept S.bears (S.shows source.old) (S.bound_of source.old) (kept_of rows.old) }
+    requires some { 1 ≤ settle }
+    requires few { settle ≤ 2 ^ 16 }
+    ensures ways { IfOk result (λ found. AreWays found.seen.items from avoid cutoff targets.now found.ways.items) }
+    ensures direct { IfOk result (λ found. (k : ℕ) → k < length targets.now → slice_index targets.now k ≢ from → (s : Seen) × IsKept (kept_of rows.new) s × IsStartRow found.seen.items from cutoff targets.now found.ways.items s) }
+    ensures rows { IfOk result (λ found. AreRows found.seen.items) }
+    ensures copies { IfOk result (λ found. All (IsKept (kept_of rows.new)) found.seen.items) }
+    ensures kept { AreKept S.bears (S.shows source.new) (S.bound_of source.new) (kept_of rows.new) }
+    ensures more { IsMore (kept_of rows.old) (kept_of rows.new) }
+    ensures stays { S.stays source.old source.new }
+    ensures found { AllNamed (S.whole source.old) (kept_of rows.old) → S.whole source.old from → result ≡ Err Unseen → ⊥ }
+    ensures names { AllNamed (S.whole source.old) (kept_of rows.old) → S.whole source.old from → OnOk result (AllNamed (S.whole source.new) (kept_of rows.new)) }
+{
     let rule = Rule {
         from,
         avoid,
         cutoff,
     };
-    let tree = Tree::new(alloc, source, rows, rule, targets, settle)?;
+    let earlier = mem::replace(frontier, Frontier::new(alloc));
+    let tree = Tree::new(alloc, earlier, source, rows, rule, targets, settle)?;
     let ways = ways_to(alloc, rule, &tree, targets)?;
-    let seen = rows_of(alloc, tree)?;
+    let Tree {
+        steps,
+        frontier: later,
+    } = tree;
+    *frontier = later;
+    let seen = rows_of(alloc, steps)?;
     Ok(Found { ways, seen })
 }
 
@@ -130,10 +182,10 @@ fn known_way(alloc: Global, rule: Rule, tree: &Tree, target: u32) -> Result<Opti
 }
 
 /// The rows of the steps, in order.
-fn rows_of(alloc: Global, tree: Tree) -> Result<Vec<Seen>, AllocError>
-    ensures { IfOk result (λ seen. seen.items ≡ map (λ s. s.seen) tree.steps.items) }
+fn rows_of(alloc: Global, steps: Vec<Step>) -> Result<Vec<Seen>, AllocError>
+    ensures { IfOk result (λ seen. seen.items ≡ map (λ s. s.seen) steps.items) }
 {
-    tree.steps.into_iter().map(|step| step.seen).collect(alloc)
+    steps.into_iter().map(|step| step.seen).collect(alloc)
 }
 
 /// The nodes of the rows, in order.

@@ -30,9 +30,10 @@ pub struct Tree {
 }
 
 impl Tree {
-    /// The tree of a whole search, which settles at most so many nodes.
+    /// The tree of a whole search, which settles at most so many nodes. What the frontier knew before is forgotten.
     pub fn new<S: RowSource>(
         alloc: Global,
+        frontier: Frontier,
         source: &mut S,
         rows: &mut Rows,
         rule: Rule,
@@ -53,9 +54,11 @@ impl Tree {
         ensures found { AllNamed (S.whole source.old) (kept_of rows.old) → S.whole source.old rule.from → result ≡ Err Unseen → ⊥ }
         ensures names { AllNamed (S.whole source.old) (kept_of rows.old) → S.whole source.old rule.from → OnOk result (AllNamed (S.whole source.new) (kept_of rows.new)) }
     {
+        let mut frontier = frontier;
+        frontier.start(rule.from)?;
         let mut tree = Tree {
             steps: Vec::new(alloc),
-            frontier: Frontier::new(alloc, rule.from)?,
+            frontier,
         };
         if are_all(targets, rule.from) {
             return Ok(tree);

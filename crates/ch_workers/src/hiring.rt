@@ -4,6 +4,7 @@ ghost use Rattle.ch_workers.specs.Options.{AreGood};
 use crate::listener::{Listener, listeners_of};
 use crate::options::Options;
 use crate::worker::Worker;
+use ch_contract::Scratch;
 use ch_estimate::Estimator;
 use ch_multiqueue::{MultiQueue, Pass};
 use std::alloc::{AllocError, Global};
@@ -70,6 +71,7 @@ fn workers_of<E: Estimator>(
             number,
             pass,
             listeners,
+            scratch: Scratch::new(alloc),
             deferred: 0,
             receipts: Vec::new(alloc),
         })?;

@@ -3,7 +3,9 @@ ghost use Rattle.ch_contract.specs.Proposal.{AreFacts};
 
 use crate::listener::Listener;
 use crate::options::Options;
-use ch_contract::{Board, CommitError, Proposal, ProposeError, Receipt, Site, propose};
+use ch_contract::{
+    Board, CommitError, Proposal, ProposeError, Receipt, Scratch, Site, propose_with,
+};
 use ch_estimate::Estimator;
 use ch_multiqueue::MultiQueue;
 use std::alloc::{AllocError, Global};
@@ -51,9 +53,14 @@ impl<S: Site> Shared<S> {
     }
 
     /// Works out the contraction of a node by the board's rows, under one hold of its lock.
-    pub(crate) fn propose<R: Wait>(&self, rt: &R, node: u32) -> Result<Proposal, ProposeError> {
+    pub(crate) fn propose<R: Wait>(
+        &self,
+        rt: &R,
+        scratch: &mut Scratch,
+        node: u32,
+    ) -> Result<Proposal, ProposeError> {
         let mut board = self.board.lock(rt);
-        propose(self.alloc, &mut *board, node, self.options.settle)
+        propose_with(self.alloc, &mut *board, scratch, node, self.options.settle)
     }
 
     /// Commits a proposal, under one hold of the board's lock.

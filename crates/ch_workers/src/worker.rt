@@ -3,7 +3,7 @@ ghost use Rattle.std.specs.Prelude.{◌≡◌, ◌<◌};
 use crate::gate::{Gate, Point};
 use crate::listener::Listener;
 use crate::shared::Shared;
-use ch_contract::{CommitError, Proposal, ProposeError, Receipt, Site};
+use ch_contract::{CommitError, Proposal, ProposeError, Receipt, Scratch, Site};
 use ch_estimate::Estimator;
 use ch_multiqueue::{Item, Pass};
 use std::alloc::AllocError;
@@ -25,6 +25,7 @@ pub(crate) struct Worker<E: Estimator> {
     pub(crate) number: u32,
     pub(crate) pass: Pass,
     pub(crate) listeners: Vec<Listener<E>>,
+    pub(crate) scratch: Scratch,
     pub(crate) deferred: u32,
     pub(crate) receipts: Vec<Receipt>,
 }
@@ -125,7 +126,7 @@ impl<E: Estimator> Worker<E> {
         shared: &Shared<S>,
         node: u32,
     ) -> Result<Option<Proposal>, End> {
-        match shared.propose(rt, node) {
+        match shared.propose(rt, &mut self.scratch, node) {
             Ok(proposal) => Ok(Some(proposal)),
             Err(ProposeError::OutOfMemory) => Err(End),
             Err(ProposeError::Unseen | ProposeError::Contracted) => Ok(None),

@@ -21,17 +21,17 @@ returns-in_err-seen-clause-kept g c = kept_moved g.S.RowSource.bears (g.S.RowSou
 pub returns-in_err-copy-clause-kept : goal.returns-in_err-copy-clause-kept
 returns-in_err-copy-clause-kept g c = kept_moved g.S.RowSource.bears (g.S.RowSource.shows c.args.source.now) (g.S.RowSource.shows c.row_of.new.self) (g.S.RowSource.bound_of c.args.source.now) (g.S.RowSource.bound_of c.row_of.new.self) (kept_of c.args.self.now) (g.met.S.RowSource.same_bound c.args.source.now c.row_of.new.self c.in_ok-seen.ensures.stays) (λ s h. g.met.S.RowSource.still_shows c.args.source.now c.row_of.new.self s c.in_ok-seen.ensures.stays h) c.requires.kept
 
-pub returns-in_err-insert-clause-kept : goal.returns-in_err-insert-clause-kept
-returns-in_err-insert-clause-kept g c = rw c.in_err-insert.ensures.err (kept_moved g.S.RowSource.bears (g.S.RowSource.shows c.args.source.now) (g.S.RowSource.shows c.row_of.new.self) (g.S.RowSource.bound_of c.args.source.now) (g.S.RowSource.bound_of c.row_of.new.self) (kept_of c.args.self.now) (g.met.S.RowSource.same_bound c.args.source.now c.row_of.new.self c.in_ok-seen.ensures.stays) (λ s h. g.met.S.RowSource.still_shows c.args.source.now c.row_of.new.self s c.in_ok-seen.ensures.stays h) c.requires.kept)
+pub returns-in_err-put-clause-kept : goal.returns-in_err-put-clause-kept
+returns-in_err-put-clause-kept g c = λ x s is. (kept_moved g.S.RowSource.bears (g.S.RowSource.shows c.args.source.now) (g.S.RowSource.shows c.row_of.new.self) (g.S.RowSource.bound_of c.args.source.now) (g.S.RowSource.bound_of c.row_of.new.self) (kept_of c.args.self.now) (g.met.S.RowSource.same_bound c.args.source.now c.row_of.new.self c.in_ok-seen.ensures.stays) (λ s h. g.met.S.RowSource.still_shows c.args.source.now c.row_of.new.self s c.in_ok-seen.ensures.stays h) c.requires.kept) x s (sym (c.in_err-put.ensures.stays x) ∙ is)
 
 pub returns-clause-kept : goal.returns-clause-kept
-returns-clause-kept g c = kept_put g.S.RowSource.bears (g.S.RowSource.shows c.args.source.now) (g.S.RowSource.shows c.row_of.new.self) (g.S.RowSource.bound_of c.args.source.now) (g.S.RowSource.bound_of c.row_of.new.self) (kept_of c.args.self.now) (g.met.S.RowSource.same_bound c.args.source.now c.row_of.new.self c.in_ok-seen.ensures.stays) (λ s h. g.met.S.RowSource.still_shows c.args.source.now c.row_of.new.self s c.in_ok-seen.ensures.stays h) c.requires.kept (kept_of (record { kept = c.insert.new.self })) c.args.node c.in_ok-seen.seen (record {
+returns-clause-kept g c = kept_put g.S.RowSource.bears (g.S.RowSource.shows c.args.source.now) (g.S.RowSource.shows c.row_of.new.self) (g.S.RowSource.bound_of c.args.source.now) (g.S.RowSource.bound_of c.row_of.new.self) (kept_of c.args.self.now) (g.met.S.RowSource.same_bound c.args.source.now c.row_of.new.self c.in_ok-seen.ensures.stays) (λ s h. g.met.S.RowSource.still_shows c.args.source.now c.row_of.new.self s c.in_ok-seen.ensures.stays h) c.requires.kept (kept_of c.put.new.self) c.args.node c.in_ok-seen.seen (record {
   node = c.in_ok-seen.ensures.node;
   bears = c.in_ok-seen.ensures.bears;
   shows = c.in_ok-seen.ensures.shows;
   row = subst (λ (b : Cost). IsSeenRow b c.in_ok-seen.seen) (sym (g.met.S.RowSource.same_bound c.args.source.now c.row_of.new.self c.in_ok-seen.ensures.stays)) c.in_ok-seen.ensures.row;
   limit = subst IsBound (sym (g.met.S.RowSource.same_bound c.args.source.now c.row_of.new.self c.in_ok-seen.ensures.stays)) c.in_ok-seen.ensures.bound;
-}) c.in_ok-insert.ensures.updates.1 c.in_ok-insert.ensures.updates.2
+}) c.in_ok-put.ensures.here c.put.ensures.others
 
 pub returns-in-Some-clause-row : goal.returns-in-Some-clause-row
 returns-in-Some-clause-row g c =

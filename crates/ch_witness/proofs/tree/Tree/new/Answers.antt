@@ -11,13 +11,13 @@ use Rattle.ch_witness.proofs.Growing.{all_start, tree_start, start_seen, seen_go
 use Rattle.ch_witness.proofs.tree.Tree.new.Goals as goal
 
 pub returns-then-are_all-clause-tree : goal.returns-then-are_all-clause-tree
-returns-then-are_all-clause-tree g c = subst (λ (ss : List Step). IsTree c.args.rule ss (labels_of c.in_ok-new.field-0)) (sym c.new.ensures.items) (tree_start c.args.rule (labels_of c.in_ok-new.field-0) c.in_ok-new.ensures c.requires.start)
+returns-then-are_all-clause-tree g c = subst (λ (ss : List Step). IsTree c.args.rule ss (labels_of c.start.new.self)) (sym c.new.ensures.items) (tree_start c.args.rule (labels_of c.start.new.self) c.in_ok-start.ensures c.requires.start)
 
 pub go_on_from-requires-clause-tree : goal.go_on_from-requires-clause-tree
-go_on_from-requires-clause-tree g c = subst (λ (ss : List Step). IsTree c.args.rule ss (labels_of c.in_ok-new.field-0)) (sym c.new.ensures.items) (tree_start c.args.rule (labels_of c.in_ok-new.field-0) c.in_ok-new.ensures c.requires.start)
+go_on_from-requires-clause-tree g c = subst (λ (ss : List Step). IsTree c.args.rule ss (labels_of c.start.new.self)) (sym c.new.ensures.items) (tree_start c.args.rule (labels_of c.start.new.self) c.in_ok-start.ensures c.requires.start)
 
 pub go_on_from-requires-clause-label : goal.go_on_from-requires-clause-label
-go_on_from-requires-clause-label g c = c.in_ok-new.ensures.here ∙ ap begun (sym ZERO-is)
+go_on_from-requires-clause-label g c = c.in_ok-start.ensures.here ∙ ap begun (sym ZERO-is)
 
 pub grow-requires-clause-cutoff : goal.grow-requires-clause-cutoff
 grow-requires-clause-cutoff g c = subst (λ (b : Cost). IsWithin c.args.rule.cutoff b) (sym (g.met.S.RowSource.same_bound c.args.source.now c.go_on_from.new.source c.in_ok-go_on_from.ensures.stays)) c.requires.cutoff
@@ -32,7 +32,7 @@ returns-clause-start g c = λ k h other.
     let gone = c.in_ok-go_on_from.ensures.gone in (
       gone.0,
       kept_still (kept_of c.go_on_from.new.rows) (kept_of c.grow.new.rows) gone.0 c.in_ok-grow.ensures.more gone.1,
-      start_seen c.args.rule _ ZERO-is gone.0 _ _ (labels_of c.in_ok-new.field-0) _ _ c.in_ok-new.ensures (subst (λ (ss : List Step). IsLater ss c.go_on_from.new.self.steps.items (labels_of c.in_ok-new.field-0) (labels_of c.go_on_from.new.self.frontier)) c.new.ensures.items c.in_ok-go_on_from.ensures.later) (subst (λ (ss : List Step). IsGoneOn c.args.rule (record { node = c.args.rule.from; cost = record { weight = 0 }; before = None }) gone.0 ss c.go_on_from.new.self.steps.items (labels_of c.in_ok-new.field-0) (labels_of c.go_on_from.new.self.frontier)) c.new.ensures.items gone.2) c.in_ok-grow.ensures.later,
+      start_seen c.args.rule _ ZERO-is gone.0 _ _ (labels_of c.start.new.self) _ _ c.in_ok-start.ensures (subst (λ (ss : List Step). IsLater ss c.go_on_from.new.self.steps.items (labels_of c.start.new.self) (labels_of c.go_on_from.new.self.frontier)) c.new.ensures.items c.in_ok-go_on_from.ensures.later) (subst (λ (ss : List Step). IsGoneOn c.args.rule (record { node = c.args.rule.from; cost = record { weight = 0 }; before = None }) gone.0 ss c.go_on_from.new.self.steps.items (labels_of c.start.new.self) (labels_of c.go_on_from.new.self.frontier)) c.new.ensures.items gone.2) c.in_ok-grow.ensures.later,
     )
 
 pub returns-clause-stays : goal.returns-clause-stays
@@ -40,5 +40,5 @@ returns-clause-stays g c = g.met.S.RowSource.stays_more c.args.source.now c.go_o
 
 pub returns-clause-names : goal.returns-clause-names
 returns-clause-names g c = λ named whole.
-    let all = all_start (g.S.RowSource.whole c.args.source.now) c.args.rule.from (labels_of c.in_ok-new.field-0) c.in_ok-new.ensures whole in
+    let all = all_start (g.S.RowSource.whole c.args.source.now) c.args.rule.from (labels_of c.start.new.self) c.in_ok-start.ensures whole in
     c.in_ok-grow.ensures.names (c.in_ok-go_on_from.ensures.names named all) (c.in_ok-go_on_from.ensures.whole named all)

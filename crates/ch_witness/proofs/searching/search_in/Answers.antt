@@ -5,7 +5,7 @@ use Rattle.ch_witness.specs.Kept.{kept_of, IsKept}
 use Rattle.ch_witness.specs.Tree.{labels_of}
 use Rattle.ch_witness.specs.Ways.{AreWays, AreRows, IsStartRow}
 use Rattle.ch_witness.proofs.Giving.{all_seen, rows, ways_given, start_given}
-use Rattle.ch_witness.proofs.searching.search_with.Goals as goal
+use Rattle.ch_witness.proofs.searching.search_in.Goals as goal
 
 pub returns-clause-ways : goal.returns-clause-ways
 returns-clause-ways g c = subst (λ (ss : List Seen). AreWays ss c.args.from c.args.avoid c.args.cutoff c.args.targets.now c.in_ok-ways.ways.items) (sym c.in_ok-seen.ensures) (ways_given _ c.in_ok-tree.tree.steps.items (labels_of c.in_ok-tree.tree.frontier) c.args.targets.now c.in_ok-ways.ways.items c.in_ok-tree.ensures.tree c.in_ok-ways.ensures.many c.in_ok-ways.ensures.ways)
@@ -22,4 +22,4 @@ pub returns-clause-rows : goal.returns-clause-rows
 returns-clause-rows g c = subst AreRows (sym c.in_ok-seen.ensures) (rows _ c.in_ok-tree.tree.steps.items c.in_ok-tree.ensures.tree.grown)
 
 pub returns-clause-copies : goal.returns-clause-copies
-returns-clause-copies g c = subst (All (IsKept (kept_of c.new.new.rows))) (sym c.in_ok-seen.ensures) (all_seen (IsKept (kept_of c.new.new.rows)) c.in_ok-tree.tree.steps.items c.in_ok-tree.ensures.copies)
+returns-clause-copies g c = subst (All (IsKept (kept_of c.new-2.new.rows))) (sym c.in_ok-seen.ensures) (all_seen (IsKept (kept_of c.new-2.new.rows)) c.in_ok-tree.tree.steps.items c.in_ok-tree.ensures.copies)

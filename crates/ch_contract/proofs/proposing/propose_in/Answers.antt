@@ -8,7 +8,7 @@ use Rattle.ch_overlay.specs.Source.{row_in, NamesAlone}
 use Rattle.ch_witness.specs.Kept.{kept_of, AllNamed, AreKept, AreListed, Kept}
 use Rattle.ch_contract.specs.Drafts.{IsDrafted}
 use Rattle.ch_contract.proofs.Gathering.{all_listed_are, proposed}
-use Rattle.ch_contract.proofs.proposing.propose.Goals as goal
+use Rattle.ch_contract.proofs.proposing.propose_in.Goals as goal
 
 nothing : (o : Option ℕ) → false ≡ is_some o → o ≡ None
 nothing None e = refl
@@ -32,7 +32,7 @@ returns-then-is_some-clause-contracted g c = λ e.
 pub returns-in_err-draft_all-clause-found : goal.returns-in_err-draft_all-clause-found
 returns-in_err-draft_all-clause-found g c = λ whole e.
     let k = c.in_ok-own.ensures.copy in
-    let named = c.in_ok-own.ensures.names whole (none-kept (kept_of c.new-rows.result) c.new-rows.ensures (g.S.RowSource.whole c.args.source.now)) in
+    let named = c.in_ok-own.ensures.names whole (none-kept (kept_of c.args.rows.now) c.requires.none (g.S.RowSource.whole c.args.source.now)) in
     let own = named c.in_ok-own.own.node k.original k.here in
     let p = err_from_is_err_and c.from_residual-in_err-draft_all.result c.from_residual-in_err-draft_all.ensures.1 in
     let was = c.in_err-draft_all.was in
@@ -40,35 +40,35 @@ returns-in_err-draft_all-clause-found g c = λ whole e.
     let two = p.2 in
     c.in_err-draft_all.ensures.found named (subst (NamesAlone (g.S.RowSource.whole c.read.new.source)) (sym (c.deref-2.ensures ∙ k.same.row)) own) (cc (was, one, two, e))
 
-pub into_listed-requires : goal.into_listed-requires
-into_listed-requires g c = record { nodes = λ x s is. (c.in_ok-draft_all.ensures.kept x s is).node }
+pub hand_out-requires : goal.hand_out-requires
+hand_out-requires g c = record { nodes = λ x s is. (c.in_ok-draft_all.ensures.kept x s is).node }
 
 pub invariant_of-result : goal.invariant_of-result
 invariant_of-result g c =
     let k = c.in_ok-own.ensures.copy in
     let bound : g.S.RowSource.bound_of c.draft_all.new.source ≡ c.bound.result = g.met.S.RowSource.same_bound c.read.new.source c.draft_all.new.source c.in_ok-draft_all.ensures.stays ∙ g.met.S.RowSource.same_bound c.args.source.now c.read.new.source c.in_ok-own.ensures.stays ∙ sym c.bound.ensures.bound in
-    proposed g.S.RowSource.bears (g.S.RowSource.shows c.draft_all.new.source) c.bound.result c.args.node (row_in c.in_ok-own.own) (kept_of c.draft_all.new.rows) c.draft_all.new.draft c.in_ok-into_listed.field-0.items k.original c.bound.ensures.limit
+    proposed g.S.RowSource.bears (g.S.RowSource.shows c.draft_all.new.source) c.bound.result c.args.node (row_in c.in_ok-own.own) (kept_of c.draft_all.new.rows) c.draft_all.new.draft c.in_ok-hand_out.field-0.items k.original c.bound.ensures.limit
     (subst (λ (b : Cost). AreKept g.S.RowSource.bears (g.S.RowSource.shows c.draft_all.new.source) b (kept_of c.draft_all.new.rows)) bound c.in_ok-draft_all.ensures.kept)
     (subst (λ (x : ℕ). kept_of c.draft_all.new.rows x ≡ Some k.original) c.in_ok-own.ensures.node (c.in_ok-draft_all.ensures.more c.in_ok-own.own.node k.original k.here))
     k.same.row
     (ap (λ (r : Row). r.rank) (sym (c.behind-own.view_is ∙ c.deref.ensures)) ∙ nothing c.behind-own.inside.rank c.if-is_some.ensures)
     (subst (λ (r : Row). IsDrafted c.bound.result c.args.node r r.inn (kept_of c.draft_all.new.rows) c.draft_all.new.draft) c.deref-2.ensures c.in_ok-draft_all.ensures.draft)
-    (subst (λ (ns : List ℕ). AreListed (kept_of c.draft_all.new.rows) ns c.in_ok-into_listed.field-0.items) c.deref-3.ensures.value c.in_ok-into_listed.ensures)
+    (subst (λ (ns : List ℕ). AreListed (kept_of c.draft_all.new.rows) ns c.in_ok-hand_out.field-0.items) c.deref-3.ensures.value c.in_ok-hand_out.ensures)
 
 pub returns-clause-holds : goal.returns-clause-holds
 returns-clause-holds g c =
     let k = c.in_ok-own.ensures.copy in
     let bound : g.S.RowSource.bound_of c.draft_all.new.source ≡ c.bound.result = g.met.S.RowSource.same_bound c.read.new.source c.draft_all.new.source c.in_ok-draft_all.ensures.stays ∙ g.met.S.RowSource.same_bound c.args.source.now c.read.new.source c.in_ok-own.ensures.stays ∙ sym c.bound.ensures.bound in
-    proposed g.S.RowSource.bears (g.S.RowSource.shows c.draft_all.new.source) c.bound.result c.args.node (row_in c.in_ok-own.own) (kept_of c.draft_all.new.rows) c.draft_all.new.draft c.in_ok-into_listed.field-0.items k.original c.bound.ensures.limit
+    proposed g.S.RowSource.bears (g.S.RowSource.shows c.draft_all.new.source) c.bound.result c.args.node (row_in c.in_ok-own.own) (kept_of c.draft_all.new.rows) c.draft_all.new.draft c.in_ok-hand_out.field-0.items k.original c.bound.ensures.limit
     (subst (λ (b : Cost). AreKept g.S.RowSource.bears (g.S.RowSource.shows c.draft_all.new.source) b (kept_of c.draft_all.new.rows)) bound c.in_ok-draft_all.ensures.kept)
     (subst (λ (x : ℕ). kept_of c.draft_all.new.rows x ≡ Some k.original) c.in_ok-own.ensures.node (c.in_ok-draft_all.ensures.more c.in_ok-own.own.node k.original k.here))
     k.same.row
     (ap (λ (r : Row). r.rank) (sym (c.behind-own.view_is ∙ c.deref.ensures)) ∙ nothing c.behind-own.inside.rank c.if-is_some.ensures)
     (subst (λ (r : Row). IsDrafted c.bound.result c.args.node r r.inn (kept_of c.draft_all.new.rows) c.draft_all.new.draft) c.deref-2.ensures c.in_ok-draft_all.ensures.draft)
-    (subst (λ (ns : List ℕ). AreListed (kept_of c.draft_all.new.rows) ns c.in_ok-into_listed.field-0.items) c.deref-3.ensures.value c.in_ok-into_listed.ensures)
+    (subst (λ (ns : List ℕ). AreListed (kept_of c.draft_all.new.rows) ns c.in_ok-hand_out.field-0.items) c.deref-3.ensures.value c.in_ok-hand_out.ensures)
 
 pub returns-clause-bears : goal.returns-clause-bears
-returns-clause-bears g c = all_listed_are g.S.RowSource.bears (g.S.RowSource.shows c.draft_all.new.source) g.S.RowSource.bears (g.S.RowSource.bound_of c.draft_all.new.source) (kept_of c.draft_all.new.rows) c.deref-3.result.now c.in_ok-into_listed.field-0.items c.in_ok-draft_all.ensures.kept c.in_ok-into_listed.ensures (λ x s a. a.bears)
+returns-clause-bears g c = all_listed_are g.S.RowSource.bears (g.S.RowSource.shows c.draft_all.new.source) g.S.RowSource.bears (g.S.RowSource.bound_of c.draft_all.new.source) (kept_of c.draft_all.new.rows) c.deref-3.result.now c.in_ok-hand_out.field-0.items c.in_ok-draft_all.ensures.kept c.in_ok-hand_out.ensures (λ x s a. a.bears)
 
 pub returns-clause-shows : goal.returns-clause-shows
-returns-clause-shows g c = all_listed_are g.S.RowSource.bears (g.S.RowSource.shows c.draft_all.new.source) (g.S.RowSource.shows c.draft_all.new.source) (g.S.RowSource.bound_of c.draft_all.new.source) (kept_of c.draft_all.new.rows) c.deref-3.result.now c.in_ok-into_listed.field-0.items c.in_ok-draft_all.ensures.kept c.in_ok-into_listed.ensures (λ x s a. a.shows)
+returns-clause-shows g c = all_listed_are g.S.RowSource.bears (g.S.RowSource.shows c.draft_all.new.source) (g.S.RowSource.shows c.draft_all.new.source) (g.S.RowSource.bound_of c.draft_all.new.source) (kept_of c.draft_all.new.rows) c.deref-3.result.now c.in_ok-hand_out.field-0.items c.in_ok-draft_all.ensures.kept c.in_ok-hand_out.ensures (λ x s a. a.shows)

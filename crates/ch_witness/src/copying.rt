@@ -1,0 +1,30 @@
+ghost use Rattle.std.specs.Prelude.{◌≡◌, IfOk};
+ghost use Rattle.ch_overlay.specs.Source.{row_in};
+ghost use Rattle.ch_witness.specs.Kept.{IsCopy};
+
+use ch_overlay::Seen;
+use std::alloc::AllocError;
+use std::sync::Arc;
+
+/// The same answer again, by one more owner of its row.
+pub fn copy_of(seen: &Seen) -> Result<Seen, AllocError>
+    ensures node { IfOk result (λ copy. copy.node ≡ seen.now.node) }
+    ensures version { IfOk result (λ copy. copy.version ≡ seen.now.version) }
+    ensures row { IfOk result (λ copy. row_in copy ≡ row_in seen.now) }
+{
+    Ok(Seen {
+        node: seen.node,
+        version: seen.version,
+        row: Arc::try_clone(&seen.row)?,
+    })
+}
+
+/// The same of an answer that may be there.
+pub fn copy_of_some(known: &Option<Seen>) -> Result<Option<Seen>, AllocError>
+    ensures { IfOk result (IsCopy known.now) }
+{
+    match known {
+        Some(seen) => Ok(Some(copy_of(seen)?)),
+        None => Ok(None),
+    }
+}
