@@ -10,21 +10,21 @@ use crate::ledger::Ledger;
 use crate::proposal::Proposal;
 use ch_overlay::{Row, Seen};
 
-// A row that was seen in another version than the ledger has now.
+/// A row that was seen in another version than the ledger has now.
 #[derive(Clone, Copy)]
 struct Changed {
-    // The node, which is in range.
+    /// The node, which is in range.
     node: u32,
-    // The version that was seen.
+    /// The version that was seen.
     seen: u64,
-    // The version now.
+    /// The version now.
     now: u64,
 }
 
-// Whether a ledger can contract the node of a proposal by it, and if not, why: the node is contracted already, or
-// else a row has another version now, the first of them, or else a row or the bound is another one.
-//
-// Takes no memory. Looks once at the version of each row that the proposal rests on, and once at its entries.
+/// Whether a ledger can contract the node of a proposal by it, and if not, why: the node is contracted already, or
+/// else a row has another version now, the first of them, or else a row or the bound is another one.
+///
+/// Takes no memory. Looks once at the version of each row that the proposal rests on, and once at its entries.
 pub fn accepted(ledger: &Ledger, proposal: &Proposal) -> Result<(), CommitError>
     ensures lawful { IfOk result (λ _. AreLawful ledger.now proposal.now.node proposal.now.shortcuts) }
     ensures contracted { (result ≡ Err commits.Contracted) ↔ IsContractedYet ledger.now proposal.now }
@@ -49,7 +49,7 @@ pub fn accepted(ledger: &Ledger, proposal: &Proposal) -> Result<(), CommitError>
     Ok(())
 }
 
-// Whether a node is in range and contracted.
+/// Whether a node is in range and contracted.
 fn is_contracted(ledger: &Ledger, node: u32) -> bool
     ensures { IsTrue result ↔ Contains ledger.now.overlay.order node }
 {
@@ -60,7 +60,7 @@ fn is_contracted(ledger: &Ledger, node: u32) -> bool
     overlay.row(node).rank.is_some()
 }
 
-// The first of the rows that a proposal rests on of which the ledger has another version now.
+/// The first of the rows that a proposal rests on of which the ledger has another version now.
 fn first_old(ledger: &Ledger, proposal: &Proposal) -> Option<Changed>
     ensures none { IfNone result (All (λ s. IsOld ledger.now s → ⊥) proposal.now.rests_on) }
     ensures some { IfSome result (λ changed. IsFirstChange ledger.now proposal.now changed.node changed.seen changed.now) }
@@ -77,7 +77,7 @@ fn first_old(ledger: &Ledger, proposal: &Proposal) -> Option<Changed>
     None
 }
 
-// The version that the ledger has now, where it is another than the one that was seen.
+/// The version that the ledger has now, where it is another than the one that was seen.
 fn newer(ledger: &Ledger, seen: &Seen) -> Option<u64>
     ensures { SomeIff result (IsOld ledger.now seen.now) (slice_index ledger.now.overlay.versions seen.now.node) }
 {
@@ -92,7 +92,7 @@ fn newer(ledger: &Ledger, seen: &Seen) -> Option<u64>
     Some(now)
 }
 
-// Whether all rows that a proposal rests on, and its bound, are the ledger's.
+/// Whether all rows that a proposal rests on, and its bound, are the ledger's.
 fn agrees(ledger: &Ledger, proposal: &Proposal) -> bool
     ensures agrees { IsTrue result ↔ Agrees ledger.now proposal.now }
     ensures holds { IsProposal proposal.now }
@@ -101,7 +101,7 @@ fn agrees(ledger: &Ledger, proposal: &Proposal) -> bool
     proposal.bound() == ledger.overlay().bound() && are_rows_of(ledger, rows)
 }
 
-// Whether all of these rows are the ledger's rows of their nodes.
+/// Whether all of these rows are the ledger's rows of their nodes.
 fn are_rows_of(ledger: &Ledger, rows: &[Seen]) -> bool
     ensures { IsTrue result ↔ All (IsRowOf ledger.now) rows.now }
 {
@@ -113,7 +113,7 @@ fn are_rows_of(ledger: &Ledger, rows: &[Seen]) -> bool
     true
 }
 
-// Whether a row is the ledger's row of its node.
+/// Whether a row is the ledger's row of its node.
 fn is_row_of(ledger: &Ledger, seen: &Seen) -> bool
     ensures { IsTrue result ↔ IsRowOf ledger.now seen.now }
 {
@@ -124,7 +124,7 @@ fn is_row_of(ledger: &Ledger, seen: &Seen) -> bool
     is_same_row(&seen.row, overlay.row(seen.node))
 }
 
-// Whether two rows have the same entries and the same rank.
+/// Whether two rows have the same entries and the same rank.
 fn is_same_row(row: &Row, other: &Row) -> bool
     ensures { IsTrue result ↔ (row.now ≡ other.now) }
 {

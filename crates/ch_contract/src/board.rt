@@ -162,7 +162,7 @@ impl<S: Site> Board<S> {
         }
     }
 
-    // Contracts the node unless it is contracted already, and puts its receipt behind the others.
+    /// Contracts the node unless it is contracted already, and puts its receipt behind the others.
     fn visit(
         &mut self,
         node: u32,
@@ -185,7 +185,7 @@ impl<S: Site> Board<S> {
         Ok(())
     }
 
-    // Whether a node isn't contracted.
+    /// Whether a node isn't contracted.
     fn is_alive(&self, node: u32) -> bool
         requires { node < length self.now.overlay.rows }
         ensures { IsTrue result ↔ IsAlive (state_of self.now.overlay) node }
@@ -194,7 +194,7 @@ impl<S: Site> Board<S> {
         self.overlay().row(node).rank.is_none()
     }
 
-    // A proposal of a node that isn't contracted, by the rows as they are.
+    /// A proposal of a node that isn't contracted, by the rows as they are.
     fn proposed(&mut self, node: u32, settle: u32) -> Result<Proposal, AllocError>
         requires alive { IsAlive (state_of self.old.overlay) node }
         requires low { 0 < settle }
@@ -214,7 +214,7 @@ impl<S: Site> Board<S> {
         }
     }
 
-    // Contracts the node of a proposal by rows that are all current.
+    /// Contracts the node of a proposal by rows that are all current.
     fn taken(&mut self, proposal: Proposal) -> Result<Receipt, AllocError>
         requires waits { IsContractedYet self.old proposal → ⊥ }
         requires agrees { Agrees self.old proposal }

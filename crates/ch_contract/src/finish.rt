@@ -19,8 +19,8 @@ pub struct Finished {
     pub log: Vec<Contraction>,
 }
 
-// The hierarchy that the contractions of a ledger lead to. Refused while a node isn't contracted, which is tested
-// first, or for want of memory. Takes memory for the ranks and the links, which it sorts.
+/// The hierarchy that the contractions of a ledger lead to. Refused while a node isn't contracted, which is tested
+/// first, or for want of memory. Takes memory for the ranks and the links, which it sorts.
 pub fn hierarchy_of(ledger: &Ledger) -> Result<Hierarchy, FinishError>
     ensures made { IfOk result (λ h. IsMade ledger.now.graph (state_of ledger.now.overlay) h) }
     ensures right { IfOk result (λ h. IsRight ledger.now.graph h) }

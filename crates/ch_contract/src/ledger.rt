@@ -125,7 +125,7 @@ impl Ledger {
         self.log
     }
 
-    // What its rows and its log are allocated by.
+    /// What its rows and its log are allocated by.
     pub(crate) fn allocator(&self) -> Global {
         self.alloc
     }
@@ -179,7 +179,7 @@ impl Ledger {
     }
 }
 
-// So many versions, from this one on.
+/// So many versions, from this one on.
 fn versions_from(alloc: Global, first: u64, count: usize) -> Result<Vec<u64>, AllocError>
     requires { first + count < 2 ^ 64 }
     ensures { IfOk result (λ versions. versions.items ≡ range_with_len first count) }
@@ -191,7 +191,7 @@ fn versions_from(alloc: Global, first: u64, count: usize) -> Result<Vec<u64>, Al
     Ok(versions)
 }
 
-// The nodes of the rows behind the first.
+/// The nodes of the rows behind the first.
 fn neighbours_in(alloc: Global, rows: &[(u32, Arc<Row>)]) -> Result<Vec<u32>, AllocError>
     requires { 0 < length rows.now }
     ensures { IfOk result (λ nodes. nodes.items ≡ map (λ row. row.0) (drop 1 rows.now)) }

@@ -7,7 +7,7 @@ use ch_graph::Link;
 use ch_overlay::{Entry, Overlay, Row};
 use std::alloc::{AllocError, Global};
 
-// The rank of each node of an overlay whose nodes are all contracted.
+/// The rank of each node of an overlay whose nodes are all contracted.
 pub fn ranks_of(alloc: Global, overlay: &Overlay) -> Result<Vec<u32>, AllocError>
     requires { IsOver (state_of overlay.now) }
     ensures { IfOk result (λ ranks. AreRanks overlay.now ranks.items) }
@@ -23,7 +23,7 @@ pub fn ranks_of(alloc: Global, overlay: &Overlay) -> Result<Vec<u32>, AllocError
     Ok(ranks)
 }
 
-// The links that all rows of an overlay tell of, by their ends.
+/// The links that all rows of an overlay tell of, by their ends.
 pub fn links_of(alloc: Global, overlay: &Overlay) -> Result<Vec<Link>, AllocError>
     ensures { IfOk result (λ links. AreLinks overlay.now links.items) }
 {
@@ -35,7 +35,7 @@ pub fn links_of(alloc: Global, overlay: &Overlay) -> Result<Vec<Link>, AllocErro
     Ok(links)
 }
 
-// The links that the row of a node tells of.
+/// The links that the row of a node tells of.
 fn push_row(links: &mut Vec<Link>, node: u32, row: &Row) -> Result<(), AllocError>
     ensures { IfOk result (λ _. links.new.items ≡ links.old.items ++ row_links row.now node) }
 {

@@ -7,8 +7,8 @@ use crate::ledger::Ledger;
 use ch_overlay::{SeeError, Seen};
 use std::sync::Arc;
 
-// The row of a node as it is now. `Unseen` where the node is out of range, `OutOfMemory` where the row has as many
-// owners as there can be.
+/// The row of a node as it is now. `Unseen` where the node is out of range, `OutOfMemory` where the row has as many
+/// owners as there can be.
 pub fn shown(ledger: &Ledger, node: u32) -> Result<Seen, SeeError>
     ensures node { IfOk result (λ seen. seen.node ≡ node) }
     ensures bound { IsBound ledger.now.overlay.bound }

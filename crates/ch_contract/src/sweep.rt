@@ -21,7 +21,7 @@ pub fn contract_by_sweep(alloc: Global, graph: Graph, settle: u32) -> Result<Hie
     swept::<Brand>(alloc, graph, settle)
 }
 
-// The same over a board whose type names the graph.
+/// The same over a board whose type names the graph.
 fn swept<S: Site>(alloc: Global, graph: Graph, settle: u32) -> Result<Hierarchy, AllocError>
     requires named { S.graph ≡ graph }
     requires low { 0 < settle }

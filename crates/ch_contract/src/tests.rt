@@ -10,14 +10,14 @@ use ch_graph::{Graph, Hierarchy, Link, Road};
 use std::alloc::{AllocError, Global};
 use std::marker::Brand;
 
-// How many nodes each search settles at most.
+/// How many nodes each search settles at most.
 const SETTLE: u32 = 64;
 
 fn road(from: u32, to: u32, weight: u32) -> Road {
     Road { from, to, weight }
 }
 
-// A link of so many arcs of the weight.
+/// A link of so many arcs of the weight.
 fn link(from: u32, to: u32, arcs: u32, weight: u32, middle: Option<u32>) -> Link {
     Link {
         from,
@@ -33,7 +33,7 @@ fn all_allowed(nodes: u32, roads: &[Road]) -> bool
     roads.iter().all(|road| road.from < nodes && road.to < nodes && road.weight > 0)
 }
 
-// The graph of these roads, or none where a road isn't allowed.
+/// The graph of these roads, or none where a road isn't allowed.
 fn graph(nodes: u32, roads: Vec<Road>) -> Option<Graph> {
     if nodes > 1 << 25 || roads.len() > 1 << 27 || !all_allowed(nodes, roads.as_slice()) {
         return None;
@@ -41,14 +41,14 @@ fn graph(nodes: u32, roads: Vec<Road>) -> Option<Graph> {
     Some(Graph::new(nodes, roads))
 }
 
-// What a log is to be: each node with each of its neighbours, and by rising node how many shortcuts were put in.
+/// What a log is to be: each node with each of its neighbours, and by rising node how many shortcuts were put in.
 #[derive(Copy, Clone)]
 struct Logged<'a> {
     neighbours: &'a [(u32, u32)],
     shortcuts: &'a [u64],
 }
 
-// Whether a sweep gives the node of each number the rank of its number, and then this log and hierarchy.
+/// Whether a sweep gives the node of each number the rank of its number, and then this log and hierarchy.
 fn sweeps_to<S: Site>(
     alloc: Global,
     graph: Graph,
@@ -65,7 +65,7 @@ fn sweeps_to<S: Site>(
     Ok(in_order(receipts.as_slice()) && ends_in(board, log, links, bound))
 }
 
-// Whether a board, all of whose nodes are contracted, has this log and comes to this hierarchy.
+/// Whether a board, all of whose nodes are contracted, has this log and comes to this hierarchy.
 fn ends_in<S: Site>(board: Board<S>, log: Logged, links: &[Link], bound: Cost) -> bool {
     if !is_log(board.log(), log.neighbours, log.shortcuts) {
         return false;
@@ -101,7 +101,7 @@ fn is_log(entries: &[Contraction], neighbours: &[(u32, u32)], shortcuts: &[u64])
     entries.len() == shortcuts.len()
 }
 
-// Whether the neighbours of a node are those of the pairs that begin with it, in this order.
+/// Whether the neighbours of a node are those of the pairs that begin with it, in this order.
 fn has_neighbours(node: u32, neighbours: &[u32], pairs: &[(u32, u32)]) -> bool {
     let mut place = 0usize;
     for (from, neighbour) in pairs {
@@ -125,7 +125,7 @@ fn is_hierarchy(hierarchy: &Hierarchy, nodes: usize, links: &[Link], bound: Cost
     count as usize == nodes && hierarchy.links() == links && hierarchy.bound() == bound
 }
 
-// Whether a proposal rests on the rows of these nodes, in this order.
+/// Whether a proposal rests on the rows of these nodes, in this order.
 fn rests_on(proposal: &Proposal, nodes: &[u32]) -> bool {
     let rows = proposal.rests_on();
     for (seen, node) in rows.iter().zip(nodes) {
@@ -136,7 +136,7 @@ fn rests_on(proposal: &Proposal, nodes: &[u32]) -> bool {
     rows.len() == nodes.len()
 }
 
-// What a board of the graph answers to a proposal, and whether its log has as many entries then.
+/// What a board of the graph answers to a proposal, and whether its log has as many entries then.
 fn answers<S: Site>(
     alloc: Global,
     graph: Graph,
@@ -151,7 +151,7 @@ fn answers<S: Site>(
     Ok(found == answer && board.log().len() == entries)
 }
 
-// A proposal of the node by the opening rows of the graph.
+/// A proposal of the node by the opening rows of the graph.
 fn opening_proposal<S: Site>(
     alloc: Global,
     graph: Graph,
@@ -165,8 +165,8 @@ fn opening_proposal<S: Site>(
     propose(alloc, &mut board, node, SETTLE)
 }
 
-// Both middle nodes of a tie are proposed by the opening rows. The second proposal rests on a row that the first
-// contraction changes, and the next proposal of its node puts a shortcut in.
+/// Both middle nodes of a tie are proposed by the opening rows. The second proposal rests on a row that the first
+/// contraction changes, and the next proposal of its node puts a shortcut in.
 fn tie_by_commits<S: Site>(alloc: Global, graph: Graph) -> Result<bool, AllocError>
     requires named { S.graph ≡ graph }
 {
@@ -197,7 +197,7 @@ fn tie_by_commits<S: Site>(alloc: Global, graph: Graph) -> Result<bool, AllocErr
     Ok(read && taken && refused && put && taken_again)
 }
 
-// Of two proposals of one node the first is taken, and then the node is contracted for good.
+/// Of two proposals of one node the first is taken, and then the node is contracted for good.
 fn row_by_commits<S: Site>(
     alloc: Global,
     graph: Graph,
@@ -226,7 +226,7 @@ fn row_by_commits<S: Site>(
     Ok(taken && refused && gone && swept && ends_in(board, log, links, bound))
 }
 
-// Whether a node isn't proposed, for this reason.
+/// Whether a node isn't proposed, for this reason.
 fn refuses<S: Site>(alloc: Global, board: &mut Board<S>, node: u32, reason: ProposeError) -> bool {
     match propose(alloc, board, node, SETTLE) {
         Ok(_) => false,
@@ -234,7 +234,7 @@ fn refuses<S: Site>(alloc: Global, board: &mut Board<S>, node: u32, reason: Prop
     }
 }
 
-// Whether a fresh board of the row of three nodes is handed back, as it was, in place of a hierarchy.
+/// Whether a fresh board of the row of three nodes is handed back, as it was, in place of a hierarchy.
 fn has_nodes_left<S: Site>(alloc: Global, graph: Graph) -> Result<bool, AllocError>
     requires named { S.graph ≡ graph }
 {
@@ -245,14 +245,14 @@ fn has_nodes_left<S: Site>(alloc: Global, graph: Graph) -> Result<bool, AllocErr
     }
 }
 
-// Whether a board of the row of three nodes has no node contracted.
+/// Whether a board of the row of three nodes has no node contracted.
 fn is_fresh<S: Site>(board: &Board<S>) -> bool {
     board.log().is_empty()
         && board.overlay().alive() == 3
         && board.graph().arcs() == [road(1, 0, 2), road(0, 2, 3)].as_slice()
 }
 
-// The heavy pair of node 1 gets no shortcut once node 0 is contracted.
+/// The heavy pair of node 1 gets no shortcut once node 0 is contracted.
 fn heavy_by_commits<S: Site>(alloc: Global, graph: Graph) -> Result<bool, AllocError>
     requires named { S.graph ≡ graph }
 {
@@ -267,7 +267,7 @@ fn heavy_by_commits<S: Site>(alloc: Global, graph: Graph) -> Result<bool, AllocE
     Ok(taken && second.shortcuts().is_empty())
 }
 
-// The row of three nodes: 1, 0, 2.
+/// The row of three nodes: 1, 0, 2.
 fn row(alloc: Global, first: u32) -> Result<Option<Graph>, AllocError> {
     Ok(graph(3, vec![in alloc; road(1, 0, first), road(0, 2, 3)]?))
 }
@@ -280,7 +280,7 @@ fn row_links() -> [Link; 3] {
     ]
 }
 
-// Two ways from 2 to 3 that cost the same, over 0 and over 1.
+/// Two ways from 2 to 3 that cost the same, over 0 and over 1.
 fn tied(alloc: Global) -> Result<Option<Graph>, AllocError> {
     Ok(graph(
         4,
@@ -298,7 +298,7 @@ fn tied_links() -> [Link; 5] {
     ]
 }
 
-// At node 1 the way from 2 to 3 costs four times the greatest weight, which is above the bound of three times.
+/// At node 1 the way from 2 to 3 costs four times the greatest weight, which is above the bound of three times.
 fn heavy(alloc: Global) -> Result<Option<Graph>, AllocError> {
     let most = u32::MAX;
     let roads = vec![in alloc;
@@ -344,7 +344,7 @@ fn row_of_three(rt: HostRuntime) -> Result<(), AllocError> {
     Ok(())
 }
 
-// The first node contracted has the other as a witness, and then the second gives the shortcut.
+/// The first node contracted has the other as a witness, and then the second gives the shortcut.
 #[test]
 fn tie(rt: HostRuntime) -> Result<(), AllocError> {
     let alloc = rt.alloc();
@@ -374,7 +374,7 @@ fn tie_of_proposals(rt: HostRuntime) -> Result<(), AllocError> {
     Ok(())
 }
 
-// A proposal by the rows of one graph, for a board of another of the same bound.
+/// A proposal by the rows of one graph, for a board of another of the same bound.
 #[test]
 fn another_board(rt: HostRuntime) -> Result<(), AllocError> {
     let alloc = rt.alloc();
@@ -392,7 +392,7 @@ fn another_board(rt: HostRuntime) -> Result<(), AllocError> {
     Ok(())
 }
 
-// A proposal by the rows of one board, for another board of the same graph.
+/// A proposal by the rows of one board, for another board of the same graph.
 #[test]
 fn board_of_the_same_graph(rt: HostRuntime) -> Result<(), AllocError> {
     let alloc = rt.alloc();
@@ -484,7 +484,7 @@ fn nodes_left(rt: HostRuntime) -> Result<(), AllocError> {
     Ok(())
 }
 
-// A sweep of the row of three nodes, by the call that names the graph itself.
+/// A sweep of the row of three nodes, by the call that names the graph itself.
 #[test]
 fn hierarchy_by_sweep(rt: HostRuntime) -> Result<(), AllocError> {
     let alloc = rt.alloc();
