@@ -9,14 +9,13 @@ use Rattle.ch_laws.specs.Rows.{Row, Rises}
 use Rattle.ch_laws.specs.Verdicts.{HasWay, ListsThrough}
 use Rattle.ch_overlay.specs.declared.source.Seen.{Seen}
 use Rattle.ch_overlay.specs.Source.{row_in, row_of, IsBound, NamesAlone}
-use Rattle.ch_witness.specs.Kept.{Kept, AreKept, AreListed, IsAnswer, IsMore}
+use Rattle.ch_witness.specs.Kept.{Kept, AreKept, AreListed, IsMore}
 use Rattle.ch_contract.specs.declared.draft.Draft.{Draft}
 use Rattle.ch_contract.specs.Drafts.{Agrees, IsBegun, IsDrafted, IsDraftedFrom}
 use Rattle.ch_contract.specs.Proposal.{IsProposal, ShortcutBefore}
 use Rattle.ch_contract.proofs.Ranges.{AllPairs-append, AllPairs-take}
-use Rattle.ch_contract.proofs.Drafting.{row_found}
+use Rattle.ch_witness.proofs.Copies.{row_found}
 use Rattle.ch_laws.proofs.Members.{contains_first}
-use Rattle.std.specs.List.{All}
 use Rattle.std.proofs.lemmas.List.{take_more}
 use Rattle.ch_contract.proofs.Pairing.{last_is_past}
 
@@ -118,8 +117,3 @@ proposed Bears Shows bound v row kept d rows own limit are own_kept row_is unran
     | inl less ↦ omega (arith, less, same.0)
     | inr both ↦ omega (arith, both.1, same.1)
   ]
-
-pub all_listed_are : (Bears Shows IsKind : Seen → Type 0) (bound : Cost) (kept : Kept) (nodes : List ℕ) (rows : List Seen) → AreKept Bears Shows bound kept → AreListed kept nodes rows → ((x : ℕ) (s : Seen) → IsAnswer Bears Shows bound x s → IsKind s) → All IsKind rows
-all_listed_are Bears Shows IsKind bound kept nodes rows are listed kind k e h =
-    let s = get_or rows k e in
-    kind s.node s (are s.node s (listed.from_kept s (Contains-get_or rows k e h)))

@@ -23,7 +23,8 @@ use Rattle.ch_witness.specs.Kept.{Kept, IsKept}
 use Rattle.ch_witness.specs.Ways.{AreWays, IsStartRow, IsWay, way_at}
 use Rattle.ch_contract.specs.declared.draft.Draft.{Draft}
 use Rattle.ch_contract.specs.Drafts.{Agrees, AreJudged, ArePairs, IsDraftedFrom, IsJoined, Lengthens, over}
-use Rattle.ch_contract.proofs.Drafting.{moved_along, row_among}
+use Rattle.ch_contract.proofs.Drafting.{moved_along}
+use Rattle.ch_witness.proofs.Copies.{row_among}
 
 empty : (p : Shortcut) → Contains [] p → ⊥
 empty p among = omega (arith, among.1)
