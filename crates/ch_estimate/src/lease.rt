@@ -38,7 +38,7 @@ impl Leases {
             Some(group) => Ok(Lease {
                 member: group.clone()?,
             }),
-            None => Err(AllocError),
+            None => unreachable!(),
         }
     }
 
