@@ -12,7 +12,7 @@ use Rattle.ch_service.specs.Answer.{Route, IsAnswer, AreAnswers, nothing, one_mo
 use Rattle.ch_service.specs.Outcome.{IfTold, Writes, StopsShort, IsSearchFault, IsAnsweringFault}
 use Rattle.ch_service.specs.Route.{Spells, IsUnfoldedRoute, IsRouteBy, Routed, HasTooLong, RoutesFirst}
 use Rattle.ch_service.specs.declared.error.ServiceError.{ServiceError}
-use Rattle.ch_service.specs.declared.error.ServiceError.TheVariants.{Graph as GraphFault, Queries, Hierarchy as HierarchyFault, Unpack, Write, OutOfMemory}
+use Rattle.ch_service.specs.declared.error.ServiceError.TheVariants.{Graph as GraphFault, Queries, Hierarchy as HierarchyFault, Build, Unpack, Write, OutOfMemory}
 
 -- a route of a right hierarchy is a least walk
 walk-right : RouteIsLeast → (g : Graph) (h : Hierarchy) (s t : ℕ) (r : Option Route) → IsGraph g → IsRight g h → s < g.nodes → t < g.nodes → IsRouteBy h s t r → IsLeastWalk g s t r
@@ -58,6 +58,7 @@ stops-weaker : (P Q : List ℕ → Type 0) (old new : Option (List ℕ)) (e : Se
 stops-weaker P Q old new (GraphFault fault) f s = tt
 stops-weaker P Q old new (Queries fault) f s = tt
 stops-weaker P Q old new (HierarchyFault fault) f s = tt
+stops-weaker P Q old new (Build e) f s = s
 stops-weaker P Q old new (Unpack e) f s = (s.0, f s.0 s.1, s.2)
 stops-weaker P Q old new (Write fault) f s = (s.0, f s.0 s.1, s.2, s.3)
 stops-weaker P Q old new OutOfMemory f s = elim s [ inl kept ↦ inl kept | inr w ↦ inr (w.0, f w.0 w.1, w.2) ]
@@ -73,6 +74,7 @@ pub stops-whole : (h : Hierarchy) (P : List ℕ → Type 0) (old new : Option (L
 stops-whole h P old new (GraphFault fault) f w = tt
 stops-whole h P old new (Queries fault) f w = tt
 stops-whole h P old new (HierarchyFault fault) f w = tt
+stops-whole h P old new (Build e) f w = absurd f
 stops-whole h P old new (Unpack e) f w = w
 stops-whole h P old new (Write fault) f w = absurd f
 stops-whole h P old new OutOfMemory f w = inr w
@@ -81,6 +83,7 @@ pub fault-search : (h : Hierarchy) (e : ServiceError) → IsSearchFault h e → 
 fault-search h (GraphFault fault) f = f
 fault-search h (Queries fault) f = f
 fault-search h (HierarchyFault fault) f = f
+fault-search h (Build e) f = f
 fault-search h (Unpack e) f = f
 fault-search h (Write fault) f = tt
 fault-search h OutOfMemory f = tt

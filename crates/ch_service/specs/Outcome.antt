@@ -9,7 +9,7 @@ use Rattle.grfile.specs.declared.error.GrErrorKind.TheVariants.{Read}
 use Rattle.hierfile.specs.Bytes.{OfBytes}
 use Rattle.hierfile.specs.Fault.{first_fault}
 use Rattle.ch_service.specs.declared.error.ServiceError.{ServiceError}
-use Rattle.ch_service.specs.declared.error.ServiceError.TheVariants.{Graph as GraphFault, Queries, Hierarchy as HierarchyFault, Unpack, Write, OutOfMemory}
+use Rattle.ch_service.specs.declared.error.ServiceError.TheVariants.{Graph as GraphFault, Queries, Hierarchy as HierarchyFault, Build, Unpack, Write, OutOfMemory}
 use Rattle.ch_unpack.specs.declared.error.UnpackError.{UnpackError}
 use Rattle.ch_unpack.specs.declared.error.UnpackError.TheVariants as unpacking
 use Rattle.ch_service.specs.Route.{Spells, HasTooLong}
@@ -26,12 +26,22 @@ Writes P old new = (text : List ℕ) × P text × Appends old new text
 abbrev pub WritesFirst : (List ℕ → Type 0) → Option (List ℕ) → Option (List ℕ) → ℕ → Type 0
 WritesFirst P old new written = (text : List ℕ) × P text × (written ≤ length text) × Appends old new (take written text)
 
--- A fault of a text is the first that it has, and one of the pairs comes only where the graph has none. Want of
--- memory and a failed read or write say nothing of the texts. No route over a graph is too long.
+-- the text spells a graph
+abbrev pub IsGraphText : List ℕ → Type 0
+IsGraphText graph_text = (g : Graph) × (graph_of graph_text ≡ Ok g)
+
+-- and the second text pairs of its nodes
+abbrev pub AreTexts : List ℕ → List ℕ → Type 0
+AreTexts graph_text pairs_text = (g : Graph) × (graph_of graph_text ≡ Ok g) × ((pairs : List (ℕ × ℕ)) × (pairs_of g.nodes pairs_text ≡ Ok pairs))
+
+-- A fault of a text is the first that it has, and one of the pairs comes only where the graph has none. What keeps a
+-- hierarchy from being built comes only where neither text has one. Want of memory and a failed read or write say
+-- nothing of the texts. No route over a graph is too long.
 abbrev pub IsFaultOf : List ℕ → List ℕ → ServiceError → Type 0
 IsFaultOf graph_text pairs_text (GraphFault fault) = FromText fault.kind (graph_of graph_text ≡ Err fault)
 IsFaultOf graph_text pairs_text (Queries fault) = (g : Graph) × (graph_of graph_text ≡ Ok g) × FromText fault.kind (pairs_of g.nodes pairs_text ≡ Err fault)
 IsFaultOf graph_text pairs_text (HierarchyFault e) = ⊥
+IsFaultOf graph_text pairs_text (Build e) = AreTexts graph_text pairs_text
 IsFaultOf graph_text pairs_text (Unpack e) = e ≡ unpacking.OutOfMemory
 IsFaultOf graph_text pairs_text (Write fault) = ⊤
 IsFaultOf graph_text pairs_text OutOfMemory = ⊤
@@ -41,9 +51,10 @@ abbrev pub IsPreparingFault : List ℕ → ServiceError → Type 0
 IsPreparingFault graph_text (GraphFault fault) = FromText fault.kind (graph_of graph_text ≡ Err fault)
 IsPreparingFault graph_text (Queries fault) = ⊥
 IsPreparingFault graph_text (HierarchyFault e) = ⊥
+IsPreparingFault graph_text (Build e) = IsGraphText graph_text
 IsPreparingFault graph_text (Unpack e) = ⊥
 IsPreparingFault graph_text (Write fault) = ⊤
-IsPreparingFault graph_text OutOfMemory = ⊤
+IsPreparingFault graph_text OutOfMemory = ⊥
 
 -- A route is too long only where the hierarchy has one that is.
 abbrev pub IsUnpackingFault : Hierarchy → UnpackError → Type 0
@@ -55,15 +66,17 @@ abbrev pub IsRoutingFault : List ℕ → List ℕ → ServiceError → Type 0
 IsRoutingFault bytes pairs_text (GraphFault fault) = ⊥
 IsRoutingFault bytes pairs_text (Queries fault) = (h : Hierarchy) × Spells bytes h × FromText fault.kind (pairs_of (length h.ranks) pairs_text ≡ Err fault)
 IsRoutingFault bytes pairs_text (HierarchyFault e) = OfBytes e (first_fault bytes ≡ Some e)
+IsRoutingFault bytes pairs_text (Build e) = ⊥
 IsRoutingFault bytes pairs_text (Unpack e) = (h : Hierarchy) × Spells bytes h × IsUnpackingFault h e
 IsRoutingFault bytes pairs_text (Write fault) = ⊤
 IsRoutingFault bytes pairs_text OutOfMemory = ⊤
 
--- where what is read is at fault, nothing is written
+-- where what is read is at fault, or nothing is built, nothing is written
 abbrev pub KeepsAtFault : Option (List ℕ) → Option (List ℕ) → ServiceError → Type 0
 KeepsAtFault old new (GraphFault fault) = Keeps old new
 KeepsAtFault old new (Queries fault) = Keeps old new
 KeepsAtFault old new (HierarchyFault e) = Keeps old new
+KeepsAtFault old new (Build e) = Keeps old new
 KeepsAtFault old new (Unpack e) = ⊤
 KeepsAtFault old new (Write fault) = ⊤
 KeepsAtFault old new OutOfMemory = ⊤
@@ -84,6 +97,7 @@ abbrev pub StopsShort : (List ℕ → Type 0) → Option (List ℕ) → Option (
 StopsShort P old new (GraphFault fault) = ⊤
 StopsShort P old new (Queries fault) = ⊤
 StopsShort P old new (HierarchyFault e) = ⊤
+StopsShort P old new (Build e) = Keeps old new
 StopsShort P old new (Unpack e) = Writes P old new
 StopsShort P old new (Write fault) = WritesFirst P old new fault.written
 StopsShort P old new OutOfMemory = Keeps old new ⊎ Writes P old new
@@ -93,6 +107,7 @@ abbrev pub IsAnsweringFault : Hierarchy → ServiceError → Type 0
 IsAnsweringFault h (GraphFault fault) = ⊥
 IsAnsweringFault h (Queries fault) = ⊥
 IsAnsweringFault h (HierarchyFault e) = ⊥
+IsAnsweringFault h (Build e) = ⊥
 IsAnsweringFault h (Unpack e) = IsUnpackingFault h e
 IsAnsweringFault h (Write fault) = ⊤
 IsAnsweringFault h OutOfMemory = ⊤
@@ -108,6 +123,7 @@ abbrev pub ComesOfReading : ServiceError → Type 0
 ComesOfReading (GraphFault fault) = fault.kind ≡ Read
 ComesOfReading (Queries fault) = ⊥
 ComesOfReading (HierarchyFault e) = ⊥
+ComesOfReading (Build e) = ⊥
 ComesOfReading (Unpack e) = ⊥
 ComesOfReading (Write fault) = ⊥
 ComesOfReading OutOfMemory = ⊤

@@ -1,8 +1,9 @@
 ghost use Rattle.std.specs.Prelude.{◌≡◌, Some};
 ghost use Rattle.ch_service.specs.Shown.{shown};
-ghost use Rattle.ch_service.specs.declared.error.ServiceError.TheVariants.{OutOfMemory, Unpack, Write};
+ghost use Rattle.ch_service.specs.declared.error.ServiceError.TheVariants.{Build, OutOfMemory, Unpack, Write};
 
 use ch_unpack::UnpackError;
+use ch_workers::BuildError;
 use grfile::{GrError, GrErrorKind};
 use hierfile::{HierError, WriteFault};
 use std::alloc::AllocError;
@@ -21,6 +22,8 @@ pub enum ServiceError {
     Queries(GrError),
     /// The file of the hierarchy was refused, or couldn't be read.
     Hierarchy(HierError),
+    /// No hierarchy was built: memory was refused, the options are bad, or what the workers told doesn't agree.
+    Build(BuildError),
     /// A route couldn't be told node by node: memory was refused, or the hierarchy isn't right for any graph, since
     /// the route would repeat a node.
     Unpack(UnpackError),
@@ -50,6 +53,11 @@ impl fmt::Display for ServiceError {
                 HierError::Read => write!(f, "read"),
                 _ => write!(f, "hierarchy: {fault}"),
             },
+            ServiceError::Build(fault) => match fault {
+                BuildError::OutOfMemory => write!(f, "memory"),
+                BuildError::BadOptions => write!(f, "options"),
+                BuildError::Mixed => write!(f, "mixed"),
+            },
             ServiceError::Unpack(fault) => match fault {
                 UnpackError::OutOfMemory => write!(f, "memory"),
                 _ => write!(f, "hierarchy: {fault}"),
@@ -67,6 +75,14 @@ impl From<AllocError> for ServiceError {
 
     fn from(_refused: AllocError) -> ServiceError {
         ServiceError::OutOfMemory
+    }
+}
+
+impl From<BuildError> for ServiceError {
+    ghost from_gives = { λ fault e. e ≡ Build fault };
+
+    fn from(fault: BuildError) -> ServiceError {
+        ServiceError::Build(fault)
     }
 }
 

@@ -1,18 +1,19 @@
 //! The work of the program `routecli`, over readers and writers of any kind.
 //!
-//! Stands on `grfile` for the two texts, on `ch_contract` for hierarchies and `hierfile` for their files, on `ch_query`
+//! Stands on `grfile` for the two texts, on `ch_workers` for hierarchies and `hierfile` for their files, on `ch_query`
 //! and `ch_unpack` for routes, on `ch_laws` for why they are right, and on `itoa` for decimals. [`prepare`] writes a
-//! hierarchy of a graph, and [`route`] answers pairs of nodes by it; [`answer`] and [`answer_joined`] make one for the
-//! call. [`ServiceError`] says why a call didn't do its work. The promise of the layer is the contract of these calls:
-//! what is written has one line for each pair, in order, with the least length over all walks of the text's graph and
-//! the nodes along a walk of exactly that length, or with none where there is no walk. For `prepare` and `route`
-//! together it is [`routes_are_exact`]. After a refusal a contract says which text was at fault, or which first part
-//! of such answers the writer took.
+//! hierarchy of a graph, which workers build, and [`route`] answers pairs of nodes by it; [`answer`] and
+//! [`answer_joined`] build one for the call. [`ServiceError`] says why a call didn't do its work. The promise of the
+//! layer is the contract of these calls: what is written has one line for each pair, in order, with the least length
+//! over all walks of the text's graph and the nodes along a walk of exactly that length, or with none where there is no
+//! walk. For `prepare` and `route` together it is [`routes_are_exact`]. After a refusal a contract says which text was
+//! at fault, or which first part of such answers the writer took.
 //!
 //! Nodes are numbered from 0 inside, and from 1 in every text.
 #![tactic(auto)]
 
 mod answering;
+mod building;
 mod error;
 mod finding;
 mod input;
@@ -36,4 +37,8 @@ mod prepare_tests;
 #[cfg(test)]
 mod route_tests;
 #[cfg(test)]
+mod test_kit;
+#[cfg(test)]
 mod tests;
+#[cfg(test)]
+mod worker_tests;

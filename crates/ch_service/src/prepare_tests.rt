@@ -1,13 +1,16 @@
 use crate::route_tests::{NO_NODE, ONE_ARC, ROW};
-use crate::{ServiceError, WriteFault, prepare, route};
+use crate::test_kit::prepare_alone;
+use crate::{ServiceError, WriteFault, route};
 use grfile::{GrError, GrErrorKind};
 use std::alloc::{AllocError, Global};
+use std::sync::Wait;
 use std::test::Fail;
+use std::thread::Threads;
 
 const HEAVY: u64 = 4_294_967_295;
 
 /// The texts of the graphs of these files.
-const ROW_TEXT: &[u8] = b"p sp 3 2\na 2 1 2\na 1 3 3\n";
+pub(crate) const ROW_TEXT: &[u8] = b"p sp 3 2\na 2 1 2\na 1 3 3\n";
 
 /// Arcs of the greatest weight between four nodes; the way 3, 2, 1, 4 is heavy.
 const HEAVIEST: &[u8] =
@@ -17,9 +20,13 @@ const HEAVIEST: &[u8] =
 const TIE: &[u8] = b"p sp 4 4\na 3 1 1\na 1 4 1\na 3 2 1\na 2 4 1\n";
 
 /// The file of the hierarchy of a graph, or why there is none.
-fn prepared(alloc: Global, mut graph: &[u8]) -> Result<Vec<u8>, ServiceError> {
+fn prepared<R: Threads + Wait + Sync>(
+    rt: &R,
+    alloc: Global,
+    mut graph: &[u8],
+) -> Result<Vec<u8>, ServiceError> {
     let mut out = Vec::new(alloc);
-    prepare(alloc, &mut graph, &mut out)?;
+    prepare_alone(rt, alloc, &mut graph, &mut out)?;
     Ok(out)
 }
 
@@ -31,7 +38,7 @@ fn files(rt: HostRuntime) -> Result<(), Fail> {
         (ROW_TEXT, ROW),
     ];
     for (graph, file) in cases {
-        let out = prepared(rt.alloc(), graph)?;
+        let out = prepared(&rt, rt.alloc(), graph)?;
         assert!(rt; out.as_slice() == file);
     }
     Ok(())
@@ -69,7 +76,7 @@ fn file_of_the_heaviest_weights(rt: HostRuntime) -> Result<(), Fail> {
         (2, 3, 2 * HEAVY, 0),
     ];
     let file = file_of(rt.alloc(), 3 * HEAVY, &links)?;
-    let out = prepared(rt.alloc(), HEAVIEST)?;
+    let out = prepared(&rt, rt.alloc(), HEAVIEST)?;
     assert!(rt; out.as_slice() == file.as_slice());
     Ok(())
 }
@@ -85,14 +92,19 @@ fn file_of_a_tie(rt: HostRuntime) -> Result<(), Fail> {
         (2, 3, 2, 1),
     ];
     let file = file_of(rt.alloc(), 3, &links)?;
-    let out = prepared(rt.alloc(), TIE)?;
+    let out = prepared(&rt, rt.alloc(), TIE)?;
     assert!(rt; out.as_slice() == file.as_slice());
     Ok(())
 }
 
 /// The answers to pairs of a graph's nodes by its hierarchy, prepared and read again.
-fn through(alloc: Global, graph: &[u8], mut pairs: &[u8]) -> Result<Vec<u8>, ServiceError> {
-    let file = prepared(alloc, graph)?;
+fn through<R: Threads + Wait + Sync>(
+    rt: &R,
+    alloc: Global,
+    graph: &[u8],
+    mut pairs: &[u8],
+) -> Result<Vec<u8>, ServiceError> {
+    let file = prepared(rt, alloc, graph)?;
     let mut hier = file.as_slice();
     let mut out = Vec::new(alloc);
     route(alloc, &mut hier, &mut pairs, &mut out)?;
@@ -139,7 +151,7 @@ fn routes_by_prepared_files(rt: HostRuntime) -> Result<(), Fail> {
         ),
     ];
     for (graph, pairs, answers) in cases {
-        let out = through(rt.alloc(), graph, pairs)?;
+        let out = through(&rt, rt.alloc(), graph, pairs)?;
         assert!(rt; out.as_slice() == answers);
     }
     Ok(())
@@ -153,7 +165,7 @@ fn refused_graphs_write_nothing(rt: HostRuntime) {
     };
     let mut out = Vec::new(rt.alloc());
     let mut graph = b"p sp 2 1\na 1 3 7\n".as_slice();
-    let result = prepare(rt.alloc(), &mut graph, &mut out);
+    let result = prepare_alone(&rt, rt.alloc(), &mut graph, &mut out);
     assert_eq!(rt; result, Err(ServiceError::Graph(fault)));
     assert!(rt; out.is_empty());
 }
@@ -163,7 +175,7 @@ fn writes_of_hierarchies_that_fail(rt: HostRuntime) {
     let mut room = [0u8; 30];
     let mut out = room.as_mut_slice();
     let mut graph = ROW_TEXT;
-    let result = prepare(rt.alloc(), &mut graph, &mut out);
+    let result = prepare_alone(&rt, rt.alloc(), &mut graph, &mut out);
     let written = 30;
     assert_eq!(rt; result, Err(ServiceError::Write(WriteFault { written })));
     assert!(rt; room.as_slice() == &ROW[..30]);

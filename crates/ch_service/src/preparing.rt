@@ -1,46 +1,53 @@
-ghost use Rattle.std.specs.Prelude.{IfOk, OnOk, IfErr, IfSome};
-ghost use Rattle.ch_graph.specs.Hierarchy.{IsRight};
+ghost use Rattle.std.specs.Prelude.{◌≡◌, [], All, OnOk, IfErr, IfSome, vec_len};
 ghost use Rattle.ch_service.specs.Outcome.{Writes, IsPreparingFault, KeepsUnlessWriting, BreaksOff};
 ghost use Rattle.ch_service.specs.Route.{Prepares};
+ghost use Rattle.ch_service.specs.declared.error.ServiceError.TheVariants.{Build};
+ghost use Rattle.ch_workers.specs.Options.{AreBad, AreGood};
+ghost use Rattle.ch_workers.specs.declared.error.BuildError.TheVariants.{BadOptions};
 
+use crate::building::{build_hierarchy, refuse};
 use crate::error::ServiceError;
-use ch_contract::contract_by_sweep;
-use ch_graph::{Graph, Hierarchy};
+use ch_estimate::{Estimator, Leases};
+use ch_workers::{Gate, Options};
 use grfile::read_graph;
-use std::alloc::{AllocError, Global};
+use std::alloc::Global;
 use std::io::{Read, Write};
-
-/// How many nodes a search for another walk settles at most.
-const SETTLE: u32 = 64;
+use std::sync::Wait;
+use std::thread::Threads;
 
 /// Prepares a hierarchy of a graph.
 ///
-/// `gr` gives the text of the graph, and `out` gets the file of the hierarchy. The text is read first and the
-/// hierarchy made next; where one of them is refused nothing is written. Takes memory for the graph, and for the rows
-/// of its nodes as they are contracted, shortcuts included.
-pub fn prepare<G: Read, W: Write>(
+/// `gr` gives the text of the graph, and `out` gets the file of the hierarchy. The text is read first, and then the
+/// hierarchy is built by workers as the options say, each with the estimators of its list, of which none was told
+/// anything; where one of the two is refused nothing is written. On every answer the estimators were dropped, and
+/// `leases` was waited for. Takes memory for the graph, and then that of [`build`](ch_workers::build).
+pub fn prepare<G: Read, W: Write, P: Gate, R: Threads + Wait + Sync>(
+    rt: &R,
     alloc: Global,
     gr: &mut G,
     out: &mut W,
+    options: Options,
+    lists: Vec<Vec<Box<dyn Estimator + Send>>>,
+    leases: &mut Leases,
+    gate: &P,
 ) -> Result<(), ServiceError>
+    requires untold { All (λ list. All (λ estimator. heard estimator ≡ []) list.items) lists.items }
     ensures prepares { OnOk result (IfSome (G.remaining gr.old)
         (λ text. Writes (Prepares text) (W.contents out.old) (W.contents out.new))) }
+    ensures good { OnOk result (AreGood options (vec_len lists)) }
 
     // At a refusal.
+    ensures bad { result ≡ Err (Build BadOptions) → AreBad options (vec_len lists) }
     ensures fault { IfErr result (λ e. IfSome (G.remaining gr.old) (λ text. IsPreparingFault text e)) }
     ensures untouched { IfErr result (KeepsUnlessWriting (W.contents out.old) (W.contents out.new)) }
     ensures broken { IfErr result (λ e. IfSome (G.remaining gr.old)
         (λ text. BreaksOff (Prepares text) (W.contents out.old) (W.contents out.new) e)) }
 {
-    let graph = read_graph(alloc, gr).map_err(ServiceError::Graph)?;
-    let hierarchy = build(alloc, graph)?;
+    let graph = match read_graph(alloc, gr) {
+        Ok(graph) => graph,
+        Err(fault) => return refuse(rt, ServiceError::Graph(fault), lists, leases),
+    };
+    let hierarchy = build_hierarchy(rt, alloc, graph, options, lists, leases, gate)?;
     hierfile::write(&hierarchy, out)?;
     Ok(())
-}
-
-/// The hierarchy of a graph, whose nodes are contracted in the order of their numbers.
-pub fn build(alloc: Global, graph: Graph) -> Result<Hierarchy, AllocError>
-    ensures { IfOk result (IsRight graph) }
-{
-    contract_by_sweep(alloc, graph, SETTLE)
 }

@@ -1,21 +1,25 @@
-use crate::{ServiceError, WriteFault, answer, answer_joined};
+use crate::test_kit::answer_alone;
+use crate::{ServiceError, WriteFault, answer_joined};
 use ch_unpack::UnpackError;
+use ch_workers::BuildError;
 use grfile::{GrError, GrErrorKind};
 use hierfile::HierError;
 use std::alloc::{AllocError, Global};
 use std::io::{self, ErrorKind, Read, Write};
+use std::sync::Wait;
 use std::test::Fail;
+use std::thread::Threads;
 
 /// Two texts and what answers them.
 #[derive(Clone, Copy, Debug)]
-struct Example {
-    name: &'static str,
-    graph: &'static [u8],
-    pairs: &'static [u8],
-    answers: &'static [u8],
+pub(crate) struct Example {
+    pub(crate) name: &'static str,
+    pub(crate) graph: &'static [u8],
+    pub(crate) pairs: &'static [u8],
+    pub(crate) answers: &'static [u8],
 }
 
-const EXAMPLES: [Example; 7] = [
+pub(crate) const EXAMPLES: [Example; 7] = [
     Example {
         name: "one node and itself",
         graph: b"p sp 1 0\n",
@@ -164,16 +168,25 @@ fn short_writer(alloc: Global, left: usize, end: End) -> Short {
 }
 
 /// The answers to pairs over a graph, or why there are none.
-fn answers(alloc: Global, mut graph: &[u8], mut pairs: &[u8]) -> Result<Vec<u8>, ServiceError> {
+fn answers<R: Threads + Wait + Sync>(
+    rt: &R,
+    alloc: Global,
+    mut graph: &[u8],
+    mut pairs: &[u8],
+) -> Result<Vec<u8>, ServiceError> {
     let mut out = Vec::new(alloc);
-    answer(alloc, &mut graph, &mut pairs, &mut out)?;
+    answer_alone(rt, alloc, &mut graph, &mut pairs, &mut out)?;
     Ok(out)
 }
 
 /// The answers to a joined input, or why there are none.
-fn joined_answers(alloc: Global, mut input: &[u8]) -> Result<Vec<u8>, ServiceError> {
+fn joined_answers<R: Threads + Wait + Sync>(
+    rt: &R,
+    alloc: Global,
+    mut input: &[u8],
+) -> Result<Vec<u8>, ServiceError> {
     let mut out = Vec::new(alloc);
-    answer_joined(alloc, &mut input, &mut out)?;
+    answer_joined(rt, alloc, &mut input, &mut out)?;
     Ok(out)
 }
 
@@ -188,7 +201,7 @@ fn joined(alloc: Global, graph: &[u8], line: &[u8], pairs: &[u8]) -> Result<Vec<
 #[test]
 fn worked_examples(rt: HostRuntime) -> Result<(), Fail> {
     for example in EXAMPLES {
-        let out = answers(rt.alloc(), example.graph, example.pairs)?;
+        let out = answers(&rt, rt.alloc(), example.graph, example.pairs)?;
         assert_eq!(rt; out.as_slice(), example.answers, "{}", example.name);
     }
     Ok(())
@@ -199,7 +212,7 @@ fn worked_examples_joined(rt: HostRuntime) -> Result<(), Fail> {
     for example in EXAMPLES {
         for line in [b"%\n".as_slice(), b"%\r\n".as_slice()] {
             let input = joined(rt.alloc(), example.graph, line, example.pairs)?;
-            let out = joined_answers(rt.alloc(), input.as_slice())?;
+            let out = joined_answers(&rt, rt.alloc(), input.as_slice())?;
             assert_eq!(rt; out.as_slice(), example.answers, "{}", example.name);
         }
     }
@@ -220,7 +233,7 @@ fn refusals(rt: HostRuntime) -> Result<(), Fail> {
     for case in cases {
         let mut out = Vec::new(rt.alloc());
         let (mut graph, mut pairs) = (case.graph, case.pairs);
-        let result = answer(rt.alloc(), &mut graph, &mut pairs, &mut out);
+        let result = answer_alone(&rt, rt.alloc(), &mut graph, &mut pairs, &mut out);
         assert_eq!(rt; result, Err(case.error));
         assert!(rt; out.is_empty(), "nothing is written");
     }
@@ -241,7 +254,7 @@ fn joined_inputs_without_a_percent_line(rt: HostRuntime) {
         b"c %\np sp 2 1\na 1 2 7\n%\n".as_slice(),
     ];
     for input in inputs {
-        assert!(rt; joined_answers(rt.alloc(), input) == Err(no_pairs));
+        assert!(rt; joined_answers(&rt, rt.alloc(), input) == Err(no_pairs));
     }
 }
 
@@ -252,14 +265,14 @@ fn the_first_percent_line_counts(rt: HostRuntime) {
         line: 2,
     });
     let input = b"p sp 1 0\n%\np aux sp p2p 1\n%\nq 1 1\n".as_slice();
-    assert!(rt; joined_answers(rt.alloc(), input) == Err(second_line));
+    assert!(rt; joined_answers(&rt, rt.alloc(), input) == Err(second_line));
     let blank = ServiceError::Graph(GrError {
         kind: GrErrorKind::UnknownLine,
         line: 2,
     });
     let input = b"p sp 1 0\n %\np aux sp p2p 0\n".as_slice();
     assert!(rt;
-        joined_answers(rt.alloc(), input) == Err(blank),
+        joined_answers(&rt, rt.alloc(), input) == Err(blank),
         "a blank before it"
     );
 }
@@ -275,7 +288,8 @@ fn uneven_reader(text: &[u8], fails_at: u64) -> Uneven<'_> {
 #[test]
 fn uneven_readers_and_a_short_writer(rt: HostRuntime) -> Result<(), Fail> {
     let mut out = short_writer(rt.alloc(), 100, End::Fails);
-    let result = answer(
+    let result = answer_alone(
+        &rt,
         rt.alloc(),
         &mut uneven_reader(GRAPH, 0),
         &mut uneven_reader(PAIRS, 0),
@@ -286,6 +300,7 @@ fn uneven_readers_and_a_short_writer(rt: HostRuntime) -> Result<(), Fail> {
     let input = joined(rt.alloc(), GRAPH, b"%\n", PAIRS)?;
     let mut out = short_writer(rt.alloc(), 100, End::Fails);
     let result = answer_joined(
+        &rt,
         rt.alloc(),
         &mut uneven_reader(input.as_slice(), 0),
         &mut out,
@@ -306,9 +321,10 @@ fn reads_that_fail(rt: HostRuntime) -> Result<(), Fail> {
         };
         let mut out = Vec::new(rt.alloc());
         let mut broken = uneven_reader(input.as_slice(), fails_at);
-        let result = answer_joined(rt.alloc(), &mut broken, &mut out);
+        let result = answer_joined(&rt, rt.alloc(), &mut broken, &mut out);
         assert_eq!(rt; result, Err(ServiceError::Graph(fault)));
-        let result = answer(
+        let result = answer_alone(
+            &rt,
             rt.alloc(),
             &mut uneven_reader(GRAPH, fails_at),
             &mut uneven_reader(PAIRS, 0),
@@ -322,7 +338,8 @@ fn reads_that_fail(rt: HostRuntime) -> Result<(), Fail> {
         line: 1,
     };
     let mut out = Vec::new(rt.alloc());
-    let result = answer(
+    let result = answer_alone(
+        &rt,
         rt.alloc(),
         &mut uneven_reader(GRAPH, 0),
         &mut uneven_reader(PAIRS, 3),
@@ -339,7 +356,7 @@ fn writes_that_fail(rt: HostRuntime) {
         for left in 0..ANSWERS.len() {
             let mut out = short_writer(rt.alloc(), left, end);
             let (mut graph, mut pairs) = (GRAPH, PAIRS);
-            let result = answer(rt.alloc(), &mut graph, &mut pairs, &mut out);
+            let result = answer_alone(&rt, rt.alloc(), &mut graph, &mut pairs, &mut out);
             let written = left as u64;
             assert_eq!(rt; result, Err(ServiceError::Write(WriteFault { written })));
             assert_eq!(rt; out.taken.as_slice(), &ANSWERS[..left]);
@@ -359,7 +376,7 @@ fn many_pairs(alloc: Global) -> Result<Vec<u8>, AllocError> {
 #[test]
 fn many_answers(rt: HostRuntime) -> Result<(), Fail> {
     let pairs = many_pairs(rt.alloc())?;
-    let out = answers(rt.alloc(), b"p sp 1 0\n", pairs.as_slice())?;
+    let out = answers(&rt, rt.alloc(), b"p sp 1 0\n", pairs.as_slice())?;
     assert_eq!(rt; out.len(), 240000);
     for line in out.chunks(12) {
         assert!(rt; line == b"r 1 1 0 0 1\n".as_slice());
@@ -373,7 +390,7 @@ fn a_write_that_fails_behind_many_answers(rt: HostRuntime) -> Result<(), Fail> {
     let mut graph = b"p sp 1 0\n".as_slice();
     let mut pairs = text.as_slice();
     let mut out = short_writer(rt.alloc(), 131075, End::Fails);
-    let result = answer(rt.alloc(), &mut graph, &mut pairs, &mut out);
+    let result = answer_alone(&rt, rt.alloc(), &mut graph, &mut pairs, &mut out);
     let written = 131075;
     assert_eq!(rt; result, Err(ServiceError::Write(WriteFault { written })));
     assert_eq!(rt; out.taken.len(), 131075);
@@ -412,7 +429,7 @@ fn a_line_of_many_nodes(rt: HostRuntime) -> Result<(), Fail> {
     let row = long_row(rt.alloc())?;
     let expected = long_answers(rt.alloc())?;
     assert_eq!(rt; expected.len(), 66922);
-    let out = answers(rt.alloc(), row.as_bytes(), LONG_PAIRS)?;
+    let out = answers(&rt, rt.alloc(), row.as_bytes(), LONG_PAIRS)?;
     assert!(rt; out.as_slice() == expected.as_bytes());
     Ok(())
 }
@@ -424,7 +441,7 @@ fn a_write_that_fails_within_a_long_line(rt: HostRuntime) -> Result<(), Fail> {
     let mut graph = row.as_bytes();
     let mut pairs = LONG_PAIRS;
     let mut out = short_writer(rt.alloc(), 66000, End::Fails);
-    let result = answer(rt.alloc(), &mut graph, &mut pairs, &mut out);
+    let result = answer_alone(&rt, rt.alloc(), &mut graph, &mut pairs, &mut out);
     let written = 66000;
     assert_eq!(rt; result, Err(ServiceError::Write(WriteFault { written })));
     assert_eq!(rt; out.taken.len(), 66000);
@@ -435,7 +452,7 @@ fn a_write_that_fails_within_a_long_line(rt: HostRuntime) -> Result<(), Fail> {
 #[test]
 fn one_way_of_a_tie(rt: HostRuntime) -> Result<(), Fail> {
     let graph = b"p sp 4 4\na 3 1 1\na 1 4 1\na 3 2 1\na 2 4 1\n";
-    let out = answers(rt.alloc(), graph, b"p aux sp p2p 1\nq 3 4\n")?;
+    let out = answers(&rt, rt.alloc(), graph, b"p aux sp p2p 1\nq 3 4\n")?;
     assert!(rt; out.as_slice() == b"r 3 4 2 2 3 2 4\n".as_slice());
     Ok(())
 }
@@ -467,6 +484,9 @@ fn shown(rt: HostRuntime) -> Result<(), Fail> {
         ),
         (ServiceError::Hierarchy(HierError::OutOfMemory), "memory"),
         (ServiceError::Hierarchy(HierError::Read), "read"),
+        (ServiceError::Build(BuildError::OutOfMemory), "memory"),
+        (ServiceError::Build(BuildError::BadOptions), "options"),
+        (ServiceError::Build(BuildError::Mixed), "mixed"),
         (
             ServiceError::Unpack(UnpackError::TooLong),
             "hierarchy: TooLong",

@@ -1,0 +1,312 @@
+ghost use Rattle.std.specs.Prelude.{◌≡◌, [], IfOk};
+
+use crate::prepare_tests::ROW_TEXT;
+use crate::route_tests::ROW;
+use crate::test_kit::{one_list, options, two_lists};
+use crate::tests::{EXAMPLES, Example};
+use crate::{ServiceError, answer, prepare, route};
+use ch_contract::{Contraction, Facts};
+use ch_estimate::{Depth, EdgeDifference, Estimator, Leases, Neighbours, Note};
+use ch_workers::{BuildError, Gate, OpenGate, Options, Point};
+use grfile::{GrError, GrErrorKind};
+use std::alloc::{AllocError, Global};
+use std::sync::atomic::{AtomicU64, Ordering};
+use std::sync::{Arc, Wait};
+use std::test::Fail;
+use std::thread::Threads;
+
+/// The answers to the pairs of an example, by a hierarchy that one worker builds by this estimator.
+fn answers_by_one<R: Threads + Wait + Sync>(
+    rt: &R,
+    alloc: Global,
+    example: &Example,
+    estimator: Box<dyn Estimator + Send>,
+    leases: &mut Leases,
+) -> Result<Vec<u8>, ServiceError>
+    requires { heard estimator ≡ [] }
+{
+    let lists = one_list(alloc, estimator)?;
+    let (mut graph, mut pairs) = (example.graph, example.pairs);
+    let mut out = Vec::new(alloc);
+    answer(
+        rt,
+        alloc,
+        &mut graph,
+        &mut pairs,
+        &mut out,
+        options(1),
+        lists,
+        leases,
+        &OpenGate,
+    )?;
+    Ok(out)
+}
+
+/// The answers to the pairs of an example, by a file that two workers prepare by these estimators.
+fn routes_by_two<R: Threads + Wait + Sync>(
+    rt: &R,
+    alloc: Global,
+    example: &Example,
+    first: Box<dyn Estimator + Send>,
+    second: Box<dyn Estimator + Send>,
+    leases: &mut Leases,
+) -> Result<Vec<u8>, ServiceError>
+    requires first { heard first ≡ [] }
+    requires second { heard second ≡ [] }
+{
+    let lists = two_lists(alloc, first, second)?;
+    let (mut graph, mut pairs) = (example.graph, example.pairs);
+    let mut file = Vec::new(alloc);
+    prepare(
+        rt,
+        alloc,
+        &mut graph,
+        &mut file,
+        options(2),
+        lists,
+        leases,
+        &OpenGate,
+    )?;
+    let mut out = Vec::new(alloc);
+    route(alloc, &mut file.as_slice(), &mut pairs, &mut out)?;
+    Ok(out)
+}
+
+#[test]
+fn worked_examples_by_one_worker(rt: HostRuntime) -> Result<(), Fail> {
+    let alloc = rt.alloc();
+    let mut leases = Leases::new(alloc)?;
+    for example in EXAMPLES {
+        let lease = leases.lease()?;
+        let edges: Box<dyn Estimator + Send> = Box::new(alloc, EdgeDifference::new(alloc, lease))?;
+        let out = answers_by_one(&rt, alloc, &example, edges, &mut leases)?;
+        assert_eq!(rt; out.as_slice(), example.answers, "{}", example.name);
+    }
+    Ok(())
+}
+
+#[test]
+fn worked_examples_by_two_workers(rt: HostRuntime) -> Result<(), Fail> {
+    let alloc = rt.alloc();
+    let mut leases = Leases::new(alloc)?;
+    for example in EXAMPLES {
+        let (first, second) = (leases.lease()?, leases.lease()?);
+        let neighbours: Box<dyn Estimator + Send> = Box::new(alloc, Neighbours::new(alloc, first))?;
+        let depth: Box<dyn Estimator + Send> = Box::new(alloc, Depth::new(alloc, second))?;
+        let out = routes_by_two(&rt, alloc, &example, neighbours, depth, &mut leases)?;
+        assert_eq!(rt; out.as_slice(), example.answers, "{}", example.name);
+    }
+    Ok(())
+}
+
+/// An estimator that counts its drop.
+struct Counted {
+    inner: Depth,
+    drops: Arc<AtomicU64, Global>,
+}
+
+impl Estimator for Counted {
+    ghost heard = { λ c. c.inner };
+
+    fn key(&mut self, facts: &Facts) -> u64 {
+        self.inner.key(facts)
+    }
+
+    fn told(&mut self, entry: &Contraction) -> Result<(), AllocError> {
+        self.inner.told(entry)
+    }
+
+    fn note(&self, node: u32) -> Note {
+        self.inner.note(node)
+    }
+}
+
+impl Drop for Counted {
+    fn drop(self) {
+        let Self { inner: _, drops } = self;
+        drops.fetch_add(1, Ordering::SeqCst);
+    }
+}
+
+/// An estimator that was told nothing, and counts its drop here.
+fn new_counted(
+    alloc: Global,
+    leases: &mut Leases,
+    drops: &Arc<AtomicU64, Global>,
+) -> Result<Counted, AllocError>
+    ensures { IfOk result (λ c. c.inner ≡ []) }
+{
+    let lease = leases.lease()?;
+    let drops = Arc::try_clone(drops)?;
+    let inner = Depth::new(alloc, lease);
+    Ok(Counted { inner, drops })
+}
+
+/// Counts the commits that it sees.
+#[derive(Drop)]
+struct Commits {
+    seen: AtomicU64,
+}
+
+impl Gate for Commits {
+    fn pass(&self, _worker: u32, point: Point) {
+        if point == Point::Committed {
+            self.seen.fetch_add(1, Ordering::SeqCst);
+        }
+    }
+}
+
+#[test]
+fn one_worker_prepares_alone(rt: HostRuntime) -> Result<(), Fail> {
+    let alloc = rt.alloc();
+    let mut leases = Leases::new(alloc)?;
+    let drops = Arc::new(alloc, AtomicU64::new(0))?;
+    let counted = new_counted(alloc, &mut leases, &drops)?;
+    let estimator: Box<dyn Estimator + Send> = Box::new(alloc, counted)?;
+    let lists = one_list(alloc, estimator)?;
+    let options = Options {
+        heaps: 1,
+        ..options(1)
+    };
+    let gate = Commits {
+        seen: AtomicU64::new(0),
+    };
+    let mut graph = ROW_TEXT;
+    let mut file = Vec::new(alloc);
+    prepare(
+        &rt,
+        alloc,
+        &mut graph,
+        &mut file,
+        options,
+        lists,
+        &mut leases,
+        &gate,
+    )?;
+    assert!(rt; file.as_slice() == ROW);
+    assert_eq!(rt; gate.seen.load(Ordering::SeqCst), 3);
+    assert_eq!(rt; drops.load(Ordering::SeqCst), 1);
+    Ok(())
+}
+
+/// Two texts and options, with which a call that is given the list of one worker is refused.
+#[derive(Clone, Copy, Debug)]
+struct Refused {
+    graph: &'static [u8],
+    pairs: &'static [u8],
+    options: Options,
+    error: ServiceError,
+}
+
+/// Whether `prepare` refuses the graph's text or the options as it is said, writes nothing, and drops the estimator.
+fn is_refused_by_prepare<R: Threads + Wait + Sync>(
+    rt: &R,
+    alloc: Global,
+    refused: &Refused,
+) -> Result<bool, AllocError> {
+    let mut leases = Leases::new(alloc)?;
+    let drops = Arc::new(alloc, AtomicU64::new(0))?;
+    let counted = new_counted(alloc, &mut leases, &drops)?;
+    let estimator: Box<dyn Estimator + Send> = Box::new(alloc, counted)?;
+    let lists = one_list(alloc, estimator)?;
+    let mut graph = refused.graph;
+    let mut out = Vec::new(alloc);
+    let result = prepare(
+        rt,
+        alloc,
+        &mut graph,
+        &mut out,
+        refused.options,
+        lists,
+        &mut leases,
+        &OpenGate,
+    );
+    let is_dropped = drops.load(Ordering::SeqCst) == 1;
+    Ok((result == Err(refused.error)) & out.is_empty() & is_dropped)
+}
+
+/// Whether `answer` refuses the texts or the options as it is said, writes nothing, and drops the estimator.
+fn is_refused_by_answer<R: Threads + Wait + Sync>(
+    rt: &R,
+    alloc: Global,
+    refused: &Refused,
+) -> Result<bool, AllocError> {
+    let mut leases = Leases::new(alloc)?;
+    let drops = Arc::new(alloc, AtomicU64::new(0))?;
+    let counted = new_counted(alloc, &mut leases, &drops)?;
+    let estimator: Box<dyn Estimator + Send> = Box::new(alloc, counted)?;
+    let lists = one_list(alloc, estimator)?;
+    let (mut graph, mut pairs) = (refused.graph, refused.pairs);
+    let mut out = Vec::new(alloc);
+    let result = answer(
+        rt,
+        alloc,
+        &mut graph,
+        &mut pairs,
+        &mut out,
+        refused.options,
+        lists,
+        &mut leases,
+        &OpenGate,
+    );
+    let is_dropped = drops.load(Ordering::SeqCst) == 1;
+    Ok((result == Err(refused.error)) & out.is_empty() & is_dropped)
+}
+
+const PAIRS: &[u8] = b"p aux sp p2p 1\nq 2 3\n";
+
+const BAD_OPTIONS: ServiceError = ServiceError::Build(BuildError::BadOptions);
+
+#[test]
+fn options_are_refused_before_a_write(rt: HostRuntime) -> Result<(), Fail> {
+    let good = options(1);
+    let cases = [
+        Options { workers: 0, ..good },
+        Options { workers: 2, ..good },
+        Options { heaps: 5, ..good },
+        Options { settle: 0, ..good },
+        Options { turns: 0, ..good },
+    ];
+    for options in cases {
+        let refused = Refused {
+            graph: ROW_TEXT,
+            pairs: PAIRS,
+            options,
+            error: BAD_OPTIONS,
+        };
+        assert!(rt; is_refused_by_prepare(&rt, rt.alloc(), &refused)?);
+        assert!(rt; is_refused_by_answer(&rt, rt.alloc(), &refused)?);
+    }
+    Ok(())
+}
+
+/// The fault of a text that is refused at once.
+const UNKNOWN_LINE: GrError = GrError {
+    kind: GrErrorKind::UnknownLine,
+    line: 1,
+};
+
+#[test]
+fn a_graph_is_refused_before_options(rt: HostRuntime) -> Result<(), Fail> {
+    let refused = Refused {
+        graph: b"x\n",
+        pairs: b"x\n",
+        options: options(65),
+        error: ServiceError::Graph(UNKNOWN_LINE),
+    };
+    assert!(rt; is_refused_by_prepare(&rt, rt.alloc(), &refused)?);
+    assert!(rt; is_refused_by_answer(&rt, rt.alloc(), &refused)?);
+    Ok(())
+}
+
+#[test]
+fn pairs_are_refused_before_options(rt: HostRuntime) -> Result<(), Fail> {
+    let refused = Refused {
+        graph: ROW_TEXT,
+        pairs: b"x\n",
+        options: options(65),
+        error: ServiceError::Queries(UNKNOWN_LINE),
+    };
+    assert!(rt; is_refused_by_answer(&rt, rt.alloc(), &refused)?);
+    Ok(())
+}
