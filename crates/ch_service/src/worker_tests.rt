@@ -13,7 +13,21 @@ use std::alloc::{AllocError, Global};
 use std::sync::atomic::{AtomicU64, Ordering};
 use std::sync::{Arc, Wait};
 use std::test::Fail;
-use std::thread::Threads;
+use std::thread::{self, Threads};
+
+/// Counts the commits that it sees.
+#[derive(Drop)]
+struct Commits {
+    seen: AtomicU64,
+}
+
+impl Gate for Commits {
+    fn pass(&self, _worker: u32, point: Point) {
+        if point == Point::Committed {
+            self.seen.fetch_add(1, Ordering::SeqCst);
+        }
+    }
+}
 
 /// The answers to the pairs of an example, by a hierarchy that one worker builds by this estimator.
 fn answers_by_one<R: Threads + Wait + Sync>(
@@ -22,6 +36,7 @@ fn answers_by_one<R: Threads + Wait + Sync>(
     example: &Example,
     estimator: Box<dyn Estimator + Send>,
     leases: &mut Leases,
+    gate: &Commits,
 ) -> Result<Vec<u8>, ServiceError>
     requires { heard estimator ≡ [] }
 {
@@ -37,7 +52,7 @@ fn answers_by_one<R: Threads + Wait + Sync>(
         options(1),
         lists,
         leases,
-        &OpenGate,
+        gate,
     )?;
     Ok(out)
 }
@@ -76,12 +91,20 @@ fn routes_by_two<R: Threads + Wait + Sync>(
 fn worked_examples_by_one_worker(rt: HostRuntime) -> Result<(), Fail> {
     let alloc = rt.alloc();
     let mut leases = Leases::new(alloc)?;
+    let gate = Commits {
+        seen: AtomicU64::new(0),
+    };
     for example in EXAMPLES {
         let lease = leases.lease()?;
         let edges: Box<dyn Estimator + Send> = Box::new(alloc, EdgeDifference::new(alloc, lease))?;
-        let out = answers_by_one(&rt, alloc, &example, edges, &mut leases)?;
+        let out = answers_by_one(&rt, alloc, &example, edges, &mut leases, &gate)?;
         assert_eq!(rt; out.as_slice(), example.answers, "{}", example.name);
     }
+    assert_eq!(rt;
+        gate.seen.load(Ordering::SeqCst),
+        17,
+        "all nodes of all examples"
+    );
     Ok(())
 }
 
@@ -140,20 +163,6 @@ fn new_counted(
     let drops = Arc::try_clone(drops)?;
     let inner = Depth::new(alloc, lease);
     Ok(Counted { inner, drops })
-}
-
-/// Counts the commits that it sees.
-#[derive(Drop)]
-struct Commits {
-    seen: AtomicU64,
-}
-
-impl Gate for Commits {
-    fn pass(&self, _worker: u32, point: Point) {
-        if point == Point::Committed {
-            self.seen.fetch_add(1, Ordering::SeqCst);
-        }
-    }
 }
 
 #[test]
@@ -308,5 +317,36 @@ fn pairs_are_refused_before_options(rt: HostRuntime) -> Result<(), Fail> {
         error: ServiceError::Queries(UNKNOWN_LINE),
     };
     assert!(rt; is_refused_by_answer(&rt, rt.alloc(), &refused)?);
+    Ok(())
+}
+
+#[test]
+fn a_refused_graph_waits_for_a_lease_elsewhere(rt: HostRuntime) -> Result<(), Fail> {
+    let alloc = rt.alloc();
+    let mut leases = Leases::new(alloc)?;
+    let lease = leases.lease()?;
+    let done = Arc::new(alloc, AtomicU64::new(0))?;
+    let theirs = Arc::try_clone(&done)?;
+    let child = thread::spawn(&rt, move || {
+        for _ in 0..1_000_000u32 {
+            theirs.fetch_add(1, Ordering::SeqCst);
+        }
+        drop(lease);
+    })?;
+    let mut graph = b"x\n".as_slice();
+    let mut out = Vec::new(alloc);
+    let result = prepare(
+        &rt,
+        alloc,
+        &mut graph,
+        &mut out,
+        options(0),
+        Vec::new(alloc),
+        &mut leases,
+        &OpenGate,
+    );
+    assert_eq!(rt; result, Err(ServiceError::Graph(UNKNOWN_LINE)));
+    assert_eq!(rt; done.load(Ordering::SeqCst), 1_000_000);
+    child.join(&rt);
     Ok(())
 }
