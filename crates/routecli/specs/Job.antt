@@ -7,7 +7,7 @@ use Rattle.routecli.specs.declared.job.Job.TheVariants.{Answer, Prepare, Route}
 -- both texts stand in one input
 abbrev pub is_joined : Job → Bool
 is_joined (Answer graph queries) = bytes_eq graph.now (codes "-") && bytes_eq queries.now (codes "-")
-is_joined (Prepare graph out) = false
+is_joined (Prepare graph out workers seed order) = false
 is_joined (Route hierarchy queries) = false
 
 -- pairs are to be answered over a graph
@@ -17,7 +17,7 @@ IsAnswering job = ⊥
 
 -- a hierarchy is to be prepared
 abbrev pub IsPreparing : Job → Type 0
-IsPreparing (Prepare graph out) = ⊤
+IsPreparing (Prepare graph out workers seed order) = ⊤
 IsPreparing job = ⊥
 
 -- pairs are to be answered by a hierarchy

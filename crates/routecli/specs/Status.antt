@@ -1,5 +1,5 @@
 -- How the program ends.
-use Rattle.std.specs.Prelude.{ℕ, ◌≡◌, ◌⊎◌, List, length, Option, Some, Ok, Err}
+use Rattle.std.specs.Prelude.{ℕ, ◌≡◌, ◌≢◌, ◌⊎◌, List, length, Option, Some, Result, Ok, Err, ⊤}
 use Rattle.std.specs.Io.KnownBytes.{Keeps}
 use Rattle.ch_graph.specs.Graph.{Graph}
 use Rattle.ch_graph.specs.Hierarchy.{Hierarchy}
@@ -10,6 +10,8 @@ use Rattle.grfile.specs.declared.error.GrErrorKind.TheVariants as kinds
 use Rattle.hierfile.specs.Fault.{first_fault}
 use Rattle.hierfile.specs.declared.error.HierError.{HierError}
 use Rattle.hierfile.specs.declared.error.HierError.TheVariants as faults
+use Rattle.ch_workers.specs.declared.error.BuildError.{BuildError}
+use Rattle.ch_workers.specs.declared.error.BuildError.TheVariants as building
 use Rattle.ch_unpack.specs.declared.error.UnpackError.{UnpackError}
 use Rattle.ch_unpack.specs.declared.error.UnpackError.TheVariants as unpacking
 use Rattle.routecli.specs.declared.job.Stop.{Stop}
@@ -32,6 +34,12 @@ hierarchy_status faults.OutOfMemory = 6
 hierarchy_status faults.Read = 7
 hierarchy_status e = 4
 
+-- bad options would be a fault of the command line
+abbrev pub building_status : BuildError → ℕ
+building_status building.OutOfMemory = 6
+building_status building.BadOptions = 2
+building_status building.Mixed = 8
+
 -- a route that is too long is a fault of the hierarchy
 abbrev pub unpacking_status : UnpackError → ℕ
 unpacking_status unpacking.OutOfMemory = 6
@@ -42,9 +50,15 @@ abbrev pub status_of : ServiceError → ℕ
 status_of (service.Graph fault) = status_unless_own fault.kind 3
 status_of (service.Queries fault) = status_unless_own fault.kind 5
 status_of (service.Hierarchy fault) = hierarchy_status fault
+status_of (service.Build e) = building_status e
 status_of (service.Unpack e) = unpacking_status e
 status_of (service.Write fault) = 7
 status_of service.OutOfMemory = 6
+
+-- the status after a call
+abbrev pub status_after : Result ⊤ ServiceError → ℕ
+status_after (Ok done) = 0
+status_after (Err e) = status_of e
 
 -- the graph's text has a fault
 pub record HasGraphFault (graph_text : List ℕ) : Type 0 where
@@ -91,6 +105,8 @@ pub record TellsRouted (status : ℕ) (bytes pairs_text : List ℕ) (old new : O
   pub done : status ≡ 0 → Writes (Routes bytes pairs_text) old new
   pub hierarchy : status ≡ 4 → (HasHierarchyFault bytes × Keeps old new) ⊎ (HasLongRoute bytes × Writes (RoutesFirst bytes pairs_text) old new)
   pub pairs : status ≡ 5 → HasRoutedPairsFault bytes pairs_text × Keeps old new
+  pub line : status ≢ 2
+  pub mixed : status ≢ 8
 
 -- The status where there is no job. Help that can't be written ends as a failed write does.
 abbrev pub HasStatus : Stop → ℕ → Type 0

@@ -1,9 +1,10 @@
 ghost use Rattle.std.specs.Prelude.{◌≡◌, true, false, IfOk};
 ghost use Rattle.clap.specs.declared.builder.command.Command.TheViews.{out-Command};
 
-use crate::job::{Job, Stop};
+use crate::job::{Job, Order, Stop};
+use crate::workers::Workers;
 use clap::error::ErrorKind;
-use clap::{Arg, ArgAction, ArgMatches, Command, Error};
+use clap::{Arg, ArgAction, ArgMatches, Command, Error, value_parser};
 use std::alloc::{AllocError, Global};
 
 /// What the words of a command line ask for. The first word is the program's name.
@@ -37,16 +38,19 @@ fn read_words(alloc: Global, words: &[String]) -> Result<Job<'_>, Error> {
     };
     match job_of(name, found) {
         Some(job) => Ok(job),
-        None => Err(missing_file(alloc)?),
+        None => Err(missing_value(alloc)?),
     }
 }
 
-// The job of a command by its name, if both its files are there.
+// The job of a command by its name, if its files and the values of its options are there.
 fn job_of<'a>(name: &str, found: &ArgMatches<'a>) -> Option<Job<'a>> {
     match name {
         "prepare" => Some(Job::Prepare {
             graph: found.get_str("GRAPH")?,
             out: found.get_str("OUT")?,
+            workers: Workers::new(found.get_one("workers")?)?,
+            seed: found.get_one("seed")?,
+            order: order_of(found.get_str("order")?)?,
         }),
         "route" => Some(Job::Route {
             hierarchy: found.get_str("HIER")?,
@@ -59,10 +63,23 @@ fn job_of<'a>(name: &str, found: &ArgMatches<'a>) -> Option<Job<'a>> {
     }
 }
 
-// The error of a command line without a file that is required.
-fn missing_file(alloc: Global) -> Result<Error, AllocError> {
+// The order of this name, if there is one.
+fn order_of(name: &str) -> Option<Order> {
+    match name {
+        "edges" => Some(Order::Edges),
+        "neighbours" => Some(Order::Neighbours),
+        "depth" => Some(Order::Depth),
+        _ => None,
+    }
+}
+
+// The error of a command line without a value that is required.
+fn missing_value(alloc: Global) -> Result<Error, AllocError> {
     let mut answer = answer(alloc)?;
-    answer.error(ErrorKind::MissingRequiredArgument, "two files are required")
+    answer.error(
+        ErrorKind::MissingRequiredArgument,
+        "a file or the value of an option is missing",
+    )
 }
 
 // The program's command line.
@@ -98,6 +115,10 @@ fn prepare<'a>(alloc: Global) -> Result<Command<'a>, AllocError>
 {
     Command::new(alloc, "prepare")
         .about("Prepares a hierarchy of a graph, by which route answers pairs of nodes")
+        .after_help(PREPARING)
+        .arg(workers(alloc))?
+        .arg(seed(alloc))?
+        .arg(order(alloc))?
         .arg(file(alloc, "GRAPH", GRAPH))?
         .arg(file(alloc, "OUT", OUT))
 }
@@ -121,6 +142,45 @@ fn file<'a>(alloc: Global, name: &'a str, help: &'a str) -> Arg<'a>
         .action(ArgAction::Set)
 }
 
+// How many workers there are.
+fn workers<'a>(alloc: Global) -> Arg<'a>
+    ensures { result.global ≡ false }
+{
+    option(alloc, "workers", "K", WORKERS, "4").value_parser(value_parser!(u32).range(0..=64))
+}
+
+// The seed of their draws.
+fn seed<'a>(alloc: Global) -> Arg<'a>
+    ensures { result.global ≡ false }
+{
+    option(alloc, "seed", "S", SEED, "1").value_parser(value_parser!(u64))
+}
+
+// The order in which they contract nodes.
+fn order<'a>(alloc: Global) -> Arg<'a>
+    ensures { result.global ≡ false }
+{
+    option(alloc, "order", "ORDER", ORDER, "edges").value_parser(ORDERS.as_slice())
+}
+
+// An option with a value, which has a default.
+fn option<'a>(
+    alloc: Global,
+    name: &'a str,
+    value: &'a str,
+    help: &'a str,
+    default: &'a str,
+) -> Arg<'a>
+    ensures { result.global ≡ false }
+{
+    Arg::new(alloc, name)
+        .long(name)
+        .value_name(value)
+        .help(help)
+        .default_value(default)
+        .action(ArgAction::Set)
+}
+
 const GRAPH: &str =
     "File of the graph: p sp N M, and a line a U V W for each arc from U to V of weight W";
 
@@ -128,10 +188,23 @@ const QUERIES: &str = "File of the pairs: p aux sp p2p K, and a line q S T for e
 
 const OUT: &str = "File that is made for the hierarchy, once it is prepared";
 
+const WORKERS: &str =
+    "How many threads contract nodes, 0 to 64; with 0 the nodes go by their numbers";
+
+const SEED: &str = "Seed of the draws by which workers choose nodes, 0 to 18446744073709551615";
+
+const ORDER: &str =
+    "Nodes that go first: of the fewest arcs left, or that and fewest neighbours gone, or that and least depth";
+
+const ORDERS: [&str; 3] = ["edges", "neighbours", "depth"];
+
 const HIER: &str = "File of a hierarchy that prepare made";
 
 const STATUSES: &str =
-    "Exit status: 0 done, 2 command line, 3 graph text, 4 hierarchy, 5 text of pairs, 6 memory, 7 reading or writing";
+    "Exit status: 0 done, 2 command line, 3 graph text, 4 hierarchy, 5 text of pairs, 6 memory, 7 reading or writing, 8 workers that disagree";
+
+const PREPARING: &str =
+    "Answers by OUT are right whatever the options: they bear on the time it takes and on the size of OUT.";
 
 const ANSWERING: &str =
     "With - for both files standard input has both texts, parted by a line that is %.\n\n\

@@ -1,5 +1,7 @@
 ghost use Rattle.std.specs.Prelude.{◌≡◌};
 
+use crate::workers::Workers;
+
 /// What the program is asked for.
 #[derive(Clone, Copy, Debug, PartialEq, Eq)]
 pub enum Job<'a> {
@@ -16,6 +18,12 @@ pub enum Job<'a> {
         graph: &'a str,
         /// The file that is made for the hierarchy.
         out: &'a str,
+        /// How many workers contract the nodes.
+        workers: Workers,
+        /// The seed of the draws by which they choose nodes.
+        seed: u64,
+        /// Which nodes go first.
+        order: Order,
     },
     /// To answer pairs by a hierarchy.
     Route {
@@ -24,6 +32,17 @@ pub enum Job<'a> {
         /// The file with the text of the pairs.
         queries: &'a str,
     },
+}
+
+/// Which nodes workers contract first. Without workers the nodes are contracted by the order of their numbers.
+#[derive(Clone, Copy, Debug, PartialEq, Eq)]
+pub enum Order {
+    /// Those whose contraction leaves the fewest arcs.
+    Edges,
+    /// The same, and each neighbour that is gone puts a node back by one arc.
+    Neighbours,
+    /// The same, and each step of its depth puts a node back by one arc.
+    Depth,
 }
 
 /// Why a command line names no job, with the text for the user.

@@ -1,17 +1,25 @@
 //! The program `routecli`: prepares hierarchies of road graphs, and answers pairs of nodes with least routes.
 //!
-//! Stands on `ch_service`, which does the work, and on `clap`, which reads the command line. [`command`] turns the
-//! words of a command line into a [`Job`], and [`perform`] does the job over readers and writers and answers the exit
-//! status; between the two `main` opens the files. The promise is in the contract of [`perform`]: a status of 0 means
-//! that what was written answers all pairs, or is a hierarchy that is right for the graph.
+//! Stands on `ch_service`, which does the work, on `ch_workers` and `ch_estimate` for the workers that prepare a
+//! hierarchy and the orders in which they contract nodes, and on `clap`, which reads the command line. [`command`]
+//! turns the words of a command line into a [`Job`], and [`perform`] does the job over readers and writers and answers
+//! the exit status; between the two `main` opens the files. The promise is in the contract of [`perform`]: a status of
+//! 0 means that what was written answers all pairs, or is a hierarchy that is right for the graph.
 #![tactic(auto)]
 
 mod command;
 mod job;
+mod lists;
 mod new_file;
+#[cfg(test)]
+mod option_tests;
 mod perform;
 #[cfg(test)]
+mod prepare_tests;
+mod preparing;
+#[cfg(test)]
 mod tests;
+mod workers;
 
 use command::command;
 use job::Job;
@@ -21,6 +29,8 @@ use std::env::Env;
 use std::io::ErrorKind;
 use std::process::ExitCode;
 use std::rt::Files;
+use std::sync::Wait;
+use std::thread::Threads;
 use std::{env, fs, io};
 
 fn main(rt: HostRuntime) -> ExitCode {
@@ -37,6 +47,7 @@ fn main(rt: HostRuntime) -> ExitCode {
     let mut nothing: &[u8] = b"";
     let status = match job {
         Job::Answer { .. } if job.is_joined() => perform(
+            &rt,
             rt.alloc(),
             &job,
             &mut rt.stdin(),
@@ -52,7 +63,7 @@ fn main(rt: HostRuntime) -> ExitCode {
             hierarchy: first,
             queries: second,
         } => perform_files(&rt, &job, first, second, &mut out, &mut err),
-        Job::Prepare { graph, out } => {
+        Job::Prepare { graph, out, .. } => {
             prepare_file(&rt, &job, graph, &mut NewFile::new(&rt, out), &mut err)
         }
     };
@@ -60,7 +71,7 @@ fn main(rt: HostRuntime) -> ExitCode {
 }
 
 // Does a job that reads two files.
-fn perform_files<R: Files + AllocGlobal, W: io::Write, E: io::Write>(
+fn perform_files<R: Files + AllocGlobal + Threads + Wait + Sync, W: io::Write, E: io::Write>(
     rt: &R,
     job: &Job<'_>,
     first: &str,
@@ -70,7 +81,7 @@ fn perform_files<R: Files + AllocGlobal, W: io::Write, E: io::Write>(
 ) -> u8 {
     match (fs::open(rt, first), fs::open(rt, second)) {
         (Ok(mut first), Ok(mut second)) => {
-            perform(rt.alloc(), job, &mut first, &mut second, out, err)
+            perform(rt, rt.alloc(), job, &mut first, &mut second, out, err)
         }
         (Err(error), _) => refuse_file(&error, err),
         (_, Err(error)) => refuse_file(&error, err),
@@ -78,7 +89,7 @@ fn perform_files<R: Files + AllocGlobal, W: io::Write, E: io::Write>(
 }
 
 // Does a job that reads one file.
-fn prepare_file<R: Files + AllocGlobal, W: io::Write, E: io::Write>(
+fn prepare_file<R: Files + AllocGlobal + Threads + Wait + Sync, W: io::Write, E: io::Write>(
     rt: &R,
     job: &Job<'_>,
     graph: &str,
@@ -87,7 +98,7 @@ fn prepare_file<R: Files + AllocGlobal, W: io::Write, E: io::Write>(
 ) -> u8 {
     let mut nothing: &[u8] = b"";
     match fs::open(rt, graph) {
-        Ok(mut graph) => perform(rt.alloc(), job, &mut graph, &mut nothing, out, err),
+        Ok(mut graph) => perform(rt, rt.alloc(), job, &mut graph, &mut nothing, out, err),
         Err(error) => refuse_file(&error, err),
     }
 }

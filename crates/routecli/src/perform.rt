@@ -1,24 +1,33 @@
-ghost use Rattle.std.specs.Prelude.{◌≡◌, true, false, IfSome};
+ghost use Rattle.std.specs.Prelude.{◌≡◌, ◌≢◌, true, false, IfSome};
+ghost use Rattle.std.specs.Io.KnownBytes.{Keeps};
 ghost use Rattle.ch_service.specs.Joined.{graph_part, pairs_part};
 ghost use Rattle.ch_service.specs.Outcome.{IfTold};
+ghost use Rattle.ch_workers.specs.Options.{AreGood};
 ghost use Rattle.routecli.specs.Job.{is_joined, IsAnswering, IsPreparing, IsRouting};
-ghost use Rattle.routecli.specs.Status.{HasStatus, Tells, TellsPrepared, TellsRouted, status_of, status_unless_own, hierarchy_status, unpacking_status};
+ghost use Rattle.routecli.specs.Status.{HasStatus, Tells, TellsPrepared, TellsRouted, building_status, hierarchy_status, status_after, status_of, status_unless_own, unpacking_status};
 
-use crate::job::{Job, Stop};
-use ch_service::{ServiceError, answer, answer_joined, prepare, route};
+use crate::job::{Job, Order, Stop};
+use crate::preparing::{options, prepare_by};
+use crate::workers::Workers;
+use ch_estimate::Leases;
+use ch_service::{ServiceError, answer, answer_joined, route};
 use ch_unpack::UnpackError;
+use ch_workers::{BuildError, OpenGate, Options};
 use grfile::GrErrorKind;
 use hierfile::HierError;
 use std::alloc::Global;
 use std::io::{Read, Write};
+use std::sync::Wait;
+use std::thread::Threads;
 
 /// Does the job and answers the program's exit status.
 ///
 /// To answer, `first` gives the graph's text and `second` that of the pairs; where both stand in one input, `first`
 /// gives it and `second` isn't read. To prepare, `first` gives the graph's text, `second` isn't read, and `out` gets
 /// the hierarchy. To route, `first` gives the hierarchy and `second` the text of the pairs. Answers go to `out`. Of a
-/// refusal one line goes to `err`.
-pub fn perform<A: Read, B: Read, W: Write, E: Write>(
+/// refusal one line goes to `err`. Only to prepare by workers are threads started.
+pub fn perform<A: Read, B: Read, W: Write, E: Write, R: Threads + Wait + Sync>(
+    rt: &R,
     alloc: Global,
     job: &Job<'_>,
     first: &mut A,
@@ -34,26 +43,41 @@ pub fn perform<A: Read, B: Read, W: Write, E: Write>(
         (λ text. TellsPrepared result text (W.contents out.old) (W.contents out.new)) }
     ensures routed { IsRouting job.now → IfTold (A.remaining first.old) (B.remaining second.old)
         (λ bytes pairs. TellsRouted result bytes pairs (W.contents out.old) (W.contents out.new)) }
+
+    // The status of a job is never that of a refused command line, and where workers disagree nothing is written.
+    ensures line { (IsRouting job.now → ⊥) → result ≢ 2 }
+    ensures mixed { result ≡ 8 → Keeps (W.contents out.old) (W.contents out.new) }
 {
     match job {
-        Job::Answer { .. } if job.is_joined() => perform_joined(alloc, first, out, err),
-        Job::Answer { .. } => perform_two(alloc, first, second, out, err),
-        Job::Prepare { .. } => perform_prepare(alloc, first, out, err),
+        Job::Answer { .. } if job.is_joined() => perform_joined(rt, alloc, first, out, err),
+        Job::Answer { .. } => perform_two(rt, alloc, first, second, out, err),
+        Job::Prepare {
+            workers,
+            seed,
+            order,
+            ..
+        } => perform_prepare(rt, alloc, first, out, err, *order, options(*workers, *seed)),
         Job::Route { .. } => perform_route(alloc, first, second, out, err),
     }
 }
 
 // Prepares a hierarchy of a graph.
-fn perform_prepare<A: Read, W: Write, E: Write>(
+fn perform_prepare<A: Read, W: Write, E: Write, R: Threads + Wait + Sync>(
+    rt: &R,
     alloc: Global,
     graph: &mut A,
     out: &mut W,
     err: &mut E,
+    order: Order,
+    options: Options,
 ) -> u8
-    ensures { IfSome (A.remaining graph.old)
+    requires good { AreGood options options.workers }
+    ensures prepared { IfSome (A.remaining graph.old)
         (λ text. TellsPrepared result text (W.contents out.old) (W.contents out.new)) }
+    ensures line { result ≢ 2 }
+    ensures mixed { result ≡ 8 → Keeps (W.contents out.old) (W.contents out.new) }
 {
-    match prepare(alloc, graph, out) {
+    match prepare_by(rt, alloc, graph, out, order, options) {
         Ok(()) => 0,
         Err(error) => report(&error, err),
     }
@@ -67,8 +91,9 @@ fn perform_route<A: Read, B: Read, W: Write, E: Write>(
     out: &mut W,
     err: &mut E,
 ) -> u8
-    ensures { IfTold (A.remaining hierarchy.old) (B.remaining queries.old)
+    ensures routed { IfTold (A.remaining hierarchy.old) (B.remaining queries.old)
         (λ bytes pairs. TellsRouted result bytes pairs (W.contents out.old) (W.contents out.new)) }
+    ensures mixed { result ≡ 8 → Keeps (W.contents out.old) (W.contents out.new) }
 {
     match route(alloc, hierarchy, queries, out) {
         Ok(()) => 0,
@@ -77,33 +102,68 @@ fn perform_route<A: Read, B: Read, W: Write, E: Write>(
 }
 
 // Answers the pairs of one text over the graph of another.
-fn perform_two<A: Read, B: Read, W: Write, E: Write>(
+fn perform_two<A: Read, B: Read, W: Write, E: Write, R: Threads + Wait + Sync>(
+    rt: &R,
     alloc: Global,
     graph: &mut A,
     queries: &mut B,
     out: &mut W,
     err: &mut E,
 ) -> u8
-    ensures { IfTold (A.remaining graph.old) (B.remaining queries.old)
+    ensures answered { IfTold (A.remaining graph.old) (B.remaining queries.old)
         (λ graph_text pairs_text. Tells result graph_text pairs_text (W.contents out.old) (W.contents out.new)) }
+    ensures line { result ≢ 2 }
+    ensures mixed { result ≡ 8 → Keeps (W.contents out.old) (W.contents out.new) }
 {
-    match answer(alloc, graph, queries, out) {
+    match answer_alone(rt, alloc, graph, queries, out) {
         Ok(()) => 0,
         Err(error) => report(&error, err),
     }
 }
 
+// Answers the pairs of one text over the graph of another, by a hierarchy that the calling thread builds alone.
+fn answer_alone<A: Read, B: Read, W: Write, R: Threads + Wait + Sync>(
+    rt: &R,
+    alloc: Global,
+    graph: &mut A,
+    queries: &mut B,
+    out: &mut W,
+) -> Result<(), ServiceError>
+    ensures answered { IfTold (A.remaining graph.old) (B.remaining queries.old)
+        (λ graph_text pairs_text. Tells (status_after result) graph_text pairs_text (W.contents out.old) (W.contents out.new)) }
+    ensures line { status_after result ≢ 2 }
+    ensures mixed { status_after result ≡ 8 → Keeps (W.contents out.old) (W.contents out.new) }
+{
+    let mut leases = Leases::new(alloc)?;
+    let options = options(Workers::none(), 1);
+    let lists = Vec::new(alloc);
+    answer(
+        rt,
+        alloc,
+        graph,
+        queries,
+        out,
+        options,
+        lists,
+        &mut leases,
+        &OpenGate,
+    )
+}
+
 // Answers the pairs of a joined input.
-fn perform_joined<A: Read, W: Write, E: Write>(
+fn perform_joined<A: Read, W: Write, E: Write, R: Threads + Wait + Sync>(
+    rt: &R,
     alloc: Global,
     input: &mut A,
     out: &mut W,
     err: &mut E,
 ) -> u8
-    ensures { IfSome (A.remaining input.old)
+    ensures answered { IfSome (A.remaining input.old)
         (λ text. Tells result (graph_part text) (pairs_part text) (W.contents out.old) (W.contents out.new)) }
+    ensures line { result ≢ 2 }
+    ensures mixed { result ≡ 8 → Keeps (W.contents out.old) (W.contents out.new) }
 {
-    match answer_joined(alloc, input, out) {
+    match answer_joined(rt, alloc, input, out) {
         Ok(()) => 0,
         Err(error) => report(&error, err),
     }
@@ -124,6 +184,7 @@ fn status(error: &ServiceError) -> u8
         ServiceError::Graph(fault) => status_unless_own(fault.kind, 3),
         ServiceError::Queries(fault) => status_unless_own(fault.kind, 5),
         ServiceError::Hierarchy(fault) => hierarchy_status(*fault),
+        ServiceError::Build(fault) => building_status(*fault),
         ServiceError::Unpack(fault) => unpacking_status(*fault),
         ServiceError::Write(_) => 7,
         ServiceError::OutOfMemory => 6,
@@ -149,6 +210,17 @@ fn hierarchy_status(fault: HierError) -> u8
         HierError::OutOfMemory => 6,
         HierError::Read => 7,
         _ => 4,
+    }
+}
+
+// The status where no hierarchy is built.
+fn building_status(fault: BuildError) -> u8
+    ensures { result ≡ building_status fault }
+{
+    match fault {
+        BuildError::OutOfMemory => 6,
+        BuildError::BadOptions => 2,
+        BuildError::Mixed => 8,
     }
 }
 

@@ -6,7 +6,7 @@ use std::io::{self, ErrorKind, Read, Write};
 use std::test::Fail;
 
 /// The words of a command line.
-fn words(alloc: Global, texts: &[&str]) -> Result<Vec<String>, AllocError> {
+pub(crate) fn words(alloc: Global, texts: &[&str]) -> Result<Vec<String>, AllocError> {
     let mut words = Vec::new(alloc);
     for text in texts {
         words.push(String::from_str(alloc, text)?)?;
@@ -16,7 +16,7 @@ fn words(alloc: Global, texts: &[&str]) -> Result<Vec<String>, AllocError> {
 
 /// A reader and writer that fails.
 #[derive(Drop)]
-struct Broken;
+pub(crate) struct Broken;
 
 impl Read for Broken {
     fn read(&mut self, _buf: &mut [u8]) -> io::Result<usize> {
@@ -44,7 +44,7 @@ const JOINED: Job<'static> = Job::Answer {
     queries: "-",
 };
 
-const GRAPH: &[u8] = b"p sp 2 1\na 1 2 7\n";
+pub(crate) const GRAPH: &[u8] = b"p sp 2 1\na 1 2 7\n";
 
 const PAIRS: &[u8] = b"p aux sp p2p 2\nq 1 2\nq 2 1\n";
 
@@ -95,7 +95,15 @@ fn two_texts(rt: HostRuntime) {
         let (mut graph, mut pairs) = (case.graph, case.pairs);
         let mut out = Vec::new(rt.alloc());
         let mut err = Vec::new(rt.alloc());
-        let status = perform(rt.alloc(), &TWO, &mut graph, &mut pairs, &mut out, &mut err);
+        let status = perform(
+            &rt,
+            rt.alloc(),
+            &TWO,
+            &mut graph,
+            &mut pairs,
+            &mut out,
+            &mut err,
+        );
         assert_eq!(rt; status, case.status);
         assert_eq!(rt; out.as_slice(), case.out);
         assert_eq!(rt; err.as_slice(), case.err);
@@ -112,6 +120,7 @@ fn joined_input(rt: HostRuntime) -> Result<(), Fail> {
         let mut out = Vec::new(rt.alloc());
         let mut err = Vec::new(rt.alloc());
         let status = perform(
+            &rt,
             rt.alloc(),
             &JOINED,
             &mut first,
@@ -132,6 +141,7 @@ fn joined_input_without_a_percent_line(rt: HostRuntime) {
     let mut out = Vec::new(rt.alloc());
     let mut err = Vec::new(rt.alloc());
     let status = perform(
+        &rt,
         rt.alloc(),
         &JOINED,
         &mut first,
@@ -149,7 +159,8 @@ const ROUTE: Job<'static> = Job::Route {
 };
 
 /// The file of one arc of weight 7, from node 1 to node 2: two nodes, one link, bound 7, two ranks, the link.
-const ONE_ARC: &[u8] = b"RCH1\0\0\0\x02\0\0\0\0\0\0\0\x01\0\0\0\0\0\0\0\x07\0\0\0\0\0\0\0\x01\
+pub(crate) const ONE_ARC: &[u8] =
+    b"RCH1\0\0\0\x02\0\0\0\0\0\0\0\x01\0\0\0\0\0\0\0\x07\0\0\0\0\0\0\0\x01\
 \0\0\0\0\0\0\0\x01\0\0\0\0\0\0\0\x07\xff\xff\xff\xff";
 
 /// What a route ends with: the file, the pairs, the status, the answers and the line on standard error.
@@ -180,6 +191,7 @@ fn routes(rt: HostRuntime) {
         let mut out = Vec::new(rt.alloc());
         let mut err = Vec::new(rt.alloc());
         let result = perform(
+            &rt,
             rt.alloc(),
             &ROUTE,
             &mut hierarchy,
@@ -230,6 +242,7 @@ fn a_route_that_is_too_long(rt: HostRuntime) -> Result<(), Fail> {
     let mut out = Vec::new(rt.alloc());
     let mut err = Vec::new(rt.alloc());
     let status = perform(
+        &rt,
         rt.alloc(),
         &ROUTE,
         &mut hierarchy,
@@ -243,62 +256,13 @@ fn a_route_that_is_too_long(rt: HostRuntime) -> Result<(), Fail> {
     Ok(())
 }
 
-const PREPARE: Job<'static> = Job::Prepare {
-    graph: "a.gr",
-    out: "a.rch",
-};
-
-#[test]
-fn hierarchies_are_prepared(rt: HostRuntime) {
-    let cases = [
-        (GRAPH, 0, ONE_ARC, b"".as_slice()),
-        (
-            b"p sp 2 1\na 1 2\n".as_slice(),
-            3,
-            b"".as_slice(),
-            b"routecli: graph: FieldCount line 2\n".as_slice(),
-        ),
-    ];
-    for (text, ended, file, line) in cases {
-        let (mut graph, mut nothing) = (text, b"".as_slice());
-        let mut out = Vec::new(rt.alloc());
-        let mut err = Vec::new(rt.alloc());
-        let status = perform(
-            rt.alloc(),
-            &PREPARE,
-            &mut graph,
-            &mut nothing,
-            &mut out,
-            &mut err,
-        );
-        assert_eq!(rt; status, ended);
-        assert!(rt; out.as_slice() == file);
-        assert!(rt; err.as_slice() == line);
-    }
-}
-
-#[test]
-fn a_hierarchy_that_cannot_be_written(rt: HostRuntime) {
-    let (mut graph, mut nothing) = (GRAPH, b"".as_slice());
-    let mut err = Vec::new(rt.alloc());
-    let status = perform(
-        rt.alloc(),
-        &PREPARE,
-        &mut graph,
-        &mut nothing,
-        &mut Broken,
-        &mut err,
-    );
-    assert_eq!(rt; status, 7);
-    assert!(rt; err.as_slice() == b"routecli: write\n".as_slice());
-}
-
 #[test]
 fn failed_reads_of_routes(rt: HostRuntime) {
     let mut err = Vec::new(rt.alloc());
     let mut out = Vec::new(rt.alloc());
     let (mut hierarchy, mut pairs) = (ONE_ARC, PAIRS);
     let status = perform(
+        &rt,
         rt.alloc(),
         &ROUTE,
         &mut Broken,
@@ -308,6 +272,7 @@ fn failed_reads_of_routes(rt: HostRuntime) {
     );
     assert_eq!(rt; status, 7);
     let status = perform(
+        &rt,
         rt.alloc(),
         &ROUTE,
         &mut hierarchy,
@@ -325,6 +290,7 @@ fn failed_reads_and_writes(rt: HostRuntime) {
     let mut out = Vec::new(rt.alloc());
     let (mut graph, mut pairs) = (GRAPH, PAIRS);
     let status = perform(
+        &rt,
         rt.alloc(),
         &TWO,
         &mut Broken,
@@ -334,6 +300,7 @@ fn failed_reads_and_writes(rt: HostRuntime) {
     );
     assert_eq!(rt; status, 7);
     let status = perform(
+        &rt,
         rt.alloc(),
         &JOINED,
         &mut Broken,
@@ -343,6 +310,7 @@ fn failed_reads_and_writes(rt: HostRuntime) {
     );
     assert_eq!(rt; status, 7);
     let status = perform(
+        &rt,
         rt.alloc(),
         &TWO,
         &mut graph,
@@ -353,6 +321,7 @@ fn failed_reads_and_writes(rt: HostRuntime) {
     assert_eq!(rt; status, 7);
     let (mut graph, mut pairs) = (GRAPH, PAIRS);
     let status = perform(
+        &rt,
         rt.alloc(),
         &TWO,
         &mut graph,
@@ -370,6 +339,7 @@ fn a_lost_line_keeps_the_status(rt: HostRuntime) {
     let (mut graph, mut pairs) = (b"".as_slice(), PAIRS);
     let mut out = Vec::new(rt.alloc());
     let status = perform(
+        &rt,
         rt.alloc(),
         &TWO,
         &mut graph,
@@ -389,18 +359,6 @@ fn words_that_name_a_job(rt: HostRuntime) -> Result<(), Fail> {
         assert!(rt; job == Job::Answer { graph, queries });
         assert_eq!(rt; job.is_joined(), graph == "-" && queries == "-");
     }
-    Ok(())
-}
-
-#[test]
-fn words_that_name_a_file_of_a_hierarchy(rt: HostRuntime) -> Result<(), Fail> {
-    let words = words(rt.alloc(), &["routecli", "prepare", "a.gr", "a.rch"])?;
-    let job = command(rt.alloc(), words.as_slice()).ok().ok_or("a job")?;
-    let prepare = Job::Prepare {
-        graph: "a.gr",
-        out: "a.rch",
-    };
-    assert!(rt; job == prepare && !job.is_joined());
     Ok(())
 }
 
@@ -425,9 +383,7 @@ fn words_that_are_refused(rt: HostRuntime) -> Result<(), Fail> {
         ["routecli", "answer", "a.gr", "b.p2p", "c"].as_slice(),
         ["routecli", "answer", "--fast", "a.gr", "b.p2p"].as_slice(),
         ["routecli", "solve", "a.gr", "b.p2p"].as_slice(),
-        ["routecli", "prepare", "a.gr"].as_slice(),
         ["routecli", "route", "a.rch"].as_slice(),
-        ["routecli", "prepare", "a.gr", "a.rch", "b"].as_slice(),
     ];
     for texts in cases {
         let words = words(rt.alloc(), texts)?;
@@ -449,7 +405,6 @@ fn words_that_ask_for_help(rt: HostRuntime) -> Result<(), Fail> {
         ["routecli", "help"].as_slice(),
         ["routecli", "help", "answer"].as_slice(),
         ["routecli", "answer", "-h"].as_slice(),
-        ["routecli", "prepare", "--help"].as_slice(),
         ["routecli", "route", "--help"].as_slice(),
     ];
     for texts in cases {

@@ -1,0 +1,3 @@
+mod LocalArguments
+mod OfOneThing
+mod Routed

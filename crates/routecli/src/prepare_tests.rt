@@ -1,0 +1,205 @@
+use crate::job::{Job, Order};
+use crate::perform::perform;
+use crate::tests::{Broken, GRAPH, ONE_ARC};
+use crate::workers::Workers;
+use std::alloc::Global;
+use std::io::Write;
+use std::sync::Wait;
+use std::test::Fail;
+use std::thread::Threads;
+
+/// Two arcs in a row: 2 to 1 of weight 2, and 1 to 3 of weight 3.
+const ROW: &[u8] = b"p sp 3 2\na 2 1 2\na 1 3 3\n";
+
+/// The file of that row by the order of its numbers. Its last link is the shortcut.
+const ROW_FILE: &[u8] =
+    b"RCH1\0\0\0\x03\0\0\0\0\0\0\0\x03\0\0\0\0\0\0\0\x06\0\0\0\0\0\0\0\x01\0\0\0\x02\
+\0\0\0\0\0\0\0\x02\0\0\0\0\0\0\0\x03\xff\xff\xff\xff\
+\0\0\0\x01\0\0\0\0\0\0\0\0\0\0\0\x02\xff\xff\xff\xff\
+\0\0\0\x01\0\0\0\x02\0\0\0\0\0\0\0\x05\0\0\0\0";
+
+const ROW_PAIRS: &[u8] = b"p aux sp p2p 3\nq 2 3\nq 1 3\nq 3 2\n";
+
+const ROW_ANSWERS: &[u8] = b"r 2 3 5 2 2 1 3\nr 1 3 3 1 1 3\nn 3 2\n";
+
+/// Two ways from node 3 to node 4, by 1 and by 2, of one length.
+const TIE: &[u8] = b"p sp 4 4\na 3 1 1\na 1 4 1\na 3 2 1\na 2 4 1\n";
+
+const TIE_PAIRS: &[u8] = b"p aux sp p2p 3\nq 3 1\nq 2 4\nq 4 3\n";
+
+const TIE_ANSWERS: &[u8] = b"r 3 1 1 1 3 1\nr 2 4 1 1 2 4\nn 4 3\n";
+
+const TIED_PAIR: &[u8] = b"p aux sp p2p 1\nq 3 4\n";
+
+/// Node 1 lies between eight nodes with an arc to it and eight with an arc from it.
+const STAR: &[u8] =
+    b"p sp 17 16\na 2 1 1\na 3 1 1\na 4 1 1\na 5 1 1\na 6 1 1\na 7 1 1\na 8 1 1\na 9 1 1\n\
+a 1 10 1\na 1 11 1\na 1 12 1\na 1 13 1\na 1 14 1\na 1 15 1\na 1 16 1\na 1 17 1\n";
+
+/// Roads between node 3 and its ends 1 and 2, and from there by 4 and 5 to the end 6, in both directions.
+const TREE: &[u8] =
+    b"p sp 6 10\na 1 3 1\na 3 1 1\na 2 3 1\na 3 2 1\na 3 4 1\na 4 3 1\na 4 5 1\na 5 4 1\n\
+a 5 6 1\na 6 5 1\n";
+
+/// Each order, without workers, with one, and with four.
+const CASES: [(Order, u32); 9] = [
+    (Order::Edges, 0),
+    (Order::Edges, 1),
+    (Order::Edges, 4),
+    (Order::Neighbours, 0),
+    (Order::Neighbours, 1),
+    (Order::Neighbours, 4),
+    (Order::Depth, 0),
+    (Order::Depth, 1),
+    (Order::Depth, 4),
+];
+
+/// The job to prepare by so many workers in this order.
+fn preparing(order: Order, workers: Workers) -> Job<'static> {
+    Job::Prepare {
+        graph: "a.gr",
+        out: "a.rch",
+        workers,
+        seed: 1,
+        order,
+    }
+}
+
+/// The status after a graph was prepared, and the line on standard error.
+fn prepare_into<W: Write, R: Threads + Wait + Sync>(
+    rt: &R,
+    alloc: Global,
+    mut graph: &[u8],
+    out: &mut W,
+) -> (u8, Vec<u8>) {
+    let mut nothing: &[u8] = b"";
+    let mut err = Vec::new(alloc);
+    let job = preparing(Order::Edges, Workers::none());
+    let status = perform(rt, alloc, &job, &mut graph, &mut nothing, out, &mut err);
+    (status, err)
+}
+
+/// The file of the graph's hierarchy, and nothing where the status isn't 0 or there is a line on standard error.
+fn file_of<R: Threads + Wait + Sync>(
+    rt: &R,
+    alloc: Global,
+    mut graph: &[u8],
+    job: &Job<'_>,
+) -> Option<Vec<u8>> {
+    let mut nothing: &[u8] = b"";
+    let mut out = Vec::new(alloc);
+    let mut err = Vec::new(alloc);
+    let status = perform(rt, alloc, job, &mut graph, &mut nothing, &mut out, &mut err);
+    if status == 0 && err.is_empty() {
+        Some(out)
+    } else {
+        None
+    }
+}
+
+/// The file of the graph's hierarchy by so many workers in this order.
+fn prepared<R: Threads + Wait + Sync>(
+    rt: &R,
+    alloc: Global,
+    graph: &[u8],
+    order: Order,
+    workers: u32,
+) -> Result<Vec<u8>, Fail> {
+    let workers = Workers::new(workers).ok_or("at most 64 workers")?;
+    let job = preparing(order, workers);
+    let file = file_of(rt, alloc, graph, &job).ok_or("a hierarchy")?;
+    Ok(file)
+}
+
+/// The answers to the pairs by the file of a hierarchy.
+fn routed<R: Threads + Wait + Sync>(
+    rt: &R,
+    alloc: Global,
+    mut file: &[u8],
+    mut pairs: &[u8],
+) -> Vec<u8> {
+    let job = Job::Route {
+        hierarchy: "a.rch",
+        queries: "a.p2p",
+    };
+    let mut out = Vec::new(alloc);
+    let mut err = Vec::new(alloc);
+    let _ = perform(rt, alloc, &job, &mut file, &mut pairs, &mut out, &mut err);
+    out
+}
+
+#[test]
+fn hierarchies_are_prepared(rt: HostRuntime) {
+    let mut out = Vec::new(rt.alloc());
+    let (status, err) = prepare_into(&rt, rt.alloc(), GRAPH, &mut out);
+    assert_eq!(rt; status, 0);
+    assert!(rt; out.as_slice() == ONE_ARC && err.is_empty());
+}
+
+#[test]
+fn a_graph_that_is_refused(rt: HostRuntime) {
+    let mut out = Vec::new(rt.alloc());
+    let (status, err) = prepare_into(&rt, rt.alloc(), b"p sp 2 1\na 1 2\n", &mut out);
+    assert_eq!(rt; status, 3);
+    assert!(rt;
+        out.is_empty() && err.as_slice() == b"routecli: graph: FieldCount line 2\n".as_slice()
+    );
+}
+
+#[test]
+fn a_hierarchy_that_cannot_be_written(rt: HostRuntime) {
+    let (status, err) = prepare_into(&rt, rt.alloc(), GRAPH, &mut Broken);
+    assert_eq!(rt; status, 7);
+    assert!(rt; err.as_slice() == b"routecli: write\n".as_slice());
+}
+
+#[test]
+fn without_workers_the_order_is_that_of_the_numbers(rt: HostRuntime) -> Result<(), Fail> {
+    for order in [Order::Edges, Order::Neighbours, Order::Depth] {
+        let file = prepared(&rt, rt.alloc(), ROW, order, 0)?;
+        assert!(rt; file.as_slice() == ROW_FILE);
+    }
+    Ok(())
+}
+
+#[test]
+fn answers_over_a_row_are_the_same_by_all_workers(rt: HostRuntime) -> Result<(), Fail> {
+    for (order, workers) in CASES {
+        let file = prepared(&rt, rt.alloc(), ROW, order, workers)?;
+        let answers = routed(&rt, rt.alloc(), file.as_slice(), ROW_PAIRS);
+        assert!(rt; answers.as_slice() == ROW_ANSWERS, "{order:?} {workers}");
+    }
+    Ok(())
+}
+
+#[test]
+fn answers_over_a_tie_are_the_same_by_all_workers(rt: HostRuntime) -> Result<(), Fail> {
+    for (order, workers) in CASES {
+        let file = prepared(&rt, rt.alloc(), TIE, order, workers)?;
+        let answers = routed(&rt, rt.alloc(), file.as_slice(), TIE_PAIRS);
+        assert!(rt; answers.as_slice() == TIE_ANSWERS, "{order:?} {workers}");
+        let tied = routed(&rt, rt.alloc(), file.as_slice(), TIED_PAIR);
+        assert!(rt; tied.starts_with(b"r 3 4 2 2 3 ") && tied.ends_with(b" 4\n"));
+    }
+    Ok(())
+}
+
+#[test]
+fn a_worker_leaves_the_middle_of_a_star_for_later(rt: HostRuntime) -> Result<(), Fail> {
+    let by_number = prepared(&rt, rt.alloc(), STAR, Order::Edges, 0)?;
+    assert_eq!(rt; by_number.len(), 24 + 4 * 17 + 20 * 80);
+    let by_worker = prepared(&rt, rt.alloc(), STAR, Order::Edges, 1)?;
+    assert!(rt; by_worker.len() < by_number.len());
+    Ok(())
+}
+
+#[test]
+fn orders_differ(rt: HostRuntime) -> Result<(), Fail> {
+    let edges = prepared(&rt, rt.alloc(), TREE, Order::Edges, 1)?;
+    let neighbours = prepared(&rt, rt.alloc(), TREE, Order::Neighbours, 1)?;
+    let depth = prepared(&rt, rt.alloc(), TREE, Order::Depth, 1)?;
+    assert!(rt; edges.as_slice() != neighbours.as_slice());
+    assert!(rt; edges.as_slice() != depth.as_slice());
+    assert!(rt; neighbours.as_slice() != depth.as_slice());
+    Ok(())
+}
