@@ -169,8 +169,8 @@ fn perform_joined<A: Read, W: Write, E: Write, R: Threads + Wait + Sync>(
     }
 }
 
-// Writes the line of the refusal and answers its status. Where the line can't be written there is nobody to tell.
-fn report<E: Write>(error: &ServiceError, err: &mut E) -> u8
+/// Writes the line of the refusal and answers its status. Where the line can't be written there is nobody to tell.
+pub fn report<E: Write>(error: &ServiceError, err: &mut E) -> u8
     ensures { result ≡ status_of error.now }
 {
     let _ = writeln!(err, "routecli: {error}");

@@ -1,7 +1,9 @@
 use crate::job::{Job, Order};
-use crate::perform::perform;
+use crate::perform::{perform, report};
 use crate::tests::{Broken, GRAPH, ONE_ARC};
 use crate::workers::Workers;
+use ch_service::ServiceError;
+use ch_workers::BuildError;
 use std::alloc::Global;
 use std::io::Write;
 use std::sync::Wait;
@@ -36,10 +38,13 @@ const STAR: &[u8] =
     b"p sp 17 16\na 2 1 1\na 3 1 1\na 4 1 1\na 5 1 1\na 6 1 1\na 7 1 1\na 8 1 1\na 9 1 1\n\
 a 1 10 1\na 1 11 1\na 1 12 1\na 1 13 1\na 1 14 1\na 1 15 1\na 1 16 1\na 1 17 1\n";
 
-/// Roads between node 3 and its ends 1 and 2, and from there by 4 and 5 to the end 6, in both directions.
-const TREE: &[u8] =
-    b"p sp 6 10\na 1 3 1\na 3 1 1\na 2 3 1\na 3 2 1\na 3 4 1\na 4 3 1\na 4 5 1\na 5 4 1\n\
-a 5 6 1\na 6 5 1\n";
+/// Four rows of four nodes, with roads between neighbours in both directions.
+const SQUARE: &[u8] = b"p sp 16 48\n\
+a 1 2 1\na 2 1 1\na 1 5 1\na 5 1 1\na 2 3 1\na 3 2 1\na 2 6 1\na 6 2 1\na 3 4 1\na 4 3 1\na 3 7 1\n\
+a 7 3 1\na 4 8 1\na 8 4 1\na 5 6 1\na 6 5 1\na 5 9 1\na 9 5 1\na 6 7 1\na 7 6 1\na 6 10 1\n\
+a 10 6 1\na 7 8 1\na 8 7 1\na 7 11 1\na 11 7 1\na 8 12 1\na 12 8 1\na 9 10 1\na 10 9 1\na 9 13 1\n\
+a 13 9 1\na 10 11 1\na 11 10 1\na 10 14 1\na 14 10 1\na 11 12 1\na 12 11 1\na 11 15 1\na 15 11 1\n\
+a 12 16 1\na 16 12 1\na 13 14 1\na 14 13 1\na 14 15 1\na 15 14 1\na 15 16 1\na 16 15 1\n";
 
 /// Each order, without workers, with one, and with four.
 const CASES: [(Order, u32); 9] = [
@@ -195,11 +200,27 @@ fn a_worker_leaves_the_middle_of_a_star_for_later(rt: HostRuntime) -> Result<(),
 
 #[test]
 fn orders_differ(rt: HostRuntime) -> Result<(), Fail> {
-    let edges = prepared(&rt, rt.alloc(), TREE, Order::Edges, 1)?;
-    let neighbours = prepared(&rt, rt.alloc(), TREE, Order::Neighbours, 1)?;
-    let depth = prepared(&rt, rt.alloc(), TREE, Order::Depth, 1)?;
+    let edges = prepared(&rt, rt.alloc(), SQUARE, Order::Edges, 1)?;
+    let neighbours = prepared(&rt, rt.alloc(), SQUARE, Order::Neighbours, 1)?;
+    let depth = prepared(&rt, rt.alloc(), SQUARE, Order::Depth, 1)?;
     assert!(rt; edges.as_slice() != neighbours.as_slice());
     assert!(rt; edges.as_slice() != depth.as_slice());
     assert!(rt; neighbours.as_slice() != depth.as_slice());
     Ok(())
+}
+
+#[test]
+fn refusals_to_build(rt: HostRuntime) {
+    let mut err = Vec::new(rt.alloc());
+    assert_eq!(rt;
+        report(&ServiceError::Build(BuildError::Mixed), &mut err),
+        8
+    );
+    assert!(rt; err.as_slice() == b"routecli: mixed\n".as_slice());
+    let mut err = Vec::new(rt.alloc());
+    assert_eq!(rt;
+        report(&ServiceError::Build(BuildError::OutOfMemory), &mut err),
+        6
+    );
+    assert!(rt; err.as_slice() == b"routecli: memory\n".as_slice());
 }
