@@ -1,2 +1,3 @@
 pub mod Marks
 mod Reading
+mod OfOneThing

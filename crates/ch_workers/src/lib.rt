@@ -32,3 +32,6 @@ pub use built::Built;
 pub use error::BuildError;
 pub use gate::{Gate, OpenGate, Point};
 pub use options::Options;
+
+#[cfg(test)]
+mod tests;

@@ -1,0 +1,8 @@
+mod drops;
+mod gates;
+mod kit;
+mod lengths;
+mod orders;
+mod refusals;
+mod stations;
+mod throngs;
