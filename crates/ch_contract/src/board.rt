@@ -14,7 +14,7 @@ use crate::error::{CommitError, FinishError, ProposeError, SweepError};
 use crate::finish::{Finished, hierarchy_of};
 use crate::ledger::Ledger;
 use crate::proposal::Proposal;
-use crate::proposing::propose;
+use crate::proposing::{Scratch, propose_with};
 use crate::shown::shown;
 use crate::site::Site;
 use ch_cost::Cost;
@@ -121,9 +121,10 @@ impl<S: Site> Board<S> {
     {
         let nodes = self.overlay().nodes();
         let alloc = self.ledger.allocator();
+        let mut scratch = Scratch::new(alloc);
         let mut receipts = Vec::with_capacity(alloc, self.overlay().alive() as usize)?;
         'nodes: for node in 0..nodes {
-            self.visit(node, settle, &mut receipts)?;
+            self.visit(node, settle, &mut scratch, &mut receipts)?;
         }
         Ok(receipts)
     }
@@ -167,6 +168,7 @@ impl<S: Site> Board<S> {
         &mut self,
         node: u32,
         settle: u32,
+        scratch: &mut Scratch,
         receipts: &mut Vec<Receipt>,
     ) -> Result<(), AllocError>
         requires in_range { node < length self.old.overlay.rows }
@@ -179,7 +181,7 @@ impl<S: Site> Board<S> {
             return Ok(());
         }
         receipts.reserve(1)?;
-        let proposal = self.proposed(node, settle)?;
+        let proposal = self.proposed(node, settle, scratch)?;
         let receipt = self.taken(proposal)?;
         receipts.push_reserved(receipt);
         Ok(())
@@ -195,7 +197,12 @@ impl<S: Site> Board<S> {
     }
 
     /// A proposal of a node that isn't contracted, by the rows as they are.
-    fn proposed(&mut self, node: u32, settle: u32) -> Result<Proposal, AllocError>
+    fn proposed(
+        &mut self,
+        node: u32,
+        settle: u32,
+        scratch: &mut Scratch,
+    ) -> Result<Proposal, AllocError>
         requires alive { IsAlive (state_of self.old.overlay) node }
         requires low { 0 < settle }
         requires high { settle ≤ 65536 }
@@ -206,7 +213,7 @@ impl<S: Site> Board<S> {
     {
         let _ = self.log();
         let alloc = self.ledger.allocator();
-        match propose(alloc, self, node, settle) {
+        match propose_with(alloc, self, scratch, node, settle) {
             Ok(proposal) => Ok(proposal),
             Err(ProposeError::OutOfMemory) => Err(AllocError),
             Err(ProposeError::Unseen) => unreachable!(),

@@ -161,7 +161,7 @@ fn light_pairs(
     requires rises { Rises outs.now }
     ensures { IfOk result (λ pairs. ArePairs bound into outs.now pairs.items) }
 {
-    let mut pairs = Vec::new(alloc);
+    let mut pairs = Vec::with_capacity(alloc, outs.len())?;
     'outs: for out in outs {
         add_pair(bound, into, *out, &mut pairs)?;
     }

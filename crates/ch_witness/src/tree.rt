@@ -29,6 +29,9 @@ pub struct Tree {
     pub frontier: Frontier,
 }
 
+/// How many steps there is room for at first.
+const STEPS: usize = 32;
+
 impl Tree {
     /// The tree of a whole search, which settles at most so many nodes. What the frontier knew before is forgotten.
     pub fn new<S: RowSource>(
@@ -56,10 +59,8 @@ impl Tree {
     {
         let mut frontier = frontier;
         frontier.start(rule.from)?;
-        let mut tree = Tree {
-            steps: Vec::new(alloc),
-            frontier,
-        };
+        let steps = Vec::with_capacity(alloc, STEPS.min(settle as usize))?;
+        let mut tree = Tree { steps, frontier };
         if are_all(targets, rule.from) {
             return Ok(tree);
         }

@@ -12,5 +12,5 @@ of_propose e = Err e
 pub unreachable-requires-in-Err-Contracted : goal.unreachable-requires-in-Err-Contracted
 unreachable-requires-in-Err-Contracted g c =
     let found = c.in-Err-Contracted.ensures.contracted (ap of_propose c.in-Err-Contracted.field-0-is) in
-    let shown = subst (λ (b : Board). IsShown b found.0) c.propose.ensures.stays found.3 in
+    let shown = subst (λ (b : Board). IsShown b found.0) c.propose_with.ensures.stays found.3 in
     alive-unranked c.args.self.now c.log.ensures.holds.overlay c.args.node c.requires.alive found.0 found.1 shown found.4
