@@ -34,7 +34,7 @@ impl Change {
     }
 }
 
-// The new versions of the changed rows.
+/// The new versions of the changed rows.
 pub fn put_versions(all: &mut [u64], changed: &[(u32, Arc<Row>)], versions: &[u64])
     requires count { length versions.now ≡ length changed.now }
     requires in_range { All (λ a. a.0 < length all.old) changed.now }
@@ -45,7 +45,7 @@ pub fn put_versions(all: &mut [u64], changed: &[(u32, Arc<Row>)], versions: &[u6
     }
 }
 
-// The changed rows.
+/// The changed rows.
 pub fn put_rows(all: &mut [Arc<Row>], changed: Vec<(u32, Arc<Row>)>)
     requires { All (λ a. a.0 < length all.old) changed.items }
     ensures { all.new ≡ puts all.old changed.items }

@@ -6,7 +6,7 @@ ghost use Rattle.ch_overlay.specs.Opening.{AreLeast, ComesNoLater, have_same_end
 use ch_graph::Road;
 use std::alloc::{AllocError, Global};
 
-// The least arc of each pair of different nodes that has one, by its first node and then by its second.
+/// The least arc of each pair of different nodes that has one, by its first node and then by its second.
 pub fn least_arcs(alloc: Global, arcs: &[Road]) -> Result<Vec<Road>, AllocError>
     ensures { IfOk result (λ least. AreLeast arcs.now least.items) }
 {
@@ -15,7 +15,7 @@ pub fn least_arcs(alloc: Global, arcs: &[Road]) -> Result<Vec<Road>, AllocError>
     Ok(least)
 }
 
-// The arcs between different nodes, sorted by their ends and then by their weight.
+/// The arcs between different nodes, sorted by their ends and then by their weight.
 fn sorted_arcs(alloc: Global, arcs: &[Road]) -> Result<Vec<Road>, AllocError>
     ensures all { IfOk result (λ sorted. IsPermutation (filter (λ r. not (nat_eq r.from r.to)) arcs.now) sorted.items) }
     ensures sorted { IfOk result (λ sorted. AllPairs ComesNoLater sorted.items) }
@@ -26,7 +26,7 @@ fn sorted_arcs(alloc: Global, arcs: &[Road]) -> Result<Vec<Road>, AllocError>
     Ok(sorted)
 }
 
-// Whether both arcs leave the same node and come to the same node.
+/// Whether both arcs leave the same node and come to the same node.
 fn have_same_ends(a: Road, b: Road) -> bool
     ensures { result ≡ have_same_ends a b }
 {

@@ -4,8 +4,8 @@ ghost use Rattle.ch_overlay.specs.Merging.{merged};
 
 use ch_laws::Entry;
 
-// Goes through two lists of entries that rise by their other nodes, as one such list. Where both have an entry for a
-// node, the new one is given.
+/// Goes through two lists of entries that rise by their other nodes, as one such list. Where both have an entry for a
+/// node, the new one is given.
 #[derive(Drop)]
 pub struct Merge<'a> {
     old: &'a [Entry],

@@ -11,7 +11,7 @@ use ch_laws::Entry;
 use std::alloc::{AllocError, Global};
 use std::sync::Arc;
 
-// The rows of so many nodes with these arcs, in their order.
+/// The rows of so many nodes with these arcs, in their order.
 pub fn rows_of(alloc: Global, nodes: u32, arcs: &[Road]) -> Result<Vec<Row>, AllocError>
     requires from_in { All (λ r. r.from < nodes) arcs.now }
     requires to_in { All (λ r. r.to < nodes) arcs.now }
@@ -35,7 +35,7 @@ fn rows_without_arcs(alloc: Global, nodes: u32) -> Result<Vec<Row>, AllocError>
     Ok(rows)
 }
 
-// The arc joins the rows of its two nodes, which are in range.
+/// The arc joins the rows of its two nodes, which are in range.
 fn add_arc(rows: &mut [Row], arc: Road) -> Result<(), AllocError>
     requires from_in { arc.from < length rows.old }
     requires to_in { arc.to < length rows.old }
@@ -58,7 +58,7 @@ fn add_arc(rows: &mut [Row], arc: Road) -> Result<(), AllocError>
     Ok(())
 }
 
-// The same rows, to be shared.
+/// The same rows, to be shared.
 pub fn shared(alloc: Global, rows: Vec<Row>) -> Result<Vec<Arc<Row>>, AllocError>
     ensures { IfOk result (λ all. map arc_value all.items ≡ rows.items) }
 {
@@ -69,7 +69,7 @@ pub fn shared(alloc: Global, rows: Vec<Row>) -> Result<Vec<Arc<Row>>, AllocError
     Ok(all)
 }
 
-// The versions of so many nodes: x for node x.
+/// The versions of so many nodes: x for node x.
 pub fn first_versions(alloc: Global, nodes: u32) -> Result<Vec<u64>, AllocError>
     ensures { IfOk result (λ versions. versions.items ≡ range_with_len 0 nodes) }
 {

@@ -81,7 +81,7 @@ impl Overlay {
         (self.rows.len() - self.order.len()) as u32
     }
 
-    // How many nodes are contracted.
+    /// How many nodes are contracted.
     fn contracted(&self) -> u32
         ensures { result ≡ length self.now.order }
     {
@@ -189,7 +189,7 @@ mod tests {
         roads.iter().all(|road| road.from < nodes && road.to < nodes && road.weight > 0)
     }
 
-    // The overlay of a graph, or none where a road isn't allowed.
+    /// The overlay of a graph, or none where a road isn't allowed.
     fn overlay(alloc: Global, nodes: u32, roads: Vec<Road>) -> Result<Option<Overlay>, AllocError>
         ensures { IfOk result (λ found. IfSome found (λ o. o.order ≡ [])) }
     {
@@ -201,7 +201,7 @@ mod tests {
         Ok(Some(overlay))
     }
 
-    // The change of a contraction that puts no shortcut in, or none where the node isn't in range.
+    /// The change of a contraction that puts no shortcut in, or none where the node isn't in range.
     fn plan_without_shortcuts(overlay: &Overlay, node: u32) -> Result<Option<Change>, AllocError>
         requires { overlay.now.order ≡ [] }
         ensures { IfOk result (λ found. IfSome found (λ change. IsOf overlay.now change)) }
@@ -213,7 +213,7 @@ mod tests {
         Ok(Some(change))
     }
 
-    // Whether the row of a node has these entries and no rank.
+    /// Whether the row of a node has these entries and no rank.
     fn has_row(overlay: &Overlay, node: u32, out: &[Entry], inn: &[Entry]) -> bool {
         if node < overlay.nodes() {
             let row = overlay.row(node);
@@ -246,7 +246,7 @@ mod tests {
         Ok(())
     }
 
-    // Whether the new row is this node's, and has these entries and this rank.
+    /// Whether the new row is this node's, and has these entries and this rank.
     fn is_row(
         new: Option<&(u32, Arc<Row>)>,
         node: u32,

@@ -8,14 +8,14 @@ ghost use Rattle.ch_overlay.specs.Placing.{out_place, in_place, IsInOrder};
 use ch_laws::{Entry, Shortcut};
 use std::alloc::{AllocError, Global};
 
-// An entry for the row of the node `at`.
+/// An entry for the row of the node `at`.
 #[derive(Clone, Copy)]
 pub struct Placed {
     pub at: u32,
     pub entry: Entry,
 }
 
-// The entries of shortcuts in the rows of the nodes that they leave, in order. `middle` is the contracted node.
+/// The entries of shortcuts in the rows of the nodes that they leave, in order. `middle` is the contracted node.
 pub fn out_entries(
     alloc: Global,
     middle: u32,
@@ -29,7 +29,7 @@ pub fn out_entries(
     Ok(sorted(entries))
 }
 
-// The entries of shortcuts in the rows of the nodes that they come to, in order.
+/// The entries of shortcuts in the rows of the nodes that they come to, in order.
 pub fn in_entries(
     alloc: Global,
     middle: u32,
@@ -75,7 +75,7 @@ fn entries_in(alloc: Global, middle: u32, shortcuts: &[Shortcut]) -> Result<Vec<
     shortcuts.iter().map(entry_of).collect(alloc)
 }
 
-// The same entries by the nodes of their rows, and then by the other nodes.
+/// The same entries by the nodes of their rows, and then by the other nodes.
 fn sorted(mut entries: Vec<Placed>) -> Vec<Placed>
     ensures all { IsPermutation entries.items result.items }
     ensures sorted { AllPairs (λ a b. (a.at ≤ b.at) × (a.at ≡ b.at → a.entry.other ≤ b.entry.other)) result.items }
@@ -84,7 +84,7 @@ fn sorted(mut entries: Vec<Placed>) -> Vec<Placed>
     entries
 }
 
-// The entries for the row of one node, of entries in order. Looks at few of the others.
+/// The entries for the row of one node, of entries in order. Looks at few of the others.
 pub fn entries_at(alloc: Global, entries: &[Placed], node: u32) -> Result<Vec<Entry>, AllocError>
     requires { IsInOrder entries.now }
     ensures rises { IfOk result (λ found. Rises found.items) }
@@ -96,7 +96,7 @@ pub fn entries_at(alloc: Global, entries: &[Placed], node: u32) -> Result<Vec<En
     Ok(found)
 }
 
-// How many entries are for rows of nodes below this one.
+/// How many entries are for rows of nodes below this one.
 fn count_before(entries: &[Placed], node: u32) -> usize
     requires { IsInOrder entries.now }
     ensures bound { result ≤ length entries.now }
@@ -105,7 +105,7 @@ fn count_before(entries: &[Placed], node: u32) -> usize
     entries.partition_point(|placed| placed.at < node)
 }
 
-// How many entries are for rows of nodes below this one or of itself.
+/// How many entries are for rows of nodes below this one or of itself.
 fn count_up_to(entries: &[Placed], node: u32) -> usize
     requires { IsInOrder entries.now }
     ensures bound { result ≤ length entries.now }

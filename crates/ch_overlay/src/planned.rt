@@ -10,7 +10,7 @@ use crate::row::Row;
 use std::alloc::{AllocError, Global};
 use std::sync::Arc;
 
-// The row with its entries and this rank, to be shared.
+/// The row with its entries and this rank, to be shared.
 pub fn ranked_row(alloc: Global, row: &Row, rank: u32) -> Result<Arc<Row>, AllocError>
     ensures { IfOk result (λ new. arc_value new ≡ record row.now { rank = Some rank }) }
 {
@@ -19,8 +19,8 @@ pub fn ranked_row(alloc: Global, row: &Row, rank: u32) -> Result<Arc<Row>, Alloc
     Ok(shared)
 }
 
-// Adds the changed row of each of these neighbours. `gone` is the contracted node, and the entries are those of the
-// shortcuts, in order.
+/// Adds the changed row of each of these neighbours. `gone` is the contracted node, and the entries are those of the
+/// shortcuts, in order.
 pub fn push_changed(
     alloc: Global,
     rows: &mut Vec<(u32, Arc<Row>)>,
@@ -43,7 +43,7 @@ pub fn push_changed(
     Ok(())
 }
 
-// The row of a neighbour without the contracted node, and with the shortcuts at it.
+/// The row of a neighbour without the contracted node, and with the shortcuts at it.
 fn changed(
     alloc: Global,
     row: &Row,

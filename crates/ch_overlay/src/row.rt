@@ -30,7 +30,7 @@ impl Model for Row {
 }
 
 impl Row {
-    // The row of a node without arcs.
+    /// The row of a node without arcs.
     pub(crate) fn without_arcs(alloc: Global) -> Row
         ensures { result ≡ no_arcs }
     {
@@ -55,7 +55,7 @@ impl Row {
         Ok(())
     }
 
-    // The row with its entries and this rank.
+    /// The row with its entries and this rank.
     pub(crate) fn ranked(&self, alloc: Global, rank: u32) -> Result<Row, AllocError>
         ensures { IfOk result (λ row. row ≡ record self.now { rank = Some rank }) }
     {
@@ -68,7 +68,7 @@ impl Row {
         })
     }
 
-    // The row without its entries for `gone`, and with these in place of what it has for their nodes. All lists rise.
+    /// The row without its entries for `gone`, and with these in place of what it has for their nodes. All lists rise.
     pub(crate) fn changed(
         &self,
         alloc: Global,
@@ -90,7 +90,7 @@ impl Row {
         })
     }
 
-    // The nodes of its entries in either direction, rising, each once.
+    /// The nodes of its entries in either direction, rising, each once.
     pub(crate) fn others(&self, alloc: Global) -> Result<Vec<u32>, AllocError>
         ensures { IfOk result (λ nodes. nodes.items ≡ map (λ e. e.other) (merged self.now.out self.now.inn)) }
     {
@@ -99,7 +99,7 @@ impl Row {
     }
 }
 
-// The new entries and those old ones that none of them replaces, without the entry for `gone`.
+/// The new entries and those old ones that none of them replaces, without the entry for `gone`.
 fn replaced(
     alloc: Global,
     gone: u32,
