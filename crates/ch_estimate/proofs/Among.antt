@@ -1,5 +1,5 @@
 -- The nodes of a rising list, and their notes, one more at each step.
-use Rattle.std.proofs.Common.{◌≡◌, ℕ, ◌+◌, ◌<◌, ◌≤◌, ◌||◌, Bool, true, false, cond, List, nat_eq, length, take, get_or, AllPairs, All, refl, arith, ap, sym, ◌∙◌, length-take, get_or-take}
+use Rattle.std.proofs.Common.{◌≡◌, ℕ, ◌+◌, ◌<◌, ◌||◌, Bool, true, false, cond, List, nat_eq, length, take, get_or, AllPairs, refl, arith, ap, sym, ◌∙◌, length-take, get_or-take}
 use Rattle.std.proofs.lemmas.List.Folds.{list_any_more, list_any_none}
 use Rattle.std.proofs.lemmas.List.{get_or_default}
 use Rattle.std.proofs.lemmas.Bool.Decides.{nat_tests}

@@ -1,5 +1,5 @@
 -- The notes of a list of entries: one more entry, and a bound by their number.
-use Rattle.std.proofs.Common.{◌≡◌, ℕ, suc, ◌+◌, ◌<◌, ◌≤◌, max, Bool, true, false, cond, List, [], ◌∷◌, ◌++◌, length, refl, ap, sym, subst, ◌∙◌, arith}
+use Rattle.std.proofs.Common.{◌≡◌, ℕ, suc, ◌+◌, ◌≤◌, Bool, true, false, cond, List, [], ◌∷◌, ◌++◌, length, refl, ap, sym, ◌∙◌, arith}
 use Rattle.ch_laws.specs.Contraction.{Contraction}
 use Rattle.ch_estimate.specs.Notes.{Note, no_note, raised, is_among, noted, noted_all, note_of}
 

@@ -1,5 +1,5 @@
 -- The keys of nodes: nodes of smaller keys are contracted first.
-use Rattle.std.specs.Prelude.{ℕ, ◌+◌, ◌-◌, ◌^◌}
+use Rattle.std.specs.Prelude.{ℕ, ◌+◌, ◌-◌}
 use Rattle.ch_contract.specs.declared.facts.Facts.{Facts}
 use Rattle.ch_estimate.specs.Notes.{Note}
 

@@ -1,6 +1,6 @@
-use Rattle.std.proofs.Common.{◌≡◌, ℕ, ◌<◌, ◌+◌, cond, List, [], ◌∷◌, ◌++◌, nat_eq, unwrap_or, Option, length, ap, sym, subst, ◌∙◌, arith}
+use Rattle.std.proofs.Common.{◌≡◌, ℕ, List, unwrap_or, Option, length, ap, sym, ◌∙◌, arith}
 use Rattle.ch_laws.specs.Contraction.{Contraction}
-use Rattle.ch_estimate.specs.Notes.{Note, note_in, note_of, no_note, raised, is_among, noted}
+use Rattle.ch_estimate.specs.Notes.{Note, note_in, note_of, no_note}
 use Rattle.ch_estimate.proofs.Told.{note_low, taken_in}
 use Rattle.ch_estimate.proofs.work_space.WorkSpace.told.Goals as goal
 
