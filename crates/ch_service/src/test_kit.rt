@@ -1,4 +1,4 @@
-ghost use Rattle.std.specs.Prelude.{◌≡◌, [], All, IfOk, vec_len};
+ghost use Rattle.std.specs.Prelude.{◌≡◌, [], All, IfOk};
 
 use crate::{ServiceError, answer, prepare};
 use ch_estimate::{Estimator, Leases};
