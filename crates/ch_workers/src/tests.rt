@@ -1,6 +1,7 @@
 mod drops;
 mod gates;
 mod kit;
+mod leases;
 mod lengths;
 mod orders;
 mod refusals;

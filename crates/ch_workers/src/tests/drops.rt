@@ -1,6 +1,6 @@
 ghost use Rattle.std.specs.Prelude.{◌≡◌, [], All, IfOk};
 
-use super::kit::{ONE, a_list_each, tie};
+use super::kit::{Lists, ONE, a_list_each, tie};
 use crate::{BuildError, Built, OpenGate, Options, build};
 use ch_contract::{Contraction, Facts};
 use ch_estimate::{EdgeDifference, Estimator, Lease, Leases, Note};
@@ -9,9 +9,6 @@ use std::sync::atomic::{AtomicU64, Ordering};
 use std::sync::{Arc, Wait};
 use std::test::Fail;
 use std::thread::Threads;
-
-/// The estimators of each worker.
-type Lists = Vec<Vec<Box<dyn Estimator + Send>>>;
 
 /// What the estimators of a test leave behind: how many entries they were told, what they add up to by their places,
 /// and how many estimators were dropped.

@@ -131,6 +131,20 @@ impl Estimator for Chooser {
     }
 }
 
+/// The estimators of each worker.
+pub(crate) type Lists = Vec<Vec<Box<dyn Estimator + Send>>>;
+
+/// So many lists without estimators.
+pub(crate) fn empty_lists(alloc: Global, count: u32) -> Result<Lists, AllocError>
+    ensures untold { IfOk result (λ lists. All (λ list. All (λ estimator. heard estimator ≡ []) list.items) lists.items) }
+{
+    let mut lists = Vec::new(alloc);
+    'lists: for _ in 0..count {
+        lists.push(Vec::new(alloc))?;
+    }
+    Ok(lists)
+}
+
 /// So many lists, each of one thing that is made for a lease of its own.
 pub(crate) fn a_list_each<T: Drop, F: Fn(Lease) -> Result<T, AllocError>>(
     alloc: Global,

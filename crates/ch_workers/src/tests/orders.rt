@@ -1,4 +1,4 @@
-use super::kit::{Keys, ONE, built_by, row, star, tie};
+use super::kit::{Keys, ONE, built_by, empty_lists, row, star, tie};
 use super::stations::Trail;
 use crate::{Built, OpenGate, Options, build};
 use ch_contract::Receipt;
@@ -119,8 +119,7 @@ fn a_tie_by_one_turn_and_the_sweep(rt: HostRuntime) -> Result<(), Fail> {
 fn a_worker_without_estimators(rt: HostRuntime) -> Result<(), Fail> {
     let alloc = rt.alloc();
     let mut leases = Leases::new(alloc)?;
-    let mut lists = Vec::new(alloc);
-    lists.push(Vec::new(alloc))?;
+    let lists = empty_lists(alloc, 1)?;
     let graph = row(alloc)?;
     let built = build(&rt, alloc, graph, ONE, lists, &mut leases, &OpenGate)?;
     let order = [receipt(0, 0), receipt(1, 1), receipt(2, 2)];

@@ -1,26 +1,10 @@
-ghost use Rattle.std.specs.Prelude.{◌≡◌, [], All, IfOk};
-
-use super::kit::{ONE, row};
+use super::kit::{ONE, empty_lists, row};
 use crate::{BuildError, OpenGate, Options, build};
-use ch_estimate::{Estimator, Leases};
-use std::alloc::{AllocError, Global};
+use ch_estimate::Leases;
+use std::alloc::Global;
 use std::sync::Wait;
 use std::test::Fail;
 use std::thread::Threads;
-
-/// The estimators of each worker.
-type Lists = Vec<Vec<Box<dyn Estimator + Send>>>;
-
-/// So many lists without estimators.
-fn empty_lists(alloc: Global, count: u32) -> Result<Lists, AllocError>
-    ensures untold { IfOk result (λ lists. All (λ list. All (λ estimator. heard estimator ≡ []) list.items) lists.items) }
-{
-    let mut lists = Vec::new(alloc);
-    'lists: for _ in 0..count {
-        lists.push(Vec::new(alloc))?;
-    }
-    Ok(lists)
-}
 
 /// Whether a build by these options and so many lists answers that they are bad.
 fn is_refused<R: Threads + Wait + Sync>(

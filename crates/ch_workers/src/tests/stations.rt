@@ -6,7 +6,7 @@ use std::thread;
 const LOOKS: u64 = 100_000_000;
 
 /// Looks at a word until it is this number. False where it isn't at the last look.
-fn comes_to(word: &AtomicU64, number: u64) -> bool {
+pub(crate) fn comes_to(word: &AtomicU64, number: u64) -> bool {
     'looks: for look in 0..LOOKS {
         if word.load(Ordering::SeqCst) == number {
             return true;
