@@ -1,5 +1,5 @@
 -- What a place of a list holds.
-use Rattle.std.proofs.Common.{◌≡◌, ℕ, ◌<◌, List, [], ◌∷◌, Option, Some, None, length, slice_index_or, All, map, refl, sym, subst, ap, arith, zero, suc}
+use Rattle.std.proofs.Common.{◌≡◌, ℕ, ◌<◌, List, [], ◌∷◌, Some, length, slice_index_or, All, map, refl, sym, subst, ap, arith, zero, suc}
 use Rattle.std.specs.List.{slice_get}
 
 -- what is read at a place, whatever stands for what isn't there, stands there

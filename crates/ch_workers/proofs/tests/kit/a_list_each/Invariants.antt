@@ -1,4 +1,4 @@
-use Rattle.std.proofs.Common.{◌≡◌, All}
+use Rattle.std.proofs.Common.{All}
 use Rattle.std.specs.Prelude.{Ok}
 use Rattle.ch_estimate.specs.declared.lease.Lease.{Lease}
 use Rattle.ch_workers.proofs.tests.kit.a_list_each.Given as goal
