@@ -7,11 +7,11 @@ pairs, one after the other on this machine.
 Each answer's length is compared with that of the plain search, and its nodes are followed along the arcs of the
 network: the least arcs between them have to sum to that length. It needs g++ and the proved program
 crates/routecli/out/routecli (README.md says how to build it). Times are of whole runs, reading included: the best of
-three. Memory is the greatest resident size, of which up to 15 MB may be this script's own. `prepare` contracts the
-nodes in the order of their numbers, which fills in fast, and `answer` prepares for each call: both are left out above
-a side of 128. Reading the graph is `answer` with a text of pairs that is refused. The paces count the pairs that are
-answered in a second, what is read before left out. The textbook hierarchy contracts in an adaptive order; its times are
-those of its preparation alone and of its lengths, without routes.
+three. Memory is the greatest resident size, of which up to 15 MB may be this script's own. `prepare` goes by one worker
+here; prepare.py has the other numbers of workers and orders. `answer` prepares for each call in the order of the node
+numbers, which fills in fast: it is left out above a side of 128. Reading the graph is `answer` with a text of pairs that
+is refused. The paces count the pairs that are answered in a second, what is read before left out. The times of the
+textbook hierarchy are those of its preparation alone and of its lengths, without routes.
 """
 import itertools
 import os
@@ -24,7 +24,7 @@ import time
 ROOT = pathlib.Path(__file__).resolve().parent.parent
 PROGRAM = ROOT / "crates/routecli/out/routecli"
 PAIRS = 100
-MOST_PREPARED = 128
+MOST_ANSWERED = 128
 
 
 def run(words, out, wanted=0):
@@ -99,6 +99,16 @@ def textbook(program, graph, pairs, theirs, folder):
     return [f"{prepared:.3f} s", f"{links:.1f}", f"{PAIRS / max(answered, 0.001):,.0f}"]
 
 
+def answer_cell(side, graph, pairs, least, folder):
+    """What `answer` takes, or nothing where the network is too large for it."""
+    if side > MOST_ANSWERED:
+        return ""
+    answered = run([PROGRAM, "answer", graph, pairs], folder / "answered")
+    if not are_answers(folder / "answered", folder / "theirs", least):
+        sys.exit(f"side {side}: what was answered differs")
+    return cell(answered)
+
+
 def times_of(side, plain, hierarchy, folder):
     graph, pairs, file = folder / "network.gr", folder / "network.pairs", folder / "network.rch"
     words = [sys.executable, ROOT / "bench/make_network.py", str(side), str(PAIRS), "1", graph, pairs]
@@ -110,18 +120,15 @@ def times_of(side, plain, hierarchy, folder):
     cells.append(cell(run([PROGRAM, "answer", graph, folder / "bad.pairs"], os.devnull, wanted=5)))
     cells.append(cell(run([plain, graph, pairs], folder / "theirs")))
     beside = textbook(hierarchy, graph, pairs, folder / "theirs", folder)
-    if side > MOST_PREPARED:
-        return cells + [""] * 5 + beside
-    answered = run([PROGRAM, "answer", graph, pairs], folder / "answered")
-    prepared = run([PROGRAM, "prepare", graph, file], os.devnull)
+    cells.append(answer_cell(side, graph, pairs, least, folder))
+    prepared = run([PROGRAM, "prepare", "--workers", "1", graph, file], os.devnull)
     routed = run([PROGRAM, "route", file, pairs], folder / "routed")
     read, _ = run([PROGRAM, "route", file, folder / "no.pairs"], os.devnull)
-    for name in ["answered", "routed"]:
-        if not are_answers(folder / name, folder / "theirs", least):
-            sys.exit(f"side {side}: what was {name} differs")
+    if not are_answers(folder / "routed", folder / "theirs", least):
+        sys.exit(f"side {side}: what was routed differs")
     pace = PAIRS / max(routed[0] - read, 0.001)
-    links = f"{links_in(file) / arcs:.1f}"
-    return cells + [cell(answered), cell(prepared), links, cell(routed), f"{pace:,.0f}"] + beside
+    links = f"{links_in(file) / arcs:.2f}"
+    return cells + [cell(prepared), links, cell(routed), f"{pace:,.0f}"] + beside
 
 
 def main():
@@ -144,4 +151,5 @@ def main():
             print("| " + " | ".join(times_of(side, plain, hierarchy, folder)) + " |", flush=True)
 
 
-main()
+if __name__ == "__main__":
+    main()

@@ -1,0 +1,100 @@
+#!/usr/bin/env python3
+"""Times `routecli prepare` by workers and orders on the same networks, beside the sweep and a textbook hierarchy in
+C++ (hierarchy.cpp), one after the other on this machine, and then `routecli route`.
+
+    bench/prepare.py [SIDE ..]        sides of the square networks, by default 100 316
+
+For each number of workers and each order: seconds of the whole run, reading included, the best of three; links for
+each arc of the network; and the greatest resident size, of which up to 15 MB may be this script's own. The sweep
+(`--workers 0`) contracts in the order of the node numbers and is left out above a side of 128. Then 10,000 pairs are
+routed by the hierarchy of one worker and the first order, and every length is compared with the textbook's; all
+other hierarchies of the network answer 100 pairs, which are compared too. It needs g++ and the proved program
+crates/routecli/out/routecli (README.md says how to build it).
+"""
+import pathlib
+import subprocess
+import sys
+import tempfile
+
+from run import PROGRAM, ROOT, arcs_in, links_in, run
+
+PAIRS = 10_000
+FEW = 100
+MOST_SWEPT = 128
+ORDERS = ["edges", "neighbours", "depth"]
+WORKERS = [1, 2, 4]
+
+
+def lengths_in(file):
+    """Of each line the pair and its length, or the pair alone."""
+    with open(file) as lines:
+        return [line.split()[:4] for line in lines]
+
+
+def network(side, pairs, folder):
+    graph, queries = folder / "network.gr", folder / f"{pairs}.pairs"
+    words = [sys.executable, ROOT / "bench/make_network.py", str(side), str(pairs), "1", graph, queries]
+    subprocess.run(words, check=True)
+    return graph, queries
+
+
+def textbook(program, graph, queries, answers):
+    with open(answers, "wb") as sink:
+        said = subprocess.run([program, graph, queries], check=True, stdout=sink, stderr=subprocess.PIPE).stderr.split()
+    return [float(word) for word in said]
+
+
+def prepared(graph, file, workers, order):
+    words = [PROGRAM, "prepare", "--workers", str(workers), "--order", order, graph, file]
+    return run(words, "/dev/null")
+
+
+def check(file, queries, wanted, folder):
+    seconds, memory = run([PROGRAM, "route", file, queries], folder / "routed")
+    if lengths_in(folder / "routed") != lengths_in(wanted):
+        sys.exit("the lengths differ")
+    return seconds, memory
+
+
+def row(name, measured, links, arcs):
+    seconds, memory = measured
+    print(f"| {name} | {seconds:.3f} s | {links / arcs:.2f} | {memory:.0f} MB |", flush=True)
+
+
+def times_of(side, program, folder):
+    graph, few = network(side, FEW, folder)
+    graph, many = network(side, PAIRS, folder)
+    arcs = arcs_in(graph)
+    textbook(program, graph, few, folder / "few.wanted")
+    seconds, links, answered = textbook(program, graph, many, folder / "many.wanted")
+    print(f"\n{side * side:,} nodes, {arcs:,} arcs\n")
+    print("| workers, order | prepare | links per arc | memory |")
+    print("|---" * 4 + "|")
+    if side <= MOST_SWEPT:
+        file = folder / "sweep.rch"
+        row("0 (the sweep)", prepared(graph, file, 0, "edges"), links_in(file), arcs)
+        check(file, few, folder / "few.wanted", folder)
+    for order in ORDERS:
+        for workers in WORKERS:
+            file = folder / f"{order}{workers}.rch"
+            row(f"{workers}, {order}", prepared(graph, file, workers, order), links_in(file), arcs)
+            check(file, few, folder / "few.wanted", folder)
+    print(f"| textbook in C++, preparation alone | {seconds:.3f} s | {links:.2f} | |")
+    seconds, memory = check(folder / "edges1.rch", many, folder / "many.wanted", folder)
+    print(f"\n{PAIRS:,} pairs: route {seconds:.2f} s, {memory:.0f} MB; textbook in C++, lengths alone {answered:.2f} s")
+
+
+def main():
+    sides = [int(word) for word in sys.argv[1:]] or [100, 316]
+    if not PROGRAM.exists():
+        sys.exit(f"{PROGRAM} isn't built: README.md says how")
+    with tempfile.TemporaryDirectory() as folder:
+        folder = pathlib.Path(folder)
+        program = folder / "hierarchy"
+        subprocess.run(["g++", "-O3", "-std=c++17", "-o", program, ROOT / "bench/hierarchy.cpp"], check=True)
+        for side in sides:
+            times_of(side, program, folder)
+
+
+if __name__ == "__main__":
+    main()
