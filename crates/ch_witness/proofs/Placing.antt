@@ -1,9 +1,9 @@
 -- Nodes that are chained, one after the other.
-use Rattle.std.proofs.Common.{ℕ, ◌≡◌, ◌≢◌, ◌+◌, ◌-◌, ◌*◌, ◌/◌, ◌^◌, ◌<◌, ◌≤◌, List, [], ◌∷◌, ◌++◌, get_or, length, set, slice_index, Option, Some, None, refl, ap, sym, subst, ◌∙◌, arith, inl, inr, nat_eq, get_or-set_same, get_or-set_other}
+use Rattle.std.proofs.Common.{ℕ, ◌≡◌, ◌≢◌, ◌+◌, ◌-◌, ◌*◌, ◌/◌, ◌^◌, ◌<◌, List, [], ◌∷◌, ◌++◌, length, set, slice_index, refl, ap, sym, subst, ◌∙◌, arith, inl, inr, get_or-set_same, get_or-set_other}
 use Rattle.std.proofs.lemmas.Bool.{cases_eq}
 use Rattle.std.proofs.lemmas.Nat.{and_le_r}
 use Rattle.std.proofs.lemmas.List.{get_or_append_left, get_or_push, length-set, length_push, set-get_or}
-use Rattle.ch_witness.specs.Places.{bucket, AreChained, IsFirstAt, IsHead, IsIndex, value_in}
+use Rattle.ch_witness.specs.Places.{bucket, AreChained, IsHead, IsIndex}
 
 -- the same for a list that has the same first n nodes
 head_same : (nodes more : List ℕ) (n count b p : ℕ) → ((j : ℕ) → j < n → slice_index more j ≡ slice_index nodes j) → IsHead nodes n count b p → IsHead more n count b p

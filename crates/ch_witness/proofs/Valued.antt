@@ -1,5 +1,5 @@
 -- Values that stand where their nodes do.
-use Rattle.std.proofs.Common.{ℕ, ◌≡◌, ◌≢◌, ◌+◌, ◌<◌, List, [], ◌∷◌, ◌++◌, get_or, length, set, slice_index, Option, Some, None, zero, suc, true, false, Bool, cond, refl, ap, sym, subst, ◌∙◌, arith, inl, inr, nat_eq, get_or-set_same}
+use Rattle.std.proofs.Common.{ℕ, ◌≡◌, ◌≢◌, ◌<◌, List, [], ◌∷◌, ◌++◌, get_or, length, set, slice_index, Option, Some, None, zero, suc, true, false, Bool, cond, refl, ap, sym, subst, ◌∙◌, arith, nat_eq, get_or-set_same}
 use Rattle.std.proofs.lemmas.Bool.Decides.{nat_tests}
 use Rattle.std.proofs.lemmas.List.{length-set}
 use Rattle.ch_witness.specs.Places.{IsFirstAt, value_in}

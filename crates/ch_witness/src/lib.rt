@@ -1,12 +1,12 @@
 //! Searches for witnesses: ways that avoid a node, along the rows that a source answers.
 //!
 //! Stands on `ch_overlay`, of which it uses what a [`ch_overlay::RowSource`] promises, on `ch_laws` for the words of
-//! rows and ways, and on `smallvec` for the nodes of a way. It has two calls, and both give a [`Found`]. [`search`] is
-//! for one search: it hands over the source's own answers. [`search_with`] is for several searches that are to rest on
-//! the same answers: it reads through [`Rows`], which asks the source for each row once and keeps the answer, and hands
-//! over copies; [`Rows::into_listed`] gives the answers at the end. Their contracts carry the promise of the layer: each
-//! way goes along rows that the source showed and that are handed over with it, avoids the node, and costs what its
-//! arcs do.
+//! rows and ways, and on `smallvec` for the nodes of a way. Its calls give a [`Found`]. [`search`] is for one search:
+//! it hands over the source's own answers. [`search_with`] is for several searches that are to rest on the same
+//! answers: it reads through [`Rows`], which asks the source for each row once and keeps the answer, and hands over
+//! copies; [`Rows::into_listed`] gives the answers at the end. [`search_in`] is the same in memory that is used again.
+//! Their contracts carry the promise of the layer: each way goes along rows that the source showed and that are handed
+//! over with it, avoids the node, and costs what its arcs do.
 #![tactic(auto)]
 
 mod copying;

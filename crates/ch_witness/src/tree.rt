@@ -97,18 +97,26 @@ impl Tree {
         ensures found { AllNamed (S.whole source.old) (kept_of rows.old) → AllAre (S.whole source.old) (labels_of self.old.frontier) → result ≡ Err Unseen → ⊥ }
         ensures names { AllNamed (S.whole source.old) (kept_of rows.old) → AllAre (S.whole source.old) (labels_of self.old.frontier) → OnOk result (AllNamed (S.whole source.new) (kept_of rows.new)) }
     {
-        let mut done = 0;
+        let mut done = self.settled_targets(targets, 0);
         'turns: for _ in 0..turns {
             let Some(reached) = self.frontier.settle_next() else {
                 break;
             };
-            done = self.settled_targets(targets, done);
+            done = self.settled_after(targets, done, reached.node);
             if done >= targets.len() {
                 break;
             }
             self.go_on_from(source, rows, rule, reached)?;
         }
         Ok(())
+    }
+
+    /// The same as [`Tree::settled_targets`], where this node alone was settled since so many were.
+    fn settled_after(&self, targets: &[u32], known: usize, node: u32) -> usize {
+        if known < targets.len() && targets[known] != node {
+            return known;
+        }
+        self.settled_targets(targets, known)
     }
 
     /// How many targets at the beginning of the list are settled, where it is known of so many.

@@ -1,4 +1,4 @@
-use Rattle.std.proofs.Common.{ℕ, ◌≡◌, ◌≢◌, ◌<◌, ◌≤◌, length, slice_index}
+use Rattle.std.proofs.Common.{ℕ, ◌≢◌, ◌<◌, ◌≤◌, length, slice_index}
 use Rattle.ch_witness.specs.Places.{IsHead, bucket}
 use Rattle.ch_witness.proofs.node_index.find_from.Given as goal
 

@@ -1,4 +1,3 @@
-use Rattle.std.proofs.Common.{◌≡◌, length}
 use Rattle.ch_witness.specs.Places.{AreChained}
 use Rattle.ch_witness.proofs.node_index.link_all.Given as goal
 

@@ -1,4 +1,4 @@
-use Rattle.std.proofs.Common.{ℕ, Bool, ◌≡◌, ◌≢◌, true, false, Option, Some, sym, subst, ap, ◌∙◌, slice_index}
+use Rattle.std.proofs.Common.{Bool, ◌≡◌, true, false, Some, sym, subst, ap, ◌∙◌}
 use Rattle.ch_witness.specs.declared.label.Label.{Label}
 use Rattle.ch_witness.specs.Frontier.{Improves}
 use Rattle.ch_witness.specs.Tree.{labels_of}

@@ -1,4 +1,4 @@
-use Rattle.std.proofs.Common.{ℕ, Bool, ◌≡◌, Some, sym, ap, ◌∙◌}
+use Rattle.std.proofs.Common.{Bool, ◌≡◌, Some, sym, ap, ◌∙◌}
 use Rattle.ch_witness.specs.declared.label.Label.{Label}
 use Rattle.ch_witness.specs.Tree.{labels_of}
 use Rattle.ch_witness.proofs.Valued.{value_elsewhere, value_found, value_written}

@@ -1,6 +1,6 @@
-use Rattle.std.proofs.Common.{ℕ, List, ◌≡◌, ◌≢◌, ◌++◌, ◌∷◌, [], ◌<◌, length, slice_index, refl, sym, subst, ap, ◌∙◌, arith}
+use Rattle.std.proofs.Common.{ℕ, List, ◌≡◌, ◌≢◌, ◌++◌, ◌∷◌, [], ◌<◌, length, slice_index, sym, subst, ap, ◌∙◌, arith}
 use Rattle.std.proofs.lemmas.List.{get_or_read}
-use Rattle.ch_witness.specs.Places.{AreChained, IsIndex, bucket}
+use Rattle.ch_witness.specs.Places.{AreChained, bucket}
 use Rattle.ch_witness.proofs.Placing.{index_pushed}
 use Rattle.ch_witness.proofs.node_index.NodeIndex.push.Goals as goal
 

@@ -1,4 +1,4 @@
-use Rattle.std.proofs.Common.{Some, sym, subst, ap, ◌∙◌}
+use Rattle.std.proofs.Common.{sym, ap, ◌∙◌}
 use Rattle.ch_witness.specs.Kept.{joined}
 use Rattle.ch_witness.proofs.Valued.{value_absent, value_elsewhere, value_found, value_written}
 use Rattle.ch_witness.proofs.rows.Rows.take.Goals as goal
