@@ -13,6 +13,7 @@ pub struct Merge<'a> {
 }
 
 impl<'a> Merge<'a> {
+    /// Before the first entry of both.
     pub fn new(old: &'a [Entry], new: &'a [Entry]) -> Merge<'a>
         ensures old { result.old.now ≡ old.now }
         ensures new { result.new.now ≡ new.now }
