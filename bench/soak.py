@@ -33,7 +33,7 @@ def write_network(draw, graph, queries):
 
 def output_of(words, file):
     with open(file, "wb") as sink:
-        subprocess.run(words, check=True, stdout=sink)
+        subprocess.run(words, check=True, stdout=sink, stderr=subprocess.DEVNULL)
 
 
 def main():
