@@ -1,0 +1,196 @@
+#!/usr/bin/env python3
+"""Compares files of `routecli prepare`, byte for byte, with those of a plain program that is written here anew by the
+rules of docs/ALGORITHM.md and docs/FORMATS.md.
+
+    bench/by_the_rules.py [NETWORKS]        by default 100 random small networks
+
+With no worker, and with one, the rules and the seed determine the file. Each network is prepared by the sweep, and by
+one worker in each order. It needs the proved program crates/routecli/out/routecli (README.md says how to build it).
+"""
+import heapq
+import pathlib
+import random
+import struct
+import subprocess
+import sys
+import tempfile
+
+from run import PROGRAM
+
+SETTLE, DEFER, HEAPS = 64, 16, 2
+ORDERS = ["edges", "neighbours", "depth"]
+WORD = (1 << 64) - 1
+HEAVIEST = 4_294_967_295
+
+
+class Draws:
+    """The PCG of 32 bits of the first pass of a queue."""
+
+    def __init__(self, seed):
+        self.state = (seed + 1) & WORD
+        self.step()
+
+    def step(self):
+        self.state = (self.state * 6364136223846793005 + 1) & WORD
+
+    def next(self):
+        state = self.state
+        self.step()
+        word, turn = (((state >> 18) ^ state) >> 27) & 0xFFFFFFFF, state >> 59
+        return ((word >> turn) | (word << (-turn & 31))) & 0xFFFFFFFF
+
+
+class Rows:
+    """For each node its entries out and in, as other node: (cost, middle), its rank, and the log."""
+
+    def __init__(self, nodes, arcs):
+        self.out = [{} for _ in range(nodes)]
+        self.inn = [{} for _ in range(nodes)]
+        self.rank = [None] * nodes
+        self.log = []
+        self.bound = max(nodes - 1, 0) * max((weight for _, _, weight in arcs), default=0)
+        for u, v, weight in arcs:
+            if u != v and weight < self.out[u].get(v, (weight + 1, None))[0]:
+                self.put(u, v, weight, None)
+
+    def put(self, u, v, cost, middle):
+        self.out[u][v] = (cost, middle)
+        self.inn[v][u] = (cost, middle)
+
+    def search(self, start, avoid, cutoff, targets):
+        """What each node costs that the search has come to."""
+        costs, settled, waiting = {start: 0}, set(), [(0, start)]
+        while waiting and len(settled) < SETTLE:
+            cost, node = heapq.heappop(waiting)
+            if node in settled:
+                continue
+            settled.add(node)
+            if targets <= settled:
+                break
+            for other, (more, _) in self.out[node].items():
+                known = costs.get(other, cutoff + 1)
+                if other != avoid and other not in settled and cost + more < known:
+                    costs[other] = cost + more
+                    heapq.heappush(waiting, (cost + more, other))
+        return costs
+
+    def shortcuts(self, node):
+        """The shortcuts that a contraction of the node would put in."""
+        found = []
+        for u, (first, _) in sorted(self.inn[node].items()):
+            sums = {w: first + second for w, (second, _) in sorted(self.out[node].items()) if w != u}
+            sums = {w: cost for w, cost in sums.items() if cost <= self.bound}
+            if sums:
+                costs = self.search(u, node, max(sums.values()), set(sums))
+                found += [(u, w, cost) for w, cost in sums.items() if costs.get(w, cost + 1) > cost]
+        return found
+
+    def contract(self, node, shortcuts):
+        self.rank[node] = len(self.log)
+        self.log.append((node, sorted({*self.out[node], *self.inn[node]})))
+        for u in self.inn[node]:
+            del self.out[u][node]
+        for w in self.out[node]:
+            del self.inn[w][node]
+        for u, w, cost in shortcuts:
+            self.put(u, w, cost, node)
+
+    def file(self):
+        links = [(node, w, *link) for node, out in enumerate(self.out) for w, link in out.items()]
+        links += [(u, node, *link) for node, inn in enumerate(self.inn) for u, link in inn.items()]
+        parts = [b"RCH1", struct.pack(">IQQ", len(self.rank), len(links), self.bound)]
+        parts += [struct.pack(">I", rank) for rank in self.rank]
+        for u, w, cost, middle in sorted(links):
+            parts.append(struct.pack(">IIQI", u, w, cost, 0xFFFFFFFF if middle is None else middle))
+        return b"".join(parts)
+
+
+class Queue:
+    def __init__(self, seed):
+        self.draws = Draws(seed)
+        self.heaps = [[] for _ in range(HEAPS)]
+
+    def drawn(self):
+        return self.heaps[self.draws.next() % HEAPS]
+
+    def push(self, item):
+        heapq.heappush(self.drawn(), item)
+
+    def pop(self):
+        first, second = self.drawn(), self.drawn()
+        for heap in sorted([first, second], key=lambda heap: heap[:1] or [(float("inf"), 0)]) + self.heaps:
+            if heap:
+                return heapq.heappop(heap)
+        return None
+
+
+def sweep(rows):
+    for node in range(len(rows.rank)):
+        rows.contract(node, rows.shortcuts(node))
+
+
+def work(rows, seed, order):
+    """One worker's turns."""
+    queue, told, put_back = Queue(seed), 0, 0
+    depth, gone = [0] * len(rows.rank), [0] * len(rows.rank)
+
+    def key(node, shortcuts):
+        arcs = 67_108_864 + len(shortcuts) - len(rows.inn[node]) - len(rows.out[node])
+        return arcs + {"edges": 0, "neighbours": gone[node], "depth": depth[node]}[order]
+
+    for node in range(len(rows.rank)):
+        queue.push((key(node, rows.shortcuts(node)), node))
+    while (item := queue.pop()) is not None:
+        known, node = item
+        if rows.rank[node] is not None:
+            continue
+        shortcuts = rows.shortcuts(node)
+        for entry, neighbours in rows.log[told:]:
+            for other in neighbours:
+                gone[other] += 1
+                depth[other] = max(depth[other], depth[entry] + 1)
+        told = len(rows.log)
+        if key(node, shortcuts) > known and put_back < DEFER:
+            put_back += 1
+            queue.push((key(node, shortcuts), node))
+        else:
+            put_back = 0
+            rows.contract(node, shortcuts)
+
+
+def random_network(draw):
+    nodes, most = draw.choice([0, 1, 2, 3, 5, 8, 13, 30, 60, 120]), draw.choice([1, 3, 20, 1000, HEAVIEST])
+    if nodes < 9 or draw.random() < 0.5:
+        count = draw.randint(0, 4 * nodes)
+        return nodes, [(draw.randrange(nodes), draw.randrange(nodes), draw.randint(1, most)) for _ in range(count)]
+    side = int(nodes**0.5)
+    arcs = []
+    for node in range(side * side):
+        for other in [node + 1] * (node % side < side - 1) + [node + side] * (node < side * (side - 1)):
+            arcs += [(u, v, draw.randint(1, most)) for u, v in [(node, other), (other, node)] if draw.random() < 0.9]
+    return side * side, arcs
+
+
+def main():
+    networks = int(sys.argv[1]) if len(sys.argv) > 1 else 100
+    if not PROGRAM.exists():
+        sys.exit(f"{PROGRAM} isn't built: README.md says how")
+    draw = random.Random(1)
+    with tempfile.TemporaryDirectory() as folder:
+        graph, file = pathlib.Path(folder) / "network.gr", pathlib.Path(folder) / "network.rch"
+        for network in range(networks):
+            nodes, arcs = random_network(draw)
+            text = "".join(f"a {u + 1} {v + 1} {weight}\n" for u, v, weight in arcs)
+            graph.write_text(f"p sp {nodes} {len(arcs)}\n{text}")
+            seed = draw.choice([0, 1, WORD, draw.getrandbits(64)])
+            for workers, order in [(0, "edges"), *((1, order) for order in ORDERS)]:
+                options = ["--workers", str(workers), "--seed", str(seed), "--order", order]
+                subprocess.run([PROGRAM, "prepare", *options, graph, file], check=True)
+                rows = Rows(nodes, arcs)
+                sweep(rows) if workers == 0 else work(rows, seed, order)
+                if file.read_bytes() != rows.file():
+                    sys.exit(f"network {network}, {' '.join(options)}: the files differ")
+    print(f"{networks} networks: all files are equal")
+
+
+main()
