@@ -7,7 +7,7 @@ C++ (hierarchy.cpp), one after the other on this machine, and then `routecli rou
 For each number of workers and each order: seconds of the whole run, reading included, the best of three; links for
 each arc of the network; and the greatest resident size, of which up to 15 MB may be this script's own. The sweep
 (`--workers 0`) contracts in the order of the node numbers and is left out above a side of 128. Then 10,000 pairs are
-routed by the hierarchy of one worker and the first order, and every length is compared with the textbook's; all
+routed once by the hierarchy of one worker and the first order, and every length is compared with the textbook's; all
 other hierarchies of the network answer 100 pairs, which are compared too. It needs g++ and the proved program
 crates/routecli/out/routecli (README.md says how to build it).
 """
@@ -50,7 +50,7 @@ def prepared(graph, file, workers, order):
 
 
 def check(file, queries, wanted, folder):
-    seconds, memory = run([PROGRAM, "route", file, queries], folder / "routed")
+    seconds, memory = run([PROGRAM, "route", file, queries], folder / "routed", rounds=1)
     if lengths_in(folder / "routed") != lengths_in(wanted):
         sys.exit("the lengths differ")
     return seconds, memory

@@ -27,9 +27,9 @@ PAIRS = 100
 MOST_ANSWERED = 128
 
 
-def run(words, out, wanted=0):
+def run(words, out, wanted=0, rounds=3):
     best, memory = None, 0
-    for _ in range(3):
+    for _ in range(rounds):
         start = time.perf_counter()
         with open(out, "wb") as sink:
             child = subprocess.Popen(words, stdout=sink, stderr=subprocess.DEVNULL)
