@@ -1,8 +1,9 @@
 // A textbook contraction hierarchy, to compare with: nodes by edge difference with lazy updates, witness searches that
 // settle at most 64 nodes, and a query by two upward searches that meet.
 //
-//     hierarchy GRAPH PAIRS    reads both, prepares, answers, and prints the times on standard error:
-//                              seconds to prepare, links per arc, seconds to answer. Lines `r S T LENGTH` or `n S T`.
+//     hierarchy GRAPH PAIRS [OUT]    reads both, prepares, answers, and prints the times on standard error:
+//                                    seconds to prepare, links per arc, seconds to answer. Lines `r S T LENGTH` or
+//                                    `n S T`. The hierarchy's file goes to OUT, in the form of docs/FORMATS.md.
 #include <algorithm>
 #include <chrono>
 #include <cstdint>
@@ -14,26 +15,28 @@
 using Cost = std::uint64_t;
 struct Arc {
     std::uint32_t other;
+    std::uint32_t middle;
     Cost cost;
 };
 using Rows = std::vector<std::vector<Arc>>;
 using Entry = std::pair<Cost, std::uint32_t>;
 using Heap = std::priority_queue<Entry, std::vector<Entry>, std::greater<Entry>>;
 static const Cost FAR = ~Cost{0};
+static const std::uint32_t NO_MIDDLE = 0xFFFFFFFF;
 static const int SETTLE = 64;
 
 static double now() {
     return std::chrono::duration<double>(std::chrono::steady_clock::now().time_since_epoch()).count();
 }
 
-static void put(std::vector<Arc> &row, std::uint32_t other, Cost cost) {
+static void put(std::vector<Arc> &row, std::uint32_t other, Cost cost, std::uint32_t middle) {
     for (Arc &arc : row) {
         if (arc.other == other) {
-            arc.cost = std::min(arc.cost, cost);
+            if (cost < arc.cost) arc = {other, middle, cost};
             return;
         }
     }
-    row.push_back({other, cost});
+    row.push_back({other, middle, cost});
 }
 
 static void take_out(std::vector<Arc> &row, std::uint32_t other) {
@@ -49,8 +52,9 @@ static void take_out(std::vector<Arc> &row, std::uint32_t other) {
 struct Hierarchy {
     Rows out, in, up, down;
     std::vector<Cost> label;
-    std::vector<std::uint32_t> touched;
+    std::vector<std::uint32_t> touched, ranks;
     std::size_t links = 0;
+    Cost bound = 0;
     struct Shortcut {
         std::uint32_t from, to;
         Cost cost;
@@ -86,9 +90,11 @@ struct Hierarchy {
                 if (outof.other != into.other) most = std::max(most, into.cost + outof.cost);
             if (most == 0) continue;
             search(into.other, node, most);
-            for (const Arc &outof : out[node])
-                if (outof.other != into.other && label[outof.other] > into.cost + outof.cost)
-                    found.push_back({into.other, outof.other, into.cost + outof.cost});
+            for (const Arc &outof : out[node]) {
+                Cost sum = into.cost + outof.cost;
+                if (outof.other != into.other && sum <= bound && label[outof.other] > sum)
+                    found.push_back({into.other, outof.other, sum});
+            }
         }
         return found;
     }
@@ -100,6 +106,8 @@ struct Hierarchy {
     void prepare() {
         std::uint32_t nodes = out.size();
         label.assign(nodes, FAR);
+        ranks.resize(nodes);
+        std::uint32_t rank = 0;
         up.resize(nodes);
         down.resize(nodes);
         std::priority_queue<std::pair<std::int64_t, std::uint32_t>, std::vector<std::pair<std::int64_t, std::uint32_t>>, std::greater<>> order;
@@ -116,12 +124,29 @@ struct Hierarchy {
             for (const Arc &arc : in[node]) take_out(out[arc.other], node);
             for (const Arc &arc : out[node]) take_out(in[arc.other], node);
             for (const Shortcut &s : found) {
-                put(out[s.from], s.to, s.cost);
-                put(in[s.to], s.from, s.cost);
+                put(out[s.from], s.to, s.cost, node);
+                put(in[s.to], s.from, s.cost, node);
             }
+            ranks[node] = rank++;
             links += in[node].size() + out[node].size();
             up[node].swap(out[node]);
             down[node].swap(in[node]);
+        }
+    }
+
+    void write(std::FILE *file) const {
+        std::vector<std::vector<Arc>> rows = up;
+        for (std::uint32_t to = 0; to < rows.size(); to++)
+            for (const Arc &arc : down[to]) rows[arc.other].push_back({to, arc.middle, arc.cost});
+        auto number = [file](std::uint64_t value, int bytes) {
+            while (bytes > 0) std::putc(static_cast<int>(value >> 8 * --bytes & 255), file);
+        };
+        std::fputs("RCH1", file);
+        number(rows.size(), 4), number(links, 8), number(bound, 8);
+        for (std::uint32_t rank : ranks) number(rank, 4);
+        for (std::uint32_t from = 0; from < rows.size(); from++) {
+            std::sort(rows[from].begin(), rows[from].end(), [](const Arc &a, const Arc &b) { return a.other < b.other; });
+            for (const Arc &arc : rows[from]) number(from, 4), number(arc.other, 4), number(arc.cost, 8), number(arc.middle, 4);
         }
     }
 
@@ -147,8 +172,9 @@ struct Hierarchy {
 };
 
 int main(int count, char **words) {
-    if (count != 3) return 2;
+    if (count != 3 && count != 4) return 2;
     Hierarchy h;
+    Cost heaviest = 0;
     std::size_t arcs = 0;
     FILE *file = std::fopen(words[1], "r");
     if (!file) return 7;
@@ -160,15 +186,23 @@ int main(int count, char **words) {
             h.in.resize(u);
         } else if (std::sscanf(line, "a %lu %lu %lu", &u, &v, &w) == 3) {
             arcs++;
+            heaviest = std::max<Cost>(heaviest, w);
             if (u == v) continue;
-            put(h.out[u - 1], v - 1, w);
-            put(h.in[v - 1], u - 1, w);
+            put(h.out[u - 1], v - 1, w, NO_MIDDLE);
+            put(h.in[v - 1], u - 1, w, NO_MIDDLE);
         }
     }
     std::fclose(file);
+    if (!h.out.empty()) h.bound = (h.out.size() - 1) * heaviest;
     double start = now();
     h.prepare();
     double prepared = now();
+    if (count == 4) {
+        file = std::fopen(words[3], "wb");
+        if (!file) return 7;
+        h.write(file);
+        if (std::fclose(file) != 0) return 7;
+    }
     file = std::fopen(words[2], "r");
     if (!file) return 7;
     std::vector<std::pair<unsigned long, unsigned long>> pairs;
