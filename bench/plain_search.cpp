@@ -71,5 +71,5 @@ int main(int argc, char **argv) {
         if (label[t - 1] == none) std::printf("n %u %u\n", s, t);
         else std::printf("r %u %u %lu\n", s, t, label[t - 1]);
     }
-    std::fprintf(stderr, "search %.3f s, %zu pairs\n", seconds_since(start), pairs);
+    std::fprintf(stderr, "search %.6f s, %zu pairs\n", seconds_since(start), pairs);
 }

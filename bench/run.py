@@ -22,7 +22,7 @@ import tempfile
 import time
 
 ROOT = pathlib.Path(__file__).resolve().parent.parent
-PROGRAM = ROOT / "crates/routecli/out/routecli"
+PROGRAM = pathlib.Path(os.environ.get("ROUTECLI", ROOT / "crates/routecli/out/routecli"))
 PAIRS = 100
 MOST_ANSWERED = 128
 
