@@ -145,8 +145,10 @@ struct Hierarchy {
         number(rows.size(), 4), number(links, 8), number(bound, 8);
         for (std::uint32_t rank : ranks) number(rank, 4);
         for (std::uint32_t from = 0; from < rows.size(); from++) {
-            std::sort(rows[from].begin(), rows[from].end(), [](const Arc &a, const Arc &b) { return a.other < b.other; });
-            for (const Arc &arc : rows[from]) number(from, 4), number(arc.other, 4), number(arc.cost, 8), number(arc.middle, 4);
+            auto is_before = [](const Arc &a, const Arc &b) { return a.other < b.other; };
+            std::sort(rows[from].begin(), rows[from].end(), is_before);
+            for (const Arc &arc : rows[from])
+                number(from, 4), number(arc.other, 4), number(arc.cost, 8), number(arc.middle, 4);
         }
     }
 

@@ -16,10 +16,10 @@ int main(int count, char **words) {
     try {
         text::read(file, static_cast<std::uint64_t>(about.st_size), graph);
     } catch (const text::Fault &fault) {
-        std::fprintf(stderr, "read_graph: graph: %s line %llu\n", fault.kind, static_cast<unsigned long long>(fault.line));
+        std::fprintf(stderr, "read_graph: graph: %s line %lu\n", fault.kind, fault.line);
         return 3;
     } catch (const text::ReadFailed &) {
         return 7;
     }
-    std::printf("%llu nodes, %zu arcs\n", static_cast<unsigned long long>(graph.nodes), graph.roads.size());
+    std::printf("%lu nodes, %zu arcs\n", graph.nodes, graph.roads.size());
 }

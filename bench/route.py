@@ -9,10 +9,11 @@ Each network is prepared once, by one worker, or by the textbook hierarchy in C+
 come out:
 
 - whole runs, reading included, and runs with a text of no pairs, which read the file and test it alone: seconds of the
-  wall clock, the best of three, and the greatest resident size, of which up to 15 MB may be this script's own;
-- what a pair takes beyond, in millionths of a second, and how many nodes were settled for it: by `routecli`; by the C++
-  program; by the same with costs of 64 bits throughout; and by the same with stall-on-demand. Beside them the plain
-  search in C++ (plain_search.cpp) and Boost's (boost_search.cpp), of 20 of the pairs, without reading;
+  wall clock, the best of three rounds in which each run has its turn, and the greatest resident size, of which up to
+  17 MB may be this script's own;
+- what a pair takes beyond that, in millionths of a second: by `routecli`; by the C++ program; by the same with costs of
+  64 bits throughout; and by the same with stall-on-demand; and how many nodes the C++ program settled for it. Beside
+  them the plain search in C++ (plain_search.cpp) and Boost's (boost_search.cpp), of 20 of the pairs, without reading;
 - reading the graph's text, which is `answer` with a text of pairs that is refused, beside a reader in C++ that is written
   by hand (read_graph.cpp).
 
@@ -22,7 +23,7 @@ same lengths.
 
 It needs g++, Boost (libboost-graph-dev; without it that column stays empty), and the proved program, which is
 crates/routecli/out/routecli (README.md says how to build it) or the path in the environment variable ROUTECLI. With
-`--textbook` it goes without the proved program too, and its columns stay empty.
+`--textbook` it goes without the proved program too, whose columns then stay empty. `--order` is that of `prepare`.
 """
 import argparse
 import itertools
@@ -38,12 +39,15 @@ PAIRS = 10_000
 NEAR = 2_000
 STEPS = 20
 FEW = 20
+ROUNDS = 3
+NOWHERE = "/dev/null"
 MISSING = ""
 PROGRAMS = ["route", "read_graph", "hierarchy", "plain_search", "boost_search"]
 
-WHOLE = ["Nodes", "Arcs", "Links", "Pairs", "`routecli route`", "C++", "ratio", "no pairs: `routecli route`", "C++", "ratio"]
-PAIR = ["Nodes", "Pairs", "`routecli route`", "C++", "ratio", "C++, 64 bits", "C++, stalling", "settled", "settled, stalling"]
-PAIR += ["plain search", "Boost"]
+WHOLE = ["Nodes", "Arcs", "Links", "Pairs", "`routecli route`", "C++", "ratio"]
+WHOLE += ["no pairs: `routecli route`", "C++", "ratio"]
+PAIR = ["Nodes", "Pairs", "`routecli route`", "C++", "ratio", "C++, 64 bits", "C++, stalling", "settled in C++"]
+PAIR += ["settled, stalling", "plain search", "Boost"]
 READING = ["Nodes", "Arcs", "Text", "`routecli`", "C++ by hand", "ratio"]
 
 
@@ -76,7 +80,7 @@ def make_network(side, folder):
 def prepare(programs, options, graph, folder):
     file = folder / "network.rch"
     if options.textbook:
-        output_of([programs["hierarchy"], graph, folder / "no.pairs", file], "/dev/null")
+        output_of([programs["hierarchy"], graph, folder / "no.pairs", file], NOWHERE)
     else:
         subprocess.run([PROGRAM, "prepare", "--workers", "1", "--order", options.order, graph, file], check=True)
     return file
@@ -109,9 +113,11 @@ def cell(measured):
     return f"{measured[0]:.3f} s, {measured[1]:.0f} MB" if measured else MISSING
 
 
-def ours(words, out, wanted=0):
-    """What `routecli` takes, where it is there."""
-    return run([PROGRAM, *words], out, wanted) if PROGRAM.exists() else None
+def in_turn(*runs):
+    """For each of these runs, which are (words, output, status), its least seconds and its greatest size; None where
+    the program isn't there."""
+    rounds = [[run(*each, rounds=1) if each[0][0].exists() else None for each in runs] for _ in range(ROUNDS)]
+    return [(min(s for s, _ in of_one), max(m for _, m in of_one)) if of_one[0] else None for of_one in zip(*rounds)]
 
 
 def seconds(measured):
@@ -143,27 +149,37 @@ def search(program, graph, queries, folder):
 
 def routed(programs, graph, file, pairs, queries, folder):
     """The cells of whole runs and of a pair."""
-    theirs, empty = [programs["route"]], folder / "no.pairs"
+    beside, empty = programs["route"], folder / "no.pairs"
     count = int(pairs.split()[0].replace(",", ""))
-    alone_ours, alone = ours(["route", file, empty], "/dev/null"), run([*theirs, file, empty], "/dev/null")
-    whole_ours, whole = ours(["route", file, queries], folder / "ours"), run([*theirs, file, queries], folder / "theirs")
+    alone_ours, alone, whole_ours, whole, wide, stalling = in_turn(
+        ([PROGRAM, "route", file, empty], NOWHERE, 0),
+        ([beside, file, empty], NOWHERE, 0),
+        ([PROGRAM, "route", file, queries], folder / "ours", 0),
+        ([beside, file, queries], folder / "theirs", 0),
+        ([beside, "--wide", file, queries], NOWHERE, 0),
+        ([beside, "--stall", file, queries], NOWHERE, 0),
+    )
     check_apart(graph, folder / ("ours" if whole_ours else "theirs"), folder / "theirs")
     pair_ours, pair = micros(whole_ours, alone_ours, count), micros(whole, alone, count)
-    others = [micros(run([*theirs, word, file, queries], "/dev/null"), alone, count) for word in ["--wide", "--stall"]]
-    said = [output_of([*theirs, "--times", *more, file, queries], "/dev/null") for more in [[], ["--stall"]]]
+    others = [micros(measured, alone, count) for measured in [wide, stalling]]
+    said = [output_of([beside, "--times", *more, file, queries], NOWHERE) for more in [[], ["--stall"]]]
     settled = [words[words.index("settled") + 1] for words in said]
     searches = [search(programs[name], graph, queries, folder) for name in ["plain_search", "boost_search"]]
     ratios = [ratio(seconds(a), seconds(b)) for a, b in [(whole_ours, whole), (alone_ours, alone)]]
     whole_cells = [pairs, cell(whole_ours), cell(whole), ratios[0], cell(alone_ours), cell(alone), ratios[1]]
-    return whole_cells, [pairs, number(pair_ours), number(pair), ratio(pair_ours, pair), *map(number, others), *settled, *searches]
+    pair_cells = [pairs, number(pair_ours), number(pair), ratio(pair_ours, pair), *map(number, others)]
+    return whole_cells, [*pair_cells, *settled, *searches]
 
 
 def reading(programs, graph, folder):
     (folder / "bad.pairs").write_text("p\n")
     size = graph.stat().st_size / 1e6
-    mine, theirs = ours(["answer", graph, folder / "bad.pairs"], "/dev/null", wanted=5), run([programs["read_graph"], graph], "/dev/null")
-    cells = [f"{cell(each)}, {size / each[0]:,.0f} MB/s" if each else MISSING for each in [mine, theirs]]
-    return [f"{size:.1f} MB", *cells, ratio(seconds(mine), seconds(theirs))]
+    ours, theirs = in_turn(
+        ([PROGRAM, "answer", graph, folder / "bad.pairs"], NOWHERE, 5),
+        ([programs["read_graph"], graph], NOWHERE, 0),
+    )
+    cells = [f"{cell(each)}, {size / each[0]:,.0f} MB/s" if each else MISSING for each in [ours, theirs]]
+    return [f"{size:.1f} MB", *cells, ratio(seconds(ours), seconds(theirs))]
 
 
 def show(title, heads, rows):

@@ -41,8 +41,8 @@ static inline bool take_number(const char *&at, std::uint64_t &number) {
     if (count == 0) return false;
     digits <<= 64 - 8 * count;
     digits = digits * 10 + (digits >> 8);
-    digits = ((digits & 0x000000FF000000FF) * 0x000F424000000064 + ((digits >> 16) & 0x000000FF000000FF) * 0x0000271000000001) >> 32;
-    number = digits & 0xFFFFFFFF;
+    std::uint64_t odd = digits & 0x000000FF000000FF, even = (digits >> 16) & 0x000000FF000000FF;
+    number = (odd * 0x000F424000000064 + even * 0x0000271000000001) >> 32 & 0xFFFFFFFF;
     at += count;
     if (count < 8) return true;
     for (int more = 0; is_digit(*at); more++) {
@@ -78,7 +78,7 @@ public:
 
     explicit Reader(int file) : file(file) { buffer[0] = '\n'; }
 
-    // Takes a line of a letter and numbers, where it is as plain as nearly all are and was read whole, and else nothing.
+    // Takes a line of a letter and numbers, where it is as plain as nearly all are and was read whole; else nothing.
     template <std::size_t COUNT> bool plain_line(char letter, std::uint64_t (&numbers)[COUNT]) {
         const char *place = buffer.data() + at;
         if (place[0] != letter || place[1] != ' ') return false;
@@ -123,7 +123,8 @@ static inline std::uint64_t number_in(std::string_view field, std::uint64_t line
     std::uint64_t number = 0;
     for (char byte : field) {
         if (!is_digit(byte)) throw Fault{"NotANumber", line};
-        if (__builtin_mul_overflow(number, 10, &number) || __builtin_add_overflow(number, byte - '0', &number)) number = ~std::uint64_t{0};
+        bool is_above = __builtin_mul_overflow(number, 10, &number) || __builtin_add_overflow(number, byte - '0', &number);
+        if (is_above) number = ~std::uint64_t{0};
     }
     return number;
 }
@@ -151,11 +152,11 @@ struct Roads {
     }
 
     void take(const std::uint64_t (&numbers)[3], std::uint64_t line) {
-        auto [from, to, weight] = numbers;
+        std::uint64_t from = numbers[0], to = numbers[1], weight = numbers[2];
         if (from - 1 >= nodes || to - 1 >= nodes) throw Fault{"NodeRange", line};
         if (weight == 0) throw Fault{"ZeroWeight", line};
         if (weight > HEAVIEST) throw Fault{"WeightTooBig", line};
-        roads.push_back({static_cast<std::uint32_t>(from - 1), static_cast<std::uint32_t>(to - 1), static_cast<std::uint32_t>(weight)});
+        roads.push_back({std::uint32_t(from - 1), std::uint32_t(to - 1), std::uint32_t(weight)});
     }
 };
 
@@ -179,9 +180,9 @@ struct Pairs {
     }
 
     void take(const std::uint64_t (&numbers)[2], std::uint64_t line) {
-        auto [source, target] = numbers;
+        std::uint64_t source = numbers[0], target = numbers[1];
         if (source - 1 >= nodes || target - 1 >= nodes) throw Fault{"NodeRange", line};
-        pairs.push_back({static_cast<std::uint32_t>(source - 1), static_cast<std::uint32_t>(target - 1)});
+        pairs.push_back({std::uint32_t(source - 1), std::uint32_t(target - 1)});
     }
 };
 
