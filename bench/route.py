@@ -2,15 +2,16 @@
 """Times `routecli route` beside an optimised C++ program that does the same (route.cpp), on the same files and pairs,
 one after the other on this machine, and compares all answers.
 
-    bench/route.py [--textbook] [--order ORDER] [SIDE ..]     sides of the square networks, by default 100 256 514
+    bench/route.py [--textbook] [--order ORDER] [--processor] [SIDE ..]
+                                          sides of the square networks, by default 100 256 514
 
 Each network is prepared once, by one worker, or by the textbook hierarchy in C++ (hierarchy.cpp) with `--textbook`. Then
 10,000 random pairs are answered, and 2,000 near ones, whose ends are at most 20 rows and columns apart. Three tables
 come out:
 
 - whole runs, reading included, and runs with a text of no pairs, which read the file and test it alone: seconds of the
-  wall clock, the best of three rounds in which each run has its turn, and the greatest resident size, of which up to
-  17 MB may be this script's own;
+  wall clock, or with `--processor` of the processor, which tells more where other programs run, the best of three
+  rounds in which each run has its turn; and the greatest resident size, of which up to 17 MB may be this script's own;
 - what a pair takes beyond that, in millionths of a second: by `routecli`; by the C++ program; by the same with costs of
   64 bits throughout; and by the same with stall-on-demand; and how many nodes the C++ program settled for it. Beside
   them the plain search in C++ (plain_search.cpp) and Boost's (boost_search.cpp), of 20 of the pairs, without reading;
@@ -113,10 +114,10 @@ def cell(measured):
     return f"{measured[0]:.3f} s, {measured[1]:.0f} MB" if measured else MISSING
 
 
-def in_turn(*runs):
+def in_turn(processor, *runs):
     """For each of these runs, which are (words, output, status), its least seconds and its greatest size; None where
     the program isn't there."""
-    rounds = [[run(*each, rounds=1) if each[0][0].exists() else None for each in runs] for _ in range(ROUNDS)]
+    rounds = [[run(*each, 1, processor) if each[0][0].exists() else None for each in runs] for _ in range(ROUNDS)]
     return [(min(s for s, _ in of_one), max(m for _, m in of_one)) if of_one[0] else None for of_one in zip(*rounds)]
 
 
@@ -147,11 +148,12 @@ def search(program, graph, queries, folder):
     return f"{float(said[said.index('search') + 1]) * 1e6 / FEW:,.0f}"
 
 
-def routed(programs, graph, file, pairs, queries, folder):
+def routed(programs, options, graph, file, pairs, queries, folder):
     """The cells of whole runs and of a pair."""
     beside, empty = programs["route"], folder / "no.pairs"
     count = int(pairs.split()[0].replace(",", ""))
     alone_ours, alone, whole_ours, whole, wide, stalling = in_turn(
+        options.processor,
         ([PROGRAM, "route", file, empty], NOWHERE, 0),
         ([beside, file, empty], NOWHERE, 0),
         ([PROGRAM, "route", file, queries], folder / "ours", 0),
@@ -171,10 +173,11 @@ def routed(programs, graph, file, pairs, queries, folder):
     return whole_cells, [*pair_cells, *settled, *searches]
 
 
-def reading(programs, graph, folder):
+def reading(programs, options, graph, folder):
     (folder / "bad.pairs").write_text("p\n")
     size = graph.stat().st_size / 1e6
     ours, theirs = in_turn(
+        options.processor,
         ([PROGRAM, "answer", graph, folder / "bad.pairs"], NOWHERE, 5),
         ([programs["read_graph"], graph], NOWHERE, 0),
     )
@@ -193,6 +196,7 @@ def main():
     words.add_argument("sides", nargs="*", type=int, default=[100, 256, 514])
     words.add_argument("--textbook", action="store_true")
     words.add_argument("--order", default="edges")
+    words.add_argument("--processor", action="store_true")
     options = words.parse_args()
     if not PROGRAM.exists() and not options.textbook:
         sys.exit(f"{PROGRAM} isn't built: README.md says how")
@@ -207,10 +211,10 @@ def main():
             print(f"{nodes} nodes ..", file=sys.stderr, flush=True)
             file = prepare(programs, options, graph, folder)
             for pairs, text in queries.items():
-                runs, of_pair = routed(programs, graph, file, pairs, text, folder)
+                runs, of_pair = routed(programs, options, graph, file, pairs, text, folder)
                 whole.append([nodes, arcs, f"{links_in(file):,}", *runs])
                 pair.append([nodes, *of_pair])
-            read.append([nodes, arcs, *reading(programs, graph, folder)])
+            read.append([nodes, arcs, *reading(programs, options, graph, folder)])
     show("Whole runs", WHOLE, whole)
     show("A pair, in millionths of a second", PAIR, pair)
     show("Reading a graph", READING, read)
