@@ -2,12 +2,12 @@
 """Times `routecli route` beside an optimised C++ program that does the same (route.cpp), on the same files and pairs,
 one after the other on this machine, and compares all answers.
 
-    bench/route.py [--textbook] [--order ORDER] [--processor] [SIDE ..]
+    bench/route.py [--textbook] [--order ORDER] [--pairs PAIRS] [--processor] [SIDE ..]
                                           sides of the square networks, by default 100 256 514
 
 Each network is prepared once, by one worker, or by the textbook hierarchy in C++ (hierarchy.cpp) with `--textbook`. Then
-10,000 random pairs are answered, and 2,000 near ones, whose ends are at most 20 rows and columns apart. Three tables
-come out:
+random pairs are answered, by default 10,000, and a fifth as many near ones, whose ends are at most 20 rows and columns
+apart. Three tables come out:
 
 - whole runs, reading included, and runs with a text of no pairs, which read the file and test it alone: seconds of the
   wall clock, or with `--processor` of the processor, which tells more where other programs run, the best of three
@@ -36,8 +36,6 @@ import tempfile
 
 from run import PROGRAM, ROOT, arcs_in, is_answer, least_arcs_of, links_in, run
 
-PAIRS = 10_000
-NEAR = 2_000
 STEPS = 20
 FEW = 20
 ROUNDS = 3
@@ -70,12 +68,12 @@ def output_of(words, file):
         return subprocess.run(words, check=True, stdout=sink, stderr=subprocess.PIPE, text=True).stderr.split()
 
 
-def make_network(side, folder):
+def make_network(side, pairs, folder):
     """The graph, and each text of pairs by its name."""
     graph, far, near = folder / "network.gr", folder / "random.pairs", folder / "near.pairs"
-    words = [sys.executable, ROOT / "bench/make_network.py", str(side), str(PAIRS), "1", graph, far]
-    subprocess.run([*words, "--near", str(STEPS), str(NEAR), near], check=True)
-    return graph, {f"{PAIRS:,} random": far, f"{NEAR:,} near": near}
+    words = [sys.executable, ROOT / "bench/make_network.py", str(side), str(pairs), "1", graph, far]
+    subprocess.run([*words, "--near", str(STEPS), str(pairs // 5), near], check=True)
+    return graph, {f"{pairs:,} random": far, f"{pairs // 5:,} near": near}
 
 
 def prepare(programs, options, graph, folder):
@@ -138,14 +136,14 @@ def search(program, graph, queries, folder):
     """What a search without a hierarchy takes of a pair, by the first pairs alone; it has to tell their lengths."""
     if program is None:
         return MISSING
-    lines = queries.read_text().splitlines(keepends=True)
+    lines = queries.read_text().splitlines(keepends=True)[1 : FEW + 1]
     few = folder / "few.pairs"
-    few.write_text("".join([f"p aux sp p2p {FEW}\n", *lines[1 : FEW + 1]]))
+    few.write_text("".join([f"p aux sp p2p {len(lines)}\n", *lines]))
     said = output_of([program, graph, few], folder / "searched")
     with open(folder / "searched") as searched, open(folder / "theirs") as theirs:
         if any(line.split() != next(theirs).split()[:4] for line in searched):
             sys.exit(f"{program} differs")
-    return f"{float(said[said.index('search') + 1]) * 1e6 / FEW:,.0f}"
+    return f"{float(said[said.index('search') + 1]) * 1e6 / len(lines):,.0f}"
 
 
 def routed(programs, options, graph, file, pairs, queries, folder):
@@ -196,6 +194,7 @@ def main():
     words.add_argument("sides", nargs="*", type=int, default=[100, 256, 514])
     words.add_argument("--textbook", action="store_true")
     words.add_argument("--order", default="edges")
+    words.add_argument("--pairs", type=int, default=10_000)
     words.add_argument("--processor", action="store_true")
     options = words.parse_args()
     if not PROGRAM.exists() and not options.textbook:
@@ -206,7 +205,7 @@ def main():
         programs = compile_all(folder)
         (folder / "no.pairs").write_text("p aux sp p2p 0\n")
         for side in options.sides:
-            graph, queries = make_network(side, folder)
+            graph, queries = make_network(side, options.pairs, folder)
             nodes, arcs = f"{side * side:,}", f"{arcs_in(graph):,}"
             print(f"{nodes} nodes ..", file=sys.stderr, flush=True)
             file = prepare(programs, options, graph, folder)
