@@ -125,12 +125,18 @@ mod tests {
     #[test]
     fn finds_links(rt: HostRuntime) {
         let links = [link(0, 2), link(1, 0), link(1, 2)];
-        assert!(rt; find_link(&links, 0, 2) == Some(LinkId(0)));
-        assert!(rt; find_link(&links, 1, 0) == Some(LinkId(1)));
-        assert!(rt; find_link(&links, 1, 2) == Some(LinkId(2)));
-        assert!(rt; find_link(&links, 1, 1).is_none());
-        assert!(rt; find_link(&links, 0, 0).is_none());
-        assert!(rt; find_link(&links, u32::MAX, u32::MAX).is_none());
+        let places = [
+            (0, 2, Some(0)),
+            (1, 0, Some(1)),
+            (1, 2, Some(2)),
+            (1, 1, None),
+            (0, 0, None),
+            (u32::MAX, u32::MAX, None),
+        ];
+        for (from, to, place) in places {
+            let found = find_link(&links, from, to);
+            assert!(rt; found == place.map(LinkId), "from {from} to {to}");
+        }
         assert!(rt; find_link(&[], 0, 1).is_none());
     }
 
