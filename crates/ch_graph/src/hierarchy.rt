@@ -180,14 +180,8 @@ mod tests {
         ];
         for (from, to, place) in places {
             let expected = place.map(LinkId);
-            assert!(rt;
-                find_link(&links, from, to) == expected,
-                "from {from} to {to}"
-            );
-            assert!(rt;
-                index.find(&links, from, to) == expected,
-                "from {from} to {to}"
-            );
+            assert!(rt; find_link(&links, from, to) == expected);
+            assert!(rt; index.find(&links, from, to) == expected);
         }
         assert!(rt; find_link(&[], 0, 1).is_none());
         Ok(())

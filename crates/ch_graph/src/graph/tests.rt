@@ -92,7 +92,7 @@ fn cost_of(rt: &impl Abort, weights: &[u32]) -> Cost {
 fn check_walks(rt: &impl Abort, graph: &Graph, walks: &[(&[u32], &[u32], bool)]) {
     for (nodes, weights, expected) in walks {
         let is_walk = graph.is_walk(nodes, cost_of(rt, weights));
-        assert!(rt; is_walk == *expected, "along {nodes:?}");
+        assert!(rt; is_walk == *expected);
     }
 }
 
