@@ -2,6 +2,7 @@ pub mod HeaviestArc
 pub mod Walks
 pub mod Bound
 pub mod LinkSearch
+pub mod LinkParts
 pub mod Chains
 pub mod Unfolding
 pub mod LabelSteps

@@ -1,9 +1,12 @@
-ghost use Rattle.std.specs.Prelude.{◌≡◌, ◌<◌, ℕ, length, slice_index, AllPairs, None, IfSome, IfNone};
+ghost use Rattle.std.specs.Prelude.{◌≡◌, ◌<◌, ℕ, length, slice_index, AllPairs, None, IfOk, IfSome, IfNone};
 ghost use Rattle.ch_cost.specs.Cost.{of_weight};
 ghost use Rattle.ch_graph.specs.Hierarchy.{IsWellMade, IsLinkAt, ComesBefore};
+ghost use Rattle.ch_graph.specs.LinkIndex.{IsIndexOf};
 
 use crate::link::Link;
+use crate::link_index::LinkIndex;
 use ch_cost::Cost;
+use std::alloc::{AllocError, Global};
 use std::marker::Model;
 
 /// The place of a link in [`Hierarchy::links`].
@@ -14,34 +17,68 @@ pub struct LinkId(pub usize);
 /// arcs of a graph and shortcuts for two links by way of a node of lower rank.
 ///
 /// Every hierarchy is well made, so that a file can hold it. Whether it is right for a graph is said where it is
-/// made. It holds 4 bytes a node and about 32 a link, and no call takes memory.
+/// made. It holds 4 bytes a node and about 32 a link, with an index 8 bytes a node more, and no call takes memory but
+/// [`Hierarchy::indexed`].
 #[derive(Drop)]
 pub struct Hierarchy {
     ranks: Vec<u32>,
     links: Vec<Link>,
     bound: Cost,
+    // Of these links, or of no node.
+    index: LinkIndex,
 }
 
 impl Model for Hierarchy {
     ghost use Rattle.ch_graph.specs.Hierarchy as hierarchies;
+    ghost use Rattle.ch_graph.specs.LinkIndex.{IsIndexOf};
 
     ghost Value = { hierarchies.Hierarchy };
 
     ghost view = { λ h. record { ranks = h.ranks.items; links = h.links.items; bound = h.bound } };
 
-    ghost invariant = { λ h. hierarchies.IsWellMade (record { ranks = h.ranks.items; links = h.links.items; bound = h.bound }) };
+    ghost invariant = { λ h. hierarchies.IsWellMade (record { ranks = h.ranks.items; links = h.links.items; bound = h.bound }) × IsIndexOf h.links.items h.index };
 }
 
 impl Hierarchy {
     /// The hierarchy of these ranks, one for each node, these links, in rising order of their ends, and this bound.
+    ///
+    /// It has no index: a link is looked for among all. Takes no memory.
     pub fn new(ranks: Vec<u32>, links: Vec<Link>, bound: Cost) -> Hierarchy
         requires { IsWellMade (record { ranks = ranks.items; links = links.items; bound = bound }) }
+        ensures { result ≡ record { ranks = ranks.items; links = links.items; bound = bound } }
+    {
+        let index = LinkIndex::none(*ranks.allocator());
+        Hierarchy::with_index(ranks, links, bound, index)
+    }
+
+    /// The same hierarchy as by [`Hierarchy::new`], with an index, so that a link is looked for among those that leave
+    /// its first node.
+    ///
+    /// Takes 8 bytes a node, and looks at each link once. Fails only for want of memory.
+    pub fn indexed(
+        alloc: Global,
+        ranks: Vec<u32>,
+        links: Vec<Link>,
+        bound: Cost,
+    ) -> Result<Hierarchy, AllocError>
+        requires { IsWellMade (record { ranks = ranks.items; links = links.items; bound = bound }) }
+        ensures { IfOk result (λ h. h ≡ record { ranks = ranks.items; links = links.items; bound = bound }) }
+    {
+        let index = LinkIndex::new(alloc, ranks.len() as u32, links.as_slice())?;
+        Ok(Hierarchy::with_index(ranks, links, bound, index))
+    }
+
+    /// The same hierarchy as by [`Hierarchy::new`], with this index of its links. Takes no memory.
+    pub fn with_index(ranks: Vec<u32>, links: Vec<Link>, bound: Cost, index: LinkIndex) -> Hierarchy
+        requires made { IsWellMade (record { ranks = ranks.items; links = links.items; bound = bound }) }
+        requires index { IsIndexOf links.items index }
         ensures { result ≡ record { ranks = ranks.items; links = links.items; bound = bound } }
     {
         Hierarchy {
             ranks,
             links,
             bound,
+            index,
         }
     }
 
@@ -75,13 +112,15 @@ impl Hierarchy {
         self.links.as_slice()
     }
 
-    /// The place of the link from one node to another, or none where there is no such link. Looks at as many links as
-    /// the number of links has binary digits.
+    /// The place of the link from one node to another, or none where there is no such link.
+    ///
+    /// Looks at as many links as the number of those that leave the node has binary digits, and without an index as the
+    /// number of all.
     pub fn find(&self, from: u32, to: u32) -> Option<LinkId>
         ensures found { IfSome result (λ id. IsLinkAt self.now.links from to id.0) }
         ensures none { IfNone result ((place : ℕ) → IsLinkAt self.now.links from to place → ⊥) }
     {
-        find_link(self.links.as_slice(), from, to)
+        self.index.find(self.links.as_slice(), from, to)
     }
 }
 
@@ -102,7 +141,6 @@ pub fn find_link(links: &[Link], from: u32, to: u32) -> Option<LinkId>
 #[cfg(test)]
 mod tests {
     use super::*;
-    use std::alloc::{AllocError, Global};
 
     fn link(from: u32, to: u32) -> Link
         ensures { result ≡ record { from = from; to = to; cost = of_weight 7; middle = None } }
@@ -116,32 +154,49 @@ mod tests {
     }
 
     // Two nodes, ranked in their order, and a link of weight 7 from the first to the second.
-    fn two_nodes(alloc: Global) -> Result<Hierarchy, AllocError> {
+    fn two_nodes(alloc: Global, is_indexed: bool) -> Result<Hierarchy, AllocError> {
+        let seven = Cost::of_weight(7);
         let ranks = vec![in alloc; 0, 1]?;
         let links = vec![in alloc; link(0, 1)]?;
-        Ok(Hierarchy::new(ranks, links, Cost::of_weight(7)))
+        if is_indexed {
+            return Hierarchy::indexed(alloc, ranks, links, seven);
+        }
+        Ok(Hierarchy::new(ranks, links, seven))
     }
 
     #[test]
-    fn finds_links(rt: HostRuntime) {
+    fn finds_links(rt: HostRuntime) -> Result<(), AllocError> {
         let links = [link(0, 2), link(1, 0), link(1, 2)];
-        assert!(rt; find_link(&links, 0, 2) == Some(LinkId(0)));
-        assert!(rt; find_link(&links, 1, 0) == Some(LinkId(1)));
-        assert!(rt; find_link(&links, 1, 2) == Some(LinkId(2)));
-        assert!(rt; find_link(&links, 1, 1).is_none());
-        assert!(rt; find_link(&links, 0, 0).is_none());
-        assert!(rt; find_link(&links, u32::MAX, u32::MAX).is_none());
+        let index = LinkIndex::new(rt.alloc(), 3, &links)?;
+        let places = [
+            (0, 2, Some(0)),
+            (1, 0, Some(1)),
+            (1, 2, Some(2)),
+            (1, 1, None),
+            (0, 0, None),
+            (2, 1, None),
+            (3, 0, None),
+            (u32::MAX, u32::MAX, None),
+        ];
+        for (from, to, place) in places {
+            let expected = place.map(LinkId);
+            assert!(rt; find_link(&links, from, to) == expected);
+            assert!(rt; index.find(&links, from, to) == expected);
+        }
         assert!(rt; find_link(&[], 0, 1).is_none());
+        Ok(())
     }
 
     #[test]
     fn tells_its_parts(rt: HostRuntime) -> Result<(), AllocError> {
-        let hierarchy = two_nodes(rt.alloc())?;
-        assert_eq!(rt; hierarchy.nodes(), 2);
-        assert_eq!(rt; hierarchy.bound().length(), 7);
-        assert!(rt; hierarchy.find(0, 1) == Some(LinkId(0)));
-        assert!(rt; hierarchy.find(1, 0).is_none());
-        assert!(rt; hierarchy.links() == [link(0, 1)].as_slice());
+        for is_indexed in [false, true] {
+            let hierarchy = two_nodes(rt.alloc(), is_indexed)?;
+            assert!(rt; hierarchy.nodes() == 2);
+            assert!(rt; hierarchy.bound().length() == 7);
+            assert!(rt; hierarchy.find(0, 1) == Some(LinkId(0)));
+            assert!(rt; hierarchy.find(1, 0).is_none());
+            assert!(rt; hierarchy.links() == [link(0, 1)].as_slice());
+        }
         Ok(())
     }
 }

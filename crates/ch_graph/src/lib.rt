@@ -4,7 +4,8 @@
 //! between numbered nodes. The promise of the layer is the contract of [`Graph::least`]: the least cost over all
 //! walks from one node to another, or none where there is no walk. It is the plain program that every faster
 //! answer of the workspace is compared with. [`Graph::is_walk`] tells a route of a given cost from any other list
-//! of nodes.
+//! of nodes. A [`Hierarchy`] holds what faster answers come from; [`Hierarchy::find`] gives the link of a pair, by a
+//! [`LinkIndex`] where it has one.
 #![tactic(auto)]
 
 mod frontier;
@@ -13,13 +14,15 @@ mod hierarchy;
 mod label;
 mod laws;
 mod link;
+mod link_index;
 mod outgoing;
 mod road;
 mod search;
 mod step;
 
 pub use graph::Graph;
-pub use hierarchy::{Hierarchy, LinkId, find_link};
+pub use hierarchy::{Hierarchy, LinkId};
 pub use laws::{distance_is_unique, distance_is_within_bound, links_unfold, value_is_unique};
 pub use link::Link;
+pub use link_index::LinkIndex;
 pub use road::Road;

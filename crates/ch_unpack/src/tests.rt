@@ -56,11 +56,11 @@ fn three_nodes(alloc: Global) -> Result<Hierarchy, AllocError>
 fn there_and_back(rt: HostRuntime) -> Result<(), Fail> {
     let hierarchy = two_nodes(rt.alloc())?;
     let none = unpack(rt.alloc(), &hierarchy, 1, &[])?;
-    assert_eq!(rt; none.as_slice(), [1u32].as_slice());
+    assert!(rt; none.as_slice() == [1u32].as_slice());
     let there = unpack(rt.alloc(), &hierarchy, 0, &[LinkId(0)])?;
-    assert_eq!(rt; there.as_slice(), [0u32, 1].as_slice());
+    assert!(rt; there.as_slice() == [0u32, 1].as_slice());
     let back = unpack(rt.alloc(), &hierarchy, 0, &[LinkId(0), LinkId(1)]);
-    assert_eq!(rt; back.err(), Some(UnpackError::TooLong));
+    assert!(rt; back.err() == Some(UnpackError::TooLong));
     Ok(())
 }
 
@@ -68,6 +68,6 @@ fn there_and_back(rt: HostRuntime) -> Result<(), Fail> {
 fn by_way_of_a_middle(rt: HostRuntime) -> Result<(), Fail> {
     let hierarchy = three_nodes(rt.alloc())?;
     let nodes = unpack(rt.alloc(), &hierarchy, 1, &[LinkId(2)])?;
-    assert_eq!(rt; nodes.as_slice(), [1u32, 0, 2].as_slice());
+    assert!(rt; nodes.as_slice() == [1u32, 0, 2].as_slice());
     Ok(())
 }

@@ -4,6 +4,7 @@ ghost use Rattle.std.specs.Option.{option_map};
 ghost use Rattle.std.specs.Io.KnownBytes.{Consumes};
 ghost use Rattle.ch_cost.specs.Cost.{length_of};
 ghost use Rattle.ch_graph.specs.Hierarchy.{ComesBefore};
+ghost use Rattle.ch_graph.specs.LinkIndex.{IsIndexOf};
 ghost use Rattle.hierfile.specs.Spelling.{link_bytes, middle_number};
 ghost use Rattle.hierfile.specs.Fault.{cut, is_in_order, link_fault, link_fault_at, links_fault, middle_fault, half_fault, first_along, leads};
 ghost use Rattle.hierfile.specs.Bytes.{coming, IsFaultOf, Tells, NoneBelow, IsWritable};
@@ -11,7 +12,7 @@ ghost use Rattle.hierfile.specs.Bytes.{coming, IsFaultOf, Tells, NoneBelow, IsWr
 use crate::error::HierError;
 use crate::input::Input;
 use ch_cost::Cost;
-use ch_graph::{Link, find_link};
+use ch_graph::{Link, LinkIndex};
 use std::alloc::Global;
 use std::io::Read;
 
@@ -123,30 +124,32 @@ fn test_middle(ranks: &[u32], from: u32, to: u32, middle: Option<u32>) -> Result
     }
 }
 
-/// Tests of each link with a middle whether its halves are among the links, and sum to its weight.
-pub fn test_halves(links: &[Link]) -> Result<(), HierError>
-    requires { AllPairs ComesBefore links.now }
+/// Tests of each link with a middle whether its halves are among the links, by their index, and sum to its weight.
+pub fn test_halves(links: &[Link], index: &LinkIndex) -> Result<(), HierError>
+    requires sorted { AllPairs ComesBefore links.now }
+    requires index { IsIndexOf links.now index.now }
     ensures { Tells result (first_along (half_fault links.now) links.now) }
 {
     'links: for link in links {
-        test_half(links, *link)?;
+        test_half(links, index, *link)?;
     }
     Ok(())
 }
 
 // Tests the halves of a link.
 #[tactic(auto, unfolding(crate::specs::Fault::half_fault))]
-fn test_half(links: &[Link], link: Link) -> Result<(), HierError>
-    requires { AllPairs ComesBefore links.now }
+fn test_half(links: &[Link], index: &LinkIndex, link: Link) -> Result<(), HierError>
+    requires sorted { AllPairs ComesBefore links.now }
+    requires index { IsIndexOf links.now index.now }
     ensures { Tells result (half_fault links.now link) }
 {
     let Some(middle) = link.middle else {
         return Ok(());
     };
-    let Some(first) = length_between(links, link.from, middle) else {
+    let Some(first) = length_between(links, index, link.from, middle) else {
         return Err(HierError::HalfMissing);
     };
-    let Some(second) = length_between(links, middle, link.to) else {
+    let Some(second) = length_between(links, index, middle, link.to) else {
         return Err(HierError::HalfMissing);
     };
     if is_sum(link.cost.length(), first, second) {
@@ -157,11 +160,12 @@ fn test_half(links: &[Link], link: Link) -> Result<(), HierError>
 }
 
 // The length of the link from one node to another, or none where there is no such link.
-fn length_between(links: &[Link], from: u32, to: u32) -> Option<u64>
-    requires { AllPairs ComesBefore links.now }
+fn length_between(links: &[Link], index: &LinkIndex, from: u32, to: u32) -> Option<u64>
+    requires sorted { AllPairs ComesBefore links.now }
+    requires index { IsIndexOf links.now index.now }
     ensures { result ≡ option_map (λ l. length_of l.cost) (find (leads from to) links.now) }
 {
-    let place = find_link(links, from, to)?;
+    let place = index.find(links, from, to)?;
     Some(links[place.0].cost.length())
 }
 

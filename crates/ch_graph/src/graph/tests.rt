@@ -17,6 +17,19 @@ const ROW: [(u32, u32, u32); 2] = [(1, 0, 2), (0, 2, 3)];
 /// A loop, and three arcs beside each other.
 const PARALLEL: [(u32, u32, u32); 4] = [(0, 0, 12), (0, 1, 9), (0, 1, 4), (0, 1, 6)];
 
+/// A heavy arc, and ways around it.
+const AROUND: [(u32, u32, u32); 6] = [
+    (0, 3, 10),
+    (0, 1, 4),
+    (1, 3, 5),
+    (0, 2, 1),
+    (2, 1, 1),
+    (3, 0, 1),
+];
+
+/// Arcs of the greatest weight.
+const HEAVIEST: [(u32, u32, u32); 4] = [(2, 0, HEAVY), (0, 1, HEAVY), (1, 0, HEAVY), (0, 3, HEAVY)];
+
 /// An arc between two of so many nodes.
 fn road(rt: &impl Abort, nodes: u32, from: u32, to: u32, weight: u32) -> Road
     ensures { IsRoad nodes result }
@@ -45,21 +58,20 @@ fn graph_of(
     Ok(Graph::new(nodes, roads))
 }
 
-/// Compares least lengths, each given by its ends.
+/// Compares the bound of a graph and least lengths, each given by its ends.
 fn check_least(
     rt: &impl Abort,
     graph: &Graph,
+    bound: u64,
     lengths: &[(u32, u32, Option<u64>)],
 ) -> Result<(), Fail> {
+    assert!(rt; graph.bound().length() == bound);
     for (source, target, length) in lengths {
         assert!(rt; *source < graph.nodes());
         assert!(rt; *target < graph.nodes());
         let least = graph.least(*source, *target)?;
-        assert_eq!(rt;
-            least.map(|cost| cost.length()),
-            *length,
-            "from {source} to {target}"
-        );
+        let is_right = least.map(Cost::length) == *length;
+        assert!(rt; is_right, "from {source} to {target}");
     }
     Ok(())
 }
@@ -76,98 +88,103 @@ fn cost_of(rt: &impl Abort, weights: &[u32]) -> Cost {
     cost
 }
 
+/// Tells lists of nodes from walks, each given with the weights that cost as much and whether it is a walk.
+fn check_walks(rt: &impl Abort, graph: &Graph, walks: &[(&[u32], &[u32], bool)]) {
+    for (nodes, weights, expected) in walks {
+        let is_walk = graph.is_walk(nodes, cost_of(rt, weights));
+        assert!(rt; is_walk == *expected);
+    }
+}
+
 #[test]
 fn keeps_what_it_is_made_of(rt: HostRuntime) -> Result<(), Fail> {
     let graph = graph_of(&rt, rt.alloc(), 3, &ROW)?;
-    assert_eq!(rt; graph.nodes(), 3);
-    assert_eq!(rt; graph.arcs().len(), 2);
-    assert_eq!(rt; graph.arcs()[1].weight, 3);
-    assert_eq!(rt; graph.bound().length(), 6);
+    assert!(rt; graph.nodes() == 3);
+    assert!(rt;
+        graph.arcs()
+            == [
+                Road {
+                    from: 1,
+                    to: 0,
+                    weight: 2
+                },
+                Road {
+                    from: 0,
+                    to: 2,
+                    weight: 3
+                }
+            ]
+            .as_slice()
+    );
     Ok(())
 }
 
 #[test]
-fn adds_arcs_in_a_row(rt: HostRuntime) -> Result<(), Fail> {
-    let graph = graph_of(&rt, rt.alloc(), 3, &ROW)?;
-    let lengths = [(1, 2, Some(5)), (2, 1, None), (1, 1, Some(0))];
-    check_least(&rt, &graph, &lengths)
-}
-
-#[test]
-fn takes_the_least_of_parallel_arcs(rt: HostRuntime) -> Result<(), Fail> {
-    let graph = graph_of(&rt, rt.alloc(), 2, &PARALLEL)?;
-    assert_eq!(rt; graph.bound().length(), 12);
-    let lengths = [(0, 1, Some(4)), (0, 0, Some(0)), (1, 0, None)];
-    check_least(&rt, &graph, &lengths)
-}
-
-#[test]
-fn goes_round_a_heavy_arc(rt: HostRuntime) -> Result<(), Fail> {
-    let arcs = [
-        (0, 3, 10),
-        (0, 1, 4),
-        (1, 3, 5),
-        (0, 2, 1),
-        (2, 1, 1),
-        (3, 0, 1),
+fn answers_least_lengths(rt: HostRuntime) -> Result<(), Fail> {
+    let cases: [(u32, &[(u32, u32, u32)], u64, &[(u32, u32, Option<u64>)]); 6] = [
+        (
+            3,
+            &ROW,
+            6,
+            &[(1, 2, Some(5)), (2, 1, None), (1, 1, Some(0))],
+        ),
+        (
+            2,
+            &PARALLEL,
+            12,
+            &[(0, 1, Some(4)), (0, 0, Some(0)), (1, 0, None)],
+        ),
+        (
+            4,
+            &AROUND,
+            30,
+            &[(0, 3, Some(7)), (0, 1, Some(2)), (2, 0, Some(7))],
+        ),
+        (
+            4,
+            &HEAVIEST,
+            12884901885,
+            &[(2, 3, Some(8589934590)), (3, 2, None)],
+        ),
+        (2, &[(0, 1, HEAVY)], 4294967295, &[(0, 1, Some(4294967295))]),
+        (1, &[], 0, &[(0, 0, Some(0))]),
     ];
-    let graph = graph_of(&rt, rt.alloc(), 4, &arcs)?;
-    let lengths = [(0, 3, Some(7)), (0, 1, Some(2)), (2, 0, Some(7))];
-    check_least(&rt, &graph, &lengths)
-}
-
-#[test]
-fn adds_the_heaviest_weights(rt: HostRuntime) -> Result<(), Fail> {
-    let arcs = [(2, 0, HEAVY), (0, 1, HEAVY), (1, 0, HEAVY), (0, 3, HEAVY)];
-    let graph = graph_of(&rt, rt.alloc(), 4, &arcs)?;
-    assert_eq!(rt; graph.bound().length(), 12884901885);
-    let lengths = [(2, 3, Some(8589934590)), (3, 2, None)];
-    check_least(&rt, &graph, &lengths)
-}
-
-#[test]
-fn takes_one_heaviest_arc(rt: HostRuntime) -> Result<(), Fail> {
-    let graph = graph_of(&rt, rt.alloc(), 2, &[(0, 1, HEAVY)])?;
-    assert_eq!(rt; graph.bound().length(), 4294967295);
-    check_least(&rt, &graph, &[(0, 1, Some(4294967295))])
-}
-
-#[test]
-fn stays_at_a_node_without_arcs(rt: HostRuntime) -> Result<(), Fail> {
-    let graph = graph_of(&rt, rt.alloc(), 1, &[])?;
-    assert_eq!(rt; graph.bound().length(), 0);
-    check_least(&rt, &graph, &[(0, 0, Some(0))])
-}
-
-#[test]
-fn tells_walks_by_their_cost(rt: HostRuntime) -> Result<(), Fail> {
-    let graph = graph_of(&rt, rt.alloc(), 3, &ROW)?;
-    let five = cost_of(&rt, &[2, 3]);
-    assert!(rt; graph.is_walk(&[1, 0, 2], five));
-    assert!(rt; !graph.is_walk(&[1, 0, 2], cost_of(&rt, &[2, 2])));
-    assert!(rt; !graph.is_walk(&[1, 0, 2], cost_of(&rt, &[3, 3])));
-    assert!(rt; !graph.is_walk(&[1, 2], five));
-    assert!(rt; !graph.is_walk(&[2, 0, 1], five));
-    assert!(rt; !graph.is_walk(&[1, 0, 3], five));
+    for (nodes, arcs, bound, lengths) in cases {
+        let graph = graph_of(&rt, rt.alloc(), nodes, arcs)?;
+        check_least(&rt, &graph, bound, lengths)?;
+    }
     Ok(())
 }
 
 #[test]
-fn tells_walks_without_arcs(rt: HostRuntime) -> Result<(), Fail> {
-    let graph = graph_of(&rt, rt.alloc(), 3, &ROW)?;
-    assert!(rt; graph.is_walk(&[2], Cost::ZERO));
-    assert!(rt; !graph.is_walk(&[2], cost_of(&rt, &[1])));
-    assert!(rt; !graph.is_walk(&[3], Cost::ZERO));
-    assert!(rt; !graph.is_walk(&[], Cost::ZERO));
-    Ok(())
-}
-
-#[test]
-fn walks_by_the_least_of_parallel_arcs(rt: HostRuntime) -> Result<(), Fail> {
-    let graph = graph_of(&rt, rt.alloc(), 2, &PARALLEL)?;
-    assert!(rt; graph.is_walk(&[0, 1], cost_of(&rt, &[4])));
-    assert!(rt; !graph.is_walk(&[0, 1], cost_of(&rt, &[9])));
-    assert!(rt; graph.is_walk(&[0, 0, 1], cost_of(&rt, &[12, 4])));
-    assert!(rt; !graph.is_walk(&[1, 0], cost_of(&rt, &[4])));
+fn tells_walks(rt: HostRuntime) -> Result<(), Fail> {
+    let row = graph_of(&rt, rt.alloc(), 3, &ROW)?;
+    check_walks(
+        &rt,
+        &row,
+        &[
+            (&[1, 0, 2], &[2, 3], true),
+            (&[1, 0, 2], &[2, 2], false),
+            (&[1, 0, 2], &[3, 3], false),
+            (&[1, 2], &[2, 3], false),
+            (&[2, 0, 1], &[2, 3], false),
+            (&[1, 0, 3], &[2, 3], false),
+            (&[2], &[], true),
+            (&[2], &[1], false),
+            (&[3], &[], false),
+            (&[], &[], false),
+        ],
+    );
+    let parallel = graph_of(&rt, rt.alloc(), 2, &PARALLEL)?;
+    check_walks(
+        &rt,
+        &parallel,
+        &[
+            (&[0, 1], &[4], true),
+            (&[0, 1], &[9], false),
+            (&[0, 0, 1], &[12, 4], true),
+            (&[1, 0], &[4], false),
+        ],
+    );
     Ok(())
 }

@@ -34,6 +34,10 @@ two = record {
   }) (All-nil (IsLinkWellMade (record { ranks = 0 ∷ 1 ∷ []; links = arc ∷ []; bound = of_weight 7 })));
 }
 
+pub indexed-requires : goal.indexed-requires
+unfolding arc
+indexed-requires c = rw (c.in_ok-ranks.ensures.items, c.in_ok-links.ensures.items, c.link.ensures, c.of_weight-seven.ensures) two
+
 pub new-requires : goal.new-requires
 unfolding arc
-new-requires c = rw (c.in_ok-ranks.ensures.items, c.in_ok-links.ensures.items, c.link.ensures, c.of_weight.ensures) two
+new-requires c = rw (c.in_ok-ranks.ensures.items, c.in_ok-links.ensures.items, c.link.ensures, c.of_weight-seven.ensures) two

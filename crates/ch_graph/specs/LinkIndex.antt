@@ -1,0 +1,19 @@
+-- Where the links of each node begin, in a list of links in rising order of their ends.
+use Rattle.std.specs.Prelude.{ℕ, ◌≡◌, ◌<◌, ◌≤◌, List, length, slice_index, slice_index_or}
+use Rattle.ch_graph.specs.declared.link.Link.{Link}
+
+-- the links before this place leave nodes below v, and those from there on v or nodes above it
+pub record IsFirstFrom (links : List Link) (v place : ℕ) : Type 0 where
+  pub within : place ≤ length links
+  pub before : (k : ℕ) (d : Link) → k < place → (slice_index_or links k d).from < v
+  pub behind : (k : ℕ) (d : Link) → place ≤ k → k < length links → v ≤ (slice_index_or links k d).from
+
+-- The list tells of each node, as far as it goes, the place of the first link that leaves it or a node above it.
+pub record IsIndexOf (links : List Link) (firsts : List ℕ) : Type 0 where
+  pub first : (v : ℕ) → v < length firsts → IsFirstFrom links v (slice_index firsts v)
+
+-- all links that leave x are from the first of these places on and before the second
+pub record IsPartOf (links : List Link) (x begin end : ℕ) : Type 0 where
+  pub ordered : begin ≤ end
+  pub within : end ≤ length links
+  pub whole : (k : ℕ) (d : Link) → k < length links → (slice_index_or links k d).from ≡ x → (begin ≤ k) × (k < end)

@@ -1,0 +1,113 @@
+ghost use Rattle.std.specs.Prelude.{◌≡◌, ◌+◌, ◌<◌, ◌≤◌, ℕ, [], length, slice_index_or, AllPairs, IfOk, IfSome, IfNone};
+ghost use Rattle.ch_graph.specs.declared.link.Link.{Link};
+ghost use Rattle.ch_graph.specs.Hierarchy.{ComesBefore, IsLinkAt};
+ghost use Rattle.ch_graph.specs.LinkIndex.{IsFirstFrom, IsIndexOf, IsPartOf};
+
+use crate::hierarchy::{LinkId, find_link};
+use crate::link::Link;
+use std::alloc::{AllocError, Global};
+use std::marker::Model;
+
+/// Where the links of each node begin, in a list of links in rising order of their ends.
+///
+/// It has for each node the place of the first link that leaves that node or one above it, and then the number of
+/// links, so that a link is looked for among those of its first node alone. It holds 8 bytes a node.
+#[derive(Drop)]
+pub struct LinkIndex {
+    firsts: Vec<usize>,
+}
+
+impl Model for LinkIndex {
+    ghost use Rattle.std.specs.Prelude.{List, ℕ};
+
+    ghost Value = { List ℕ };
+
+    ghost view = { λ i. i.firsts.items };
+}
+
+// The places from `begin` on and before `end`.
+#[derive(Clone, Copy)]
+struct Part {
+    begin: usize,
+    end: usize,
+}
+
+impl LinkIndex {
+    /// The index that has no node, of any links: by it a link is looked for among all. Takes no memory.
+    pub fn none(alloc: Global) -> LinkIndex
+        ensures { result ≡ [] }
+    {
+        LinkIndex {
+            firsts: Vec::new(alloc),
+        }
+    }
+
+    /// The index of these links, which are in rising order of their ends, for so many nodes.
+    ///
+    /// Looks at each link and each node once, and takes 8 bytes a node.
+    pub fn new(alloc: Global, nodes: u32, links: &[Link]) -> Result<LinkIndex, AllocError>
+        requires { AllPairs ComesBefore links.now }
+        ensures count { IfOk result (λ index. length index ≡ nodes + 1) }
+        ensures index { IfOk result (IsIndexOf links.now) }
+    {
+        let mut firsts = vec![in alloc; 0usize; nodes as usize + 1]?;
+        let mut place = 0;
+        'nodes: for node in 0..firsts.len() {
+            place = first_from(links, place, node);
+            firsts[node] = place;
+        }
+        Ok(LinkIndex { firsts })
+    }
+
+    /// The place of the link from one node to another among these links, or none where there is no such link.
+    ///
+    /// Looks at as many links as the number of those that leave the node has binary digits, and where the index
+    /// doesn't have the node, as the number of all.
+    pub fn find(&self, links: &[Link], from: u32, to: u32) -> Option<LinkId>
+        requires sorted { AllPairs ComesBefore links.now }
+        requires index { IsIndexOf links.now self.now }
+        ensures found { IfSome result (λ id. IsLinkAt links.now from to id.0) }
+        ensures none { IfNone result ((place : ℕ) → IsLinkAt links.now from to place → ⊥) }
+    {
+        let part = self.part(links, from);
+        let among = &links[part.begin..part.end];
+        match find_link(among, from, to) {
+            Some(place) => Some(LinkId(part.begin + place.0)),
+            None => None,
+        }
+    }
+
+    // Where the links that leave a node are.
+    fn part(&self, links: &[Link], from: u32) -> Part
+        requires { IsIndexOf links.now self.now }
+        ensures { IsPartOf links.now from result.begin result.end }
+    {
+        let node = from as usize;
+        if node + 1 < self.firsts.len() {
+            Part {
+                begin: self.firsts[node],
+                end: self.firsts[node + 1],
+            }
+        } else {
+            Part {
+                begin: 0,
+                end: links.len(),
+            }
+        }
+    }
+}
+
+// The place of the first link, from a place on, that leaves this node or one above it.
+fn first_from(links: &[Link], start: usize, node: usize) -> usize
+    requires sorted { AllPairs ComesBefore links.now }
+    requires within { start ≤ length links.now }
+    requires before { (k : ℕ) (d : Link) → k < start → (slice_index_or links.now k d).from < node }
+    ensures { IsFirstFrom links.now node result }
+{
+    'links: for place in start..links.len() {
+        if links[place].from as usize >= node {
+            return place;
+        }
+    }
+    links.len()
+}
