@@ -92,92 +92,81 @@ fn diamond(alloc: Global) -> Result<Vec<Road>, AllocError> {
     Ok(roads)
 }
 
-/// Whether an event is answered so.
-fn is_answered(world: &mut World, event: Event, want: Outcome) -> Result<bool, AllocError> {
-    Ok(world.step(event)? == want)
-}
-
-/// Whether reads, each by its worker, node and version, are answered so.
-fn are_read(world: &mut World, reads: &[(u32, u32, u64, Outcome)]) -> Result<bool, AllocError> {
-    let mut same = true;
-    for (worker, node, version, want) in reads {
-        same = is_answered(world, read(*worker, *node, *version), *want)? && same;
-    }
-    Ok(same)
-}
-
-/// The outcome where this node is contracted with this rank.
-fn committed(node: u32, rank: u32) -> Outcome {
-    Outcome::Committed(Receipt { node, rank })
-}
-
 #[test]
 fn later_offer_is_stale(rt: HostRuntime) -> Result<(), Fail> {
     let alloc = rt.alloc();
     let mut world = world_shown(alloc, 4, diamond(alloc)?)?;
     let first = proposal(alloc, &world, 0, 0)?;
     let second = proposal(alloc, &world, 1, 1)?;
-    assert!(rt; is_answered(&mut world, offer(0, first), committed(0, 0))?);
-    let stale = Outcome::Refused(CommitError::Stale {
+    let outcome = world.step(offer(0, first))?;
+    assert_eq!(rt; outcome, Outcome::Committed(Receipt { node: 0, rank: 0 }));
+    let outcome = world.step(offer(1, second))?;
+    let stale = CommitError::Stale {
         node: 2,
         seen: 2,
         now: 5,
         front: 1,
-    });
-    assert!(rt; is_answered(&mut world, offer(1, second), stale)?);
+    };
+    assert_eq!(rt; outcome, Outcome::Refused(stale));
     Ok(())
 }
-
-/// The first version of a node, its current one, and one of another node.
-const OLD_ROWS: [(u32, u32, u64, Outcome); 3] = [
-    (1, 2, 2, Outcome::Shown),
-    (1, 2, 5, Outcome::Shown),
-    (1, 2, 9, Outcome::NoSuch),
-];
 
 #[test]
 fn old_rows_are_read(rt: HostRuntime) -> Result<(), Fail> {
     let alloc = rt.alloc();
     let mut world = world_shown(alloc, 4, diamond(alloc)?)?;
     let first = proposal(alloc, &world, 0, 0)?;
-    assert!(rt; is_answered(&mut world, offer(0, first), committed(0, 0))?);
-    assert!(rt; are_read(&mut world, &OLD_ROWS)?);
+    let outcome = world.step(offer(0, first))?;
+    assert_eq!(rt; outcome, Outcome::Committed(Receipt { node: 0, rank: 0 }));
+    let outcome = world.step(read(1, 2, 2))?;
+    assert_eq!(rt; outcome, Outcome::Shown);
+    let outcome = world.step(read(1, 2, 5))?;
+    assert_eq!(rt; outcome, Outcome::Shown);
+    let outcome = world.step(read(1, 2, 9))?;
+    assert_eq!(rt; outcome, Outcome::NoSuch);
     Ok(())
 }
 
-// Of rows that it forgot, and of rows that another one read.
 #[test]
-fn rows_that_a_worker_lacks_are_not_offered(rt: HostRuntime) -> Result<(), Fail> {
+fn forgotten_rows_are_not_offered(rt: HostRuntime) -> Result<(), Fail> {
     let alloc = rt.alloc();
-    for (by, node) in [(1, 1), (0, 0)] {
-        let mut world = world_shown(alloc, 4, diamond(alloc)?)?;
-        let offered = proposal(alloc, &world, by, node)?;
-        assert!(rt; is_answered(&mut world, Event::Forget { worker: 1 }, Outcome::Forgotten)?);
-        assert!(rt; is_answered(&mut world, offer(1, offered), Outcome::NoSuch)?);
-    }
+    let mut world = world_shown(alloc, 4, diamond(alloc)?)?;
+    let mine = proposal(alloc, &world, 1, 1)?;
+    let outcome = world.step(Event::Forget { worker: 1 })?;
+    assert_eq!(rt; outcome, Outcome::Forgotten);
+    let outcome = world.step(offer(1, mine))?;
+    assert_eq!(rt; outcome, Outcome::NoSuch);
     Ok(())
 }
-
-/// A version of another node, a node that isn't there, and a worker who isn't.
-const NOTHING: [(u32, u32, u64, Outcome); 3] = [
-    (0, 0, 1, Outcome::NoSuch),
-    (0, 4, 4, Outcome::NoSuch),
-    (2, 0, 0, Outcome::NoSuch),
-];
 
 #[test]
 fn nothing_there(rt: HostRuntime) -> Result<(), Fail> {
     let alloc = rt.alloc();
     let mut world = world_of(alloc, 4, diamond(alloc)?, 2)?;
-    assert!(rt; are_read(&mut world, &NOTHING)?);
-    assert!(rt; is_answered(&mut world, Event::Forget { worker: 2 }, Outcome::NoSuch)?);
-    let sizes = (
-        world.workers(),
-        world.overlay().nodes(),
-        world.graph().nodes(),
-    );
-    assert_eq!(rt; sizes, (2, 4, 4));
+    let outcome = world.step(read(0, 0, 1))?;
+    assert_eq!(rt; outcome, Outcome::NoSuch, "a version of another node");
+    let outcome = world.step(read(0, 4, 4))?;
+    assert_eq!(rt; outcome, Outcome::NoSuch, "no such node");
+    let outcome = world.step(read(2, 0, 0))?;
+    assert_eq!(rt; outcome, Outcome::NoSuch, "no such worker");
+    let outcome = world.step(Event::Forget { worker: 2 })?;
+    assert_eq!(rt; outcome, Outcome::NoSuch);
+    assert_eq!(rt; world.workers(), 2);
     assert_eq!(rt; world.log().len(), 0);
+    assert_eq!(rt; world.overlay().nodes(), 4);
+    assert_eq!(rt; world.graph().nodes(), 4);
+    Ok(())
+}
+
+#[test]
+fn what_another_read_is_not_offered(rt: HostRuntime) -> Result<(), Fail> {
+    let alloc = rt.alloc();
+    let mut world = world_shown(alloc, 4, diamond(alloc)?)?;
+    let mine = proposal(alloc, &world, 0, 0)?;
+    let outcome = world.step(Event::Forget { worker: 1 })?;
+    assert_eq!(rt; outcome, Outcome::Forgotten);
+    let outcome = world.step(offer(1, mine))?;
+    assert_eq!(rt; outcome, Outcome::NoSuch);
     Ok(())
 }
 
@@ -185,11 +174,17 @@ fn nothing_there(rt: HostRuntime) -> Result<(), Fail> {
 fn another_bound(rt: HostRuntime) -> Result<(), Fail> {
     let alloc = rt.alloc();
     let mut world = world_shown(alloc, 4, diamond(alloc)?)?;
-    let mut heavy = diamond(alloc)?;
-    heavy.push(road(3, 3, 9))?;
+    let heavy = vec![in alloc;
+        road(2, 0, 1),
+        road(0, 3, 1),
+        road(2, 1, 1),
+        road(1, 3, 1),
+        road(3, 3, 9),
+    ]?;
     let other = world_shown(alloc, 4, heavy)?;
     let foreign = proposal(alloc, &other, 0, 0)?;
-    assert!(rt; is_answered(&mut world, offer(0, foreign), Outcome::NoSuch)?);
+    let outcome = world.step(offer(0, foreign))?;
+    assert_eq!(rt; outcome, Outcome::NoSuch);
     Ok(())
 }
 
@@ -200,9 +195,12 @@ fn offers_that_share_no_row(rt: HostRuntime) -> Result<(), Fail> {
     let mut world = world_shown(alloc, 6, roads)?;
     let first = proposal(alloc, &world, 0, 1)?;
     let second = proposal(alloc, &world, 1, 4)?;
-    assert!(rt; is_answered(&mut world, offer(0, first), committed(1, 0))?);
-    assert!(rt; is_answered(&mut world, offer(1, second), committed(4, 1))?);
-    assert!(rt; has_versions(&world, &[7, 6, 8, 10, 9, 11]));
+    let outcome = world.step(offer(0, first))?;
+    assert_eq!(rt; outcome, Outcome::Committed(Receipt { node: 1, rank: 0 }));
+    let outcome = world.step(offer(1, second))?;
+    assert_eq!(rt; outcome, Outcome::Committed(Receipt { node: 4, rank: 1 }));
+    let shown = has_versions(&world, [7, 6, 8, 10, 9, 11].as_slice());
+    assert!(rt; shown);
     Ok(())
 }
 
@@ -212,8 +210,10 @@ fn run_of_reads(rt: HostRuntime) -> Result<(), Fail> {
     let graph = graph_of(4, diamond(alloc)?).ok_or("a road that isn't allowed")?;
     let events = vec![in alloc; read(0, 0, 0), read(0, 0, 1), Event::Forget { worker: 0 }]?;
     let (world, outcomes) = run(alloc, graph, 1, events)?;
-    let want = [Outcome::Shown, Outcome::NoSuch, Outcome::Forgotten];
-    assert!(rt; outcomes.as_slice() == want.as_slice());
+    assert_eq!(rt;
+        outcomes.as_slice(),
+        [Outcome::Shown, Outcome::NoSuch, Outcome::Forgotten].as_slice()
+    );
     assert_eq!(rt; world.log().len(), 0);
     Ok(())
 }
