@@ -94,16 +94,23 @@ fn closed_at_once(queue: MultiQueue, passes: Vec<Pass>) -> Result<Vec<Item>, Clo
     }
 }
 
+/// What is handed back where a pass is missing. Fails where the queue is closed, or isn't for another reason.
+fn lacking(queue: MultiQueue, passes: Vec<Pass>) -> Result<(MultiQueue, Vec<Pass>), Fail> {
+    match queue.close(passes) {
+        Ok(_items) => Err(Fail::from("closed with a pass missing")),
+        Err((CloseError::PassMissing, queue, passes)) => Ok((queue, passes)),
+        Err((error, _queue, _passes)) => Err(Fail::from(error)),
+    }
+}
+
 #[test]
 fn what_is_pushed_is_popped(rt: HostRuntime) -> Result<(), Fail> {
     let (queue, mut pass) = MultiQueue::new(rt.alloc(), 4, 11)?;
     assert_eq!(rt; refused(queue.push(&rt, &mut pass, item(5, 7))), None);
     assert_eq!(rt; queue.pop(&rt, &mut pass)?, Some(item(5, 7)));
     assert_eq!(rt; queue.pop(&rt, &mut pass)?, None);
-    match closed(queue, vec![in rt.alloc(); pass]?) {
-        Ok(items) => assert!(rt; items.is_empty()),
-        Err(error) => assert!(rt; false, "not closed: {error}"),
-    }
+    let items = closed(queue, vec![in rt.alloc(); pass]?)?;
+    assert!(rt; items.is_empty());
     Ok(())
 }
 
@@ -115,18 +122,12 @@ fn closed_with_all_passes_alone(rt: HostRuntime) -> Result<(), Fail> {
     assert_eq!(rt; refused(queue.push(&rt, &mut first, item(5, 7))), None);
     assert_eq!(rt; refused(queue.push(&rt, &mut second, item(5, 7))), None);
     assert_eq!(rt; queue.pop(&rt, &mut first)?, Some(item(5, 7)));
-    let Err((error, queue, mut passes)) = queue.close(vec![in rt.alloc(); first]?) else {
-        assert!(rt; false, "closed with a pass missing");
-        return Ok(());
-    };
-    assert_eq!(rt; error, CloseError::PassMissing);
+    let (queue, mut passes) = lacking(queue, vec![in rt.alloc(); first]?)?;
     assert_eq!(rt; passes.len(), 1);
     assert_eq!(rt; passes[0].number(), 0);
     passes.push(second)?;
-    match closed(queue, passes) {
-        Ok(items) => assert_eq!(rt; items.as_slice(), [item(5, 7)].as_slice()),
-        Err(error) => assert!(rt; false, "not closed: {error}"),
-    }
+    let items = closed(queue, passes)?;
+    assert_eq!(rt; items.as_slice(), [item(5, 7)].as_slice());
     Ok(())
 }
 
@@ -136,16 +137,8 @@ fn one_pass_of_another_queue_for_two(rt: HostRuntime) -> Result<(), Fail> {
     let second = queue.pass()?;
     let (_other, stranger) = MultiQueue::new(rt.alloc(), 2, 1)?;
     let passes = vec![in rt.alloc(); first, stranger]?;
-    let Err((error, queue, _passes)) = queue.close(passes) else {
-        assert!(rt; false, "closed with a pass missing");
-        return Ok(());
-    };
-    assert_eq!(rt; error, CloseError::PassMissing);
-    let Err((error, _queue, passes)) = queue.close(vec![in rt.alloc(); second]?) else {
-        assert!(rt; false, "closed with a pass missing");
-        return Ok(());
-    };
-    assert_eq!(rt; error, CloseError::PassMissing);
+    let (queue, _passes) = lacking(queue, passes)?;
+    let (_queue, passes) = lacking(queue, vec![in rt.alloc(); second]?)?;
     assert_eq!(rt; passes.len(), 1);
     Ok(())
 }
@@ -200,21 +193,17 @@ fn what_is_left_is_in_order(rt: HostRuntime) -> Result<(), Fail> {
     ] {
         assert_eq!(rt; refused(queue.push(&rt, &mut pass, item(key, node))), None);
     }
-    match closed(queue, vec![in rt.alloc(); pass]?) {
-        Ok(items) => {
-            let want = [
-                item(0, 4),
-                item(2, 5),
-                item(2, 6),
-                item(2, 6),
-                item(9, 0),
-                item(9, 1),
-                item(u64::MAX, 3),
-            ];
-            assert_eq!(rt; items.as_slice(), want.as_slice());
-        }
-        Err(error) => assert!(rt; false, "not closed: {error}"),
-    }
+    let want = [
+        item(0, 4),
+        item(2, 5),
+        item(2, 6),
+        item(2, 6),
+        item(9, 0),
+        item(9, 1),
+        item(u64::MAX, 3),
+    ];
+    let items = closed(queue, vec![in rt.alloc(); pass]?)?;
+    assert_eq!(rt; items.as_slice(), want.as_slice());
     Ok(())
 }
 
@@ -252,10 +241,8 @@ fn two_threads_lose_nothing(rt: HostRuntime) -> Result<(), Fail> {
     );
     let mut all = by_first?;
     all.extend_from_slice(by_second?.as_slice())?;
-    match closed(queue, vec![in alloc; second, first]?) {
-        Ok(items) => all.extend_from_slice(items.as_slice())?,
-        Err(error) => assert!(rt; false, "not closed: {error}"),
-    }
+    let items = closed(queue, vec![in alloc; second, first]?)?;
+    all.extend_from_slice(items.as_slice())?;
     all.as_mut_slice().sort_unstable();
     let mut put = Vec::new(alloc);
     for key in 0..500u64 {

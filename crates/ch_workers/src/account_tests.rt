@@ -24,165 +24,159 @@ fn falling_log(alloc: Global, nodes: u32) -> Result<Vec<Contraction>, AllocError
     Ok(log)
 }
 
-/// A receipt by its node and rank.
-fn receipt(node: u32, rank: u32) -> Receipt {
-    Receipt { node, rank }
+/// The receipts of these nodes and ranks.
+fn receipts_of(alloc: Global, receipts: &[(u32, u32)]) -> Result<Vec<Receipt>, AllocError> {
+    let mut list = Vec::new(alloc);
+    'receipts: for (node, rank) in receipts {
+        list.push(Receipt {
+            node: *node,
+            rank: *rank,
+        })?;
+    }
+    Ok(list)
 }
 
-/// Whether the lists account for the log of three nodes, 2, 1 and 0.
-fn account_for_three(alloc: Global, lists: &[Vec<Receipt>]) -> Result<bool, AllocError> {
-    let log = falling_log(alloc, 3)?;
-    is_account(alloc, &log, lists)
+/// Whether the lists of these receipts account for the log of so many nodes.
+fn account(alloc: Global, nodes: u8, lists: &[&[(u32, u32)]]) -> Result<bool, AllocError> {
+    let log = falling_log(alloc, u32::from(nodes))?;
+    let mut receipts = Vec::new(alloc);
+    'lists: for list in lists {
+        receipts.push(receipts_of(alloc, list)?)?;
+    }
+    is_account(alloc, &log, receipts.as_slice())
 }
 
-#[test]
-fn no_receipts_account_for_an_empty_log(rt: HostRuntime) -> Result<(), Fail> {
-    let alloc = rt.alloc();
-    let log = falling_log(alloc, 0)?;
-    let none: Vec<Vec<Receipt>> = Vec::new(alloc);
-    assert!(rt; is_account(alloc, &log, &none)?);
-    let two = vec![in alloc; Vec::new(alloc), Vec::new(alloc)]?;
-    assert!(rt; is_account(alloc, &log, &two)?);
-    let one = vec![in alloc; vec![in alloc; receipt(0, 0)]?]?;
-    assert!(rt; !is_account(alloc, &log, &one)?);
-    Ok(())
-}
-
-#[test]
-fn one_list_accounts(rt: HostRuntime) -> Result<(), Fail> {
-    let alloc = rt.alloc();
-    let list = vec![in alloc; receipt(2, 0), receipt(1, 1), receipt(0, 2)]?;
-    let lists = vec![in alloc; list]?;
-    assert!(rt; account_for_three(alloc, &lists)?);
-    Ok(())
-}
-
-#[test]
-fn interleaved_lists_account(rt: HostRuntime) -> Result<(), Fail> {
-    let alloc = rt.alloc();
-    let first = vec![in alloc; receipt(2, 0), receipt(0, 2)]?;
-    let second = vec![in alloc; receipt(1, 1)]?;
-    let lists = vec![in alloc; first, second]?;
-    assert!(rt; account_for_three(alloc, &lists)?);
-    Ok(())
-}
+/// Nodes of a log, the nodes and ranks of receipts, list by list, and whether they account for the log. That of three
+/// nodes contracts 2, 1 and 0.
+const ACCOUNTS: [(u8, &[&[(u32, u32)]], bool); 10] = [
+    // no entries: no receipts account for them
+    (0, &[], true),
+    (0, &[&[], &[]], true),
+    (0, &[&[(0, 0)]], false),
+    // one list, and two that interleave
+    (3, &[&[(2, 0), (1, 1), (0, 2)]], true),
+    (3, &[&[(2, 0), (0, 2)], &[(1, 1)]], true),
+    // a receipt is missing, or stands twice
+    (3, &[&[(2, 0), (0, 2)], &[]], false),
+    (3, &[&[(2, 0), (1, 1), (0, 2)], &[(1, 1)]], false),
+    // a receipt is of another node, a list falls, and a rank is beyond the log
+    (3, &[&[(2, 0), (2, 1), (0, 2)]], false),
+    (3, &[&[(1, 1), (2, 0), (0, 2)]], false),
+    (3, &[&[(2, 0), (1, 1), (0, 2)], &[(5, 3)]], false),
+];
 
 #[test]
-fn missing_receipt_is_missed(rt: HostRuntime) -> Result<(), Fail> {
-    let alloc = rt.alloc();
-    let first = vec![in alloc; receipt(2, 0), receipt(0, 2)]?;
-    let lists = vec![in alloc; first, Vec::new(alloc)]?;
-    assert!(rt; !account_for_three(alloc, &lists)?);
-    Ok(())
-}
-
-#[test]
-fn receipt_twice_is_seen(rt: HostRuntime) -> Result<(), Fail> {
-    let alloc = rt.alloc();
-    let first = vec![in alloc; receipt(2, 0), receipt(1, 1), receipt(0, 2)]?;
-    let second = vec![in alloc; receipt(1, 1)]?;
-    let lists = vec![in alloc; first, second]?;
-    assert!(rt; !account_for_three(alloc, &lists)?);
-    Ok(())
-}
-
-#[test]
-fn receipt_of_another_node_is_seen(rt: HostRuntime) -> Result<(), Fail> {
-    let alloc = rt.alloc();
-    let list = vec![in alloc; receipt(2, 0), receipt(2, 1), receipt(0, 2)]?;
-    let lists = vec![in alloc; list]?;
-    assert!(rt; !account_for_three(alloc, &lists)?);
-    Ok(())
-}
-
-#[test]
-fn list_that_falls_is_seen(rt: HostRuntime) -> Result<(), Fail> {
-    let alloc = rt.alloc();
-    let list = vec![in alloc; receipt(1, 1), receipt(2, 0), receipt(0, 2)]?;
-    let lists = vec![in alloc; list]?;
-    assert!(rt; !account_for_three(alloc, &lists)?);
-    Ok(())
-}
-
-#[test]
-fn rank_beyond_the_log_is_seen(rt: HostRuntime) -> Result<(), Fail> {
-    let alloc = rt.alloc();
-    let first = vec![in alloc; receipt(2, 0), receipt(1, 1), receipt(0, 2)]?;
-    let second = vec![in alloc; receipt(5, 3)]?;
-    let lists = vec![in alloc; first, second]?;
-    assert!(rt; !account_for_three(alloc, &lists)?);
+fn receipts_account_for_a_log(rt: HostRuntime) -> Result<(), Fail> {
+    for (nodes, lists, want) in ACCOUNTS {
+        assert_eq!(rt; account(rt.alloc(), nodes, lists)?, want);
+    }
     Ok(())
 }
 
 /// Options that are good for two lists.
-fn good() -> Options {
-    Options {
-        workers: 2,
-        heaps: 2,
-        seed: 7,
-        settle: 500,
-        defer: 10,
-        turns: 1000,
-    }
-}
+const GOOD: Options = Options {
+    workers: 2,
+    heaps: 2,
+    seed: 7,
+    settle: 500,
+    defer: 10,
+    turns: 1000,
+};
+
+/// Options, a number of lists, and whether they are bad.
+const LIMITS: [(Options, usize, bool); 24] = [
+    (Options { workers: 0, ..GOOD }, 0, false),
+    (
+        Options {
+            workers: 64,
+            ..GOOD
+        },
+        64,
+        false,
+    ),
+    (
+        Options {
+            workers: 65,
+            ..GOOD
+        },
+        65,
+        true,
+    ),
+    (Options { workers: 0, ..GOOD }, 1, true),
+    (Options { workers: 2, ..GOOD }, 2, false),
+    (Options { workers: 2, ..GOOD }, 1, true),
+    (Options { workers: 2, ..GOOD }, 3, true),
+    (Options { heaps: 0, ..GOOD }, 2, true),
+    (Options { heaps: 1, ..GOOD }, 2, false),
+    (Options { heaps: 4, ..GOOD }, 2, false),
+    (Options { heaps: 5, ..GOOD }, 2, true),
+    (Options { settle: 0, ..GOOD }, 2, true),
+    (Options { settle: 1, ..GOOD }, 2, false),
+    (
+        Options {
+            settle: 65_536,
+            ..GOOD
+        },
+        2,
+        false,
+    ),
+    (
+        Options {
+            settle: 65_537,
+            ..GOOD
+        },
+        2,
+        true,
+    ),
+    (Options { defer: 0, ..GOOD }, 2, false),
+    (
+        Options {
+            defer: 65_535,
+            ..GOOD
+        },
+        2,
+        false,
+    ),
+    (
+        Options {
+            defer: 65_536,
+            ..GOOD
+        },
+        2,
+        true,
+    ),
+    (Options { turns: 0, ..GOOD }, 2, true),
+    (Options { turns: 1, ..GOOD }, 2, false),
+    (
+        Options {
+            turns: 1_099_511_627_776,
+            ..GOOD
+        },
+        2,
+        false,
+    ),
+    (
+        Options {
+            turns: 1_099_511_627_777,
+            ..GOOD
+        },
+        2,
+        true,
+    ),
+    (Options { seed: 0, ..GOOD }, 2, false),
+    (
+        Options {
+            seed: u64::MAX,
+            ..GOOD
+        },
+        2,
+        false,
+    ),
+];
 
 #[test]
-fn workers_and_their_lists_have_limits(rt: HostRuntime) {
-    for (workers, lists, want) in [
-        (0, 0, false),
-        (64, 64, false),
-        (65, 65, true),
-        (0, 1, true),
-        (2, 2, false),
-        (2, 1, true),
-        (2, 3, true),
-    ] {
-        let options = Options { workers, ..good() };
+fn numbers_have_limits(rt: HostRuntime) {
+    for (options, lists, want) in LIMITS {
         assert_eq!(rt; options.are_bad(lists), want);
-    }
-}
-
-#[test]
-fn heaps_have_limits(rt: HostRuntime) {
-    for (heaps, want) in [(0, true), (1, false), (4, false), (5, true)] {
-        let options = Options { heaps, ..good() };
-        assert_eq!(rt; options.are_bad(2), want);
-    }
-}
-
-#[test]
-fn settled_nodes_have_limits(rt: HostRuntime) {
-    for (settle, want) in [(0, true), (1, false), (65_536, false), (65_537, true)] {
-        let options = Options { settle, ..good() };
-        assert_eq!(rt; options.are_bad(2), want);
-    }
-}
-
-#[test]
-fn deferrals_have_a_limit(rt: HostRuntime) {
-    for (defer, want) in [(0, false), (65_535, false), (65_536, true)] {
-        let options = Options { defer, ..good() };
-        assert_eq!(rt; options.are_bad(2), want);
-    }
-}
-
-#[test]
-fn turns_have_limits(rt: HostRuntime) {
-    for (turns, want) in [
-        (0, true),
-        (1, false),
-        (1_099_511_627_776, false),
-        (1_099_511_627_777, true),
-    ] {
-        let options = Options { turns, ..good() };
-        assert_eq!(rt; options.are_bad(2), want);
-    }
-}
-
-#[test]
-fn seed_has_no_limit(rt: HostRuntime) {
-    for seed in [0, u64::MAX] {
-        let options = Options { seed, ..good() };
-        assert!(rt; !options.are_bad(2));
     }
 }

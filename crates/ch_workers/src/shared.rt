@@ -72,17 +72,20 @@ impl<S: Site> Shared<S> {
         self.board.lock(rt).commit(proposal)
     }
 
-    /// Tells a listener the next entry of the log, under one hold of the board's lock. False where it was told all.
+    /// Tells a listener the entry of this rank, which is its next, under one hold of the board's lock. False where it
+    /// was told all.
     pub(crate) fn tell_next<E: Estimator, R: Wait>(
         &self,
         rt: &R,
+        rank: u32,
         listener: &mut Listener<E>,
     ) -> Result<bool, AllocError>
+        requires next { rank ≡ listener.old.told }
         ensures told { IfOk result (λ more. IsTrue more → listener.new.told ≡ listener.old.told + 1) }
         ensures few { IfOk result (λ more. IsTrue more → listener.new.told ≤ 2 ^ 25) }
     {
         let board = self.board.lock(rt);
-        match board.log().get(listener.told() as usize) {
+        match board.log().get(rank as usize) {
             Some(entry) => {
                 listener.tell(entry)?;
                 Ok(true)
@@ -97,7 +100,7 @@ impl<S: Site> Shared<S> {
         rt: &R,
         listener: &mut Listener<E>,
     ) -> Result<(), AllocError> {
-        'entries: while self.tell_next(rt, listener)? {}
+        'entries: while self.tell_next(rt, listener.told(), listener)? {}
         Ok(())
     }
 }

@@ -170,27 +170,18 @@ fn told_is_a_prefix_of_the_log(rt: HostRuntime) -> Result<(), Fail> {
 }
 
 #[test]
-fn a_build_drops_the_estimators(rt: HostRuntime) -> Result<(), Fail> {
+fn estimators_are_dropped(rt: HostRuntime) -> Result<(), Fail> {
     let alloc = rt.alloc();
-    let traces = no_traces(alloc)?;
-    let options = Options { workers: 3, ..ONE };
-    let built = built_by(&rt, alloc, options, &traces)?;
-    assert!(rt; built.is_ok());
-    assert_eq!(rt; traces.dropped.load(Ordering::SeqCst), 3);
-    Ok(())
-}
-
-#[test]
-fn bad_options_drop_the_estimators(rt: HostRuntime) -> Result<(), Fail> {
-    let alloc = rt.alloc();
-    let traces = no_traces(alloc)?;
-    let options = Options {
-        workers: 3,
-        heaps: 0,
-        ..ONE
-    };
-    let built = built_by(&rt, alloc, options, &traces)?;
-    assert!(rt; matches!(built, Err(BuildError::BadOptions)));
-    assert_eq!(rt; traces.dropped.load(Ordering::SeqCst), 3);
+    for (heaps, want) in [(1, None), (0, Some(BuildError::BadOptions))] {
+        let traces = no_traces(alloc)?;
+        let options = Options {
+            workers: 3,
+            heaps,
+            ..ONE
+        };
+        let built = built_by(&rt, alloc, options, &traces)?;
+        assert_eq!(rt; built.err(), want);
+        assert_eq!(rt; traces.dropped.load(Ordering::SeqCst), 3);
+    }
     Ok(())
 }

@@ -6,7 +6,9 @@ use ch_cost::Cost;
 use ch_estimate::Leases;
 use ch_graph::{Hierarchy, Link};
 use std::alloc::Global;
+use std::sync::Wait;
 use std::test::Fail;
+use std::thread::Threads;
 
 /// A link without a middle.
 fn link(from: u32, to: u32, weight: u32) -> Link {
@@ -54,27 +56,32 @@ fn are_receipts(built: &Built, worker: &[Receipt], sweep: &[Receipt]) -> bool {
     }
 }
 
-#[test]
-fn a_star_by_one_worker(rt: HostRuntime) -> Result<(), Fail> {
-    let alloc = rt.alloc();
-    let graph = star(alloc)?;
-    let built = built_by(&rt, alloc, graph, ONE, Keys::Differences, &OpenGate)?;
-    assert!(rt; are_ranks(&built.hierarchy, [4, 0, 1, 2, 3].as_slice()));
-    assert_eq!(rt; built.hierarchy.bound().length(), 4);
-    let links = [link(0, 3, 1), link(0, 4, 1), link(1, 0, 1), link(2, 0, 1)];
-    assert!(rt; built.hierarchy.links() == links.as_slice());
-    Ok(())
+/// Whether so many workers make a hierarchy of the star that has these ranks and links, and the bound 4.
+fn makes_of_a_star<R: Threads + Wait + Sync>(
+    rt: &R,
+    alloc: Global,
+    workers: u32,
+    ranks: &[u32],
+    links: &[Link],
+) -> Result<bool, Fail> {
+    let options = Options { workers, ..ONE };
+    let built = built_by(
+        rt,
+        alloc,
+        star(alloc)?,
+        options,
+        Keys::Differences,
+        &OpenGate,
+    )?;
+    let hierarchy = &built.hierarchy;
+    Ok(are_ranks(hierarchy, ranks) && hierarchy.bound().length() == 4 && hierarchy.links() == links)
 }
 
 #[test]
-fn a_star_by_no_worker(rt: HostRuntime) -> Result<(), Fail> {
-    let alloc = rt.alloc();
-    let graph = star(alloc)?;
-    let options = Options { workers: 0, ..ONE };
-    let built = built_by(&rt, alloc, graph, options, Keys::Differences, &OpenGate)?;
-    assert!(rt; are_ranks(&built.hierarchy, [0, 1, 2, 3, 4].as_slice()));
-    assert_eq!(rt; built.hierarchy.bound().length(), 4);
-    let links = [
+fn a_star_by_one_worker_and_by_none(rt: HostRuntime) -> Result<(), Fail> {
+    let by_one = [link(0, 3, 1), link(0, 4, 1), link(1, 0, 1), link(2, 0, 1)];
+    assert!(rt; makes_of_a_star(&rt, rt.alloc(), 1, &[4, 0, 1, 2, 3], &by_one)?);
+    let by_none = [
         link(0, 3, 1),
         link(0, 4, 1),
         link(1, 0, 1),
@@ -84,34 +91,34 @@ fn a_star_by_no_worker(rt: HostRuntime) -> Result<(), Fail> {
         shortcut(2, 3, 2),
         shortcut(2, 4, 2),
     ];
-    assert!(rt; built.hierarchy.links() == links.as_slice());
+    assert!(rt; makes_of_a_star(&rt, rt.alloc(), 0, &[0, 1, 2, 3, 4], &by_none)?);
     Ok(())
+}
+
+/// Whether one worker, who takes so many turns, leaves these receipts of the tie to the sweep, of four in order, and
+/// passes points with these digits.
+fn takes_turns<R: Threads + Wait + Sync>(
+    rt: &R,
+    alloc: Global,
+    turns: u64,
+    own: usize,
+    digits: u64,
+) -> Result<bool, Fail> {
+    let trail = Trail::new();
+    let options = Options { turns, ..ONE };
+    let built = built_by(rt, alloc, tie(alloc)?, options, Keys::Differences, &trail)?;
+    let order = [receipt(0, 0), receipt(1, 1), receipt(2, 2), receipt(3, 3)];
+    let Some((worker, sweep)) = order.split_at_checked(own) else {
+        return Ok(false);
+    };
+    Ok(are_receipts(&built, worker, sweep) && trail.digits() == digits)
 }
 
 // After the first commit the keys of nodes 1, 2 and 3 have risen, and after the third that of node 3 has again.
 #[test]
-fn a_tie_by_one_worker(rt: HostRuntime) -> Result<(), Fail> {
-    let alloc = rt.alloc();
-    let graph = tie(alloc)?;
-    let trail = Trail::new();
-    let built = built_by(&rt, alloc, graph, ONE, Keys::Differences, &trail)?;
-    let order = [receipt(0, 0), receipt(1, 1), receipt(2, 2), receipt(3, 3)];
-    assert!(rt; are_receipts(&built, order.as_slice(), [].as_slice()));
-    assert_eq!(rt; trail.digits(), 0o123_111_123_123_1_123_5);
-    Ok(())
-}
-
-#[test]
-fn a_tie_by_one_turn_and_the_sweep(rt: HostRuntime) -> Result<(), Fail> {
-    let alloc = rt.alloc();
-    let graph = tie(alloc)?;
-    let trail = Trail::new();
-    let options = Options { turns: 1, ..ONE };
-    let built = built_by(&rt, alloc, graph, options, Keys::Differences, &trail)?;
-    let first = [receipt(0, 0)];
-    let rest = [receipt(1, 1), receipt(2, 2), receipt(3, 3)];
-    assert!(rt; are_receipts(&built, first.as_slice(), rest.as_slice()));
-    assert_eq!(rt; trail.digits(), 0o123_5);
+fn a_tie_by_one_worker_and_the_sweep(rt: HostRuntime) -> Result<(), Fail> {
+    assert!(rt; takes_turns(&rt, rt.alloc(), 100, 4, 0o123_111_123_123_1_123_5)?);
+    assert!(rt; takes_turns(&rt, rt.alloc(), 1, 1, 0o123_5)?);
     Ok(())
 }
 

@@ -20,45 +20,48 @@ fn is_refused<R: Threads + Wait + Sync>(
     Ok(matches!(built, Err(BuildError::BadOptions)))
 }
 
-#[test]
-fn lists_that_are_bad(rt: HostRuntime) -> Result<(), Fail> {
-    let alloc = rt.alloc();
-    for (workers, lists, want) in [
-        (0, 0, false),
-        (0, 1, true),
-        (1, 1, false),
-        (2, 1, true),
-        (2, 3, true),
-        (65, 65, true),
-    ] {
-        let options = Options { workers, ..ONE };
-        assert_eq!(rt; is_refused(&rt, alloc, options, lists)?, want);
-    }
-    Ok(())
-}
-
-#[test]
-fn numbers_that_are_bad(rt: HostRuntime) -> Result<(), Fail> {
-    let alloc = rt.alloc();
-    for options in [
-        Options { heaps: 0, ..ONE },
-        Options { heaps: 5, ..ONE },
-        Options { settle: 0, ..ONE },
+/// Options, a number of lists, and whether they are bad.
+const OPTIONS: [(Options, u32, bool); 13] = [
+    (Options { workers: 0, ..ONE }, 0, false),
+    (Options { workers: 0, ..ONE }, 1, true),
+    (Options { workers: 1, ..ONE }, 1, false),
+    (Options { workers: 2, ..ONE }, 1, true),
+    (Options { workers: 2, ..ONE }, 3, true),
+    (Options { workers: 65, ..ONE }, 65, true),
+    (Options { heaps: 0, ..ONE }, 1, true),
+    (Options { heaps: 5, ..ONE }, 1, true),
+    (Options { settle: 0, ..ONE }, 1, true),
+    (
         Options {
             settle: 65_537,
             ..ONE
         },
+        1,
+        true,
+    ),
+    (
         Options {
             defer: 65_536,
             ..ONE
         },
-        Options { turns: 0, ..ONE },
+        1,
+        true,
+    ),
+    (Options { turns: 0, ..ONE }, 1, true),
+    (
         Options {
             turns: 1_099_511_627_777,
             ..ONE
         },
-    ] {
-        assert!(rt; is_refused(&rt, alloc, options, 1)?);
+        1,
+        true,
+    ),
+];
+
+#[test]
+fn bad_options_are_refused(rt: HostRuntime) -> Result<(), Fail> {
+    for (options, lists, want) in OPTIONS {
+        assert_eq!(rt; is_refused(&rt, rt.alloc(), options, lists)?, want);
     }
     Ok(())
 }

@@ -31,42 +31,30 @@ fn do_all<R: Threads + Wait + Sync>(
     Ok(tally.is_of(&built) && are_least(alloc, same, &built.hierarchy)?)
 }
 
-#[test]
-fn ties_by_the_greatest_keys(rt: HostRuntime) -> Result<(), Fail> {
-    let alloc = rt.alloc();
-    let same = tie(alloc)?;
-    'workers: for workers in [0, 1, 2, 8] {
-        assert!(rt; do_all(&rt, alloc, tie(alloc)?, &same, workers, Keys::Greatest)?);
-    }
-    Ok(())
+/// Whether so many workers contract the tie and the grid whole.
+fn do_both<R: Threads + Wait + Sync>(
+    rt: &R,
+    alloc: Global,
+    workers: u32,
+    keys: Keys,
+) -> Result<bool, Fail> {
+    let ties = do_all(rt, alloc, tie(alloc)?, &tie(alloc)?, workers, keys)?;
+    Ok(ties && do_all(rt, alloc, grid(alloc)?, &grid(alloc)?, workers, keys)?)
 }
 
 #[test]
-fn ties_by_drawn_keys(rt: HostRuntime) -> Result<(), Fail> {
-    let alloc = rt.alloc();
-    let same = tie(alloc)?;
-    'workers: for workers in [0, 1, 2, 8] {
-        assert!(rt; do_all(&rt, alloc, tie(alloc)?, &same, workers, Keys::Drawn(7))?);
-    }
-    Ok(())
-}
-
-#[test]
-fn grids_by_the_greatest_keys(rt: HostRuntime) -> Result<(), Fail> {
-    let alloc = rt.alloc();
-    let same = grid(alloc)?;
-    'workers: for workers in [0, 1, 2, 8] {
-        assert!(rt; do_all(&rt, alloc, grid(alloc)?, &same, workers, Keys::Greatest)?);
-    }
-    Ok(())
-}
-
-#[test]
-fn grids_by_drawn_keys(rt: HostRuntime) -> Result<(), Fail> {
-    let alloc = rt.alloc();
-    let same = grid(alloc)?;
-    'workers: for workers in [0, 1, 2, 8] {
-        assert!(rt; do_all(&rt, alloc, grid(alloc)?, &same, workers, Keys::Drawn(7))?);
+fn ties_and_grids_by_throngs(rt: HostRuntime) -> Result<(), Fail> {
+    for (workers, keys) in [
+        (0, Keys::Greatest),
+        (1, Keys::Greatest),
+        (2, Keys::Greatest),
+        (8, Keys::Greatest),
+        (0, Keys::Drawn(7)),
+        (1, Keys::Drawn(7)),
+        (2, Keys::Drawn(7)),
+        (8, Keys::Drawn(7)),
+    ] {
+        assert!(rt; do_both(&rt, rt.alloc(), workers, keys)?);
     }
     Ok(())
 }

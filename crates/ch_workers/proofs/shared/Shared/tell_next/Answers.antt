@@ -6,5 +6,5 @@ use Rattle.ch_workers.proofs.Reading.{at_get}
 pub tell-requires-clause-rising : goal.tell-requires-clause-rising
 tell-requires-clause-rising g c =
     let read = c.in-Some.ensures.lookup in
-    let there = at_get c.log.result.now c.told.result c.in-Some.entry.now read.3.0 (read.3.1 c.in-Some.entry.now) in
-    c.log.ensures.log.rising c.told.result c.in-Some.entry.now (ap (λ xs. slice_get xs c.told.result) (sym c.log.ensures.entries) ∙ there)
+    let there = at_get c.log.result.now c.args.rank c.in-Some.entry.now read.3.0 (read.3.1 c.in-Some.entry.now) in
+    c.log.ensures.log.rising c.args.rank c.in-Some.entry.now (ap (λ xs. slice_get xs c.args.rank) (sym c.log.ensures.entries) ∙ there)
