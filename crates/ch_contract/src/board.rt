@@ -155,10 +155,10 @@ impl<S: Site> Board<S> {
         ensures back { IfErr result (λ refused. refused.0 ≡ self) }
     {
         match hierarchy_of(&self.ledger) {
-            Ok(hierarchy) => Ok(Finished {
-                hierarchy,
-                log: self.ledger.into_log(),
-            }),
+            Ok(hierarchy) => {
+                let log = self.ledger.into_log();
+                Ok(Finished { hierarchy, log })
+            }
             Err(error) => Err((self, error)),
         }
     }

@@ -190,7 +190,9 @@ fn light_pair(bound: Cost, into: Entry, out: Entry) -> Option<Shortcut>
     if into.other == out.other {
         return None;
     }
-    let cost = into.cost.plus_within(out.cost, bound)?;
+    let Some(cost) = into.cost.plus_within(out.cost, bound) else {
+        return None;
+    };
     Some(Shortcut {
         from: into.other,
         to: out.other,

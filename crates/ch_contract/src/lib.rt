@@ -18,14 +18,10 @@ mod finish;
 mod ledger;
 mod parts;
 mod proposal;
-#[cfg(test)]
-mod propose_tests;
 mod proposing;
 mod shown;
 mod site;
 mod sweep;
-#[cfg(test)]
-mod tests;
 mod verdict;
 
 pub use board::Board;

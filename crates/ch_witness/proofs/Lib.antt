@@ -7,7 +7,5 @@ pub mod Limits
 pub mod Listing
 pub mod Placing
 pub mod Offering
-pub mod RisingEntries
-pub mod SmallBounds
 pub mod Tracing
 pub mod Valued

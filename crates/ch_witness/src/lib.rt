@@ -18,8 +18,6 @@ mod node_index;
 mod rows;
 mod rule;
 mod searching;
-#[cfg(test)]
-mod tests;
 mod trace;
 mod tree;
 mod way;

@@ -1,4 +1,4 @@
-use Rattle.std.proofs.Common.{◌<◌, length, arith, ap, subst, ◌∙◌}
+use Rattle.std.proofs.Common.{◌<◌, length, arith, ap, slice_index, subst, ◌∙◌}
 use Rattle.ch_overlay.specs.Overlay.{Overlay, row_at}
 use Rattle.ch_contract.proofs.ShownRows.{seen_row, names_nodes, board_bound}
 use Rattle.ch_contract.proofs.shown.shown.Goals as goal
@@ -25,3 +25,13 @@ returns-in_err-row-clause-bound c = board_bound c.args.ledger.now c.log.ensures.
 
 pub returns-clause-bound : goal.returns-clause-bound
 returns-clause-bound c = board_bound c.args.ledger.now c.log.ensures.holds
+
+pub returns-clause-shows : goal.returns-clause-shows
+returns-clause-shows c =
+    let o = c.args.ledger.now.overlay in
+    let inside : c.args.node < length o.rows = subst (λ (q : Overlay). c.args.node < length q.rows) c.overlay-overlay.ensures (omega (arith, c.nodes.ensures.count)) in
+    let row_is = c.in_ok-row.ensures ∙ c.row.ensures ∙ ap (λ (q : Overlay). row_at q.rows c.args.node) c.overlay-overlay.ensures in
+    record {
+      row = record { in_range = inside; same = row_is };
+      version = c.version.ensures ∙ ap (λ (q : Overlay). slice_index q.versions c.args.node) c.overlay-overlay.ensures;
+    }

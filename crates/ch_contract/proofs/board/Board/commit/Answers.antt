@@ -32,3 +32,6 @@ returns-clause-stale g c node seen now front = (
   λ e. absurd (cc),
   λ stale. absurd (accepted-apart _ _ ((c.in_default.ensures.stale node seen now front).1 (subst (λ (b : Board). IsStale b c.args.proposal node seen now front) (sym c.self.view_is) stale))),
 )
+
+pub returns-in_default-plan-clause-ok : goal.returns-in_default-plan-clause-ok
+returns-in_default-plan-clause-ok g c = tt

@@ -1,4 +1,4 @@
-use Rattle.std.proofs.Common.{ℕ, ◌≡◌, ◌<◌, List, length, Option, None, Some, false, slice_index_or, refl, sym, subst, ap, ◌∙◌, arith}
+use Rattle.std.proofs.Common.{ℕ, ◌≡◌, ◌<◌, List, length, Option, None, Some, false, slice_index_or, refl, sym, inl, subst, ap, ◌∙◌, arith}
 use Rattle.std.specs.Option.{is_some}
 use Rattle.ch_cost.specs.Cost.{IsInLimit}
 use Rattle.ch_laws.specs.declared.entry.Entry.{Entry}
@@ -51,3 +51,14 @@ returns-clause-whole g c = λ named all.
     let kept = c.in_ok-seen.ensures.copy in
     let now = c.in_ok-seen.ensures.names (all c.args.reached.node _ c.requires.label) named seen.node kept.original kept.here in
     names_kept c.args.rule (g.S.RowSource.whole c.args.source.now) (g.S.RowSource.whole c.read.new.source) (λ v h. g.met.S.RowSource.still_whole c.args.source.now c.read.new.source v c.in_ok-seen.ensures.stays h) (row_in seen) c.args.reached.cost (length c.args.self.now.steps.items) (labels_of c.args.self.now.frontier) (labels_of c.follow.new.frontier) (subst (NamesAlone (g.S.RowSource.whole c.read.new.source)) (sym kept.same.row) now) all (followed g c)
+
+pub returns-clause-gone : goal.returns-clause-gone
+returns-clause-gone g c = (
+  c.in_ok-seen.seen,
+  c.in_ok-seen.ensures.copy,
+  record {
+    node = c.in_ok-seen.ensures.node;
+    steps = inl (unranked g c, c.in_ok-push.ensures.items);
+    told = λ _. (followed g c).told;
+  },
+)

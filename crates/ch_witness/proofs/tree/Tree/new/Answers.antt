@@ -1,4 +1,4 @@
-use Rattle.std.proofs.Common.{List, None, sym, subst, ap, ◌∙◌}
+use Rattle.std.proofs.Common.{List, None, refl, sym, subst, ap, ◌∙◌}
 use Rattle.ch_cost.specs.declared.cost.Cost.{Cost}
 use Rattle.ch_cost.specs.Cost.{IsWithin}
 use Rattle.ch_cost.specs.Cost.Laws.{ZERO-is}
@@ -42,3 +42,6 @@ pub returns-clause-names : goal.returns-clause-names
 returns-clause-names g c = λ named whole.
     let all = all_start (g.S.RowSource.whole c.args.source.now) c.args.rule.from (labels_of c.start.new.self) c.in_ok-start.ensures whole in
     c.in_ok-grow.ensures.names (c.in_ok-go_on_from.ensures.names named all) (c.in_ok-go_on_from.ensures.whole named all)
+
+pub returns-then-are_all-clause-start : goal.returns-then-are_all-clause-start
+returns-then-are_all-clause-start g c = λ k h other. absurd (other (c.if-are_all.ensures refl k h))

@@ -1,0 +1,9 @@
+use Rattle.std.proofs.Common.{ℕ, subst}
+use Rattle.ch_cost.specs.declared.cost.Cost.{Cost}
+use Rattle.ch_cost.specs.Cost.{IsWithin, cost_of_arcs}
+use Rattle.ch_cases.proofs.shelf.Shelf.allows.Goals as goal
+
+pub returns : goal.returns
+returns c = λ t.
+    let within = subst (λ (b : Cost). IsWithin c.args.cost b) c.of_arcs.ensures (c.is_within.ensures.0 t) in
+    subst (λ (n : ℕ). IsWithin c.args.cost (cost_of_arcs n c.args.self.now.heaviest)) c.from.ensures within

@@ -1,0 +1,345 @@
+ghost use Rattle.std.specs.Prelude.{◌≡◌};
+
+use crate::networks::{HEAVY, Line, MOST, PARALLEL, ROW, TIE, graph_of};
+use crate::proposals::{are_of, are_shortcuts};
+use crate::shelf::Arcs;
+use ch_contract::{
+    Board, CommitError, Contraction, FinishError, Proposal, ProposeError, Receipt, Site,
+    contract_by_sweep, propose,
+};
+use ch_cost::Cost;
+use ch_graph::{Graph, Hierarchy, Link, Road};
+use std::alloc::Global;
+use std::marker::Brand;
+use std::test::Fail;
+
+/// How many nodes each search settles at most.
+const SETTLE: u32 = 64;
+
+/// A proposal, and what the board answers to it: its node, the nodes of the rows that it rests on, and its shortcuts,
+/// each of so many arcs of a weight.
+type Offer = (
+    u32,
+    &'static [u32],
+    &'static [Arcs],
+    Result<Receipt, CommitError>,
+);
+
+/// A link of so many arcs of the weight: its ends, their number, the weight, and the middle.
+type Linked = (u32, u32, u32, u32, Option<u32>);
+
+/// A board on which each node gets the rank of its number, and what it comes to.
+#[derive(Clone, Copy)]
+struct Case {
+    nodes: u32,
+    lines: &'static [Line],
+    /// The proposals of a turn are worked out by the rows as they are, and then offered one by one. The sweep goes on
+    /// from there.
+    turns: &'static [&'static [Offer]],
+    /// Each node with each of its neighbours, as the log has them.
+    neighbours: &'static [(u32, u32)],
+    /// By rising node how many shortcuts were put in.
+    shortcuts: &'static [u64],
+    links: &'static [Linked],
+    /// What so many arcs of this weight cost.
+    bound: (u32, u32),
+}
+
+const ROW_OF_THREE: Case = Case {
+    nodes: 3,
+    lines: &ROW,
+    turns: &[],
+    neighbours: &[(0, 1), (0, 2), (1, 2)],
+    shortcuts: &[1, 0, 0],
+    links: &[
+        (0, 2, 1, 3, None),
+        (1, 0, 1, 2, None),
+        (1, 2, 1, 5, Some(0)),
+    ],
+    bound: (1, 6),
+};
+
+const TIE_OF_FOUR: Case = Case {
+    nodes: 4,
+    lines: &TIE,
+    turns: &[],
+    neighbours: &[(0, 2), (0, 3), (1, 2), (1, 3), (2, 3)],
+    shortcuts: &[0, 1, 0, 0],
+    links: &[
+        (0, 3, 1, 1, None),
+        (1, 3, 1, 1, None),
+        (2, 0, 1, 1, None),
+        (2, 1, 1, 1, None),
+        (2, 3, 2, 1, Some(1)),
+    ],
+    bound: (1, 3),
+};
+
+const HEAVIEST_WEIGHTS: Case = Case {
+    nodes: 4,
+    lines: &HEAVY,
+    turns: &[],
+    neighbours: &[(0, 1), (0, 2), (0, 3), (1, 2), (1, 3), (2, 3)],
+    shortcuts: &[3, 0, 0, 0],
+    links: &[
+        (0, 1, 1, MOST, None),
+        (0, 3, 1, MOST, None),
+        (1, 0, 1, MOST, None),
+        (1, 3, 2, MOST, Some(0)),
+        (2, 0, 1, MOST, None),
+        (2, 1, 2, MOST, Some(0)),
+        (2, 3, 2, MOST, Some(0)),
+    ],
+    bound: (3, MOST),
+};
+
+/// Of two proposals of one node the first is taken, and then the node is contracted for good.
+const ROW_BY_COMMITS: Case = Case {
+    turns: &[&[
+        (
+            0,
+            &[0, 1],
+            &[(1, 2, 1, 5)],
+            Ok(Receipt { node: 0, rank: 0 }),
+        ),
+        (0, &[0, 1], &[(1, 2, 1, 5)], Err(CommitError::Contracted)),
+    ]],
+    ..ROW_OF_THREE
+};
+
+/// Both middle nodes are proposed by the opening rows. The second proposal rests on a row that the first contraction
+/// changes, and the next proposal of its node puts a shortcut in.
+const TIE_BY_COMMITS: Case = Case {
+    turns: &[
+        &[
+            (0, &[0, 2, 1], &[], Ok(Receipt { node: 0, rank: 0 })),
+            (
+                1,
+                &[1, 2, 0],
+                &[],
+                Err(CommitError::Stale {
+                    node: 2,
+                    seen: 2,
+                    now: 5,
+                    front: 1,
+                }),
+            ),
+        ],
+        &[(
+            1,
+            &[1, 2],
+            &[(2, 3, 2, 1)],
+            Ok(Receipt { node: 1, rank: 1 }),
+        )],
+    ],
+    ..TIE_OF_FOUR
+};
+
+/// The heavy pair of node 1 gets no shortcut once node 0 is contracted.
+const HEAVY_BY_COMMITS: Case = Case {
+    turns: &[
+        &[(
+            0,
+            &[0, 1, 2],
+            &[(1, 3, 2, MOST), (2, 1, 2, MOST), (2, 3, 2, MOST)],
+            Ok(Receipt { node: 0, rank: 0 }),
+        )],
+        &[(1, &[1, 2], &[], Ok(Receipt { node: 1, rank: 1 }))],
+    ],
+    ..HEAVIEST_WEIGHTS
+};
+
+const CASES: [Case; 8] = [
+    ROW_OF_THREE,
+    TIE_OF_FOUR,
+    HEAVIEST_WEIGHTS,
+    ROW_BY_COMMITS,
+    TIE_BY_COMMITS,
+    HEAVY_BY_COMMITS,
+    // Parallel arcs and a loop.
+    Case {
+        nodes: 2,
+        lines: &PARALLEL,
+        turns: &[],
+        neighbours: &[(0, 1)],
+        shortcuts: &[0, 0],
+        links: &[(0, 1, 1, 4, None)],
+        bound: (1, 12),
+    },
+    // No nodes.
+    Case {
+        nodes: 0,
+        lines: &[],
+        turns: &[],
+        neighbours: &[],
+        shortcuts: &[],
+        links: &[],
+        bound: (0, 0),
+    },
+];
+
+/// Whether a board of the graph answers the offers, and the sweep and the hierarchy are those of the case.
+fn comes_to<S: Site>(alloc: Global, graph: Graph, case: Case) -> Result<bool, Fail>
+    requires named { S.graph ≡ graph }
+{
+    let mut board: Board<S> = Board::new(alloc, graph)?;
+    let mut holds = true;
+    for offers in case.turns {
+        holds &= answers(alloc, &mut board, offers)?;
+    }
+    let contracted = board.log().len() as u32;
+    for node in 0..contracted {
+        holds &= refuses(alloc, &mut board, node, ProposeError::Contracted);
+    }
+    holds &= refuses(alloc, &mut board, case.nodes, ProposeError::Unseen);
+    let receipts = board.sweep(SETTLE)?;
+    holds &= in_order(&receipts, contracted) & is_log(board.log(), case);
+    match board.into_hierarchy() {
+        Ok(hierarchy) => Ok(holds & is_hierarchy(&hierarchy, case)),
+        Err((_, error)) => Err(Fail::from(error)),
+    }
+}
+
+/// Whether the proposals by the rows as they are, and then the board's answers to them, are as expected.
+fn answers<S: Site>(alloc: Global, board: &mut Board<S>, offers: &[Offer]) -> Result<bool, Fail> {
+    let mut proposals = Vec::new(alloc);
+    for (node, ..) in offers {
+        proposals.push(propose(alloc, board, *node, SETTLE)?)?;
+    }
+    let mut holds = true;
+    for (proposal, (_, rows, shortcuts, answer)) in proposals.into_iter().zip(offers) {
+        holds &= are_of(proposal.rests_on(), rows);
+        holds &= are_shortcuts(proposal.shortcuts(), shortcuts);
+        holds &= board.commit(proposal) == *answer;
+    }
+    Ok(holds)
+}
+
+/// Whether a node isn't proposed, for this reason.
+fn refuses<S: Site>(alloc: Global, board: &mut Board<S>, node: u32, reason: ProposeError) -> bool {
+    propose(alloc, board, node, SETTLE).err() == Some(reason)
+}
+
+/// Whether the receipts are those of the nodes from this one on, each of the rank of its number.
+fn in_order(receipts: &[Receipt], first: u32) -> bool {
+    (first..).zip(receipts).all(|(node, receipt)| (receipt.node == node) & (receipt.rank == node))
+}
+
+/// Whether the log has an entry for each node, by its number, as the case has it.
+fn is_log(entries: &[Contraction], case: Case) -> bool {
+    let mut holds = entries.len() == case.shortcuts.len();
+    for (node, (entry, shortcuts)) in (0u32..).zip(entries.iter().zip(case.shortcuts)) {
+        holds &= (entry.node == node) & (entry.rank == node) & (entry.shortcuts == *shortcuts);
+        holds &= has_neighbours(node, &entry.neighbours, case.neighbours);
+    }
+    holds
+}
+
+/// Whether the neighbours of a node are those of the pairs that begin with it, in this order.
+fn has_neighbours(node: u32, neighbours: &[u32], pairs: &[(u32, u32)]) -> bool {
+    let of_node = pairs.iter().filter(|(from, _)| *from == node);
+    of_node.map(|(_, neighbour)| neighbour).eq(neighbours)
+}
+
+fn is_hierarchy(hierarchy: &Hierarchy, case: Case) -> bool {
+    let (count, heaviest) = case.bound;
+    (0..hierarchy.nodes()).all(|node| hierarchy.rank(node) == node)
+        && hierarchy.nodes() == case.nodes
+        && are_links(hierarchy.links(), case.links)
+        && hierarchy.bound() == Cost::of_arcs(count, heaviest)
+}
+
+fn are_links(links: &[Link], expected: &[Linked]) -> bool {
+    links.len() == expected.len()
+        && links.iter().zip(expected).all(|(link, (from, to, count, weight, middle))| {
+            (link.from == *from)
+                & (link.to == *to)
+                & (link.cost == Cost::of_arcs(*count, *weight))
+                & (link.middle == *middle)
+        })
+}
+
+#[test]
+fn boards_come_to_their_hierarchies(rt: HostRuntime) -> Result<(), Fail> {
+    let alloc = rt.alloc();
+    for case in CASES {
+        let graph = graph_of(alloc, case.nodes, case.lines)?;
+        assert!(rt; comes_to::<Brand>(alloc, graph, case)?);
+    }
+    Ok(())
+}
+
+/// A sweep of the row of three nodes, by the call that names the graph itself.
+#[test]
+fn hierarchy_by_sweep(rt: HostRuntime) -> Result<(), Fail> {
+    let alloc = rt.alloc();
+    let hierarchy = contract_by_sweep(alloc, graph_of(alloc, 3, &ROW)?, SETTLE)?;
+    assert!(rt; is_hierarchy(&hierarchy, ROW_OF_THREE));
+    Ok(())
+}
+
+/// The row of three nodes with another weight, which leaves the bound as it is.
+const OTHER_ROW: [Line; 2] = [(1, 0, 3), (0, 2, 3)];
+
+/// A proposal of node 0 by the opening rows.
+fn opening_proposal<S: Site>(alloc: Global, graph: Graph) -> Result<Proposal, Fail>
+    requires named { S.graph ≡ graph }
+{
+    let mut board: Board<S> = Board::new(alloc, graph)?;
+    Ok(propose(alloc, &mut board, 0, SETTLE)?)
+}
+
+/// What a board of the graph answers to a proposal, and how many entries its log has then.
+fn answer_to<S: Site>(
+    alloc: Global,
+    graph: Graph,
+    proposal: Proposal,
+) -> Result<(Result<Receipt, CommitError>, usize), Fail>
+    requires named { S.graph ≡ graph }
+{
+    let mut board: Board<S> = Board::new(alloc, graph)?;
+    let answer = board.commit(proposal);
+    Ok((answer, board.log().len()))
+}
+
+/// A proposal by the rows of one board, for a board of another graph of the same bound, and of the same graph.
+#[test]
+fn another_board(rt: HostRuntime) -> Result<(), Fail> {
+    let alloc = rt.alloc();
+    for (lines, answer, entries) in [
+        (OTHER_ROW, Err(CommitError::Broken), 0usize),
+        (ROW, Ok(Receipt { node: 0, rank: 0 }), 1),
+    ] {
+        let proposal = opening_proposal::<Brand>(alloc, graph_of(alloc, 3, &ROW)?)?;
+        assert!(rt; are_of(proposal.rests_on(), &[0, 1]));
+        let found = answer_to::<Brand>(alloc, graph_of(alloc, 3, &lines)?, proposal)?;
+        assert!(rt; found.0 == answer && found.1 == entries);
+    }
+    Ok(())
+}
+
+/// Whether a fresh board of the row of three nodes is handed back, as it was, in place of a hierarchy.
+fn has_nodes_left<S: Site>(alloc: Global, graph: Graph) -> Result<bool, Fail>
+    requires named { S.graph ≡ graph }
+{
+    let board: Board<S> = Board::new(alloc, graph)?;
+    match board.into_hierarchy() {
+        Ok(_) => Ok(false),
+        Err((back, error)) => Ok((error == FinishError::NodesLeft) & is_fresh(&back)),
+    }
+}
+
+/// Whether a board of the row of three nodes has no node contracted.
+fn is_fresh<S: Site>(board: &Board<S>) -> bool {
+    let arcs = [(1, 0, 2), (0, 2, 3)].map(|(from, to, weight)| Road { from, to, weight });
+    board.log().is_empty()
+        && board.overlay().alive() == 3
+        && board.graph().arcs() == arcs.as_slice()
+}
+
+#[test]
+fn nodes_left(rt: HostRuntime) -> Result<(), Fail> {
+    let alloc = rt.alloc();
+    assert!(rt; has_nodes_left::<Brand>(alloc, graph_of(alloc, 3, &ROW)?)?);
+    Ok(())
+}

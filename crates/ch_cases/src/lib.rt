@@ -1,0 +1,18 @@
+//! Worked cases of the layers from rows to hierarchies: small networks, and what is to come of them by hand.
+//!
+//! Stands on `ch_overlay`, `ch_witness` and `ch_contract`, and has nothing but their tests. They stand apart so that
+//! the proofs of the layers are made once.
+#![tactic(auto)]
+
+#[cfg(test)]
+mod boards;
+#[cfg(test)]
+mod networks;
+#[cfg(test)]
+mod overlays;
+#[cfg(test)]
+mod proposals;
+#[cfg(test)]
+mod searches;
+#[cfg(test)]
+mod shelf;

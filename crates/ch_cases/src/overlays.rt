@@ -1,0 +1,101 @@
+ghost use Rattle.std.specs.Prelude.{◌≡◌, [], IfOk};
+
+use crate::networks::{Line, PARALLEL, ROW, graph_of};
+use ch_cost::Cost;
+use ch_overlay::{Entry, Overlay, Row};
+use std::alloc::Global;
+use std::test::Fail;
+
+/// The entries of a row: the other node of each, and its weight.
+type Entries = &'static [(u32, u32)];
+
+/// The rows in which a graph begins: of each node, by its number, the arcs out of it and into it.
+#[derive(Clone, Copy)]
+struct Opening {
+    lines: &'static [Line],
+    rows: &'static [(Entries, Entries)],
+    /// What so many arcs of this weight cost.
+    bound: (u32, u32),
+}
+
+const OPENINGS: [Opening; 2] = [
+    Opening {
+        lines: &ROW,
+        rows: &[(&[(2, 3)], &[(1, 2)]), (&[(0, 2)], &[]), (&[], &[(0, 3)])],
+        bound: (2, 3),
+    },
+    Opening {
+        lines: &PARALLEL,
+        rows: &[(&[(1, 4)], &[]), (&[], &[(0, 4)])],
+        bound: (1, 12),
+    },
+];
+
+/// Node 1 leads to node 2 itself, and by way of node 0.
+const DIRECT: [Line; 3] = [(1, 0, 2), (0, 2, 3), (1, 2, 4)];
+
+/// The new rows when node 0 is contracted without a shortcut: node, arcs out and in, and rank.
+const CHANGED: [(u32, Entries, Entries, Option<u32>); 3] = [
+    (0, &[(2, 3)], &[(1, 2)], Some(0)),
+    (1, &[(2, 4)], &[], None),
+    (2, &[], &[(1, 4)], None),
+];
+
+fn are_entries(entries: &[Entry], expected: Entries) -> bool {
+    entries.len() == expected.len()
+        && entries.iter().zip(expected).all(|(entry, (other, weight))| {
+            (entry.other == *other)
+                & (entry.cost == Cost::of_weight(*weight))
+                & entry.middle.is_none()
+        })
+}
+
+fn is_row(row: &Row, out: Entries, inn: Entries, rank: Option<u32>) -> bool {
+    are_entries(&row.out, out) & are_entries(&row.inn, inn) & (row.rank == rank)
+}
+
+/// The overlay of the graph of these arcs.
+fn overlay_of(alloc: Global, nodes: u32, lines: &[Line]) -> Result<Overlay, Fail>
+    ensures { IfOk result (λ o. o.order ≡ []) }
+{
+    let graph = graph_of(alloc, nodes, lines)?;
+    let overlay = Overlay::start(alloc, &graph)?;
+    Ok(overlay)
+}
+
+/// Whether each node has its row, the version of its number, and no rank.
+fn begins(overlay: &Overlay, opening: Opening) -> bool {
+    let (count, heaviest) = opening.bound;
+    let nodes = overlay.nodes();
+    let mut holds = overlay.bound() == Cost::of_arcs(count, heaviest) && overlay.alive() == nodes;
+    for node in 0..nodes {
+        holds &= match opening.rows.get(node as usize) {
+            Some((out, inn)) => is_row(overlay.row(node), out, inn, None),
+            None => false,
+        };
+        holds &= overlay.version(node) == u64::from(node);
+    }
+    holds && nodes as usize == opening.rows.len()
+}
+
+#[test]
+fn opening_rows(rt: HostRuntime) -> Result<(), Fail> {
+    for opening in OPENINGS {
+        let overlay = overlay_of(rt.alloc(), opening.rows.len() as u32, opening.lines)?;
+        assert!(rt; begins(&overlay, opening));
+    }
+    Ok(())
+}
+
+#[test]
+fn rows_without_a_shortcut(rt: HostRuntime) -> Result<(), Fail> {
+    let overlay = overlay_of(rt.alloc(), 3, &DIRECT)?;
+    assert!(rt; overlay.nodes() == 3);
+    let change = overlay.plan(0, &[])?;
+    let rows = change.rows();
+    assert!(rt; rows.len() == CHANGED.len());
+    for ((at, row), (node, out, inn, rank)) in rows.iter().zip(CHANGED) {
+        assert!(rt; *at == node && is_row(row, out, inn, rank));
+    }
+    Ok(())
+}

@@ -1,0 +1,165 @@
+use crate::shelf::{Arcs, Shelf};
+use ch_contract::{Facts, Proposal, ProposeError, Verdict, propose};
+use ch_cost::Cost;
+use ch_overlay::{Seen, Shortcut};
+use std::test::Fail;
+
+/// Node 1 leads to node 0, and node 0 to node 2.
+const CHAIN: [Arcs; 2] = [(1, 0, 1, 2), (0, 2, 1, 3)];
+
+/// Node 3 is reached from node 2 by way of 0 or of 1, at the same cost.
+const TIE: [Arcs; 4] = [(2, 0, 1, 1), (0, 3, 1, 1), (2, 1, 1, 1), (1, 3, 1, 1)];
+
+/// Node 3 is reached from node 2 by way of 1, at more than the bound.
+const HEAVY: [Arcs; 2] = [(2, 1, 2, u32::MAX), (1, 3, 2, u32::MAX)];
+
+/// Nodes 1 and 2 lead to node 3 by way of 0, and by way of 4 at the same cost.
+const OVERLAP: [Arcs; 6] = [
+    (1, 0, 1, 1),
+    (2, 0, 1, 1),
+    (0, 3, 1, 1),
+    (1, 4, 1, 1),
+    (2, 4, 1, 1),
+    (4, 3, 1, 1),
+];
+
+/// The proposal of a node by a shelf: each node that it rests on is asked for once, in this order, and no other.
+#[derive(Clone, Copy)]
+struct Case {
+    lines: &'static [Arcs],
+    bound: (u16, u32),
+    node: u32,
+    settle: u32,
+    rests_on: &'static [u32],
+    verdicts: &'static [(u32, u32, Option<Verdict>)],
+    ins: u32,
+    /// The ends of each shortcut, and what it costs: so many arcs of this weight.
+    shortcuts: &'static [Arcs],
+}
+
+/// The first middle node of the tie of four nodes.
+const TIED: Case = Case {
+    lines: &TIE,
+    bound: (3, 1),
+    node: 0,
+    settle: 64,
+    rests_on: &[0, 2, 1],
+    verdicts: &[(2, 3, Some(Verdict::Witness))],
+    ins: 1,
+    shortcuts: &[],
+};
+
+const CASES: [Case; 7] = [
+    // A pair of three nodes.
+    Case {
+        lines: &CHAIN,
+        bound: (2, 3),
+        node: 0,
+        settle: 64,
+        rests_on: &[0, 1],
+        verdicts: &[(1, 2, Some(Verdict::Shortcut)), (2, 1, None), (1, 1, None)],
+        ins: 1,
+        shortcuts: &[(1, 2, 1, 5)],
+    },
+    // The tie of four nodes, and how far a search goes in it.
+    TIED,
+    Case {
+        node: 1,
+        rests_on: &[1, 2, 0],
+        ..TIED
+    },
+    Case { settle: 2, ..TIED },
+    Case {
+        settle: 1,
+        rests_on: &[0, 2],
+        verdicts: &[(2, 3, Some(Verdict::Shortcut))],
+        shortcuts: &[(2, 3, 2, 1)],
+        ..TIED
+    },
+    // A heavy pair.
+    Case {
+        lines: &HEAVY,
+        bound: (3, u32::MAX),
+        node: 1,
+        settle: 64,
+        rests_on: &[1, 2],
+        verdicts: &[(2, 3, Some(Verdict::Heavy))],
+        ins: 1,
+        shortcuts: &[],
+    },
+    // Two searches that read the same row.
+    Case {
+        lines: &OVERLAP,
+        bound: (4, 1),
+        node: 0,
+        settle: 64,
+        rests_on: &[0, 1, 4, 2],
+        verdicts: &[
+            (1, 3, Some(Verdict::Witness)),
+            (2, 3, Some(Verdict::Witness)),
+        ],
+        ins: 2,
+        shortcuts: &[],
+    },
+];
+
+/// Whether the rows are of these nodes, in this order.
+pub fn are_of(rows: &[Seen], nodes: &[u32]) -> bool {
+    rows.len() == nodes.len()
+        && rows
+            .iter()
+            .zip(nodes)
+            .all(|(seen, node)| seen.node == *node)
+}
+
+/// Whether the shortcuts have these ends and costs.
+pub fn are_shortcuts(shortcuts: &[Shortcut], expected: &[Arcs]) -> bool {
+    shortcuts.len() == expected.len()
+        && shortcuts.iter().zip(expected).all(|(shortcut, (from, to, count, weight))| {
+            (shortcut.from == *from)
+                & (shortcut.to == *to)
+                & (shortcut.cost == Cost::of_arcs(*count, *weight))
+        })
+}
+
+/// Whether the proposal is that of the case.
+fn is_proposed(proposal: &Proposal, case: Case) -> bool {
+    let (count, heaviest) = case.bound;
+    let facts = Facts {
+        node: case.node,
+        ins: case.ins,
+        outs: 1,
+        shortcuts: case.shortcuts.len() as u64,
+    };
+    (proposal.node() == case.node)
+        & (proposal.bound() == Cost::of_arcs(u32::from(count), heaviest))
+        & (proposal.facts() == facts)
+        & are_of(proposal.rests_on(), case.rests_on)
+        & are_shortcuts(proposal.shortcuts(), case.shortcuts)
+}
+
+#[test]
+fn proposals_of_a_shelf(rt: HostRuntime) -> Result<(), Fail> {
+    let alloc = rt.alloc();
+    for case in CASES {
+        assert!(rt; 0 < case.settle && case.settle <= 64);
+        let mut shelf = Shelf::new(alloc, 5, case.lines, case.bound, None)?;
+        let proposal = propose(alloc, &mut shelf, case.node, case.settle)?;
+        assert!(rt; is_proposed(&proposal, case));
+        for (from, to, verdict) in case.verdicts {
+            assert!(rt; proposal.verdict(*from, *to) == *verdict);
+        }
+        assert!(rt; shelf.asked.as_slice() == case.rests_on);
+    }
+    Ok(())
+}
+
+#[test]
+fn refused_nodes(rt: HostRuntime) -> Result<(), Fail> {
+    let alloc = rt.alloc();
+    for (node, reason) in [(0, ProposeError::Contracted), (4, ProposeError::Unseen)] {
+        let mut shelf = Shelf::new(alloc, 4, &TIE, (3, 1), Some(0))?;
+        assert!(rt; propose(alloc, &mut shelf, node, 64).err() == Some(reason));
+    }
+    Ok(())
+}

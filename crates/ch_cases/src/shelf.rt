@@ -1,0 +1,178 @@
+ghost use Rattle.std.specs.Prelude.{◌≡◌, ◌^◌, ◌<◌, ◌≤◌, IsTrue, All, refl};
+ghost use Rattle.ch_cost.specs.Cost.{IsWithin, cost_of_arcs};
+ghost use Rattle.ch_laws.specs.Rows.{Rises};
+ghost use Rattle.ch_overlay.specs.Overlay.{IsEntry};
+
+use ch_cost::Cost;
+use ch_overlay::{Entry, Row, RowSource, SeeError, Seen};
+use std::alloc::{AllocError, Global};
+use std::sync::Arc;
+
+/// An arc between two nodes, and what it costs: so many arcs of this weight.
+pub type Arcs = (u32, u32, u32, u32);
+
+/// The rows of a few nodes, by their numbers, and which nodes were asked for.
+#[derive(Drop)]
+pub struct Shelf {
+    rows: Vec<Arc<Row>>,
+    pub asked: Vec<u32>,
+    /// The bound is what so many arcs of this weight cost.
+    count: u16,
+    heaviest: u32,
+}
+
+impl Shelf {
+    /// So many rows, by the arcs between their nodes; a node may have a rank.
+    pub fn new(
+        alloc: Global,
+        nodes: u32,
+        lines: &[Arcs],
+        (count, heaviest): (u16, u32),
+        ranked: Option<u32>,
+    ) -> Result<Shelf, AllocError> {
+        let mut rows = Vec::new(alloc);
+        for node in 0..nodes {
+            let rank = if ranked == Some(node) { Some(0) } else { None };
+            rows.push(Arc::new(alloc, row_of(alloc, node, lines, rank)?)?)?;
+        }
+        Ok(Shelf {
+            rows,
+            asked: Vec::new(alloc),
+            count,
+            heaviest,
+        })
+    }
+
+    /// Whether a cost is within the bound.
+    pub fn allows(&self, cost: Cost) -> bool
+        ensures { IsTrue result → IsWithin cost (cost_of_arcs self.now.count self.now.heaviest) }
+    {
+        cost.is_within(Cost::of_arcs(u32::from(self.count), self.heaviest))
+    }
+}
+
+fn is_entry(entry: &Entry, node: u32, bound: Cost) -> bool
+    ensures { IsTrue result → IsEntry (2 ^ 25) bound node entry.now }
+{
+    if entry.other >= 1 << 25 {
+        return false;
+    }
+    if entry.other == node {
+        return false;
+    }
+    if !Cost::ZERO.is_below(entry.cost) {
+        return false;
+    }
+    entry.cost.is_within(bound)
+}
+
+fn are_entries(entries: &[Entry], node: u32, bound: Cost) -> bool
+    ensures { IsTrue result → All (IsEntry (2 ^ 25) bound node) entries.now }
+{
+    entries.iter().all(|entry| is_entry(entry, node, bound))
+}
+
+fn rises(entries: &[Entry]) -> bool
+    ensures { IsTrue result → Rises entries.now }
+{
+    for place in 1..entries.len() {
+        if entries[place - 1].other >= entries[place].other {
+            return false;
+        }
+    }
+    true
+}
+
+fn is_sound(node: u32, row: &Row, bound: Cost) -> bool
+    ensures range { IsTrue result → node < 2 ^ 25 }
+    ensures out { IsTrue result → Rises row.now.out }
+    ensures inn { IsTrue result → Rises row.now.inn }
+    ensures out_entries { IsTrue result → All (IsEntry (2 ^ 25) bound node) row.now.out }
+    ensures inn_entries { IsTrue result → All (IsEntry (2 ^ 25) bound node) row.now.inn }
+{
+    if node >= 1 << 25 {
+        return false;
+    }
+    if !rises(&row.out) {
+        return false;
+    }
+    if !rises(&row.inn) {
+        return false;
+    }
+    if !are_entries(&row.out, node, bound) {
+        return false;
+    }
+    are_entries(&row.inn, node, bound)
+}
+
+impl RowSource for Shelf {
+    ghost use Rattle.std.specs.Prelude.{◌≡◌, refl};
+    ghost use Rattle.std.proofs.Common.{◌∙◌};
+    ghost use Rattle.ch_cost.specs.Cost.{cost_of_arcs};
+
+    ghost bears = { λ s. Unit {0} };
+
+    ghost shows = { λ a s. Unit {0} };
+
+    ghost stays = { λ a b. cost_of_arcs b.count b.heaviest ≡ cost_of_arcs a.count a.heaviest };
+
+    ghost whole = { λ a x. ⊥ };
+
+    ghost bound_of = { λ a. cost_of_arcs a.count a.heaviest };
+
+    fn row_of(&mut self, node: u32) -> Result<Seen, SeeError> {
+        let bound = self.bound();
+        self.asked.push(node)?;
+        let Some(row) = self.rows.get(node as usize) else {
+            return Err(SeeError::Unseen);
+        };
+        if !is_sound(node, row, bound) {
+            return Err(SeeError::Unseen);
+        }
+        Ok(Seen {
+            node,
+            version: u64::from(node),
+            row: Arc::try_clone(row)?,
+        })
+    }
+
+    fn bound(&self) -> Cost {
+        Cost::of_arcs(u32::from(self.count), self.heaviest)
+    }
+
+    ghost stays_self = { λ a. refl };
+
+    ghost stays_more = { λ a b c h k. k ∙ h };
+
+    ghost still_shows = { λ a b s h k. tt };
+
+    ghost still_whole = { λ a b x h k. k };
+
+    ghost same_bound = { λ a b h. h };
+}
+
+fn entry(other: u32, count: u32, weight: u32) -> Entry {
+    Entry {
+        other,
+        cost: Cost::of_arcs(count, weight),
+        middle: None,
+    }
+}
+
+/// The row of a node.
+fn row_of(alloc: Global, node: u32, lines: &[Arcs], rank: Option<u32>) -> Result<Row, AllocError> {
+    let mut row = Row {
+        out: Vec::new(alloc),
+        inn: Vec::new(alloc),
+        rank,
+    };
+    for (from, to, count, weight) in lines {
+        if *from == node {
+            row.out.push(entry(*to, *count, *weight))?;
+        }
+        if *to == node {
+            row.inn.push(entry(*from, *count, *weight))?;
+        }
+    }
+    Ok(row)
+}

@@ -1,4 +1,0 @@
-use Rattle.ch_contract.proofs.tests.nodes_left.Given as goal
-
-abbrev pub ghosts-has_nodes_left : goal.ghosts-has_nodes_left
-ghosts-has_nodes_left g a = record { graph = a.graph }

@@ -1,4 +1,0 @@
-use Rattle.ch_contract.proofs.tests.parallel_arcs_and_a_loop.Given as goal
-
-abbrev pub ghosts-sweeps_to : goal.ghosts-sweeps_to
-ghosts-sweeps_to g a = record { graph = a.graph }
