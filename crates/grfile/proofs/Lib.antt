@@ -5,3 +5,5 @@ pub mod Caps
 pub mod Steps
 pub mod Sound
 pub mod Readings
+pub mod Faults
+pub mod Cuttings

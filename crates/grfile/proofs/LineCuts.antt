@@ -1,18 +1,52 @@
--- The first line of a text, by the place of the first line feed.
-use Rattle.std.proofs.Common.{ℕ, ◌≡◌, ◌+◌, ◌<◌, true, false, eqb, List, [], ◌∷◌, length, take, drop, get_or, arith, ap, ◌∙◌, zero, suc}
+-- The lines of a text, by the place of the first line feed, and after a part of the first line.
+use Rattle.std.proofs.Common.{ℕ, ◌≡◌, ◌+◌, ◌<◌, true, false, cond, eqb, List, [], ◌∷◌, ◌++◌, length, take, drop, get_or, map, arith, refl, ap, sym, ◌∙◌, zero, suc}
 use Rattle.std.proofs.lemmas.Bool.{cond-true, cond-false}
+use Rattle.std.proofs.lemmas.List.{append-nil, append_assoc}
 use Rattle.std.specs.List.{onto_first}
-use Rattle.grfile.specs.Lines.{cut_lines}
+use Rattle.std.specs.Str.Lines.{strip_carriage_return}
+use Rattle.grfile.specs.Lines.{cut_lines, lines_of}
+use Rattle.grfile.specs.Taken.{last_line, cut_after, lines_after, line_feeds}
 
-pub cut_at : (text : List ℕ) (i : ℕ) → i < length text → eqb (get_or text i 0) 10 ≡ true → ((j : ℕ) → j < i → eqb (get_or text j 0) 10 ≡ false) → cut_lines text ≡ take i text ∷ cut_lines (drop (suc i) text)
-cut_at [] i h here before = absurd (omega arith)
-cut_at (b ∷ text) zero h here before = cond-true (eqb b 10) ([] ∷ cut_lines text) (onto_first b (cut_lines text)) here
-cut_at (b ∷ text) (suc i) h here before = cond-false (eqb b 10) ([] ∷ cut_lines text) (onto_first b (cut_lines text)) (before 0 (omega arith)) ∙ ap (onto_first b) (cut_at text i (omega arith) here (λ j k. before (suc j) (omega arith)))
+-- the first line feed is at i
+pub cut_at : (begun text more : List ℕ) (i : ℕ) → i < length text → eqb (get_or text i 0) 10 ≡ true → ((j : ℕ) → j < i → eqb (get_or text j 0) 10 ≡ false) → cut_after begun (text ++ more) ≡ (begun ++ take i text) ∷ cut_after [] (drop (suc i) text ++ more)
+cut_at begun [] more i h here before = absurd (omega arith)
+cut_at begun (b ∷ text) more zero h here before = cond-true (eqb b 10) (begun ∷ cut_after [] (text ++ more)) (cut_after (begun ++ b ∷ []) (text ++ more)) here ∙ ap (λ (line : List ℕ). line ∷ cut_after [] (text ++ more)) (sym (append-nil begun))
+cut_at begun (b ∷ text) more (suc i) h here before = cond-false (eqb b 10) (begun ∷ cut_after [] (text ++ more)) (cut_after (begun ++ b ∷ []) (text ++ more)) (before 0 (omega arith)) ∙ cut_at (begun ++ b ∷ []) text more i (omega arith) here (λ j k. before (suc j) (omega arith)) ∙ ap (λ (line : List ℕ). line ∷ cut_after [] (drop (suc i) text ++ more)) (append_assoc begun (b ∷ []) (take i text))
 
-pub cut_last : (b : ℕ) (text : List ℕ) → ((j : ℕ) → j < length text + 1 → eqb (get_or (b ∷ text) j 0) 10 ≡ false) → cut_lines (b ∷ text) ≡ (b ∷ text) ∷ []
-cut_last b [] none = cond-false (eqb b 10) ([] ∷ []) (onto_first b []) (none 0 (omega arith))
-cut_last b (c ∷ text) none = cond-false (eqb b 10) ([] ∷ cut_lines (c ∷ text)) (onto_first b (cut_lines (c ∷ text))) (none 0 (omega arith)) ∙ ap (onto_first b) (cut_last c text (λ j k. none (suc j) (omega arith)))
+-- no line feed is there
+pub cut_none : (begun text more : List ℕ) → ((j : ℕ) → j < length text → eqb (get_or text j 0) 10 ≡ false) → cut_after begun (text ++ more) ≡ cut_after (begun ++ text) more
+cut_none begun [] more none = ap (λ (line : List ℕ). cut_after line more) (sym (append-nil begun))
+cut_none begun (b ∷ text) more none = cond-false (eqb b 10) (begun ∷ cut_after [] (text ++ more)) (cut_after (begun ++ b ∷ []) (text ++ more)) (none 0 (omega arith)) ∙ cut_none (begun ++ b ∷ []) text more (λ j k. none (suc j) (omega arith)) ∙ ap (λ (line : List ℕ). cut_after line more) (append_assoc begun (b ∷ []) text)
 
-pub cut_one : (text : List ℕ) → 0 < length text → ((j : ℕ) → j < length text → eqb (get_or text j 0) 10 ≡ false) → cut_lines text ≡ text ∷ []
-cut_one [] some none = absurd (omega arith)
-cut_one (b ∷ text) some none = cut_last b text (λ j k. none j (omega arith))
+pub feeds_at : (text : List ℕ) (i : ℕ) → i < length text → eqb (get_or text i 0) 10 ≡ true → ((j : ℕ) → j < i → eqb (get_or text j 0) 10 ≡ false) → line_feeds text ≡ line_feeds (drop (suc i) text) + 1
+feeds_at [] i h here before = absurd (omega arith)
+feeds_at (b ∷ text) zero h here before = cond-true (eqb b 10) (line_feeds text + 1) (line_feeds text) here
+feeds_at (b ∷ text) (suc i) h here before = cond-false (eqb b 10) (line_feeds text + 1) (line_feeds text) (before 0 (omega arith)) ∙ feeds_at text i (omega arith) here (λ j k. before (suc j) (omega arith))
+
+pub feeds_none : (text : List ℕ) → ((j : ℕ) → j < length text → eqb (get_or text j 0) 10 ≡ false) → line_feeds text ≡ 0
+feeds_none [] none = refl
+feeds_none (b ∷ text) none = cond-false (eqb b 10) (line_feeds text + 1) (line_feeds text) (none 0 (omega arith)) ∙ feeds_none text (λ j k. none (suc j) (omega arith))
+
+-- one byte before the part of the first line
+
+last_onto : (b : ℕ) (begun : List ℕ) → last_line (b ∷ begun) ≡ onto_first b (last_line begun)
+last_onto b [] = refl
+last_onto b (c ∷ begun) = refl
+
+cut_onto : (b : ℕ) (begun text : List ℕ) → cut_after (b ∷ begun) text ≡ onto_first b (cut_after begun text)
+cut_onto b begun [] = last_onto b begun
+cut_onto b begun (c ∷ text) = elim (eqb c 10) as (λ t. cond t ((b ∷ begun) ∷ cut_after [] text) (cut_after (b ∷ begun ++ c ∷ []) text) ≡ onto_first b (cond t (begun ∷ cut_after [] text) (cut_after (begun ++ c ∷ []) text))) [
+  | true ↦ refl
+  | false ↦ cut_onto b (begun ++ c ∷ []) text
+]
+
+cut_first : (text : List ℕ) → cut_after [] text ≡ cut_lines text
+cut_first [] = refl
+cut_first (b ∷ text) = elim (eqb b 10) as (λ t. cond t ([] ∷ cut_after [] text) (cut_after (b ∷ []) text) ≡ cond t ([] ∷ cut_lines text) (onto_first b (cut_lines text))) [
+  | true ↦ ap (λ (lines : List (List ℕ)). [] ∷ lines) (cut_first text)
+  | false ↦ cut_onto b [] text ∙ ap (onto_first b) (cut_first text)
+]
+
+-- before any byte was taken
+pub lines_first : (text : List ℕ) → lines_after [] text ≡ lines_of text
+lines_first text = ap (map strip_carriage_return) (cut_first text)

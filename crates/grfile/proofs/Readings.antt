@@ -1,15 +1,18 @@
 -- From what the lines of a text say to what the text says.
-use Rattle.std.proofs.Common.{ℕ, ◌≡◌, List, Ok, Err, refl}
+use Rattle.std.proofs.Common.{ℕ, ◌≡◌, List, Option, Some, None, IfSome, Result, Ok, Err, All, refl, subst, ◌∙◌}
+use Rattle.std.specs.Result.{IfOk}
+use Rattle.ch_graph.specs.Graph.{Graph, IsGraph}
 use Rattle.ch_graph.specs.declared.road.Road.{Road}
 use Rattle.grfile.specs.declared.error.GrError.{GrError}
 use Rattle.grfile.specs.declared.error.GrErrorKind.{GrErrorKind}
 use Rattle.grfile.specs.declared.error.GrErrorKind.TheVariants.{OutOfMemory, Read, UnknownLine, NoProblemLine, SecondProblemLine, FieldCount, NotANumber, NodeRange, ZeroWeight, WeightTooBig, TooManyNodes, TooManyArcs, ArcCount}
 use Rattle.grfile.specs.Lines.{lines_of}
-use Rattle.grfile.specs.Outcome.{FromText, SaysNothing}
+use Rattle.grfile.specs.Outcome.{◌>>=◌, FromText, SaysNothing}
 use Rattle.grfile.specs.Grammar.{Listing, listing_after}
 use Rattle.grfile.specs.Roads.{graph_grammar}
 use Rattle.grfile.specs.Pairs.{pair_grammar}
-use Rattle.grfile.specs.Reading.{graph_of, pairs_of}
+use Rattle.grfile.specs.Reading.{graph_of, pairs_of, IsPair}
+use Rattle.grfile.proofs.Sound.{graph_listed, pairs_listed}
 
 pub from_text_map : (kind : GrErrorKind) {P Q : Type 0} → (P → Q) → FromText kind P → FromText kind Q
 from_text_map OutOfMemory f p = tt
@@ -44,3 +47,53 @@ pairs_fault nodes text e told = from_text_map e.kind (λ h. rw h refl) told
 pub pairs_read : (nodes : ℕ) (text : List ℕ) (listing : Listing (ℕ × ℕ)) → listing_after (pair_grammar nodes) 0 (lines_of text) ≡ Ok listing → pairs_of nodes text ≡ Ok listing.entries
 unfolding pairs_of
 pairs_read nodes text listing told = rw told refl
+
+-- From what a reader knows to what its text says
+
+abbrev pub as_graph : Listing Road → Result Graph GrError
+as_graph read = Ok (record { nodes = read.size.nodes; arcs = read.entries })
+
+abbrev pub as_pairs : Listing (ℕ × ℕ) → Result (List (ℕ × ℕ)) GrError
+as_pairs read = Ok read.entries
+
+pub graph_seen : (text : List ℕ) → (listing_after graph_grammar 0 (lines_of text) >>= as_graph) ≡ graph_of text
+unfolding graph_of
+graph_seen text = refl
+
+pub pairs_seen : (nodes : ℕ) (text : List ℕ) → (listing_after (pair_grammar nodes) 0 (lines_of text) >>= as_pairs) ≡ pairs_of nodes text
+unfolding pairs_of
+pairs_seen nodes text = refl
+
+listed_graph : (r : Result (Listing Road) GrError) (g : Graph) → IfOk r (λ listing. IsGraph (record { nodes = listing.size.nodes; arcs = listing.entries })) → (r >>= as_graph) ≡ Ok g → IsGraph g
+listed_graph (Ok read) g h is =
+    let same : record { nodes = read.size.nodes; arcs = read.entries } ≡ g = cc in
+    subst (λ (g : Graph). IsGraph g) same h
+listed_graph (Err e) g h is = absurd (cc)
+
+pub graph_sound : (text : List ℕ) (g : Graph) → graph_of text ≡ Ok g → IsGraph g
+graph_sound text g is = listed_graph (listing_after graph_grammar 0 (lines_of text)) g (graph_listed 0 (lines_of text)) (graph_seen text ∙ is)
+
+listed_pairs : (nodes : ℕ) (r : Result (Listing (ℕ × ℕ)) GrError) (pairs : List (ℕ × ℕ)) → IfOk r (λ listing. All (IsPair nodes) listing.entries) → (r >>= as_pairs) ≡ Ok pairs → All (IsPair nodes) pairs
+listed_pairs nodes (Ok read) pairs h is =
+    let same : read.entries ≡ pairs = cc in
+    subst (λ (pairs : List (ℕ × ℕ)). All (IsPair nodes) pairs) same h
+listed_pairs nodes (Err e) pairs h is = absurd (cc)
+
+pub pairs_sound : (nodes : ℕ) (text : List ℕ) (pairs : List (ℕ × ℕ)) → pairs_of nodes text ≡ Ok pairs → All (IsPair nodes) pairs
+pairs_sound nodes text pairs is = listed_pairs nodes (listing_after (pair_grammar nodes) 0 (lines_of text)) pairs (pairs_listed nodes 0 (lines_of text)) (pairs_seen nodes text ∙ is)
+
+pub graph_fault_known : (had : Option (List ℕ)) (e : GrError) → IfSome had (λ text. FromText e.kind (listing_after graph_grammar 0 (lines_of text) ≡ Err e)) → IfSome had (λ text. FromText e.kind (graph_of text ≡ Err e))
+graph_fault_known None e told = tt
+graph_fault_known (Some text) e told = graph_fault text e told
+
+pub graph_read_known : (had : Option (List ℕ)) (listing : Listing Road) → IfSome had (λ text. listing_after graph_grammar 0 (lines_of text) ≡ Ok listing) → IfSome had (λ text. graph_of text ≡ Ok (record { nodes = listing.size.nodes; arcs = listing.entries }))
+graph_read_known None listing told = tt
+graph_read_known (Some text) listing told = graph_read text listing told
+
+pub pairs_fault_known : (nodes : ℕ) (had : Option (List ℕ)) (e : GrError) → IfSome had (λ text. FromText e.kind (listing_after (pair_grammar nodes) 0 (lines_of text) ≡ Err e)) → IfSome had (λ text. FromText e.kind (pairs_of nodes text ≡ Err e))
+pairs_fault_known nodes None e told = tt
+pairs_fault_known nodes (Some text) e told = pairs_fault nodes text e told
+
+pub pairs_read_known : (nodes : ℕ) (had : Option (List ℕ)) (listing : Listing (ℕ × ℕ)) → IfSome had (λ text. listing_after (pair_grammar nodes) 0 (lines_of text) ≡ Ok listing) → IfSome had (λ text. pairs_of nodes text ≡ Ok listing.entries)
+pairs_read_known nodes None listing told = tt
+pairs_read_known nodes (Some text) listing told = pairs_read nodes text listing told

@@ -1,5 +1,5 @@
 -- What a text says, or its first fault, and how an answer of the code compares with it.
-use Rattle.std.specs.Prelude.{◌≡◌, ℕ, ◌+◌, ◌-◌, ◌^◌, min, Result, Ok, Err, MatchResult, ⊤}
+use Rattle.std.specs.Prelude.{◌≡◌, ◌≢◌, ℕ, ◌+◌, ◌-◌, ◌^◌, min, Result, Ok, Err, MatchResult, ⊤}
 use Rattle.grfile.specs.declared.error.GrError.{GrError}
 use Rattle.grfile.specs.declared.error.GrErrorKind.{GrErrorKind}
 use Rattle.grfile.specs.declared.error.GrErrorKind.TheVariants.{OutOfMemory, Read}
@@ -40,3 +40,7 @@ Answers view (Err e) told = FromText e.kind (told ≡ Err e)
 -- follows, now that the part is taken. A fault is the text's, whatever follows.
 abbrev pub Takes : {Rest B : Type 0} → Result ⊤ GrError → (Rest → Result B GrError) → (Rest → Result B GrError) → Type 0
 Takes {Rest} result old new = MatchResult result (λ _. (rest : Rest) → new rest ≡ old rest) (λ e. (rest : Rest) → FromText e.kind (old rest ≡ Err e))
+
+-- a refusal of this line, by no failed read
+abbrev pub IsOfLine : ℕ → GrError → Type 0
+IsOfLine line e = (e.line ≡ line) × (e.kind ≢ Read)

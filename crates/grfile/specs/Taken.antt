@@ -1,25 +1,82 @@
 -- What a reader has taken of a text, and what it then says of the whole.
-use Rattle.std.specs.Prelude.{ℕ, List, ◌++◌, Option, Some, None, Result, Err}
+use Rattle.std.specs.Prelude.{◌≡◌, ◌≢◌, ◌≤◌, ℕ, ◌+◌, ◌==◌, if◌then◌else◌, List, [], ◌∷◌, ◌++◌, map, Option, Some, None, Result, Ok, Err, MatchResult, MatchOption, IfSome}
+use Rattle.std.specs.Option.{option_map}
+use Rattle.std.specs.Str.Lines.{strip_carriage_return}
+use Rattle.ch_graph.specs.declared.road.Road.{Road}
 use Rattle.ch_graph.specs.Graph.{Graph}
 use Rattle.grfile.specs.declared.error.GrError.{GrError}
-use Rattle.grfile.specs.Reading.{graph_of, pairs_of}
+use Rattle.grfile.specs.declared.error.GrErrorKind.TheVariants.{OutOfMemory, Read}
+use Rattle.grfile.specs.declared.pieces.Pieces.{Pieces}
+use Rattle.grfile.specs.Outcome.{◌>>=◌, capped, next_line}
+use Rattle.grfile.specs.Grammar.{Grammar, Listing}
+use Rattle.grfile.specs.Roads.{graph_grammar}
+use Rattle.grfile.specs.Pairs.{pair_grammar}
+use Rattle.grfile.specs.Progress.{listing_of, listing_from}
 
--- the bytes that were taken, and the refusal that was answered, if there was one
-pub record Taken : Type 0 where
-  pub text : List ℕ
+-- A text's last line, which is one only if there is any of it.
+abbrev pub last_line : List ℕ → List (List ℕ)
+last_line [] = []
+last_line (b ∷ begun) = (b ∷ begun) ∷ []
+
+-- The lines of the bytes that follow, where these bytes of the first line came before.
+abbrev pub cut_after : List ℕ → List ℕ → List (List ℕ)
+cut_after begun [] = last_line begun
+cut_after begun (b ∷ text) = if b == 10 then begun ∷ cut_after [] text else cut_after (begun ++ b ∷ []) text
+
+-- the same, each line without the one carriage return at its end
+abbrev pub lines_after : List ℕ → List ℕ → List (List ℕ)
+lines_after begun text = map strip_carriage_return (cut_after begun text)
+
+-- how many line feeds there are
+abbrev pub line_feeds : List ℕ → ℕ
+line_feeds [] = 0
+line_feeds (b ∷ text) = if b == 10 then line_feeds text + 1 else line_feeds text
+
+-- What is kept of a text: how many lines have ended, what they say once a problem line has come, the bytes of the
+-- line that hasn't ended, and the refusal that was answered, if there was one.
+pub record Taken (E : Type 0) : Type 0 where
+  pub line : ℕ
+  pub listing : Option (Listing E)
+  pub begun : List ℕ
   pub failed : Option GrError
 
--- what is taken of a text of pairs of so many nodes
+-- what is kept of a text of pairs of so many nodes
 pub record PairsTaken : Type 0 where
   pub nodes : ℕ
-  pub taken : Taken
+  pub taken : Taken (ℕ × ℕ)
+
+abbrev pub taken_of : {E : Type 0} → Pieces E → Taken E
+taken_of pieces = record { line = pieces.progress.line; listing = option_map listing_of pieces.progress.listed; begun = pieces.begun.items; failed = pieces.failed }
 
 -- what is told of the whole text if `rest` follows what was taken
-abbrev pub told_with : {B : Type 0} → (List ℕ → Result B GrError) → Taken → List ℕ → Result B GrError
-told_with reading taken rest = elim taken.failed [ Some e ↦ Err e | None ↦ reading (taken.text ++ rest) ]
+abbrev pub told_with : {E : Type 0} → Grammar E → Taken E → List ℕ → Result (Listing E) GrError
+told_with grammar taken rest = elim taken.failed [ Some e ↦ Err e | None ↦ listing_from grammar taken.line taken.listing (lines_after taken.begun rest) ]
 
-abbrev pub graph_with : Taken → List ℕ → Result Graph GrError
-graph_with taken rest = told_with graph_of taken rest
+abbrev pub graph_with : Taken Road → List ℕ → Result Graph GrError
+graph_with taken rest = told_with graph_grammar taken rest >>= (λ (read : Listing Road). Ok (record { nodes = read.size.nodes; arcs = read.entries }))
 
 abbrev pub pairs_with : PairsTaken → List ℕ → Result (List (ℕ × ℕ)) GrError
-pairs_with taken rest = told_with (pairs_of taken.nodes) taken.taken rest
+pairs_with taken rest = told_with (pair_grammar taken.nodes) taken.taken rest >>= (λ (read : Listing (ℕ × ℕ)). Ok read.entries)
+
+-- A refusal of the line that was reached, by no failed read. `old` lines had ended before the call and `new` have
+-- now, of at most so many.
+pub record IsReached (old most new : ℕ) (e : GrError) : Type 0 where
+  pub from : capped old ≤ new
+  pub to : new ≤ most
+  pub line_is : e.line ≡ next_line new
+  pub no_read : e.kind ≢ Read
+
+-- How many lines have ended after a call that took bytes with so many line feeds: one for each, or, after a refusal,
+-- those before the line that was reached.
+abbrev pub CountsLines : {A : Type 0} → Result A GrError → ℕ → ℕ → ℕ → Type 0
+CountsLines result old feeds new = MatchResult result (λ _. new ≡ capped (old + feeds)) (IsReached old (old + feeds) new)
+
+-- A refusal at the end of a text of which so many lines had ended: no failed read, and want of memory at the next.
+pub record IsAtEndOf (line : ℕ) (e : GrError) : Type 0 where
+  pub no_read : e.kind ≢ Read
+  pub memory : e.kind ≡ OutOfMemory → e.line ≡ next_line line
+
+-- Some bytes were taken: what was told of them and of what follows is told of what follows. They are those that the
+-- reader had before what it has left, where these are known.
+abbrev pub HasTaken : {B : Type 0} → (List ℕ → Result B GrError) → (List ℕ → Result B GrError) → Option (List ℕ) → Option (List ℕ) → Type 0
+HasTaken old new had left = (bytes : List ℕ) × ((rest : List ℕ) → new rest ≡ old (bytes ++ rest)) × IfSome had (λ text. MatchOption left ⊥ (λ rest. bytes ++ rest ≡ text))

@@ -1,4 +1,5 @@
-ghost use Rattle.std.specs.Prelude.{◌≡◌};
+ghost use Rattle.std.specs.Prelude.{◌≡◌, IfErr};
+ghost use Rattle.grfile.specs.Outcome.{IsOfLine};
 ghost use Rattle.grfile.specs.Grammar.{Grammar};
 
 use crate::error::GrError;
@@ -26,9 +27,11 @@ pub(crate) trait Form: Copy {
 
     /// What the problem line with this number says, by its fields after the first.
     fn size(self, line: u64, fields: Fields<'_>) -> Result<Size, GrError>
-        ensures { result ≡ (grammar self).size_of line fields.entry };
+        ensures says { result ≡ (grammar self).size_of line fields.entry }
+        ensures refused { IfErr result (IsOfLine line) };
 
     /// What the line of an entry with this number says, by its fields after the first.
     fn entry(self, size: Size, line: u64, fields: Fields<'_>) -> Result<Self::Entry, GrError>
-        ensures { result ≡ (grammar self).entry_of size line fields.entry };
+        ensures says { result ≡ (grammar self).entry_of size line fields.entry }
+        ensures refused { IfErr result (IsOfLine line) };
 }

@@ -1,86 +1,86 @@
-ghost use Rattle.std.specs.Prelude.{◌≡◌, ◌++◌, [], Some, IfErr, OnOk, IfSome, Err, List, ℕ};
+ghost use Rattle.std.specs.Prelude.{◌≡◌, ◌++◌, [], None, Some, IfErr, OnOk, IfSome, Err, List, ℕ};
 ghost use Rattle.std.specs.Io.KnownBytes.{IsAtEnd};
 ghost use Rattle.grfile.specs.Outcome.{Answers, Takes};
 ghost use Rattle.grfile.specs.Reading.{graph_of};
-ghost use Rattle.grfile.specs.Taken.{graph_with};
+ghost use Rattle.grfile.specs.Taken.{CountsLines, IsAtEndOf, graph_with, line_feeds};
 
 use crate::error::GrError;
-use crate::listing::{Listed, listing};
+use crate::listing::Listed;
+use crate::pieces::{Pieces, feed, finish, read_listing};
 use crate::roads::Roads;
-use crate::taken::Taken;
-use ch_graph::Graph;
+use ch_graph::{Graph, Road};
 use std::alloc::Global;
 use std::io::Read;
 use std::marker::Model;
 
 /// Reads the text of a graph that comes in pieces, however it was cut.
 ///
-/// The text is kept until [`GrReader::finish`]. After a refusal each further call answers that refusal again.
+/// It keeps the arcs of the lines that have ended, and the bytes of the line that hasn't. After a refusal each
+/// further call answers that refusal again.
 #[derive(Drop)]
 pub struct GrReader {
-    taken: Taken,
+    pieces: Pieces<Road>,
 }
 
 impl Model for GrReader {
+    ghost use Rattle.std.specs.Prelude.{List, ℕ};
+    ghost use Rattle.std.specs.Result.{ForOk};
+    ghost use Rattle.ch_graph.specs.declared.road.Road.{Road};
+    ghost use Rattle.ch_graph.specs.Graph.{IsGraph};
     ghost use Rattle.grfile.specs.Taken as texts;
 
-    ghost Value = { texts.Taken };
+    ghost Value = { texts.Taken Road };
 
-    ghost view = { λ r. record { text = r.taken.text.items; failed = r.taken.failed } };
+    ghost view = { λ r. texts.taken_of r.pieces };
+
+    ghost invariant = { λ r. (rest : List ℕ) → ForOk (texts.graph_with (texts.taken_of r.pieces) rest) IsGraph };
 }
 
 impl GrReader {
     /// A reader that has taken nothing. Takes no memory.
     pub fn new(alloc: Global) -> GrReader
-        ensures { (rest : List ℕ) → graph_with result rest ≡ graph_of rest }
+        ensures told { (rest : List ℕ) → graph_with result rest ≡ graph_of rest }
+        ensures begins { (result.line ≡ 0) × (result.failed ≡ None) }
     {
         GrReader {
-            taken: Taken::new(alloc),
+            pieces: Pieces::new(alloc),
         }
     }
 
     /// Takes the next piece of the text.
     ///
-    /// The only new refusal is want of memory, of the line that the piece begins in; a fault of a line is
-    /// answered by [`GrReader::finish`].
+    /// A refusal is of the line that was reached: the fault of a line that has ended, or want of memory, for what
+    /// the line says or for the bytes of one that hasn't ended.
     pub fn feed(&mut self, piece: &[u8]) -> Result<(), GrError>
         ensures takes { Takes result (λ rest. graph_with self.old (piece.now ++ rest)) (graph_with self.new) }
+        ensures lines { self.old.failed ≡ None → CountsLines result self.old.line (line_feeds piece.now) self.new.line }
         ensures refused { IfErr result (λ e. self.new.failed ≡ Some e) }
         ensures again { IfSome self.old.failed (λ e. result ≡ Err e) }
     {
-        self.taken.take(piece)
+        feed(&mut self.pieces, Roads, piece)
     }
 
     /// The graph that the whole text spells, or the text's first fault.
     pub fn finish(self) -> Result<Graph, GrError>
         ensures reading { Answers (λ g. g) result (graph_with self []) }
+        ensures refused { self.failed ≡ None → IfErr result (IsAtEndOf self.line) }
         ensures again { IfSome self.failed (λ e. result ≡ Err e) }
     {
-        let GrReader { taken } = self;
-        if let Some(refusal) = taken.failed {
-            return Err(refusal);
-        }
-        graph_of(*taken.text.allocator(), taken.text.as_slice())
+        let GrReader { pieces } = self;
+        let Listed { size, entries } = finish(pieces, Roads)?;
+        Ok(Graph::new(size.nodes, entries))
     }
 }
 
 /// Reads the text of a graph to the reader's end.
 ///
 /// The first fault of the text is answered, with its line; `Read` where the reader fails, and `OutOfMemory` where
-/// a growth is refused. Memory grows with what the reader gave, never with what a line announces.
+/// a growth is refused. What is kept is the arcs so far, one line and 64 KiB: memory grows with what the text has
+/// spelled, never with what a line announces.
 pub fn read_graph<R: Read>(alloc: Global, reader: &mut R) -> Result<Graph, GrError>
     ensures reading { IfSome (R.remaining reader.old) (λ text. Answers (λ g. g) result (graph_of text)) }
     ensures ended { OnOk result (IsAtEnd (R.remaining reader.new)) }
 {
-    let mut taken = Taken::new(alloc);
-    taken.take_all(reader)?;
-    graph_of(alloc, taken.text.as_slice())
-}
-
-/// The graph that a whole text spells.
-fn graph_of(alloc: Global, text: &[u8]) -> Result<Graph, GrError>
-    ensures { Answers (λ g. g) result (graph_of text.now) }
-{
-    let Listed { size, entries } = listing(alloc, Roads, text)?;
+    let Listed { size, entries } = read_listing(alloc, Roads, reader)?;
     Ok(Graph::new(size.nodes, entries))
 }

@@ -1,10 +1,10 @@
-ghost use Rattle.std.specs.Prelude.{◌≡◌, ◌<◌, ◌∷◌, [], length, MatchOption};
+ghost use Rattle.std.specs.Prelude.{◌≡◌, ◌<◌, ◌+◌, ◌∷◌, [], ◌++◌, length, MatchOption, List, ℕ, ⊤};
 ghost use Rattle.std.specs.Str.Lines.{strip_carriage_return};
-ghost use Rattle.grfile.specs.Lines.{cut_lines};
+ghost use Rattle.grfile.specs.Taken.{cut_after, line_feeds};
 
 use bstr::ByteSlice;
 
-/// The first line of a text, and what follows it.
+/// The first line that ends in a text, and what follows it.
 #[derive(Clone, Copy)]
 pub(crate) struct Cut<'a> {
     /// The line, without its line feed.
@@ -13,23 +13,18 @@ pub(crate) struct Cut<'a> {
     pub(crate) rest: &'a [u8],
 }
 
-/// The first line of a text, or none where the text is empty. The last line may lack its line feed.
+/// The first line that ends in a text, or none where none does. The line may have begun before the text.
 pub(crate) fn first_line(text: &[u8]) -> Option<Cut<'_>>
-    ensures lines { MatchOption result (text.now ≡ []) (λ cut. cut_lines text.now ≡ cut.line.now ∷ cut_lines cut.rest.now) }
-    ensures shorter { MatchOption result (text.now ≡ []) (λ cut. length cut.rest.now < length text.now) }
+    ensures lines { (begun more : List ℕ) → MatchOption result (cut_after begun (text.now ++ more) ≡ cut_after (begun ++ text.now) more) (λ cut. cut_after begun (text.now ++ more) ≡ (begun ++ cut.line.now) ∷ cut_after [] (cut.rest.now ++ more)) }
+    ensures feeds { MatchOption result (line_feeds text.now ≡ 0) (λ cut. line_feeds text.now ≡ line_feeds cut.rest.now + 1) }
+    ensures shorter { MatchOption result ⊤ (λ cut. length cut.rest.now < length text.now) }
 {
-    if text.is_empty() {
-        return None;
-    }
     match text.find_byte(b'\n') {
         Some(end) => Some(Cut {
             line: &text[..end],
             rest: &text[end + 1..],
         }),
-        None => Some(Cut {
-            line: text,
-            rest: &[],
-        }),
+        None => None,
     }
 }
 

@@ -1,13 +1,13 @@
-ghost use Rattle.std.specs.Prelude.{◌∷◌, []};
-ghost use Rattle.grfile.specs.Outcome.{Answers, Takes};
+ghost use Rattle.std.specs.Prelude.{◌≡◌, ◌≢◌, ◌∷◌, [], ℕ, Some, IfErr, MatchResult};
+ghost use Rattle.std.specs.Option.{option_map};
+ghost use Rattle.grfile.specs.Outcome.{Answers, Takes, IsOfLine, next_line};
 ghost use Rattle.grfile.specs.Progress.{listing_of, listing_from, entry_then, told_from};
-ghost use Rattle.grfile.specs.Grammar.{Grammar, listing_after};
-ghost use Rattle.grfile.specs.Lines.{lines_of};
+ghost use Rattle.grfile.specs.Grammar.{Grammar};
+ghost use Rattle.grfile.specs.declared.error.GrErrorKind.TheVariants.{OutOfMemory, Read};
 
 use crate::error::{GrError, GrErrorKind};
 use crate::fields::{Fields, LineKind, fields_of, kind_of};
 use crate::form::{Form, Size};
-use crate::line::{first_line, without_return};
 use std::alloc::Global;
 
 /// What a problem line says, and the entries after it.
@@ -26,7 +26,8 @@ fn take_entry<F: Form>(
     line: u64,
     fields: Fields<'_>,
 ) -> Result<(), GrError>
-    ensures { Takes result (λ rest. entry_then (F.grammar form) line (listing_of listed.old) fields.entry rest) (λ rest. listing_from (F.grammar form) line (Some (listing_of listed.new)) rest) }
+    ensures takes { Takes result (λ rest. entry_then (F.grammar form) line (listing_of listed.old) fields.entry rest) (λ rest. listing_from (F.grammar form) line (Some (listing_of listed.new)) rest) }
+    ensures refused { IfErr result (IsOfLine line) }
 {
     if listed.entries.len() >= listed.size.entries as usize {
         return Err(GrErrorKind::ArcCount.at(line));
@@ -48,16 +49,32 @@ pub(crate) struct Progress<E> {
 }
 
 /// Takes the next line of a text, which has neither its line feed nor the carriage return at its end.
-fn take_line<F: Form>(
+pub(crate) fn take_line<F: Form>(
     alloc: Global,
     progress: &mut Progress<F::Entry>,
     form: F,
     line: &[u8],
 ) -> Result<(), GrError>
-    ensures { Takes result (λ rest. told_from (F.grammar form) progress.old (line.now ∷ rest)) (told_from (F.grammar form) progress.new) }
+    ensures takes { Takes result (λ rest. told_from (F.grammar form) progress.old (line.now ∷ rest)) (told_from (F.grammar form) progress.new) }
+    ensures line { MatchResult result (λ _. progress.new.line ≡ next_line progress.old.line) (λ e. (progress.new.line ≡ progress.old.line) × IsOfLine (next_line progress.old.line) e) }
 {
     let number = progress.line.saturating_add(1);
+    take_numbered(alloc, &mut progress.listed, form, number, line)?;
     progress.line = number;
+    Ok(())
+}
+
+/// Takes the line with this number.
+fn take_numbered<F: Form>(
+    alloc: Global,
+    listed: &mut Option<Listed<F::Entry>>,
+    form: F,
+    number: u64,
+    line: &[u8],
+) -> Result<(), GrError>
+    ensures takes { (n : ℕ) → number ≡ next_line n → Takes result (λ rest. listing_from (F.grammar form) n (option_map listing_of listed.old) (line.now ∷ rest)) (λ rest. listing_from (F.grammar form) number (option_map listing_of listed.new) rest) }
+    ensures refused { IfErr result (IsOfLine number) }
+{
     let mut fields = fields_of(line);
     let Some(first) = fields.next_field() else {
         return Ok(());
@@ -66,15 +83,15 @@ fn take_line<F: Form>(
         LineKind::Skipped => Ok(()),
         LineKind::Unknown => Err(GrErrorKind::UnknownLine.at(number)),
         LineKind::Problem => {
-            if progress.listed.is_some() {
+            if listed.is_some() {
                 return Err(GrErrorKind::SecondProblemLine.at(number));
             }
             let size = form.size(number, fields)?;
             let entries = Vec::new(alloc);
-            progress.listed = Some(Listed { size, entries });
+            *listed = Some(Listed { size, entries });
             Ok(())
         }
-        LineKind::Entry => match &mut progress.listed {
+        LineKind::Entry => match listed {
             Some(listed) => take_entry(listed, form, number, fields),
             None => Err(GrErrorKind::NoProblemLine.at(number)),
         },
@@ -82,8 +99,9 @@ fn take_line<F: Form>(
 }
 
 /// What a text says that ends with this line.
-fn end<E: Drop>(progress: Progress<E>) -> Result<Listed<E>, GrError>
-    ensures { (grammar : Grammar E) → Answers listing_of result (told_from grammar progress []) }
+pub(crate) fn end<E: Drop>(progress: Progress<E>) -> Result<Listed<E>, GrError>
+    ensures told { (grammar : Grammar E) → Answers listing_of result (told_from grammar progress []) }
+    ensures refused { IfErr result (λ e. (e.kind ≢ Read) × (e.kind ≢ OutOfMemory)) }
 {
     let line = progress.line;
     let listed = progress.listed.ok_or(GrErrorKind::NoProblemLine.at(line))?;
@@ -92,30 +110,11 @@ fn end<E: Drop>(progress: Progress<E>) -> Result<Listed<E>, GrError>
 
 /// What was listed, where all of its entries have come by the end of the text.
 fn whole<E: Drop>(listed: Listed<E>, line: u64) -> Result<Listed<E>, GrError>
-    ensures { (grammar : Grammar E) → Answers listing_of result (listing_from grammar line (Some (listing_of listed)) []) }
+    ensures told { (grammar : Grammar E) → Answers listing_of result (listing_from grammar line (Some (listing_of listed)) []) }
+    ensures refused { IfErr result (λ e. (e.kind ≢ Read) × (e.kind ≢ OutOfMemory)) }
 {
     if listed.entries.len() < listed.size.entries as usize {
         return Err(GrErrorKind::ArcCount.at(line));
     }
     Ok(listed)
-}
-
-/// What a whole text says.
-pub(crate) fn listing<F: Form>(
-    alloc: Global,
-    form: F,
-    text: &[u8],
-) -> Result<Listed<F::Entry>, GrError>
-    ensures { Answers listing_of result (listing_after (F.grammar form) 0 (lines_of text.now)) }
-{
-    let mut progress = Progress {
-        line: 0,
-        listed: None,
-    };
-    let mut rest = text;
-    while let Some(cut) = first_line(rest) {
-        take_line(alloc, &mut progress, form, without_return(cut.line))?;
-        rest = cut.rest;
-    }
-    end(progress)
 }

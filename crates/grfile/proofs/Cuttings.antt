@@ -1,0 +1,102 @@
+-- What is told of a text that was taken in pieces, and how many of its lines have ended.
+use Rattle.std.proofs.Common.{ℕ, ◌≡◌, ◌+◌, ◌^◌, ◌<◌, List, [], ◌++◌, Option, Some, None, Result, Ok, Err, MatchResult, MatchOption, IfSome, arith, refl, ap, sym, subst, ◌∙◌}
+use Rattle.std.specs.Prelude.{⊤}
+use Rattle.std.specs.Io.KnownBytes.{Consumes, Keeps, IsAtEnd}
+use Rattle.std.specs.Result.{IfOk, IfErr, ForOk}
+use Rattle.std.proofs.lemmas.List.{append_assoc}
+use Rattle.grfile.specs.declared.error.GrError.{GrError}
+use Rattle.grfile.specs.declared.error.GrErrorKind.TheVariants.{OutOfMemory}
+use Rattle.grfile.specs.Lines.{lines_of}
+use Rattle.grfile.specs.Outcome.{◌>>=◌, Answers, FromText, IsOfLine, Takes, capped, next_line}
+use Rattle.grfile.specs.Grammar.{Grammar, Listing, listing_after}
+use Rattle.grfile.specs.declared.pieces.Pieces.{Pieces}
+use Rattle.grfile.specs.Taken.{CountsLines, HasTaken, IsReached, Taken, taken_of, told_with}
+use Rattle.grfile.proofs.LineCuts.{lines_first}
+use Rattle.grfile.proofs.Readings.{from_text_map}
+
+pub counts_one : (r : Result ⊤ GrError) (old new : ℕ) → MatchResult r (λ _. new ≡ next_line old) (λ e. (new ≡ old) × IsOfLine (next_line old) e) → CountsLines r old 1 new
+counts_one (Ok x) old new h = h
+counts_one (Err e) old new h = record { from = omega arith; to = omega arith; line_is = omega arith; no_read = h.1.1 }
+
+-- the bytes of a line that hasn't ended were kept, or not
+pub counts_kept : (r : Result ⊤ GrError) (old feeds new : ℕ) → IfErr r (λ e. e ≡ record { kind = OutOfMemory; line = next_line new }) → capped new ≡ capped (old + feeds) → new < 2 ^ 64 → CountsLines r old feeds new
+counts_kept (Ok x) old feeds new h count fits = omega arith
+counts_kept (Err e) old feeds new h count fits = record { from = omega arith; to = omega arith; line_is = ap (λ (e : GrError). e.line) h; no_read = λ is. absurd (cc) }
+
+pub counts_after : (old mid new feeds more : ℕ) (e : GrError) → mid ≡ capped (old + 1) → feeds ≡ more + 1 → IsReached mid (mid + more) new e → IsReached old (old + feeds) new e
+counts_after old mid new feeds more e mid_is feeds_are reached = record { from = omega (arith, reached.from); to = omega (arith, reached.to); line_is = reached.line_is; no_read = reached.no_read }
+
+-- what a reader says at first
+pub told_first : {E : Type 0} (grammar : Grammar E) (taken : Taken E) (rest : List ℕ) → taken ≡ record { line = 0; listing = None; begun = []; failed = None } → told_with grammar taken rest ≡ listing_after grammar 0 (lines_of rest)
+told_first {E} grammar taken rest is = ap (λ (t : Taken E). told_with grammar t rest) is ∙ ap (λ (lines : List (List ℕ)). listing_after grammar 0 lines) (lines_first rest)
+
+-- after a refusal
+told_failed : {E : Type 0} (grammar : Grammar E) (taken : Taken E) (e : GrError) (rest : List ℕ) → taken.failed ≡ Some e → told_with grammar taken rest ≡ Err e
+told_failed grammar taken e rest failed = rw failed refl
+
+module _ {E B : Type 0} (grammar : Grammar E) (old new : Taken E) (piece : List ℕ) (view : Listing E → Result B GrError) where
+  pub takes_seen : (r : Result ⊤ GrError) → Takes r (λ rest. told_with grammar old (piece ++ rest)) (told_with grammar new) → Takes r (λ rest. told_with grammar old (piece ++ rest) >>= view) (λ rest. told_with grammar new rest >>= view)
+  takes_seen (Ok x) takes = λ rest. ap (λ (told : Result (Listing E) GrError). told >>= view) (takes rest)
+  takes_seen (Err e) takes = λ rest. from_text_map e.kind (λ h. ap (λ (told : Result (Listing E) GrError). told >>= view) h) (takes rest)
+
+  pub still_holds : (P : B → Type 0) (r : Result ⊤ GrError) → Takes r (λ rest. told_with grammar old (piece ++ rest)) (told_with grammar new) → IfErr r (λ e. new.failed ≡ Some e) → ((rest : List ℕ) → ForOk (told_with grammar old rest >>= view) P) → (rest : List ℕ) → ForOk (told_with grammar new rest >>= view) P
+  still_holds P (Ok x) takes refused holds rest b is = holds (piece ++ rest) b (sym (ap (λ (told : Result (Listing E) GrError). told >>= view) (takes rest)) ∙ is)
+  still_holds P (Err e) takes refused holds rest b is =
+      let told = ap (λ (told : Result (Listing E) GrError). told >>= view) (told_failed grammar new e rest refused) in
+      let never : Err e ≡ Ok b = sym told ∙ is in
+      absurd (cc)
+
+-- What is known of the bytes that were taken
+
+known_more : (bytes chunk : List ℕ) (had left later : Option (List ℕ)) → IfSome had (λ text. MatchOption left ⊥ (λ rest. bytes ++ rest ≡ text)) → Consumes left later chunk → IfSome had (λ text. MatchOption later ⊥ (λ rest. (bytes ++ chunk) ++ rest ≡ text))
+known_more bytes chunk None left later known consumes = tt
+known_more bytes chunk (Some text) None later known consumes = absurd known
+known_more bytes chunk (Some text) (Some xs) None known consumes = absurd consumes
+known_more bytes chunk (Some text) (Some xs) (Some ys) known consumes = append_assoc bytes chunk ys ∙ ap (λ (rest : List ℕ). bytes ++ rest) (sym consumes) ∙ known
+
+pub taken_more : {B : Type 0} (old mid new : List ℕ → Result B GrError) (had left later : Option (List ℕ)) (chunk : List ℕ) → HasTaken old mid had left → ((rest : List ℕ) → new rest ≡ mid (chunk ++ rest)) → Consumes left later chunk → HasTaken old new had later
+taken_more old mid new had left later chunk taken more consumes = (
+  taken.0 ++ chunk,
+  λ rest. more rest ∙ taken.1 (chunk ++ rest) ∙ ap old (sym (append_assoc taken.0 chunk rest)),
+  known_more taken.0 chunk had left later taken.2 consumes,
+)
+
+known_same : (bytes : List ℕ) (had left later : Option (List ℕ)) → IfSome had (λ text. MatchOption left ⊥ (λ rest. bytes ++ rest ≡ text)) → Keeps left later → IfSome had (λ text. MatchOption later ⊥ (λ rest. bytes ++ rest ≡ text))
+known_same bytes None left later known keeps = tt
+known_same bytes (Some text) None later known keeps = absurd known
+known_same bytes (Some text) (Some xs) None known keeps = absurd keeps
+known_same bytes (Some text) (Some xs) (Some ys) known keeps = ap (λ (rest : List ℕ). bytes ++ rest) keeps ∙ known
+
+pub taken_same : {B : Type 0} (old new : List ℕ → Result B GrError) (had left later : Option (List ℕ)) → HasTaken old new had left → Keeps left later → HasTaken old new had later
+taken_same old new had left later taken keeps = (taken.0, taken.1, known_same taken.0 had left later taken.2 keeps)
+
+-- where two ways of the code join
+pub taken_as : {E : Type 0} (grammar : Grammar E) (old : List ℕ → Result (Listing E) GrError) (joined one : Pieces E) (had left : Option (List ℕ)) → joined ≡ one → HasTaken old (told_with grammar (taken_of one)) had left → HasTaken old (told_with grammar (taken_of joined)) had left
+taken_as {E} grammar old joined one had left is taken = subst (λ (p : Pieces E). HasTaken old (told_with grammar (taken_of p)) had left) (sym is) taken
+
+pub failed_as : {E : Type 0} (joined one : Pieces E) (o : Option GrError) → joined ≡ one → one.failed ≡ o → joined.failed ≡ o
+failed_as {E} joined one o is failed = ap (λ (p : Pieces E). p.failed) is ∙ failed
+
+-- From what a reader says at first to what the text says
+
+module _ {E : Type 0} (grammar : Grammar E) (first : Taken E) (begins : first ≡ record { line = 0; listing = None; begun = []; failed = None }) where
+  pub first_fault : (had : Option (List ℕ)) (e : GrError) → IfSome had (λ text. FromText e.kind (told_with grammar first text ≡ Err e)) → IfSome had (λ text. FromText e.kind (listing_after grammar 0 (lines_of text) ≡ Err e))
+  first_fault None e told = tt
+  first_fault (Some text) e told = from_text_map e.kind (λ h. sym (told_first grammar first text begins) ∙ h) told
+
+  answers_all : {A : Type 0} (view : A → Listing E) (r : Result A GrError) (told : Result (Listing E) GrError) (text : List ℕ) → Answers view r told → told ≡ listing_after grammar 0 (lines_of text) → Answers view r (listing_after grammar 0 (lines_of text))
+  answers_all view r told text answers same = subst (λ (told : Result (Listing E) GrError). Answers view r told) same answers
+
+  pub told_all : {A : Type 0} (view : A → Listing E) (last : Taken E) (r : Result A GrError) (had left : Option (List ℕ)) → HasTaken (told_with grammar first) (told_with grammar last) had left → IsAtEnd left → Answers view r (told_with grammar last []) → IfSome had (λ text. Answers view r (listing_after grammar 0 (lines_of text)))
+  told_all view last r None left taken ended answers = tt
+  told_all view last r (Some text) None taken ended answers = absurd taken.2
+  told_all view last r (Some text) (Some xs) taken ended answers =
+      let whole : taken.0 ++ [] ≡ text = ap (λ (rest : List ℕ). taken.0 ++ rest) (sym ended) ∙ taken.2 in
+      answers_all view r (told_with grammar last []) text answers (taken.1 [] ∙ ap (λ (bytes : List ℕ). told_with grammar first bytes) whole ∙ told_first grammar first text begins)
+
+  told_by : {A : Type 0} (view : A → Listing E) (r : Result A GrError) (told : Result (Listing E) GrError) (text : List ℕ) → told ≡ listing_after grammar 0 (lines_of text) → Answers view r told → IfOk r (λ x. (text : List ℕ) × (listing_after grammar 0 (lines_of text) ≡ Ok (view x)))
+  told_by view (Ok x) told text same answers = (text, sym same ∙ answers)
+  told_by view (Err e) told text same answers = tt
+
+  pub told_some : {A : Type 0} (view : A → Listing E) (last : Taken E) (r : Result A GrError) (had left : Option (List ℕ)) → HasTaken (told_with grammar first) (told_with grammar last) had left → Answers view r (told_with grammar last []) → IfOk r (λ x. (text : List ℕ) × (listing_after grammar 0 (lines_of text) ≡ Ok (view x)))
+  told_some view last r had left taken answers = told_by view r (told_with grammar last []) (taken.0 ++ []) (taken.1 [] ∙ told_first grammar first (taken.0 ++ []) begins) answers

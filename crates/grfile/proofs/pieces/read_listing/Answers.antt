@@ -1,0 +1,16 @@
+use Rattle.std.proofs.lemmas.Result.{err_from_is_err_and}
+use Rattle.grfile.specs.Progress.{listing_of}
+use Rattle.grfile.specs.Taken.{taken_of}
+use Rattle.grfile.proofs.Cuttings.{first_fault, told_all, told_some}
+use Rattle.grfile.proofs.pieces.read_listing.Goals as goal
+
+pub returns-in_err-feed_all-clause-told : goal.returns-in_err-feed_all-clause-told
+returns-in_err-feed_all-clause-told g c =
+    let exit = err_from_is_err_and c.from_residual.result c.from_residual.ensures.1 in
+    rw (exit.1, exit.2) (first_fault (g.F.Form.grammar c.args.form) (taken_of c.new-pieces.result) c.new-pieces.ensures (g.R.Read.remaining c.args.reader.now) _ c.in_err-feed_all.ensures.err)
+
+pub returns-clause-told : goal.returns-clause-told
+returns-clause-told g c = told_all (g.F.Form.grammar c.args.form) (taken_of c.new-pieces.result) c.new-pieces.ensures listing_of (taken_of c.feed_all.new.pieces) c.finish.result (g.R.Read.remaining c.args.reader.now) (g.R.Read.remaining c.feed_all.new.reader) c.in_ok-feed_all.ensures.ok c.in_ok-feed_all.ensures.ended c.finish.ensures.told
+
+pub returns-clause-listed : goal.returns-clause-listed
+returns-clause-listed g c = told_some (g.F.Form.grammar c.args.form) (taken_of c.new-pieces.result) c.new-pieces.ensures listing_of (taken_of c.feed_all.new.pieces) c.finish.result (g.R.Read.remaining c.args.reader.now) (g.R.Read.remaining c.feed_all.new.reader) c.in_ok-feed_all.ensures.ok c.finish.ensures.told

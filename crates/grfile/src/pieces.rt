@@ -1,0 +1,200 @@
+ghost use Rattle.std.specs.Prelude.{◌≡◌, ◌+◌, ◌∷◌, ◌++◌, [], None, Some, IfErr, OnOk, IfOk, IfSome, Ok, Err, MatchResult, List, ℕ};
+ghost use Rattle.std.specs.Io.KnownBytes.{IsAtEnd};
+ghost use Rattle.std.specs.Str.Lines.{strip_carriage_return};
+ghost use Rattle.grfile.specs.Lines.{lines_of};
+ghost use Rattle.grfile.specs.Outcome.{Answers, FromText, Takes, capped, next_line};
+ghost use Rattle.grfile.specs.Grammar.{listing_after};
+ghost use Rattle.grfile.specs.Progress.{listing_of, listing_from, told_from};
+ghost use Rattle.grfile.specs.Taken.{CountsLines, HasTaken, IsAtEndOf, IsReached, line_feeds, lines_after, taken_of, told_with};
+ghost use Rattle.grfile.specs.declared.error.GrErrorKind.TheVariants.{OutOfMemory};
+
+use crate::error::{GrError, GrErrorKind};
+use crate::form::Form;
+use crate::line::{first_line, without_return};
+use crate::listing::{Listed, Progress, end, take_line};
+use std::alloc::Global;
+use std::io::{ErrorKind, Read};
+
+/// How often a reader is called at most.
+const CALLS: u64 = 1 << 40;
+
+/// What is kept of a text that comes in pieces.
+#[derive(Drop)]
+pub(crate) struct Pieces<E> {
+    /// What the lines say that have ended.
+    pub(crate) progress: Progress<E>,
+    /// The bytes of the line that hasn't ended.
+    pub(crate) begun: Vec<u8>,
+    /// The refusal that was answered, if there was one.
+    pub(crate) failed: Option<GrError>,
+}
+
+impl<E> Pieces<E> {
+    /// Nothing yet. Takes no memory.
+    pub(crate) fn new(alloc: Global) -> Pieces<E>
+        ensures { taken_of result ≡ record { line = 0; listing = None; begun = []; failed = None } }
+    {
+        Pieces {
+            progress: Progress {
+                line: 0,
+                listed: None,
+            },
+            begun: Vec::new(alloc),
+            failed: None,
+        }
+    }
+}
+
+/// Takes the next piece of a text. After a refusal each further call answers it again.
+pub(crate) fn feed<F: Form>(
+    pieces: &mut Pieces<F::Entry>,
+    form: F,
+    piece: &[u8],
+) -> Result<(), GrError>
+    ensures takes { Takes result (λ rest. told_with (F.grammar form) (taken_of pieces.old) (piece.now ++ rest)) (told_with (F.grammar form) (taken_of pieces.new)) }
+    ensures lines { pieces.old.failed ≡ None → CountsLines result pieces.old.progress.line (line_feeds piece.now) pieces.new.progress.line }
+    ensures stays { OnOk result (pieces.new.failed ≡ pieces.old.failed) }
+    ensures refused { IfErr result (λ e. pieces.new.failed ≡ Some e) }
+    ensures again { IfSome pieces.old.failed (λ e. result ≡ Err e) }
+{
+    if let Some(refusal) = pieces.failed {
+        return Err(refusal);
+    }
+    let answer = take(&mut pieces.progress, &mut pieces.begun, form, piece);
+    if let Err(refusal) = answer {
+        pieces.failed = Some(refusal);
+    }
+    answer
+}
+
+/// Takes a piece after the bytes of a line that has begun.
+fn take<F: Form>(
+    progress: &mut Progress<F::Entry>,
+    begun: &mut Vec<u8>,
+    form: F,
+    piece: &[u8],
+) -> Result<(), GrError>
+    ensures takes { Takes result (λ rest. told_from (F.grammar form) progress.old (lines_after begun.old.items (piece.now ++ rest))) (λ rest. told_from (F.grammar form) progress.new (lines_after begun.new.items rest)) }
+    ensures lines { CountsLines result progress.old.line (line_feeds piece.now) progress.new.line }
+{
+    let alloc = *begun.allocator();
+    let Some(cut) = first_line(piece) else {
+        return keep(begun, progress.line, piece);
+    };
+    end_line(progress, begun, form, cut.line)?;
+    let rest = take_lines(alloc, progress, form, cut.rest)?;
+    keep(begun, progress.line, rest)
+}
+
+/// Keeps bytes of the line after this one.
+fn keep(begun: &mut Vec<u8>, line: u64, bytes: &[u8]) -> Result<(), GrError>
+    ensures kept { OnOk result (begun.new.items ≡ begun.old.items ++ bytes.now) }
+    ensures refused { IfErr result (λ e. e ≡ record { kind = OutOfMemory; line = next_line line }) }
+{
+    match begun.extend_from_slice(bytes) {
+        Ok(()) => Ok(()),
+        Err(_) => Err(GrErrorKind::OutOfMemory.at(line.saturating_add(1))),
+    }
+}
+
+/// Takes the line that has begun, now that its last bytes have come.
+fn end_line<F: Form>(
+    progress: &mut Progress<F::Entry>,
+    begun: &mut Vec<u8>,
+    form: F,
+    last: &[u8],
+) -> Result<(), GrError>
+    ensures takes { Takes result (λ rest. told_from (F.grammar form) progress.old (strip_carriage_return (begun.old.items ++ last.now) ∷ rest)) (told_from (F.grammar form) progress.new) }
+    ensures empty { OnOk result (begun.new.items ≡ []) }
+    ensures lines { CountsLines result progress.old.line 1 progress.new.line }
+{
+    let alloc = *begun.allocator();
+    if begun.is_empty() {
+        return take_line(alloc, progress, form, without_return(last));
+    }
+    keep(begun, progress.line, last)?;
+    take_line(alloc, progress, form, without_return(begun.as_slice()))?;
+    begun.clear();
+    Ok(())
+}
+
+/// Takes the lines that end in a text, and answers what follows the last of them.
+fn take_lines<'a, F: Form>(
+    alloc: Global,
+    progress: &mut Progress<F::Entry>,
+    form: F,
+    text: &'a [u8],
+) -> Result<&'a [u8], GrError>
+    ensures takes { MatchResult result (λ last. (rest : List ℕ) → told_from (F.grammar form) progress.new (lines_after last.now rest) ≡ told_from (F.grammar form) progress.old (lines_after [] (text.now ++ rest))) (λ e. (rest : List ℕ) → FromText e.kind (told_from (F.grammar form) progress.old (lines_after [] (text.now ++ rest)) ≡ Err e)) }
+    ensures lines { MatchResult result (λ _. capped progress.new.line ≡ capped (progress.old.line + line_feeds text.now)) (IsReached progress.old.line (progress.old.line + line_feeds text.now) progress.new.line) }
+{
+    let mut rest = text;
+    while let Some(cut) = first_line(rest) {
+        take_line(alloc, progress, form, without_return(cut.line))?;
+        rest = cut.rest;
+    }
+    Ok(rest)
+}
+
+/// What the whole text lists, or its first fault.
+pub(crate) fn finish<F: Form>(
+    pieces: Pieces<F::Entry>,
+    form: F,
+) -> Result<Listed<F::Entry>, GrError>
+    ensures told { Answers listing_of result (told_with (F.grammar form) (taken_of pieces) []) }
+    ensures again { IfSome pieces.failed (λ e. result ≡ Err e) }
+    ensures refused { pieces.failed ≡ None → IfErr result (IsAtEndOf pieces.progress.line) }
+{
+    let Pieces {
+        mut progress,
+        begun,
+        failed,
+    } = pieces;
+    if let Some(refusal) = failed {
+        return Err(refusal);
+    }
+    if begun.is_empty() {
+        return end(progress);
+    }
+    let line = without_return(begun.as_slice());
+    take_line(*begun.allocator(), &mut progress, form, line)?;
+    end(progress)
+}
+
+/// What the text lists that a reader gives to its end, or its first fault. An interrupted call is made again.
+pub(crate) fn read_listing<F: Form, R: Read>(
+    alloc: Global,
+    form: F,
+    reader: &mut R,
+) -> Result<Listed<F::Entry>, GrError>
+    ensures told { IfSome (R.remaining reader.old) (λ text. Answers listing_of result (listing_after (F.grammar form) 0 (lines_of text))) }
+    ensures listed { IfOk result (λ listed. (text : List ℕ) × (listing_after (F.grammar form) 0 (lines_of text) ≡ Ok (listing_of listed))) }
+    ensures ended { OnOk result (IsAtEnd (R.remaining reader.new)) }
+{
+    let mut pieces = Pieces::new(alloc);
+    feed_all(&mut pieces, form, reader)?;
+    finish(pieces, form)
+}
+
+/// Takes all that a reader gives, in pieces of 64 KiB at most.
+fn feed_all<F: Form, R: Read>(
+    pieces: &mut Pieces<F::Entry>,
+    form: F,
+    reader: &mut R,
+) -> Result<(), GrError>
+    requires { pieces.old.failed ≡ None }
+    ensures ok { OnOk result (HasTaken (told_with (F.grammar form) (taken_of pieces.old)) (told_with (F.grammar form) (taken_of pieces.new)) (R.remaining reader.old) (R.remaining reader.new)) }
+    ensures ended { OnOk result (IsAtEnd (R.remaining reader.new)) }
+    ensures err { IfErr result (λ e. IfSome (R.remaining reader.old) (λ text. FromText e.kind (told_with (F.grammar form) (taken_of pieces.old) text ≡ Err e))) }
+{
+    let mut piece = [0u8; 65536];
+    for _ in 0..CALLS {
+        match reader.read(&mut piece) {
+            Ok(0) => return Ok(()),
+            Ok(count) => feed(pieces, form, &piece[..count])?,
+            Err(e) if e.kind() == ErrorKind::Interrupted => {}
+            Err(_) => break,
+        }
+    }
+    Err(GrErrorKind::Read.at(pieces.progress.line.saturating_add(1)))
+}
