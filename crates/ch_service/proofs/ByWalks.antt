@@ -7,10 +7,12 @@ use Rattle.ch_graph.specs.Walk.{Along}
 use Rattle.ch_graph.specs.Graph.{Graph, IsGraph, ArcOf}
 use Rattle.ch_graph.specs.Hierarchy.{Hierarchy, IsRight}
 use Rattle.ch_laws.specs.Theorems.{RouteIsLeast, NeverTooLong, IsLeastRoute}
-use Rattle.grfile.specs.Reading.{IsPair, pairs_of}
-use Rattle.ch_service.specs.Answer.{Route, IsAnswer, AreAnswers, nothing, one_more, IsLeastWalk, Answered}
-use Rattle.ch_service.specs.Outcome.{IfTold, Writes, StopsShort, IsSearchFault, IsAnsweringFault}
-use Rattle.ch_service.specs.Route.{Spells, IsUnfoldedRoute, IsRouteBy, Routed, HasTooLong, RoutesFirst}
+use Rattle.grfile.specs.Outcome.{FromText}
+use Rattle.grfile.specs.declared.error.GrError.{GrError}
+use Rattle.grfile.specs.Reading.{IsPair, graph_of, pairs_of}
+use Rattle.ch_service.specs.Answer.{Route, IsAnswer, AreAnswers, nothing, one_more, IsLeastWalk, Answered, Answers, AnswersFirst}
+use Rattle.ch_service.specs.Outcome.{IfTold, Writes, IsFaultOf, StopsShort, IsSearchFault, IsAnsweringFault}
+use Rattle.ch_service.specs.Route.{Spells, IsUnfoldedRoute, IsRouteBy, Routed, HasTooLong, Routes, RoutesFirst}
 use Rattle.ch_service.specs.declared.error.ServiceError.{ServiceError}
 use Rattle.ch_service.specs.declared.error.ServiceError.TheVariants.{Graph as GraphFault, Queries, Hierarchy as HierarchyFault, Build, Unpack, Write, OutOfMemory}
 
@@ -106,3 +108,48 @@ stops-told h pairs hier queries old new (Ok x) spells read s = tt
 stops-told h pairs None queries old new (Err e) spells read s = tt
 stops-told h pairs (Some bytes) None old new (Err e) spells read s = tt
 stops-told h pairs (Some bytes) (Some pairs_text) old new (Err e) spells read s = stops-weaker _ _ old new e (λ text. first-spelled h pairs bytes pairs_text text spells read) s
+
+-- routes by a hierarchy whose file the reader told
+pub routes-told : (h : Hierarchy) (pairs : List (ℕ × ℕ)) (hier queries old new : Option (List ℕ)) (r : Result ⊤ ServiceError) → IfSome hier (λ bytes. Spells bytes h) → IfSome queries (λ text. pairs_of (length h.ranks) text ≡ Ok pairs)
+    → OnOk r (Writes (Routed h pairs) old new) → OnOk r (IfTold hier queries (λ bytes pairs_text. Writes (Routes bytes pairs_text) old new))
+routes-told h pairs hier queries old new (Err e) spells read w = tt
+routes-told h pairs None queries old new (Ok x) spells read w = tt
+routes-told h pairs (Some bytes) None old new (Ok x) spells read w = tt
+routes-told h pairs (Some bytes) (Some pairs_text) old new (Ok x) spells read w =
+    (w.0, record { hierarchy = h; pairs = pairs; spells = spells; pairs_read = read; routed = w.1 }, w.2)
+
+-- answers by a hierarchy that is right for the graph that the reader told
+pub answers-told : (g : Graph) (h : Hierarchy) (pairs : List (ℕ × ℕ)) (gr queries old new : Option (List ℕ)) (r : Result ⊤ ServiceError) → IfSome gr (λ text. graph_of text ≡ Ok g) → IfSome queries (λ text. pairs_of g.nodes text ≡ Ok pairs)
+    → IsGraph g → IsRight g h → OnOk r (Writes (Routed h pairs) old new) → OnOk r (IfTold gr queries (λ graph_text pairs_text. Writes (Answers graph_text pairs_text) old new))
+answers-told g h pairs gr queries old new (Err e) reads read graph right w = tt
+answers-told g h pairs None queries old new (Ok x) reads read graph right w = tt
+answers-told g h pairs (Some text) None old new (Ok x) reads read graph right w = tt
+answers-told g h pairs (Some text) (Some pairs_text) old new (Ok x) reads read graph right w =
+    (w.0, record { graph = g; pairs = pairs; graph_reads = reads; pairs_read = read; answered = w.1.by_walks g graph right }, w.2)
+
+first-answered : (g : Graph) (h : Hierarchy) (pairs : List (ℕ × ℕ)) (graph_text pairs_text text : List ℕ) → graph_of graph_text ≡ Ok g → pairs_of g.nodes pairs_text ≡ Ok pairs → IsGraph g → IsRight g h
+    → ((count : ℕ) × Routed h (take count pairs) text) → AnswersFirst graph_text pairs_text text
+first-answered g h pairs graph_text pairs_text text reads read graph right first = record {
+  graph = g;
+  pairs = pairs;
+  graph_reads = reads;
+  pairs_read = read;
+  count = first.0;
+  answered = first.1.by_walks g graph right;
+}
+
+pub stops-answered : (g : Graph) (h : Hierarchy) (pairs : List (ℕ × ℕ)) (gr queries old new : Option (List ℕ)) (r : Result ⊤ ServiceError) → IfSome gr (λ text. graph_of text ≡ Ok g) → IfSome queries (λ text. pairs_of g.nodes text ≡ Ok pairs)
+    → IsGraph g → IsRight g h → IfErr r (StopsShort (λ text. (count : ℕ) × Routed h (take count pairs) text) old new)
+    → IfErr r (λ e. IfTold gr queries (λ graph_text pairs_text. StopsShort (AnswersFirst graph_text pairs_text) old new e))
+stops-answered g h pairs gr queries old new (Ok x) reads read graph right s = tt
+stops-answered g h pairs None queries old new (Err e) reads read graph right s = tt
+stops-answered g h pairs (Some text) None old new (Err e) reads read graph right s = tt
+stops-answered g h pairs (Some text) (Some pairs_text) old new (Err e) reads read graph right s =
+    stops-weaker _ _ old new e (λ answered_text. first-answered g h pairs text pairs_text answered_text reads read graph right) s
+
+-- the pairs were refused
+pub fault-answered : (g : Graph) (fault : GrError) (gr queries : Option (List ℕ)) (r : Result ⊤ ServiceError) → IfSome gr (λ text. graph_of text ≡ Ok g) → IfSome queries (λ text. FromText fault.kind (pairs_of g.nodes text ≡ Err fault))
+    → r ≡ Err (Queries fault) → IfErr r (λ e. IfTold gr queries (λ graph_text pairs_text. IsFaultOf graph_text pairs_text e))
+fault-answered g fault None queries r reads read is = rw is tt
+fault-answered g fault (Some text) None r reads read is = rw is tt
+fault-answered g fault (Some text) (Some pairs_text) r reads read is = rw is (g, reads, read)

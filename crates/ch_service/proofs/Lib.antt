@@ -3,5 +3,6 @@ pub mod Exact
 pub mod Handing
 pub mod JoinedLines
 pub mod Naming
+pub mod Prepared
 pub mod Progress
 pub mod Unpacked

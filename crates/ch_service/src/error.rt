@@ -1,5 +1,5 @@
 ghost use Rattle.std.specs.Prelude.{◌≡◌, Some};
-ghost use Rattle.ch_service.specs.Shown.{shown};
+ghost use Rattle.ch_service.specs.Shown.{shown, building_shown};
 ghost use Rattle.ch_service.specs.declared.error.ServiceError.TheVariants.{Build, OutOfMemory, Unpack, Write};
 
 use ch_unpack::UnpackError;
@@ -53,11 +53,7 @@ impl fmt::Display for ServiceError {
                 HierError::Read => write!(f, "read"),
                 _ => write!(f, "hierarchy: {fault}"),
             },
-            ServiceError::Build(fault) => match fault {
-                BuildError::OutOfMemory => write!(f, "memory"),
-                BuildError::BadOptions => write!(f, "options"),
-                BuildError::Mixed => write!(f, "mixed"),
-            },
+            ServiceError::Build(fault) => write!(f, "{}", building_word(*fault)),
             ServiceError::Unpack(fault) => match fault {
                 UnpackError::OutOfMemory => write!(f, "memory"),
                 _ => write!(f, "hierarchy: {fault}"),
@@ -65,6 +61,17 @@ impl fmt::Display for ServiceError {
             ServiceError::Write(_) => write!(f, "write"),
             ServiceError::OutOfMemory => write!(f, "memory"),
         }
+    }
+}
+
+// What is shown where no hierarchy is built.
+fn building_word(fault: BuildError) -> &'static str
+    ensures { result.now ≡ building_shown fault }
+{
+    match fault {
+        BuildError::OutOfMemory => "memory",
+        BuildError::BadOptions => "options",
+        BuildError::Mixed => "mixed",
     }
 }
 

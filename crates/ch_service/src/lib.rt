@@ -31,14 +31,3 @@ pub use hierfile::WriteFault;
 pub use laws::{first_routes_are_exact, routes_are_exact};
 pub use preparing::prepare;
 pub use routing::route;
-
-#[cfg(test)]
-mod prepare_tests;
-#[cfg(test)]
-mod route_tests;
-#[cfg(test)]
-mod test_kit;
-#[cfg(test)]
-mod tests;
-#[cfg(test)]
-mod worker_tests;

@@ -1,3 +1,2 @@
-mod LocalArguments
 mod OfOneThing
 mod Routed

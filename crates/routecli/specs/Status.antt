@@ -14,8 +14,6 @@ use Rattle.ch_workers.specs.declared.error.BuildError.{BuildError}
 use Rattle.ch_workers.specs.declared.error.BuildError.TheVariants as building
 use Rattle.ch_unpack.specs.declared.error.UnpackError.{UnpackError}
 use Rattle.ch_unpack.specs.declared.error.UnpackError.TheVariants as unpacking
-use Rattle.routecli.specs.declared.job.Stop.{Stop}
-use Rattle.routecli.specs.declared.job.Stop.TheVariants as stops
 use Rattle.ch_service.specs.declared.error.ServiceError.{ServiceError}
 use Rattle.ch_service.specs.declared.error.ServiceError.TheVariants as service
 use Rattle.ch_service.specs.Answer.{Answers}
@@ -107,9 +105,3 @@ pub record TellsRouted (status : ℕ) (bytes pairs_text : List ℕ) (old new : O
   pub pairs : status ≡ 5 → HasRoutedPairsFault bytes pairs_text × Keeps old new
   pub line : status ≢ 2
   pub mixed : status ≢ 8
-
--- The status where there is no job. Help that can't be written ends as a failed write does.
-abbrev pub HasStatus : Stop → ℕ → Type 0
-HasStatus (stops.Help text) status = (status ≡ 0) ⊎ (status ≡ 7)
-HasStatus (stops.Refused text) status = status ≡ 2
-HasStatus stops.OutOfMemory status = status ≡ 6

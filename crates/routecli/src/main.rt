@@ -1,30 +1,24 @@
 //! The program `routecli`: prepares hierarchies of road graphs, and answers pairs of nodes with least routes.
 //!
-//! Stands on `ch_service`, which does the work, on `ch_workers` and `ch_estimate` for the workers that prepare a
-//! hierarchy and the orders in which they contract nodes, and on `clap`, which reads the command line. [`command`]
-//! turns the words of a command line into a [`Job`], and [`perform`] does the job over readers and writers and answers
-//! the exit status; between the two `main` opens the files. The promise is in the contract of [`perform`]: a status of
-//! 0 means that what was written answers all pairs, or is a hierarchy that is right for the graph.
+//! Stands on `command_line`, which turns the words of a command line into a [`Job`], on `ch_service`, which does the
+//! work, and on `ch_workers` and `ch_estimate` for the workers that prepare a hierarchy and the orders in which they
+//! contract nodes. [`perform`] does a job over readers and writers and answers the exit status, and `main` opens the
+//! files for it. The promise is in the contract of [`perform`]: a status of 0 means that what was written answers all
+//! pairs, or is a hierarchy that is right for the graph.
 #![tactic(auto)]
 
-mod command;
-mod job;
 mod lists;
 mod new_file;
-#[cfg(test)]
-mod option_tests;
 mod perform;
 #[cfg(test)]
 mod prepare_tests;
 mod preparing;
 #[cfg(test)]
 mod tests;
-mod workers;
 
-use command::command;
-use job::Job;
+use command_line::{Job, command, end, show_stop};
 use new_file::NewFile;
-use perform::{end, perform, stop};
+use perform::perform;
 use std::env::Env;
 use std::io::ErrorKind;
 use std::process::ExitCode;
@@ -42,7 +36,7 @@ fn main(rt: HostRuntime) -> ExitCode {
     };
     let job = match command(rt.alloc(), words.as_slice()) {
         Ok(job) => job,
-        Err(why) => return ExitCode::from(stop(&why, &mut out, &mut err)),
+        Err(why) => return ExitCode::from(show_stop(&why, &mut out, &mut err)),
     };
     let mut nothing: &[u8] = b"";
     let status = match job {

@@ -3,16 +3,15 @@ ghost use Rattle.std.specs.Io.KnownBytes.{Keeps};
 ghost use Rattle.ch_service.specs.Joined.{graph_part, pairs_part};
 ghost use Rattle.ch_service.specs.Outcome.{IfTold};
 ghost use Rattle.ch_workers.specs.Options.{AreGood};
-ghost use Rattle.routecli.specs.Job.{is_joined, IsAnswering, IsPreparing, IsRouting};
-ghost use Rattle.routecli.specs.Status.{HasStatus, Tells, TellsPrepared, TellsRouted, building_status, hierarchy_status, status_after, status_of, status_unless_own, unpacking_status};
+ghost use Rattle.command_line.specs.Job.{is_joined, IsAnswering, IsPreparing, IsRouting};
+ghost use Rattle.routecli.specs.Status.{Tells, TellsPrepared, TellsRouted, building_status, hierarchy_status, status_after, status_of, status_unless_own, unpacking_status};
 
-use crate::job::{Job, Order, Stop};
 use crate::preparing::{options, prepare_by};
-use crate::workers::Workers;
 use ch_estimate::Leases;
 use ch_service::{ServiceError, answer, answer_joined, route};
 use ch_unpack::UnpackError;
 use ch_workers::{BuildError, OpenGate, Options};
+use command_line::{Job, Order, Workers};
 use grfile::GrErrorKind;
 use hierfile::HierError;
 use std::alloc::Global;
@@ -232,29 +231,4 @@ fn unpacking_status(fault: UnpackError) -> u8
         UnpackError::OutOfMemory => 6,
         UnpackError::TooLong => 4,
     }
-}
-
-/// Shows why the command line names no job, and answers the program's exit status.
-pub fn stop<W: Write, E: Write>(stop: &Stop, out: &mut W, err: &mut E) -> u8
-    ensures { HasStatus stop.now result }
-{
-    match stop {
-        Stop::Help(text) => match out.write_all(text.as_bytes()) {
-            Ok(()) => 0,
-            Err(_) => end(7, "write", err),
-        },
-        Stop::Refused(text) => {
-            let _ = err.write_all(text.as_bytes());
-            2
-        }
-        Stop::OutOfMemory => end(6, "memory", err),
-    }
-}
-
-/// Writes a line of the program's own and answers the status.
-pub fn end<E: Write>(status: u8, line: &str, err: &mut E) -> u8
-    ensures { result ≡ status }
-{
-    let _ = writeln!(err, "routecli: {line}");
-    status
 }

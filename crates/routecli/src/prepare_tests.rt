@@ -1,11 +1,9 @@
-use crate::job::{Job, Order};
 use crate::perform::{perform, report};
-use crate::tests::{Broken, GRAPH, ONE_ARC};
-use crate::workers::Workers;
+use crate::tests::{Broken, GRAPH, ONE_ARC, is_ended};
 use ch_service::ServiceError;
 use ch_workers::BuildError;
+use command_line::{Job, Order, Workers};
 use std::alloc::Global;
-use std::io::Write;
 use std::sync::Wait;
 use std::test::Fail;
 use std::thread::Threads;
@@ -70,20 +68,6 @@ fn preparing(order: Order, workers: Workers) -> Job<'static> {
     }
 }
 
-/// The status after a graph was prepared, and the line on standard error.
-fn prepare_into<W: Write, R: Threads + Wait + Sync>(
-    rt: &R,
-    alloc: Global,
-    mut graph: &[u8],
-    out: &mut W,
-) -> (u8, Vec<u8>) {
-    let mut nothing: &[u8] = b"";
-    let mut err = Vec::new(alloc);
-    let job = preparing(Order::Edges, Workers::none());
-    let status = perform(rt, alloc, &job, &mut graph, &mut nothing, out, &mut err);
-    (status, err)
-}
-
 /// The file of the graph's hierarchy, and nothing where the status isn't 0 or there is a line on standard error.
 fn file_of<R: Threads + Wait + Sync>(
     rt: &R,
@@ -135,56 +119,54 @@ fn routed<R: Threads + Wait + Sync>(
 
 #[test]
 fn hierarchies_are_prepared(rt: HostRuntime) {
-    let mut out = Vec::new(rt.alloc());
-    let (status, err) = prepare_into(&rt, rt.alloc(), GRAPH, &mut out);
-    assert_eq!(rt; status, 0);
-    assert!(rt; out.as_slice() == ONE_ARC && err.is_empty());
-}
-
-#[test]
-fn a_graph_that_is_refused(rt: HostRuntime) {
-    let mut out = Vec::new(rt.alloc());
-    let (status, err) = prepare_into(&rt, rt.alloc(), b"p sp 2 1\na 1 2\n", &mut out);
-    assert_eq!(rt; status, 3);
-    assert!(rt;
-        out.is_empty() && err.as_slice() == b"routecli: graph: FieldCount line 2\n".as_slice()
-    );
+    let alloc = rt.alloc();
+    let alone = preparing(Order::Edges, Workers::none());
+    let (mut graph, mut broken) = (GRAPH, b"p sp 2 1\na 1 2\n".as_slice());
+    assert!(rt; is_ended(&rt, alloc, &alone, &mut graph, &mut Broken, 0, ONE_ARC, b""));
+    let line = b"routecli: graph: FieldCount line 2\n";
+    assert!(rt; is_ended(&rt, alloc, &alone, &mut broken, &mut Broken, 3, b"", line));
 }
 
 #[test]
 fn a_hierarchy_that_cannot_be_written(rt: HostRuntime) {
-    let (status, err) = prepare_into(&rt, rt.alloc(), GRAPH, &mut Broken);
-    assert_eq!(rt; status, 7);
-    assert!(rt; err.as_slice() == b"routecli: write\n".as_slice());
+    let alone = preparing(Order::Edges, Workers::none());
+    let (mut graph, mut err) = (GRAPH, Vec::new(rt.alloc()));
+    let status = perform(
+        &rt,
+        rt.alloc(),
+        &alone,
+        &mut graph,
+        &mut Broken,
+        &mut Broken,
+        &mut err,
+    );
+    assert!(rt; status == 7 && err.as_slice() == b"routecli: write\n".as_slice());
 }
 
 #[test]
 fn without_workers_the_order_is_that_of_the_numbers(rt: HostRuntime) -> Result<(), Fail> {
     for order in [Order::Edges, Order::Neighbours, Order::Depth] {
         let file = prepared(&rt, rt.alloc(), ROW, order, 0)?;
-        assert!(rt; file.as_slice() == ROW_FILE);
+        assert!(rt; file.as_slice() == ROW_FILE, "{order:?}");
     }
     Ok(())
 }
 
 #[test]
-fn answers_over_a_row_are_the_same_by_all_workers(rt: HostRuntime) -> Result<(), Fail> {
+fn answers_are_the_same_by_all_workers(rt: HostRuntime) -> Result<(), Fail> {
+    let alloc = rt.alloc();
     for (order, workers) in CASES {
-        let file = prepared(&rt, rt.alloc(), ROW, order, workers)?;
-        let answers = routed(&rt, rt.alloc(), file.as_slice(), ROW_PAIRS);
+        let row = prepared(&rt, alloc, ROW, order, workers)?;
+        let answers = routed(&rt, alloc, row.as_slice(), ROW_PAIRS);
         assert!(rt; answers.as_slice() == ROW_ANSWERS, "{order:?} {workers}");
-    }
-    Ok(())
-}
-
-#[test]
-fn answers_over_a_tie_are_the_same_by_all_workers(rt: HostRuntime) -> Result<(), Fail> {
-    for (order, workers) in CASES {
-        let file = prepared(&rt, rt.alloc(), TIE, order, workers)?;
-        let answers = routed(&rt, rt.alloc(), file.as_slice(), TIE_PAIRS);
+        let tie = prepared(&rt, alloc, TIE, order, workers)?;
+        let answers = routed(&rt, alloc, tie.as_slice(), TIE_PAIRS);
         assert!(rt; answers.as_slice() == TIE_ANSWERS, "{order:?} {workers}");
-        let tied = routed(&rt, rt.alloc(), file.as_slice(), TIED_PAIR);
-        assert!(rt; tied.starts_with(b"r 3 4 2 2 3 ") && tied.ends_with(b" 4\n"));
+        let tied = routed(&rt, alloc, tie.as_slice(), TIED_PAIR);
+        assert!(rt;
+            tied.starts_with(b"r 3 4 2 2 3 ") && tied.ends_with(b" 4\n"),
+            "{order:?} {workers}"
+        );
     }
     Ok(())
 }
@@ -211,16 +193,13 @@ fn orders_differ(rt: HostRuntime) -> Result<(), Fail> {
 
 #[test]
 fn refusals_to_build(rt: HostRuntime) {
-    let mut err = Vec::new(rt.alloc());
-    assert_eq!(rt;
-        report(&ServiceError::Build(BuildError::Mixed), &mut err),
-        8
-    );
-    assert!(rt; err.as_slice() == b"routecli: mixed\n".as_slice());
-    let mut err = Vec::new(rt.alloc());
-    assert_eq!(rt;
-        report(&ServiceError::Build(BuildError::OutOfMemory), &mut err),
-        6
-    );
-    assert!(rt; err.as_slice() == b"routecli: memory\n".as_slice());
+    let cases = [
+        (BuildError::Mixed, 8, b"routecli: mixed\n".as_slice()),
+        (BuildError::OutOfMemory, 6, b"routecli: memory\n".as_slice()),
+    ];
+    for (error, status, line) in cases {
+        let mut err = Vec::new(rt.alloc());
+        assert!(rt; report(&ServiceError::Build(error), &mut err) == status);
+        assert!(rt; err.as_slice() == line);
+    }
 }

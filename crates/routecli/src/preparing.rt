@@ -3,12 +3,11 @@ ghost use Rattle.std.specs.Io.KnownBytes.{Keeps};
 ghost use Rattle.ch_workers.specs.Options.{AreGood};
 ghost use Rattle.routecli.specs.Status.{TellsPrepared, status_after};
 
-use crate::job::Order;
 use crate::lists::a_list_each;
-use crate::workers::Workers;
 use ch_estimate::{Depth, EdgeDifference, Estimator, Leases, Neighbours};
 use ch_service::{ServiceError, prepare};
 use ch_workers::{OpenGate, Options};
+use command_line::{Order, Workers};
 use std::alloc::{AllocError, Global};
 use std::io::{Read, Write};
 use std::sync::Wait;

@@ -1,18 +1,10 @@
-use crate::command::command;
-use crate::job::{Job, Stop};
-use crate::perform::{perform, stop};
+use crate::perform::perform;
+use command_line::Job;
 use std::alloc::{AllocError, Global};
 use std::io::{self, ErrorKind, Read, Write};
+use std::sync::Wait;
 use std::test::Fail;
-
-/// The words of a command line.
-pub(crate) fn words(alloc: Global, texts: &[&str]) -> Result<Vec<String>, AllocError> {
-    let mut words = Vec::new(alloc);
-    for text in texts {
-        words.push(String::from_str(alloc, text)?)?;
-    }
-    Ok(words)
-}
+use std::thread::Threads;
 
 /// A reader and writer that fails.
 #[derive(Drop)]
@@ -47,6 +39,23 @@ const JOINED: Job<'static> = Job::Answer {
 pub(crate) const GRAPH: &[u8] = b"p sp 2 1\na 1 2 7\n";
 
 const PAIRS: &[u8] = b"p aux sp p2p 2\nq 1 2\nq 2 1\n";
+
+/// Whether the job ends with this status, these bytes written, and this line on standard error.
+pub(crate) fn is_ended<A: Read, B: Read, R: Threads + Wait + Sync>(
+    rt: &R,
+    alloc: Global,
+    job: &Job<'_>,
+    first: &mut A,
+    second: &mut B,
+    status: u8,
+    out: &[u8],
+    err: &[u8],
+) -> bool {
+    let mut written = Vec::new(alloc);
+    let mut told = Vec::new(alloc);
+    let ended = perform(rt, alloc, job, first, second, &mut written, &mut told);
+    (ended == status) & (written.as_slice() == out) & (told.as_slice() == err)
+}
 
 /// What a job ends with: its status, its answers and the line on standard error.
 #[derive(Clone, Copy, Debug)]
@@ -90,67 +99,40 @@ const ENDED: [Ended; 4] = [
 ];
 
 #[test]
-fn two_texts(rt: HostRuntime) {
+fn two_texts_and_joined_ones(rt: HostRuntime) -> Result<(), Fail> {
+    let alloc = rt.alloc();
     for case in ENDED {
+        let (status, out, err) = (case.status, case.out, case.err);
         let (mut graph, mut pairs) = (case.graph, case.pairs);
-        let mut out = Vec::new(rt.alloc());
-        let mut err = Vec::new(rt.alloc());
-        let status = perform(
-            &rt,
-            rt.alloc(),
-            &TWO,
-            &mut graph,
-            &mut pairs,
-            &mut out,
-            &mut err,
+        assert!(rt;
+            is_ended(&rt, alloc, &TWO, &mut graph, &mut pairs, status, out, err),
+            "{case:?}"
         );
-        assert_eq!(rt; status, case.status);
-        assert_eq!(rt; out.as_slice(), case.out);
-        assert_eq!(rt; err.as_slice(), case.err);
-    }
-}
-
-#[test]
-fn joined_input(rt: HostRuntime) -> Result<(), Fail> {
-    for case in ENDED {
-        let mut input = Vec::from_slice(rt.alloc(), case.graph)?;
+        let mut input = Vec::from_slice(alloc, case.graph)?;
         input.extend_from_slice(b"%\n")?;
         input.extend_from_slice(case.pairs)?;
         let mut first = input.as_slice();
-        let mut out = Vec::new(rt.alloc());
-        let mut err = Vec::new(rt.alloc());
-        let status = perform(
-            &rt,
-            rt.alloc(),
-            &JOINED,
-            &mut first,
-            &mut Broken,
-            &mut out,
-            &mut err,
+        assert!(rt;
+            is_ended(
+                &rt,
+                alloc,
+                &JOINED,
+                &mut first,
+                &mut Broken,
+                status,
+                out,
+                err
+            ),
+            "{case:?}"
         );
-        assert_eq!(rt; status, case.status);
-        assert_eq!(rt; out.as_slice(), case.out);
-        assert_eq!(rt; err.as_slice(), case.err);
     }
-    Ok(())
-}
-
-#[test]
-fn joined_input_without_a_percent_line(rt: HostRuntime) {
     let mut first = GRAPH;
-    let mut out = Vec::new(rt.alloc());
-    let mut err = Vec::new(rt.alloc());
-    let status = perform(
-        &rt,
-        rt.alloc(),
-        &JOINED,
-        &mut first,
-        &mut Broken,
-        &mut out,
-        &mut err,
+    let line = b"routecli: queries: NoProblemLine line 0\n";
+    assert!(rt;
+        is_ended(&rt, alloc, &JOINED, &mut first, &mut Broken, 5, b"", line),
+        "no line %"
     );
-    assert_eq!(rt; status, 5);
-    assert!(rt; err.as_slice() == b"routecli: queries: NoProblemLine line 0\n".as_slice());
+    Ok(())
 }
 
 const ROUTE: Job<'static> = Job::Route {
@@ -185,25 +167,6 @@ const ROUTED: [Routed; 4] = [
     ),
 ];
 
-#[test]
-fn routes(rt: HostRuntime) {
-    for (mut hierarchy, mut pairs, status, answers, line) in ROUTED {
-        let mut out = Vec::new(rt.alloc());
-        let mut err = Vec::new(rt.alloc());
-        let result = perform(
-            &rt,
-            rt.alloc(),
-            &ROUTE,
-            &mut hierarchy,
-            &mut pairs,
-            &mut out,
-            &mut err,
-        );
-        assert_eq!(rt; result, status);
-        assert!(rt; out.as_slice() == answers && err.as_slice() == line);
-    }
-}
-
 /// The file of 38 nodes, each of the rank of its number: for each two of them a link, of the weight that two to the
 /// lesser number is, by way of the node before the lesser.
 fn cascade(alloc: Global) -> Result<Vec<u8>, AllocError> {
@@ -236,89 +199,51 @@ fn push_links(file: &mut Vec<u8>, from: u32) -> Result<(), AllocError> {
 }
 
 #[test]
-fn a_route_that_is_too_long(rt: HostRuntime) -> Result<(), Fail> {
-    let file = cascade(rt.alloc())?;
+fn routes(rt: HostRuntime) -> Result<(), Fail> {
+    let alloc = rt.alloc();
+    for (mut hierarchy, mut pairs, status, out, err) in ROUTED {
+        assert!(rt;
+            is_ended(
+                &rt,
+                alloc,
+                &ROUTE,
+                &mut hierarchy,
+                &mut pairs,
+                status,
+                out,
+                err
+            )
+        );
+    }
+    let file = cascade(alloc)?;
     let (mut hierarchy, mut pairs) = (file.as_slice(), b"p aux sp p2p 1\nq 38 37\n".as_slice());
-    let mut out = Vec::new(rt.alloc());
-    let mut err = Vec::new(rt.alloc());
-    let status = perform(
-        &rt,
-        rt.alloc(),
-        &ROUTE,
-        &mut hierarchy,
-        &mut pairs,
-        &mut out,
-        &mut err,
-    );
-    assert_eq!(rt; status, 4);
-    assert!(rt; out.is_empty());
-    assert!(rt; err.as_slice() == b"routecli: hierarchy: TooLong\n".as_slice());
+    let line = b"routecli: hierarchy: TooLong\n";
+    assert!(rt; is_ended(&rt, alloc, &ROUTE, &mut hierarchy, &mut pairs, 4, b"", line));
     Ok(())
 }
 
 #[test]
-fn failed_reads_of_routes(rt: HostRuntime) {
-    let mut err = Vec::new(rt.alloc());
-    let mut out = Vec::new(rt.alloc());
-    let (mut hierarchy, mut pairs) = (ONE_ARC, PAIRS);
-    let status = perform(
-        &rt,
-        rt.alloc(),
-        &ROUTE,
-        &mut Broken,
-        &mut pairs,
-        &mut out,
-        &mut err,
-    );
-    assert_eq!(rt; status, 7);
-    let status = perform(
-        &rt,
-        rt.alloc(),
-        &ROUTE,
-        &mut hierarchy,
-        &mut Broken,
-        &mut out,
-        &mut err,
-    );
-    assert_eq!(rt; status, 7);
-    assert!(rt; err.as_slice() == b"routecli: read\nroutecli: read\n".as_slice());
+fn failed_reads(rt: HostRuntime) {
+    let alloc = rt.alloc();
+    let line = b"routecli: read\n";
+    for job in [TWO, JOINED, ROUTE] {
+        let mut pairs = PAIRS;
+        assert!(rt;
+            is_ended(&rt, alloc, &job, &mut Broken, &mut pairs, 7, b"", line),
+            "{job:?}"
+        );
+    }
+    for (job, mut first) in [(TWO, GRAPH), (ROUTE, ONE_ARC)] {
+        assert!(rt;
+            is_ended(&rt, alloc, &job, &mut first, &mut Broken, 7, b"", line),
+            "{job:?}"
+        );
+    }
 }
 
 #[test]
-fn failed_reads_and_writes(rt: HostRuntime) {
+fn failed_writes(rt: HostRuntime) {
     let mut err = Vec::new(rt.alloc());
-    let mut out = Vec::new(rt.alloc());
-    let (mut graph, mut pairs) = (GRAPH, PAIRS);
-    let status = perform(
-        &rt,
-        rt.alloc(),
-        &TWO,
-        &mut Broken,
-        &mut pairs,
-        &mut out,
-        &mut err,
-    );
-    assert_eq!(rt; status, 7);
-    let status = perform(
-        &rt,
-        rt.alloc(),
-        &JOINED,
-        &mut Broken,
-        &mut pairs,
-        &mut out,
-        &mut err,
-    );
-    assert_eq!(rt; status, 7);
-    let status = perform(
-        &rt,
-        rt.alloc(),
-        &TWO,
-        &mut graph,
-        &mut Broken,
-        &mut out,
-        &mut err,
-    );
-    assert_eq!(rt; status, 7);
     let (mut graph, mut pairs) = (GRAPH, PAIRS);
     let status = perform(
         &rt,
@@ -329,9 +254,7 @@ fn failed_reads_and_writes(rt: HostRuntime) {
         &mut Broken,
         &mut err,
     );
-    assert_eq!(rt; status, 7);
-    let lines = b"routecli: read\nroutecli: read\nroutecli: read\nroutecli: write\n";
-    assert!(rt; err.as_slice() == lines.as_slice());
+    assert!(rt; status == 7 && err.as_slice() == b"routecli: write\n".as_slice());
 }
 
 #[test]
@@ -347,83 +270,5 @@ fn a_lost_line_keeps_the_status(rt: HostRuntime) {
         &mut out,
         &mut Broken,
     );
-    assert_eq!(rt; status, 3);
-}
-
-#[test]
-fn words_that_name_a_job(rt: HostRuntime) -> Result<(), Fail> {
-    let cases = [("a.gr", "b.p2p"), ("-", "b.p2p"), ("a.gr", "-"), ("-", "-")];
-    for (graph, queries) in cases {
-        let words = words(rt.alloc(), &["routecli", "answer", graph, queries])?;
-        let job = command(rt.alloc(), words.as_slice()).ok().ok_or("a job")?;
-        assert!(rt; job == Job::Answer { graph, queries });
-        assert_eq!(rt; job.is_joined(), graph == "-" && queries == "-");
-    }
-    Ok(())
-}
-
-#[test]
-fn words_that_name_a_route(rt: HostRuntime) -> Result<(), Fail> {
-    let words = words(rt.alloc(), &["routecli", "route", "-", "-"])?;
-    let job = command(rt.alloc(), words.as_slice()).ok().ok_or("a job")?;
-    let route = Job::Route {
-        hierarchy: "-",
-        queries: "-",
-    };
-    assert!(rt; job == route && !job.is_joined());
-    Ok(())
-}
-
-#[test]
-fn words_that_are_refused(rt: HostRuntime) -> Result<(), Fail> {
-    let cases = [
-        ["routecli"].as_slice(),
-        ["routecli", "answer"].as_slice(),
-        ["routecli", "answer", "a.gr"].as_slice(),
-        ["routecli", "answer", "a.gr", "b.p2p", "c"].as_slice(),
-        ["routecli", "answer", "--fast", "a.gr", "b.p2p"].as_slice(),
-        ["routecli", "solve", "a.gr", "b.p2p"].as_slice(),
-        ["routecli", "route", "a.rch"].as_slice(),
-    ];
-    for texts in cases {
-        let words = words(rt.alloc(), texts)?;
-        let why = command(rt.alloc(), words.as_slice())
-            .err()
-            .ok_or("refused")?;
-        let mut out = Vec::new(rt.alloc());
-        let mut err = Vec::new(rt.alloc());
-        assert_eq!(rt; stop(&why, &mut out, &mut err), 2, "{texts:?}");
-        assert!(rt; out.is_empty() && err.starts_with(b"error: "), "{texts:?}");
-    }
-    Ok(())
-}
-
-#[test]
-fn words_that_ask_for_help(rt: HostRuntime) -> Result<(), Fail> {
-    let cases = [
-        ["routecli", "--help"].as_slice(),
-        ["routecli", "help"].as_slice(),
-        ["routecli", "help", "answer"].as_slice(),
-        ["routecli", "answer", "-h"].as_slice(),
-        ["routecli", "route", "--help"].as_slice(),
-    ];
-    for texts in cases {
-        let words = words(rt.alloc(), texts)?;
-        let why = command(rt.alloc(), words.as_slice()).err().ok_or("help")?;
-        let mut out = Vec::new(rt.alloc());
-        let mut err = Vec::new(rt.alloc());
-        assert_eq!(rt; stop(&why, &mut out, &mut err), 0, "{texts:?}");
-        assert!(rt; !out.is_empty() && err.is_empty(), "{texts:?}");
-        assert_eq!(rt; stop(&why, &mut Broken, &mut err), 7);
-        assert!(rt; err.as_slice() == b"routecli: write\n".as_slice());
-    }
-    Ok(())
-}
-
-#[test]
-fn want_of_memory(rt: HostRuntime) {
-    let mut out = Vec::new(rt.alloc());
-    let mut err = Vec::new(rt.alloc());
-    assert_eq!(rt; stop(&Stop::OutOfMemory, &mut out, &mut err), 6);
-    assert!(rt; err.as_slice() == b"routecli: memory\n".as_slice());
+    assert!(rt; status == 3);
 }

@@ -1,0 +1,72 @@
+ghost use Rattle.std.specs.Prelude.{◌≡◌};
+
+use crate::workers::Workers;
+
+/// What the program is asked for.
+#[derive(Clone, Copy, Debug, PartialEq, Eq)]
+pub enum Job<'a> {
+    /// To answer pairs over a graph.
+    Answer {
+        /// The file with the graph's text.
+        graph: &'a str,
+        /// The file with the text of the pairs.
+        queries: &'a str,
+    },
+    /// To prepare a hierarchy of a graph.
+    Prepare {
+        /// The file with the graph's text.
+        graph: &'a str,
+        /// The file that is made for the hierarchy.
+        out: &'a str,
+        /// How many workers contract the nodes.
+        workers: Workers,
+        /// The seed of the draws by which they choose nodes.
+        seed: u64,
+        /// Which nodes go first.
+        order: Order,
+    },
+    /// To answer pairs by a hierarchy.
+    Route {
+        /// The file of the hierarchy.
+        hierarchy: &'a str,
+        /// The file with the text of the pairs.
+        queries: &'a str,
+    },
+}
+
+/// Which nodes workers contract first. Without workers the nodes are contracted by the order of their numbers.
+#[derive(Clone, Copy, Debug, PartialEq, Eq)]
+pub enum Order {
+    /// Those whose contraction leaves the fewest arcs.
+    Edges,
+    /// The same, and each neighbour that is gone puts a node back by one arc.
+    Neighbours,
+    /// The same, and each step of its depth puts a node back by one arc.
+    Depth,
+}
+
+/// Why a command line names no job, with the text for the user.
+#[derive(Debug, Drop)]
+pub enum Stop {
+    /// Help was asked for.
+    Help(String),
+    /// The words were refused.
+    Refused(String),
+    /// Memory was refused.
+    OutOfMemory,
+}
+
+impl Job<'_> {
+    ghost use Rattle.command_line.specs.Job.{is_joined};
+
+    /// Whether a graph's text and that of the pairs stand in one input, which is standard input: both files of
+    /// `answer` are named `-`.
+    pub fn is_joined(&self) -> bool
+        ensures { result ≡ is_joined self.now }
+    {
+        match self {
+            Job::Answer { graph, queries } => *graph == "-" && *queries == "-",
+            Job::Prepare { .. } | Job::Route { .. } => false,
+        }
+    }
+}

@@ -1,0 +1,219 @@
+ghost use Rattle.std.specs.Prelude.{◌≡◌, true, false, IfOk};
+ghost use Rattle.clap.specs.declared.builder.command.Command.TheViews.{out-Command};
+
+use crate::job::{Job, Order, Stop};
+use crate::workers::Workers;
+use clap::error::ErrorKind;
+use clap::{Arg, ArgAction, ArgMatches, Command, Error, value_parser};
+use std::alloc::{AllocError, Global};
+
+/// What the words of a command line ask for. The first word is the program's name.
+///
+/// Words that ask for help, and words that are refused, stop with the text for the user.
+pub fn command(alloc: Global, words: &[String]) -> Result<Job<'_>, Stop> {
+    match read_words(alloc, words) {
+        Ok(job) => Ok(job),
+        Err(error) => Err(stop_of(alloc, &error)),
+    }
+}
+
+// How the program stops at an error of the command line.
+fn stop_of(alloc: Global, error: &Error) -> Stop {
+    if error.kind() == ErrorKind::OutOfMemory {
+        return Stop::OutOfMemory;
+    }
+    match error.to_string(alloc) {
+        Ok(text) if error.use_stderr() => Stop::Refused(text),
+        Ok(text) => Stop::Help(text),
+        Err(_) => Stop::OutOfMemory,
+    }
+}
+
+// The job that the words name, or the error that tells the user.
+fn read_words(alloc: Global, words: &[String]) -> Result<Job<'_>, Error> {
+    let program = program(alloc)?;
+    let matches = program.try_get_matches_from(words)?;
+    let Some((name, found)) = matches.subcommand() else {
+        unreachable!()
+    };
+    match job_of(name, found) {
+        Some(job) => Ok(job),
+        None => Err(missing_value(alloc)?),
+    }
+}
+
+// The job of a command by its name, if its files and the values of its options are there.
+fn job_of<'a>(name: &str, found: &ArgMatches<'a>) -> Option<Job<'a>> {
+    match name {
+        "prepare" => Some(Job::Prepare {
+            graph: found.get_str("GRAPH")?,
+            out: found.get_str("OUT")?,
+            workers: Workers::new(found.get_one("workers")?)?,
+            seed: found.get_one("seed")?,
+            order: order_of(found.get_str("order")?)?,
+        }),
+        "route" => Some(Job::Route {
+            hierarchy: found.get_str("HIER")?,
+            queries: found.get_str("QUERIES")?,
+        }),
+        _ => Some(Job::Answer {
+            graph: found.get_str("GRAPH")?,
+            queries: found.get_str("QUERIES")?,
+        }),
+    }
+}
+
+// The order of this name, if there is one.
+fn order_of(name: &str) -> Option<Order> {
+    match name {
+        "edges" => Some(Order::Edges),
+        "neighbours" => Some(Order::Neighbours),
+        "depth" => Some(Order::Depth),
+        _ => None,
+    }
+}
+
+// The error of a command line without a value that is required.
+fn missing_value(alloc: Global) -> Result<Error, AllocError> {
+    let mut answer = answer(alloc)?;
+    answer.error(
+        ErrorKind::MissingRequiredArgument,
+        "a file or the value of an option is missing",
+    )
+}
+
+// The program's command line.
+fn program<'a>(alloc: Global) -> Result<Command<'a>, AllocError>
+    ensures local { IfOk result (λ program. (out-Command program).has_globals ≡ false) }
+    ensures needs { IfOk result (λ program. (out-Command program).subcommand_required ≡ true) }
+{
+    let program = Command::new(alloc, "routecli")
+        .about(
+            "Answers pairs of nodes of a road graph with least routes: lengths and nodes along the way",
+        )
+        .after_help(STATUSES)
+        .subcommand(answer(alloc)?)?
+        .subcommand(prepare(alloc)?)?
+        .subcommand(route(alloc)?)?;
+    Ok(with_a_command(program))
+}
+
+// The command line, which is refused where its words name no command.
+fn with_a_command(program: Command<'_>) -> Command<'_>
+    ensures local { (out-Command result).has_globals ≡ (out-Command program.entry).has_globals }
+    ensures needs { (out-Command result).subcommand_required ≡ true }
+{
+    program.subcommand_required(true)
+}
+
+fn answer<'a>(alloc: Global) -> Result<Command<'a>, AllocError>
+    ensures { IfOk result (λ answer. (out-Command answer).has_globals ≡ false) }
+{
+    Command::new(alloc, "answer")
+        .about(
+            "Answers pairs of nodes over a small graph: r S T LENGTH ARCS and the nodes of a least route, or n S T where there is none",
+        )
+        .after_help(ANSWERING)
+        .arg(file(alloc, "GRAPH", GRAPH))?
+        .arg(file(alloc, "QUERIES", QUERIES))
+}
+
+fn prepare<'a>(alloc: Global) -> Result<Command<'a>, AllocError>
+    ensures { IfOk result (λ prepare. (out-Command prepare).has_globals ≡ false) }
+{
+    Command::new(alloc, "prepare")
+        .about("Prepares a hierarchy of a graph, by which route answers pairs of nodes")
+        .after_help(PREPARING)
+        .arg(workers(alloc))?
+        .arg(seed(alloc))?
+        .arg(order(alloc))?
+        .arg(file(alloc, "GRAPH", GRAPH))?
+        .arg(file(alloc, "OUT", OUT))
+}
+
+fn route<'a>(alloc: Global) -> Result<Command<'a>, AllocError>
+    ensures { IfOk result (λ route. (out-Command route).has_globals ≡ false) }
+{
+    Command::new(alloc, "route")
+        .about("Answers pairs of nodes, as answer does, by a hierarchy that was prepared")
+        .arg(file(alloc, "HIER", HIER))?
+        .arg(file(alloc, "QUERIES", QUERIES))
+}
+
+// A file that has to be named.
+fn file<'a>(alloc: Global, name: &'a str, help: &'a str) -> Arg<'a>
+    ensures { result.global ≡ false }
+{
+    Arg::new(alloc, name)
+        .help(help)
+        .required(true)
+        .action(ArgAction::Set)
+}
+
+// How many workers there are.
+fn workers<'a>(alloc: Global) -> Arg<'a>
+    ensures { result.global ≡ false }
+{
+    option(alloc, "workers", "K", WORKERS, "4").value_parser(value_parser!(u32).range(0..=64))
+}
+
+// The seed of their draws.
+fn seed<'a>(alloc: Global) -> Arg<'a>
+    ensures { result.global ≡ false }
+{
+    option(alloc, "seed", "S", SEED, "1").value_parser(value_parser!(u64))
+}
+
+// The order in which they contract nodes.
+fn order<'a>(alloc: Global) -> Arg<'a>
+    ensures { result.global ≡ false }
+{
+    option(alloc, "order", "ORDER", ORDER, "edges").value_parser(ORDERS.as_slice())
+}
+
+// An option with a value, which has a default.
+fn option<'a>(
+    alloc: Global,
+    name: &'a str,
+    value: &'a str,
+    help: &'a str,
+    default: &'a str,
+) -> Arg<'a>
+    ensures { result.global ≡ false }
+{
+    Arg::new(alloc, name)
+        .long(name)
+        .value_name(value)
+        .help(help)
+        .default_value(default)
+        .action(ArgAction::Set)
+}
+
+const GRAPH: &str =
+    "File of the graph: p sp N M, and a line a U V W for each arc from U to V of weight W";
+
+const QUERIES: &str = "File of the pairs: p aux sp p2p K, and a line q S T for each pair";
+
+const OUT: &str = "File that is made for the hierarchy, once it is prepared";
+
+const WORKERS: &str =
+    "How many threads contract nodes, 0 to 64; with 0 the nodes go by their numbers";
+
+const SEED: &str = "Seed of the draws by which workers choose nodes, 0 to 18446744073709551615";
+
+const ORDER: &str =
+    "Nodes that go first: of the fewest arcs left, or that and fewest neighbours gone, or that and least depth";
+
+const ORDERS: [&str; 3] = ["edges", "neighbours", "depth"];
+
+const HIER: &str = "File of a hierarchy that prepare made";
+
+const STATUSES: &str =
+    "Exit status: 0 done, 2 command line, 3 graph text, 4 hierarchy, 5 text of pairs, 6 memory, 7 reading or writing, 8 workers that disagree";
+
+const PREPARING: &str =
+    "Answers by OUT are right whatever the options: they bear on the time it takes and on the size of OUT.";
+
+const ANSWERING: &str =
+    "With - for both files standard input has both texts, parted by a line that is %.\n\n\
+It prepares the graph for every call: for more than some thousand nodes use prepare once, and then route.";

@@ -1,0 +1,344 @@
+use crate::{Job, Order, Stop, Workers, command, show_stop};
+use std::alloc::{AllocError, Global};
+use std::io::{self, ErrorKind, Write};
+use std::test::Fail;
+
+/// The words of a command line.
+fn words(alloc: Global, texts: &[&str]) -> Result<Vec<String>, AllocError> {
+    let mut words = Vec::new(alloc);
+    for text in texts {
+        words.push(String::from_str(alloc, text)?)?;
+    }
+    Ok(words)
+}
+
+/// A writer that fails.
+#[derive(Drop)]
+struct Broken;
+
+impl Write for Broken {
+    fn write(&mut self, _buf: &[u8]) -> io::Result<usize> {
+        Err(io::Error::from(ErrorKind::Other))
+    }
+
+    fn flush(&mut self) -> io::Result<()> {
+        Ok(())
+    }
+}
+
+/// Words that name a job of two files, and whether both texts of it stand in standard input.
+const NAMED: [(&[&str], Job<'static>, bool); 5] = [
+    (
+        &["routecli", "answer", "a.gr", "b.p2p"],
+        Job::Answer {
+            graph: "a.gr",
+            queries: "b.p2p",
+        },
+        false,
+    ),
+    (
+        &["routecli", "answer", "-", "b.p2p"],
+        Job::Answer {
+            graph: "-",
+            queries: "b.p2p",
+        },
+        false,
+    ),
+    (
+        &["routecli", "answer", "a.gr", "-"],
+        Job::Answer {
+            graph: "a.gr",
+            queries: "-",
+        },
+        false,
+    ),
+    (
+        &["routecli", "answer", "-", "-"],
+        Job::Answer {
+            graph: "-",
+            queries: "-",
+        },
+        true,
+    ),
+    (
+        &["routecli", "route", "-", "-"],
+        Job::Route {
+            hierarchy: "-",
+            queries: "-",
+        },
+        false,
+    ),
+];
+
+/// The words after the program's name, and what they choose.
+#[derive(Clone, Copy, Debug)]
+struct Chosen {
+    words: &'static [&'static str],
+    workers: u32,
+    seed: u64,
+    order: Order,
+}
+
+const CHOSEN: [Chosen; 7] = [
+    Chosen {
+        words: &["routecli", "prepare", "a.gr", "a.rch"],
+        workers: 4,
+        seed: 1,
+        order: Order::Edges,
+    },
+    Chosen {
+        words: &[
+            "routecli",
+            "prepare",
+            "--workers",
+            "0",
+            "--seed",
+            "0",
+            "--order",
+            "neighbours",
+            "a.gr",
+            "a.rch",
+        ],
+        workers: 0,
+        seed: 0,
+        order: Order::Neighbours,
+    },
+    Chosen {
+        words: &[
+            "routecli",
+            "prepare",
+            "a.gr",
+            "a.rch",
+            "--order",
+            "depth",
+            "--seed",
+            "18446744073709551615",
+            "--workers",
+            "64",
+        ],
+        workers: 64,
+        seed: 18_446_744_073_709_551_615,
+        order: Order::Depth,
+    },
+    Chosen {
+        words: &[
+            "routecli",
+            "prepare",
+            "--order=edges",
+            "a.gr",
+            "--workers=1",
+            "a.rch",
+            "--seed=7",
+        ],
+        workers: 1,
+        seed: 7,
+        order: Order::Edges,
+    },
+    Chosen {
+        words: &["routecli", "prepare", "--workers", "63", "a.gr", "a.rch"],
+        workers: 63,
+        seed: 1,
+        order: Order::Edges,
+    },
+    Chosen {
+        words: &["routecli", "prepare", "a.gr", "--seed", "12", "a.rch"],
+        workers: 4,
+        seed: 12,
+        order: Order::Edges,
+    },
+    Chosen {
+        words: &["routecli", "prepare", "a.gr", "a.rch", "--order", "depth"],
+        workers: 4,
+        seed: 1,
+        order: Order::Depth,
+    },
+];
+
+/// The job that is chosen.
+fn job_of(chosen: &Chosen) -> Option<Job<'static>> {
+    Some(Job::Prepare {
+        graph: "a.gr",
+        out: "a.rch",
+        workers: Workers::new(chosen.workers)?,
+        seed: chosen.seed,
+        order: chosen.order,
+    })
+}
+
+/// Whether the words name this job, and both texts of it stand in standard input as it is said.
+fn names(
+    alloc: Global,
+    texts: &[&str],
+    job: Option<Job<'_>>,
+    is_joined: bool,
+) -> Result<bool, Fail> {
+    let words = words(alloc, texts)?;
+    let named = command(alloc, words.as_slice()).ok().ok_or("a job")?;
+    Ok((named.is_joined() == is_joined) & (Some(named) == job))
+}
+
+#[test]
+fn words_that_name_a_job(rt: HostRuntime) -> Result<(), Fail> {
+    for (texts, job, is_joined) in NAMED {
+        assert!(rt;
+            names(rt.alloc(), texts, Some(job), is_joined)?,
+            "{texts:?}"
+        );
+    }
+    for chosen in CHOSEN {
+        let job = job_of(&chosen);
+        assert!(rt; names(rt.alloc(), chosen.words, job, false)?, "{chosen:?}");
+    }
+    Ok(())
+}
+
+/// Words that are refused, and how the first line of the refusal goes on after `error: `.
+const REFUSED: [(&[&str], &[u8]); 21] = [
+    (&["routecli"], b""),
+    (&["routecli", "answer"], b""),
+    (&["routecli", "answer", "a.gr"], b""),
+    (&["routecli", "answer", "a.gr", "b.p2p", "c"], b""),
+    (&["routecli", "answer", "--fast", "a.gr", "b.p2p"], b""),
+    (&["routecli", "solve", "a.gr", "b.p2p"], b""),
+    (&["routecli", "route", "a.rch"], b""),
+    (
+        &["routecli", "prepare", "--workers", "65", "a.gr", "a.rch"],
+        b"invalid value '65' for '--workers <K>': 65 is not in 0..=64\n",
+    ),
+    (
+        &["routecli", "prepare", "--workers=-1", "a.gr", "a.rch"],
+        b"invalid value '-1' for '--workers <K>': -1 is not in 0..=64\n",
+    ),
+    (
+        &["routecli", "prepare", "--workers", "-1", "a.gr", "a.rch"],
+        b"unexpected argument '-1' found\n",
+    ),
+    (
+        &["routecli", "prepare", "--workers", "x", "a.gr", "a.rch"],
+        b"invalid value 'x' for '--workers <K>': invalid digit found in string\n",
+    ),
+    (
+        &[
+            "routecli",
+            "prepare",
+            "--seed",
+            "18446744073709551616",
+            "a.gr",
+            "a.rch",
+        ],
+        b"invalid value '18446744073709551616' for '--seed <S>': number too large to fit in target type\n",
+    ),
+    (
+        &["routecli", "prepare", "--seed", "1.5", "a.gr", "a.rch"],
+        b"invalid value '1.5' for '--seed <S>': invalid digit found in string\n",
+    ),
+    (
+        &["routecli", "prepare", "--seed=-1", "a.gr", "a.rch"],
+        b"invalid value '-1' for '--seed <S>': invalid digit found in string\n",
+    ),
+    (
+        &["routecli", "prepare", "--order", "foo", "a.gr", "a.rch"],
+        b"invalid value 'foo' for '--order <ORDER>'\n",
+    ),
+    (
+        &["routecli", "prepare", "--order", "Depth", "a.gr", "a.rch"],
+        b"invalid value 'Depth' for '--order <ORDER>'\n",
+    ),
+    (
+        &[
+            "routecli", "prepare", "--seed", "1", "--seed", "2", "a.gr", "a.rch",
+        ],
+        b"the argument '--seed <S>' cannot be used multiple times\n",
+    ),
+    (
+        &["routecli", "prepare", "a.gr", "a.rch", "--workers"],
+        b"a value is required for '--workers <K>' but none was supplied\n",
+    ),
+    (
+        &["routecli", "answer", "--workers", "1", "a.gr", "a.p2p"],
+        b"unexpected argument '--workers' found\n",
+    ),
+    (
+        &["routecli", "prepare", "--workers", "1", "a.gr"],
+        b"the following required arguments were not provided:\n",
+    ),
+    (
+        &["routecli", "prepare", "a.gr", "a.rch", "b"],
+        b"unexpected argument 'b' found\n",
+    ),
+];
+
+#[test]
+fn words_that_are_refused(rt: HostRuntime) -> Result<(), Fail> {
+    for (texts, line) in REFUSED {
+        let words = words(rt.alloc(), texts)?;
+        let why = command(rt.alloc(), words.as_slice())
+            .err()
+            .ok_or("refused")?;
+        let mut out = Vec::new(rt.alloc());
+        let mut err = Vec::new(rt.alloc());
+        assert_eq!(rt; show_stop(&why, &mut out, &mut err), 2, "{texts:?}");
+        let text = err.strip_prefix(b"error: ").ok_or("an error")?;
+        assert!(rt; out.is_empty() && text.starts_with(line), "{texts:?}");
+    }
+    Ok(())
+}
+
+/// Words that ask for help, and what the help tells.
+const HELP: [(&[&str], &[&str]); 6] = [
+    (&["routecli", "--help"], &[]),
+    (&["routecli", "help"], &[]),
+    (&["routecli", "help", "answer"], &[]),
+    (&["routecli", "answer", "-h"], &[]),
+    (&["routecli", "route", "--help"], &[]),
+    (
+        &["routecli", "prepare", "--help"],
+        &[
+            "--workers <K>",
+            "0 to 64",
+            "[default: 4]",
+            "--seed <S>",
+            "0 to 18446744073709551615",
+            "[default: 1]",
+            "--order <ORDER>",
+            "[default: edges] [possible values: edges, neighbours, depth]",
+        ],
+    ),
+];
+
+/// Whether the text for the user is help that has all these parts.
+fn tells(why: &Stop, parts: &[&str]) -> bool {
+    let Stop::Help(text) = why else {
+        return false;
+    };
+    for part in parts {
+        if !text.contains(*part) {
+            return false;
+        }
+    }
+    true
+}
+
+#[test]
+fn words_that_ask_for_help(rt: HostRuntime) -> Result<(), Fail> {
+    for (texts, parts) in HELP {
+        let words = words(rt.alloc(), texts)?;
+        let why = command(rt.alloc(), words.as_slice()).err().ok_or("help")?;
+        let mut out = Vec::new(rt.alloc());
+        let mut err = Vec::new(rt.alloc());
+        assert_eq!(rt; show_stop(&why, &mut out, &mut err), 0, "{texts:?}");
+        assert!(rt; !out.is_empty() && err.is_empty(), "{texts:?}");
+        assert_eq!(rt; show_stop(&why, &mut Broken, &mut err), 7);
+        assert!(rt; err.as_slice() == b"routecli: write\n".as_slice());
+        assert!(rt; tells(&why, parts), "{texts:?}");
+    }
+    Ok(())
+}
+
+#[test]
+fn want_of_memory(rt: HostRuntime) {
+    let mut out = Vec::new(rt.alloc());
+    let mut err = Vec::new(rt.alloc());
+    assert_eq!(rt; show_stop(&Stop::OutOfMemory, &mut out, &mut err), 6);
+    assert!(rt; err.as_slice() == b"routecli: memory\n".as_slice());
+}

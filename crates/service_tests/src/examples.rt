@@ -1,0 +1,91 @@
+/// Two texts and what answers them.
+#[derive(Clone, Copy, Debug)]
+pub(crate) struct Example {
+    pub(crate) name: &'static str,
+    pub(crate) graph: &'static [u8],
+    pub(crate) pairs: &'static [u8],
+    pub(crate) answers: &'static [u8],
+}
+
+/// The worked examples. The tie's answer is that of a hierarchy by the order of the numbers.
+pub(crate) const EXAMPLES: [Example; 8] = [
+    Example {
+        name: "one node and itself",
+        graph: b"p sp 1 0\n",
+        pairs: b"p aux sp p2p 1\nq 1 1\n",
+        answers: b"r 1 1 0 0 1\n",
+    },
+    Example {
+        name: "one arc, with and against it",
+        graph: ONE_ARC_TEXT,
+        pairs: b"p aux sp p2p 2\nq 1 2\nq 2 1\n",
+        answers: b"r 1 2 7 1 1 2\nn 2 1\n",
+    },
+    Example {
+        name: "three nodes",
+        graph: ROW_TEXT,
+        pairs: b"p aux sp p2p 3\nq 2 3\nq 2 1\nq 3 2\n",
+        answers: b"r 2 3 5 2 2 1 3\nr 2 1 2 1 2 1\nn 3 2\n",
+    },
+    Example {
+        name: "a loop and parallel arcs",
+        graph: b"p sp 2 4\na 1 1 12\na 1 2 9\na 1 2 4\na 1 2 6\n",
+        pairs: b"p aux sp p2p 1\nq 1 2\n",
+        answers: b"r 1 2 4 1 1 2\n",
+    },
+    Example {
+        name: "the heaviest weight",
+        graph: b"p sp 2 1\na 1 2 4294967295\n",
+        pairs: b"p aux sp p2p 1\nq 1 2\n",
+        answers: b"r 1 2 4294967295 1 1 2\n",
+    },
+    Example {
+        name: "a length above 32 bits",
+        graph: HEAVIEST,
+        pairs: b"p aux sp p2p 2\nq 3 4\nq 4 3\n",
+        answers: b"r 3 4 8589934590 2 3 1 4\nn 4 3\n",
+    },
+    Example {
+        name: "no pairs",
+        graph: b"p sp 3 0\n",
+        pairs: b"p aux sp p2p 0\n",
+        answers: b"",
+    },
+    Example {
+        name: "a tie of two ways",
+        graph: TIE,
+        pairs: b"p aux sp p2p 2\nq 3 4\nq 4 3\n",
+        answers: b"r 3 4 2 2 3 2 4\nn 4 3\n",
+    },
+];
+
+/// How many of them have one least route for each pair: all but the last.
+pub(crate) const UNTIED: usize = 7;
+
+/// The text of the graph of one arc.
+pub(crate) const ONE_ARC_TEXT: &[u8] = b"p sp 2 1\na 1 2 7\n";
+
+/// The text of the row of three nodes.
+pub(crate) const ROW_TEXT: &[u8] = b"p sp 3 2\na 2 1 2\na 1 3 3\n";
+
+/// Arcs of the greatest weight between four nodes; the way 3, 2, 1, 4 is heavy.
+pub(crate) const HEAVIEST: &[u8] =
+    b"p sp 4 4\na 3 1 4294967295\na 1 2 4294967295\na 2 1 4294967295\na 1 4 4294967295\n";
+
+/// Arcs of weight 1 between four nodes; the ways 3, 1, 4 and 3, 2, 4 are equally long.
+pub(crate) const TIE: &[u8] = b"p sp 4 4\na 3 1 1\na 1 4 1\na 3 2 1\na 2 4 1\n";
+
+/// The file of the graph of no node.
+pub(crate) const NO_NODE: &[u8] = b"RCH1\0\0\0\0\0\0\0\0\0\0\0\0\0\0\0\0\0\0\0\0";
+
+/// The file of one arc of weight 7, from node 1 to node 2: two nodes, one link, bound 7, two ranks, the link.
+pub(crate) const ONE_ARC: &[u8] =
+    b"RCH1\0\0\0\x02\0\0\0\0\0\0\0\x01\0\0\0\0\0\0\0\x07\0\0\0\0\0\0\0\x01\
+\0\0\0\0\0\0\0\x01\0\0\0\0\0\0\0\x07\xff\xff\xff\xff";
+
+/// The file of a row of three nodes, 2 to 1 of weight 2 and 1 to 3 of weight 3: its last link is the shortcut.
+pub(crate) const ROW: &[u8] =
+    b"RCH1\0\0\0\x03\0\0\0\0\0\0\0\x03\0\0\0\0\0\0\0\x06\0\0\0\0\0\0\0\x01\0\0\0\x02\
+\0\0\0\0\0\0\0\x02\0\0\0\0\0\0\0\x03\xff\xff\xff\xff\
+\0\0\0\x01\0\0\0\0\0\0\0\0\0\0\0\x02\xff\xff\xff\xff\
+\0\0\0\x01\0\0\0\x02\0\0\0\0\0\0\0\x05\0\0\0\0";

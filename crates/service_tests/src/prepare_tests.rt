@@ -1,0 +1,75 @@
+use crate::examples::{HEAVIEST, NO_NODE, ONE_ARC, ONE_ARC_TEXT, ROW, ROW_TEXT, TIE};
+use crate::kit::{prepare_alone, prepared};
+use ch_service::{ServiceError, WriteFault};
+use std::alloc::{AllocError, Global};
+use std::test::Fail;
+
+const HEAVY: u64 = 4_294_967_295;
+
+const NONE: u32 = u32::MAX;
+
+/// Graphs and their files, by the order of the numbers.
+const FILES: [(&[u8], &[u8]); 3] = [
+    (b"p sp 0 0\n", NO_NODE),
+    (ONE_ARC_TEXT, ONE_ARC),
+    (ROW_TEXT, ROW),
+];
+
+/// A link of a file: both ends, the weight and the middle.
+type Link = (u32, u32, u64, u32);
+
+const HEAVIEST_LINKS: [Link; 7] = [
+    (0, 1, HEAVY, NONE),
+    (0, 3, HEAVY, NONE),
+    (1, 0, HEAVY, NONE),
+    (1, 3, 2 * HEAVY, 0),
+    (2, 0, HEAVY, NONE),
+    (2, 1, 2 * HEAVY, 0),
+    (2, 3, 2 * HEAVY, 0),
+];
+
+const TIED_LINKS: [Link; 5] = [
+    (0, 3, 1, NONE),
+    (1, 3, 1, NONE),
+    (2, 0, 1, NONE),
+    (2, 1, 1, NONE),
+    (2, 3, 2, 1),
+];
+
+/// The file of these links between four nodes, each of the rank of its number, and of this bound.
+fn file_of(alloc: Global, bound: u64, links: &[Link]) -> Result<Vec<u8>, AllocError> {
+    let mut file = Vec::from_slice(alloc, b"RCH1\0\0\0\x04")?;
+    file.extend_from_slice(&(links.len() as u64).to_be_bytes())?;
+    file.extend_from_slice(&bound.to_be_bytes())?;
+    file.extend_from_slice(b"\0\0\0\0\0\0\0\x01\0\0\0\x02\0\0\0\x03")?;
+    for (from, to, weight, middle) in links {
+        file.extend_from_slice(&from.to_be_bytes())?;
+        file.extend_from_slice(&to.to_be_bytes())?;
+        file.extend_from_slice(&weight.to_be_bytes())?;
+        file.extend_from_slice(&middle.to_be_bytes())?;
+    }
+    Ok(file)
+}
+
+#[test]
+fn files(rt: HostRuntime) -> Result<(), Fail> {
+    for (graph, file) in FILES {
+        assert!(rt; prepared(&rt, rt.alloc(), graph).as_slice() == file);
+    }
+    let heaviest = file_of(rt.alloc(), 3 * HEAVY, &HEAVIEST_LINKS)?;
+    assert!(rt; prepared(&rt, rt.alloc(), HEAVIEST).as_slice() == heaviest.as_slice());
+    let tied = file_of(rt.alloc(), 3, &TIED_LINKS)?;
+    assert!(rt; prepared(&rt, rt.alloc(), TIE).as_slice() == tied.as_slice());
+    Ok(())
+}
+
+#[test]
+fn a_write_of_a_hierarchy_that_fails(rt: HostRuntime) {
+    let mut room = [0u8; 30];
+    let mut out = room.as_mut_slice();
+    let mut graph = ROW_TEXT;
+    let result = prepare_alone(&rt, rt.alloc(), &mut graph, &mut out);
+    let written = 30;
+    assert!(rt; result == Err(ServiceError::Write(WriteFault { written })));
+    assert!(rt; room.as_slice() == &ROW[..30]);
+}
