@@ -8,3 +8,4 @@ pub mod Descents
 pub mod LeastMeetings
 pub mod Values
 pub mod SmallHierarchies
+pub mod Laying

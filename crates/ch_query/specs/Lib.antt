@@ -4,3 +4,4 @@ pub mod Climb
 pub mod Ladder
 pub mod Labelling
 pub mod Meeting
+pub mod Upward

@@ -19,6 +19,7 @@ mod order;
 mod position;
 mod search;
 mod side;
+mod upward;
 
 pub use laws::labels_are_right;
 pub use search::{Found, Search};
