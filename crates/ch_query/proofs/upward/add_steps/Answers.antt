@@ -1,7 +1,7 @@
 use Rattle.std.proofs.Common.{ℕ, ◌≡◌, ◌+◌, ◌<◌, length, Option, None, ap, sym, subst, arith}
 use Rattle.std.proofs.lemmas.List.{get_or_read}
 use Rattle.ch_query.specs.Ladder.{IsLast}
-use Rattle.ch_query.proofs.Passing.{steps_left, fewer_left}
+use Rattle.ch_query.proofs.Ladders.{steps_left, fewer_left}
 use Rattle.ch_query.proofs.Laying.{IsAdding, adding-none, adding-more}
 use Rattle.ch_query.proofs.upward.add_steps.Goals as goal
 

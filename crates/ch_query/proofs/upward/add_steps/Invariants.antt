@@ -1,4 +1,4 @@
-use Rattle.ch_query.proofs.Passing.{steps_left}
+use Rattle.ch_query.proofs.Ladders.{steps_left}
 use Rattle.ch_query.proofs.Laying.{IsAdding}
 use Rattle.ch_query.proofs.upward.add_steps.Given as goal
 

@@ -1,4 +1,4 @@
-use Rattle.std.proofs.Common.{ℕ, ◌≡◌, ◌+◌, ◌<◌, ◌++◌, ◌∷◌, [], List, length, ap, sym, subst, ◌∙◌, arith}
+use Rattle.std.proofs.Common.{ℕ, ◌≡◌, ◌+◌, ◌++◌, ◌∷◌, [], List, length, sym, subst, arith}
 use Rattle.ch_query.specs.declared.upward.Step.{Step}
 use Rattle.ch_query.specs.Upward.{IsLaidOut}
 use Rattle.ch_query.proofs.Laying.{IsLaidTo, laid-more, laid_out}
