@@ -58,7 +58,8 @@ pub fn meet(
     'turns: loop {
         let rose = turn(hierarchy, rising, rise, up, down, &mut best)?;
         let fell = turn(hierarchy, falling, fall, down, up, &mut best)?;
-        if !(rose | fell) {
+        let goes_on = rose | fell;
+        if !goes_on {
             return Ok(best);
         }
     }

@@ -1,10 +1,17 @@
-use Rattle.std.proofs.Common.{◌<◌, length, None, Option, Some, sym, subst}
+use Rattle.std.proofs.Common.{◌≡◌, ◌<◌, length, replicate, None, Option, Some, sym, subst}
 use Rattle.ch_cost.specs.declared.cost.Cost.{Cost}
 use Rattle.ch_graph.specs.Hierarchy.{Hierarchy, IsValue}
+use Rattle.ch_query.specs.declared.mark.Mark.TheVariants.{Unseen}
 use Rattle.ch_query.specs.declared.meeting.Meeting.{Meeting}
 use Rattle.ch_query.specs.Meeting.{cost_of}
 use Rattle.ch_query.proofs.Answering.{answered}
 use Rattle.ch_query.proofs.search.Search.distance.Goals as goal
+
+pub meet-requires-clause-up : goal.meet-requires-clause-up
+meet-requires-clause-up c = subst (λ n. c.clear.new.self ≡ replicate n Unseen) c.self.invariant.ups c.clear.ensures
+
+pub meet-requires-clause-down : goal.meet-requires-clause-down
+meet-requires-clause-down c = subst (λ n. c.clear-2.new.self ≡ replicate n Unseen) c.self.invariant.downs c.clear-2.ensures
 
 pub returns-in_default-clause-value : goal.returns-in_default-clause-value
 returns-in_default-clause-value c =
