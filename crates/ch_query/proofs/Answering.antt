@@ -4,7 +4,7 @@ use Rattle.std.proofs.lemmas.Bool.{cases_lt}
 use Rattle.std.proofs.lemmas.List.{get_or_default, get_or_past, map-append}
 use Rattle.std.proofs.lemmas.List.Elements.{All-append, All-contains}
 use Rattle.ch_cost.specs.declared.cost.Cost.{Cost}
-use Rattle.ch_cost.specs.Cost.{zero_cost, ◌⊕◌, ◌≼◌, IsNoLonger}
+use Rattle.ch_cost.specs.Cost.{zero_cost, ◌⊕◌, ◌≼◌}
 use Rattle.ch_cost.specs.Cost.Laws.{sum_comm, at_most_sum_left, at_most_trans, below_not_at_most}
 use Rattle.ch_graph.specs.declared.link.Link.{Link}
 use Rattle.ch_graph.specs.declared.hierarchy.LinkId.{LinkId}
@@ -21,7 +21,7 @@ use Rattle.ch_query.specs.Labels.{HasAtMost, AreUpLabels, AreDownLabels, Meets, 
 use Rattle.ch_query.specs.Positions.{link_at, IsRiseFallAt}
 use Rattle.ch_query.specs.Climb.{foot_of, head_of, foot_rank, head_rank, cost_at, Climbs, Descends}
 use Rattle.ch_query.specs.Marks.{mark_at, label_at, costs_of, IsStopped}
-use Rattle.ch_query.specs.Searching.{IsSearching}
+use Rattle.ch_query.specs.Searching.{IsSearching, AreFollowed}
 use Rattle.ch_query.specs.Meeting.{IsBestMeeting, cost_of}
 use Rattle.ch_query.proofs.LeastSum.{stop_right}
 use Rattle.ch_query.proofs.Marking.{from_cost, label_cases, label-in}
@@ -66,7 +66,7 @@ module _ (h : Hierarchy) (made : IsWellMade h) (side : Side) (start : ℕ) (star
   descent x a label = descent_to h made side start start_in marks is x a (node_in x a label) (rank_label x a label)
 
   -- a link that leads on below the best sum was followed: its foot isn't open
-  module _ (best : Option Cost) (stopped : IsStopped marks best) where
+  module _ (best : Option Cost) (stopped : IsStopped marks best) (followed : AreFollowed h side best marks) where
     closed_over : (l : Link) (a : Cost) → Contains h.links l → rank_of h (foot_of side l) < rank_of h (head_of side l) → head_of side l < length h.ranks → named h marks (foot_of side l) ≡ Some a → CountsBelow h best (a ⊕ l.cost) → HasAtMost (named h marks) (head_of side l) (a ⊕ l.cost)
     closed_over l a among rises head_in label counts =
         let k : ℕ = among.0 in
@@ -84,7 +84,7 @@ module _ (h : Hierarchy) (made : IsWellMade h) (side : Side) (start : ℕ) (star
               let above : limit.0 ≼ a ⊕ l.cost = at_most_trans (subst (λ (c : Cost). limit.0 ≼ c) own.2 limit.2) (at_most_sum_left a l.cost) in
               absurd (below_not_at_most (counts.below limit.0 limit.1) above)
           | inr settled ↦
-              let has : HasAtMost (costs_of marks) (head_rank h side k) (e.cost ⊕ cost_at h k) = is.followed k e climbs (subst (λ q. mark_at marks q ≡ Settled e) (sym foot) settled) (subst (λ (c : Cost). IsNoLonger c h.bound) (sym sum) counts.short) in
+              let has : HasAtMost (costs_of marks) (head_rank h side k) (e.cost ⊕ cost_at h k) = followed k e climbs (subst (λ q. mark_at marks q ≡ Settled e) (sym foot) settled) (subst (λ (c : Cost). CountsBelow h best c) (sym sum) counts) in
               let place : head_rank h side k ≡ place_of h (head_of side l) = head ∙ sym (place-rank h (head_of side l) head_in) in
               record {
                 cost = has.cost;
@@ -93,19 +93,19 @@ module _ (h : Hierarchy) (made : IsWellMade h) (side : Side) (start : ℕ) (star
               }
         ]
 
-pub up_labels : (h : Hierarchy) → IsWellMade h → (start : ℕ) → start < length h.ranks → (marks : List Mark) → IsSearching h Rise start marks → (best : Option Cost) → IsStopped marks best → AreUpLabels h (CountsBelow h best) start (named h marks)
-up_labels h made start start_in marks is best stopped = record {
+pub up_labels : (h : Hierarchy) → IsWellMade h → (start : ℕ) → start < length h.ranks → (marks : List Mark) → IsSearching h Rise start marks → (best : Option Cost) → IsStopped marks best → AreFollowed h Rise best marks → AreUpLabels h (CountsBelow h best) start (named h marks)
+up_labels h made start start_in marks is best stopped followed = record {
   start = first h made Rise start start_in marks is;
   reached = λ x a label. let back = descent h made Rise start start_in marks is x a label in (links_at h (reverse back.0), rise-chain h start back.1);
-  closed = λ l a rising label counts. closed_over h made Rise start start_in marks is best stopped l a rising.among rising.rises (link_from h made l rising.among).to_in label counts;
+  closed = λ l a rising label counts. closed_over h made Rise start start_in marks is best stopped followed l a rising.among rising.rises (link_from h made l rising.among).to_in label counts;
 }
 
-pub down_labels : (h : Hierarchy) → IsWellMade h → (start : ℕ) → start < length h.ranks → (marks : List Mark) → IsSearching h Fall start marks → (best : Option Cost) → IsStopped marks best → AreDownLabels h (CountsBelow h best) start (named h marks)
-down_labels h made start start_in marks is best stopped = record {
+pub down_labels : (h : Hierarchy) → IsWellMade h → (start : ℕ) → start < length h.ranks → (marks : List Mark) → IsSearching h Fall start marks → (best : Option Cost) → IsStopped marks best → AreFollowed h Fall best marks → AreDownLabels h (CountsBelow h best) start (named h marks)
+down_labels h made start start_in marks is best stopped followed = record {
   start = first h made Fall start start_in marks is;
   reached = λ x a label. let back = descent h made Fall start start_in marks is x a label in (links_at h back.0, fall-chain h start back.1);
   closed = λ l a falling label counts.
-      let over = closed_over h made Fall start start_in marks is best stopped l a falling.among falling.falls (link_from h made l falling.among).from_in label (subst (λ (c : Cost). CountsBelow h best c) (sum_comm l.cost a) counts) in
+      let over = closed_over h made Fall start start_in marks is best stopped followed l a falling.among falling.falls (link_from h made l falling.among).from_in label (subst (λ (c : Cost). CountsBelow h best c) (sum_comm l.cost a) counts) in
       subst (λ (c : Cost). HasAtMost (named h marks) l.from c) (sum_comm a l.cost) over;
 }
 
@@ -120,8 +120,8 @@ module _ (h : Hierarchy) (made : IsWellMade h) (s t : ℕ) (s_in : s < length h.
         λ d meets. is.least (place_of h meets.0) d meets.1,
       )
 
-  pub answered : (best : Option Meeting) → IsBestMeeting h (costs_of up) (costs_of down) best → IsStopped up (cost_of best) → IsStopped down (cost_of best) → IsValue h s t (cost_of best)
-  answered best is up_stopped down_stopped = stop_right h s t (named h up) (named h down) (cost_of best) (up_labels h made s s_in up rises (cost_of best) up_stopped) (down_labels h made t t_in down falls (cost_of best) down_stopped) (best-named best is)
+  pub answered : (best : Option Meeting) → IsBestMeeting h (costs_of up) (costs_of down) best → IsStopped up (cost_of best) → IsStopped down (cost_of best) → AreFollowed h Rise (cost_of best) up → AreFollowed h Fall (cost_of best) down → IsValue h s t (cost_of best)
+  answered best is up_stopped down_stopped up_followed down_followed = stop_right h s t (named h up) (named h down) (cost_of best) (up_labels h made s s_in up rises (cost_of best) up_stopped up_followed) (down_labels h made t t_in down falls (cost_of best) down_stopped down_followed) (best-named best is)
 
 -- the links of both sides make the walk
 walk_leads : (h : Hierarchy) (s t x : ℕ) (a b c : Cost) (ups downs : List LinkId) → Descends h Rise s ups x a → Descends h Fall t downs x b → c ≡ a ⊕ b → IsRiseFall h (links_at h (reverse ups ++ downs)) s t c

@@ -9,17 +9,26 @@ use Rattle.ch_query.specs.declared.mark.Mark.{Mark}
 use Rattle.ch_query.specs.declared.mark.Mark.TheVariants.{Unseen, Open}
 use Rattle.ch_query.specs.declared.meeting.Meeting.{Meeting}
 use Rattle.ch_query.specs.declared.side.Side.{Side}
-use Rattle.ch_query.specs.Marks.{mark_at, label_in, label_at, option_cost, costs_of, Improves, IsStopped, settled_count}
-use Rattle.ch_query.specs.Searching.{IsSearching, IsTurned}
+use Rattle.ch_query.specs.Marks.{mark_at, label_in, label_at, option_cost, costs_of, Improves, IsStopped, IsNoMore, settled_count}
+use Rattle.ch_query.specs.Searching.{IsSearching, AreFollowed, IsTurned}
 use Rattle.ch_query.specs.Meeting.{IsLooked, IsBestMeeting}
 use Rattle.ch_query.proofs.Ranks.{rank_below}
 use Rattle.ch_query.proofs.Marking.{unseen-at, open-here, open-less}
 use Rattle.ch_query.proofs.BestMeetings.{best-none, best-flip}
-use Rattle.ch_query.proofs.Turning.{searching-start}
+use Rattle.ch_query.proofs.Turning.{searching-start, followed-start}
+use Rattle.ch_query.proofs.Following.{counts-more}
 
 pub searching-begun : (h : Hierarchy) → IsWellMade h → (side : Side) (start : ℕ) → start < length h.ranks → (old new : List Mark) → old ≡ replicate (length h.ranks) Unseen → new ≡ set old (rank_of h start) (Open (record { cost = zero_cost; link = None })) → IsSearching h side start new
 searching-begun h made side start start_in old new unseen begun =
     subst (λ (ms : List Mark). IsSearching h side start ms) (sym (begun ∙ ap (λ (ms : List Mark). set ms (rank_of h start) (Open (record { cost = zero_cost; link = None }))) unseen)) (searching-start h made side start start_in)
+
+pub followed-begun : (h : Hierarchy) → IsWellMade h → (side : Side) (start : ℕ) → start < length h.ranks → (old new : List Mark) → old ≡ replicate (length h.ranks) Unseen → new ≡ set old (rank_of h start) (Open (record { cost = zero_cost; link = None })) → (limit : Option Cost) → AreFollowed h side limit new
+followed-begun h made side start start_in old new unseen begun limit =
+    subst (λ (ms : List Mark). AreFollowed h side limit ms) (sym (begun ∙ ap (λ (ms : List Mark). set ms (rank_of h start) (Open (record { cost = zero_cost; link = None }))) unseen)) (followed-start h made side start start_in limit)
+
+-- the other side's turn may make the limit less
+pub followed-less : (h : Hierarchy) (side : Side) (limit found : Option Cost) (marks : List Mark) → IsNoMore found limit → AreFollowed h side limit marks → AreFollowed h side found marks
+followed-less h side limit found marks less were k e climbs closed counts = were k e climbs closed (counts-more h less counts)
 
 -- the second side begins where it may meet the first
 pub best-begun : (h : Hierarchy) → IsWellMade h → (start : ℕ) → start < length h.ranks → (up old new : List Mark) → old ≡ replicate (length h.ranks) Unseen → new ≡ set old (rank_of h start) (Open (record { cost = zero_cost; link = None })) → (best : Option Meeting) → IsLooked h (rank_of h start) zero_cost (option_cost (label_at up (rank_of h start))) None best → IsBestMeeting h (costs_of up) (costs_of new) best

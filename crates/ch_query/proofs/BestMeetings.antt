@@ -7,7 +7,7 @@ use Rattle.ch_cost.specs.Cost.Laws.{sum_comm, at_most_refl, at_most_trans, at_mo
 use Rattle.ch_graph.specs.Hierarchy.{Hierarchy}
 use Rattle.ch_query.specs.declared.meeting.Meeting.{Meeting}
 use Rattle.ch_query.specs.Labels.{HasAtMost, AreShort, Meets}
-use Rattle.ch_query.specs.Marks.{IsBelow}
+use Rattle.ch_query.specs.Marks.{IsBelow, IsNoMore}
 use Rattle.ch_query.specs.Meeting.{IsShortSum, IsBestOf, IsBestMeeting, IsLessAt, IsLooked, cost_of}
 
 same_given : (o : Option Cost) (c d : Cost) → o ≡ Some c → o ≡ Some d → c ≡ d
@@ -117,6 +117,29 @@ module _ (h : Hierarchy) (r : ℕ) (old new there : ℕ → Option Cost) (less :
             | inr other ↦ is.least q d (meets-others q d other meets)
           ];
         }
+
+pub no_more-refl : (limit : Option Cost) → IsNoMore limit limit
+no_more-refl limit a is = (a, is, at_most_refl a)
+
+-- where labels get less, so does the best meeting
+pub best-no_more : (h : Hierarchy) (old new there : ℕ → Option Cost) → ((q : ℕ) (c : Cost) → HasAtMost old q c → HasAtMost new q c) → (best found : Option Meeting) → IsBestMeeting h old there best → IsBestMeeting h new there found → IsNoMore (cost_of found) (cost_of best)
+best-no_more h old new there kept None found was is a given = absurd (none_some a given)
+  where
+    none_some : (a : Cost) → None ≡ Some a → ⊥
+    none_some a e = cc
+best-no_more h old new there kept (Some b) found was is a given =
+    let has : HasAtMost new b.rank was.meets.rise = kept b.rank was.meets.rise (record { cost = was.meets.rise; labelled = was.meets.risen; at_most = at_most_refl was.meets.rise }) in
+    let sum : has.cost ⊕ was.meets.fall ≼ b.cost = subst (λ (x : Cost). has.cost ⊕ was.meets.fall ≼ x) (sym was.meets.sum) (sum_at_most has.at_most (at_most_refl was.meets.fall)) in
+    let meets : Meets h new there b.rank (has.cost ⊕ was.meets.fall) = record { rise = has.cost; fall = was.meets.fall; risen = has.labelled; fallen = was.meets.fallen; sum = refl; short = no_longer_at_most sum was.meets.short } in
+    let same : b.cost ≡ a = some_some b.cost a given in
+    pick found is (has.cost ⊕ was.meets.fall) meets (subst (λ (x : Cost). has.cost ⊕ was.meets.fall ≼ x) same sum)
+  where
+    some_some : (x y : Cost) → Some x ≡ Some y → x ≡ y
+    some_some x y e = cc
+
+    pick : (found : Option Meeting) → IsBestMeeting h new there found → (d : Cost) → Meets h new there b.rank d → d ≼ a → (x : Cost) × (cost_of found ≡ Some x) × (x ≼ a)
+    pick None never d meets below = absurd (never b.rank d meets)
+    pick (Some m) best d meets below = (m.cost, refl, at_most_trans (best.least b.rank d meets) below)
 
 -- One look at a node, by whether the two labels make a short sum and whether that is below the best so far
 

@@ -12,10 +12,11 @@ use Rattle.ch_query.specs.declared.mark.Mark.TheVariants.{Unseen, Open, Settled}
 use Rattle.ch_query.specs.declared.side.Side.{Side}
 use Rattle.ch_query.specs.Labels.{HasAtMost}
 use Rattle.ch_query.specs.Climb.{foot_rank, head_rank, cost_at, Climbs}
-use Rattle.ch_query.specs.Marks.{mark_at, label_at, option_cost, costs_of, IsLeastOpen, FitAll, settled_count}
-use Rattle.ch_query.specs.Searching.{IsFrom, IsFollowed, IsSearching, IsLatest, ClimbsTo, IsOpenedBy, ArePassed}
+use Rattle.ch_query.specs.Marks.{mark_at, label_at, option_cost, costs_of, IsLeastOpen, IsNoMore, FitAll, settled_count}
+use Rattle.ch_query.specs.Searching.{IsFrom, IsFollowed, AreFollowed, IsSearching, IsLatest, ClimbsTo, IsOpenedBy, ArePassed}
 use Rattle.ch_query.proofs.Sides.{link-made}
 use Rattle.ch_query.proofs.Ranks.{rank_below}
+use Rattle.ch_query.proofs.Following.{counts-more}
 use Rattle.ch_query.proofs.Marking.{cases_write, write_here, unseen-open, unseen-settled, open-settled, open-open, settled-settled, unseen-at, open-in, label_cases, label-open, label-settled, label-in, cost_is, settle-label, count-settle}
 
 module _ (h : Hierarchy) (made : IsWellMade h) where
@@ -100,8 +101,10 @@ module _ (h : Hierarchy) (made : IsWellMade h) (side : Side) (start : ℕ) (star
     fits = λ r e is. subst (λ (l : Label). IsOfWalks r l.cost) (only_label r e is).1 (of_walks_zero_cost r);
     short = λ r e is. subst (λ (l : Label). IsNoLonger l.cost h.bound) (only_label r e is).1 (no_longer-from_within (zero_cost_within h.bound));
     ordered = λ q r d e closed opens. absurd (no_settled q d closed);
-    followed = λ k e climbs closed. absurd (no_settled (foot_rank h side k) e closed);
   }
+
+  pub followed-start : (limit : Option Cost) → AreFollowed h side limit first_marks
+  followed-start limit k e climbs closed = absurd (no_settled (foot_rank h side k) e closed)
 
 -- A turn: the node of rank r is settled, and then its links are followed
 
@@ -193,14 +196,17 @@ module _ (h : Hierarchy) (side : Side) (start : ℕ) (old : List Mark) (r : ℕ)
       | inr climbs ↦ subst (λ (c : Cost). e.cost ≼ c) (sym climbs.sum) (at_most_sum_left e.cost (cost_at h climbs.place))
     ]
 
-    turn-followed : ArePassed h side r e.cost new → (k : ℕ) (d : Label) → Climbs h side k → mark_at new (foot_rank h side k) ≡ Settled d → IsFollowed h side d.cost new k
-    turn-followed passed k d climbs closed = elim (turn-settled (foot_rank h side k) d (opened.settled (foot_rank h side k) d closed)) [
-      | inl this ↦ subst (λ (l : Label). IsFollowed h side l.cost new k) this.1 (passed k climbs this.0)
-      | inr before ↦ λ short. opened.kept (head_rank h side k) (d.cost ⊕ cost_at h k) (turn-kept (head_rank h side k) (d.cost ⊕ cost_at h k) (is.followed k d climbs before short))
+    pub followed-turn : (limit found : Option Cost) → IsNoMore found limit → AreFollowed h side limit old → ArePassed h side r e.cost found new → AreFollowed h side found new
+    followed-turn limit found less were passed k d climbs closed = elim (turn-settled (foot_rank h side k) d (opened.settled (foot_rank h side k) d closed)) [
+      | inl this ↦ subst (λ (l : Label). IsFollowed h side l.cost found new k) this.1 (passed k climbs this.0)
+      | inr before ↦ λ counts. opened.kept (head_rank h side k) (d.cost ⊕ cost_at h k) (turn-kept (head_rank h side k) (d.cost ⊕ cost_at h k) (were k d climbs before (counts-more h less counts)))
     ]
 
-    pub searching-turn : IsWellMade h → ArePassed h side r e.cost new → IsSearching h side start new
-    searching-turn made passed = record {
+    pub turn-more : (q : ℕ) (c : Cost) → HasAtMost (costs_of old) q c → HasAtMost (costs_of new) q c
+    turn-more q c has = opened.kept q c (turn-kept q c has)
+
+    pub searching-turn : IsWellMade h → IsSearching h side start new
+    searching-turn made = record {
       nodes = opened.nodes ∙ (length-set old r (Settled e) ∙ is.nodes);
       first = turn-first;
       origin = λ q d label. elim (came q d label) [
@@ -216,7 +222,6 @@ module _ (h : Hierarchy) (side : Side) (start : ℕ) (old : List Mark) (r : ℕ)
         | inr climbs ↦ climbs.short
       ];
       ordered = λ q s d f closed opens. at_most_trans (turn-latest q d (opened.settled q d closed)) (turn-above s f opens);
-      followed = turn-followed passed;
     }
 
     pub turn-count : settled_count new ≡ settled_count old + 1

@@ -42,6 +42,10 @@ abbrev pub IsBelow : Cost → Option Cost → Type 0
 IsBelow c None = Unit {0}
 IsBelow c (Some b) = c ≺ b
 
+-- there is a limit where there was one, and it is no more
+abbrev pub IsNoMore : Option Cost → Option Cost → Type 0
+IsNoMore new old = (a : Cost) → old ≡ Some a → (b : Cost) × (new ≡ Some b) × (b ≼ a)
+
 -- the node of rank r is open with the label e, and no open node has one that costs less
 pub record IsLeastOpen (marks : List Mark) (r : ℕ) (e : Label) : Type 0 where
   pub opens : mark_at marks r ≡ Open e

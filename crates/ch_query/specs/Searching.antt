@@ -9,7 +9,7 @@ use Rattle.ch_query.specs.declared.mark.Mark.TheVariants.{Open, Settled}
 use Rattle.ch_query.specs.declared.side.Side.{Side}
 use Rattle.ch_query.specs.declared.upward.Step.{Step}
 use Rattle.ch_query.specs.Climb.{foot_rank, head_rank, cost_at, Climbs}
-use Rattle.ch_query.specs.Labels.{HasAtMost}
+use Rattle.ch_query.specs.Labels.{HasAtMost, CountsBelow}
 use Rattle.ch_query.specs.Marks.{mark_at, label_at, costs_of, IsStopped, settled_count}
 
 -- the label of cost c came to the rank r by the link at k, from a node that is settled
@@ -25,12 +25,16 @@ abbrev pub IsFrom : Hierarchy → Side → ℕ → List Mark → ℕ → Cost �
 IsFrom h side start marks r c (Some k) = ComesFrom h side marks r c k
 IsFrom h side start marks r c None = (r ≡ rank_of h start) × (c ≡ zero_cost)
 
--- the link at k was followed from a foot of cost c
-abbrev pub IsFollowed : Hierarchy → Side → Cost → List Mark → ℕ → Type 0
-IsFollowed h side c marks k = IsNoLonger (c ⊕ cost_at h k) h.bound → HasAtMost (costs_of marks) (head_rank h side k) (c ⊕ cost_at h k)
+-- the link at k was followed from a foot of cost c, where the sum counts below the limit
+abbrev pub IsFollowed : Hierarchy → Side → Cost → Option Cost → List Mark → ℕ → Type 0
+IsFollowed h side c limit marks k = CountsBelow h limit (c ⊕ cost_at h k) → HasAtMost (costs_of marks) (head_rank h side k) (c ⊕ cost_at h k)
 
--- The marks between two turns of a side: each label is the cost of a climb from the start, those of settled nodes
--- are at most those of open ones, and each link that climbs from a settled node was followed.
+-- each link that climbs from a settled node was
+abbrev pub AreFollowed : Hierarchy → Side → Option Cost → List Mark → Type 0
+AreFollowed h side limit marks = (k : ℕ) (e : Label) → Climbs h side k → mark_at marks (foot_rank h side k) ≡ Settled e → IsFollowed h side e.cost limit marks k
+
+-- The marks between two turns of a side: each label is the cost of a climb from the start, and those of settled nodes
+-- are at most those of open ones.
 pub record IsSearching (h : Hierarchy) (side : Side) (start : ℕ) (marks : List Mark) : Type 0 where
   pub nodes : length marks ≡ length h.ranks
   pub first : costs_of marks (rank_of h start) ≡ Some zero_cost
@@ -38,7 +42,6 @@ pub record IsSearching (h : Hierarchy) (side : Side) (start : ℕ) (marks : List
   pub fits : (r : ℕ) (e : Label) → label_at marks r ≡ Some e → IsOfWalks r e.cost
   pub short : (r : ℕ) (e : Label) → label_at marks r ≡ Some e → IsNoLonger e.cost h.bound
   pub ordered : (q r : ℕ) (d e : Label) → mark_at marks q ≡ Settled d → mark_at marks r ≡ Open e → d.cost ≼ e.cost
-  pub followed : (k : ℕ) (e : Label) → Climbs h side k → mark_at marks (foot_rank h side k) ≡ Settled e → IsFollowed h side e.cost marks k
 
 -- One turn
 
@@ -72,8 +75,8 @@ pub record IsOpenedBy (h : Hierarchy) (side : Side) (r : ℕ) (c : Cost) (old ne
   pub kept : (q : ℕ) (a : Cost) → HasAtMost (costs_of old) q a → HasAtMost (costs_of new) q a
 
 -- each link that climbs from the rank r was followed
-abbrev pub ArePassed : Hierarchy → Side → ℕ → Cost → List Mark → Type 0
-ArePassed h side r c marks = (k : ℕ) → Climbs h side k → foot_rank h side k ≡ r → IsFollowed h side c marks k
+abbrev pub ArePassed : Hierarchy → Side → ℕ → Cost → Option Cost → List Mark → Type 0
+ArePassed h side r c limit marks = (k : ℕ) → Climbs h side k → foot_rank h side k ≡ r → IsFollowed h side c limit marks k
 
 -- A turn settled one more node, or there was none to settle below the limit and nothing changed.
 abbrev pub IsTurned : Bool → List Mark → List Mark → Option Cost → Option Cost → Type 0

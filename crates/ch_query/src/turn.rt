@@ -3,13 +3,13 @@ ghost use Rattle.ch_cost.specs.Cost.{IsNoLonger, IsOfWalks};
 ghost use Rattle.ch_graph.specs.Hierarchy.{IsWellMade};
 ghost use Rattle.ch_query.specs.Climb.{foot_rank};
 ghost use Rattle.ch_query.specs.Upward.{IsLaidOut};
-ghost use Rattle.ch_query.specs.Marks.{costs_of, FitAll};
-ghost use Rattle.ch_query.specs.Searching.{IsStep, IsLatest, IsOpenedBy, IsFollowed, ArePassed, IsSearching, IsTurned};
+ghost use Rattle.ch_query.specs.Marks.{costs_of, FitAll, IsNoMore};
+ghost use Rattle.ch_query.specs.Searching.{IsStep, IsLatest, IsOpenedBy, IsFollowed, AreFollowed, ArePassed, IsSearching, IsTurned};
 ghost use Rattle.ch_query.specs.Meeting.{IsBestMeeting, cost_of};
 
 use crate::frontier::Frontier;
 use crate::label::Label;
-use crate::limit::is_short;
+use crate::limit::{is_below, is_short};
 use crate::meeting::{Meeting, cost_of, look_at};
 use crate::side::{Climb, Side};
 use crate::upward::{Step, UpwardSteps};
@@ -30,11 +30,14 @@ pub fn turn(
     requires made { IsWellMade hierarchy.now }
     requires laid { IsLaidOut hierarchy.now climb.side upward.now.first.items upward.now.steps.items }
     requires searching { IsSearching hierarchy.now climb.side climb.start here.old }
+    requires followed { AreFollowed hierarchy.now climb.side (cost_of best.old) here.old }
     requires there_nodes { length there.now ≡ length hierarchy.now.ranks }
     requires there_fits { FitAll there.now }
     requires best { IsBestMeeting hierarchy.now (costs_of here.old) (costs_of there.now) best.old }
     ensures nodes { length here.new ≡ length here.old }
     ensures searching { OnOk result (IsSearching hierarchy.now climb.side climb.start here.new) }
+    ensures followed { OnOk result (AreFollowed hierarchy.now climb.side (cost_of best.new) here.new) }
+    ensures less { OnOk result (IsNoMore (cost_of best.new) (cost_of best.old)) }
     ensures best { OnOk result (IsBestMeeting hierarchy.now (costs_of here.new) (costs_of there.now) best.new) }
     ensures turned { IfOk result (λ goes_on. IsTurned goes_on here.old here.new (cost_of best.old) (cost_of best.new)) }
 {
@@ -72,7 +75,7 @@ fn pass_over(
     requires best { IsBestMeeting hierarchy.now (costs_of here.old) (costs_of there.now) best }
     ensures nodes { length here.new ≡ length here.old }
     ensures opened { OnOk result (IsOpenedBy hierarchy.now side rank cost here.old here.new) }
-    ensures passed { OnOk result (ArePassed hierarchy.now side rank cost here.new) }
+    ensures passed { IfOk result (λ found. ArePassed hierarchy.now side rank cost (cost_of found) here.new) }
     ensures best { IfOk result (λ found. IsBestMeeting hierarchy.now (costs_of here.new) (costs_of there.now) found) }
 {
     let mut best = best;
@@ -83,8 +86,8 @@ fn pass_over(
     Ok(best)
 }
 
-/// Follows one link that climbs, from a foot whose label has this cost: the node at its head is opened, if that is
-/// better than what is known of it, and then the sides may meet there.
+/// Follows one link that climbs, from a foot whose label has this cost: the node at its head is opened, if the sum is
+/// below the best meeting and better than what is known of it, and then the sides may meet there.
 fn follow(
     hierarchy: &Hierarchy,
     side: Side,
@@ -105,11 +108,14 @@ fn follow(
     requires best { IsBestMeeting hierarchy.now (costs_of here.old) (costs_of there.now) best }
     ensures nodes { length here.new ≡ length here.old }
     ensures opened { OnOk result (IsOpenedBy hierarchy.now side (foot_rank hierarchy.now side step.link) cost here.old here.new) }
-    ensures followed { OnOk result (IsFollowed hierarchy.now side cost here.new step.link) }
+    ensures followed { IfOk result (λ found. IsFollowed hierarchy.now side cost (cost_of found) here.new step.link) }
     ensures best { IfOk result (λ found. IsBestMeeting hierarchy.now (costs_of here.new) (costs_of there.now) found) }
 {
     let sum = cost.plus(step.cost);
     if !is_short(sum, hierarchy.bound()) {
+        return Ok(best);
+    }
+    if !is_below(sum, cost_of(best)) {
         return Ok(best);
     }
     if !here.is_improved_by(step.head, sum) {

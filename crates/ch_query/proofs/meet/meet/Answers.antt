@@ -9,7 +9,7 @@ use Rattle.ch_query.specs.Meeting.{IsLooked, cost_of}
 use Rattle.ch_query.proofs.Marking.{count-most}
 use Rattle.ch_query.proofs.BestMeetings.{best-flip}
 use Rattle.ch_query.proofs.Turning.{labels_fit}
-use Rattle.ch_query.proofs.Beginning.{searching-begun, best-begun, turned-count, not-turned, both-stopped, neither, either-one, if_some-fits, one_if}
+use Rattle.ch_query.proofs.Beginning.{searching-begun, followed-begun, followed-less, best-begun, turned-count, not-turned, both-stopped, neither, either-one, if_some-fits, one_if}
 use Rattle.ch_query.proofs.meet.meet.Goals as goal
 
 pub look_at-best-requires-clause-fits : goal.look_at-best-requires-clause-fits
@@ -30,6 +30,8 @@ turns-init c =
     record {
       rises = searching-begun h c.requires.made Rise c.args.source c.requires.source_in c.args.up.now c.begin.new.frontier c.requires.up c.in_ok-begin.ensures.begun;
       falls = searching-begun h c.requires.made Fall c.args.target c.requires.target_in c.args.down.now c.begin-2.new.frontier c.requires.down c.in_ok-begin-2.ensures.begun;
+      up_followed = followed-begun h c.requires.made Rise c.args.source c.requires.source_in c.args.up.now c.begin.new.frontier c.requires.up c.in_ok-begin.ensures.begun (cost_of c.look_at-best.result);
+      down_followed = followed-begun h c.requires.made Fall c.args.target c.requires.target_in c.args.down.now c.begin-2.new.frontier c.requires.down c.in_ok-begin-2.ensures.begun (cost_of c.look_at-best.result);
       best = best-begun h c.requires.made c.args.target c.requires.target_in c.begin.new.frontier c.args.down.now c.begin-2.new.frontier c.requires.down c.in_ok-begin-2.ensures.begun c.look_at-best.result looked;
     }
 
@@ -41,6 +43,12 @@ turn-requires-in-turns-clause-there_fits c = labels_fit c.args.hierarchy.now c.r
 
 pub turn-requires-in-turns-clause-best : goal.turn-requires-in-turns-clause-best
 turn-requires-in-turns-clause-best c = best-flip c.args.hierarchy.now (costs_of c.turn.new.here) (costs_of c.turns.down) c.turn.new.best c.in_ok-rose.ensures.best
+
+pub turn-requires-in-turns-clause-followed : goal.turn-requires-in-turns-clause-followed
+turn-requires-in-turns-clause-followed c = followed-less c.args.hierarchy.now Fall (cost_of c.turns.best) (cost_of c.turn.new.best) c.turns.down c.in_ok-rose.ensures.less c.turns.invariant.down_followed
+
+pub returns-then-not-goes_on-clause-up_followed : goal.returns-then-not-goes_on-clause-up_followed
+returns-then-not-goes_on-clause-up_followed c = followed-less c.args.hierarchy.now Rise (cost_of c.turn.new.best) (cost_of c.turn-in-turns.new.best) c.turn.new.here c.in_ok-fell.ensures.less c.in_ok-rose.ensures.followed
 
 pub returns-then-not-goes_on-clause-best : goal.returns-then-not-goes_on-clause-best
 returns-then-not-goes_on-clause-best c = best-flip c.args.hierarchy.now (costs_of c.turn-in-turns.new.here) (costs_of c.turn.new.here) c.turn-in-turns.new.best c.in_ok-fell.ensures.best
@@ -70,5 +78,7 @@ pub turns-preserved : goal.turns-preserved
 turns-preserved c = record {
   rises = c.in_ok-rose.ensures.searching;
   falls = c.in_ok-fell.ensures.searching;
+  up_followed = followed-less c.args.hierarchy.now Rise (cost_of c.turn.new.best) (cost_of c.turn-in-turns.new.best) c.turn.new.here c.in_ok-fell.ensures.less c.in_ok-rose.ensures.followed;
+  down_followed = c.in_ok-fell.ensures.followed;
   best = best-flip c.args.hierarchy.now (costs_of c.turn-in-turns.new.here) (costs_of c.turn.new.here) c.turn-in-turns.new.best c.in_ok-fell.ensures.best;
 }

@@ -2,11 +2,11 @@ use Rattle.std.proofs.Common.{ℕ, List, set, ap, sym, subst, arith}
 use Rattle.ch_query.specs.declared.mark.Mark.{Mark}
 use Rattle.ch_query.specs.declared.mark.Mark.TheVariants.{Settled}
 use Rattle.ch_query.specs.Marks.{option_cost, costs_of}
-use Rattle.ch_query.specs.Searching.{IsLatest, IsOpenedBy}
-use Rattle.ch_query.specs.Meeting.{IsBestMeeting}
+use Rattle.ch_query.specs.Searching.{IsLatest, IsOpenedBy, AreFollowed}
+use Rattle.ch_query.specs.Meeting.{IsBestMeeting, cost_of}
 use Rattle.ch_query.proofs.Marking.{open-in, settle-label}
-use Rattle.ch_query.proofs.BestMeetings.{best-same}
-use Rattle.ch_query.proofs.Turning.{turn-latest, turn-fits, turn-short, searching-turn}
+use Rattle.ch_query.proofs.BestMeetings.{best-same, best-no_more, no_more-refl}
+use Rattle.ch_query.proofs.Turning.{turn-latest, turn-fits, turn-short, searching-turn, followed-turn, turn-more}
 use Rattle.ch_query.proofs.turn.turn.Goals as goal
 
 pub pass_over-requires-clause-latest : goal.pass_over-requires-clause-latest
@@ -37,4 +37,31 @@ returns-clause-searching c =
     let r : ℕ = c.in-Some.reached.rank in
     let e = c.in-Some.reached.label in
     let opened : IsOpenedBy h side r e.cost (set old r (Settled e)) c.pass_over.new.here = subst (λ (ms : List Mark). IsOpenedBy h side r e.cost ms c.pass_over.new.here) c.in-Some.ensures.settled c.in_ok-best.ensures.opened in
-    searching-turn h side c.args.climb.start old r e c.requires.searching c.in-Some.ensures.least c.pass_over.new.here opened c.requires.made c.in_ok-best.ensures.passed
+    searching-turn h side c.args.climb.start old r e c.requires.searching c.in-Some.ensures.least c.pass_over.new.here opened c.requires.made
+
+pub returns-clause-less : goal.returns-clause-less
+returns-clause-less c =
+    let h = c.args.hierarchy.now in
+    let side = c.args.climb.side in
+    let old : List Mark = c.args.here.now in
+    let r : ℕ = c.in-Some.reached.rank in
+    let e = c.in-Some.reached.label in
+    let opened : IsOpenedBy h side r e.cost (set old r (Settled e)) c.pass_over.new.here = subst (λ (ms : List Mark). IsOpenedBy h side r e.cost ms c.pass_over.new.here) c.in-Some.ensures.settled c.in_ok-best.ensures.opened in
+    best-no_more h (costs_of old) (costs_of c.pass_over.new.here) (costs_of c.args.there.now) (turn-more h side c.args.climb.start old r e c.requires.searching c.in-Some.ensures.least c.pass_over.new.here opened) c.args.best.now c.in_ok-best.field-0 c.requires.best c.in_ok-best.ensures.best
+
+pub returns-clause-followed : goal.returns-clause-followed
+returns-clause-followed c =
+    let h = c.args.hierarchy.now in
+    let side = c.args.climb.side in
+    let old : List Mark = c.args.here.now in
+    let r : ℕ = c.in-Some.reached.rank in
+    let e = c.in-Some.reached.label in
+    let opened : IsOpenedBy h side r e.cost (set old r (Settled e)) c.pass_over.new.here = subst (λ (ms : List Mark). IsOpenedBy h side r e.cost ms c.pass_over.new.here) c.in-Some.ensures.settled c.in_ok-best.ensures.opened in
+    let less = best-no_more h (costs_of old) (costs_of c.pass_over.new.here) (costs_of c.args.there.now) (turn-more h side c.args.climb.start old r e c.requires.searching c.in-Some.ensures.least c.pass_over.new.here opened) c.args.best.now c.in_ok-best.field-0 c.requires.best c.in_ok-best.ensures.best in
+    followed-turn h side c.args.climb.start old r e c.requires.searching c.in-Some.ensures.least c.pass_over.new.here opened (cost_of c.args.best.now) (cost_of c.in_ok-best.field-0) less c.requires.followed c.in_ok-best.ensures.passed
+
+pub returns-in_default-clause-less : goal.returns-in_default-clause-less
+returns-in_default-clause-less c = no_more-refl (cost_of c.args.best.now)
+
+pub returns-in_default-clause-followed : goal.returns-in_default-clause-followed
+returns-in_default-clause-followed c = subst (λ (ms : List Mark). AreFollowed c.args.hierarchy.now c.args.climb.side (cost_of c.args.best.now) ms) (sym c.in_default.ensures.unchanged) c.requires.followed
