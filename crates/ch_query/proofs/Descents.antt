@@ -1,5 +1,5 @@
 -- The links of a climb, from its top back to its start.
-use Rattle.std.proofs.Common.{ℕ, ◌≡◌, ◌<◌, List, [], ◌∷◌, ◌++◌, length, map, reverse, Option, Some, None, All, ap, refl, sym, subst, ◌∙◌, append_assoc}
+use Rattle.std.proofs.Common.{ℕ, zero, suc, ◌≡◌, ◌+◌, ◌<◌, arith, List, [], ◌∷◌, ◌++◌, length, map, reverse, Option, Some, None, All, ap, refl, sym, subst, ◌∙◌, append_assoc}
 use Rattle.std.proofs.lemmas.List.{append-nil, map-append, reverse-append}
 use Rattle.std.proofs.lemmas.List.Elements.{All-nil, All-cons, All-same, All-push, All-head, All-tail}
 use Rattle.ch_cost.specs.declared.cost.Cost.{Cost}
@@ -9,13 +9,16 @@ use Rattle.ch_graph.specs.declared.link.Link.{Link}
 use Rattle.ch_graph.specs.declared.hierarchy.LinkId.{LinkId}
 use Rattle.ch_graph.specs.Hierarchy.{Hierarchy, Chain, Chain.nothing, Chain.then, IsWellMade, IsRising, IsFalling, rank_of}
 use Rattle.ch_query.specs.declared.label.Label.{Label}
+use Rattle.ch_query.specs.declared.mark.Mark.{Mark}
 use Rattle.ch_query.specs.declared.side.Side.{Side}
 use Rattle.ch_query.specs.declared.side.Side.TheVariants.{Rise, Fall}
 use Rattle.ch_query.specs.Positions.{link_at}
-use Rattle.ch_query.specs.Climb.{foot_at, head_at, cost_at, ClimbsFrom, Descends, Descends.there, Descends.down}
-use Rattle.ch_query.specs.Labelling.{label_of, option_cost, option_link, costs_of, ComesBy, IsFrom, IsLabelling}
-use Rattle.ch_query.proofs.Sides.{link-among}
-use Rattle.ch_query.proofs.Finishing.{from_cost}
+use Rattle.ch_query.specs.Climb.{foot_at, head_at, foot_rank, cost_at, Climbs, ClimbsFrom, Descends, Descends.there, Descends.down}
+use Rattle.ch_query.specs.Marks.{label_at, option_link, costs_of}
+use Rattle.ch_query.specs.Searching.{ComesFrom, IsFrom, IsSearching}
+use Rattle.ch_query.proofs.Sides.{link-among, foot_in, head_in}
+use Rattle.ch_query.proofs.Ranks.{rank_below, same_node}
+use Rattle.ch_query.proofs.Marking.{from_cost, cost_is, label-settled}
 
 -- the links at these positions, in order
 abbrev pub links_at : Hierarchy → List LinkId → List Link
@@ -56,54 +59,106 @@ all-reverse P [] all = All-nil P
 all-reverse P (id ∷ ids) all = All-same P (reverse (id ∷ ids)) (reverse ids ++ id ∷ []) (reverse-append (id ∷ []) ids) (All-push P (reverse ids) id (all-reverse P ids (All-tail P id ids all)) (All-head P id ids all))
 
 -- a label that came by a link is that of the node below and of the link
-pub came_from : {h : Hierarchy} {side : Side} {start rank : ℕ} {labels : List (Option Label)} → IsLabelling h side start rank labels → (x k : ℕ) → option_link (label_of labels x) ≡ Some k → (e : Label) × (label_of labels x ≡ Some e) × ComesBy h side rank labels x e.cost k
-came_from {h} {side} {start} {rank} {labels} is x k by = pick (label_of labels x) refl by
+pub came_from : {h : Hierarchy} {side : Side} {start : ℕ} {marks : List Mark} → IsSearching h side start marks → (r k : ℕ) → option_link (label_at marks r) ≡ Some k → (e : Label) × (label_at marks r ≡ Some e) × ComesFrom h side marks r e.cost k
+came_from {h} {side} {start} {marks} is r k by = pick (label_at marks r) refl by
   where
-    pick : (o : Option Label) → label_of labels x ≡ o → option_link o ≡ Some k → (e : Label) × (label_of labels x ≡ Some e) × ComesBy h side rank labels x e.cost k
+    pick : (o : Option Label) → label_at marks r ≡ o → option_link o ≡ Some k → (e : Label) × (label_at marks r ≡ Some e) × ComesFrom h side marks r e.cost k
     pick None e by = absurd (cc)
-    pick (Some l) e by = (l, e, subst (λ (o : Option ℕ). IsFrom h side start rank labels x l.cost o) by (is.origin x l e))
+    pick (Some l) e by = (l, e, subst (λ (o : Option ℕ). IsFrom h side start marks r l.cost o) by (is.origin r l e))
 
--- The links so far lead from the top down to a node.
-pub record IsDescending (h : Hierarchy) (side : Side) (start : ℕ) (labels : List (Option Label)) (top node : ℕ) (ids : List LinkId) : Type 0 where
-  pub node_in : node < length h.ranks
-  pub joins : (c : Cost) → costs_of labels top ≡ Some c → (d : Cost) × (costs_of labels node ≡ Some d) × ((rest : List LinkId) → Descends h side start rest node d → Descends h side start (ids ++ rest) top c)
+-- the link at k climbs from its own foot
+own-foot : (h : Hierarchy) (side : Side) (k : ℕ) → Climbs h side k → ClimbsFrom h side (foot_at h side k) k
+own-foot h side k climbs = record { within = climbs.within; foot = refl; climbs = climbs.rises }
 
-pub descending-none : {h : Hierarchy} {side : Side} {start : ℕ} {labels : List (Option Label)} (top : ℕ) → top < length h.ranks → IsDescending h side start labels top top []
+-- some links of a climb lead to the node at this cost
+abbrev HasDescent : Hierarchy → Side → ℕ → ℕ → Cost → Type 0
+HasDescent h side start x c = (ids : List LinkId) × Descends h side start ids x c
+
+module _ (h : Hierarchy) (made : IsWellMade h) (side : Side) (start : ℕ) (start_in : start < length h.ranks) (marks : List Mark) (is : IsSearching h side start marks) where
+  descent_from : (x : ℕ) (c : Cost) (link : Option ℕ) → x < length h.ranks → ((y : ℕ) (e : Label) → y < length h.ranks → rank_of h y < rank_of h x → label_at marks (rank_of h y) ≡ Some e → HasDescent h side start y e.cost) → IsFrom h side start marks (rank_of h x) c link → HasDescent h side start x c
+  descent_from x c None x_in below from = ([], subst (λ y. Descends h side start [] y c) (sym (same_node h made x start x_in start_in from.0)) (subst (λ (d : Cost). Descends h side start [] start d) (sym from.1) there))
+  descent_from x c (Some k) x_in below from =
+      let id : LinkId = record { 0 = k } in
+      let foot : ℕ = foot_at h side k in
+      let within : k < length h.links = from.climbs.within in
+      let low : rank_of h foot < rank_of h x = subst (λ q. rank_of h foot < q) from.head from.climbs.rises in
+      let label = label-settled _ from.foot from.settled in
+      let rest : HasDescent h side start foot from.foot.cost = below foot from.foot (foot_in h made side k within) low label in
+      let step : Descends h side start (id ∷ rest.0) (head_at h side k) (from.foot.cost ⊕ cost_at h k) = down (own-foot h side k from.climbs) rest.1 in
+      let same : head_at h side k ≡ x = same_node h made (head_at h side k) x (head_in h made side k within) x_in from.head in
+      (id ∷ rest.0, subst (λ (d : Cost). Descends h side start (id ∷ rest.0) x d) (sym from.sum) (subst (λ y. Descends h side start (id ∷ rest.0) y (from.foot.cost ⊕ cost_at h k)) same step))
+
+  descent_within : (n x : ℕ) (e : Label) → x < length h.ranks → rank_of h x < n → label_at marks (rank_of h x) ≡ Some e → HasDescent h side start x e.cost
+  descent_within zero x e x_in low label = absurd (omega (arith, low))
+  descent_within (suc n) x e x_in low label = descent_from x e.cost e.link x_in (λ y d y_in lower at_y. descent_within n y d y_in (omega (arith, low, lower)) at_y) (is.origin (rank_of h x) e label)
+
+  pub descent_to : (x : ℕ) (c : Cost) → x < length h.ranks → costs_of marks (rank_of h x) ≡ Some c → (ids : List LinkId) × Descends h side start ids x c
+  descent_to x c x_in label =
+      let l = from_cost (label_at marks (rank_of h x)) c label in
+      subst (λ (d : Cost). HasDescent h side start x d) l.2 (descent_within (rank_of h x + 1) x l.0 x_in (omega arith) l.1)
+
+  -- each rank with a label is that of a node
+  pub node_of : (r : ℕ) (c : Cost) → costs_of marks r ≡ Some c → (x : ℕ) × (x < length h.ranks) × (rank_of h x ≡ r)
+  node_of r c label =
+      let l = from_cost (label_at marks r) c label in
+      pick l.0.cost l.0.link (is.origin r l.0 l.1)
+    where
+      pick : (d : Cost) (link : Option ℕ) → IsFrom h side start marks r d link → (x : ℕ) × (x < length h.ranks) × (rank_of h x ≡ r)
+      pick d None from = (start, start_in, sym from.0)
+      pick d (Some k) from = (head_at h side k, head_in h made side k from.climbs.within, from.head)
+
+-- The links so far lead from a node of the top rank down to one of this rank.
+pub record IsDescending (h : Hierarchy) (side : Side) (start : ℕ) (marks : List Mark) (top rank : ℕ) (ids : List LinkId) : Type 0 where
+  pub rank_in : rank < length h.ranks
+  pub joins : (x : ℕ) (c : Cost) → x < length h.ranks → rank_of h x ≡ top → costs_of marks top ≡ Some c → (y : ℕ) × (y < length h.ranks) × (rank_of h y ≡ rank) × (d : Cost) × (costs_of marks rank ≡ Some d) × ((rest : List LinkId) → Descends h side start rest y d → Descends h side start (ids ++ rest) x c)
+
+pub descending-none : {h : Hierarchy} {side : Side} {start : ℕ} {marks : List Mark} (top : ℕ) → top < length h.ranks → IsDescending h side start marks top top []
 descending-none top top_in = record {
-  node_in = top_in;
-  joins = λ c is. (c, is, λ rest below. below);
+  rank_in = top_in;
+  joins = λ x c x_in at label. (x, x_in, at, c, label, λ rest below. below);
 }
 
-pub descending-more : {h : Hierarchy} {side : Side} {start rank : ℕ} {labels : List (Option Label)} (made : IsWellMade h) → IsLabelling h side start rank labels → (top node k : ℕ) (ids : List LinkId) → option_link (label_of labels node) ≡ Some k → foot_at h side k < length h.ranks → IsDescending h side start labels top node ids → IsDescending h side start labels top (foot_at h side k) (ids ++ record { 0 = k } ∷ [])
-descending-more {h} {side} {start} {labels = labels} made is top node k ids by foot_in so_far =
-    let from = came_from is node k by in
+one_cost : (o : Option Cost) (c d : Cost) → o ≡ Some c → o ≡ Some d → c ≡ d
+one_cost o c d first second = cc
+
+pub descending-more : {h : Hierarchy} {side : Side} {start : ℕ} {marks : List Mark} (made : IsWellMade h) → IsSearching h side start marks → (top rank k : ℕ) (ids : List LinkId) → option_link (label_at marks rank) ≡ Some k → IsDescending h side start marks top rank ids → IsDescending h side start marks top (foot_rank h side k) (ids ++ record { 0 = k } ∷ [])
+descending-more {h} {side} {start} {marks} made is top rank k ids by so_far =
+    let from = came_from is rank k by in
     let comes = from.2 in
-    let foot : foot_at h side k ≡ comes.node = comes.climbs.foot in
+    let within : k < length h.links = comes.climbs.within in
     record {
-      node_in = foot_in;
-      joins = λ c at_top.
-          let old = so_far.joins c at_top in
-          let same : old.0 ≡ comes.cost ⊕ cost_at h k = label_cost (label_of labels node) from.0 old.0 from.1 old.1 ∙ comes.sum in (
-            comes.cost,
-            subst (λ y. costs_of labels y ≡ Some comes.cost) (sym foot) comes.labelled,
+      rank_in = rank_below h made (foot_at h side k) (foot_in h made side k within);
+      joins = λ x c x_in at label.
+          let old = so_far.joins x c x_in at label in
+          let y : ℕ = old.0 in
+          let d : Cost = old.3 in
+          let same : d ≡ comes.foot.cost ⊕ cost_at h k = one_cost (costs_of marks rank) d from.0.cost old.4 (cost_is marks rank from.0 from.1) ∙ comes.sum in
+          let head : head_at h side k ≡ y = same_node h made (head_at h side k) y (head_in h made side k within) old.1 (comes.head ∙ sym old.2) in (
+            foot_at h side k,
+            foot_in h made side k within,
+            refl,
+            comes.foot.cost,
+            cost_is marks (foot_rank h side k) comes.foot (label-settled _ comes.foot comes.settled),
             λ rest below.
                 let id : LinkId = record { 0 = k } in
-                let climbs : ClimbsFrom h side (foot_at h side k) k = subst (λ y. ClimbsFrom h side y k) (sym foot) comes.climbs in
-                let step : Descends h side start (id ∷ rest) (head_at h side k) (comes.cost ⊕ cost_at h k) = down climbs below in
-                let here : Descends h side start (id ∷ rest) node old.0 = subst (λ (d : Cost). Descends h side start (id ∷ rest) node d) (sym same) (subst (λ y. Descends h side start (id ∷ rest) y (comes.cost ⊕ cost_at h k)) comes.head step) in
-                subst (λ (is : List LinkId). Descends h side start is top c) (sym (append_assoc ids (id ∷ []) rest)) (old.2 (id ∷ rest) here),
+                let step : Descends h side start (id ∷ rest) (head_at h side k) (comes.foot.cost ⊕ cost_at h k) = down (own-foot h side k comes.climbs) below in
+                let here : Descends h side start (id ∷ rest) y d = subst (λ (e : Cost). Descends h side start (id ∷ rest) y e) (sym same) (subst (λ z. Descends h side start (id ∷ rest) z (comes.foot.cost ⊕ cost_at h k)) head step) in
+                subst (λ (is : List LinkId). Descends h side start is x c) (sym (append_assoc ids (id ∷ []) rest)) (old.5 (id ∷ rest) here),
           );
     }
-  where
-    label_cost : (o : Option Label) (e : Label) (d : Cost) → o ≡ Some e → option_cost o ≡ Some d → d ≡ e.cost
-    label_cost None e d is cost = absurd (cc)
-    label_cost (Some l) e d is cost = let same : l ≡ e = cc in let equal : l.cost ≡ d = cc in sym equal ∙ ap (λ (m : Label). m.cost) same
 
-pub descended : {h : Hierarchy} {side : Side} {start rank : ℕ} {labels : List (Option Label)} → IsLabelling h side start rank labels → (top node : ℕ) (ids : List LinkId) → option_link (label_of labels node) ≡ None → IsDescending h side start labels top node ids → (c : Cost) → costs_of labels top ≡ Some c → Descends h side start ids top c
-descended {h} {side} {start} {rank} {labels} is top node ids by so_far c at_top =
-    let old = so_far.joins c at_top in
-    let label = from_cost (label_of labels node) old.0 old.1 in
-    let no_link : label.0.link ≡ None = sym (ap option_link label.1) ∙ by in
-    let first = subst (λ (o : Option ℕ). IsFrom h side start rank labels node label.0.cost o) no_link (is.origin node label.0 label.1) in
-    let here : Descends h side start [] node old.0 = subst (λ y. Descends h side start [] y old.0) (sym first.0) (subst (λ (d : Cost). Descends h side start [] start d) (sym first.1 ∙ label.2) there) in
-    subst (λ (is : List LinkId). Descends h side start is top c) (append-nil ids) (old.2 [] here)
+-- the foot of the link has a lower rank
+pub foot_lower : {h : Hierarchy} {side : Side} {start : ℕ} {marks : List Mark} → IsSearching h side start marks → (r k : ℕ) → option_link (label_at marks r) ≡ Some k → foot_rank h side k < r
+foot_lower {h} {side} is r k by = let comes = (came_from is r k by).2 in subst (λ q. foot_rank h side k < q) comes.head comes.climbs.rises
+
+pub descended : {h : Hierarchy} {side : Side} {start : ℕ} {marks : List Mark} (made : IsWellMade h) → start < length h.ranks → IsSearching h side start marks → (top rank : ℕ) (ids : List LinkId) → option_link (label_at marks rank) ≡ None → IsDescending h side start marks top rank ids → (x : ℕ) (c : Cost) → x < length h.ranks → rank_of h x ≡ top → costs_of marks top ≡ Some c → Descends h side start ids x c
+descended {h} {side} {start} {marks} made start_in is top rank ids by so_far x c x_in at label =
+    let old = so_far.joins x c x_in at label in
+    let y : ℕ = old.0 in
+    let d : Cost = old.3 in
+    let l = from_cost (label_at marks rank) d old.4 in
+    let no_link : l.0.link ≡ None = sym (ap option_link l.1) ∙ by in
+    let first = subst (λ (o : Option ℕ). IsFrom h side start marks rank l.0.cost o) no_link (is.origin rank l.0 l.1) in
+    let same : y ≡ start = same_node h made y start old.1 start_in (old.2 ∙ first.0) in
+    let here : Descends h side start [] y d = subst (λ z. Descends h side start [] z d) (sym same) (subst (λ (e : Cost). Descends h side start [] start e) (sym first.1 ∙ l.2) there) in
+    subst (λ (is : List LinkId). Descends h side start is x c) (append-nil ids) (old.5 [] here)

@@ -1,5 +1,5 @@
 -- The last link that climbs from a node, among ever more links.
-use Rattle.std.proofs.Common.{ℕ, ◌≡◌, ◌+◌, ◌<◌, ◌≤◌, List, length, set, get_or, Option, Some, None, arith, sym, subst, ◌∙◌, inl, inr}
+use Rattle.std.proofs.Common.{ℕ, ◌≡◌, ◌+◌, ◌<◌, ◌≤◌, List, length, set, get_or, Option, Some, None, arith, refl, sym, subst, ◌∙◌, inl, inr}
 use Rattle.std.proofs.lemmas.Bool.{cases_eq, cases_lt}
 use Rattle.std.proofs.lemmas.List.{get_or-set_same, get_or-set_other, length-set}
 use Rattle.ch_graph.specs.Hierarchy.{Hierarchy, rank_of}
@@ -58,3 +58,12 @@ ladder-more h side n last before climbs foot_in is =
         | inr other ↦ subst (λ o. IsLast h side v j o) (sym (get_or-set_other before n j (get_or last foot None) None other)) (is.befores v j (omega (arith, below, other)) from)
       ];
     }
+
+-- what is left of a list of links from this one on
+abbrev pub steps_left : Option ℕ → ℕ
+steps_left None = 0
+steps_left (Some j) = j + 1
+
+pub fewer_left : {h : Hierarchy} {side : Side} {v : ℕ} (count : ℕ) (next : Option ℕ) → IsLast h side v count next → steps_left next < count + 1
+fewer_left count None last = omega arith
+fewer_left count (Some j) last = omega (arith, (last.climbs j refl).0)

@@ -1,11 +1,11 @@
 -- Labels that no link improves: every rise-fall walk has a node whose two labels cost no more than the walk.
-use Rattle.std.proofs.Common.{ℕ, ◌≡◌, List, ◌++◌, Option, Some, refl, sym, subst}
+use Rattle.std.proofs.Common.{ℕ, ◌≡◌, List, ◌++◌, Option, Some, None, refl, sym, subst, inl, inr}
 use Rattle.ch_cost.specs.declared.cost.Cost.{Cost}
-use Rattle.ch_cost.specs.Cost.{zero_cost, ◌⊕◌, ◌≼◌, IsNoLonger}
-use Rattle.ch_cost.specs.Cost.Laws.{sum_assoc, zero_cost-sum, at_most_refl, at_most_trans, at_most_sum_left, at_most_sum_right, sum_at_most, no_longer_at_most}
+use Rattle.ch_cost.specs.Cost.{zero_cost, ◌⊕◌, ◌≼◌, ◌≺◌}
+use Rattle.ch_cost.specs.Cost.Laws.{sum_assoc, zero_cost-sum, at_most_refl, at_most_trans, at_most_trans_below, cases_cost, at_most_sum_left, at_most_sum_right, sum_at_most, no_longer_at_most}
 use Rattle.ch_graph.specs.declared.link.Link.{Link}
 use Rattle.ch_graph.specs.Hierarchy.{Hierarchy, Chain, Chain.nothing, Chain.then, IsRising, IsFalling, IsRiseFall, HasRiseFall}
-use Rattle.ch_query.specs.Labels.{HasAtMost, AreUpLabels, AreDownLabels, Meets, LabelsAreRight}
+use Rattle.ch_query.specs.Labels.{HasAtMost, AreUpLabels, AreDownLabels, Meets, CountsBelow, StopIsRight}
 
 module _ (h : Hierarchy) (Counts : Cost → Type 0) (counts_less : (c d : Cost) → c ≼ d → Counts d → Counts c) where
   -- the end of a rise from a labelled node has a label that costs no more
@@ -74,18 +74,38 @@ meeting_walk rises falls x c meeting =
       short = meeting.short;
     }
 
-short_meeting : {h : Hierarchy} {s t : ℕ} {up down : ℕ → Option Cost} → AreUpLabels h (λ c. IsNoLonger c h.bound) s up → AreDownLabels h (λ c. IsNoLonger c h.bound) t down → {c : Cost} → HasRiseFall h s t c → (x : ℕ) × (d : Cost) × Meets h up down x d × (d ≼ c)
-short_meeting {h} {up = up} {down = down} rises falls {c} walk =
-    let Counts : Cost → Type 0 = λ (d : Cost). IsNoLonger d h.bound in
-    let below = meets_below h Counts (λ d e less short. no_longer_at_most less short) rises falls walk.leads walk.short in
+-- what costs less than one that counts, counts too
+counts_less : (h : Hierarchy) (best : Option Cost) (c d : Cost) → c ≼ d → CountsBelow h best d → CountsBelow h best c
+counts_less h best c d less counts = record {
+  short = no_longer_at_most less counts.short;
+  below = λ b is. at_most_trans_below less (counts.below b is);
+}
+
+short_meeting : {h : Hierarchy} {best : Option Cost} {s t : ℕ} {up down : ℕ → Option Cost} → AreUpLabels h (CountsBelow h best) s up → AreDownLabels h (CountsBelow h best) t down → {c : Cost} → HasRiseFall h s t c → CountsBelow h best c → (x : ℕ) × (d : Cost) × Meets h up down x d × (d ≼ c)
+short_meeting {h} {best} {up = up} {down = down} rises falls {c} walk counts =
+    let below = meets_below h (CountsBelow h best) (counts_less h best) rises falls walk.leads counts in
     let meeting : Meets h up down below.node (below.rise ⊕ below.fall) = record { rise = below.rise; fall = below.fall; risen = below.risen; fallen = below.fallen; sum = refl; short = no_longer_at_most below.less walk.short } in
     (below.node, below.rise ⊕ below.fall, meeting, below.less)
 
-pub labels_right : LabelsAreRight
-labels_right h s t up down rises falls = record {
-  value = λ x c meeting least. (
-    meeting_walk rises falls x c meeting,
-    λ d walk. let other = short_meeting rises falls walk in at_most_trans (least other.0 other.1 other.2) other.3,
-  );
-  none = λ never c walk. let other = short_meeting rises falls walk in never other.0 other.1 other.2;
-}
+some_same : (b a : Cost) → Some b ≡ Some a → b ≡ a
+some_same b a is = cc
+
+some_none : (a : Cost) → None ≡ Some a → ⊥
+some_none a is = cc
+
+-- a walk below the best sum would have a node whose labels make no more
+pub stop_right : StopIsRight
+stop_right h s t up down None rises falls is = λ c walk.
+    let counts : CountsBelow h None c = record { short = walk.short; below = λ b none_is. absurd (some_none b none_is) } in
+    let meeting = short_meeting rises falls walk counts in
+    is meeting.1 (meeting.0, meeting.2)
+stop_right h s t up down (Some b) rises falls is = (
+  meeting_walk rises falls is.0.0 b is.0.1,
+  λ d walk. elim (cases_cost d b) [
+    | inl below ↦
+        let counts : CountsBelow h (Some b) d = record { short = walk.short; below = λ a same. subst (λ (e : Cost). d ≺ e) (some_same b a same) below } in
+        let meeting = short_meeting rises falls walk counts in
+        at_most_trans (is.1 meeting.1 (meeting.0, meeting.2)) meeting.3
+    | inr most ↦ most
+  ],
+)

@@ -29,6 +29,18 @@ head_at h side k = head_of side (link_at h k)
 abbrev pub cost_at : Hierarchy → ℕ → Cost
 cost_at h k = (link_at h k).cost
 
+-- the ranks of the two ends
+abbrev pub foot_rank : Hierarchy → Side → ℕ → ℕ
+foot_rank h side k = rank_of h (foot_at h side k)
+
+abbrev pub head_rank : Hierarchy → Side → ℕ → ℕ
+head_rank h side k = rank_of h (head_at h side k)
+
+-- the link at this position leads up in rank
+pub record Climbs (h : Hierarchy) (side : Side) (k : ℕ) : Type 0 where
+  pub within : k < length h.links
+  pub rises : foot_rank h side k < head_rank h side k
+
 -- the link at this position leads from the node v to one of higher rank
 pub record ClimbsFrom (h : Hierarchy) (side : Side) (v k : ℕ) : Type 0 where
   pub within : k < length h.links

@@ -1,8 +1,9 @@
 -- Labels of the nodes: what a rise from s to a node costs, and what a fall from it to t costs.
-use Rattle.std.specs.Prelude.{ℕ, ◌≡◌, List, Option, Some, None}
+use Rattle.std.specs.Prelude.{ℕ, ◌≡◌, List, Option, Some}
 use Rattle.ch_cost.specs.declared.cost.Cost.{Cost}
-use Rattle.ch_cost.specs.Cost.{zero_cost, ◌⊕◌, ◌≼◌, IsNoLonger}
+use Rattle.ch_cost.specs.Cost.{zero_cost, ◌⊕◌, ◌≼◌, ◌≺◌, IsNoLonger}
 use Rattle.ch_graph.specs.declared.link.Link.{Link}
+use Rattle.ch_graph.specs.Walk.{IsLeastOrNone}
 use Rattle.ch_graph.specs.Hierarchy.{Hierarchy, Chain, IsRising, IsFalling, IsValue}
 
 -- the node has a label, of at most this cost
@@ -36,11 +37,15 @@ pub record AreShort (h : Hierarchy) (up down : Option Cost) (c : Cost) : Type 0 
 abbrev pub Meets : Hierarchy → (ℕ → Option Cost) → (ℕ → Option Cost) → ℕ → Cost → Type 0
 Meets h up down x c = AreShort h (up x) (down x) c
 
--- The least sum of two labels is the value, and where no node has two labels there is none.
-pub record LabelsGive (h : Hierarchy) (s t : ℕ) (up down : ℕ → Option Cost) : Type 0 where
-  pub value : (x : ℕ) (c : Cost) → Meets h up down x c → ((y : ℕ) (d : Cost) → Meets h up down y d → c ≼ d) → IsValue h s t (Some c)
-  pub none : ((y : ℕ) (d : Cost) → Meets h up down y d → ⊥) → IsValue h s t None
+-- the least sum of two labels, or none where no node has two
+abbrev pub IsBest : Hierarchy → (ℕ → Option Cost) → (ℕ → Option Cost) → Option Cost → Type 0
+IsBest h up down = IsLeastOrNone (λ (c : Cost). (x : ℕ) × Meets h up down x c)
 
--- labels for which each length up to the bound counts give the value
-abbrev pub LabelsAreRight : Type 0
-LabelsAreRight = (h : Hierarchy) (s t : ℕ) (up down : ℕ → Option Cost) → AreUpLabels h (λ c. IsNoLonger c h.bound) s up → AreDownLabels h (λ c. IsNoLonger c h.bound) t down → LabelsGive h s t up down
+-- a cost counts where its length is within the bound, and it is below the best sum
+pub record CountsBelow (h : Hierarchy) (best : Option Cost) (c : Cost) : Type 0 where
+  pub short : IsNoLonger c h.bound
+  pub below : (b : Cost) → best ≡ Some b → c ≺ b
+
+-- labels that no link improves below their best sum give the value as that sum: a side may stop there
+abbrev pub StopIsRight : Type 0
+StopIsRight = (h : Hierarchy) (s t : ℕ) (up down : ℕ → Option Cost) (best : Option Cost) → AreUpLabels h (CountsBelow h best) s up → AreDownLabels h (CountsBelow h best) t down → IsBest h up down best → IsValue h s t best

@@ -1,9 +1,7 @@
 -- What a search keeps of a hierarchy: its nodes by rank, and its links by the node that a side climbs them from.
 use Rattle.std.specs.Prelude.{ℕ, ◌≡◌, ◌<◌, ◌≤◌, List, length, slice_index, slice_index_or, Option, Some, None}
 use Rattle.ch_graph.specs.Hierarchy.{Hierarchy, rank_of}
-use Rattle.ch_query.specs.declared.ladder.Ladder.{Ladder}
 use Rattle.ch_query.specs.declared.side.Side.{Side}
-use Rattle.ch_query.specs.declared.side.Side.TheVariants.{Rise, Fall}
 use Rattle.ch_query.specs.Climb.{ClimbsFrom}
 
 -- the nodes, each at the place of its rank
@@ -32,9 +30,3 @@ pub record IsLadderOf (count : ℕ) (h : Hierarchy) (side : Side) (last before :
 
 abbrev pub IsLadder : Hierarchy → Side → List (Option ℕ) → List (Option ℕ) → Type 0
 IsLadder h side last before = IsLadderOf (length h.links) h side last before
-
--- what a search keeps: the nodes by rank, and the links of either side
-pub record IsReady (h : Hierarchy) (order : List ℕ) (rising falling : Ladder) : Type 0 where
-  pub by_rank : IsByRank h order
-  pub rises : IsLadder h Rise rising.last.items rising.before.items
-  pub falls : IsLadder h Fall falling.last.items falling.before.items

@@ -2,5 +2,9 @@ pub mod Labels
 pub mod Positions
 pub mod Climb
 pub mod Ladder
-pub mod Labelling
+pub mod Upward
+pub mod Marks
+pub mod Front
+pub mod Ready
+pub mod Searching
 pub mod Meeting

@@ -1,40 +1,46 @@
-ghost use Rattle.std.specs.Prelude.{◌<◌, ◌≡◌, Some, length, IfOk};
+ghost use Rattle.std.specs.Prelude.{◌<◌, ◌≡◌, ℕ, Some, length, IfOk};
 ghost use Rattle.ch_cost.specs.declared.cost.Cost.{Cost as cost};
+ghost use Rattle.ch_graph.specs.Hierarchy.{IsWellMade, rank_of};
 ghost use Rattle.ch_query.specs.Climb.{Descends};
-ghost use Rattle.ch_query.specs.Labelling.{label_of, costs_of, option_link, IsClimb};
+ghost use Rattle.ch_query.specs.Marks.{label_at, costs_of, option_link};
+ghost use Rattle.ch_query.specs.Searching.{IsSearching};
 
-use crate::label::Label;
-use crate::labels::Climb;
+use crate::frontier::Frontier;
 use crate::position::link_at;
+use crate::side::Climb;
 use ch_graph::{Hierarchy, LinkId};
 use std::alloc::{AllocError, Global};
 
-/// The links by which a side came to a node, from that node back to the side's start.
+/// The links by which a side came to the node of a rank, from that node back to the side's start.
 pub fn descent(
     alloc: Global,
     hierarchy: &Hierarchy,
-    climb: &Climb,
+    climb: Climb,
+    frontier: &Frontier,
     top: u32,
 ) -> Result<Vec<LinkId>, AllocError>
-    requires climb { IsClimb hierarchy.now climb.now }
+    requires made { IsWellMade hierarchy.now }
+    requires searching { IsSearching hierarchy.now climb.side climb.start frontier.now }
+    requires start_in { climb.start < length hierarchy.now.ranks }
     requires top_in { top < length hierarchy.now.ranks }
-    ensures { IfOk result (λ ids. (c : cost) → costs_of climb.now.labels.items top ≡ Some c → Descends hierarchy.now climb.now.side climb.now.start ids.items top c) }
+    ensures { IfOk result (λ ids. (x : ℕ) → (c : cost) → x < length hierarchy.now.ranks → rank_of hierarchy.now x ≡ top → costs_of frontier.now top ≡ Some c → Descends hierarchy.now climb.side climb.start ids.items x c) }
 {
     let mut ids = Vec::new(alloc);
-    let mut node = top;
-    'links: while let Some(at) = came_by(&climb.labels, node) {
+    let mut rank = top;
+    'links: while let Some(at) = came_by(frontier, rank) {
         ids.push(LinkId(at))?;
-        node = climb.side.foot(link_at(hierarchy, at));
+        let foot = climb.side.foot(link_at(hierarchy, at));
+        rank = hierarchy.rank(foot);
     }
     Ok(ids)
 }
 
-/// The link by which a node got its label, if it has a label and isn't the start.
-fn came_by(labels: &[Option<Label>], node: u32) -> Option<usize>
-    requires { node < length labels.now }
-    ensures { result ≡ option_link (label_of labels.now node) }
+/// The link by which the node of a rank got its label, if it has a label and isn't the start.
+fn came_by(frontier: &Frontier, rank: u32) -> Option<usize>
+    requires { rank < length frontier.now }
+    ensures { result ≡ option_link (label_at frontier.now rank) }
 {
-    match labels[node as usize] {
+    match frontier.label(rank) {
         Some(label) => label.link,
         None => None,
     }

@@ -4,21 +4,29 @@
 //! main type is [`Search`]. The promise of the layer is the contract of [`Search::distance`]: the cost is the value
 //! of the hierarchy for the two nodes, none exactly where it has none, and the links are a rise-fall walk of that
 //! cost. A query has two sides, one from the source along links that rise, and one from the target against links
-//! that fall. Both climb in rank, so one program serves them: [`labels::Climb`] labels the nodes of a side, and
-//! [`meeting::least_meeting`] finds where the sides meet. Why that gives the value is the law
-//! [`labels_are_right`], which any other way to label has to meet too.
+//! that fall. Both climb in rank, so one program serves them: [`upward::UpwardSteps`] are the links that a side
+//! climbs, by the rank of their feet; a [`frontier::Frontier`] holds what a side knows of the nodes, and settles the
+//! least open one; [`turn::turn`] follows its links and looks where the sides meet; and
+//! [`meet::meet`] lets the sides take turns, until neither has an open node below the best meeting. Why that gives
+//! the value is the law [`labels_are_right`], which any other way to label has to meet too. A call costs what it
+//! touches: marks and queues are kept between calls.
 #![tactic(auto)]
 
 mod descent;
+mod frontier;
 mod label;
-mod labels;
 mod ladder;
 mod laws;
+mod limit;
+mod mark;
+mod meet;
 mod meeting;
 mod order;
 mod position;
 mod search;
 mod side;
+mod turn;
+mod upward;
 
 pub use laws::labels_are_right;
 pub use search::{Found, Search};

@@ -1,17 +1,19 @@
 ghost use Rattle.std.specs.Prelude.{◌≡◌, ◌<◌, length, option_map, IfOk, IfSome};
-ghost use Rattle.ch_graph.specs.Hierarchy.{IsValue};
+ghost use Rattle.ch_graph.specs.Hierarchy.{IsWellMade, IsValue};
 ghost use Rattle.ch_graph.specs.Unfolding.{Joined};
 ghost use Rattle.ch_query.specs.declared.side.Side.TheVariants.{Rise, Fall};
 ghost use Rattle.ch_query.specs.Labels.{Meets};
-ghost use Rattle.ch_query.specs.Labelling.{costs_of, AreLabels};
+ghost use Rattle.ch_query.specs.Marks.{costs_of};
+ghost use Rattle.ch_query.specs.Searching.{IsSearching};
 ghost use Rattle.ch_query.specs.Positions.{IsRiseFallAt};
 
 use crate::descent::descent;
-use crate::labels::Climb;
-use crate::ladder::Ladder;
-use crate::meeting::{Meeting, least_meeting};
+use crate::frontier::Frontier;
+use crate::meet::meet;
+use crate::meeting::Meeting;
 use crate::order::nodes_by_rank;
-use crate::side::Side;
+use crate::side::{Climb, Side};
+use crate::upward::UpwardSteps;
 use ch_cost::Cost;
 use ch_graph::{Hierarchy, LinkId};
 use std::alloc::{AllocError, Global};
@@ -29,25 +31,27 @@ pub struct Found {
 
 /// Answers queries of one hierarchy.
 ///
-/// It keeps the hierarchy's nodes in the order of their ranks, and its links by their ends: 36 bytes a node and 32 a
-/// link. No call changes it, so after a call that ran out of memory it answers as a new one.
+/// It keeps for either side the steps over the links that it climbs and a mark for each node, both by rank: about 80
+/// bytes a node and 24 a link. The marks, queues and lists of one call are kept for the next,
+/// which takes back what the one before it touched. So after a call that ran out of memory it answers as a new one.
 #[derive(Drop)]
 pub struct Search<'a> {
     hierarchy: &'a Hierarchy,
-    order: Vec<u32>,
-    rising: Ladder,
-    falling: Ladder,
+    rising: UpwardSteps,
+    falling: UpwardSteps,
+    up: Frontier,
+    down: Frontier,
 }
 
 impl<'a> Model for Search<'a> {
     ghost use Rattle.ch_graph.specs.Hierarchy as hierarchies;
-    ghost use Rattle.ch_query.specs.Ladder.{IsReady};
+    ghost use Rattle.ch_query.specs.Ready.{IsReady};
 
     ghost Value = { hierarchies.Hierarchy };
 
     ghost view = { λ s. s.hierarchy.now };
 
-    ghost invariant = { λ s. IsReady s.hierarchy.now s.order.items s.rising s.falling };
+    ghost invariant = { λ s. IsReady s.hierarchy.now s.rising.first.items s.rising.steps.items s.falling.first.items s.falling.steps.items s.up s.down };
 }
 
 impl<'a> Search<'a> {
@@ -56,22 +60,25 @@ impl<'a> Search<'a> {
         ensures { IfOk result (λ search. search ≡ hierarchy.now) }
     {
         let order = nodes_by_rank(alloc, hierarchy)?;
-        let rising = Ladder::new(alloc, hierarchy, Side::Rise)?;
-        let falling = Ladder::new(alloc, hierarchy, Side::Fall)?;
+        let rising = UpwardSteps::new(alloc, hierarchy, &order, Side::Rise)?;
+        let falling = UpwardSteps::new(alloc, hierarchy, &order, Side::Fall)?;
+        let up = Frontier::new(alloc, hierarchy.nodes())?;
+        let down = Frontier::new(alloc, hierarchy.nodes())?;
         Ok(Search {
             hierarchy,
-            order,
             rising,
             falling,
+            up,
+            down,
         })
     }
 
     /// The least rise-fall walk from `source` to `target`: links that first rise in rank and then fall, of a length
     /// within the hierarchy's bound. None where there is no such walk.
     ///
-    /// From a node to itself it is the walk of no link, at no cost. Both nodes are numbered from 0. Takes time linear
-    /// in nodes and links, and memory linear in nodes: this is the plain program, which labels every node that
-    /// either side comes to.
+    /// From a node to itself it is the walk of no link, at no cost. Both nodes are numbered from 0. A call costs what
+    /// it touches: each side settles its nodes in the order of their costs, by a heap, and stops where the next one
+    /// costs as much as the best walk so far. Memory is taken by the number of nodes that a call comes to, and kept.
     pub fn distance(&mut self, source: u32, target: u32) -> Result<Option<Found>, AllocError>
         requires source_in { source < length self.old.ranks }
         requires target_in { target < length self.old.ranks }
@@ -80,67 +87,60 @@ impl<'a> Search<'a> {
         ensures joined { IfOk result (λ found. IfSome found (λ f. Joined self.old source f.links.items)) }
         ensures kept { self.new ≡ self.old }
     {
-        let alloc = *self.order.allocator();
+        let alloc = *self.rising.first.allocator();
         let hierarchy = self.hierarchy;
-        let up = Climb::new(
-            alloc,
+        self.up.clear();
+        self.down.clear();
+        let best = meet(
             hierarchy,
-            &self.order,
             &self.rising,
-            Side::Rise,
-            source,
-        )?;
-        let down = Climb::new(
-            alloc,
-            hierarchy,
-            &self.order,
             &self.falling,
-            Side::Fall,
+            source,
             target,
+            &mut self.up,
+            &mut self.down,
         )?;
-        least_walk(alloc, hierarchy, &up, &down)
+        let Some(meeting) = best else {
+            return Ok(None);
+        };
+        let found = walk_over(
+            alloc, hierarchy, source, target, &self.up, &self.down, meeting,
+        )?;
+        Ok(Some(found))
     }
-}
-
-/// The least walk over a node where the two sides meet.
-fn least_walk(
-    alloc: Global,
-    hierarchy: &Hierarchy,
-    up: &Climb,
-    down: &Climb,
-) -> Result<Option<Found>, AllocError>
-    requires up { AreLabels hierarchy.now Rise up.now }
-    requires down { AreLabels hierarchy.now Fall down.now }
-    ensures value { IfOk result (λ found. IsValue hierarchy.now up.now.start down.now.start (option_map (λ f. f.cost) found)) }
-    ensures walk { IfOk result (λ found. IfSome found (λ f. IsRiseFallAt hierarchy.now f.links.items up.now.start down.now.start f.cost)) }
-    ensures joined { IfOk result (λ found. IfSome found (λ f. Joined hierarchy.now up.now.start f.links.items)) }
-{
-    let Some(meeting) = least_meeting(hierarchy, &up.labels, &down.labels) else {
-        return Ok(None);
-    };
-    let found = walk_over(alloc, hierarchy, up, down, meeting)?;
-    Ok(Some(found))
 }
 
 /// The walk up to a node where the sides meet, and down from it.
 fn walk_over(
     alloc: Global,
     hierarchy: &Hierarchy,
-    up: &Climb,
-    down: &Climb,
+    source: u32,
+    target: u32,
+    up: &Frontier,
+    down: &Frontier,
     meeting: Meeting,
 ) -> Result<Found, AllocError>
-    requires up { AreLabels hierarchy.now Rise up.now }
-    requires down { AreLabels hierarchy.now Fall down.now }
-    requires meets { Meets hierarchy.now (costs_of up.now.labels.items) (costs_of down.now.labels.items) meeting.node meeting.cost }
-    requires node_in { meeting.node < length hierarchy.now.ranks }
+    requires made { IsWellMade hierarchy.now }
+    requires source_in { source < length hierarchy.now.ranks }
+    requires target_in { target < length hierarchy.now.ranks }
+    requires rises { IsSearching hierarchy.now Rise source up.now }
+    requires falls { IsSearching hierarchy.now Fall target down.now }
+    requires meets { Meets hierarchy.now (costs_of up.now) (costs_of down.now) meeting.rank meeting.cost }
     ensures cost { IfOk result (λ f. f.cost ≡ meeting.cost) }
-    ensures walk { IfOk result (λ f. IsRiseFallAt hierarchy.now f.links.items up.now.start down.now.start meeting.cost) }
-    ensures joined { IfOk result (λ f. Joined hierarchy.now up.now.start f.links.items) }
+    ensures walk { IfOk result (λ f. IsRiseFallAt hierarchy.now f.links.items source target meeting.cost) }
+    ensures joined { IfOk result (λ f. Joined hierarchy.now source f.links.items) }
 {
-    let mut links = descent(alloc, hierarchy, up, meeting.node)?;
+    let rise = Climb {
+        side: Side::Rise,
+        start: source,
+    };
+    let fall = Climb {
+        side: Side::Fall,
+        start: target,
+    };
+    let mut links = descent(alloc, hierarchy, rise, up, meeting.rank)?;
     links.reverse();
-    let falling = descent(alloc, hierarchy, down, meeting.node)?;
+    let falling = descent(alloc, hierarchy, fall, down, meeting.rank)?;
     links.extend_from_slice(&falling)?;
     Ok(Found {
         cost: meeting.cost,

@@ -1,0 +1,169 @@
+-- The links that climb from a node, followed one by one.
+use Rattle.std.proofs.Common.{ℕ, ◌≡◌, ◌+◌, ◌<◌, ◌≤◌, List, length, get_or, set, Option, Some, None, ap, refl, sym, subst, ◌∙◌, inl, inr, arith}
+use Rattle.std.proofs.lemmas.Bool.{cases_lt}
+use Rattle.std.proofs.lemmas.List.{length-set, get_or_default}
+use Rattle.ch_cost.specs.declared.cost.Cost.{Cost}
+use Rattle.ch_cost.specs.Cost.{◌⊕◌, ◌≼◌}
+use Rattle.ch_cost.specs.Cost.Laws.{at_most_refl, at_most_trans, at_most_sum_left, below_trans_at_most}
+use Rattle.ch_graph.specs.Hierarchy.{Hierarchy, IsWellMade, rank_of}
+use Rattle.ch_query.specs.declared.label.Label.{Label}
+use Rattle.ch_query.specs.declared.mark.Mark.{Mark}
+use Rattle.ch_query.specs.declared.mark.Mark.TheVariants.{Open, Settled}
+use Rattle.ch_query.specs.declared.side.Side.{Side}
+use Rattle.ch_query.specs.declared.upward.Step.{Step}
+use Rattle.ch_query.specs.Labels.{HasAtMost, CountsBelow}
+use Rattle.ch_query.specs.Climb.{foot_at, foot_rank, head_rank, cost_at, Climbs, ClimbsFrom}
+use Rattle.ch_query.specs.Upward.{steps_of, AreStepsFrom, IsLaidOut}
+use Rattle.ch_query.specs.Marks.{mark_at, costs_of, Improves, IsBelow, IsNoMore}
+use Rattle.ch_query.specs.Searching.{IsStep, IsFollowed, IsLatest, ClimbsTo, IsOpenedBy, ArePassed}
+use Rattle.ch_query.proofs.Sides.{foot_in}
+use Rattle.ch_query.proofs.Ranks.{same_node, rank_taken}
+use Rattle.ch_query.proofs.Laying.{steps_are, one_step, each_link}
+use Rattle.ch_query.proofs.Marking.{cases_write, open-settled, open-open, not_improves, improves-unsettled, improves-not_settled, count-open, open-here, open-kept}
+
+pub opened-none : (h : Hierarchy) (side : Side) (r : ℕ) (c : Cost) (marks : List Mark) → IsOpenedBy h side r c marks marks
+opened-none h side r c marks = record {
+  nodes = refl;
+  count = refl;
+  stays = λ q d is. is;
+  settled = λ q d is. is;
+  opened = λ q d is. inl is;
+  kept = λ q a has. has;
+}
+
+pub opened-more : {h : Hierarchy} {side : Side} {r : ℕ} {c : Cost} {old mid new : List Mark} → IsOpenedBy h side r c old mid → IsOpenedBy h side r c mid new → IsOpenedBy h side r c old new
+opened-more first second = record {
+  nodes = second.nodes ∙ first.nodes;
+  count = second.count ∙ first.count;
+  stays = λ q d is. second.stays q d (first.stays q d is);
+  settled = λ q d is. first.settled q d (second.settled q d is);
+  opened = λ q d is. elim (second.opened q d is) [
+    | inl there ↦ first.opened q d there
+    | inr climbs ↦ inr climbs
+  ];
+  kept = λ q a has. second.kept q a (first.kept q a has);
+}
+
+-- the node of rank q is opened with the label e, to which a link leads
+pub opened-one : (h : Hierarchy) (side : Side) (r : ℕ) (c : Cost) (marks : List Mark) (q : ℕ) (e : Label) → q < length marks → Improves e.cost (mark_at marks q) → ClimbsTo h side r c q e → IsOpenedBy h side r c marks (set marks q (Open e))
+opened-one h side r c marks q e within improves climbs = record {
+  nodes = length-set marks q (Open e);
+  count = count-open marks q e within (improves-unsettled (mark_at marks q) e.cost improves);
+  stays = λ p d closed. elim (cases_write marks q (Open e) p within) [
+    | inl w ↦ absurd (improves-not_settled (mark_at marks q) e.cost d improves (subst (λ x. mark_at marks x ≡ Settled d) w.at closed))
+    | inr k ↦ k.reads ∙ closed
+  ];
+  settled = λ p d closed. elim (cases_write marks q (Open e) p within) [
+    | inl w ↦ absurd (open-settled (sym w.reads ∙ closed))
+    | inr k ↦ sym k.reads ∙ closed
+  ];
+  opened = λ p d opens. elim (cases_write marks q (Open e) p within) [
+    | inl w ↦ inr (subst (λ x. ClimbsTo h side r c x d) (sym w.at) (subst (λ (l : Label). ClimbsTo h side r c q l) (open-open (sym w.reads ∙ opens)) climbs))
+    | inr k ↦ inl (sym k.reads ∙ opens)
+  ];
+  kept = open-kept marks q e within improves;
+}
+
+-- a link was followed: its head got the label
+pub followed-put : (h : Hierarchy) (side : Side) (c : Cost) (limit : Option Cost) (marks : List Mark) (k : ℕ) (head : ℕ) (e : Label) → head < length marks → Improves e.cost (mark_at marks head) → head ≡ head_rank h side k → e.cost ≡ c ⊕ cost_at h k → IsFollowed h side c limit (set marks head (Open e)) k
+followed-put h side c limit marks k head e within improves at sum counts =
+    let here : HasAtMost (costs_of (set marks head (Open e))) head (c ⊕ cost_at h k) = record {
+      cost = e.cost;
+      labelled = open-here marks head e within improves;
+      at_most = subst (λ (d : Cost). e.cost ≼ d) sum (at_most_refl e.cost);
+    } in
+    subst (λ x. HasAtMost (costs_of (set marks head (Open e))) x (c ⊕ cost_at h k)) at here
+
+-- or it had one of no more
+pub followed-kept : (h : Hierarchy) (side : Side) (c : Cost) (limit : Option Cost) (marks : List Mark) (k : ℕ) (head : ℕ) (sum : Cost) → (Improves sum (mark_at marks head) → ⊥) → IsLatest marks c → head ≡ head_rank h side k → sum ≡ c ⊕ cost_at h k → IsFollowed h side c limit marks k
+followed-kept h side c limit marks k head sum never latest at is_sum counts =
+    let above : (e : Label) → mark_at marks head ≡ Settled e → e.cost ≼ sum = λ e closed. at_most_trans (latest head e closed) (subst (λ (d : Cost). c ≼ d) (sym is_sum) (at_most_sum_left c (cost_at h k))) in
+    let label = not_improves (mark_at marks head) sum never above in
+    let here : HasAtMost (costs_of marks) head (c ⊕ cost_at h k) = record { cost = label.0; labelled = label.1; at_most = subst (λ (d : Cost). label.0 ≼ d) is_sum label.2 } in
+    subst (λ x. HasAtMost (costs_of marks) x (c ⊕ cost_at h k)) at here
+
+-- what counts below a lesser limit counts below the greater one
+pub counts-more : (h : Hierarchy) {less more : Option Cost} {c : Cost} → IsNoMore less more → CountsBelow h less c → CountsBelow h more c
+counts-more h no_more counts = record {
+  short = counts.short;
+  below = λ a is. let limit = no_more a is in below_trans_at_most (counts.below limit.0 limit.1) limit.2;
+}
+
+pub below-from_counts : (h : Hierarchy) (limit : Option Cost) (c : Cost) → CountsBelow h limit c → IsBelow c limit
+below-from_counts h None c counts = tt
+below-from_counts h (Some b) c counts = counts.below b refl
+
+pub followed-more : {h : Hierarchy} {side : Side} {r : ℕ} {c : Cost} {limit found : Option Cost} {mid new : List Mark} → IsOpenedBy h side r c mid new → IsNoMore found limit → (k : ℕ) → IsFollowed h side c limit mid k → IsFollowed h side c found new k
+followed-more {h} {side} {c = c} opened less k done counts = opened.kept (head_rank h side k) (c ⊕ cost_at h k) (done (counts-more h less counts))
+
+-- settled labels are above none that is followed
+pub latest-more : {h : Hierarchy} {side : Side} {r : ℕ} {c : Cost} {old new : List Mark} → IsOpenedBy h side r c old new → IsLatest old c → IsLatest new c
+latest-more opened latest q d closed = latest q d (opened.settled q d closed)
+
+-- Links by their feet
+
+-- a link that climbs from a node, climbs; and one that climbs from the rank of a node, climbs from it
+pub climbs-from : {h : Hierarchy} {side : Side} {v k : ℕ} → ClimbsFrom h side v k → Climbs h side k
+climbs-from {h} {side} {v} {k} from = record { within = from.within; rises = subst (λ x. rank_of h x < head_rank h side k) (sym from.foot) from.climbs }
+
+pub foot-from : {h : Hierarchy} {side : Side} {v k : ℕ} → ClimbsFrom h side v k → foot_rank h side k ≡ rank_of h v
+foot-from {h} from = ap (rank_of h) from.foot
+
+pub from-climbs : (h : Hierarchy) → IsWellMade h → (side : Side) (v k : ℕ) → v < length h.ranks → Climbs h side k → foot_rank h side k ≡ rank_of h v → ClimbsFrom h side v k
+from-climbs h made side v k v_in climbs foot = record {
+  within = climbs.within;
+  foot = same_node h made (foot_at h side k) v (foot_in h made side k climbs.within) v_in foot;
+  climbs = subst (λ q. q < head_rank h side k) foot climbs.rises;
+}
+
+-- The steps of a rank are followed one by one: those before the next one were.
+pub record IsPassing (h : Hierarchy) (side : Side) (r : ℕ) (c : Cost) (steps : List Step) (next : ℕ) (limit : Option Cost) (old new : List Mark) : Type 0 where
+  pub opened : IsOpenedBy h side r c old new
+  pub followed : (i : ℕ) (s : Step) → i < length steps → i < next → IsFollowed h side c limit new (get_or steps i s).link
+
+pub passing-none : (h : Hierarchy) (side : Side) (r : ℕ) (c : Cost) (steps : List Step) (limit : Option Cost) (marks : List Mark) → IsPassing h side r c steps 0 limit marks marks
+passing-none h side r c steps limit marks = record {
+  opened = opened-none h side r c marks;
+  followed = λ i s within low. absurd (omega (arith, low));
+}
+
+-- one more step was followed
+pub passing-more : {h : Hierarchy} {side : Side} {r : ℕ} {c : Cost} {steps : List Step} {limit found : Option Cost} {old mid new : List Mark} (next : ℕ) (d : Step) → next < length steps → IsPassing h side r c steps next limit old mid → IsOpenedBy h side r c mid new → IsNoMore found limit → IsFollowed h side c found new (get_or steps next d).link → IsPassing h side r c steps (next + 1) found old new
+passing-more {h} {side} {r} {c} {steps} {found = found} {new = new} next d room is opened less done = record {
+  opened = opened-more is.opened opened;
+  followed = λ i s within low. elim (cases_lt i next) [
+    | inl before ↦ followed-more opened less (get_or steps i s).link (is.followed i s within before)
+    | inr last ↦
+        let same : i ≡ next = omega (arith, low, last) in
+        subst (λ k. IsFollowed h side c found new (get_or steps k s).link) (sym same) (subst (λ (t : Step). IsFollowed h side c found new t.link) (get_or_default steps next d s room) done)
+  ];
+}
+
+-- all steps of the rank were
+pub passed_over : (h : Hierarchy) → IsWellMade h → (side : Side) (c : Cost) (first : List ℕ) (all : List Step) → IsLaidOut h side first all → (r : ℕ) → r < length h.ranks → (steps : List Step) → steps ≡ steps_of first all r → (next : ℕ) → length steps ≤ next → (limit : Option Cost) (old new : List Mark) → IsPassing h side r c steps next limit old new → ArePassed h side r c limit new
+passed_over h made side c first all laid r low steps parts next whole limit old new is k climbs foot =
+    let v = rank_taken h made r low in
+    let are : AreStepsFrom h side v.0 steps = steps_are h side first all laid v.0 r v.1 v.2 steps parts in
+    let from : ClimbsFrom h side v.0 k = from-climbs h made side v.0 k v.1 climbs (foot ∙ sym v.2) in
+    each_link (λ j. IsFollowed h side c limit new j) are (λ i s within. is.followed i s within (omega (arith, within, whole))) k from
+
+-- one step of a rank
+module _ (h : Hierarchy) (made : IsWellMade h) (side : Side) (first : List ℕ) (all : List Step) (laid : IsLaidOut h side first all) (r : ℕ) (low : r < length h.ranks) (steps : List Step) (parts : steps ≡ steps_of first all r) where
+  step_of : (i : ℕ) (s : Step) → i < length steps → s ≡ get_or steps i s → IsStep h side s × (foot_rank h side s.link ≡ r)
+  step_of i s within is =
+      let v = rank_taken h made r low in
+      let are : AreStepsFrom h side v.0 steps = steps_are h side first all laid v.0 r v.1 v.2 steps parts in
+      let one = one_step are i s within is in (
+        record {
+          climbs = climbs-from one.0;
+          head = ap (λ (t : Step). t.head) one.1;
+          cost = ap (λ (t : Step). t.cost) one.1;
+        },
+        foot-from one.0 ∙ v.2,
+      )
+
+  pub step-made : (i : ℕ) (d : Step) → i < length steps → IsStep h side (get_or steps i d)
+  step-made i d within = (step_of i (get_or steps i d) within (get_or_default steps i d (get_or steps i d) within)).0
+
+  pub foot-made : (i : ℕ) (d : Step) → i < length steps → foot_rank h side (get_or steps i d).link ≡ r
+  foot-made i d within = (step_of i (get_or steps i d) within (get_or_default steps i d (get_or steps i d) within)).1

@@ -1,0 +1,32 @@
+use Rattle.std.proofs.Common.{◌≡◌, ◌<◌, List, None, replicate, length, refl, subst, arith}
+use Rattle.std.proofs.lemmas.List.Elements.{All-pop}
+use Rattle.std.specs.BinaryHeap.{heap_items}
+use Rattle.ch_query.specs.declared.mark.Mark.{Mark}
+use Rattle.ch_query.specs.declared.mark.Mark.TheVariants.{Unseen}
+use Rattle.ch_query.proofs.Entries.{cleared, clearing-more, front-cleared}
+use Rattle.ch_query.proofs.frontier.Frontier.clear.Goals as goal
+
+pub touched-init : goal.touched-init
+touched-init c = record {
+  clearing = record { count = refl; places = c.self.invariant.places; others = c.self.invariant.others };
+  no_entry = c.clear.ensures.items;
+  heap = c.clear.ensures.heap_order;
+}
+
+pub touched-preserved : goal.touched-preserved
+touched-preserved c = record {
+  clearing = clearing-more _ c.touched.self-inside.marks.items c.touched.self-inside.touched.items c.pop.new.self.items c.in-Some.rank c.touched.invariant.clearing c.in-Some.ensures.items;
+  no_entry = c.touched.invariant.no_entry;
+  heap = c.touched.invariant.heap;
+}
+
+pub invariant_of-self : goal.invariant_of-self
+invariant_of-self c =
+    let none_left : length c.touched.self-inside.touched.items ≡ 0 = omega (arith, c.in_default.ensures.cases, c.touched.self-inside.touched.ok) in
+    let rest = All-pop (λ q. q < length c.touched.self-inside.marks.items) c.touched.self-inside.touched.items c.pop.new.self.items None c.in_default.ensures.items c.touched.invariant.clearing.places in
+    front-cleared _ c.touched.self-inside.marks.items (heap_items c.touched.self-inside.queue) c.touched.self-inside.touched.items c.pop.new.self.items c.touched.invariant.clearing none_left rest.0 c.touched.invariant.no_entry c.touched.invariant.heap
+
+pub returns : goal.returns
+returns c =
+    let none_left : length c.touched.self-inside.touched.items ≡ 0 = omega (arith, c.in_default.ensures.cases, c.touched.self-inside.touched.ok) in
+    subst (λ (xs : List Mark). c.touched.self-inside.marks.items ≡ replicate (length xs) Unseen) c.self.view_is (cleared _ c.touched.self-inside.marks.items c.touched.self-inside.touched.items c.touched.invariant.clearing none_left)

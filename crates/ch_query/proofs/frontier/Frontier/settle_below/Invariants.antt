@@ -1,0 +1,14 @@
+use Rattle.std.proofs.Common.{◌≡◌}
+use Rattle.std.specs.BinaryHeap.{heap_items, heap_len}
+use Rattle.ch_query.specs.Front.{IsFront}
+use Rattle.ch_query.proofs.frontier.Frontier.settle_below.Given as goal
+
+-- entries were passed over, and no mark was written
+abbrev pub invariant-entries : goal.invariant-entries
+invariant-entries l = record {
+  same : l.self-inside.marks.items ≡ l.initial.self-inside.marks.items;
+  front : IsFront l.self-inside.marks.items (heap_items l.self-inside.queue) l.self-inside.touched.items;
+}
+
+abbrev pub decreases-entries : goal.decreases-entries
+decreases-entries l = heap_len l.self-inside.queue

@@ -1,0 +1,18 @@
+use Rattle.std.proofs.Common.{◌+◌, ◌-◌, length}
+use Rattle.ch_query.specs.declared.side.Side.TheVariants.{Rise, Fall}
+use Rattle.ch_query.specs.Marks.{costs_of, settled_count}
+use Rattle.ch_query.specs.Searching.{IsSearching, AreFollowed}
+use Rattle.ch_query.specs.Meeting.{IsBestMeeting, cost_of}
+use Rattle.ch_query.proofs.meet.meet.Given as goal
+
+abbrev pub invariant-turns : goal.invariant-turns
+invariant-turns l = record {
+  rises : IsSearching l.hierarchy Rise l.source l.up;
+  falls : IsSearching l.hierarchy Fall l.target l.down;
+  up_followed : AreFollowed l.hierarchy Rise (cost_of l.best) l.up;
+  down_followed : AreFollowed l.hierarchy Fall (cost_of l.best) l.down;
+  best : IsBestMeeting l.hierarchy (costs_of l.up) (costs_of l.down) l.best;
+}
+
+abbrev pub decreases-turns : goal.decreases-turns
+decreases-turns l = (length l.hierarchy.ranks - settled_count l.up) + (length l.hierarchy.ranks - settled_count l.down)

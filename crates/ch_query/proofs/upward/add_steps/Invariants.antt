@@ -1,0 +1,9 @@
+use Rattle.ch_query.proofs.Ladders.{steps_left}
+use Rattle.ch_query.proofs.Laying.{IsAdding}
+use Rattle.ch_query.proofs.upward.add_steps.Given as goal
+
+abbrev pub invariant-links : goal.invariant-links
+invariant-links l = IsAdding l.hierarchy l.side l.node l.next l.initial.steps.items l.steps.items
+
+abbrev pub decreases-links : goal.decreases-links
+decreases-links l = steps_left l.next

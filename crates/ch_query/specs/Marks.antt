@@ -1,0 +1,69 @@
+-- What a side of a query knows of the nodes: a list of marks, one for each rank.
+use Rattle.std.specs.Prelude.{ℕ, ◌≡◌, List, slice_index_or, sum_by, Option, Some, None}
+use Rattle.ch_cost.specs.declared.cost.Cost.{Cost}
+use Rattle.ch_cost.specs.Cost.{◌≼◌, ◌≺◌, IsInLimit}
+use Rattle.ch_query.specs.declared.label.Label.{Label}
+use Rattle.ch_query.specs.declared.mark.Mark.{Mark}
+use Rattle.ch_query.specs.declared.mark.Mark.TheVariants.{Unseen, Open, Settled}
+
+-- the mark of the node of a rank; past the last rank nothing is seen
+abbrev pub mark_at : List Mark → ℕ → Mark
+mark_at marks r = slice_index_or marks r Unseen
+
+-- the label of a mark
+abbrev pub label_in : Mark → Option Label
+label_in Unseen = None
+label_in (Open e) = Some e
+label_in (Settled e) = Some e
+
+abbrev pub label_at : List Mark → ℕ → Option Label
+label_at marks r = label_in (mark_at marks r)
+
+abbrev pub option_cost : Option Label → Option Cost
+option_cost None = None
+option_cost (Some e) = Some e.cost
+
+abbrev pub option_link : Option Label → Option ℕ
+option_link None = None
+option_link (Some e) = e.link
+
+-- the labels as costs
+abbrev pub costs_of : List Mark → ℕ → Option Cost
+costs_of marks r = option_cost (label_at marks r)
+
+-- a climb of this cost is better than what is known; what is settled stays
+abbrev pub Improves : Cost → Mark → Type 0
+Improves c Unseen = Unit {0}
+Improves c (Open e) = c ≺ e.cost
+Improves c (Settled e) = ⊥
+
+-- the cost is below the limit, where there is one
+abbrev pub IsBelow : Cost → Option Cost → Type 0
+IsBelow c None = Unit {0}
+IsBelow c (Some b) = c ≺ b
+
+-- there is a limit where there was one, and it is no more
+abbrev pub IsNoMore : Option Cost → Option Cost → Type 0
+IsNoMore new old = (a : Cost) → old ≡ Some a → (b : Cost) × (new ≡ Some b) × (b ≼ a)
+
+-- the node of rank r is open with the label e, and no open node has one that costs less
+pub record IsLeastOpen (marks : List Mark) (r : ℕ) (e : Label) : Type 0 where
+  pub opens : mark_at marks r ≡ Open e
+  pub least : (q : ℕ) (d : Label) → mark_at marks q ≡ Open d → e.cost ≼ d.cost
+
+-- no open node has a label below the limit
+abbrev pub IsStopped : List Mark → Option Cost → Type 0
+IsStopped marks limit = (r : ℕ) (e : Label) → mark_at marks r ≡ Open e → (b : Cost) × (limit ≡ Some b) × (b ≼ e.cost)
+
+-- each label costs little enough to be a summand
+abbrev pub FitAll : List Mark → Type 0
+FitAll marks = (r : ℕ) (e : Label) → label_at marks r ≡ Some e → IsInLimit e.cost
+
+-- how many nodes are settled
+abbrev pub settled : Mark → ℕ
+settled Unseen = 0
+settled (Open e) = 0
+settled (Settled e) = 1
+
+abbrev pub settled_count : List Mark → ℕ
+settled_count marks = sum_by settled marks

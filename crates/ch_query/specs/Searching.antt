@@ -1,0 +1,84 @@
+-- One side of a query, as its marks tell it.
+use Rattle.std.specs.Prelude.{ℕ, ◌≡◌, ◌+◌, ◌⊎◌, true, false, Bool, List, length, Option, Some, None}
+use Rattle.ch_cost.specs.declared.cost.Cost.{Cost}
+use Rattle.ch_cost.specs.Cost.{zero_cost, ◌⊕◌, ◌≼◌, IsNoLonger, IsOfWalks}
+use Rattle.ch_graph.specs.Hierarchy.{Hierarchy, rank_of}
+use Rattle.ch_query.specs.declared.label.Label.{Label}
+use Rattle.ch_query.specs.declared.mark.Mark.{Mark}
+use Rattle.ch_query.specs.declared.mark.Mark.TheVariants.{Open, Settled}
+use Rattle.ch_query.specs.declared.side.Side.{Side}
+use Rattle.ch_query.specs.declared.upward.Step.{Step}
+use Rattle.ch_query.specs.Climb.{foot_rank, head_rank, cost_at, Climbs}
+use Rattle.ch_query.specs.Labels.{HasAtMost, CountsBelow}
+use Rattle.ch_query.specs.Marks.{mark_at, label_at, costs_of, IsStopped, settled_count}
+
+-- the label of cost c came to the rank r by the link at k, from a node that is settled
+pub record ComesFrom (h : Hierarchy) (side : Side) (marks : List Mark) (r : ℕ) (c : Cost) (k : ℕ) : Type 0 where
+  pub foot : Label
+  pub climbs : Climbs h side k
+  pub head : head_rank h side k ≡ r
+  pub settled : mark_at marks (foot_rank h side k) ≡ Settled foot
+  pub sum : c ≡ foot.cost ⊕ cost_at h k
+
+-- where a label is from: it came by a link, or it is that of the start
+abbrev pub IsFrom : Hierarchy → Side → ℕ → List Mark → ℕ → Cost → Option ℕ → Type 0
+IsFrom h side start marks r c (Some k) = ComesFrom h side marks r c k
+IsFrom h side start marks r c None = (r ≡ rank_of h start) × (c ≡ zero_cost)
+
+-- the link at k was followed from a foot of cost c, where the sum counts below the limit
+abbrev pub IsFollowed : Hierarchy → Side → Cost → Option Cost → List Mark → ℕ → Type 0
+IsFollowed h side c limit marks k = CountsBelow h limit (c ⊕ cost_at h k) → HasAtMost (costs_of marks) (head_rank h side k) (c ⊕ cost_at h k)
+
+-- each link that climbs from a settled node was
+abbrev pub AreFollowed : Hierarchy → Side → Option Cost → List Mark → Type 0
+AreFollowed h side limit marks = (k : ℕ) (e : Label) → Climbs h side k → mark_at marks (foot_rank h side k) ≡ Settled e → IsFollowed h side e.cost limit marks k
+
+-- The marks between two turns of a side: each label is the cost of a climb from the start, and those of settled nodes
+-- are at most those of open ones.
+pub record IsSearching (h : Hierarchy) (side : Side) (start : ℕ) (marks : List Mark) : Type 0 where
+  pub nodes : length marks ≡ length h.ranks
+  pub first : costs_of marks (rank_of h start) ≡ Some zero_cost
+  pub origin : (r : ℕ) (e : Label) → label_at marks r ≡ Some e → IsFrom h side start marks r e.cost e.link
+  pub fits : (r : ℕ) (e : Label) → label_at marks r ≡ Some e → IsOfWalks r e.cost
+  pub short : (r : ℕ) (e : Label) → label_at marks r ≡ Some e → IsNoLonger e.cost h.bound
+  pub ordered : (q r : ℕ) (d e : Label) → mark_at marks q ≡ Settled d → mark_at marks r ≡ Open e → d.cost ≼ e.cost
+
+-- One turn
+
+-- the step is that of a link that climbs
+pub record IsStep (h : Hierarchy) (side : Side) (s : Step) : Type 0 where
+  pub climbs : Climbs h side s.link
+  pub head : s.head ≡ head_rank h side s.link
+  pub cost : s.cost ≡ cost_at h s.link
+
+-- no settled node has a label above this cost
+abbrev pub IsLatest : List Mark → Cost → Type 0
+IsLatest marks c = (r : ℕ) (e : Label) → mark_at marks r ≡ Settled e → e.cost ≼ c
+
+-- the label e of the rank q, to which some link leads from the rank r, whose own cost is c
+pub record ClimbsTo (h : Hierarchy) (side : Side) (r : ℕ) (c : Cost) (q : ℕ) (e : Label) : Type 0 where
+  pub place : ℕ
+  pub link : e.link ≡ Some place
+  pub climbs : Climbs h side place
+  pub foot : foot_rank h side place ≡ r
+  pub head : head_rank h side place ≡ q
+  pub sum : e.cost ≡ c ⊕ cost_at h place
+  pub short : IsNoLonger e.cost h.bound
+
+-- Marks that come of others by opening nodes over links from the rank r, whose cost is c. No label grows.
+pub record IsOpenedBy (h : Hierarchy) (side : Side) (r : ℕ) (c : Cost) (old new : List Mark) : Type 0 where
+  pub nodes : length new ≡ length old
+  pub count : settled_count new ≡ settled_count old
+  pub stays : (q : ℕ) (d : Label) → mark_at old q ≡ Settled d → mark_at new q ≡ Settled d
+  pub settled : (q : ℕ) (d : Label) → mark_at new q ≡ Settled d → mark_at old q ≡ Settled d
+  pub opened : (q : ℕ) (d : Label) → mark_at new q ≡ Open d → (mark_at old q ≡ Open d) ⊎ ClimbsTo h side r c q d
+  pub kept : (q : ℕ) (a : Cost) → HasAtMost (costs_of old) q a → HasAtMost (costs_of new) q a
+
+-- each link that climbs from the rank r was followed
+abbrev pub ArePassed : Hierarchy → Side → ℕ → Cost → Option Cost → List Mark → Type 0
+ArePassed h side r c limit marks = (k : ℕ) → Climbs h side k → foot_rank h side k ≡ r → IsFollowed h side c limit marks k
+
+-- A turn settled one more node, or there was none to settle below the limit and nothing changed.
+abbrev pub IsTurned : Bool → List Mark → List Mark → Option Cost → Option Cost → Type 0
+IsTurned true old new limit best = settled_count new ≡ settled_count old + 1
+IsTurned false old new limit best = IsStopped old limit × (new ≡ old) × (best ≡ limit)

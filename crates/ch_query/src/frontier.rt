@@ -1,0 +1,151 @@
+ghost use Rattle.std.specs.Prelude.{◌≡◌, ◌<◌, ◌+◌, ◌↔◌, ℕ, ◌∷◌, length, replicate, slice_set, All, Contains, IfOk, OnOk, IfSome, IfNone, IsTrue, OnSome};
+ghost use Rattle.std.specs.BinaryHeap.{heap_items, heap_len, IsHeap, IsUpperBound};
+ghost use Rattle.std.specs.List.Sorted.{IsPermutation};
+ghost use Rattle.ch_graph.specs.Queue.{entry_cmp};
+ghost use Rattle.ch_query.specs.Marks.{mark_at, label_at, Improves, IsBelow, IsLeastOpen, IsStopped};
+ghost use Rattle.ch_query.specs.declared.mark.Mark.TheVariants.{Unseen, Open, Settled};
+
+use crate::label::Label;
+use crate::limit::is_below;
+use crate::mark::Mark;
+use ch_cost::Cost;
+use std::alloc::{AllocError, Global};
+use std::cmp::Reverse;
+use std::collections::BinaryHeap;
+use std::marker::Model;
+
+/// The marks of one side of a query, one for each rank, and which open node has the least label.
+///
+/// The marks are made once. The queue may hold older, dearer entries of a node; they are passed over when they come
+/// up. The list of touched ranks tells which marks to take back before the next query.
+#[derive(Drop)]
+pub struct Frontier {
+    marks: Vec<Mark>,
+    queue: BinaryHeap<Reverse<(Cost, u32)>>,
+    touched: Vec<u32>,
+}
+
+impl Model for Frontier {
+    ghost use Rattle.std.specs.Prelude.{List};
+    ghost use Rattle.std.specs.BinaryHeap.{heap_items};
+    ghost use Rattle.ch_query.specs.declared.mark.Mark.{Mark};
+    ghost use Rattle.ch_query.specs.Front.{IsFront};
+
+    ghost Value = { List Mark };
+
+    ghost view = { λ f. f.marks.items };
+
+    ghost invariant = { λ f. IsFront f.marks.items (heap_items f.queue) f.touched.items };
+}
+
+/// A node that was settled.
+#[derive(Clone, Copy)]
+pub struct Reached {
+    /// Its rank.
+    pub rank: u32,
+    /// Its label.
+    pub label: Label,
+}
+
+impl Frontier {
+    /// Marks for so many nodes, none of them seen.
+    pub fn new(alloc: Global, nodes: u32) -> Result<Frontier, AllocError>
+        ensures { IfOk result (λ f. f ≡ replicate nodes Unseen) }
+    {
+        Ok(Frontier {
+            marks: vec![in alloc; Mark::Unseen; nodes as usize]?,
+            queue: BinaryHeap::new(alloc),
+            touched: Vec::new(alloc),
+        })
+    }
+
+    /// Forgets what was seen. Takes time by the number of nodes that were touched, and keeps the memory.
+    pub fn clear(&mut self)
+        ensures { self.new ≡ replicate (length self.old) Unseen }
+    {
+        self.queue.clear();
+        'touched: while let Some(rank) = self.touched.pop() {
+            self.marks[rank as usize] = Mark::Unseen;
+        }
+    }
+
+    /// The label of the node of a rank, if it has one.
+    pub fn label(&self, rank: u32) -> Option<Label>
+        requires { rank < length self.now }
+        ensures { result ≡ label_at self.now rank }
+    {
+        self.marks[rank as usize].label()
+    }
+
+    /// Whether a climb of this cost to the node of a rank is better than what is known of it.
+    pub fn is_improved_by(&self, rank: u32, cost: Cost) -> bool
+        requires { rank < length self.now }
+        ensures { IsTrue result ↔ Improves cost (mark_at self.now rank) }
+    {
+        self.marks[rank as usize].is_improved_by(cost)
+    }
+
+    /// Opens the node of a rank with a label that is better than what is known of it.
+    ///
+    /// Takes time by the logarithm of the number of entries.
+    pub fn open(&mut self, rank: u32, label: Label) -> Result<(), AllocError>
+        requires rank_in { rank < length self.old }
+        requires improves { Improves label.cost (mark_at self.old rank) }
+        ensures nodes { length self.new ≡ length self.old }
+        ensures opened { OnOk result (self.new ≡ slice_set self.old rank (Open label)) }
+    {
+        touch(&mut self.touched, rank, self.marks[rank as usize])?;
+        self.queue.push(Reverse((label.cost, rank)))?;
+        self.marks[rank as usize] = Mark::Open(label);
+        Ok(())
+    }
+
+    /// Settles an open node of the least label, of equal ones that of the lowest rank. None where no open node has a
+    /// label below the limit.
+    pub fn settle_below(&mut self, limit: Option<Cost>) -> Option<Reached>
+        ensures none { IfNone result (IsStopped self.old limit) }
+        ensures unchanged { IfNone result (self.new ≡ self.old) }
+        ensures least { IfSome result (λ r. IsLeastOpen self.old r.rank r.label) }
+        ensures settled { IfSome result (λ r. self.new ≡ slice_set self.old r.rank (Settled r.label)) }
+    {
+        'entries: while let Some(Reverse((_, rank))) = pop_below(&mut self.queue, limit) {
+            if let Mark::Open(label) = self.marks[rank as usize] {
+                self.marks[rank as usize] = Mark::Settled(label);
+                return Some(Reached { rank, label });
+            }
+        }
+        None
+    }
+}
+
+/// Puts a rank into the list of touched ones, if nothing was known of its node.
+fn touch(touched: &mut Vec<u32>, rank: u32, mark: Mark) -> Result<(), AllocError>
+    ensures kept { (r : ℕ) → Contains touched.old.items r → Contains touched.new.items r }
+    ensures within { (nodes : ℕ) → rank < nodes → All (λ r. r < nodes) touched.old.items → All (λ r. r < nodes) touched.new.items }
+    ensures put { OnOk result (mark ≡ Unseen → Contains touched.new.items rank) }
+{
+    if let Mark::Unseen = mark {
+        touched.push(rank)?;
+    }
+    Ok(())
+}
+
+/// Takes the least entry out of a queue, if it is below the limit. None where no entry is.
+fn pop_below(
+    queue: &mut BinaryHeap<Reverse<(Cost, u32)>>,
+    limit: Option<Cost>,
+) -> Option<Reverse<(Cost, u32)>>
+    requires { IsHeap entry_cmp (heap_items queue.old) }
+    ensures none { IfNone result (All (λ e. IsBelow e.0.0 limit → ⊥) (heap_items queue.old)) }
+    ensures unchanged { IfNone result (heap_items queue.new ≡ heap_items queue.old) }
+    ensures moved { IfSome result (λ e. IsPermutation (heap_items queue.old) (e ∷ heap_items queue.new)) }
+    ensures heap { IsHeap entry_cmp (heap_items queue.new) }
+    ensures top { IfSome result (λ e. IsUpperBound entry_cmp e (heap_items queue.old)) }
+    ensures len { OnSome result (heap_len queue.new + 1 ≡ heap_len queue.old) }
+{
+    let Reverse((cost, _)) = *queue.peek()?;
+    if !is_below(cost, limit) {
+        return None;
+    }
+    queue.pop()
+}

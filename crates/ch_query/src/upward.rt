@@ -1,0 +1,106 @@
+ghost use Rattle.std.specs.Prelude.{◌≡◌, ◌+◌, ◌<◌, length, IfOk};
+ghost use Rattle.ch_graph.specs.Hierarchy.{IsWellMade};
+ghost use Rattle.ch_query.specs.Ladder.{IsByRank, IsLadder};
+ghost use Rattle.ch_query.specs.Upward.{step_along, steps_of, AreOffsets, IsLaidOut, AreAdded};
+
+use crate::ladder::Ladder;
+use crate::position::link_at;
+use crate::side::Side;
+use ch_cost::Cost;
+use ch_graph::Hierarchy;
+use std::alloc::{AllocError, Global};
+
+/// A step of a side: along a link that it climbs.
+#[derive(Clone, Copy)]
+pub struct Step {
+    /// The rank of the node that it comes to.
+    pub head: u32,
+    /// What the link costs.
+    pub cost: Cost,
+    /// The position of the link.
+    pub link: usize,
+}
+
+/// The steps of a side, in the order of the ranks of the nodes that it takes them from.
+///
+/// Those from one node lie together, and so do those from the nodes of high rank, where all queries come by. It
+/// holds 8 bytes a node and 24 a link that climbs.
+#[derive(Drop)]
+pub struct UpwardSteps {
+    /// For each rank the place of the first step from the node of that rank, and then the number of steps.
+    pub first: Vec<usize>,
+    /// The steps.
+    pub steps: Vec<Step>,
+    ghost offsets: { AreOffsets first.items (length steps.items) },
+}
+
+impl UpwardSteps {
+    /// Lays out the links that one side climbs. Looks at each node and each link a fixed number of times, and holds
+    /// 8 bytes a node and 16 a link meanwhile.
+    pub fn new(
+        alloc: Global,
+        hierarchy: &Hierarchy,
+        order: &[u32],
+        side: Side,
+    ) -> Result<UpwardSteps, AllocError>
+        requires { IsByRank hierarchy.now order.now }
+        ensures { IfOk result (λ upward. IsLaidOut hierarchy.now side upward.first.items upward.steps.items) }
+    {
+        let ladder = Ladder::new(alloc, hierarchy, side)?;
+        let nodes = hierarchy.nodes() as usize;
+        let mut first = Vec::with_capacity(alloc, nodes + 1)?;
+        let mut steps = Vec::new(alloc);
+        first.push(0)?;
+        for rank in 0..nodes {
+            add_steps(hierarchy, &ladder, side, order[rank], &mut steps)?;
+            first.push(steps.len())?;
+        }
+        steps.shrink_to_fit();
+        Ok(UpwardSteps { first, steps })
+    }
+
+    /// The steps from the node of a rank.
+    pub fn steps_of(&self, rank: u32) -> &[Step]
+        requires { rank + 1 < length self.now.first.items }
+        ensures { result.now ≡ steps_of self.now.first.items self.now.steps.items rank }
+    {
+        let begin = self.first[rank as usize];
+        let end = self.first[rank as usize + 1];
+        &self.steps[begin..end]
+    }
+}
+
+/// Adds the steps from a node, from its last link to its first.
+fn add_steps(
+    hierarchy: &Hierarchy,
+    ladder: &Ladder,
+    side: Side,
+    node: u32,
+    steps: &mut Vec<Step>,
+) -> Result<(), AllocError>
+    requires made { IsWellMade hierarchy.now }
+    requires node_in { node < length hierarchy.now.ranks }
+    requires ladder { IsLadder hierarchy.now side ladder.now.last.items ladder.now.before.items }
+    ensures { IfOk result (λ _. AreAdded hierarchy.now side node steps.old.items steps.new.items) }
+{
+    let mut next = ladder.last[node as usize];
+    'links: while let Some(at) = next {
+        steps.push(step_along(hierarchy, side, at))?;
+        next = ladder.before[at];
+    }
+    Ok(())
+}
+
+/// The step along the link at a position.
+fn step_along(hierarchy: &Hierarchy, side: Side, at: usize) -> Step
+    requires made { IsWellMade hierarchy.now }
+    requires link_in { at < length hierarchy.now.links }
+    ensures { result ≡ step_along hierarchy.now side at }
+{
+    let link = link_at(hierarchy, at);
+    Step {
+        head: hierarchy.rank(side.head(link)),
+        cost: link.cost,
+        link: at,
+    }
+}
