@@ -2,7 +2,7 @@ use Rattle.std.proofs.Common.{ℕ, ◌-◌, ◌^◌, ◌≤◌, arith, subst, sy
 use Rattle.ch_cost.specs.Cost.{cost_of_arcs}
 use Rattle.ch_cost.specs.Cost.Laws.{within_trans, more_arcs_within, heavier_arcs_within}
 use Rattle.ch_overlay.specs.Source.{IsBound}
-use Rattle.ch_cases.proofs.shelf.ShelfRowSource.bound.Goals as goal
+use Rattle.contract_tests.proofs.shelf.ShelfRowSource.bound.Goals as goal
 
 few : (n w : ℕ) → n ≤ 2 ^ 25 - 1 → w ≤ 2 ^ 32 - 1 → IsBound (cost_of_arcs n w)
 few n w h k = within_trans (more_arcs_within n (2 ^ 25 - 1) w h) (heavier_arcs_within (2 ^ 25 - 1) w (2 ^ 32 - 1) k)

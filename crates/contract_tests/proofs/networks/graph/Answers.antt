@@ -1,7 +1,7 @@
 use Rattle.std.proofs.Common.{All, arith, subst, ◌<◌, ◌^◌, refl}
 use Rattle.ch_cost.specs.Cost.Laws.{weight-from}
 use Rattle.ch_graph.specs.declared.road.Road.{Road}
-use Rattle.ch_cases.proofs.networks.graph.Goals as goal
+use Rattle.contract_tests.proofs.networks.graph.Goals as goal
 
 pub new-requires : goal.new-requires
 new-requires c =

@@ -1,6 +1,6 @@
 use Rattle.std.proofs.Common.{arith}
-use Rattle.ch_cases.proofs.RisingEntries.{rises_more}
-use Rattle.ch_cases.proofs.shelf.rises.Goals as goal
+use Rattle.contract_tests.proofs.RisingEntries.{rises_more}
+use Rattle.contract_tests.proofs.shelf.rises.Goals as goal
 
 pub loop-place-preserved : goal.loop-place-preserved
 loop-place-preserved c = record {

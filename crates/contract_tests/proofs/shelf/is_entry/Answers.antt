@@ -2,7 +2,7 @@ use Rattle.std.proofs.Common.{subst, arith}
 use Rattle.ch_cost.specs.declared.cost.Cost.{Cost}
 use Rattle.ch_cost.specs.Cost.{◌≺◌}
 use Rattle.ch_cost.specs.Cost.Laws.{ZERO-is}
-use Rattle.ch_cases.proofs.shelf.is_entry.Goals as goal
+use Rattle.contract_tests.proofs.shelf.is_entry.Goals as goal
 
 pub returns : goal.returns
 returns c = λ t. record {

@@ -1,4 +1,4 @@
-use Rattle.ch_cases.proofs.boards.another_board.Given as goal
+use Rattle.contract_tests.proofs.boards.another_board.Given as goal
 
 abbrev pub ghosts-opening_proposal : goal.ghosts-opening_proposal
 ghosts-opening_proposal g a = record { graph = a.graph }

@@ -1,7 +1,7 @@
 use Rattle.std.proofs.Common.{ℕ, subst}
 use Rattle.ch_cost.specs.declared.cost.Cost.{Cost}
 use Rattle.ch_cost.specs.Cost.{IsWithin, cost_of_arcs}
-use Rattle.ch_cases.proofs.shelf.Shelf.allows.Goals as goal
+use Rattle.contract_tests.proofs.shelf.Shelf.allows.Goals as goal
 
 pub returns : goal.returns
 returns c = λ t.
