@@ -1,3 +1,2 @@
 pub mod Marks
 mod Reading
-mod OfOneThing

@@ -9,7 +9,8 @@ use std::alloc::{AllocError, Global};
 /// Whether the receipts account for the log: each entry has its receipt in exactly one place of one of the lists,
 /// there are no others, and each list rises in rank.
 ///
-/// Takes memory for a mark for each entry while it runs, and time for each receipt and each entry.
+/// An error where the memory for the marks was refused, one for each entry, which it takes while it runs; the time is
+/// that of a look at each receipt and each entry.
 pub fn is_account(
     alloc: Global,
     log: &[Contraction],

@@ -1,5 +1,8 @@
 ghost use Rattle.std.specs.Prelude.{◌≡◌, ◌+◌, ◌<◌, ◌≤◌, IfOk, map, vec_len};
 ghost use Rattle.ch_graph.specs.Hierarchy.{IsRight};
+ghost use Rattle.ch_laws.specs.Contraction.{IsOver};
+ghost use Rattle.ch_overlay.specs.Overlay.{state_of};
+ghost use Rattle.ch_contract.specs.Board.{IsBoard};
 ghost use Rattle.ch_workers.specs.Account.{IsAccount};
 ghost use Rattle.ch_workers.specs.Built.{IsMadeBy};
 
@@ -7,7 +10,7 @@ use crate::account::is_account;
 use crate::built::Built;
 use crate::run::Worked;
 use crate::trouble::Trouble;
-use ch_contract::{FinishError, Site};
+use ch_contract::{Board, FinishError, Receipt, Site};
 use std::alloc::Global;
 
 /// Contracts what the workers left, and makes the hierarchy.
@@ -27,12 +30,41 @@ pub(crate) fn finish<S: Site>(
         mut board,
         mut receipts,
     } = worked;
-    let swept = board.sweep(settle)?;
-    receipts.reserve(1)?;
-    receipts.push_reserved(swept);
+    sweep_rest(&mut board, &mut receipts, settle)?;
     if !is_account(alloc, board.log(), receipts.as_slice())? {
         return Err(Trouble::Mixed);
     }
+    built_of(board, receipts)
+}
+
+/// Contracts what the workers left, and puts the receipts behind theirs.
+fn sweep_rest<S: Site>(
+    board: &mut Board<S>,
+    receipts: &mut Vec<Vec<Receipt>>,
+    settle: u32,
+) -> Result<(), Trouble>
+    requires some { 0 < settle }
+    requires few { settle ≤ 65536 }
+    ensures over { IfOk result (λ _. IsOver (state_of board.new.overlay)) }
+    ensures lists { IfOk result (λ _. vec_len receipts.new ≡ vec_len receipts.old + 1) }
+{
+    let swept = board.sweep(settle)?;
+    receipts.reserve(1)?;
+    receipts.push_reserved(swept);
+    Ok(())
+}
+
+/// The hierarchy and the log of a board whose nodes are all contracted, beside the receipts that account for the log.
+fn built_of<S: Site>(board: Board<S>, receipts: Vec<Vec<Receipt>>) -> Result<Built, Trouble>
+    requires holds { IsBoard board }
+    requires named { board.graph ≡ S.graph }
+    requires over { IsOver (state_of board.overlay) }
+    requires account { IsAccount board.log (map (λ v. v.items) receipts.items) }
+    ensures built { IfOk result (λ b. IsMadeBy S.graph b.log.items b.hierarchy) }
+    ensures right { IfOk result (λ b. IsRight S.graph b.hierarchy) }
+    ensures account { IfOk result (λ b. IsAccount b.log.items (map (λ v. v.items) b.receipts.items)) }
+    ensures lists { IfOk result (λ b. vec_len b.receipts ≡ vec_len receipts) }
+{
     match board.finish() {
         Ok(finished) => Ok(Built {
             hierarchy: finished.hierarchy,

@@ -10,8 +10,6 @@
 #![tactic(auto)]
 
 mod account;
-#[cfg(test)]
-mod account_tests;
 mod boxed;
 mod building;
 mod built;
@@ -32,6 +30,3 @@ pub use built::Built;
 pub use error::BuildError;
 pub use gate::{Gate, OpenGate, Point};
 pub use options::Options;
-
-#[cfg(test)]
-mod tests;

@@ -1,9 +1,0 @@
-use Rattle.std.proofs.Common.{◌≡◌, length}
-use Rattle.ch_contract.specs.Board.{IsLog}
-use Rattle.ch_workers.proofs.account_tests.falling_log.Given as goal
-
-abbrev pub invariant-ranks : goal.invariant-ranks
-invariant-ranks l = record {
-  count : length l.log.items ≡ l.rank;
-  log : IsLog l.log.items;
-}

@@ -1,9 +1,0 @@
-mod drops;
-mod gates;
-mod kit;
-mod leases;
-mod lengths;
-mod orders;
-mod refusals;
-mod stations;
-mod throngs;

@@ -1,0 +1,198 @@
+ghost use Rattle.std.specs.Prelude.{◌≡◌, ◌<◌, ◌^◌, ◌∷◌, [], All, IfOk, IsTrue, Ok};
+ghost use Rattle.ch_estimate.specs.declared.lease.Lease.{Lease};
+
+use ch_contract::{Contraction, Facts};
+use ch_estimate::{EdgeDifference, Estimator, Lease, Leases, Note};
+use ch_graph::{Graph, Road};
+use ch_workers::{Built, Gate, Options, build};
+use std::alloc::{AllocError, Global};
+use std::sync::Wait;
+use std::test::Fail;
+use std::thread::Threads;
+
+/// The options of the small graphs.
+pub(crate) const ONE: Options = Options {
+    workers: 1,
+    heaps: 1,
+    seed: 1,
+    settle: 64,
+    defer: 16,
+    turns: 100,
+};
+
+/// An arc.
+fn road(from: u32, to: u32, weight: u32) -> Road {
+    Road { from, to, weight }
+}
+
+/// Whether the arcs are between so many nodes, and of weights from 1.
+fn all_allowed(nodes: u32, roads: &[Road]) -> bool
+    ensures { IsTrue result → All (λ r. (r.from < nodes) × (r.to < nodes) × (0 < r.weight) × (r.weight < 2 ^ 32)) roads.now }
+{
+    roads.iter().all(|road| road.from < nodes && road.to < nodes && road.weight > 0)
+}
+
+/// The graph, or none where it has too many nodes or arcs, or an arc isn't allowed.
+fn graph_if_allowed(nodes: u32, roads: Vec<Road>) -> Option<Graph> {
+    if nodes > 1 << 25 || roads.len() > 1 << 27 || !all_allowed(nodes, roads.as_slice()) {
+        return None;
+    }
+    Some(Graph::new(nodes, roads))
+}
+
+/// The graph of these arcs. Fails where it isn't allowed.
+fn graph_of(nodes: u32, roads: Vec<Road>) -> Result<Graph, Fail> {
+    let graph = graph_if_allowed(nodes, roads).ok_or("an arc that isn't allowed")?;
+    Ok(graph)
+}
+
+/// Arcs from nodes 1 and 2 into node 0, and from there to nodes 3 and 4.
+pub(crate) fn star(alloc: Global) -> Result<Graph, Fail> {
+    let arcs = vec![in alloc; road(1, 0, 1), road(2, 0, 1), road(0, 3, 1), road(0, 4, 1)]?;
+    graph_of(5, arcs)
+}
+
+/// The row of three nodes: 1 to 0, and 0 to 2.
+pub(crate) fn row(alloc: Global) -> Result<Graph, Fail> {
+    let arcs = vec![in alloc; road(1, 0, 2), road(0, 2, 3)]?;
+    graph_of(3, arcs)
+}
+
+/// Two ways from node 2 to node 3, by 0 and by 1, of one length.
+pub(crate) fn tie(alloc: Global) -> Result<Graph, Fail> {
+    let arcs = vec![in alloc; road(2, 0, 1), road(0, 3, 1), road(2, 1, 1), road(1, 3, 1)]?;
+    graph_of(4, arcs)
+}
+
+/// The grid of 25 nodes `5i + j`, with both directions between nodes next to each other.
+pub(crate) fn grid(alloc: Global) -> Result<Graph, Fail> {
+    let mut arcs = Vec::new(alloc);
+    'nodes: for node in 0..25u32 {
+        if node % 5 != 4 {
+            add_both(&mut arcs, node, node + 1)?;
+        }
+        if node < 20 {
+            add_both(&mut arcs, node, node + 5)?;
+        }
+    }
+    graph_of(25, arcs)
+}
+
+/// Puts in the arcs between two nodes of the grid, in both directions. Their weight is 1 and the product of the numbers
+/// of the nodes, counted from 1, by its remainder of 7.
+fn add_both(arcs: &mut Vec<Road>, a: u32, b: u32) -> Result<(), AllocError> {
+    let weight = 1 + a.wrapping_add(1).wrapping_mul(b.wrapping_add(1)) % 7;
+    arcs.push(road(a, b, weight))?;
+    arcs.push(road(b, a, weight))?;
+    Ok(())
+}
+
+/// The keys that the estimators of a test give.
+#[derive(Clone, Copy, Debug)]
+pub(crate) enum Keys {
+    /// Those of the edge difference.
+    Differences,
+    /// The greatest number, always.
+    Greatest,
+    /// Numbers that look random (Knuth's linear congruential generator), from this state.
+    Drawn(u64),
+}
+
+/// An estimator that gives the keys that it was made for.
+#[derive(Drop)]
+struct Chooser {
+    inner: EdgeDifference,
+    keys: Keys,
+}
+
+impl Estimator for Chooser {
+    ghost heard = { λ c. c.inner };
+
+    fn key(&mut self, facts: &Facts) -> u64 {
+        match self.keys {
+            Keys::Differences => self.inner.key(facts),
+            Keys::Greatest => u64::MAX,
+            Keys::Drawn(state) => {
+                let next = state
+                    .wrapping_mul(6_364_136_223_846_793_005)
+                    .wrapping_add(1_442_695_040_888_963_407);
+                self.keys = Keys::Drawn(next);
+                next >> 33
+            }
+        }
+    }
+
+    fn told(&mut self, entry: &Contraction) -> Result<(), AllocError> {
+        self.inner.told(entry)
+    }
+
+    fn note(&self, node: u32) -> Note {
+        self.inner.note(node)
+    }
+}
+
+/// The estimators of each worker.
+pub(crate) type Lists = Vec<Vec<Box<dyn Estimator + Send>>>;
+
+/// So many lists without estimators.
+pub(crate) fn empty_lists(alloc: Global, count: u32) -> Result<Lists, AllocError>
+    ensures untold { IfOk result (λ lists. All (λ list. All (λ estimator. heard estimator ≡ []) list.items) lists.items) }
+{
+    let mut lists = Vec::new(alloc);
+    'lists: for _ in 0..count {
+        lists.push(Vec::new(alloc))?;
+    }
+    Ok(lists)
+}
+
+/// So many lists, each of one thing that is made for a lease of its own.
+pub(crate) fn a_list_each<T: Drop, F: Fn(Lease) -> Result<T, AllocError>>(
+    alloc: Global,
+    leases: &mut Leases,
+    count: u32,
+    make: F,
+) -> Result<Vec<Vec<T>>, AllocError>
+    requires callable { F.IsAlwaysCallable make }
+    ensures made { IfOk result (λ lists. All (λ list. All (λ thing. (lease : Lease) × F.post make lease (Ok thing)) list.items) lists.items) }
+{
+    let mut lists = Vec::new(alloc);
+    'lists: for _ in 0..count {
+        let lease = leases.lease()?;
+        lists.push(list_of(alloc, make(lease)?)?)?;
+    }
+    Ok(lists)
+}
+
+/// A list of one thing.
+fn list_of<T: Drop>(alloc: Global, thing: T) -> Result<Vec<T>, AllocError>
+    ensures { IfOk result (λ list. list.items ≡ thing ∷ []) }
+{
+    let mut list = Vec::new(alloc);
+    list.push(thing)?;
+    Ok(list)
+}
+
+/// Builds by workers of whom each has one estimator, which gives such keys.
+pub(crate) fn built_by<G: Gate, R: Threads + Wait + Sync>(
+    rt: &R,
+    alloc: Global,
+    graph: Graph,
+    options: Options,
+    keys: Keys,
+    gate: &G,
+) -> Result<Built, Fail> {
+    let mut leases = Leases::new(alloc)?;
+    let lists = a_list_each(
+        alloc,
+        &mut leases,
+        options.workers,
+        |lease| -> Result<Box<dyn Estimator + Send>, AllocError>
+            ensures { IfOk result (λ estimator. heard estimator ≡ []) }
+        {
+            let inner = EdgeDifference::new(alloc, lease);
+            Ok(Box::new(alloc, Chooser { inner, keys })?)
+        },
+    )?;
+    let built = build(rt, alloc, graph, options, lists, &mut leases, gate)?;
+    Ok(built)
+}

@@ -1,0 +1,28 @@
+//! Tests of the workers from without, as a program calls them: options and what is refused, the order of one worker,
+//! workers who overtake each other, throngs, estimators and their leases, receipts and the lengths of hierarchies.
+//!
+//! A crate of its own, so that `ch_workers` is proved once and nothing waits for its tests. It has no code but tests.
+#![tactic(auto)]
+
+#[cfg(test)]
+mod accounts;
+#[cfg(test)]
+mod drops;
+#[cfg(test)]
+mod gates;
+#[cfg(test)]
+mod kit;
+#[cfg(test)]
+mod leases;
+#[cfg(test)]
+mod lengths;
+#[cfg(test)]
+mod limits;
+#[cfg(test)]
+mod orders;
+#[cfg(test)]
+mod refusals;
+#[cfg(test)]
+mod stations;
+#[cfg(test)]
+mod throngs;

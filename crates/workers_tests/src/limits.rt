@@ -1,0 +1,109 @@
+use ch_workers::Options;
+
+/// Options that are good for two lists.
+const GOOD: Options = Options {
+    workers: 2,
+    heaps: 2,
+    seed: 7,
+    settle: 500,
+    defer: 10,
+    turns: 1000,
+};
+
+/// Options, a number of lists, and whether they are bad.
+const LIMITS: [(Options, usize, bool); 24] = [
+    (Options { workers: 0, ..GOOD }, 0, false),
+    (
+        Options {
+            workers: 64,
+            ..GOOD
+        },
+        64,
+        false,
+    ),
+    (
+        Options {
+            workers: 65,
+            ..GOOD
+        },
+        65,
+        true,
+    ),
+    (Options { workers: 0, ..GOOD }, 1, true),
+    (Options { workers: 2, ..GOOD }, 2, false),
+    (Options { workers: 2, ..GOOD }, 1, true),
+    (Options { workers: 2, ..GOOD }, 3, true),
+    (Options { heaps: 0, ..GOOD }, 2, true),
+    (Options { heaps: 1, ..GOOD }, 2, false),
+    (Options { heaps: 4, ..GOOD }, 2, false),
+    (Options { heaps: 5, ..GOOD }, 2, true),
+    (Options { settle: 0, ..GOOD }, 2, true),
+    (Options { settle: 1, ..GOOD }, 2, false),
+    (
+        Options {
+            settle: 65_536,
+            ..GOOD
+        },
+        2,
+        false,
+    ),
+    (
+        Options {
+            settle: 65_537,
+            ..GOOD
+        },
+        2,
+        true,
+    ),
+    (Options { defer: 0, ..GOOD }, 2, false),
+    (
+        Options {
+            defer: 65_535,
+            ..GOOD
+        },
+        2,
+        false,
+    ),
+    (
+        Options {
+            defer: 65_536,
+            ..GOOD
+        },
+        2,
+        true,
+    ),
+    (Options { turns: 0, ..GOOD }, 2, true),
+    (Options { turns: 1, ..GOOD }, 2, false),
+    (
+        Options {
+            turns: 1_099_511_627_776,
+            ..GOOD
+        },
+        2,
+        false,
+    ),
+    (
+        Options {
+            turns: 1_099_511_627_777,
+            ..GOOD
+        },
+        2,
+        true,
+    ),
+    (Options { seed: 0, ..GOOD }, 2, false),
+    (
+        Options {
+            seed: u64::MAX,
+            ..GOOD
+        },
+        2,
+        false,
+    ),
+];
+
+#[test]
+fn numbers_have_limits(rt: HostRuntime) {
+    for (options, lists, want) in LIMITS {
+        assert_eq!(rt; options.are_bad(lists), want);
+    }
+}

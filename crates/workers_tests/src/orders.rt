@@ -1,0 +1,137 @@
+use crate::kit::{Keys, ONE, built_by, empty_lists, row, star, tie};
+use crate::stations::Trail;
+use ch_contract::Receipt;
+use ch_cost::Cost;
+use ch_estimate::Leases;
+use ch_graph::{Hierarchy, Link};
+use ch_workers::{Built, OpenGate, Options, build};
+use std::alloc::Global;
+use std::sync::Wait;
+use std::test::Fail;
+use std::thread::Threads;
+
+/// A link without a middle.
+fn link(from: u32, to: u32, weight: u32) -> Link {
+    Link {
+        from,
+        to,
+        cost: Cost::of_weight(weight),
+        middle: None,
+    }
+}
+
+/// A link by way of node 0.
+fn shortcut(from: u32, to: u32, weight: u32) -> Link {
+    Link {
+        from,
+        to,
+        cost: Cost::of_weight(weight),
+        middle: Some(0),
+    }
+}
+
+/// The receipt of a node.
+fn receipt(node: u32, rank: u32) -> Receipt {
+    Receipt { node, rank }
+}
+
+/// Whether the nodes have these ranks, and there are no others.
+fn are_ranks(hierarchy: &Hierarchy, ranks: &[u32]) -> bool {
+    if hierarchy.nodes() as usize != ranks.len() {
+        return false;
+    }
+    'nodes: for node in 0..hierarchy.nodes() {
+        if hierarchy.rank(node) != ranks[node as usize] {
+            return false;
+        }
+    }
+    true
+}
+
+/// Whether one worker and the sweep were handed these receipts.
+fn are_receipts(built: &Built, worker: &[Receipt], sweep: &[Receipt]) -> bool {
+    match built.receipts.as_slice() {
+        [first, second] => first.as_slice() == worker && second.as_slice() == sweep,
+        _ => false,
+    }
+}
+
+/// Whether so many workers make a hierarchy of the star that has these ranks and links, and the bound 4.
+fn makes_of_a_star<R: Threads + Wait + Sync>(
+    rt: &R,
+    alloc: Global,
+    workers: u32,
+    ranks: &[u32],
+    links: &[Link],
+) -> Result<bool, Fail> {
+    let options = Options { workers, ..ONE };
+    let built = built_by(
+        rt,
+        alloc,
+        star(alloc)?,
+        options,
+        Keys::Differences,
+        &OpenGate,
+    )?;
+    let hierarchy = &built.hierarchy;
+    Ok(are_ranks(hierarchy, ranks) && hierarchy.bound().length() == 4 && hierarchy.links() == links)
+}
+
+#[test]
+fn a_star_by_one_worker_and_by_none(rt: HostRuntime) -> Result<(), Fail> {
+    let by_one = [link(0, 3, 1), link(0, 4, 1), link(1, 0, 1), link(2, 0, 1)];
+    assert!(rt; makes_of_a_star(&rt, rt.alloc(), 1, &[4, 0, 1, 2, 3], &by_one)?);
+    let by_none = [
+        link(0, 3, 1),
+        link(0, 4, 1),
+        link(1, 0, 1),
+        shortcut(1, 3, 2),
+        shortcut(1, 4, 2),
+        link(2, 0, 1),
+        shortcut(2, 3, 2),
+        shortcut(2, 4, 2),
+    ];
+    assert!(rt; makes_of_a_star(&rt, rt.alloc(), 0, &[0, 1, 2, 3, 4], &by_none)?);
+    Ok(())
+}
+
+/// Whether one worker, who takes so many turns, leaves these receipts of the tie to the sweep, of four in order, and
+/// passes points with these digits.
+fn takes_turns<R: Threads + Wait + Sync>(
+    rt: &R,
+    alloc: Global,
+    turns: u64,
+    own: usize,
+    digits: u64,
+) -> Result<bool, Fail> {
+    let trail = Trail::new();
+    let options = Options { turns, ..ONE };
+    let built = built_by(rt, alloc, tie(alloc)?, options, Keys::Differences, &trail)?;
+    let order = [receipt(0, 0), receipt(1, 1), receipt(2, 2), receipt(3, 3)];
+    let Some((worker, sweep)) = order.split_at_checked(own) else {
+        return Ok(false);
+    };
+    Ok(are_receipts(&built, worker, sweep) && trail.digits() == digits)
+}
+
+// After the first commit the keys of nodes 1, 2 and 3 have risen, and after the third that of node 3 has again.
+#[test]
+fn a_tie_by_one_worker_and_the_sweep(rt: HostRuntime) -> Result<(), Fail> {
+    assert!(rt; takes_turns(&rt, rt.alloc(), 100, 4, 0o123_111_123_123_1_123_5)?);
+    assert!(rt; takes_turns(&rt, rt.alloc(), 1, 1, 0o123_5)?);
+    Ok(())
+}
+
+#[test]
+fn a_worker_without_estimators(rt: HostRuntime) -> Result<(), Fail> {
+    let alloc = rt.alloc();
+    let mut leases = Leases::new(alloc)?;
+    let lists = empty_lists(alloc, 1)?;
+    let graph = row(alloc)?;
+    let built = build(&rt, alloc, graph, ONE, lists, &mut leases, &OpenGate)?;
+    let order = [receipt(0, 0), receipt(1, 1), receipt(2, 2)];
+    assert!(rt; are_receipts(&built, order.as_slice(), [].as_slice()));
+    let links = [link(0, 2, 3), link(1, 0, 2), shortcut(1, 2, 5)];
+    assert!(rt; built.hierarchy.links() == links.as_slice());
+    Ok(())
+}

@@ -1,0 +1,67 @@
+use crate::kit::{ONE, empty_lists, row};
+use ch_estimate::Leases;
+use ch_workers::{BuildError, OpenGate, Options, build};
+use std::alloc::Global;
+use std::sync::Wait;
+use std::test::Fail;
+use std::thread::Threads;
+
+/// Whether a build by these options and so many lists answers that they are bad.
+fn is_refused<R: Threads + Wait + Sync>(
+    rt: &R,
+    alloc: Global,
+    options: Options,
+    count: u32,
+) -> Result<bool, Fail> {
+    let mut leases = Leases::new(alloc)?;
+    let lists = empty_lists(alloc, count)?;
+    let graph = row(alloc)?;
+    let built = build(rt, alloc, graph, options, lists, &mut leases, &OpenGate);
+    Ok(matches!(built, Err(BuildError::BadOptions)))
+}
+
+/// Options, a number of lists, and whether they are bad.
+const OPTIONS: [(Options, u32, bool); 13] = [
+    (Options { workers: 0, ..ONE }, 0, false),
+    (Options { workers: 0, ..ONE }, 1, true),
+    (Options { workers: 1, ..ONE }, 1, false),
+    (Options { workers: 2, ..ONE }, 1, true),
+    (Options { workers: 2, ..ONE }, 3, true),
+    (Options { workers: 65, ..ONE }, 65, true),
+    (Options { heaps: 0, ..ONE }, 1, true),
+    (Options { heaps: 5, ..ONE }, 1, true),
+    (Options { settle: 0, ..ONE }, 1, true),
+    (
+        Options {
+            settle: 65_537,
+            ..ONE
+        },
+        1,
+        true,
+    ),
+    (
+        Options {
+            defer: 65_536,
+            ..ONE
+        },
+        1,
+        true,
+    ),
+    (Options { turns: 0, ..ONE }, 1, true),
+    (
+        Options {
+            turns: 1_099_511_627_777,
+            ..ONE
+        },
+        1,
+        true,
+    ),
+];
+
+#[test]
+fn bad_options_are_refused(rt: HostRuntime) -> Result<(), Fail> {
+    for (options, lists, want) in OPTIONS {
+        assert_eq!(rt; is_refused(&rt, rt.alloc(), options, lists)?, want);
+    }
+    Ok(())
+}

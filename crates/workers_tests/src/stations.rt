@@ -1,0 +1,186 @@
+use ch_workers::{Built, Gate, Point};
+use std::sync::atomic::{AtomicU64, Ordering};
+use std::thread;
+
+/// How often a gate that keeps a worker looks at most.
+const LOOKS: u64 = 100_000_000;
+
+/// Looks at a word until it is this number. False where it isn't at the last look.
+pub(crate) fn comes_to(word: &AtomicU64, number: u64) -> bool {
+    'looks: for look in 0..LOOKS {
+        if word.load(Ordering::SeqCst) == number {
+            return true;
+        }
+        if look % 1024 == 0 {
+            thread::yield_now();
+        }
+    }
+    false
+}
+
+/// Writes down the points that a single worker passes, as octal digits: its items 1, its proposals 2, its commits 3,
+/// its refusals 4 and its end 5.
+#[derive(Drop)]
+pub(crate) struct Trail {
+    digits: AtomicU64,
+}
+
+impl Trail {
+    /// Nothing was passed yet.
+    pub(crate) fn new() -> Trail {
+        Trail {
+            digits: AtomicU64::new(0),
+        }
+    }
+
+    /// The digits of the points so far, the last point in the last place.
+    pub(crate) fn digits(&self) -> u64 {
+        self.digits.load(Ordering::SeqCst)
+    }
+}
+
+impl Gate for Trail {
+    fn pass(&self, _worker: u32, point: Point) {
+        let digit = match point {
+            Point::Took => 1,
+            Point::Proposed => 2,
+            Point::Committed => 3,
+            Point::Refused => 4,
+            Point::Done => 5,
+        };
+        let digits = self.digits.load(Ordering::SeqCst);
+        let more = digits.wrapping_mul(8).wrapping_add(digit);
+        self.digits.store(more, Ordering::SeqCst);
+    }
+}
+
+/// Eight words that are 0.
+fn zeros() -> [AtomicU64; 8] {
+    [
+        AtomicU64::new(0),
+        AtomicU64::new(0),
+        AtomicU64::new(0),
+        AtomicU64::new(0),
+        AtomicU64::new(0),
+        AtomicU64::new(0),
+        AtomicU64::new(0),
+        AtomicU64::new(0),
+    ]
+}
+
+/// Counts the commits of each worker.
+#[derive(Drop)]
+pub(crate) struct Tally {
+    committed: [AtomicU64; 8],
+}
+
+impl Tally {
+    /// Nobody has committed yet.
+    pub(crate) fn new() -> Tally {
+        Tally { committed: zeros() }
+    }
+
+    /// Whether each worker was handed as many receipts as it committed, and the sweep none where there is a worker.
+    pub(crate) fn is_of(&self, built: &Built) -> bool {
+        let Some((swept, lists)) = built.receipts.split_last() else {
+            return false;
+        };
+        if !lists.is_empty() && !swept.is_empty() {
+            return false;
+        }
+        'workers: for worker in 0..lists.len() {
+            let Some(committed) = self.committed.get(worker) else {
+                return false;
+            };
+            if committed.load(Ordering::SeqCst) != lists[worker].len() as u64 {
+                return false;
+            }
+        }
+        true
+    }
+}
+
+impl Gate for Tally {
+    fn pass(&self, worker: u32, point: Point) {
+        if point != Point::Committed {
+            return;
+        }
+        if let Some(committed) = self.committed.get(worker as usize) {
+            committed.fetch_add(1, Ordering::SeqCst);
+        }
+    }
+}
+
+/// Keeps each worker at its first item until so many have come to theirs.
+#[derive(Drop)]
+pub(crate) struct Together {
+    workers: u64,
+    first: [AtomicU64; 8],
+    come: AtomicU64,
+    late: AtomicU64,
+}
+
+impl Together {
+    /// Nobody has come yet.
+    pub(crate) fn new(workers: u64) -> Together {
+        Together {
+            workers,
+            first: zeros(),
+            come: AtomicU64::new(0),
+            late: AtomicU64::new(0),
+        }
+    }
+
+    /// Whether all have come, and nobody was kept to the last look.
+    pub(crate) fn was_met(&self) -> bool {
+        self.come.load(Ordering::SeqCst) == self.workers && self.late.load(Ordering::SeqCst) == 0
+    }
+}
+
+impl Gate for Together {
+    fn pass(&self, worker: u32, point: Point) {
+        let Some(first) = self.first.get(worker as usize) else {
+            return;
+        };
+        if point != Point::Took || first.swap(1, Ordering::SeqCst) == 1 {
+            return;
+        }
+        self.come.fetch_add(1, Ordering::SeqCst);
+        if !comes_to(&self.come, self.workers) {
+            self.late.store(1, Ordering::SeqCst);
+        }
+    }
+}
+
+/// Keeps worker 0 at its proposals until worker 1 has committed.
+#[derive(Drop)]
+pub(crate) struct Overtaken {
+    committed: AtomicU64,
+    late: AtomicU64,
+}
+
+impl Overtaken {
+    /// Nobody has committed yet.
+    pub(crate) fn new() -> Overtaken {
+        Overtaken {
+            committed: AtomicU64::new(0),
+            late: AtomicU64::new(0),
+        }
+    }
+
+    /// Whether worker 1 has committed, and worker 0 wasn't kept to the last look.
+    pub(crate) fn was_met(&self) -> bool {
+        self.committed.load(Ordering::SeqCst) == 1 && self.late.load(Ordering::SeqCst) == 0
+    }
+}
+
+impl Gate for Overtaken {
+    fn pass(&self, worker: u32, point: Point) {
+        if worker == 1 && point == Point::Committed {
+            self.committed.store(1, Ordering::SeqCst);
+        }
+        if worker == 0 && point == Point::Proposed && !comes_to(&self.committed, 1) {
+            self.late.store(1, Ordering::SeqCst);
+        }
+    }
+}

@@ -1,0 +1,60 @@
+use crate::kit::{Keys, built_by, grid, tie};
+use crate::lengths::are_least;
+use crate::stations::Tally;
+use ch_graph::Graph;
+use ch_workers::Options;
+use std::alloc::Global;
+use std::sync::Wait;
+use std::test::Fail;
+use std::thread::Threads;
+
+/// Whether so many workers contract a graph whole: each has the receipts of its commits, nothing is left to the sweep,
+/// and all lengths are those of the same graph.
+fn do_all<R: Threads + Wait + Sync>(
+    rt: &R,
+    alloc: Global,
+    graph: Graph,
+    same: &Graph,
+    workers: u32,
+    keys: Keys,
+) -> Result<bool, Fail> {
+    let options = Options {
+        workers,
+        heaps: 2,
+        seed: 1,
+        settle: 64,
+        defer: 16,
+        turns: 1 << 32,
+    };
+    let tally = Tally::new();
+    let built = built_by(rt, alloc, graph, options, keys, &tally)?;
+    Ok(tally.is_of(&built) && are_least(alloc, same, &built.hierarchy)?)
+}
+
+/// Whether so many workers contract the tie and the grid whole.
+fn do_both<R: Threads + Wait + Sync>(
+    rt: &R,
+    alloc: Global,
+    workers: u32,
+    keys: Keys,
+) -> Result<bool, Fail> {
+    let ties = do_all(rt, alloc, tie(alloc)?, &tie(alloc)?, workers, keys)?;
+    Ok(ties && do_all(rt, alloc, grid(alloc)?, &grid(alloc)?, workers, keys)?)
+}
+
+#[test]
+fn ties_and_grids_by_throngs(rt: HostRuntime) -> Result<(), Fail> {
+    for (workers, keys) in [
+        (0, Keys::Greatest),
+        (1, Keys::Greatest),
+        (2, Keys::Greatest),
+        (8, Keys::Greatest),
+        (0, Keys::Drawn(7)),
+        (1, Keys::Drawn(7)),
+        (2, Keys::Drawn(7)),
+        (8, Keys::Drawn(7)),
+    ] {
+        assert!(rt; do_both(&rt, rt.alloc(), workers, keys)?);
+    }
+    Ok(())
+}
