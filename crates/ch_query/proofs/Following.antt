@@ -1,7 +1,7 @@
 -- The links that climb from a node, followed one by one.
-use Rattle.std.proofs.Common.{ℕ, ◌≡◌, ◌+◌, ◌<◌, ◌≤◌, List, length, get_or, set, Option, Some, None, ap, refl, sym, subst, ◌∙◌, inl, inr, arith}
+use Rattle.std.proofs.Common.{ℕ, ◌≡◌, ◌+◌, ◌<◌, ◌≤◌, List, length, slice_index, set, Option, Some, None, ap, refl, sym, subst, ◌∙◌, inl, inr, arith}
 use Rattle.std.proofs.lemmas.Bool.{cases_lt}
-use Rattle.std.proofs.lemmas.List.{length-set, get_or_default}
+use Rattle.std.proofs.lemmas.List.{length-set}
 use Rattle.ch_cost.specs.declared.cost.Cost.{Cost}
 use Rattle.ch_cost.specs.Cost.{◌⊕◌, ◌≼◌}
 use Rattle.ch_cost.specs.Cost.Laws.{at_most_refl, at_most_trans, at_most_sum_left, below_trans_at_most}
@@ -13,12 +13,12 @@ use Rattle.ch_query.specs.declared.side.Side.{Side}
 use Rattle.ch_query.specs.declared.upward.Step.{Step}
 use Rattle.ch_query.specs.Labels.{HasAtMost, CountsBelow}
 use Rattle.ch_query.specs.Climb.{foot_at, foot_rank, head_rank, cost_at, Climbs, ClimbsFrom}
-use Rattle.ch_query.specs.Upward.{steps_of, AreStepsFrom, IsLaidOut}
+use Rattle.ch_query.specs.Upward.{IsLaidOut}
 use Rattle.ch_query.specs.Marks.{mark_at, costs_of, Improves, IsBelow, IsNoMore}
-use Rattle.ch_query.specs.Searching.{IsStep, IsFollowed, IsLatest, ClimbsTo, IsOpenedBy, ArePassed}
+use Rattle.ch_query.specs.Searching.{IsStepAt, IsFollowed, IsLatest, ClimbsTo, IsOpenedBy, ArePassed}
 use Rattle.ch_query.proofs.Sides.{foot_in}
 use Rattle.ch_query.proofs.Ranks.{same_node, rank_taken}
-use Rattle.ch_query.proofs.Laying.{steps_are, one_step, each_link}
+use Rattle.ch_query.proofs.Laying.{links_are, step_at, as_many}
 use Rattle.ch_query.proofs.Marking.{cases_write, open-settled, open-open, not_improves, improves-unsettled, improves-not_settled, count-open, open-here, open-kept}
 
 pub opened-none : (h : Hierarchy) (side : Side) (r : ℕ) (c : Cost) (marks : List Mark) → IsOpenedBy h side r c marks marks
@@ -116,54 +116,55 @@ from-climbs h made side v k v_in climbs foot = record {
   climbs = subst (λ q. q < head_rank h side k) foot climbs.rises;
 }
 
--- The steps of a rank are followed one by one: those before the next one were.
-pub record IsPassing (h : Hierarchy) (side : Side) (r : ℕ) (c : Cost) (steps : List Step) (next : ℕ) (limit : Option Cost) (old new : List Mark) : Type 0 where
+-- The links from one place on are followed one by one: those before the next one were.
+pub record IsPassing (h : Hierarchy) (side : Side) (r : ℕ) (c : Cost) (links : List ℕ) (begin next : ℕ) (limit : Option Cost) (old new : List Mark) : Type 0 where
   pub opened : IsOpenedBy h side r c old new
-  pub followed : (i : ℕ) (s : Step) → i < length steps → i < next → IsFollowed h side c limit new (get_or steps i s).link
+  pub followed : (i : ℕ) → begin ≤ i → i < next → IsFollowed h side c limit new (slice_index links i)
 
-pub passing-none : (h : Hierarchy) (side : Side) (r : ℕ) (c : Cost) (steps : List Step) (limit : Option Cost) (marks : List Mark) → IsPassing h side r c steps 0 limit marks marks
-passing-none h side r c steps limit marks = record {
+pub passing-none : (h : Hierarchy) (side : Side) (r : ℕ) (c : Cost) (links : List ℕ) (begin : ℕ) (limit : Option Cost) (marks : List Mark) → IsPassing h side r c links begin begin limit marks marks
+passing-none h side r c links begin limit marks = record {
   opened = opened-none h side r c marks;
-  followed = λ i s within low. absurd (omega (arith, low));
+  followed = λ i from low. absurd (omega (arith, from, low));
 }
 
--- one more step was followed
-pub passing-more : {h : Hierarchy} {side : Side} {r : ℕ} {c : Cost} {steps : List Step} {limit found : Option Cost} {old mid new : List Mark} (next : ℕ) (d : Step) → next < length steps → IsPassing h side r c steps next limit old mid → IsOpenedBy h side r c mid new → IsNoMore found limit → IsFollowed h side c found new (get_or steps next d).link → IsPassing h side r c steps (next + 1) found old new
-passing-more {h} {side} {r} {c} {steps} {found = found} {new = new} next d room is opened less done = record {
+-- one more link was followed
+pub passing-more : {h : Hierarchy} {side : Side} {r : ℕ} {c : Cost} {links : List ℕ} {begin : ℕ} {limit found : Option Cost} {old mid new : List Mark} (next : ℕ) → IsPassing h side r c links begin next limit old mid → IsOpenedBy h side r c mid new → IsNoMore found limit → IsFollowed h side c found new (slice_index links next) → IsPassing h side r c links begin (next + 1) found old new
+passing-more {h} {side} {r} {c} {links} {found = found} {new = new} next is opened less done = record {
   opened = opened-more is.opened opened;
-  followed = λ i s within low. elim (cases_lt i next) [
-    | inl before ↦ followed-more opened less (get_or steps i s).link (is.followed i s within before)
+  followed = λ i from low. elim (cases_lt i next) [
+    | inl before ↦ followed-more opened less (slice_index links i) (is.followed i from before)
     | inr last ↦
         let same : i ≡ next = omega (arith, low, last) in
-        subst (λ k. IsFollowed h side c found new (get_or steps k s).link) (sym same) (subst (λ (t : Step). IsFollowed h side c found new t.link) (get_or_default steps next d s room) done)
+        subst (λ j. IsFollowed h side c found new (slice_index links j)) (sym same) done
   ];
 }
 
--- all steps of the rank were
-pub passed_over : (h : Hierarchy) → IsWellMade h → (side : Side) (c : Cost) (first : List ℕ) (all : List Step) → IsLaidOut h side first all → (r : ℕ) → r < length h.ranks → (steps : List Step) → steps ≡ steps_of first all r → (next : ℕ) → length steps ≤ next → (limit : Option Cost) (old new : List Mark) → IsPassing h side r c steps next limit old new → ArePassed h side r c limit new
-passed_over h made side c first all laid r low steps parts next whole limit old new is k climbs foot =
-    let v = rank_taken h made r low in
-    let are : AreStepsFrom h side v.0 steps = steps_are h side first all laid v.0 r v.1 v.2 steps parts in
-    let from : ClimbsFrom h side v.0 k = from-climbs h made side v.0 k v.1 climbs (foot ∙ sym v.2) in
-    each_link (λ j. IsFollowed h side c limit new j) are (λ i s within. is.followed i s within (omega (arith, within, whole))) k from
-
--- one step of a rank
-module _ (h : Hierarchy) (made : IsWellMade h) (side : Side) (first : List ℕ) (all : List Step) (laid : IsLaidOut h side first all) (r : ℕ) (low : r < length h.ranks) (steps : List Step) (parts : steps ≡ steps_of first all r) where
-  step_of : (i : ℕ) (s : Step) → i < length steps → s ≡ get_or steps i s → IsStep h side s × (foot_rank h side s.link ≡ r)
-  step_of i s within is =
+-- what a rank has in the lists of a side
+module _ (h : Hierarchy) (made : IsWellMade h) (side : Side) (first links : List ℕ) (steps : List Step) (laid : IsLaidOut h side first links steps) (r : ℕ) (low : r < length h.ranks) where
+  -- all its links were followed
+  pub passed_over : (c : Cost) (begin next : ℕ) → begin ≤ slice_index first r → slice_index first (r + 1) ≤ next → (limit : Option Cost) (old new : List Mark) → IsPassing h side r c links begin next limit old new → ArePassed h side r c limit new
+  passed_over c begin next from whole limit old new is k climbs foot =
       let v = rank_taken h made r low in
-      let are : AreStepsFrom h side v.0 steps = steps_are h side first all laid v.0 r v.1 v.2 steps parts in
-      let one = one_step are i s within is in (
-        record {
-          climbs = climbs-from one.0;
-          head = ap (λ (t : Step). t.head) one.1;
-          cost = ap (λ (t : Step). t.cost) one.1;
-        },
-        foot-from one.0 ∙ v.2,
-      )
+      let climbs_from : ClimbsFrom h side v.0 k = from-climbs h made side v.0 k v.1 climbs (foot ∙ sym v.2) in
+      let among = (links_are h side first links steps laid v.0 r v.1 v.2).each k climbs_from in
+      subst (λ j. IsFollowed h side c limit new j) among.3 (is.followed among.0 (omega (arith, from, among.1)) (omega (arith, among.2, whole)))
 
-  pub step-made : (i : ℕ) (d : Step) → i < length steps → IsStep h side (get_or steps i d)
-  step-made i d within = (step_of i (get_or steps i d) within (get_or_default steps i d (get_or steps i d) within)).0
+  -- one of its links
+  from_here : (i : ℕ) → slice_index first r ≤ i → i < slice_index first (r + 1) → Climbs h side (slice_index links i) × (foot_rank h side (slice_index links i) ≡ r)
+  from_here i from before =
+      let v = rank_taken h made r low in
+      let one = (links_are h side first links steps laid v.0 r v.1 v.2).climb i from before in
+      (climbs-from one, foot-from one ∙ v.2)
 
-  pub foot-made : (i : ℕ) (d : Step) → i < length steps → foot_rank h side (get_or steps i d).link ≡ r
-  foot-made i d within = (step_of i (get_or steps i d) within (get_or_default steps i d (get_or steps i d) within)).1
+  pub foot-made : (i : ℕ) → slice_index first r ≤ i → i < slice_index first (r + 1) → foot_rank h side (slice_index links i) ≡ r
+  foot-made i from before = (from_here i from before).1
+
+  pub step-made : (i : ℕ) → slice_index first r ≤ i → i < slice_index first (r + 1) → IsStepAt h side links steps i
+  step-made i from before =
+      let within : i < length links = omega (arith, before, laid.within (r + 1) (omega (arith, low, laid.nodes))) in
+      record {
+        link_in = within;
+        step_in = omega (arith, within, as_many h side links steps laid.along);
+        climbs = (from_here i from before).0;
+        along = step_at h side links steps laid.along i within;
+      }

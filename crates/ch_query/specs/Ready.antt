@@ -7,9 +7,9 @@ use Rattle.ch_query.specs.declared.upward.Step.{Step}
 use Rattle.ch_query.specs.Upward.{IsLaidOut}
 
 -- the steps of either side, and a mark of either side for each node
-pub record IsReady (h : Hierarchy) (first_up : List ℕ) (steps_up : List Step) (first_down : List ℕ) (steps_down : List Step) (up down : List Mark) : Type 0 where
+pub record IsReady (h : Hierarchy) (first_up links_up : List ℕ) (steps_up : List Step) (first_down links_down : List ℕ) (steps_down : List Step) (up down : List Mark) : Type 0 where
   pub made : IsWellMade h
-  pub rising : IsLaidOut h Rise first_up steps_up
-  pub falling : IsLaidOut h Fall first_down steps_down
+  pub rising : IsLaidOut h Rise first_up links_up steps_up
+  pub falling : IsLaidOut h Fall first_down links_down steps_down
   pub ups : length up ≡ length h.ranks
   pub downs : length down ≡ length h.ranks

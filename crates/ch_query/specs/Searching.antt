@@ -1,5 +1,5 @@
 -- One side of a query, as its marks tell it.
-use Rattle.std.specs.Prelude.{ℕ, ◌≡◌, ◌+◌, ◌⊎◌, true, false, Bool, List, length, Option, Some, None}
+use Rattle.std.specs.Prelude.{ℕ, ◌≡◌, ◌+◌, ◌<◌, ◌⊎◌, true, false, Bool, List, length, slice_index, slice_index_or, Option, Some, None}
 use Rattle.ch_cost.specs.declared.cost.Cost.{Cost}
 use Rattle.ch_cost.specs.Cost.{zero_cost, ◌⊕◌, ◌≼◌, IsNoLonger, IsOfWalks}
 use Rattle.ch_graph.specs.Hierarchy.{Hierarchy, rank_of}
@@ -10,6 +10,7 @@ use Rattle.ch_query.specs.declared.side.Side.{Side}
 use Rattle.ch_query.specs.declared.upward.Step.{Step}
 use Rattle.ch_query.specs.Climb.{foot_rank, head_rank, cost_at, Climbs}
 use Rattle.ch_query.specs.Labels.{HasAtMost, CountsBelow}
+use Rattle.ch_query.specs.Upward.{step_along}
 use Rattle.ch_query.specs.Marks.{mark_at, label_at, costs_of, IsStopped, settled_count}
 
 -- the label of cost c came to the rank r by the link at k, from a node that is settled
@@ -45,11 +46,12 @@ pub record IsSearching (h : Hierarchy) (side : Side) (start : ℕ) (marks : List
 
 -- One turn
 
--- the step is that of a link that climbs
-pub record IsStep (h : Hierarchy) (side : Side) (s : Step) : Type 0 where
-  pub climbs : Climbs h side s.link
-  pub head : s.head ≡ head_rank h side s.link
-  pub cost : s.cost ≡ cost_at h s.link
+-- at a place are a link that climbs and the step along it
+pub record IsStepAt (h : Hierarchy) (side : Side) (links : List ℕ) (steps : List Step) (place : ℕ) : Type 0 where
+  pub link_in : place < length links
+  pub step_in : place < length steps
+  pub climbs : Climbs h side (slice_index links place)
+  pub along : (s : Step) → slice_index_or steps place s ≡ step_along h side (slice_index links place)
 
 -- no settled node has a label above this cost
 abbrev pub IsLatest : List Mark → Cost → Type 0

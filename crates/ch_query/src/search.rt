@@ -51,7 +51,7 @@ impl<'a> Model for Search<'a> {
 
     ghost view = { λ s. s.hierarchy.now };
 
-    ghost invariant = { λ s. IsReady s.hierarchy.now s.rising.first.items s.rising.steps.items s.falling.first.items s.falling.steps.items s.up s.down };
+    ghost invariant = { λ s. IsReady s.hierarchy.now s.rising.first.items s.rising.links.items s.rising.steps.items s.falling.first.items s.falling.links.items s.falling.steps.items s.up s.down };
 }
 
 impl<'a> Search<'a> {

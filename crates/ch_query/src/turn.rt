@@ -1,10 +1,10 @@
-ghost use Rattle.std.specs.Prelude.{◌≡◌, ◌<◌, length, IfOk, OnOk};
+ghost use Rattle.std.specs.Prelude.{◌≡◌, ◌<◌, length, slice_index, IfOk, OnOk};
 ghost use Rattle.ch_cost.specs.Cost.{IsNoLonger, IsOfWalks};
 ghost use Rattle.ch_graph.specs.Hierarchy.{IsWellMade};
 ghost use Rattle.ch_query.specs.Climb.{foot_rank};
 ghost use Rattle.ch_query.specs.Upward.{IsLaidOut};
 ghost use Rattle.ch_query.specs.Marks.{costs_of, FitAll, IsNoMore};
-ghost use Rattle.ch_query.specs.Searching.{IsStep, IsLatest, IsOpenedBy, IsFollowed, AreFollowed, ArePassed, IsSearching, IsTurned};
+ghost use Rattle.ch_query.specs.Searching.{IsStepAt, IsLatest, IsOpenedBy, IsFollowed, AreFollowed, ArePassed, IsSearching, IsTurned};
 ghost use Rattle.ch_query.specs.Meeting.{IsBestMeeting, cost_of};
 
 use crate::frontier::Frontier;
@@ -12,7 +12,7 @@ use crate::label::Label;
 use crate::limit::{is_below, is_short};
 use crate::meeting::{Meeting, cost_of, look_at};
 use crate::side::{Climb, Side};
-use crate::upward::{Step, UpwardSteps};
+use crate::upward::UpwardSteps;
 use ch_cost::Cost;
 use ch_graph::Hierarchy;
 use std::alloc::AllocError;
@@ -28,7 +28,7 @@ pub fn turn(
     best: &mut Option<Meeting>,
 ) -> Result<bool, AllocError>
     requires made { IsWellMade hierarchy.now }
-    requires laid { IsLaidOut hierarchy.now climb.side upward.now.first.items upward.now.steps.items }
+    requires laid { IsLaidOut hierarchy.now climb.side upward.now.first.items upward.now.links.items upward.now.steps.items }
     requires searching { IsSearching hierarchy.now climb.side climb.start here.old }
     requires followed { AreFollowed hierarchy.now climb.side (cost_of best.old) here.old }
     requires there_nodes { length there.now ≡ length hierarchy.now.ranks }
@@ -65,7 +65,7 @@ fn pass_over(
 ) -> Result<Option<Meeting>, AllocError>
     requires made { IsWellMade hierarchy.now }
     requires rank_in { rank < length hierarchy.now.ranks }
-    requires laid { IsLaidOut hierarchy.now side upward.now.first.items upward.now.steps.items }
+    requires laid { IsLaidOut hierarchy.now side upward.now.first.items upward.now.links.items upward.now.steps.items }
     requires here_nodes { length here.old ≡ length hierarchy.now.ranks }
     requires there_nodes { length there.now ≡ length hierarchy.now.ranks }
     requires latest { IsLatest here.old cost }
@@ -79,38 +79,41 @@ fn pass_over(
     ensures best { IfOk result (λ found. IsBestMeeting hierarchy.now (costs_of here.new) (costs_of there.now) found) }
 {
     let mut best = best;
-    let steps = upward.steps_of(rank);
-    for step in steps {
-        best = follow(hierarchy, side, *step, cost, here, there, best)?;
+    let begin = upward.first[rank as usize];
+    let end = upward.first[rank as usize + 1];
+    for place in begin..end {
+        best = follow(hierarchy, upward, side, place, cost, here, there, best)?;
     }
     Ok(best)
 }
 
-/// Follows one link that climbs, from a foot whose label has this cost: the node at its head is opened, if the sum is
+/// Follows the link at a place, from a foot whose label has this cost: the node at its head is opened, if the sum is
 /// below the best meeting and better than what is known of it, and then the sides may meet there.
 fn follow(
     hierarchy: &Hierarchy,
+    upward: &UpwardSteps,
     side: Side,
-    step: Step,
+    place: usize,
     cost: Cost,
     here: &mut Frontier,
     there: &Frontier,
     best: Option<Meeting>,
 ) -> Result<Option<Meeting>, AllocError>
     requires made { IsWellMade hierarchy.now }
-    requires step { IsStep hierarchy.now side step }
+    requires step { IsStepAt hierarchy.now side upward.now.links.items upward.now.steps.items place }
     requires here_nodes { length here.old ≡ length hierarchy.now.ranks }
     requires there_nodes { length there.now ≡ length hierarchy.now.ranks }
     requires latest { IsLatest here.old cost }
-    requires fits { IsOfWalks (foot_rank hierarchy.now side step.link) cost }
+    requires fits { IsOfWalks (foot_rank hierarchy.now side (slice_index upward.now.links.items place)) cost }
     requires short { IsNoLonger cost hierarchy.now.bound }
     requires there_fits { FitAll there.now }
     requires best { IsBestMeeting hierarchy.now (costs_of here.old) (costs_of there.now) best }
     ensures nodes { length here.new ≡ length here.old }
-    ensures opened { OnOk result (IsOpenedBy hierarchy.now side (foot_rank hierarchy.now side step.link) cost here.old here.new) }
-    ensures followed { IfOk result (λ found. IsFollowed hierarchy.now side cost (cost_of found) here.new step.link) }
+    ensures opened { OnOk result (IsOpenedBy hierarchy.now side (foot_rank hierarchy.now side (slice_index upward.now.links.items place)) cost here.old here.new) }
+    ensures followed { IfOk result (λ found. IsFollowed hierarchy.now side cost (cost_of found) here.new (slice_index upward.now.links.items place)) }
     ensures best { IfOk result (λ found. IsBestMeeting hierarchy.now (costs_of here.new) (costs_of there.now) found) }
 {
+    let step = upward.steps[place];
     let sum = cost.plus(step.cost);
     if !is_short(sum, hierarchy.bound()) {
         return Ok(best);
@@ -121,9 +124,10 @@ fn follow(
     if !here.is_improved_by(step.head, sum) {
         return Ok(best);
     }
+    let link = upward.links[place];
     let label = Label {
         cost: sum,
-        link: Some(step.link),
+        link: Some(link),
     };
     here.open(step.head, label)?;
     Ok(look_at(hierarchy, step.head, sum, there.label(step.head), best))

@@ -1,7 +1,7 @@
-ghost use Rattle.std.specs.Prelude.{◌≡◌, ◌+◌, ◌<◌, length, IfOk};
+ghost use Rattle.std.specs.Prelude.{◌≡◌, ◌<◌, length, map, All, IfOk};
 ghost use Rattle.ch_graph.specs.Hierarchy.{IsWellMade};
 ghost use Rattle.ch_query.specs.Ladder.{IsByRank, IsLadder};
-ghost use Rattle.ch_query.specs.Upward.{step_along, steps_of, AreOffsets, IsLaidOut, AreAdded};
+ghost use Rattle.ch_query.specs.Upward.{step_along, IsLaidOut, AreAdded};
 
 use crate::ladder::Ladder;
 use crate::position::link_at;
@@ -17,21 +17,21 @@ pub struct Step {
     pub head: u32,
     /// What the link costs.
     pub cost: Cost,
-    /// The position of the link.
-    pub link: usize,
 }
 
 /// The steps of a side, in the order of the ranks of the nodes that it takes them from.
 ///
-/// Those from one node lie together, and so do those from the nodes of high rank, where all queries come by. It
-/// holds 8 bytes a node and 24 a link that climbs.
+/// Those from one node lie together, and so do those from the nodes of high rank, where all queries come by. The
+/// links lie apart, since a query reads that of a step only where the step gives a better label. It holds 8 bytes a
+/// node and 24 a link that climbs.
 #[derive(Drop)]
 pub struct UpwardSteps {
     /// For each rank the place of the first step from the node of that rank, and then the number of steps.
     pub first: Vec<usize>,
     /// The steps.
     pub steps: Vec<Step>,
-    ghost offsets: { AreOffsets first.items (length steps.items) },
+    /// For each step the position of the link that it goes along.
+    pub links: Vec<usize>,
 }
 
 impl UpwardSteps {
@@ -44,51 +44,63 @@ impl UpwardSteps {
         side: Side,
     ) -> Result<UpwardSteps, AllocError>
         requires { IsByRank hierarchy.now order.now }
-        ensures { IfOk result (λ upward. IsLaidOut hierarchy.now side upward.first.items upward.steps.items) }
+        ensures { IfOk result (λ upward. IsLaidOut hierarchy.now side upward.first.items upward.links.items upward.steps.items) }
     {
         let ladder = Ladder::new(alloc, hierarchy, side)?;
         let nodes = hierarchy.nodes() as usize;
         let mut first = Vec::with_capacity(alloc, nodes + 1)?;
-        let mut steps = Vec::new(alloc);
+        let mut links = Vec::new(alloc);
         first.push(0)?;
         for rank in 0..nodes {
-            add_steps(hierarchy, &ladder, side, order[rank], &mut steps)?;
-            first.push(steps.len())?;
+            add_links(hierarchy, &ladder, side, order[rank], &mut links)?;
+            first.push(links.len())?;
         }
-        steps.shrink_to_fit();
-        Ok(UpwardSteps { first, steps })
-    }
-
-    /// The steps from the node of a rank.
-    pub fn steps_of(&self, rank: u32) -> &[Step]
-        requires { rank + 1 < length self.now.first.items }
-        ensures { result.now ≡ steps_of self.now.first.items self.now.steps.items rank }
-    {
-        let begin = self.first[rank as usize];
-        let end = self.first[rank as usize + 1];
-        &self.steps[begin..end]
+        links.shrink_to_fit();
+        let steps = steps_along(alloc, hierarchy, side, &links)?;
+        Ok(UpwardSteps {
+            first,
+            steps,
+            links,
+        })
     }
 }
 
-/// Adds the steps from a node, from its last link to its first.
-fn add_steps(
+/// Adds the links that climb from a node, from its last one to its first.
+fn add_links(
     hierarchy: &Hierarchy,
     ladder: &Ladder,
     side: Side,
     node: u32,
-    steps: &mut Vec<Step>,
+    links: &mut Vec<usize>,
 ) -> Result<(), AllocError>
-    requires made { IsWellMade hierarchy.now }
     requires node_in { node < length hierarchy.now.ranks }
     requires ladder { IsLadder hierarchy.now side ladder.now.last.items ladder.now.before.items }
-    ensures { IfOk result (λ _. AreAdded hierarchy.now side node steps.old.items steps.new.items) }
+    ensures { IfOk result (λ _. AreAdded hierarchy.now side node links.old.items links.new.items) }
 {
     let mut next = ladder.last[node as usize];
     'links: while let Some(at) = next {
-        steps.push(step_along(hierarchy, side, at))?;
+        links.push(at)?;
         next = ladder.before[at];
     }
     Ok(())
+}
+
+/// The steps along these links.
+fn steps_along(
+    alloc: Global,
+    hierarchy: &Hierarchy,
+    side: Side,
+    links: &[usize],
+) -> Result<Vec<Step>, AllocError>
+    requires made { IsWellMade hierarchy.now }
+    requires links_in { All (λ k. k < length hierarchy.now.links) links.now }
+    ensures { IfOk result (λ steps. steps.items ≡ map (step_along hierarchy.now side) links.now) }
+{
+    let mut steps = Vec::with_capacity(alloc, links.len())?;
+    for at in links {
+        steps.push(step_along(hierarchy, side, *at))?;
+    }
+    Ok(steps)
 }
 
 /// The step along the link at a position.
@@ -101,6 +113,5 @@ fn step_along(hierarchy: &Hierarchy, side: Side, at: usize) -> Step
     Step {
         head: hierarchy.rank(side.head(link)),
         cost: link.cost,
-        link: at,
     }
 }

@@ -1,4 +1,5 @@
-use Rattle.std.proofs.Common.{sym, subst}
+use Rattle.std.proofs.Common.{◌≡◌, ◌+◌, ◌<◌, length, slice_index, sym, subst, arith}
+use Rattle.std.proofs.lemmas.List.{get_or_read}
 use Rattle.ch_cost.specs.Cost.{IsOfWalks}
 use Rattle.ch_query.specs.Marks.{costs_of}
 use Rattle.ch_query.specs.Searching.{IsOpenedBy}
@@ -7,31 +8,57 @@ use Rattle.ch_query.proofs.BestMeetings.{best-no_more}
 use Rattle.ch_query.proofs.Following.{passing-none, passing-more, passed_over, latest-more, step-made, foot-made}
 use Rattle.ch_query.proofs.turn.pass_over.Goals as goal
 
-pub loop-step-init : goal.loop-step-init
-loop-step-init c = record {
-  passing = passing-none c.args.hierarchy.now c.args.side c.args.rank c.args.cost c.steps_of-steps.result.now (cost_of c.args.best) c.args.here.now;
+pub loop-place-init : goal.loop-place-init
+loop-place-init c = record {
+  from = omega arith;
+  passing = passing-none c.args.hierarchy.now c.args.side c.args.rank c.args.cost c.args.upward.now.links.items c.index-begin.result.now (cost_of c.args.best) c.args.here.now;
   best = c.requires.best;
 }
 
 pub follow-requires-clause-step : goal.follow-requires-clause-step
-follow-requires-clause-step c = step-made c.args.hierarchy.now c.requires.made c.args.side c.args.upward.now.first.items c.args.upward.now.steps.items c.requires.laid c.args.rank c.requires.rank_in c.steps_of-steps.result.now c.steps_of-steps.ensures c.loop-step.step-index _ c.loop-step-test.true
+follow-requires-clause-step c =
+    let h = c.args.hierarchy.now in
+    let first = c.args.upward.now.first.items in
+    let rank_in : c.args.rank + 1 < length first = omega (arith, c.requires.rank_in, c.requires.laid.nodes) in
+    let begin : c.index-begin.result.now ≡ slice_index first c.args.rank = get_or_read first c.args.rank c.index-begin.result.now (omega (arith, rank_in)) c.index-begin.ensures 0 in
+    let end : c.index-end.result.now ≡ slice_index first (c.args.rank + 1) = get_or_read first (c.args.rank + 1) c.index-end.result.now rank_in c.index-end.ensures 0 in
+    step-made h c.requires.made c.args.side first c.args.upward.now.links.items c.args.upward.now.steps.items c.requires.laid c.args.rank c.requires.rank_in c.loop-place.place (omega (arith, begin, c.loop-place.invariant.from)) (omega (arith, end, c.loop-place-test.true))
 
 pub follow-requires-clause-latest : goal.follow-requires-clause-latest
-follow-requires-clause-latest c = latest-more c.loop-step.invariant.passing.opened c.requires.latest
+follow-requires-clause-latest c = latest-more c.loop-place.invariant.passing.opened c.requires.latest
 
 pub follow-requires-clause-fits : goal.follow-requires-clause-fits
-follow-requires-clause-fits c = subst (λ q. IsOfWalks q c.args.cost) (sym (foot-made c.args.hierarchy.now c.requires.made c.args.side c.args.upward.now.first.items c.args.upward.now.steps.items c.requires.laid c.args.rank c.requires.rank_in c.steps_of-steps.result.now c.steps_of-steps.ensures c.loop-step.step-index _ c.loop-step-test.true)) c.requires.fits
-
-pub loop-step-preserved : goal.loop-step-preserved
-loop-step-preserved c =
+follow-requires-clause-fits c =
     let h = c.args.hierarchy.now in
+    let first = c.args.upward.now.first.items in
+    let rank_in : c.args.rank + 1 < length first = omega (arith, c.requires.rank_in, c.requires.laid.nodes) in
+    let begin : c.index-begin.result.now ≡ slice_index first c.args.rank = get_or_read first c.args.rank c.index-begin.result.now (omega (arith, rank_in)) c.index-begin.ensures 0 in
+    let end : c.index-end.result.now ≡ slice_index first (c.args.rank + 1) = get_or_read first (c.args.rank + 1) c.index-end.result.now rank_in c.index-end.ensures 0 in
+    let foot = foot-made h c.requires.made c.args.side first c.args.upward.now.links.items c.args.upward.now.steps.items c.requires.laid c.args.rank c.requires.rank_in c.loop-place.place (omega (arith, begin, c.loop-place.invariant.from)) (omega (arith, end, c.loop-place-test.true)) in
+    subst (λ q. IsOfWalks q c.args.cost) (sym foot) c.requires.fits
+
+pub loop-place-preserved : goal.loop-place-preserved
+loop-place-preserved c =
+    let h = c.args.hierarchy.now in
+    let first = c.args.upward.now.first.items in
+    let rank_in : c.args.rank + 1 < length first = omega (arith, c.requires.rank_in, c.requires.laid.nodes) in
+    let begin : c.index-begin.result.now ≡ slice_index first c.args.rank = get_or_read first c.args.rank c.index-begin.result.now (omega (arith, rank_in)) c.index-begin.ensures 0 in
+    let end : c.index-end.result.now ≡ slice_index first (c.args.rank + 1) = get_or_read first (c.args.rank + 1) c.index-end.result.now rank_in c.index-end.ensures 0 in
     let side = c.args.side in
-    let opened : IsOpenedBy h side c.args.rank c.args.cost c.loop-step.here c.follow.new.here = subst (λ q. IsOpenedBy h side q c.args.cost c.loop-step.here c.follow.new.here) (foot-made h c.requires.made side c.args.upward.now.first.items c.args.upward.now.steps.items c.requires.laid c.args.rank c.requires.rank_in c.steps_of-steps.result.now c.steps_of-steps.ensures c.loop-step.step-index _ c.loop-step-test.true) c.in_ok-best.ensures.opened in
-    let less = best-no_more h (costs_of c.loop-step.here) (costs_of c.follow.new.here) (costs_of c.args.there.now) opened.kept c.loop-step.best c.in_ok-best.best c.loop-step.invariant.best c.in_ok-best.ensures.best in
+    let foot = foot-made h c.requires.made c.args.side first c.args.upward.now.links.items c.args.upward.now.steps.items c.requires.laid c.args.rank c.requires.rank_in c.loop-place.place (omega (arith, begin, c.loop-place.invariant.from)) (omega (arith, end, c.loop-place-test.true)) in
+    let opened : IsOpenedBy h side c.args.rank c.args.cost c.loop-place.here c.follow.new.here = subst (λ q. IsOpenedBy h side q c.args.cost c.loop-place.here c.follow.new.here) foot c.in_ok-best.ensures.opened in
+    let less = best-no_more h (costs_of c.loop-place.here) (costs_of c.follow.new.here) (costs_of c.args.there.now) opened.kept c.loop-place.best c.in_ok-best.best c.loop-place.invariant.best c.in_ok-best.ensures.best in
     record {
-      passing = passing-more c.loop-step.step-index _ c.loop-step-test.true c.loop-step.invariant.passing opened less c.in_ok-best.ensures.followed;
+      from = omega (arith, c.loop-place.invariant.from);
+      passing = passing-more c.loop-place.place c.loop-place.invariant.passing opened less c.in_ok-best.ensures.followed;
       best = c.in_ok-best.ensures.best;
     }
 
 pub returns-clause-passed : goal.returns-clause-passed
-returns-clause-passed c = passed_over c.args.hierarchy.now c.requires.made c.args.side c.args.cost c.args.upward.now.first.items c.args.upward.now.steps.items c.requires.laid c.args.rank c.requires.rank_in c.steps_of-steps.result.now c.steps_of-steps.ensures c.loop-step.step-index c.loop-step-test.false (cost_of c.loop-step.best) c.args.here.now c.loop-step.here c.loop-step.invariant.passing
+returns-clause-passed c =
+    let h = c.args.hierarchy.now in
+    let first = c.args.upward.now.first.items in
+    let rank_in : c.args.rank + 1 < length first = omega (arith, c.requires.rank_in, c.requires.laid.nodes) in
+    let begin : c.index-begin.result.now ≡ slice_index first c.args.rank = get_or_read first c.args.rank c.index-begin.result.now (omega (arith, rank_in)) c.index-begin.ensures 0 in
+    let end : c.index-end.result.now ≡ slice_index first (c.args.rank + 1) = get_or_read first (c.args.rank + 1) c.index-end.result.now rank_in c.index-end.ensures 0 in
+    passed_over h c.requires.made c.args.side first c.args.upward.now.links.items c.args.upward.now.steps.items c.requires.laid c.args.rank c.requires.rank_in c.args.cost c.index-begin.result.now c.loop-place.place (omega (arith, begin)) (omega (arith, end, c.loop-place-test.false)) (cost_of c.loop-place.best) c.args.here.now c.loop-place.here c.loop-place.invariant.passing

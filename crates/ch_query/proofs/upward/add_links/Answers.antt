@@ -1,19 +1,21 @@
-use Rattle.std.proofs.Common.{ℕ, ◌≡◌, ◌+◌, ◌<◌, length, Option, None, ap, sym, subst, arith}
+use Rattle.std.proofs.Common.{ℕ, ◌≡◌, ◌+◌, ◌<◌, List, length, Option, None, ap, sym, subst, arith}
 use Rattle.std.proofs.lemmas.List.{get_or_read}
 use Rattle.ch_query.specs.Ladder.{IsLast}
 use Rattle.ch_query.proofs.Ladders.{steps_left, fewer_left}
 use Rattle.ch_query.proofs.Laying.{IsAdding, adding-none, adding-more}
-use Rattle.ch_query.proofs.upward.add_steps.Goals as goal
+use Rattle.ch_query.proofs.upward.add_links.Goals as goal
 
 pub links-init : goal.links-init
 links-init c =
     let h = c.args.hierarchy.now in
     let last = c.args.ladder.now.last.items in
     let place : c.args.node < length last = omega (arith, c.requires.node_in, c.requires.ladder.nodes) in
-    adding-none h c.args.side c.args.node c.index-next.result.now c.args.steps.now.items (subst (λ o. IsLast h c.args.side c.args.node (length h.links) o) (sym (get_or_read last c.args.node c.index-next.result.now place c.index-next.ensures None)) (c.requires.ladder.lasts c.args.node c.requires.node_in))
+    adding-none h c.args.side c.args.node c.index-next.result.now c.args.links.now.items (subst (λ o. IsLast h c.args.side c.args.node (length h.links) o) (sym (get_or_read last c.args.node c.index-next.result.now place c.index-next.ensures None)) (c.requires.ladder.lasts c.args.node c.requires.node_in))
 
-pub step_along-requires-clause-link_in : goal.step_along-requires-clause-link_in
-step_along-requires-clause-link_in c = (c.links.invariant.rest.climbs c.in-Some.at c.in-Some.is).1.within
+pub index-next-requires-in-Some : goal.index-next-requires-in-Some
+index-next-requires-in-Some c =
+    let climbs = (c.links.invariant.rest.climbs c.in-Some.at c.in-Some.is).1 in
+    omega (arith, c.requires.ladder.links, climbs.within, c.args.ladder.now.before.ok)
 
 before_this : (c : goal.After-next-in-Some-1) → IsLast c.args.hierarchy.now c.args.side c.args.node c.in-Some.at c.index-next-in-Some.result.now
 before_this c =
@@ -30,5 +32,6 @@ links-smaller c =
 
 pub links-preserved : goal.links-preserved
 links-preserved c =
-    let adding = subst (λ (o : Option ℕ). IsAdding c.args.hierarchy.now c.args.side c.args.node o c.args.steps.now.items c.links.steps.items) c.in-Some.is c.links.invariant in
-    adding-more c.in-Some.at c.index-next-in-Some.result.now c.step_along.result adding c.step_along.ensures c.in_ok-push.ensures.items (before_this c)
+    let h = c.args.hierarchy.now in
+    let adding = subst (λ (o : Option ℕ). IsAdding h c.args.side c.args.node o c.args.links.now.items c.links.links.items) c.in-Some.is c.links.invariant in
+    subst (λ (ls : List ℕ). IsAdding h c.args.side c.args.node c.index-next-in-Some.result.now c.args.links.now.items ls) (sym c.in_ok-push.ensures.items) (adding-more c.in-Some.at c.index-next-in-Some.result.now adding (before_this c))
