@@ -142,12 +142,12 @@ passing-more {h} {side} {r} {c} {links} {found = found} {new = new} next is open
 -- what a rank has in the lists of a side
 module _ (h : Hierarchy) (made : IsWellMade h) (side : Side) (first links : List ℕ) (steps : List Step) (laid : IsLaidOut h side first links steps) (r : ℕ) (low : r < length h.ranks) where
   -- all its links were followed
-  pub passed_over : (c : Cost) (begin next : ℕ) → begin ≤ slice_index first r → slice_index first (r + 1) ≤ next → (limit : Option Cost) (old new : List Mark) → IsPassing h side r c links begin next limit old new → ArePassed h side r c limit new
-  passed_over c begin next from whole limit old new is k climbs foot =
+  pub passed_over : (c : Cost) (next : ℕ) → slice_index first (r + 1) ≤ next → (limit : Option Cost) (old new : List Mark) → IsPassing h side r c links (slice_index first r) next limit old new → ArePassed h side r c limit new
+  passed_over c next whole limit old new is k climbs foot =
       let v = rank_taken h made r low in
-      let climbs_from : ClimbsFrom h side v.0 k = from-climbs h made side v.0 k v.1 climbs (foot ∙ sym v.2) in
-      let among = (links_are h side first links steps laid v.0 r v.1 v.2).each k climbs_from in
-      subst (λ j. IsFollowed h side c limit new j) among.3 (is.followed among.0 (omega (arith, from, among.1)) (omega (arith, among.2, whole)))
+      let from : ClimbsFrom h side v.0 k = from-climbs h made side v.0 k v.1 climbs (foot ∙ sym v.2) in
+      let among = (links_are h side first links steps laid v.0 r v.1 v.2).each k from in
+      subst (λ j. IsFollowed h side c limit new j) among.3 (is.followed among.0 among.1 (omega (arith, among.2, whole)))
 
   -- one of its links
   from_here : (i : ℕ) → slice_index first r ≤ i → i < slice_index first (r + 1) → Climbs h side (slice_index links i) × (foot_rank h side (slice_index links i) ≡ r)

@@ -36,7 +36,7 @@ pub struct UpwardSteps {
 
 impl UpwardSteps {
     /// Lays out the links that one side climbs. Looks at each node and each link a fixed number of times, and holds
-    /// 8 bytes a node and 16 a link meanwhile.
+    /// 16 bytes a node and 16 a link meanwhile.
     pub fn new(
         alloc: Global,
         hierarchy: &Hierarchy,

@@ -1,28 +1,32 @@
-use Rattle.std.proofs.Common.{◌≡◌, ◌+◌, ◌<◌, length, slice_index, sym, subst, arith}
+use Rattle.std.proofs.Common.{ℕ, ◌≡◌, ◌+◌, ◌<◌, length, slice_index, sym, subst, arith}
 use Rattle.std.proofs.lemmas.List.{get_or_read}
 use Rattle.ch_cost.specs.Cost.{IsOfWalks}
 use Rattle.ch_query.specs.Marks.{costs_of}
 use Rattle.ch_query.specs.Searching.{IsOpenedBy}
 use Rattle.ch_query.specs.Meeting.{cost_of}
 use Rattle.ch_query.proofs.BestMeetings.{best-no_more}
-use Rattle.ch_query.proofs.Following.{passing-none, passing-more, passed_over, latest-more, step-made, foot-made}
+use Rattle.ch_query.proofs.Following.{IsPassing, passing-none, passing-more, passed_over, latest-more, step-made, foot-made}
 use Rattle.ch_query.proofs.turn.pass_over.Goals as goal
 
 pub loop-place-init : goal.loop-place-init
-loop-place-init c = record {
-  from = omega arith;
-  passing = passing-none c.args.hierarchy.now c.args.side c.args.rank c.args.cost c.args.upward.now.links.items c.index-begin.result.now (cost_of c.args.best) c.args.here.now;
-  best = c.requires.best;
-}
+loop-place-init c =
+    let h = c.args.hierarchy.now in
+    let first = c.args.upward.now.first.items in
+    let links = c.args.upward.now.links.items in
+    let rank_in : c.args.rank + 1 < length first = omega (arith, c.requires.rank_in, c.requires.laid.nodes) in
+    let from : ℕ = slice_index first c.args.rank in
+    let begin : c.index-begin.result.now ≡ from = get_or_read first c.args.rank c.index-begin.result.now (omega (arith, rank_in)) c.index-begin.ensures 0 in
+    record {
+      from = omega (arith, begin);
+      end = get_or_read first (c.args.rank + 1) c.index-end.result.now rank_in c.index-end.ensures 0;
+      passing = subst (λ n. IsPassing h c.args.side c.args.rank c.args.cost links from n (cost_of c.args.best) c.args.here.now c.args.here.now) (sym begin) (passing-none h c.args.side c.args.rank c.args.cost links from (cost_of c.args.best) c.args.here.now);
+      best = c.requires.best;
+    }
 
 pub follow-requires-clause-step : goal.follow-requires-clause-step
 follow-requires-clause-step c =
     let h = c.args.hierarchy.now in
-    let first = c.args.upward.now.first.items in
-    let rank_in : c.args.rank + 1 < length first = omega (arith, c.requires.rank_in, c.requires.laid.nodes) in
-    let begin : c.index-begin.result.now ≡ slice_index first c.args.rank = get_or_read first c.args.rank c.index-begin.result.now (omega (arith, rank_in)) c.index-begin.ensures 0 in
-    let end : c.index-end.result.now ≡ slice_index first (c.args.rank + 1) = get_or_read first (c.args.rank + 1) c.index-end.result.now rank_in c.index-end.ensures 0 in
-    step-made h c.requires.made c.args.side first c.args.upward.now.links.items c.args.upward.now.steps.items c.requires.laid c.args.rank c.requires.rank_in c.loop-place.place (omega (arith, begin, c.loop-place.invariant.from)) (omega (arith, end, c.loop-place-test.true))
+    step-made h c.requires.made c.args.side c.args.upward.now.first.items c.args.upward.now.links.items c.args.upward.now.steps.items c.requires.laid c.args.rank c.requires.rank_in c.loop-place.place c.loop-place.invariant.from (omega (arith, c.loop-place.invariant.end, c.loop-place-test.true))
 
 pub follow-requires-clause-latest : goal.follow-requires-clause-latest
 follow-requires-clause-latest c = latest-more c.loop-place.invariant.passing.opened c.requires.latest
@@ -30,26 +34,18 @@ follow-requires-clause-latest c = latest-more c.loop-place.invariant.passing.ope
 pub follow-requires-clause-fits : goal.follow-requires-clause-fits
 follow-requires-clause-fits c =
     let h = c.args.hierarchy.now in
-    let first = c.args.upward.now.first.items in
-    let rank_in : c.args.rank + 1 < length first = omega (arith, c.requires.rank_in, c.requires.laid.nodes) in
-    let begin : c.index-begin.result.now ≡ slice_index first c.args.rank = get_or_read first c.args.rank c.index-begin.result.now (omega (arith, rank_in)) c.index-begin.ensures 0 in
-    let end : c.index-end.result.now ≡ slice_index first (c.args.rank + 1) = get_or_read first (c.args.rank + 1) c.index-end.result.now rank_in c.index-end.ensures 0 in
-    let foot = foot-made h c.requires.made c.args.side first c.args.upward.now.links.items c.args.upward.now.steps.items c.requires.laid c.args.rank c.requires.rank_in c.loop-place.place (omega (arith, begin, c.loop-place.invariant.from)) (omega (arith, end, c.loop-place-test.true)) in
+    let foot = foot-made h c.requires.made c.args.side c.args.upward.now.first.items c.args.upward.now.links.items c.args.upward.now.steps.items c.requires.laid c.args.rank c.requires.rank_in c.loop-place.place c.loop-place.invariant.from (omega (arith, c.loop-place.invariant.end, c.loop-place-test.true)) in
     subst (λ q. IsOfWalks q c.args.cost) (sym foot) c.requires.fits
 
 pub loop-place-preserved : goal.loop-place-preserved
 loop-place-preserved c =
     let h = c.args.hierarchy.now in
-    let first = c.args.upward.now.first.items in
-    let rank_in : c.args.rank + 1 < length first = omega (arith, c.requires.rank_in, c.requires.laid.nodes) in
-    let begin : c.index-begin.result.now ≡ slice_index first c.args.rank = get_or_read first c.args.rank c.index-begin.result.now (omega (arith, rank_in)) c.index-begin.ensures 0 in
-    let end : c.index-end.result.now ≡ slice_index first (c.args.rank + 1) = get_or_read first (c.args.rank + 1) c.index-end.result.now rank_in c.index-end.ensures 0 in
-    let side = c.args.side in
-    let foot = foot-made h c.requires.made c.args.side first c.args.upward.now.links.items c.args.upward.now.steps.items c.requires.laid c.args.rank c.requires.rank_in c.loop-place.place (omega (arith, begin, c.loop-place.invariant.from)) (omega (arith, end, c.loop-place-test.true)) in
-    let opened : IsOpenedBy h side c.args.rank c.args.cost c.loop-place.here c.follow.new.here = subst (λ q. IsOpenedBy h side q c.args.cost c.loop-place.here c.follow.new.here) foot c.in_ok-best.ensures.opened in
+    let foot = foot-made h c.requires.made c.args.side c.args.upward.now.first.items c.args.upward.now.links.items c.args.upward.now.steps.items c.requires.laid c.args.rank c.requires.rank_in c.loop-place.place c.loop-place.invariant.from (omega (arith, c.loop-place.invariant.end, c.loop-place-test.true)) in
+    let opened : IsOpenedBy h c.args.side c.args.rank c.args.cost c.loop-place.here c.follow.new.here = subst (λ q. IsOpenedBy h c.args.side q c.args.cost c.loop-place.here c.follow.new.here) foot c.in_ok-best.ensures.opened in
     let less = best-no_more h (costs_of c.loop-place.here) (costs_of c.follow.new.here) (costs_of c.args.there.now) opened.kept c.loop-place.best c.in_ok-best.best c.loop-place.invariant.best c.in_ok-best.ensures.best in
     record {
       from = omega (arith, c.loop-place.invariant.from);
+      end = c.loop-place.invariant.end;
       passing = passing-more c.loop-place.place c.loop-place.invariant.passing opened less c.in_ok-best.ensures.followed;
       best = c.in_ok-best.ensures.best;
     }
@@ -57,8 +53,4 @@ loop-place-preserved c =
 pub returns-clause-passed : goal.returns-clause-passed
 returns-clause-passed c =
     let h = c.args.hierarchy.now in
-    let first = c.args.upward.now.first.items in
-    let rank_in : c.args.rank + 1 < length first = omega (arith, c.requires.rank_in, c.requires.laid.nodes) in
-    let begin : c.index-begin.result.now ≡ slice_index first c.args.rank = get_or_read first c.args.rank c.index-begin.result.now (omega (arith, rank_in)) c.index-begin.ensures 0 in
-    let end : c.index-end.result.now ≡ slice_index first (c.args.rank + 1) = get_or_read first (c.args.rank + 1) c.index-end.result.now rank_in c.index-end.ensures 0 in
-    passed_over h c.requires.made c.args.side first c.args.upward.now.links.items c.args.upward.now.steps.items c.requires.laid c.args.rank c.requires.rank_in c.args.cost c.index-begin.result.now c.loop-place.place (omega (arith, begin)) (omega (arith, end, c.loop-place-test.false)) (cost_of c.loop-place.best) c.args.here.now c.loop-place.here c.loop-place.invariant.passing
+    passed_over h c.requires.made c.args.side c.args.upward.now.first.items c.args.upward.now.links.items c.args.upward.now.steps.items c.requires.laid c.args.rank c.requires.rank_in c.args.cost c.loop-place.place (omega (arith, c.loop-place.invariant.end, c.loop-place-test.false)) (cost_of c.loop-place.best) c.args.here.now c.loop-place.here c.loop-place.invariant.passing
