@@ -1,22 +1,103 @@
 ghost use Rattle.std.specs.Prelude.{◌≡◌, [], All, IfOk};
 
-use crate::kit::{Lists, ONE, a_list_each, tie};
+use crate::kit::{Lists, ONE, a_list_each, grid, tie};
+use crate::stations::{Both, Overtaken, Together};
 use ch_contract::{Contraction, Facts};
 use ch_estimate::{EdgeDifference, Estimator, Lease, Leases, Note};
-use ch_workers::{BuildError, Built, OpenGate, Options, build};
+use ch_graph::Graph;
+use ch_workers::{BuildError, Built, Gate, OpenGate, Options, Point, build};
 use std::alloc::{AllocError, Global};
 use std::sync::atomic::{AtomicU64, Ordering};
-use std::sync::{Arc, Wait};
+use std::sync::{Arc, Mutex, Wait};
 use std::test::Fail;
 use std::thread::Threads;
 
-/// What the estimators of a test leave behind: how many entries they were told, what they add up to by their places,
-/// and how many estimators were dropped.
+/// What the estimators of a test leave behind: the entries that each was told, by the order in which they were made, how
+/// often they couldn't be written down, and how many estimators were dropped.
 #[derive(Drop)]
 struct Traces {
-    told: AtomicU64,
-    sum: AtomicU64,
+    tapes: [Mutex<Vec<Contraction>>; 5],
+    made: AtomicU64,
+    lost: AtomicU64,
     dropped: AtomicU64,
+}
+
+impl Traces {
+    /// Nothing was told, and nothing dropped.
+    fn new(alloc: Global) -> Result<Arc<Traces>, AllocError> {
+        let traces = Arc::new(
+            alloc,
+            Traces {
+                tapes: [
+                    Mutex::new(Vec::new(alloc)),
+                    Mutex::new(Vec::new(alloc)),
+                    Mutex::new(Vec::new(alloc)),
+                    Mutex::new(Vec::new(alloc)),
+                    Mutex::new(Vec::new(alloc)),
+                ],
+                made: AtomicU64::new(0),
+                lost: AtomicU64::new(0),
+                dropped: AtomicU64::new(0),
+            },
+        )?;
+        Ok(traces)
+    }
+
+    /// Writes down an entry for the estimator of this number.
+    fn write_down(&self, number: u64, entry: &Contraction) -> Result<(), AllocError> {
+        let copy = copy_of(entry)?;
+        match self
+            .tapes
+            .get(number as usize)
+            .and_then(|tape| tape.try_lock())
+        {
+            Some(mut tape) => Ok(tape.push(copy)?),
+            None => {
+                self.lost.fetch_add(1, Ordering::SeqCst);
+                Ok(())
+            }
+        }
+    }
+
+    /// How many entries of a log each estimator was told, whole and from the first one on. None where one was told
+    /// anything else, or where an entry couldn't be written down.
+    fn told<R: Wait>(&self, rt: &R, log: &[Contraction]) -> Option<[usize; 5]> {
+        if self.lost.load(Ordering::SeqCst) > 0 {
+            return None;
+        }
+        let mut told = [0; 5];
+        'tapes: for number in 0..5usize {
+            let tape = self.tapes[number].lock(rt);
+            if !is_prefix(tape.as_slice(), log) {
+                return None;
+            }
+            told[number] = tape.len();
+        }
+        Some(told)
+    }
+}
+
+/// An entry once more.
+fn copy_of(entry: &Contraction) -> Result<Contraction, AllocError> {
+    let mut neighbours = Vec::new(*entry.neighbours.allocator());
+    neighbours.extend_from_slice(&entry.neighbours)?;
+    Ok(Contraction {
+        node: entry.node,
+        rank: entry.rank,
+        neighbours,
+        shortcuts: entry.shortcuts,
+    })
+}
+
+/// Whether these are the first entries of a log, whole.
+fn is_prefix(told: &[Contraction], log: &[Contraction]) -> bool {
+    told.len() <= log.len()
+        && told.iter().zip(log).all(|(told, entry)| {
+            told.node == entry.node
+                && told.rank == entry.rank
+                && told.neighbours.as_slice() == entry.neighbours.as_slice()
+                && told.shortcuts == entry.shortcuts
+        })
 }
 
 /// Counts its drop.
@@ -36,6 +117,7 @@ impl Drop for Mark {
 #[derive(Drop)]
 struct Stubborn {
     inner: EdgeDifference,
+    number: u64,
     mark: Mark,
 }
 
@@ -47,44 +129,13 @@ impl Estimator for Stubborn {
     }
 
     fn told(&mut self, entry: &Contraction) -> Result<(), AllocError> {
-        self.inner.told(entry)?;
-        let place = self.mark.traces.told.fetch_add(1, Ordering::SeqCst);
-        let weighed = place
-            .wrapping_add(1)
-            .wrapping_mul(u64::from(entry.node).wrapping_add(1));
-        self.mark.traces.sum.fetch_add(weighed, Ordering::SeqCst);
-        Ok(())
+        self.mark.traces.write_down(self.number, entry)?;
+        self.inner.told(entry)
     }
 
     fn note(&self, node: u32) -> Note {
         self.inner.note(node)
     }
-}
-
-/// Nothing was told, and nothing dropped.
-fn no_traces(alloc: Global) -> Result<Arc<Traces>, AllocError> {
-    let traces = Arc::new(
-        alloc,
-        Traces {
-            told: AtomicU64::new(0),
-            sum: AtomicU64::new(0),
-            dropped: AtomicU64::new(0),
-        },
-    )?;
-    Ok(traces)
-}
-
-/// What the first entries of a log add up to by their places.
-fn sum_of(log: &[Contraction], told: u64) -> u64 {
-    let mut sum = 0u64;
-    let mut place = 0u64;
-    'entries: for entry in log {
-        if place < told {
-            place = place.wrapping_add(1);
-            sum = sum.wrapping_add(place.wrapping_mul(u64::from(entry.node).wrapping_add(1)));
-        }
-    }
-    sum
 }
 
 /// An estimator that was told nothing.
@@ -93,18 +144,22 @@ fn make_stubborn(alloc: Global, lease: Lease, traces: &Arc<Traces>) -> Result<St
 {
     let inner = EdgeDifference::new(alloc, lease);
     let traces = Arc::try_clone(traces)?;
+    let number = traces.made.fetch_add(1, Ordering::SeqCst);
     Ok(Stubborn {
         inner,
+        number,
         mark: Mark { traces },
     })
 }
 
-/// Builds the tie by workers of whom each has one estimator that leaves traces.
-fn built_by<R: Threads + Wait + Sync>(
+/// Builds by workers of whom each has one estimator that leaves traces.
+fn built_by<G: Gate, R: Threads + Wait + Sync>(
     rt: &R,
     alloc: Global,
+    graph: Graph,
     options: Options,
     traces: &Arc<Traces>,
+    gate: &G,
 ) -> Result<Result<Built, BuildError>, Fail> {
     let mut leases = Leases::new(alloc)?;
     let lists = a_list_each(
@@ -115,8 +170,7 @@ fn built_by<R: Threads + Wait + Sync>(
             ensures { IfOk result (λ estimator. heard estimator ≡ []) }
         { Ok(Box::new(alloc, make_stubborn(alloc, lease, traces)?)?) },
     )?;
-    let graph = tie(alloc)?;
-    Ok(build(rt, alloc, graph, options, lists, &mut leases, &OpenGate))
+    Ok(build(rt, alloc, graph, options, lists, &mut leases, gate))
 }
 
 /// The lists of one worker, who has these two estimators.
@@ -157,15 +211,56 @@ fn built_by_one<R: Threads + Wait + Sync>(
 // The first estimator alone is told. The worker takes the fourth node when the log has three entries, and its own entry
 // isn't told.
 #[test]
-fn told_is_a_prefix_of_the_log(rt: HostRuntime) -> Result<(), Fail> {
+fn one_worker_hears_of_the_log(rt: HostRuntime) -> Result<(), Fail> {
     let alloc = rt.alloc();
-    let traces = no_traces(alloc)?;
+    let traces = Traces::new(alloc)?;
     let built = built_by_one(&rt, alloc, &traces)?;
-    let told = traces.told.load(Ordering::SeqCst);
-    assert_eq!(rt; told, 3);
-    let sum = traces.sum.load(Ordering::SeqCst);
-    assert_eq!(rt; sum, sum_of(built.log.as_slice(), told));
+    let told = traces.told(&rt, built.log.as_slice());
+    assert_eq!(rt; told, Some([3, 0, 0, 0, 0]));
     assert_eq!(rt; traces.dropped.load(Ordering::SeqCst), 2);
+    Ok(())
+}
+
+/// Whether the first entry of the log was committed by this worker.
+fn is_first_of(worker: usize, built: &Built) -> bool {
+    let receipts = built.receipts.get(worker);
+    let first = receipts.and_then(|receipts| receipts.first());
+    first.is_some_and(|receipt| receipt.rank == 0)
+}
+
+// Worker 0 hears of the first entry, which isn't its own, before it commits anything.
+#[test]
+fn two_workers_hear_of_each_other(rt: HostRuntime) -> Result<(), Fail> {
+    let alloc = rt.alloc();
+    let traces = Traces::new(alloc)?;
+    let gate = Both {
+        first: Together::new(2),
+        second: Overtaken::at(Point::Took),
+    };
+    let options = Options { workers: 2, ..ONE };
+    let built = built_by(&rt, alloc, tie(alloc)?, options, &traces, &gate)??;
+    assert!(rt; gate.first.was_met() && gate.second.was_met());
+    let told = traces.told(&rt, built.log.as_slice());
+    assert!(rt; told.is_some_and(|told| told[0] > 0));
+    assert!(rt; is_first_of(1, &built));
+    Ok(())
+}
+
+#[test]
+fn five_workers_hear_of_the_log(rt: HostRuntime) -> Result<(), Fail> {
+    let alloc = rt.alloc();
+    let traces = Traces::new(alloc)?;
+    let options = Options {
+        workers: 5,
+        heaps: 2,
+        turns: 1 << 32,
+        ..ONE
+    };
+    let gate = Together::new(5);
+    let built = built_by(&rt, alloc, grid(alloc)?, options, &traces, &gate)??;
+    assert!(rt; gate.was_met());
+    assert!(rt; traces.told(&rt, built.log.as_slice()).is_some());
+    assert_eq!(rt; traces.dropped.load(Ordering::SeqCst), 5);
     Ok(())
 }
 
@@ -173,13 +268,13 @@ fn told_is_a_prefix_of_the_log(rt: HostRuntime) -> Result<(), Fail> {
 fn estimators_are_dropped(rt: HostRuntime) -> Result<(), Fail> {
     let alloc = rt.alloc();
     for (heaps, want) in [(1, None), (0, Some(BuildError::BadOptions))] {
-        let traces = no_traces(alloc)?;
+        let traces = Traces::new(alloc)?;
         let options = Options {
             workers: 3,
             heaps,
             ..ONE
         };
-        let built = built_by(&rt, alloc, options, &traces)?;
+        let built = built_by(&rt, alloc, tie(alloc)?, options, &traces, &OpenGate)?;
         assert_eq!(rt; built.err(), want);
         assert_eq!(rt; traces.dropped.load(Ordering::SeqCst), 3);
     }

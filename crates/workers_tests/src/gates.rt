@@ -2,7 +2,7 @@ use crate::kit::{Keys, ONE, built_by, grid, tie};
 use crate::lengths::are_least;
 use crate::stations::{Overtaken, Together};
 use ch_graph::Graph;
-use ch_workers::{Built, Gate, Options};
+use ch_workers::{Built, Gate, Options, Point};
 use std::alloc::Global;
 use std::sync::Wait;
 use std::test::Fail;
@@ -32,7 +32,7 @@ fn do_all<G: Gate, R: Threads + Wait + Sync>(
 #[test]
 fn a_worker_is_overtaken(rt: HostRuntime) -> Result<(), Fail> {
     let alloc = rt.alloc();
-    let gate = Overtaken::new();
+    let gate = Overtaken::at(Point::Proposed);
     let options = Options { workers: 2, ..ONE };
     let same = tie(alloc)?;
     assert!(rt; do_all(&rt, alloc, tie(alloc)?, &same, options, &gate)?);

@@ -152,17 +152,19 @@ impl Gate for Together {
     }
 }
 
-/// Keeps worker 0 at its proposals until worker 1 has committed.
+/// Keeps worker 0 at a point until worker 1 has committed.
 #[derive(Drop)]
 pub(crate) struct Overtaken {
+    point: Point,
     committed: AtomicU64,
     late: AtomicU64,
 }
 
 impl Overtaken {
     /// Nobody has committed yet.
-    pub(crate) fn new() -> Overtaken {
+    pub(crate) fn at(point: Point) -> Overtaken {
         Overtaken {
+            point,
             committed: AtomicU64::new(0),
             late: AtomicU64::new(0),
         }
@@ -179,8 +181,22 @@ impl Gate for Overtaken {
         if worker == 1 && point == Point::Committed {
             self.committed.store(1, Ordering::SeqCst);
         }
-        if worker == 0 && point == Point::Proposed && !comes_to(&self.committed, 1) {
+        if worker == 0 && point == self.point && !comes_to(&self.committed, 1) {
             self.late.store(1, Ordering::SeqCst);
         }
+    }
+}
+
+/// Two gates, one after the other.
+#[derive(Drop)]
+pub(crate) struct Both<G: Gate, H: Gate> {
+    pub(crate) first: G,
+    pub(crate) second: H,
+}
+
+impl<G: Gate, H: Gate> Gate for Both<G, H> {
+    fn pass(&self, worker: u32, point: Point) {
+        self.first.pass(worker, point);
+        self.second.pass(worker, point);
     }
 }
