@@ -1,6 +1,6 @@
 ghost use Rattle.std.specs.Prelude.{◌≡◌, [], All, IfOk};
 
-use crate::kit::{Lists, ONE, a_list_each, grid, tie};
+use crate::kit::{Lists, ONE, TWO, a_list_each, grid, tie};
 use crate::stations::{Both, Overtaken, Together};
 use ch_contract::{Contraction, Facts};
 use ch_estimate::{EdgeDifference, Estimator, Lease, Leases, Note};
@@ -237,8 +237,7 @@ fn two_workers_hear_of_each_other(rt: HostRuntime) -> Result<(), Fail> {
         first: Together::new(2),
         second: Overtaken::at(Point::Took),
     };
-    let options = Options { workers: 2, ..ONE };
-    let built = built_by(&rt, alloc, tie(alloc)?, options, &traces, &gate)??;
+    let built = built_by(&rt, alloc, tie(alloc)?, TWO, &traces, &gate)??;
     assert!(rt; gate.first.was_met() && gate.second.was_met());
     let told = traces.told(&rt, built.log.as_slice());
     assert!(rt; told.is_some_and(|told| told[0] > 0));
@@ -250,12 +249,7 @@ fn two_workers_hear_of_each_other(rt: HostRuntime) -> Result<(), Fail> {
 fn five_workers_hear_of_the_log(rt: HostRuntime) -> Result<(), Fail> {
     let alloc = rt.alloc();
     let traces = Traces::new(alloc)?;
-    let options = Options {
-        workers: 5,
-        heaps: 2,
-        turns: 1 << 32,
-        ..ONE
-    };
+    let options = Options { workers: 5, ..TWO };
     let gate = Together::new(5);
     let built = built_by(&rt, alloc, grid(alloc)?, options, &traces, &gate)??;
     assert!(rt; gate.was_met());

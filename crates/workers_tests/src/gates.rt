@@ -1,4 +1,4 @@
-use crate::kit::{Keys, ONE, built_by, grid, tie};
+use crate::kit::{Keys, TWO, built_by, grid, tie};
 use crate::lengths::are_least;
 use crate::stations::{Overtaken, Together};
 use ch_graph::Graph;
@@ -33,9 +33,8 @@ fn do_all<G: Gate, R: Threads + Wait + Sync>(
 fn a_worker_is_overtaken(rt: HostRuntime) -> Result<(), Fail> {
     let alloc = rt.alloc();
     let gate = Overtaken::at(Point::Proposed);
-    let options = Options { workers: 2, ..ONE };
     let same = tie(alloc)?;
-    assert!(rt; do_all(&rt, alloc, tie(alloc)?, &same, options, &gate)?);
+    assert!(rt; do_all(&rt, alloc, tie(alloc)?, &same, TWO, &gate)?);
     assert!(rt; gate.was_met());
     Ok(())
 }
@@ -56,13 +55,8 @@ fn meet<R: Threads + Wait + Sync>(
 #[test]
 fn workers_at_once(rt: HostRuntime) -> Result<(), Fail> {
     let alloc = rt.alloc();
-    let two = Options { workers: 2, ..ONE };
-    assert!(rt; meet(&rt, alloc, tie(alloc)?, &tie(alloc)?, two)?);
-    let five = Options {
-        workers: 5,
-        turns: 1 << 32,
-        ..ONE
-    };
+    assert!(rt; meet(&rt, alloc, tie(alloc)?, &tie(alloc)?, TWO)?);
+    let five = Options { workers: 5, ..TWO };
     assert!(rt; meet(&rt, alloc, grid(alloc)?, &grid(alloc)?, five)?);
     Ok(())
 }

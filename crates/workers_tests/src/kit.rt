@@ -20,6 +20,14 @@ pub(crate) const ONE: Options = Options {
     turns: 100,
 };
 
+/// The options of two workers, with the queue and the turns that the program gives.
+pub(crate) const TWO: Options = Options {
+    workers: 2,
+    heaps: 2,
+    turns: 1 << 32,
+    ..ONE
+};
+
 /// An arc.
 fn road(from: u32, to: u32, weight: u32) -> Road {
     Road { from, to, weight }

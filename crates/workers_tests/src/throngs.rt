@@ -1,4 +1,4 @@
-use crate::kit::{Keys, built_by, grid, tie};
+use crate::kit::{Keys, TWO, built_by, grid, tie};
 use crate::lengths::are_least;
 use crate::stations::Tally;
 use ch_graph::Graph;
@@ -18,14 +18,7 @@ fn do_all<R: Threads + Wait + Sync>(
     workers: u32,
     keys: Keys,
 ) -> Result<bool, Fail> {
-    let options = Options {
-        workers,
-        heaps: 2,
-        seed: 1,
-        settle: 64,
-        defer: 16,
-        turns: 1 << 32,
-    };
+    let options = Options { workers, ..TWO };
     let tally = Tally::new();
     let built = built_by(rt, alloc, graph, options, keys, &tally)?;
     Ok(tally.is_of(&built) && are_least(alloc, same, &built.hierarchy)?)
