@@ -1,17 +1,18 @@
 -- What is told of a text that was taken in pieces, and how many of its lines have ended.
-use Rattle.std.proofs.Common.{ℕ, ◌≡◌, ◌+◌, ◌^◌, ◌<◌, List, [], ◌++◌, Option, Some, None, Result, Ok, Err, MatchResult, MatchOption, IfSome, arith, refl, ap, sym, subst, ◌∙◌}
+use Rattle.std.proofs.Common.{ℕ, ◌≡◌, ◌≢◌, ◌+◌, ◌^◌, ◌<◌, ◌≤◌, List, [], ◌++◌, length, Option, Some, None, Result, Ok, Err, MatchResult, MatchOption, IfSome, arith, refl, ap, sym, subst, ◌∙◌}
 use Rattle.std.specs.Prelude.{⊤}
 use Rattle.std.specs.Io.KnownBytes.{Consumes, Keeps, IsAtEnd}
 use Rattle.std.specs.Result.{IfOk, IfErr, ForOk}
-use Rattle.std.proofs.lemmas.List.{append_assoc}
+use Rattle.std.proofs.lemmas.List.{append_assoc, append-nil}
 use Rattle.grfile.specs.declared.error.GrError.{GrError}
-use Rattle.grfile.specs.declared.error.GrErrorKind.TheVariants.{OutOfMemory}
+use Rattle.grfile.specs.declared.error.GrErrorKind.{GrErrorKind}
+use Rattle.grfile.specs.declared.error.GrErrorKind.TheVariants.{OutOfMemory, Read, UnknownLine, NoProblemLine, SecondProblemLine, FieldCount, NotANumber, NodeRange, ZeroWeight, WeightTooBig, TooManyNodes, TooManyArcs, ArcCount}
 use Rattle.grfile.specs.Lines.{lines_of}
-use Rattle.grfile.specs.Outcome.{◌>>=◌, Answers, FromText, IsOfLine, Takes, capped, next_line}
+use Rattle.grfile.specs.Outcome.{◌>>=◌, Answers, FromText, IsOfLine, SaysNothing, Takes, capped, next_line}
 use Rattle.grfile.specs.Grammar.{Grammar, Listing, listing_after}
 use Rattle.grfile.specs.declared.pieces.Pieces.{Pieces}
-use Rattle.grfile.specs.Taken.{CountsLines, HasTaken, IsReached, Taken, taken_of, told_with}
-use Rattle.grfile.proofs.LineCuts.{lines_first}
+use Rattle.grfile.specs.Taken.{CountsLines, HasTaken, IsAtEndOf, IsReached, IsReachedAfter, StopsAtReached, Taken, line_feeds, taken_of, told_with}
+use Rattle.grfile.proofs.LineCuts.{feeds_both, lines_first}
 use Rattle.grfile.proofs.Readings.{from_text_map}
 
 pub counts_one : (r : Result ⊤ GrError) (old new : ℕ) → MatchResult r (λ _. new ≡ next_line old) (λ e. (new ≡ old) × IsOfLine (next_line old) e) → CountsLines r old 1 new
@@ -54,11 +55,15 @@ known_more bytes chunk (Some text) None later known consumes = absurd known
 known_more bytes chunk (Some text) (Some xs) None known consumes = absurd consumes
 known_more bytes chunk (Some text) (Some xs) (Some ys) known consumes = append_assoc bytes chunk ys ∙ ap (λ (rest : List ℕ). bytes ++ rest) (sym consumes) ∙ known
 
-pub taken_more : {B : Type 0} (old mid new : List ℕ → Result B GrError) (had left later : Option (List ℕ)) (chunk : List ℕ) → HasTaken old mid had left → ((rest : List ℕ) → new rest ≡ mid (chunk ++ rest)) → Consumes left later chunk → HasTaken old new had later
-taken_more old mid new had left later chunk taken more consumes = (
+count_more : (bytes chunk : List ℕ) (mid new : ℕ) → mid ≡ capped (line_feeds bytes) → new ≡ capped (mid + line_feeds chunk) → new ≡ capped (line_feeds (bytes ++ chunk))
+count_more bytes chunk mid new mid_is new_is = omega (arith, mid_is, new_is, feeds_both bytes chunk)
+
+pub taken_more : {B : Type 0} (old mid new : List ℕ → Result B GrError) (line more : ℕ) (had left later : Option (List ℕ)) (chunk : List ℕ) → HasTaken old mid line had left → ((rest : List ℕ) → new rest ≡ mid (chunk ++ rest)) → more ≡ capped (line + line_feeds chunk) → Consumes left later chunk → HasTaken old new more had later
+taken_more old mid new line more had left later chunk taken told count consumes = (
   taken.0 ++ chunk,
-  λ rest. more rest ∙ taken.1 (chunk ++ rest) ∙ ap old (sym (append_assoc taken.0 chunk rest)),
-  known_more taken.0 chunk had left later taken.2 consumes,
+  λ rest. told rest ∙ taken.1 (chunk ++ rest) ∙ ap old (sym (append_assoc taken.0 chunk rest)),
+  count_more taken.0 chunk line more taken.2 count,
+  known_more taken.0 chunk had left later taken.3 consumes,
 )
 
 known_same : (bytes : List ℕ) (had left later : Option (List ℕ)) → IfSome had (λ text. MatchOption left ⊥ (λ rest. bytes ++ rest ≡ text)) → Keeps left later → IfSome had (λ text. MatchOption later ⊥ (λ rest. bytes ++ rest ≡ text))
@@ -67,12 +72,65 @@ known_same bytes (Some text) None later known keeps = absurd known
 known_same bytes (Some text) (Some xs) None known keeps = absurd keeps
 known_same bytes (Some text) (Some xs) (Some ys) known keeps = ap (λ (rest : List ℕ). bytes ++ rest) keeps ∙ known
 
-pub taken_same : {B : Type 0} (old new : List ℕ → Result B GrError) (had left later : Option (List ℕ)) → HasTaken old new had left → Keeps left later → HasTaken old new had later
-taken_same old new had left later taken keeps = (taken.0, taken.1, known_same taken.0 had left later taken.2 keeps)
+pub taken_same : {B : Type 0} (old new : List ℕ → Result B GrError) (line : ℕ) (had left later : Option (List ℕ)) → HasTaken old new line had left → Keeps left later → HasTaken old new line had later
+taken_same old new line had left later taken keeps = (taken.0, taken.1, taken.2, known_same taken.0 had left later taken.3 keeps)
+
+-- Where a reading stops that says nothing of its text
+
+stops_after : (taken : List ℕ) (had left : Option (List ℕ)) (e : GrError) → IfSome had (λ text. MatchOption left ⊥ (λ rest. taken ++ rest ≡ text)) → IsReachedAfter taken e → StopsAtReached had left e
+stops_after taken None left e known reached nothing = tt
+stops_after taken (Some text) None e known reached nothing = absurd known
+stops_after taken (Some text) (Some rest) e known reached nothing = (taken, known, reached)
+
+-- in a piece that was taken last
+pub stops_in_piece : {B : Type 0} (old mid : List ℕ → Result B GrError) (line new : ℕ) (had left later : Option (List ℕ)) (chunk : List ℕ) (e : GrError) → HasTaken old mid line had left → Consumes left later chunk → length chunk ≤ 65536 → IsReached line (line + line_feeds chunk) new e → StopsAtReached had later e
+stops_in_piece old mid line new had left later chunk e taken consumes short reached =
+    stops_after (taken.0 ++ chunk) had later e (known_more taken.0 chunk had left later taken.3 consumes) (record {
+      before = taken.0;
+      last = chunk;
+      taken_are = refl;
+      is_piece = short;
+      from = omega (arith, taken.2, reached.from, reached.line_is);
+      to = omega (arith, taken.2, reached.to, reached.line_is, feeds_both taken.0 chunk);
+      read = λ is. absurd (reached.no_read is);
+    })
+
+-- between two pieces
+pub stops_between : {B : Type 0} (old mid : List ℕ → Result B GrError) (line : ℕ) (had left : Option (List ℕ)) (e : GrError) → HasTaken old mid line had left → (SaysNothing e → e.line ≡ next_line line) → StopsAtReached had left e
+stops_between old mid line had left e taken line_is nothing =
+    let at_line = line_is nothing in
+    stops_after taken.0 had left e taken.3 (record {
+      before = taken.0;
+      last = [];
+      taken_are = append-nil taken.0;
+      is_piece = omega arith;
+      from = omega (arith, taken.2, at_line);
+      to = omega (arith, taken.2, at_line);
+      read = λ is. omega (arith, taken.2, at_line);
+    }) nothing
+
+wants_memory : (kind : GrErrorKind) → FromText kind ⊥ → kind ≢ Read → kind ≡ OutOfMemory
+wants_memory OutOfMemory nothing no_read = refl
+wants_memory Read nothing no_read = absurd (no_read refl)
+wants_memory UnknownLine nothing no_read = absurd nothing
+wants_memory NoProblemLine nothing no_read = absurd nothing
+wants_memory SecondProblemLine nothing no_read = absurd nothing
+wants_memory FieldCount nothing no_read = absurd nothing
+wants_memory NotANumber nothing no_read = absurd nothing
+wants_memory NodeRange nothing no_read = absurd nothing
+wants_memory ZeroWeight nothing no_read = absurd nothing
+wants_memory WeightTooBig nothing no_read = absurd nothing
+wants_memory TooManyNodes nothing no_read = absurd nothing
+wants_memory TooManyArcs nothing no_read = absurd nothing
+wants_memory ArcCount nothing no_read = absurd nothing
+
+pub stops_at_end : {A B : Type 0} (r : Result A GrError) (old mid : List ℕ → Result B GrError) (line : ℕ) (had left : Option (List ℕ)) → HasTaken old mid line had left → IfErr r (IsAtEndOf line) → IfErr r (StopsAtReached had left)
+stops_at_end (Ok x) old mid line had left taken ends = tt
+stops_at_end (Err e) old mid line had left taken ends = stops_between old mid line had left e taken (λ nothing. ends.memory (wants_memory e.kind nothing ends.no_read))
 
 -- where two ways of the code join
-pub taken_as : {E : Type 0} (grammar : Grammar E) (old : List ℕ → Result (Listing E) GrError) (joined one : Pieces E) (had left : Option (List ℕ)) → joined ≡ one → HasTaken old (told_with grammar (taken_of one)) had left → HasTaken old (told_with grammar (taken_of joined)) had left
-taken_as {E} grammar old joined one had left is taken = subst (λ (p : Pieces E). HasTaken old (told_with grammar (taken_of p)) had left) (sym is) taken
+pub taken_as : {E : Type 0} (grammar : Grammar E) (old : List ℕ → Result (Listing E) GrError) (joined one : Pieces E) (had left : Option (List ℕ)) → joined ≡ one → HasTaken old (told_with grammar (taken_of one)) one.progress.line had left → HasTaken old (told_with grammar (taken_of joined)) joined.progress.line had left
+taken_as {E} grammar old joined one had left is taken = subst (λ (p : Pieces E). HasTaken old (told_with grammar (taken_of p)) p.progress.line had left) (sym is) taken
 
 pub failed_as : {E : Type 0} (joined one : Pieces E) (o : Option GrError) → joined ≡ one → one.failed ≡ o → joined.failed ≡ o
 failed_as {E} joined one o is failed = ap (λ (p : Pieces E). p.failed) is ∙ failed
@@ -87,16 +145,16 @@ module _ {E : Type 0} (grammar : Grammar E) (first : Taken E) (begins : first �
   answers_all : {A : Type 0} (view : A → Listing E) (r : Result A GrError) (told : Result (Listing E) GrError) (text : List ℕ) → Answers view r told → told ≡ listing_after grammar 0 (lines_of text) → Answers view r (listing_after grammar 0 (lines_of text))
   answers_all view r told text answers same = subst (λ (told : Result (Listing E) GrError). Answers view r told) same answers
 
-  pub told_all : {A : Type 0} (view : A → Listing E) (last : Taken E) (r : Result A GrError) (had left : Option (List ℕ)) → HasTaken (told_with grammar first) (told_with grammar last) had left → IsAtEnd left → Answers view r (told_with grammar last []) → IfSome had (λ text. Answers view r (listing_after grammar 0 (lines_of text)))
+  pub told_all : {A : Type 0} (view : A → Listing E) (last : Taken E) (r : Result A GrError) (had left : Option (List ℕ)) → HasTaken (told_with grammar first) (told_with grammar last) last.line had left → IsAtEnd left → Answers view r (told_with grammar last []) → IfSome had (λ text. Answers view r (listing_after grammar 0 (lines_of text)))
   told_all view last r None left taken ended answers = tt
-  told_all view last r (Some text) None taken ended answers = absurd taken.2
+  told_all view last r (Some text) None taken ended answers = absurd taken.3
   told_all view last r (Some text) (Some xs) taken ended answers =
-      let whole : taken.0 ++ [] ≡ text = ap (λ (rest : List ℕ). taken.0 ++ rest) (sym ended) ∙ taken.2 in
+      let whole : taken.0 ++ [] ≡ text = ap (λ (rest : List ℕ). taken.0 ++ rest) (sym ended) ∙ taken.3 in
       answers_all view r (told_with grammar last []) text answers (taken.1 [] ∙ ap (λ (bytes : List ℕ). told_with grammar first bytes) whole ∙ told_first grammar first text begins)
 
   told_by : {A : Type 0} (view : A → Listing E) (r : Result A GrError) (told : Result (Listing E) GrError) (text : List ℕ) → told ≡ listing_after grammar 0 (lines_of text) → Answers view r told → IfOk r (λ x. (text : List ℕ) × (listing_after grammar 0 (lines_of text) ≡ Ok (view x)))
   told_by view (Ok x) told text same answers = (text, sym same ∙ answers)
   told_by view (Err e) told text same answers = tt
 
-  pub told_some : {A : Type 0} (view : A → Listing E) (last : Taken E) (r : Result A GrError) (had left : Option (List ℕ)) → HasTaken (told_with grammar first) (told_with grammar last) had left → Answers view r (told_with grammar last []) → IfOk r (λ x. (text : List ℕ) × (listing_after grammar 0 (lines_of text) ≡ Ok (view x)))
+  pub told_some : {A : Type 0} (view : A → Listing E) (last : Taken E) (r : Result A GrError) (had left : Option (List ℕ)) → HasTaken (told_with grammar first) (told_with grammar last) last.line had left → Answers view r (told_with grammar last []) → IfOk r (λ x. (text : List ℕ) × (listing_after grammar 0 (lines_of text) ≡ Ok (view x)))
   told_some view last r had left taken answers = told_by view r (told_with grammar last []) (taken.0 ++ []) (taken.1 [] ∙ told_first grammar first (taken.0 ++ []) begins) answers

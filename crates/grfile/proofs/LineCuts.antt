@@ -27,6 +27,15 @@ pub feeds_none : (text : List ℕ) → ((j : ℕ) → j < length text → eqb (g
 feeds_none [] none = refl
 feeds_none (b ∷ text) none = cond-false (eqb b 10) (line_feeds text + 1) (line_feeds text) (none 0 (omega arith)) ∙ feeds_none text (λ j k. none (suc j) (omega arith))
 
+pub feeds_both : (text more : List ℕ) → line_feeds (text ++ more) ≡ line_feeds text + line_feeds more
+feeds_both [] more = omega arith
+feeds_both (b ∷ text) more =
+    let rest = feeds_both text more in
+    elim (eqb b 10) as (λ t. cond t (line_feeds (text ++ more) + 1) (line_feeds (text ++ more)) ≡ cond t (line_feeds text + 1) (line_feeds text) + line_feeds more) [
+      | true ↦ omega (arith, rest)
+      | false ↦ omega (arith, rest)
+    ]
+
 -- one byte before the part of the first line
 
 last_onto : (b : ℕ) (begun : List ℕ) → last_line (b ∷ begun) ≡ onto_first b (last_line begun)

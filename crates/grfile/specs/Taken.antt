@@ -1,5 +1,5 @@
 -- What a reader has taken of a text, and what it then says of the whole.
-use Rattle.std.specs.Prelude.{◌≡◌, ◌≢◌, ◌≤◌, ℕ, ◌+◌, ◌==◌, if◌then◌else◌, List, [], ◌∷◌, ◌++◌, map, Option, Some, None, Result, Ok, Err, MatchResult, MatchOption, IfSome}
+use Rattle.std.specs.Prelude.{◌≡◌, ◌≢◌, ◌≤◌, ℕ, ◌+◌, ◌==◌, if◌then◌else◌, List, [], ◌∷◌, ◌++◌, length, map, Option, Some, None, Result, Ok, Err, MatchResult, MatchOption, IfSome}
 use Rattle.std.specs.Option.{option_map}
 use Rattle.std.specs.Str.Lines.{strip_carriage_return}
 use Rattle.ch_graph.specs.declared.road.Road.{Road}
@@ -7,7 +7,7 @@ use Rattle.ch_graph.specs.Graph.{Graph}
 use Rattle.grfile.specs.declared.error.GrError.{GrError}
 use Rattle.grfile.specs.declared.error.GrErrorKind.TheVariants.{OutOfMemory, Read}
 use Rattle.grfile.specs.declared.pieces.Pieces.{Pieces}
-use Rattle.grfile.specs.Outcome.{◌>>=◌, capped, next_line}
+use Rattle.grfile.specs.Outcome.{◌>>=◌, SaysNothing, capped, next_line}
 use Rattle.grfile.specs.Grammar.{Grammar, Listing}
 use Rattle.grfile.specs.Roads.{graph_grammar}
 use Rattle.grfile.specs.Pairs.{pair_grammar}
@@ -76,7 +76,23 @@ pub record IsAtEndOf (line : ℕ) (e : GrError) : Type 0 where
   pub no_read : e.kind ≢ Read
   pub memory : e.kind ≡ OutOfMemory → e.line ≡ next_line line
 
--- Some bytes were taken: what was told of them and of what follows is told of what follows. They are those that the
--- reader had before what it has left, where these are known.
-abbrev pub HasTaken : {B : Type 0} → (List ℕ → Result B GrError) → (List ℕ → Result B GrError) → Option (List ℕ) → Option (List ℕ) → Type 0
-HasTaken old new had left = (bytes : List ℕ) × ((rest : List ℕ) → new rest ≡ old (bytes ++ rest)) × IfSome had (λ text. MatchOption left ⊥ (λ rest. bytes ++ rest ≡ text))
+-- Some bytes were taken: what was told of them and of what follows is told of what follows, and as many lines have
+-- ended as they have line feeds. They are those that the reader had before what it has left, where these are known.
+abbrev pub HasTaken : {B : Type 0} → (List ℕ → Result B GrError) → (List ℕ → Result B GrError) → ℕ → Option (List ℕ) → Option (List ℕ) → Type 0
+HasTaken old new line had left = (bytes : List ℕ) × ((rest : List ℕ) → new rest ≡ old (bytes ++ rest)) × (line ≡ capped (line_feeds bytes)) × IfSome had (λ text. MatchOption left ⊥ (λ rest. bytes ++ rest ≡ text))
+
+-- The line of a refusal that says nothing of a text, once these bytes of it were taken: that after the lines which have
+-- ended, or, for want of memory, one that was reached in the last piece, of at most 65,536 bytes.
+pub record IsReachedAfter (taken : List ℕ) (e : GrError) : Type 0 where
+  pub before : List ℕ
+  pub last : List ℕ
+  pub taken_are : before ++ last ≡ taken
+  pub is_piece : length last ≤ 65536
+  pub from : next_line (line_feeds before) ≤ e.line
+  pub to : e.line ≤ next_line (line_feeds taken)
+  pub read : e.kind ≡ Read → e.line ≡ next_line (line_feeds taken)
+
+-- A refusal that says nothing of a text is of the line that was reached, where it is known what a reader had and what
+-- it has left.
+abbrev pub StopsAtReached : Option (List ℕ) → Option (List ℕ) → GrError → Type 0
+StopsAtReached had left e = SaysNothing e → IfSome had (λ text. MatchOption left ⊥ (λ rest. (taken : List ℕ) × (taken ++ rest ≡ text) × IsReachedAfter taken e))

@@ -2,7 +2,7 @@ ghost use Rattle.std.specs.Prelude.{◌≡◌, ◌++◌, [], None, Some, IfErr, 
 ghost use Rattle.std.specs.Io.KnownBytes.{IsAtEnd};
 ghost use Rattle.grfile.specs.Outcome.{Answers, Takes};
 ghost use Rattle.grfile.specs.Reading.{graph_of};
-ghost use Rattle.grfile.specs.Taken.{CountsLines, IsAtEndOf, graph_with, line_feeds};
+ghost use Rattle.grfile.specs.Taken.{CountsLines, IsAtEndOf, StopsAtReached, graph_with, line_feeds};
 
 use crate::error::GrError;
 use crate::listing::Listed;
@@ -75,11 +75,12 @@ impl GrReader {
 /// Reads the text of a graph to the reader's end.
 ///
 /// The first fault of the text is answered, with its line; `Read` where the reader fails, and `OutOfMemory` where
-/// a growth is refused. What is kept is the arcs so far, one line and 64 KiB: memory grows with what the text has
-/// spelled, never with what a line announces.
+/// a growth is refused, both at the line that was reached. What is kept is the arcs so far, one line and 64 KiB:
+/// memory grows with what the text has spelled, never with what a line announces.
 pub fn read_graph<R: Read>(alloc: Global, reader: &mut R) -> Result<Graph, GrError>
     ensures reading { IfSome (R.remaining reader.old) (λ text. Answers (λ g. g) result (graph_of text)) }
     ensures ended { OnOk result (IsAtEnd (R.remaining reader.new)) }
+    ensures reached { IfErr result (StopsAtReached (R.remaining reader.old) (R.remaining reader.new)) }
 {
     let Listed { size, entries } = read_listing(alloc, Roads, reader)?;
     Ok(Graph::new(size.nodes, entries))

@@ -5,7 +5,7 @@ ghost use Rattle.grfile.specs.Lines.{lines_of};
 ghost use Rattle.grfile.specs.Outcome.{Answers, FromText, Takes, capped, next_line};
 ghost use Rattle.grfile.specs.Grammar.{listing_after};
 ghost use Rattle.grfile.specs.Progress.{listing_of, listing_from, told_from};
-ghost use Rattle.grfile.specs.Taken.{CountsLines, HasTaken, IsAtEndOf, IsReached, line_feeds, lines_after, taken_of, told_with};
+ghost use Rattle.grfile.specs.Taken.{CountsLines, HasTaken, IsAtEndOf, IsReached, StopsAtReached, line_feeds, lines_after, taken_of, told_with};
 ghost use Rattle.grfile.specs.declared.error.GrErrorKind.TheVariants.{OutOfMemory};
 
 use crate::error::{GrError, GrErrorKind};
@@ -170,6 +170,7 @@ pub(crate) fn read_listing<F: Form, R: Read>(
     ensures told { IfSome (R.remaining reader.old) (λ text. Answers listing_of result (listing_after (F.grammar form) 0 (lines_of text))) }
     ensures listed { IfOk result (λ listed. (text : List ℕ) × (listing_after (F.grammar form) 0 (lines_of text) ≡ Ok (listing_of listed))) }
     ensures ended { OnOk result (IsAtEnd (R.remaining reader.new)) }
+    ensures reached { IfErr result (StopsAtReached (R.remaining reader.old) (R.remaining reader.new)) }
 {
     let mut pieces = Pieces::new(alloc);
     feed_all(&mut pieces, form, reader)?;
@@ -182,10 +183,13 @@ fn feed_all<F: Form, R: Read>(
     form: F,
     reader: &mut R,
 ) -> Result<(), GrError>
-    requires { pieces.old.failed ≡ None }
-    ensures ok { OnOk result (HasTaken (told_with (F.grammar form) (taken_of pieces.old)) (told_with (F.grammar form) (taken_of pieces.new)) (R.remaining reader.old) (R.remaining reader.new)) }
+    requires fresh { pieces.old.failed ≡ None }
+    requires begins { pieces.old.progress.line ≡ 0 }
+    ensures ok { OnOk result (HasTaken (told_with (F.grammar form) (taken_of pieces.old)) (told_with (F.grammar form) (taken_of pieces.new)) pieces.new.progress.line (R.remaining reader.old) (R.remaining reader.new)) }
+    ensures stays { OnOk result (pieces.new.failed ≡ None) }
     ensures ended { OnOk result (IsAtEnd (R.remaining reader.new)) }
     ensures err { IfErr result (λ e. IfSome (R.remaining reader.old) (λ text. FromText e.kind (told_with (F.grammar form) (taken_of pieces.old) text ≡ Err e))) }
+    ensures reached { IfErr result (StopsAtReached (R.remaining reader.old) (R.remaining reader.new)) }
 {
     let mut piece = [0u8; 65536];
     for _ in 0..CALLS {

@@ -2,7 +2,7 @@ ghost use Rattle.std.specs.Prelude.{◌≡◌, ◌++◌, [], None, Some, IfOk, I
 ghost use Rattle.std.specs.Io.KnownBytes.{IsAtEnd};
 ghost use Rattle.grfile.specs.Outcome.{Answers, Takes};
 ghost use Rattle.grfile.specs.Reading.{pairs_of, IsPair};
-ghost use Rattle.grfile.specs.Taken.{CountsLines, IsAtEndOf, line_feeds, pairs_with};
+ghost use Rattle.grfile.specs.Taken.{CountsLines, IsAtEndOf, StopsAtReached, line_feeds, pairs_with};
 
 use crate::error::GrError;
 use crate::pairs::Pairs;
@@ -79,8 +79,8 @@ impl QueryReader {
 /// Reads the text of pairs of so many nodes to the reader's end. The pairs are numbered from 0.
 ///
 /// The first fault of the text is answered, with its line; `Read` where the reader fails, and `OutOfMemory` where
-/// a growth is refused. What is kept is the pairs so far, one line and 64 KiB: memory grows with what the text has
-/// spelled, never with what a line announces.
+/// a growth is refused, both at the line that was reached. What is kept is the pairs so far, one line and 64 KiB:
+/// memory grows with what the text has spelled, never with what a line announces.
 pub fn read_queries<R: Read>(
     alloc: Global,
     reader: &mut R,
@@ -89,6 +89,7 @@ pub fn read_queries<R: Read>(
     ensures reading { IfSome (R.remaining reader.old) (λ text. Answers (λ v. v.items) result (pairs_of nodes text)) }
     ensures in_range { IfOk result (λ pairs. All (IsPair nodes) pairs.items) }
     ensures ended { OnOk result (IsAtEnd (R.remaining reader.new)) }
+    ensures reached { IfErr result (StopsAtReached (R.remaining reader.old) (R.remaining reader.new)) }
 {
     let listed = read_listing(alloc, Pairs { nodes }, reader)?;
     Ok(listed.entries)
