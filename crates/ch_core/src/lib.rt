@@ -19,6 +19,3 @@ pub use event::{Event, Outcome};
 pub use running::run;
 pub use view::View;
 pub use world::World;
-
-#[cfg(test)]
-mod tests;

@@ -25,6 +25,3 @@ pub use lease::{Lease, Leases};
 pub use neighbours::Neighbours;
 pub use note::Note;
 pub use work_space::WorkSpace;
-
-#[cfg(test)]
-mod tests;

@@ -108,6 +108,3 @@ impl Graph {
         nodes.iter().all(|node| *node < count)
     }
 }
-
-#[cfg(test)]
-mod tests;

@@ -24,6 +24,3 @@ pub use error::CloseError;
 pub use item::Item;
 pub use multi_queue::MultiQueue;
 pub use pass::Pass;
-
-#[cfg(test)]
-mod tests;

@@ -11,4 +11,3 @@ pub mod Following
 pub mod Descents
 pub mod Answering
 pub mod Beginning
-pub mod SmallHierarchies

@@ -30,6 +30,3 @@ mod upward;
 
 pub use laws::labels_are_right;
 pub use search::{Found, Search};
-
-#[cfg(test)]
-mod tests;

@@ -7,8 +7,6 @@
 #![tactic(auto)]
 
 mod error;
-#[cfg(test)]
-mod tests;
 mod unpacking;
 
 pub use error::UnpackError;

@@ -16,3 +16,5 @@ mod proposals;
 mod searches;
 #[cfg(test)]
 mod shelf;
+#[cfg(test)]
+mod worlds;

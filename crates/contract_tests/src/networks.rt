@@ -29,7 +29,7 @@ fn all_allowed(nodes: u32, roads: &[Road]) -> bool
 }
 
 /// The graph of these roads, or none where a road isn't allowed.
-fn graph(nodes: u32, roads: Vec<Road>) -> Option<Graph> {
+pub fn graph(nodes: u32, roads: Vec<Road>) -> Option<Graph> {
     if nodes > 1 << 25 || roads.len() > 1 << 27 || !all_allowed(nodes, roads.as_slice()) {
         return None;
     }

@@ -22,6 +22,3 @@ mod roads;
 pub use error::{GrError, GrErrorKind};
 pub use graph_reader::{GrReader, read_graph};
 pub use query_reader::{QueryReader, read_queries};
-
-#[cfg(test)]
-mod tests;

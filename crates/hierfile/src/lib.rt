@@ -17,8 +17,6 @@ mod links;
 mod output;
 mod ranks;
 mod reading;
-#[cfg(test)]
-mod tests;
 mod writing;
 
 pub use error::{HierError, WriteFault};

@@ -1,5 +1,0 @@
-use Rattle.ch_query.proofs.SmallHierarchies.{one_arc-made}
-use Rattle.ch_query.proofs.tests.one_arc.Goals as goal
-
-pub new-requires : goal.new-requires
-new-requires c = one_arc-made c.in_ok-ranks.ranks.items c.in_ok-links.links.items c.of_weight-cost.result c.of_weight-cost.ensures c.in_ok-ranks.ensures.items c.in_ok-links.ensures.items

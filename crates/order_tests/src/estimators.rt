@@ -1,0 +1,246 @@
+ghost use Rattle.std.specs.Prelude.{◌≡◌, ℕ, ◌+◌, ◌<◌, ◌≤◌, ◌*◌, ◌^◌, [], ◌∷◌, length, AllPairs, All, IfOk, slice_index_or, slice_get};
+ghost use Rattle.ch_laws.specs.Contraction.{Contraction};
+ghost use Rattle.ch_contract.specs.Proposal.{AreFacts};
+
+use ch_contract::{Contraction, Facts};
+use ch_estimate::{Depth, EdgeDifference, Estimator, Lease, Leases, Neighbours, Note};
+use std::alloc::{AllocError, Global};
+use std::sync::Arc;
+use std::sync::atomic::{AtomicU64, Ordering};
+use std::test::Fail;
+use std::thread;
+
+/// Tells an estimator of a log, from its start.
+fn tell(estimator: &mut Box<dyn Estimator + Send>, log: &[Contraction]) -> Result<(), AllocError>
+    requires none { heard estimator.old ≡ [] }
+    requires few { length log.now < 2 ^ 25 }
+    requires ranks { (k : ℕ) (e : Contraction) → k < length log.now → (slice_index_or log.now k e).rank ≡ k }
+    requires rising { All (λ e. AllPairs (λ x y. x < y) e.neighbours) log.now }
+    ensures told { IfOk result (λ _. heard estimator.new ≡ log.now) }
+{
+    'entries: for i in 0..log.len() {
+        estimator.told(&log[i])?;
+    }
+    Ok(())
+}
+
+/// The contraction of node 0, and then that of node 1.
+fn log_of_two(alloc: Global) -> Result<[Contraction; 2], AllocError>
+    ensures ranks { IfOk result (λ log. (k : ℕ) (e : Contraction) → k < 2 → (slice_index_or log k e).rank ≡ k) }
+    ensures rising { IfOk result (λ log. All (λ e. AllPairs (λ x y. x < y) e.neighbours) log) }
+    ensures len { IfOk result (λ log. length log ≡ 2) }
+{
+    let first = vec![in alloc; 1, 2]?;
+    let second = vec![in alloc; 2]?;
+    Ok([
+        Contraction {
+            node: 0,
+            rank: 0,
+            neighbours: first,
+            shortcuts: 1,
+        },
+        Contraction {
+            node: 1,
+            rank: 1,
+            neighbours: second,
+            shortcuts: 0,
+        },
+    ])
+}
+
+/// Counts of a node, as many as a node can have.
+fn facts(node: u32, ins: u32, outs: u32, shortcuts: u64) -> Facts
+    requires ins { ins < 2 ^ 25 }
+    requires outs { outs < 2 ^ 25 }
+    requires shortcuts { shortcuts ≤ ins * outs }
+    ensures facts { AreFacts result }
+    ensures node { result.node ≡ node }
+{
+    Facts {
+        node,
+        ins,
+        outs,
+        shortcuts,
+    }
+}
+
+#[test]
+fn notes_of_a_log(rt: HostRuntime) -> Result<(), Fail> {
+    let alloc = rt.alloc();
+    let mut leases = Leases::new(alloc)?;
+    let log = log_of_two(alloc)?;
+    let mut estimator = EdgeDifference::new(alloc, leases.lease()?);
+    assert_eq!(rt; estimator.note(1), Note { depth: 0, gone: 0 });
+    estimator.told(&log[0])?;
+    assert_eq!(rt; estimator.note(0), Note { depth: 0, gone: 0 });
+    assert_eq!(rt; estimator.note(1), Note { depth: 1, gone: 1 });
+    assert_eq!(rt; estimator.note(2), Note { depth: 1, gone: 1 });
+    estimator.told(&log[1])?;
+    assert_eq!(rt; estimator.note(1), Note { depth: 1, gone: 1 });
+    assert_eq!(rt; estimator.note(2), Note { depth: 2, gone: 2 });
+    assert_eq!(rt; estimator.note(7), Note { depth: 0, gone: 0 });
+    Ok(())
+}
+
+#[test]
+fn keys_of_a_chain_and_a_star(rt: HostRuntime) -> Result<(), Fail> {
+    let alloc = rt.alloc();
+    let mut leases = Leases::new(alloc)?;
+    let mut estimator = EdgeDifference::new(alloc, leases.lease()?);
+    assert_eq!(rt; estimator.key(&facts(0, 1, 1, 1)), 67_108_863);
+    assert_eq!(rt; estimator.key(&facts(0, 2, 2, 4)), 67_108_864);
+    assert_eq!(rt; estimator.key(&facts(1, 1, 0, 0)), 67_108_863);
+    Ok(())
+}
+
+#[test]
+fn waits_answer(rt: HostRuntime) -> Result<(), Fail> {
+    let mut leases = Leases::new(rt.alloc())?;
+    leases.wait(&rt);
+    leases.wait(&rt);
+    let first = leases.lease()?;
+    let second = leases.lease()?;
+    drop(first);
+    drop(second);
+    leases.wait(&rt);
+    leases.wait(&rt);
+    let third = leases.lease()?;
+    drop(third);
+    leases.wait(&rt);
+    Ok(())
+}
+
+#[test]
+fn waits_for_another_thread(rt: HostRuntime) -> Result<(), Fail> {
+    let alloc = rt.alloc();
+    let mut leases = Leases::new(alloc)?;
+    let lease = leases.lease()?;
+    let done = Arc::new(alloc, AtomicU64::new(0))?;
+    let theirs = Arc::try_clone(&done)?;
+    let child = thread::spawn(&rt, move || {
+        theirs.fetch_add(1, Ordering::SeqCst);
+        drop(lease);
+    });
+    leases.wait(&rt);
+    assert_eq!(rt; done.load(Ordering::SeqCst), 1);
+    if let Ok(child) = child {
+        child.join(&rt);
+    }
+    Ok(())
+}
+
+/// The contraction of node 0 alone.
+fn first_entry(alloc: Global) -> Result<Contraction, AllocError>
+    ensures rank { IfOk result (λ e. e.rank ≡ 0) }
+    ensures rising { IfOk result (λ e. AllPairs (λ x y. x < y) e.neighbours) }
+{
+    let neighbours = vec![in alloc; 1, 2]?;
+    Ok(Contraction {
+        node: 0,
+        rank: 0,
+        neighbours,
+        shortcuts: 1,
+    })
+}
+
+/// The key of node 1 by its depth, after one entry.
+fn key_by_depth(alloc: Global, lease: Lease) -> Result<u64, AllocError> {
+    let entry = first_entry(alloc)?;
+    let mut depth = Depth::new(alloc, lease);
+    depth.told(&entry)?;
+    Ok(depth.key(&facts(1, 0, 1, 0)))
+}
+
+/// The key of node 2 by its neighbours, after two entries.
+fn key_by_neighbours(alloc: Global, lease: Lease) -> Result<u64, AllocError> {
+    let log = log_of_two(alloc)?;
+    let mut neighbours = Neighbours::new(alloc, lease);
+    neighbours.told(&log[0])?;
+    neighbours.told(&log[1])?;
+    Ok(neighbours.key(&facts(2, 0, 0, 0)))
+}
+
+#[test]
+fn keys_by_a_log(rt: HostRuntime) -> Result<(), Fail> {
+    let alloc = rt.alloc();
+    let mut leases = Leases::new(alloc)?;
+    let first = leases.lease()?;
+    assert_eq!(rt; key_by_depth(alloc, first)?, 67_108_864);
+    let second = leases.lease()?;
+    assert_eq!(rt; key_by_neighbours(alloc, second)?, 67_108_866);
+    leases.wait(&rt);
+    Ok(())
+}
+
+/// An estimator that counts its drop.
+struct Counted {
+    inner: Depth,
+    drops: Arc<AtomicU64, Global>,
+}
+
+impl Estimator for Counted {
+    ghost heard = { λ c. c.inner };
+
+    fn key(&mut self, facts: &Facts) -> u64 {
+        self.inner.key(facts)
+    }
+
+    fn told(&mut self, entry: &Contraction) -> Result<(), AllocError> {
+        self.inner.told(entry)
+    }
+
+    fn note(&self, node: u32) -> Note {
+        self.inner.note(node)
+    }
+}
+
+impl Drop for Counted {
+    fn drop(self) {
+        let Self { inner: _, drops } = self;
+        drops.fetch_add(1, Ordering::SeqCst);
+    }
+}
+
+#[test]
+fn boxes_give_their_leases_back(rt: HostRuntime) -> Result<(), Fail> {
+    let alloc = rt.alloc();
+    let mut leases = Leases::new(alloc)?;
+    let drops = Arc::new(alloc, AtomicU64::new(0))?;
+    let theirs = Arc::try_clone(&drops)?;
+    let counted = Counted {
+        inner: Depth::new(alloc, leases.lease()?),
+        drops: theirs,
+    };
+    let estimator: Box<dyn Estimator + Send> = Box::new(alloc, counted)?;
+    drop(estimator);
+    leases.wait(&rt);
+    assert_eq!(rt; drops.load(Ordering::SeqCst), 1);
+    Ok(())
+}
+
+/// Tells a boxed estimator of a log, and answers what it knows of node 2.
+fn note_by_a_box(
+    mut estimator: Box<dyn Estimator + Send>,
+    log: &[Contraction],
+) -> Result<Note, AllocError>
+    requires none { heard estimator ≡ [] }
+    requires few { length log.now < 2 ^ 25 }
+    requires ranks { (k : ℕ) (e : Contraction) → k < length log.now → (slice_index_or log.now k e).rank ≡ k }
+    requires rising { All (λ e. AllPairs (λ x y. x < y) e.neighbours) log.now }
+{
+    tell(&mut estimator, log)?;
+    Ok(estimator.note(2))
+}
+
+#[test]
+fn boxes_are_told(rt: HostRuntime) -> Result<(), Fail> {
+    let alloc = rt.alloc();
+    let mut leases = Leases::new(alloc)?;
+    let log = log_of_two(alloc)?;
+    let lease = leases.lease()?;
+    let depth: Box<dyn Estimator + Send> = Box::new(alloc, Depth::new(alloc, lease))?;
+    let note = note_by_a_box(depth, log.as_slice())?;
+    assert_eq!(rt; note, Note { depth: 2, gone: 2 });
+    leases.wait(&rt);
+    Ok(())
+}

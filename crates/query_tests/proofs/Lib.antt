@@ -1,0 +1,2 @@
+pub mod SearchedHierarchies
+pub mod UnpackedHierarchies

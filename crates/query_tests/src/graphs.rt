@@ -1,0 +1,189 @@
+ghost use Rattle.std.specs.Prelude.{◌≡◌, IfOk};
+ghost use Rattle.ch_graph.specs.Graph.{IsRoad};
+
+use ch_cost::Cost;
+use ch_graph::{Graph, Road};
+use std::alloc::Global;
+use std::process::Abort;
+use std::test::Fail;
+
+/// The greatest weight.
+const HEAVY: u32 = 4294967295;
+
+/// An arc, and then another.
+const ROW: [(u32, u32, u32); 2] = [(1, 0, 2), (0, 2, 3)];
+
+/// A loop, and three arcs beside each other.
+const PARALLEL: [(u32, u32, u32); 4] = [(0, 0, 12), (0, 1, 9), (0, 1, 4), (0, 1, 6)];
+
+/// A heavy arc, and ways around it.
+const AROUND: [(u32, u32, u32); 6] = [
+    (0, 3, 10),
+    (0, 1, 4),
+    (1, 3, 5),
+    (0, 2, 1),
+    (2, 1, 1),
+    (3, 0, 1),
+];
+
+/// Arcs of the greatest weight.
+const HEAVIEST: [(u32, u32, u32); 4] = [(2, 0, HEAVY), (0, 1, HEAVY), (1, 0, HEAVY), (0, 3, HEAVY)];
+
+/// An arc between two of so many nodes.
+fn road(rt: &impl Abort, nodes: u32, from: u32, to: u32, weight: u32) -> Road
+    ensures { IsRoad nodes result }
+{
+    assert!(rt; from < nodes);
+    assert!(rt; to < nodes);
+    assert!(rt; 0 < weight);
+    Road { from, to, weight }
+}
+
+/// The graph of these arcs, each given by its ends and its weight.
+fn graph_of(
+    rt: &impl Abort,
+    alloc: Global,
+    nodes: u32,
+    arcs: &[(u32, u32, u32)],
+) -> Result<Graph, Fail>
+    ensures { IfOk result (λ g. g.nodes ≡ nodes) }
+{
+    let mut roads = Vec::new(alloc);
+    for (from, to, weight) in arcs {
+        roads.push(road(rt, nodes, *from, *to, *weight))?;
+    }
+    assert!(rt; nodes <= 1 << 25);
+    assert!(rt; roads.len() <= 1 << 27);
+    Ok(Graph::new(nodes, roads))
+}
+
+/// Compares the bound of a graph and least lengths, each given by its ends.
+fn check_least(
+    rt: &impl Abort,
+    graph: &Graph,
+    bound: u64,
+    lengths: &[(u32, u32, Option<u64>)],
+) -> Result<(), Fail> {
+    assert!(rt; graph.bound().length() == bound);
+    for (source, target, length) in lengths {
+        assert!(rt; *source < graph.nodes());
+        assert!(rt; *target < graph.nodes());
+        let least = graph.least(*source, *target)?;
+        let is_right = least.map(Cost::length) == *length;
+        assert!(rt; is_right, "from {source} to {target}");
+    }
+    Ok(())
+}
+
+/// What arcs of these weights cost together.
+fn cost_of(rt: &impl Abort, weights: &[u32]) -> Cost {
+    let limit = Cost::of_arcs(4, HEAVY);
+    let mut cost = Cost::ZERO;
+    for weight in weights {
+        cost = cost
+            .plus_within(Cost::of_weight(*weight), limit)
+            .expect(rt, "a small sum");
+    }
+    cost
+}
+
+/// Tells lists of nodes from walks, each given with the weights that cost as much and whether it is a walk.
+fn check_walks(rt: &impl Abort, graph: &Graph, walks: &[(&[u32], &[u32], bool)]) {
+    for (nodes, weights, expected) in walks {
+        let is_walk = graph.is_walk(nodes, cost_of(rt, weights));
+        assert!(rt; is_walk == *expected);
+    }
+}
+
+#[test]
+fn keeps_what_it_is_made_of(rt: HostRuntime) -> Result<(), Fail> {
+    let graph = graph_of(&rt, rt.alloc(), 3, &ROW)?;
+    assert!(rt; graph.nodes() == 3);
+    assert!(rt;
+        graph.arcs()
+            == [
+                Road {
+                    from: 1,
+                    to: 0,
+                    weight: 2
+                },
+                Road {
+                    from: 0,
+                    to: 2,
+                    weight: 3
+                }
+            ]
+            .as_slice()
+    );
+    Ok(())
+}
+
+#[test]
+fn answers_least_lengths(rt: HostRuntime) -> Result<(), Fail> {
+    let cases: [(u32, &[(u32, u32, u32)], u64, &[(u32, u32, Option<u64>)]); 6] = [
+        (
+            3,
+            &ROW,
+            6,
+            &[(1, 2, Some(5)), (2, 1, None), (1, 1, Some(0))],
+        ),
+        (
+            2,
+            &PARALLEL,
+            12,
+            &[(0, 1, Some(4)), (0, 0, Some(0)), (1, 0, None)],
+        ),
+        (
+            4,
+            &AROUND,
+            30,
+            &[(0, 3, Some(7)), (0, 1, Some(2)), (2, 0, Some(7))],
+        ),
+        (
+            4,
+            &HEAVIEST,
+            12884901885,
+            &[(2, 3, Some(8589934590)), (3, 2, None)],
+        ),
+        (2, &[(0, 1, HEAVY)], 4294967295, &[(0, 1, Some(4294967295))]),
+        (1, &[], 0, &[(0, 0, Some(0))]),
+    ];
+    for (nodes, arcs, bound, lengths) in cases {
+        let graph = graph_of(&rt, rt.alloc(), nodes, arcs)?;
+        check_least(&rt, &graph, bound, lengths)?;
+    }
+    Ok(())
+}
+
+#[test]
+fn tells_walks(rt: HostRuntime) -> Result<(), Fail> {
+    let row = graph_of(&rt, rt.alloc(), 3, &ROW)?;
+    check_walks(
+        &rt,
+        &row,
+        &[
+            (&[1, 0, 2], &[2, 3], true),
+            (&[1, 0, 2], &[2, 2], false),
+            (&[1, 0, 2], &[3, 3], false),
+            (&[1, 2], &[2, 3], false),
+            (&[2, 0, 1], &[2, 3], false),
+            (&[1, 0, 3], &[2, 3], false),
+            (&[2], &[], true),
+            (&[2], &[1], false),
+            (&[3], &[], false),
+            (&[], &[], false),
+        ],
+    );
+    let parallel = graph_of(&rt, rt.alloc(), 2, &PARALLEL)?;
+    check_walks(
+        &rt,
+        &parallel,
+        &[
+            (&[0, 1], &[4], true),
+            (&[0, 1], &[9], false),
+            (&[0, 0, 1], &[12, 4], true),
+            (&[1, 0], &[4], false),
+        ],
+    );
+    Ok(())
+}

@@ -1,0 +1,17 @@
+//! Tests of costs, graphs, queries and routes from without: sums and their order, least lengths, links of pairs, and
+//! small hierarchies with answers by hand.
+//!
+//! A crate of its own, so that `ch_cost`, `ch_graph`, `ch_query` and `ch_unpack` are proved once and nothing waits for
+//! their tests. It has no code but tests.
+#![tactic(auto)]
+
+#[cfg(test)]
+mod costs;
+#[cfg(test)]
+mod graphs;
+#[cfg(test)]
+mod links;
+#[cfg(test)]
+mod routes;
+#[cfg(test)]
+mod searches;

@@ -1,0 +1,451 @@
+ghost use Rattle.std.specs.Prelude.{◌≤◌, length};
+
+use ch_graph::{Graph, Road};
+use grfile::{GrError, GrErrorKind, GrReader, QueryReader, read_graph, read_queries};
+use std::alloc::Global;
+use std::io::{self, ErrorKind, Read};
+
+/// What a text has to say.
+#[derive(Clone, Copy, Debug)]
+enum Wanted {
+    Graph(u32, &'static [Road]),
+    Pairs(&'static [(u32, u32)]),
+    Fault(GrErrorKind, u64),
+}
+
+/// A text, and what it has to say.
+type Case = (&'static [u8], Wanted);
+
+const SEVEN: &[Road] = &[Road {
+    from: 0,
+    to: 1,
+    weight: 7,
+}];
+
+const PARALLEL: &[Road] = &[
+    Road {
+        from: 0,
+        to: 0,
+        weight: 12,
+    },
+    Road {
+        from: 0,
+        to: 1,
+        weight: 9,
+    },
+    Road {
+        from: 0,
+        to: 1,
+        weight: 4,
+    },
+    Road {
+        from: 0,
+        to: 1,
+        weight: 4_294_967_295,
+    },
+];
+
+const GRAPHS: [Case; 50] = [
+    // Blanks and line ends.
+    (
+        b"c x\r\n\r\np\tsp 02 01\r\na  1\t2 007 ",
+        Wanted::Graph(2, SEVEN),
+    ),
+    (b"p sp 2 1\na 1 2 7", Wanted::Graph(2, SEVEN)),
+    (b"p sp 2 1\na 1 2 7\n", Wanted::Graph(2, SEVEN)),
+    (b"p sp 2 1\r\na 1 2 7\r", Wanted::Graph(2, SEVEN)),
+    (
+        b"\n\r\n \t \r\ncomment\n\tp  sp\t2 1\n c \xff 1\n\na 1 2 7\nc\xfe\r",
+        Wanted::Graph(2, SEVEN),
+    ),
+    (
+        b"p sp 000000000000000000000000000002 1\na 01 02 00000000000000000000000000000007",
+        Wanted::Graph(2, SEVEN),
+    ),
+    // Loops and parallel arcs, in order.
+    (
+        b"p sp 2 4\na 1 1 12\na 1 2 9\na 1 2 4\nc\na 1 2 4294967295\n",
+        Wanted::Graph(2, PARALLEL),
+    ),
+    // No arcs.
+    (b"p sp 0 0", Wanted::Graph(0, &[])),
+    (b"p sp 1 0\n", Wanted::Graph(1, &[])),
+    (b"p sp 33554432 0\n", Wanted::Graph(33_554_432, &[])),
+    // Places of lines.
+    (b"", Wanted::Fault(GrErrorKind::NoProblemLine, 0)),
+    (b"c\n\n", Wanted::Fault(GrErrorKind::NoProblemLine, 2)),
+    (b"a 1 2 7", Wanted::Fault(GrErrorKind::NoProblemLine, 1)),
+    (b"a", Wanted::Fault(GrErrorKind::NoProblemLine, 1)),
+    (
+        b"p sp 2 1\np sp 2 1\n",
+        Wanted::Fault(GrErrorKind::SecondProblemLine, 2),
+    ),
+    (
+        b"p sp 2 0\nc\np",
+        Wanted::Fault(GrErrorKind::SecondProblemLine, 3),
+    ),
+    (
+        b"p sp 2 2\na 1 2 7\n",
+        Wanted::Fault(GrErrorKind::ArcCount, 2),
+    ),
+    (
+        b"p sp 2 2\na 1 2 7\nc",
+        Wanted::Fault(GrErrorKind::ArcCount, 3),
+    ),
+    (
+        b"p sp 2 0\na 1 2 7\n",
+        Wanted::Fault(GrErrorKind::ArcCount, 2),
+    ),
+    (b"p sp 2 0\na\n", Wanted::Fault(GrErrorKind::ArcCount, 2)),
+    (
+        b"p sp 0 134217728\n",
+        Wanted::Fault(GrErrorKind::ArcCount, 1),
+    ),
+    // Kinds and fields of lines.
+    (b"x", Wanted::Fault(GrErrorKind::UnknownLine, 1)),
+    (b"pp sp 2 1", Wanted::Fault(GrErrorKind::UnknownLine, 1)),
+    (b"p max 2 1", Wanted::Fault(GrErrorKind::UnknownLine, 1)),
+    (b"p max x y", Wanted::Fault(GrErrorKind::UnknownLine, 1)),
+    (
+        b"p sp 2 1\nab 1 2 7",
+        Wanted::Fault(GrErrorKind::UnknownLine, 2),
+    ),
+    (
+        b"p sp 2 1\nq 1 2",
+        Wanted::Fault(GrErrorKind::UnknownLine, 2),
+    ),
+    (
+        b"p sp 2 1\n\ra 1 2 7",
+        Wanted::Fault(GrErrorKind::UnknownLine, 2),
+    ),
+    (b"p max 2", Wanted::Fault(GrErrorKind::FieldCount, 1)),
+    (b"p sp 2 1 1", Wanted::Fault(GrErrorKind::FieldCount, 1)),
+    (
+        b"p sp 2 1\na 1 2",
+        Wanted::Fault(GrErrorKind::FieldCount, 2),
+    ),
+    (
+        b"p sp 2 1\na 1 2 7 c",
+        Wanted::Fault(GrErrorKind::FieldCount, 2),
+    ),
+    (
+        b"c\r\np sp 2 2\na 1 2 7\na 1 2\n",
+        Wanted::Fault(GrErrorKind::FieldCount, 4),
+    ),
+    // Numbers and ranges of a problem line.
+    (b"p sp x 1", Wanted::Fault(GrErrorKind::NotANumber, 1)),
+    (
+        b"p sp 33554433 -1",
+        Wanted::Fault(GrErrorKind::NotANumber, 1),
+    ),
+    (b"p sp 2 1\r\r\n", Wanted::Fault(GrErrorKind::NotANumber, 1)),
+    (
+        b"p sp 33554433 134217729",
+        Wanted::Fault(GrErrorKind::TooManyNodes, 1),
+    ),
+    (
+        b"p sp 99999999999999999999999999999999 0",
+        Wanted::Fault(GrErrorKind::TooManyNodes, 1),
+    ),
+    (
+        b"p sp 2 134217729",
+        Wanted::Fault(GrErrorKind::TooManyArcs, 1),
+    ),
+    (
+        b"p sp 2 18446744073709551616",
+        Wanted::Fault(GrErrorKind::TooManyArcs, 1),
+    ),
+    // Numbers and ranges of an arc line.
+    (
+        b"p sp 2 1\na 1 3 7",
+        Wanted::Fault(GrErrorKind::NodeRange, 2),
+    ),
+    (
+        b"p sp 2 1\na 3 1 0",
+        Wanted::Fault(GrErrorKind::NodeRange, 2),
+    ),
+    (
+        b"p sp 2 1\na 0 2 7",
+        Wanted::Fault(GrErrorKind::NodeRange, 2),
+    ),
+    (
+        b"p sp 2 1\na 18446744073709551617 2 7",
+        Wanted::Fault(GrErrorKind::NodeRange, 2),
+    ),
+    (
+        b"p sp 2 1\na 0 2 x",
+        Wanted::Fault(GrErrorKind::NotANumber, 2),
+    ),
+    (
+        b"p sp 2 1\na 1 2 7x",
+        Wanted::Fault(GrErrorKind::NotANumber, 2),
+    ),
+    (
+        b"p sp 2 1\na 1 2 +7",
+        Wanted::Fault(GrErrorKind::NotANumber, 2),
+    ),
+    (
+        b"p sp 2 1\na 1 2 0",
+        Wanted::Fault(GrErrorKind::ZeroWeight, 2),
+    ),
+    (
+        b"p sp 2 1\na 1 2 4294967296",
+        Wanted::Fault(GrErrorKind::WeightTooBig, 2),
+    ),
+    (
+        b"p sp 2 1\na 1 2 18446744073709551623",
+        Wanted::Fault(GrErrorKind::WeightTooBig, 2),
+    ),
+];
+
+const PAIRS: [Case; 14] = [
+    (
+        b"c\np aux sp p2p 3\r\nq 1 3\n\nq\t3 3\r\nc\nq 2 01 ",
+        Wanted::Pairs(&[(0, 2), (2, 2), (1, 0)]),
+    ),
+    (b"p aux sp p2p 0", Wanted::Pairs(&[])),
+    (b"", Wanted::Fault(GrErrorKind::NoProblemLine, 0)),
+    (b"q 1 1", Wanted::Fault(GrErrorKind::NoProblemLine, 1)),
+    (b"p sp 2 1", Wanted::Fault(GrErrorKind::FieldCount, 1)),
+    (b"p aux sp sp 1", Wanted::Fault(GrErrorKind::UnknownLine, 1)),
+    (b"p aux sp p2p x", Wanted::Fault(GrErrorKind::NotANumber, 1)),
+    (
+        b"p aux sp p2p 134217729",
+        Wanted::Fault(GrErrorKind::TooManyArcs, 1),
+    ),
+    (
+        b"p aux sp p2p 1\na 1 1 1",
+        Wanted::Fault(GrErrorKind::UnknownLine, 2),
+    ),
+    (
+        b"p aux sp p2p 1\nq 1 4",
+        Wanted::Fault(GrErrorKind::NodeRange, 2),
+    ),
+    (
+        b"p aux sp p2p 1\nq 0 1",
+        Wanted::Fault(GrErrorKind::NodeRange, 2),
+    ),
+    (
+        b"p aux sp p2p 2\nq 1 1\n",
+        Wanted::Fault(GrErrorKind::ArcCount, 2),
+    ),
+    (
+        b"p aux sp p2p 1\nq 1 1\nq",
+        Wanted::Fault(GrErrorKind::ArcCount, 3),
+    ),
+    (
+        b"p aux sp p2p 1\nq 1",
+        Wanted::Fault(GrErrorKind::FieldCount, 2),
+    ),
+];
+
+fn is_fault(e: GrError, wanted: Wanted) -> bool {
+    match wanted {
+        Wanted::Fault(kind, line) => e.kind == kind && e.line == line,
+        _ => false,
+    }
+}
+
+fn is_graph(answer: Result<Graph, GrError>, wanted: Wanted) -> bool {
+    match (answer, wanted) {
+        (Ok(g), Wanted::Graph(nodes, arcs)) => g.nodes() == nodes && g.arcs() == arcs,
+        (Ok(_), _) => false,
+        (Err(e), wanted) => is_fault(e, wanted),
+    }
+}
+
+fn are_pairs(answer: Result<Vec<(u32, u32)>, GrError>, wanted: Wanted) -> bool {
+    match (answer, wanted) {
+        (Ok(v), Wanted::Pairs(pairs)) => v.as_slice() == pairs,
+        (Ok(_), _) => false,
+        (Err(e), wanted) => is_fault(e, wanted),
+    }
+}
+
+/// The graph of a text that is cut at this place, and byte by byte after it where it says so.
+fn graph_cut(alloc: Global, text: &[u8], at: usize, by_bytes: bool) -> Result<Graph, GrError>
+    requires { at ≤ length text.now }
+{
+    let mut reader = GrReader::new(alloc);
+    reader.feed(&text[..at])?;
+    if by_bytes {
+        for byte in &text[at..] {
+            reader.feed(&[*byte])?;
+        }
+    } else {
+        reader.feed(&text[at..])?;
+    }
+    reader.finish()
+}
+
+/// The pairs of three nodes of a text that is cut as in `graph_cut`.
+fn pairs_cut(
+    alloc: Global,
+    text: &[u8],
+    at: usize,
+    by_bytes: bool,
+) -> Result<Vec<(u32, u32)>, GrError>
+    requires { at ≤ length text.now }
+{
+    let mut reader = QueryReader::new(alloc, 3);
+    reader.feed(&text[..at])?;
+    if by_bytes {
+        for byte in &text[at..] {
+            reader.feed(&[*byte])?;
+        }
+    } else {
+        reader.feed(&text[at..])?;
+    }
+    reader.finish()
+}
+
+/// The first case that is read otherwise, with the place of the cut.
+fn first_other_graph(alloc: Global, cases: &[Case]) -> Option<(Case, usize)> {
+    for case in cases {
+        for at in 0..case.0.len() {
+            if !is_graph(graph_cut(alloc, case.0, at, false), case.1) {
+                return Some((*case, at));
+            }
+        }
+        if !is_graph(graph_cut(alloc, case.0, 0, true), case.1) {
+            return Some((*case, 0));
+        }
+    }
+    None
+}
+
+/// The first case of pairs that is read otherwise, with the place of the cut.
+fn first_other_pairs(alloc: Global, cases: &[Case]) -> Option<(Case, usize)> {
+    for case in cases {
+        for at in 0..case.0.len() {
+            if !are_pairs(pairs_cut(alloc, case.0, at, false), case.1) {
+                return Some((*case, at));
+            }
+        }
+        if !are_pairs(pairs_cut(alloc, case.0, 0, true), case.1) {
+            return Some((*case, 0));
+        }
+    }
+    None
+}
+
+#[test]
+fn graphs_however_cut(rt: HostRuntime) {
+    let other = first_other_graph(rt.alloc(), GRAPHS.as_slice());
+    assert!(rt; other.is_none(), "{other:?}");
+}
+
+#[test]
+fn pairs_however_cut(rt: HostRuntime) {
+    let other = first_other_pairs(rt.alloc(), PAIRS.as_slice());
+    assert!(rt; other.is_none(), "{other:?}");
+}
+
+/// The last answer of a reader that is fed a problem line of another problem and then a long line in pieces.
+fn long_line(alloc: Global) -> Result<Graph, GrError> {
+    let mut reader = GrReader::new(alloc);
+    let mut answer = reader.feed(b"p max 2 1");
+    if answer.is_ok() {
+        answer = reader.feed(b"\n");
+    }
+    let piece = [b'c'; 1000];
+    for _ in 0..1000 {
+        answer = reader.feed(piece.as_slice());
+    }
+    answer?;
+    reader.finish()
+}
+
+#[test]
+fn a_fault_stays_before_a_long_line(rt: HostRuntime) {
+    let answer = long_line(rt.alloc());
+    assert!(rt;
+        matches!(
+            &answer,
+            Err(GrError {
+                kind: GrErrorKind::UnknownLine | GrErrorKind::OutOfMemory,
+                line: 1
+            })
+        )
+    );
+}
+
+/// A reader that gives one byte at a call. Each third call is interrupted, and one fails.
+#[derive(Drop)]
+struct Uneven<'a> {
+    text: &'a [u8],
+    calls: u32,
+    fails_at: u32,
+}
+
+impl Read for Uneven<'_> {
+    fn read(&mut self, buf: &mut [u8]) -> io::Result<usize> {
+        self.calls = self.calls.saturating_add(1);
+        if self.calls == self.fails_at {
+            return Err(io::Error::from(ErrorKind::Other));
+        }
+        if self.calls % 3 == 0 {
+            return Err(io::Error::from(ErrorKind::Interrupted));
+        }
+        match self.text {
+            [first, rest @ ..] if !buf.is_empty() => {
+                buf[0] = *first;
+                self.text = rest;
+                Ok(1)
+            }
+            _ => Ok(0),
+        }
+    }
+}
+
+/// Whether a reader that fails at this call, 0 for none, is read so.
+fn is_read_so(alloc: Global, text: &[u8], fails_at: u32, wanted: Wanted) -> bool {
+    let mut reader = Uneven {
+        text,
+        calls: 0,
+        fails_at,
+    };
+    is_graph(read_graph(alloc, &mut reader), wanted)
+}
+
+/// Whether the faults of a failing reader are of the lines that were reached.
+fn fails_at_lines(alloc: Global) -> bool {
+    for (fails_at, line) in [(1, 1), (2, 1), (4, 2), (5, 3), (10, 3), (11, 4)] {
+        let wanted = Wanted::Fault(GrErrorKind::Read, line);
+        if !is_read_so(alloc, b"c\n\nc y\n", fails_at, wanted) {
+            return false;
+        }
+    }
+    true
+}
+
+#[test]
+fn readers(rt: HostRuntime) {
+    let seven = Wanted::Graph(2, SEVEN);
+    assert!(rt; is_read_so(rt.alloc(), b"p sp 2 1\na 1 2 7\n", 0, seven));
+    assert!(rt; fails_at_lines(rt.alloc()));
+    let mut failing = Uneven {
+        text: b"p aux sp p2p 0".as_slice(),
+        calls: 0,
+        fails_at: 2,
+    };
+    let read = read_queries(rt.alloc(), &mut failing, 1);
+    assert!(rt; are_pairs(read, Wanted::Fault(GrErrorKind::Read, 1)));
+    let mut text = b"p sp 2 1\na 1 2 7\n".as_slice();
+    assert!(rt; is_graph(read_graph(rt.alloc(), &mut text), seven));
+    let mut text = b"p aux sp p2p 1\nq 2 1\n".as_slice();
+    let read = read_queries(rt.alloc(), &mut text, 2);
+    assert!(rt; are_pairs(read, Wanted::Pairs(&[(1, 0)])));
+}
+
+#[test]
+fn printed_refusals(rt: HostRuntime) -> io::Result<()> {
+    let e = GrError {
+        kind: GrErrorKind::WeightTooBig,
+        line: 12,
+    };
+    assert_eq!(rt; e.to_string(rt.alloc())?.as_str(), "WeightTooBig line 12");
+    assert_eq!(rt; e.kind.to_string(rt.alloc())?.as_str(), "WeightTooBig");
+    assert!(rt; GrErrorKind::OutOfMemory as u8 == 1 && GrErrorKind::ArcCount as u8 == 13);
+    Ok(())
+}
