@@ -4,4 +4,5 @@ pub mod Sweep
 pub mod Finish
 pub mod Proposal
 pub mod Commit
+pub mod Names
 pub mod Drafts

@@ -80,9 +80,3 @@ pub record AreFactsOf (p : Proposal) (f : Facts) : Type 0 where
   pub ins : f.ins ≡ length row.inn
   pub outs : f.outs ≡ length row.out
   pub shortcuts : f.shortcuts ≡ length p.shortcuts
-
--- the variant's name
-abbrev pub propose_error_name : ProposeError → List ℕ
-propose_error_name OutOfMemory = codes "OutOfMemory"
-propose_error_name Unseen = codes "Unseen"
-propose_error_name Contracted = codes "Contracted"

@@ -241,7 +241,7 @@ impl<S: Site> Board<S> {
 
 /// A board shows its rows as they are, and is left as it is when they are read.
 impl<S: Site> RowSource for Board<S> {
-    ghost use Rattle.std.specs.Prelude.{◌≡◌, ◌↔◌, ◌<◌, ℕ, IfOk, length, refl};
+    ghost use Rattle.std.specs.Prelude.{◌≡◌, ◌↔◌, ◌<◌, ℕ, IfOk, OnErr, length, refl};
     ghost use Rattle.std.proofs.Common.{sym, subst, ap, ◌∙◌};
     ghost use Rattle.ch_overlay.specs.declared.source.Seen.{Seen};
     ghost use Rattle.ch_overlay.specs.declared.source.SeeError.TheVariants as see;
@@ -268,6 +268,7 @@ impl<S: Site> RowSource for Board<S> {
         ensures stays { self.new ≡ self.old }
         ensures found { node < length self.old.overlay.rows → result ≡ Err see.Unseen → ⊥ }
         ensures names { node < length self.old.overlay.rows → IfOk result (λ seen. NamesAlone (λ x. x < length self.new.overlay.rows) (row_in seen)) }
+        ensures kept { OnErr result (self.new ≡ self.old) }
         ensures unseen { (result ≡ Err see.Unseen) ↔ ((node < length self.old.overlay.rows) → ⊥) }
     {
         shown(&self.ledger, node)

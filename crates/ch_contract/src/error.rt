@@ -1,7 +1,7 @@
-ghost use Rattle.std.specs.Prelude.{◌≡◌, ◌≢◌, Some, codes};
+ghost use Rattle.std.specs.Prelude.{◌≡◌, ◌≢◌, ◌↔◌, Some};
 ghost use Rattle.ch_overlay.specs.declared.source.SeeError.TheVariants as see;
 ghost use Rattle.ch_witness.specs.declared.error.SearchError.TheVariants as search;
-ghost use Rattle.ch_contract.specs.Proposal.{propose_error_name};
+ghost use Rattle.ch_contract.specs.Names.{commit_error_name, finish_error_name, propose_error_name, sweep_error_name};
 ghost use Rattle.ch_contract.specs.declared.error.ProposeError.TheVariants as propose;
 ghost use Rattle.ch_contract.specs.declared.error.SweepError.TheVariants.{OutOfMemory};
 
@@ -61,6 +61,8 @@ pub enum FinishError {
 }
 
 impl fmt::Display for SweepError {
+    ghost output = { λ e. Some (sweep_error_name e) };
+
     fn fmt<W: fmt::Write>(&self, f: &mut fmt::Formatter<W>) -> fmt::Result {
         match self {
             SweepError::OutOfMemory => write!(f, "OutOfMemory"),
@@ -69,6 +71,8 @@ impl fmt::Display for SweepError {
 }
 
 impl fmt::Display for FinishError {
+    ghost output = { λ e. Some (finish_error_name e) };
+
     fn fmt<W: fmt::Write>(&self, f: &mut fmt::Formatter<W>) -> fmt::Result {
         match self {
             FinishError::OutOfMemory => write!(f, "OutOfMemory"),
@@ -91,8 +95,23 @@ impl fmt::Display for ProposeError {
 
 impl Error for ProposeError {}
 
+impl fmt::Display for CommitError {
+    ghost output = { λ e. Some (commit_error_name e) };
+
+    fn fmt<W: fmt::Write>(&self, f: &mut fmt::Formatter<W>) -> fmt::Result {
+        match self {
+            CommitError::Contracted => write!(f, "Contracted"),
+            CommitError::Stale { .. } => write!(f, "Stale"),
+            CommitError::Broken => write!(f, "Broken"),
+            CommitError::OutOfMemory => write!(f, "OutOfMemory"),
+        }
+    }
+}
+
+impl Error for CommitError {}
+
 impl From<SeeError> for ProposeError {
-    ghost from_gives = { λ s e. (e ≢ propose.Contracted) × (e ≡ propose.Unseen → s ≡ see.Unseen) };
+    ghost from_gives = { λ s e. (e ≢ propose.Contracted) × (e ≡ propose.Unseen ↔ s ≡ see.Unseen) };
 
     fn from(refused: SeeError) -> ProposeError {
         match refused {
@@ -103,7 +122,7 @@ impl From<SeeError> for ProposeError {
 }
 
 impl From<SearchError> for ProposeError {
-    ghost from_gives = { λ s e. (e ≢ propose.Contracted) × (e ≡ propose.Unseen → s ≡ search.Unseen) };
+    ghost from_gives = { λ s e. (e ≢ propose.Contracted) × (e ≡ propose.Unseen ↔ s ≡ search.Unseen) };
 
     fn from(refused: SearchError) -> ProposeError {
         match refused {

@@ -57,10 +57,12 @@ impl<'a> View<'a> {
 
 /// A view shows what it has, and stays as it is when it is read.
 impl RowSource for View<'_> {
-    ghost use Rattle.std.specs.Prelude.{◌≡◌, ℕ, refl};
+    ghost use Rattle.std.specs.Prelude.{◌≡◌, ◌↔◌, ℕ, IfOk, None, OnErr, refl};
     ghost use Rattle.std.proofs.Common.{sym, subst, ap, ◌∙◌};
     ghost use Rattle.ch_overlay.specs.declared.source.Seen.{Seen};
-    ghost use Rattle.ch_core.specs.World.{StandsIn};
+    ghost use Rattle.ch_overlay.specs.declared.source.SeeError.TheVariants.{Unseen};
+    ghost use Rattle.ch_overlay.specs.Source.{row_in, IsBound, IsSeenRow, NamesAlone};
+    ghost use Rattle.ch_core.specs.World.{StandsIn, stands_at};
     ghost use Rattle.ch_core.specs.Keeping.{Sight};
 
     ghost bears = { λ _. Unit {0} };
@@ -73,7 +75,18 @@ impl RowSource for View<'_> {
 
     ghost bound_of = { λ v. v.bound };
 
-    fn row_of(&mut self, node: u32) -> Result<Seen, SeeError> {
+    fn row_of(&mut self, node: u32) -> Result<Seen, SeeError>
+        ensures node { IfOk result (λ seen. seen.node ≡ node) }
+        ensures row { IfOk result (IsSeenRow self.old.bound) }
+        ensures bound { IsBound self.old.bound }
+        ensures bears { IfOk result (λ _. Unit {0}) }
+        ensures shows { IfOk result (StandsIn self.new.view) }
+        ensures stays { self.new ≡ self.old }
+        ensures kept { OnErr result (self.new ≡ self.old) }
+        ensures found { ⊥ → result ≡ Err Unseen → ⊥ }
+        ensures names { ⊥ → IfOk result (λ seen. NamesAlone (λ _. ⊥) (row_in seen)) }
+        ensures unseen { (result ≡ Err Unseen) ↔ (stands_at self.old.view node ≡ None) }
+    {
         self.seen(node)
     }
 

@@ -62,7 +62,7 @@ impl<T: Drop> From<AllocFailed<T>> for SeeError {
 ///
 /// What it answered it goes on to show, however it moves; an older answer may differ from the overlay's current row.
 pub trait RowSource {
-    ghost use Rattle.std.specs.Prelude.{◌≡◌, ℕ, IfOk};
+    ghost use Rattle.std.specs.Prelude.{◌≡◌, ℕ, IfOk, OnErr};
     ghost use Rattle.ch_cost.specs.declared.cost.Cost.{Cost};
     ghost use Rattle.ch_overlay.specs.declared.source.Seen.{Seen};
     ghost use Rattle.ch_overlay.specs.declared.source.SeeError.TheVariants.{Unseen};
@@ -83,7 +83,7 @@ pub trait RowSource {
     /// The bound that no cost of a row is above.
     ghost bound_of: { Self → Cost };
 
-    /// A row of a node. The source stays what it was also where it refuses.
+    /// A row of a node. Where it refuses, the source is what it was.
     ///
     /// `Unseen` where it has none, which doesn't happen for a node for which the source is whole.
     fn row_of(&mut self, node: u32) -> Result<Seen, SeeError>
@@ -93,6 +93,7 @@ pub trait RowSource {
         ensures bears { IfOk result bears }
         ensures shows { IfOk result (shows self.new) }
         ensures stays { stays self.old self.new }
+        ensures kept { OnErr result (self.new ≡ self.old) }
         ensures found { whole self.old node → result ≡ Err Unseen → ⊥ }
         ensures names { whole self.old node → IfOk result (λ seen. NamesAlone (whole self.new) (row_in seen)) };
 

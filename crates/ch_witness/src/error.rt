@@ -1,4 +1,4 @@
-ghost use Rattle.std.specs.Prelude.{◌≡◌, Some};
+ghost use Rattle.std.specs.Prelude.{◌≡◌, ◌↔◌, Some};
 ghost use Rattle.ch_overlay.specs.declared.source.SeeError.TheVariants as see;
 ghost use Rattle.ch_witness.specs.Ways.{error_name};
 ghost use Rattle.ch_witness.specs.declared.error.SearchError.TheVariants.{OutOfMemory, Unseen};
@@ -31,7 +31,7 @@ impl fmt::Display for SearchError {
 impl Error for SearchError {}
 
 impl From<SeeError> for SearchError {
-    ghost from_gives = { λ s e. (e ≡ Unseen) → s ≡ see.Unseen };
+    ghost from_gives = { λ s e. (e ≡ Unseen) ↔ (s ≡ see.Unseen) };
 
     fn from(refused: SeeError) -> SearchError {
         match refused {

@@ -1,7 +1,8 @@
-ghost use Rattle.std.specs.Prelude.{◌≡◌, ◌^◌, ◌<◌, ◌≤◌, IsTrue, All, refl};
+ghost use Rattle.std.specs.Prelude.{◌≡◌, ◌^◌, ◌<◌, ◌≤◌, IsTrue, All, IfOk, refl};
 ghost use Rattle.ch_cost.specs.Cost.{IsWithin, cost_of_arcs};
 ghost use Rattle.ch_laws.specs.Rows.{Rises};
 ghost use Rattle.ch_overlay.specs.Overlay.{IsEntry};
+ghost use Rattle.ch_overlay.specs.Source.{IsSeenRow};
 
 use ch_cost::Cost;
 use ch_overlay::{Entry, Row, RowSource, SeeError, Seen};
@@ -105,6 +106,26 @@ fn is_sound(node: u32, row: &Row, bound: Cost) -> bool
     are_entries(&row.inn, node, bound)
 }
 
+impl Shelf {
+    /// The row that it has of a node, if that can be relied on.
+    fn seen(&self, node: u32) -> Result<Seen, SeeError>
+        ensures node { IfOk result (λ seen. seen.node ≡ node) }
+        ensures row { IfOk result (IsSeenRow (cost_of_arcs self.now.count self.now.heaviest)) }
+    {
+        let Some(row) = self.rows.get(node as usize) else {
+            return Err(SeeError::Unseen);
+        };
+        if !is_sound(node, row, self.bound()) {
+            return Err(SeeError::Unseen);
+        }
+        Ok(Seen {
+            node,
+            version: u64::from(node),
+            row: Arc::try_clone(row)?,
+        })
+    }
+}
+
 impl RowSource for Shelf {
     ghost use Rattle.std.specs.Prelude.{◌≡◌, refl};
     ghost use Rattle.std.proofs.Common.{◌∙◌};
@@ -121,19 +142,9 @@ impl RowSource for Shelf {
     ghost bound_of = { λ a. cost_of_arcs a.count a.heaviest };
 
     fn row_of(&mut self, node: u32) -> Result<Seen, SeeError> {
-        let bound = self.bound();
+        let seen = self.seen(node)?;
         self.asked.push(node)?;
-        let Some(row) = self.rows.get(node as usize) else {
-            return Err(SeeError::Unseen);
-        };
-        if !is_sound(node, row, bound) {
-            return Err(SeeError::Unseen);
-        }
-        Ok(Seen {
-            node,
-            version: u64::from(node),
-            row: Arc::try_clone(row)?,
-        })
+        Ok(seen)
     }
 
     fn bound(&self) -> Cost {

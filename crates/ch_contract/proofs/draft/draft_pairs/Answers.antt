@@ -52,7 +52,7 @@ returns-in_err-found-clause-found g c = λ named names e.
     let was = c.in_err-found.was in
     let one = p.1 in
     let it : p.0 ≡ Unseen = cc (one, e) in
-    let refused = p.2.1 it in
+    let refused = p.2.1.0 it in
     let whole = All-contains (λ (x : Entry). g.S.RowSource.whole c.args.source.now x.other) c.args.row.now.inn c.args.into names.inn c.requires.among in
     c.in_err-found.ensures.found (c.in_ok-read.ensures.names whole named) (g.met.S.RowSource.still_whole c.args.source.now c.read.new.source c.args.into.other c.in_ok-read.ensures.stays whole) (cc (was, refused))
 
