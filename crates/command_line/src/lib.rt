@@ -8,8 +8,6 @@
 mod job;
 mod reading;
 mod stopping;
-#[cfg(test)]
-mod tests;
 mod workers;
 
 pub use job::{Job, Order, Stop};

@@ -1,4 +1,4 @@
-use crate::{Job, Order, Stop, Workers, command, show_stop};
+use command_line::{Job, Order, Stop, Workers, command, show_stop};
 use std::alloc::{AllocError, Global};
 use std::io::{self, ErrorKind, Write};
 use std::test::Fail;
