@@ -27,7 +27,7 @@ split_none [] none = refl
 split_none (b ∷ line) none = cond-false (is_blank b) ([] ∷ slice_split is_blank line) (onto_first b (slice_split is_blank line)) (none 0 (omega arith)) ∙ ap (onto_first b) (split_none line (λ j k. none (suc j) (omega arith)))
 
 -- a part that isn't empty is a field
-field_first : (part : List ℕ) (parts : List (List ℕ)) → 0 < length part → filter is_field (part ∷ parts) ≡ part ∷ filter is_field parts
+pub field_first : (part : List ℕ) (parts : List (List ℕ)) → 0 < length part → filter is_field (part ∷ parts) ≡ part ∷ filter is_field parts
 field_first part parts h = cond-true (ltb 0 (length part)) (part ∷ filter is_field parts) (filter is_field parts) (lt-ltb 0 (length part) h)
 
 pub field_at : (line : List ℕ) (i : ℕ) → i < length line → is_blank (get_or line 0 0) ≡ false → is_blank (get_or line i 0) ≡ true → ((j : ℕ) → j < i → is_blank (get_or line j 0) ≡ false) → fields_of line ≡ take i line ∷ fields_of (drop (suc i) line)

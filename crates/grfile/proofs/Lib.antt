@@ -7,3 +7,5 @@ pub mod Sound
 pub mod Readings
 pub mod Faults
 pub mod Cuttings
+pub mod PlainFields
+pub mod PlainTaken

@@ -7,3 +7,4 @@ pub mod Roads
 pub mod Pairs
 pub mod Reading
 pub mod Taken
+pub mod PlainLines

@@ -1,5 +1,5 @@
 -- What a reader has taken of a text, and what it then says of the whole.
-use Rattle.std.specs.Prelude.{◌≡◌, ◌≢◌, ◌≤◌, ℕ, ◌+◌, ◌==◌, if◌then◌else◌, List, [], ◌∷◌, ◌++◌, length, map, Option, Some, None, Result, Ok, Err, MatchResult, MatchOption, IfSome}
+use Rattle.std.specs.Prelude.{◌≡◌, ◌≢◌, ◌≤◌, ◌<◌, ℕ, ◌+◌, ◌==◌, if◌then◌else◌, List, [], ◌∷◌, ◌++◌, length, map, Option, Some, None, Result, Ok, Err, MatchResult, MatchOption, IfSome}
 use Rattle.std.specs.Option.{option_map}
 use Rattle.std.specs.Str.Lines.{strip_carriage_return}
 use Rattle.ch_graph.specs.declared.road.Road.{Road}
@@ -57,6 +57,14 @@ graph_with taken rest = told_with graph_grammar taken rest >>= (λ (read : Listi
 
 abbrev pub pairs_with : PairsTaken → List ℕ → Result (List (ℕ × ℕ)) GrError
 pairs_with taken rest = told_with (pair_grammar taken.nodes) taken.taken rest >>= (λ (read : Listing (ℕ × ℕ)). Ok read.entries)
+
+-- The first line of a text was taken, that after line n, and the rest follows it: what the lines so far and the text
+-- say is what they say with that line and the rest.
+pub record TakesLine {E : Type 0} (grammar : Grammar E) (n number : ℕ) (old new : Option (Listing E)) (text rest : List ℕ) : Type 0 where
+  pub told : (more : List ℕ) → listing_from grammar number new (lines_after [] (rest ++ more)) ≡ listing_from grammar n old (lines_after [] (text ++ more))
+  pub line : number ≡ next_line n
+  pub feeds : line_feeds text ≡ line_feeds rest + 1
+  pub shorter : length rest < length text
 
 -- A refusal of the line that was reached, by no failed read. `old` lines had ended before the call and `new` have
 -- now, of at most so many.

@@ -16,6 +16,7 @@ mod listing;
 mod number;
 mod pairs;
 mod pieces;
+mod plain;
 mod query_reader;
 mod roads;
 

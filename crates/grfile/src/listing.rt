@@ -1,8 +1,9 @@
-ghost use Rattle.std.specs.Prelude.{◌≡◌, ◌≢◌, ◌∷◌, [], ℕ, Some, IfErr, MatchResult};
+ghost use Rattle.std.specs.Prelude.{◌≡◌, ◌≢◌, ◌∷◌, [], ℕ, Some, IfErr, IfOk, MatchOption, MatchResult};
 ghost use Rattle.std.specs.Option.{option_map};
 ghost use Rattle.grfile.specs.Outcome.{Answers, Takes, IsOfLine, next_line};
 ghost use Rattle.grfile.specs.Progress.{listing_of, listing_from, entry_then, told_from};
 ghost use Rattle.grfile.specs.Grammar.{Grammar};
+ghost use Rattle.grfile.specs.Taken.{TakesLine};
 ghost use Rattle.grfile.specs.declared.error.GrErrorKind.TheVariants.{OutOfMemory, Read};
 
 use crate::error::{GrError, GrErrorKind};
@@ -95,6 +96,45 @@ fn take_numbered<F: Form>(
             Some(listed) => take_entry(listed, form, number, fields),
             None => Err(GrErrorKind::NoProblemLine.at(number)),
         },
+    }
+}
+
+/// Takes the line with this number, the first of a text, where it is a plain one of an entry and there is room for it,
+/// and answers what follows it. Else nothing is taken.
+pub(crate) fn take_plain<'a, F: Form>(
+    listed: &mut Option<Listed<F::Entry>>,
+    form: F,
+    number: u64,
+    text: &'a [u8],
+) -> Result<Option<&'a [u8]>, GrError>
+    ensures takes { (n : ℕ) → number ≡ next_line n → IfOk result (λ o. MatchOption o (option_map listing_of listed.new ≡ option_map listing_of listed.old) (λ rest. TakesLine (F.grammar form) n number (option_map listing_of listed.old) (option_map listing_of listed.new) text.now rest.now)) }
+    ensures refused { IfErr result (λ e. e ≡ record { kind = OutOfMemory; line = number }) }
+{
+    match listed {
+        Some(listed) => take_plain_entry(listed, form, number, text),
+        None => Ok(None),
+    }
+}
+
+/// The same, where a problem line has come.
+fn take_plain_entry<'a, F: Form>(
+    listed: &mut Listed<F::Entry>,
+    form: F,
+    number: u64,
+    text: &'a [u8],
+) -> Result<Option<&'a [u8]>, GrError>
+    ensures takes { (n : ℕ) → number ≡ next_line n → IfOk result (λ o. MatchOption o (listing_of listed.new ≡ listing_of listed.old) (λ rest. TakesLine (F.grammar form) n number (Some (listing_of listed.old)) (Some (listing_of listed.new)) text.now rest.now)) }
+    ensures refused { IfErr result (λ e. e ≡ record { kind = OutOfMemory; line = number }) }
+{
+    if listed.entries.len() >= listed.size.entries as usize {
+        return Ok(None);
+    }
+    let Some(found) = form.plain(listed.size, number, text) else {
+        return Ok(None);
+    };
+    match listed.entries.push(found.entry) {
+        Ok(()) => Ok(Some(found.rest)),
+        Err(_) => Err(GrErrorKind::OutOfMemory.at(number)),
     }
 }
 

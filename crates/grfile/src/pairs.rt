@@ -1,11 +1,13 @@
-ghost use Rattle.std.specs.Prelude.{◌≡◌, ◌&&◌, codes};
+ghost use Rattle.std.specs.Prelude.{◌≡◌, ◌&&◌, IfSome, codes};
+ghost use Rattle.grfile.specs.PlainLines.{IsEntryBefore};
 ghost use Rattle.std.specs.Str.{bytes_eq};
 ghost use Rattle.grfile.specs.Pairs.{pair_grammar, pairs_size, count_in_range, pair_of, pair_in_range};
 
 use crate::error::{GrError, GrErrorKind};
 use crate::fields::Fields;
-use crate::form::{Form, Size};
+use crate::form::{Form, PlainLine, Size};
 use crate::number::number_in;
+use crate::plain::{after_letter, number_before};
 
 /// The text of pairs of nodes: `p aux sp p2p K`, and then pairs `q S T`.
 #[derive(Clone, Copy)]
@@ -29,6 +31,10 @@ impl Form for Pairs {
 
     fn entry(self, size: Size, line: u64, fields: Fields<'_>) -> Result<(u32, u32), GrError> {
         pair_of(size.nodes, line, fields)
+    }
+
+    fn plain(self, size: Size, line: u64, text: &[u8]) -> Option<PlainLine<'_, (u32, u32)>> {
+        plain_pair(self.nodes, size, line, text)
     }
 }
 
@@ -82,4 +88,20 @@ fn pair_in_range(nodes: u32, line: u64, source: u64, target: u64) -> Result<(u32
         return Err(GrErrorKind::NodeRange.at(line));
     }
     Ok(((source - 1) as u32, (target - 1) as u32))
+}
+
+/// What the plain line `q S T` at the front of a text says, if there is one.
+fn plain_pair(nodes: u32, size: Size, line: u64, text: &[u8]) -> Option<PlainLine<'_, (u32, u32)>>
+    ensures { IfSome result (λ found. IsEntryBefore (pair_grammar nodes) size line text.now found.entry found.rest.now) }
+{
+    let numbers = after_letter(b'q', text)?;
+    let source = number_before(b' ', numbers)?;
+    let target = number_before(b'\n', source.rest)?;
+    match pair_in_range(size.nodes, line, source.number, target.number) {
+        Ok(entry) => Some(PlainLine {
+            entry,
+            rest: target.rest,
+        }),
+        Err(_) => None,
+    }
 }

@@ -1,17 +1,18 @@
-ghost use Rattle.std.specs.Prelude.{◌≡◌, ◌+◌, ◌∷◌, ◌++◌, [], None, Some, IfErr, OnOk, IfOk, IfSome, Ok, Err, MatchResult, List, ℕ};
+ghost use Rattle.std.specs.Prelude.{◌≡◌, ◌+◌, ◌∷◌, ◌++◌, [], None, Some, IfErr, OnOk, IfOk, IfSome, Ok, Err, MatchResult, MatchOption, List, ℕ};
 ghost use Rattle.std.specs.Io.KnownBytes.{IsAtEnd};
+ghost use Rattle.std.specs.Option.{option_map};
 ghost use Rattle.std.specs.Str.Lines.{strip_carriage_return};
 ghost use Rattle.grfile.specs.Lines.{lines_of};
-ghost use Rattle.grfile.specs.Outcome.{Answers, FromText, Takes, capped, next_line};
+ghost use Rattle.grfile.specs.Outcome.{Answers, FromText, IsOfLine, Takes, capped, next_line};
 ghost use Rattle.grfile.specs.Grammar.{listing_after};
 ghost use Rattle.grfile.specs.Progress.{listing_of, listing_from, told_from};
-ghost use Rattle.grfile.specs.Taken.{CountsLines, HasTaken, IsAtEndOf, IsReached, StopsAtReached, line_feeds, lines_after, taken_of, told_with};
+ghost use Rattle.grfile.specs.Taken.{CountsLines, HasTaken, IsAtEndOf, IsReached, StopsAtReached, TakesLine, line_feeds, lines_after, taken_of, told_with};
 ghost use Rattle.grfile.specs.declared.error.GrErrorKind.TheVariants.{OutOfMemory};
 
 use crate::error::{GrError, GrErrorKind};
 use crate::form::Form;
 use crate::line::{first_line, without_return};
-use crate::listing::{Listed, Progress, end, take_line};
+use crate::listing::{Listed, Progress, end, take_line, take_plain};
 use std::alloc::Global;
 use std::io::{ErrorKind, Read};
 
@@ -118,6 +119,30 @@ fn end_line<F: Form>(
     Ok(())
 }
 
+/// Takes the first line that ends in a text, and answers what follows it, or none where no line ends.
+fn take_first<'a, F: Form>(
+    alloc: Global,
+    progress: &mut Progress<F::Entry>,
+    form: F,
+    text: &'a [u8],
+) -> Result<Option<&'a [u8]>, GrError>
+    ensures takes { IfOk result (λ o. IfSome o (λ rest. TakesLine (F.grammar form) progress.old.line progress.new.line (option_map listing_of progress.old.listed) (option_map listing_of progress.new.listed) text.now rest.now)) }
+    ensures stays { result ≡ Ok None → (line_feeds text.now ≡ 0) × (progress.new.line ≡ progress.old.line) × (option_map listing_of progress.new.listed ≡ option_map listing_of progress.old.listed) }
+    ensures fault { IfErr result (λ e. (more : List ℕ) → FromText e.kind (told_from (F.grammar form) progress.old (lines_after [] (text.now ++ more)) ≡ Err e)) }
+    ensures refused { IfErr result (λ e. (progress.new.line ≡ progress.old.line) × IsOfLine (next_line progress.old.line) e) }
+{
+    let number = progress.line.saturating_add(1);
+    if let Some(rest) = take_plain(&mut progress.listed, form, number, text)? {
+        progress.line = number;
+        return Ok(Some(rest));
+    }
+    let Some(cut) = first_line(text) else {
+        return Ok(None);
+    };
+    take_line(alloc, progress, form, without_return(cut.line))?;
+    Ok(Some(cut.rest))
+}
+
 /// Takes the lines that end in a text, and answers what follows the last of them.
 fn take_lines<'a, F: Form>(
     alloc: Global,
@@ -129,9 +154,8 @@ fn take_lines<'a, F: Form>(
     ensures lines { MatchResult result (λ _. capped progress.new.line ≡ capped (progress.old.line + line_feeds text.now)) (IsReached progress.old.line (progress.old.line + line_feeds text.now) progress.new.line) }
 {
     let mut rest = text;
-    while let Some(cut) = first_line(rest) {
-        take_line(alloc, progress, form, without_return(cut.line))?;
-        rest = cut.rest;
+    while let Some(more) = take_first(alloc, progress, form, rest)? {
+        rest = more;
     }
     Ok(rest)
 }

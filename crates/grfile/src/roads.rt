@@ -1,10 +1,12 @@
-ghost use Rattle.std.specs.Prelude.{◌≡◌};
+ghost use Rattle.std.specs.Prelude.{◌≡◌, IfSome};
+ghost use Rattle.grfile.specs.PlainLines.{IsEntryBefore};
 ghost use Rattle.grfile.specs.Roads.{graph_grammar, graph_size, size_in_range, road_of, road_in_range};
 
 use crate::error::{GrError, GrErrorKind};
 use crate::fields::Fields;
-use crate::form::{Form, Size};
+use crate::form::{Form, PlainLine, Size};
 use crate::number::number_in;
+use crate::plain::{after_letter, number_before};
 use ch_graph::Road;
 
 /// The text of a graph: `p sp N M`, and then arcs `a U V W`.
@@ -26,6 +28,10 @@ impl Form for Roads {
 
     fn entry(self, size: Size, line: u64, fields: Fields<'_>) -> Result<Road, GrError> {
         road_of(size.nodes, line, fields)
+    }
+
+    fn plain(self, size: Size, line: u64, text: &[u8]) -> Option<PlainLine<'_, Road>> {
+        plain_road(size, line, text)
     }
 }
 
@@ -87,4 +93,21 @@ fn road_in_range(nodes: u32, line: u64, from: u64, to: u64, weight: u64) -> Resu
         to: (to - 1) as u32,
         weight: weight as u32,
     })
+}
+
+/// What the plain line `a U V W` at the front of a text says, if there is one.
+fn plain_road(size: Size, line: u64, text: &[u8]) -> Option<PlainLine<'_, Road>>
+    ensures { IfSome result (λ found. IsEntryBefore graph_grammar size line text.now found.entry found.rest.now) }
+{
+    let numbers = after_letter(b'a', text)?;
+    let from = number_before(b' ', numbers)?;
+    let to = number_before(b' ', from.rest)?;
+    let weight = number_before(b'\n', to.rest)?;
+    match road_in_range(size.nodes, line, from.number, to.number, weight.number) {
+        Ok(entry) => Some(PlainLine {
+            entry,
+            rest: weight.rest,
+        }),
+        Err(_) => None,
+    }
 }
