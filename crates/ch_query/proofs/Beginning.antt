@@ -1,21 +1,17 @@
 -- Both sides of a query begin, and both have stopped.
-use Rattle.std.proofs.Common.{ℕ, ◌≡◌, ◌||◌, IfSome, ◌+◌, ◌<◌, ◌≤◌, true, false, Bool, List, length, set, replicate, Option, Some, None, ap, refl, sym, subst, ◌∙◌, arith}
-use Rattle.std.proofs.lemmas.List.{length-replicate}
+use Rattle.std.proofs.Common.{ℕ, ◌≡◌, ◌||◌, ◌+◌, ◌<◌, ◌≤◌, true, false, Bool, List, length, set, replicate, Option, None, ap, refl, sym, subst, ◌∙◌, arith}
 use Rattle.ch_cost.specs.declared.cost.Cost.{Cost}
-use Rattle.ch_cost.specs.Cost.{zero_cost, IsInLimit}
+use Rattle.ch_cost.specs.Cost.{zero_cost}
 use Rattle.ch_graph.specs.Hierarchy.{Hierarchy, IsWellMade, rank_of}
-use Rattle.ch_query.specs.declared.label.Label.{Label}
 use Rattle.ch_query.specs.declared.mark.Mark.{Mark}
 use Rattle.ch_query.specs.declared.mark.Mark.TheVariants.{Unseen, Open}
-use Rattle.ch_query.specs.declared.meeting.Meeting.{Meeting}
 use Rattle.ch_query.specs.declared.side.Side.{Side}
-use Rattle.ch_query.specs.Marks.{mark_at, label_in, label_at, option_cost, costs_of, Improves, IsStopped, IsNoMore, settled_count}
+use Rattle.ch_query.specs.declared.side.Side.TheVariants.{Rise}
+use Rattle.ch_query.specs.Marks.{IsStopped, IsNoMore, settled_count}
 use Rattle.ch_query.specs.Searching.{IsSearching, AreFollowed, IsTurned}
-use Rattle.ch_query.specs.Meeting.{IsLooked, IsBestMeeting}
-use Rattle.ch_query.proofs.Ranks.{rank_below}
-use Rattle.ch_query.proofs.Marking.{unseen-at, open-here, open-less}
-use Rattle.ch_query.proofs.BestMeetings.{best-none, best-flip}
-use Rattle.ch_query.proofs.Turning.{searching-start, followed-start}
+use Rattle.ch_query.specs.Meeting.{IsBestSoFar}
+use Rattle.ch_query.proofs.BestMeetings.{best-none}
+use Rattle.ch_query.proofs.Turning.{first_marks, no_settled, searching-start, followed-start}
 use Rattle.ch_query.proofs.Following.{counts-more}
 
 pub searching-begun : (h : Hierarchy) → IsWellMade h → (side : Side) (start : ℕ) → start < length h.ranks → (old new : List Mark) → old ≡ replicate (length h.ranks) Unseen → new ≡ set old (rank_of h start) (Open (record { cost = zero_cost; link = None })) → IsSearching h side start new
@@ -30,17 +26,10 @@ followed-begun h made side start start_in old new unseen begun limit =
 pub followed-less : (h : Hierarchy) (side : Side) (limit found : Option Cost) (marks : List Mark) → IsNoMore found limit → AreFollowed h side limit marks → AreFollowed h side found marks
 followed-less h side limit found marks less were k e climbs closed counts = were k e climbs closed (counts-more h less counts)
 
--- the second side begins where it may meet the first
-pub best-begun : (h : Hierarchy) → IsWellMade h → (start : ℕ) → start < length h.ranks → (up old new : List Mark) → old ≡ replicate (length h.ranks) Unseen → new ≡ set old (rank_of h start) (Open (record { cost = zero_cost; link = None })) → (best : Option Meeting) → IsLooked h (rank_of h start) zero_cost (option_cost (label_at up (rank_of h start))) None best → IsBestMeeting h (costs_of up) (costs_of new) best
-best-begun h made start start_in up old new unseen begun best looked =
-    let r : ℕ = rank_of h start in
-    let none : List Mark = replicate (length h.ranks) Unseen in
-    let e : Label = record { cost = zero_cost; link = None } in
-    let within : r < length none = omega (arith, rank_below h made start start_in, length-replicate (length h.ranks) Unseen) in
-    let improves : Improves zero_cost (mark_at none r) = subst (λ (m : Mark). Improves zero_cost m) (sym (unseen-at (length h.ranks) r)) tt in
-    let first : IsBestMeeting h (costs_of none) (costs_of up) None = best-none h (costs_of none) (costs_of up) (λ q. ap (λ (m : Mark). option_cost (label_in m)) (unseen-at (length h.ranks) q)) in
-    let found : IsBestMeeting h (costs_of (set none r (Open e))) (costs_of up) best = looked (costs_of none) (costs_of (set none r (Open e))) (costs_of up) (open-less none r e within improves) (open-here none r e within improves) refl first in
-    subst (λ (ms : List Mark). IsBestMeeting h (costs_of up) (costs_of ms) best) (sym (begun ∙ ap (λ (ms : List Mark). set ms r (Open (record { cost = zero_cost; link = None }))) unseen)) (best-flip h (costs_of (set none r (Open e))) (costs_of up) best found)
+-- the sides haven't met yet
+pub best-begun : (h : Hierarchy) → IsWellMade h → (start : ℕ) → start < length h.ranks → (old new : List Mark) → old ≡ replicate (length h.ranks) Unseen → new ≡ set old (rank_of h start) (Open (record { cost = zero_cost; link = None })) → (down : List Mark) → IsBestSoFar h new down None
+best-begun h made start start_in old new unseen begun down =
+    subst (λ (ms : List Mark). IsBestSoFar h ms down None) (sym (begun ∙ ap (λ (ms : List Mark). set ms (rank_of h start) (Open (record { cost = zero_cost; link = None }))) unseen)) (best-none h (first_marks h made Rise start start_in) down (no_settled h made Rise start start_in))
 
 -- Turns
 
@@ -71,8 +60,3 @@ pub either-one : (a b : Bool) → (a || b) ≡ true → 1 ≤ one_if a + one_if 
 either-one true b e = omega arith
 either-one false true e = omega arith
 either-one false false e = absurd (cc)
-
--- a label that is there fits
-pub if_some-fits : (o : Option Label) → ((e : Label) → o ≡ Some e → IsInLimit e.cost) → IfSome o (λ (e : Label). IsInLimit e.cost)
-if_some-fits None fits = tt
-if_some-fits (Some e) fits = fits e refl

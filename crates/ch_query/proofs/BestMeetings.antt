@@ -1,20 +1,20 @@
--- The best meeting of two sides, as one label gets less.
-use Rattle.std.proofs.Common.{ℕ, ◌≡◌, Option, Some, None, ap, refl, sym, subst, ◌∙◌, inl, inr}
-use Rattle.std.proofs.lemmas.Bool.{cases_eq}
+-- The best meeting so far of two sides, and the best where they have stopped.
+use Rattle.std.proofs.Common.{ℕ, ◌≡◌, ◌⊎◌, List, Option, Some, None, ap, refl, sym, subst, ◌∙◌, inl, inr}
 use Rattle.ch_cost.specs.declared.cost.Cost.{Cost}
-use Rattle.ch_cost.specs.Cost.{◌⊕◌, ◌≼◌}
-use Rattle.ch_cost.specs.Cost.Laws.{sum_comm, at_most_refl, at_most_trans, at_most_antisym, at_most-from_below, sum_at_most, cases_cost, no_longer_at_most}
+use Rattle.ch_cost.specs.Cost.{◌⊕◌, ◌≼◌, IsNoLonger}
+use Rattle.ch_cost.specs.Cost.Laws.{sum_comm, at_most_refl, at_most_trans, at_most_antisym, at_most-from_below, at_most_sum_left, at_most_sum_right, sum_at_most, no_longer_at_most}
 use Rattle.ch_graph.specs.Hierarchy.{Hierarchy}
+use Rattle.ch_query.specs.declared.label.Label.{Label}
+use Rattle.ch_query.specs.declared.mark.Mark.{Mark}
+use Rattle.ch_query.specs.declared.mark.Mark.TheVariants.{Settled}
 use Rattle.ch_query.specs.declared.meeting.Meeting.{Meeting}
-use Rattle.ch_query.specs.Labels.{HasAtMost, AreShort, Meets}
-use Rattle.ch_query.specs.Marks.{IsBelow, IsNoMore}
-use Rattle.ch_query.specs.Meeting.{IsShortSum, IsBestOf, IsBestMeeting, IsLessAt, IsLooked, cost_of}
+use Rattle.ch_query.specs.Labels.{HasAtMost, AreShort, Meets, IsShortLimit}
+use Rattle.ch_query.specs.Marks.{mark_at, label_at, costs_of, settled_in, settled_costs, IsBelow, HasLimit, IsNoMore, IsStopped}
+use Rattle.ch_query.specs.Meeting.{IsShortSum, IsBestMeeting, IsMet, IsBestSoFar, IsLooked, cost_of}
+use Rattle.ch_query.proofs.Marking.{from_cost, label_cases, settled_is, limit-given}
 
 same_given : (o : Option Cost) (c d : Cost) → o ≡ Some c → o ≡ Some d → c ≡ d
 same_given o c d is other = cc
-
-none_given : (o : Option Cost) (c : Cost) → o ≡ None → o ≡ Some c → ⊥
-none_given o c is other = cc
 
 -- two labels have one sum
 one_sum : (h : Hierarchy) (up down : Option Cost) (c d : Cost) → AreShort h up down c → AreShort h up down d → c ≡ d
@@ -23,138 +23,138 @@ one_sum h up down c d first second =
     let fall : first.fall ≡ second.fall = same_given down first.fall second.fall first.fallen second.fallen in
     first.sum ∙ ap (λ (a : Cost). a ⊕ first.fall) rise ∙ ap (λ (b : Cost). second.rise ⊕ b) fall ∙ sym second.sum
 
--- where one side has no label, the sides don't meet
-pub best-none : (h : Hierarchy) (up down : ℕ → Option Cost) → ((r : ℕ) → up r ≡ None) → IsBestMeeting h up down None
-best-none h up down none_is r d m = none_given (up r) m.rise (none_is r) m.risen
-
 -- either side may be named first
 meets-flip : (h : Hierarchy) (up down : ℕ → Option Cost) (r : ℕ) (c : Cost) → Meets h up down r c → Meets h down up r c
 meets-flip h up down r c m = record { rise = m.fall; fall = m.rise; risen = m.fallen; fallen = m.risen; sum = m.sum ∙ sum_comm m.rise m.fall; short = m.short }
 
-pub best-flip : (h : Hierarchy) (up down : ℕ → Option Cost) (best : Option Meeting) → IsBestMeeting h up down best → IsBestMeeting h down up best
-best-flip h up down None is = λ r d m. is r d (meets-flip h down up r d m)
-best-flip h up down (Some b) is = record {
-  meets = meets-flip h up down b.rank b.cost is.meets;
-  least = λ r d m. is.least r d (meets-flip h down up r d m);
+met-flip : {h : Hierarchy} {up down : ℕ → Option Cost} {m : Meeting} → IsMet h up down m → IsMet h down up m
+met-flip {h} {up} {down} {m} met = record { cost = met.cost; meets = meets-flip h up down m.rank met.cost met.meets; at_most = met.at_most; short = met.short }
+
+pub best-flip : {h : Hierarchy} {up down : List Mark} {best : Option Meeting} → IsBestSoFar h up down best → IsBestSoFar h down up best
+best-flip {h} {up} {down} is = record {
+  met = λ m e. met-flip (is.met m e);
+  least = λ r c m. is.least r c (meets-flip h (settled_costs down) (settled_costs up) r c m);
 }
 
--- the same labels
-meets-same : (h : Hierarchy) (old new there : ℕ → Option Cost) → ((r : ℕ) → new r ≡ old r) → (r : ℕ) (c : Cost) → Meets h old there r c → Meets h new there r c
-meets-same h old new there same r c m = record { rise = m.rise; fall = m.fall; risen = same r ∙ m.risen; fallen = m.fallen; sum = m.sum; short = m.short }
-
-pub best-same : (h : Hierarchy) (old new there : ℕ → Option Cost) → ((r : ℕ) → new r ≡ old r) → (best : Option Meeting) → IsBestMeeting h old there best → IsBestMeeting h new there best
-best-same h old new there same None is = λ r d m. is r d (meets-same h new old there (λ q. sym (same q)) r d m)
-best-same h old new there same (Some b) is = record {
-  meets = meets-same h old new there same b.rank b.cost is.meets;
-  least = λ r d m. is.least r d (meets-same h new old there (λ q. sym (same q)) r d m);
+-- where one side has settled no node, there is no meeting yet
+pub best-none : (h : Hierarchy) (up down : List Mark) → ((r : ℕ) (e : Label) → mark_at up r ≡ Settled e → ⊥) → IsBestSoFar h up down None
+best-none h up down never = record {
+  met = λ m e. absurd (no_meeting m e);
+  least = λ r c m. let e = settled_is (mark_at up r) m.rise m.risen in absurd (never r e.0 e.1);
 }
-
-module _ (h : Hierarchy) (r : ℕ) (old new there : ℕ → Option Cost) (less : IsLessAt r old new) where
-  meets-others : (q : ℕ) (d : Cost) → (q ≡ r → ⊥) → Meets h new there q d → Meets h old there q d
-  meets-others q d other m = record { rise = m.rise; fall = m.fall; risen = sym (less.others q other) ∙ m.risen; fallen = m.fallen; sum = m.sum; short = m.short }
-
-  meets-others_too : (q : ℕ) (d : Cost) → (q ≡ r → ⊥) → Meets h old there q d → Meets h new there q d
-  meets-others_too q d other m = record { rise = m.rise; fall = m.fall; risen = less.others q other ∙ m.risen; fallen = m.fallen; sum = m.sum; short = m.short }
-
-  -- where the old labels met, the new ones meet at no more
-  meets-less : (q : ℕ) (d : Cost) → Meets h old there q d → (e : Cost) × Meets h new there q e × (e ≼ d)
-  meets-less q d m =
-      let has : HasAtMost new q m.rise = less.kept q m.rise (record { cost = m.rise; labelled = m.risen; at_most = at_most_refl m.rise }) in
-      let sum : has.cost ⊕ m.fall ≼ d = subst (λ (x : Cost). has.cost ⊕ m.fall ≼ x) (sym m.sum) (sum_at_most has.at_most (at_most_refl m.fall)) in
-      (has.cost ⊕ m.fall, record { rise = has.cost; fall = m.fall; risen = has.labelled; fallen = m.fallen; sum = refl; short = no_longer_at_most sum m.short }, sum)
-
-  -- the sides don't meet at the node
-  best-skips : ((d : Cost) → Meets h new there r d → ⊥) → (best : Option Meeting) → IsBestMeeting h old there best → IsBestMeeting h new there best
-  best-skips never None is = λ q d m. elim (cases_eq q r) [
-    | inl same ↦ never d (subst (λ x. Meets h new there x d) same m)
-    | inr other ↦ is q d (meets-others q d other m)
-  ]
-  best-skips never (Some b) is = record {
-    meets = elim (cases_eq b.rank r) [
-      | inl same ↦ let m = meets-less b.rank b.cost is.meets in absurd (never m.0 (subst (λ x. Meets h new there x m.0) same m.1))
-      | inr other ↦ meets-others_too b.rank b.cost other is.meets
-    ];
-    least = λ q d m. elim (cases_eq q r) [
-      | inl same ↦ absurd (never d (subst (λ x. Meets h new there x d) same m))
-      | inr other ↦ is.least q d (meets-others q d other m)
-    ];
-  }
-
-  module _ (c : Cost) (here : Meets h new there r c) where
-    here_is : (q : ℕ) (d : Cost) → q ≡ r → Meets h new there q d → c ≡ d
-    here_is q d same m = one_sum h (new r) (there r) c d here (subst (λ x. Meets h new there x d) same m)
-
-    -- they meet there at less than before
-    best-less : (best : Option Meeting) → IsBelow c (cost_of best) → IsBestMeeting h old there best → (m : Meeting) → m.rank ≡ r → m.cost ≡ c → IsBestOf h new there m
-    best-less best below is m rank cost = record {
-      meets = subst (λ (d : Cost). Meets h new there m.rank d) (sym cost) (subst (λ x. Meets h new there x c) (sym rank) here);
-      least = λ q d meets. subst (λ (e : Cost). e ≼ d) (sym cost) (elim (cases_eq q r) [
-        | inl same ↦ subst (λ (e : Cost). c ≼ e) (here_is q d same meets) (at_most_refl c)
-        | inr other ↦ no_dearer best below is q d (meets-others q d other meets)
-      ]);
-    }
-      where
-        no_dearer : (best : Option Meeting) → IsBelow c (cost_of best) → IsBestMeeting h old there best → (q : ℕ) (d : Cost) → Meets h old there q d → c ≼ d
-        no_dearer None below is q d meets = absurd (is q d meets)
-        no_dearer (Some b) below is q d meets = at_most_trans (at_most-from_below below) (is.least q d meets)
-
-    -- what was the best stays so
-    best-stays : (best : Option Meeting) → (IsBelow c (cost_of best) → ⊥) → IsBestMeeting h old there best → IsBestMeeting h new there best
-    best-stays None never is = absurd (never tt)
-    best-stays (Some b) never is =
-        let most : b.cost ≼ c = elim (cases_cost c b.cost) [ inl below ↦ absurd (never below) | inr most ↦ most ] in
-        record {
-          meets = elim (cases_eq b.rank r) [
-            | inl same ↦
-                let m = meets-less b.rank b.cost is.meets in
-                let equal : c ≡ m.0 = here_is b.rank m.0 same m.1 in
-                let back : c ≼ b.cost = subst (λ (e : Cost). e ≼ b.cost) (sym equal) m.2 in
-                subst (λ (e : Cost). Meets h new there b.rank e) (at_most_antisym back most) (subst (λ x. Meets h new there x c) (sym same) here)
-            | inr other ↦ meets-others_too b.rank b.cost other is.meets
-          ];
-          least = λ q d meets. elim (cases_eq q r) [
-            | inl same ↦ subst (λ (e : Cost). b.cost ≼ e) (here_is q d same meets) most
-            | inr other ↦ is.least q d (meets-others q d other meets)
-          ];
-        }
+  where
+    no_meeting : (m : Meeting) → None ≡ Some m → ⊥
+    no_meeting m e = cc
 
 pub no_more-refl : (limit : Option Cost) → IsNoMore limit limit
 no_more-refl limit a is = (a, is, at_most_refl a)
 
--- where labels get less, so does the best meeting
-pub best-no_more : (h : Hierarchy) (old new there : ℕ → Option Cost) → ((q : ℕ) (c : Cost) → HasAtMost old q c → HasAtMost new q c) → (best found : Option Meeting) → IsBestMeeting h old there best → IsBestMeeting h new there found → IsNoMore (cost_of found) (cost_of best)
-best-no_more h old new there kept None found was is a given = absurd (none_some a given)
-  where
-    none_some : (a : Cost) → None ≡ Some a → ⊥
-    none_some a e = cc
-best-no_more h old new there kept (Some b) found was is a given =
-    let has : HasAtMost new b.rank was.meets.rise = kept b.rank was.meets.rise (record { cost = was.meets.rise; labelled = was.meets.risen; at_most = at_most_refl was.meets.rise }) in
-    let sum : has.cost ⊕ was.meets.fall ≼ b.cost = subst (λ (x : Cost). has.cost ⊕ was.meets.fall ≼ x) (sym was.meets.sum) (sum_at_most has.at_most (at_most_refl was.meets.fall)) in
-    let meets : Meets h new there b.rank (has.cost ⊕ was.meets.fall) = record { rise = has.cost; fall = was.meets.fall; risen = has.labelled; fallen = was.meets.fallen; sum = refl; short = no_longer_at_most sum was.meets.short } in
-    let same : b.cost ≡ a = some_some b.cost a given in
-    pick found is (has.cost ⊕ was.meets.fall) meets (subst (λ (x : Cost). has.cost ⊕ was.meets.fall ≼ x) same sum)
-  where
-    some_some : (x y : Cost) → Some x ≡ Some y → x ≡ y
-    some_some x y e = cc
-
-    pick : (found : Option Meeting) → IsBestMeeting h new there found → (d : Cost) → Meets h new there b.rank d → d ≼ a → (x : Cost) × (cost_of found ≡ Some x) × (x ≼ a)
-    pick None never d meets below = absurd (never b.rank d meets)
-    pick (Some m) best d meets below = (m.cost, refl, at_most_trans (best.least b.rank d meets) below)
+-- a lesser limit is at most what the greater one is
+pub limit-less : {less more : Option Cost} {c : Cost} → IsNoMore less more → HasLimit more c → HasLimit less c
+limit-less no_more has = let b = no_more has.0 has.1 in (b.0, b.1, at_most_trans b.2 has.2)
 
 -- One look at a node, by whether the two labels make a short sum and whether that is below the best so far
 
-short_at : (h : Hierarchy) (up down other_up other_down : Option Cost) (c : Cost) → up ≡ other_up → down ≡ other_down → AreShort h up down c → AreShort h other_up other_down c
-short_at h up down other_up other_down c first second is = record { rise = is.rise; fall = is.fall; risen = sym first ∙ is.risen; fallen = sym second ∙ is.fallen; sum = is.sum; short = is.short }
+pub looked-skips : (h : Hierarchy) (r : ℕ) (c : Cost) (other : Option Cost) (best : Option Meeting) → IsShortSum h (Some c) other None → IsLooked h r c other best best
+looked-skips h r c other best never = record {
+  less = no_more-refl (cost_of best);
+  seen = λ d short. absurd (never d short);
+  from = λ m e. inl e;
+}
 
-pub looked-skips : (h : Hierarchy) (r : ℕ) (cost : Cost) (other : Option Cost) (best : Option Meeting) → IsShortSum h (Some cost) other None → IsLooked h r cost other best best
-looked-skips h r cost other best never old new there less here theirs is =
-    best-skips h r old new there less (λ d m. never d (short_at h (new r) (there r) (Some cost) other d here theirs m)) best is
+pub looked-less : (h : Hierarchy) (r : ℕ) (c : Cost) (other : Option Cost) (best : Option Meeting) (sum : Cost) → AreShort h (Some c) other sum → IsBelow sum (cost_of best) → IsLooked h r c other best (Some (record { rank = r; cost = sum }))
+looked-less h r c other best sum short below = record {
+  less = λ a is. (sum, refl, at_most-from_below (subst (λ (o : Option Cost). IsBelow sum o) is below));
+  seen = λ d other_sum. (sum, refl, subst (λ (e : Cost). sum ≼ e) (one_sum h (Some c) other sum d short other_sum) (at_most_refl sum));
+  from = λ m e.
+      let same : record { rank = r; cost = sum } ≡ m = given m e in
+      inr (ap (λ (n : Meeting). n.rank) (sym same), subst (λ (n : Meeting). AreShort h (Some c) other n.cost) same short);
+}
+  where
+    given : (m : Meeting) → Some (record { rank = r; cost = sum }) ≡ Some m → record { rank = r; cost = sum } ≡ m
+    given m e = cc
 
-pub looked-less : (h : Hierarchy) (r : ℕ) (cost : Cost) (other : Option Cost) (best : Option Meeting) (sum : Cost) → AreShort h (Some cost) other sum → IsBelow sum (cost_of best) → IsLooked h r cost other best (Some (record { rank = r; cost = sum }))
-looked-less h r cost other best sum short below old new there less here theirs is =
-    let given : Meeting = record { rank = r; cost = sum } in
-    best-less h r old new there less sum (short_at h (Some cost) other (new r) (there r) sum (sym here) (sym theirs) short) best below is given refl refl
+pub looked-stays : (h : Hierarchy) (r : ℕ) (c : Cost) (other : Option Cost) (best : Option Meeting) (sum : Cost) → AreShort h (Some c) other sum → (IsBelow sum (cost_of best) → ⊥) → IsLooked h r c other best best
+looked-stays h r c other best sum short never = record {
+  less = no_more-refl (cost_of best);
+  seen = λ d other_sum. subst (λ (e : Cost). HasLimit (cost_of best) e) (one_sum h (Some c) other sum d short other_sum) (limit-given sum (cost_of best) never);
+  from = λ m e. inl e;
+}
 
-pub looked-stays : (h : Hierarchy) (r : ℕ) (cost : Cost) (other : Option Cost) (best : Option Meeting) (sum : Cost) → AreShort h (Some cost) other sum → (IsBelow sum (cost_of best) → ⊥) → IsLooked h r cost other best best
-looked-stays h r cost other best sum short never old new there less here theirs is =
-    best-stays h r old new there less sum (short_at h (Some cost) other (new r) (there r) sum (sym here) (sym theirs) short) best never is
+-- where labels get less, a meeting stays
+pub met-kept : {h : Hierarchy} {old new there : ℕ → Option Cost} {m : Meeting} → ((q : ℕ) (c : Cost) → HasAtMost old q c → HasAtMost new q c) → IsMet h old there m → IsMet h new there m
+met-kept {h} {old} {new} {there} {m} kept met =
+    let rise : Cost = met.meets.rise in
+    let fall : Cost = met.meets.fall in
+    let has : HasAtMost new m.rank rise = kept m.rank rise (record { cost = rise; labelled = met.meets.risen; at_most = at_most_refl rise }) in
+    let sum : has.cost ⊕ fall ≼ met.cost = subst (λ (x : Cost). has.cost ⊕ fall ≼ x) (sym met.meets.sum) (sum_at_most has.at_most (at_most_refl fall)) in
+    record {
+      cost = has.cost ⊕ fall;
+      meets = record { rise = has.cost; fall = fall; risen = has.labelled; fallen = met.meets.fallen; sum = refl; short = no_longer_at_most sum met.meets.short };
+      at_most = at_most_trans sum met.at_most;
+      short = met.short;
+    }
+
+-- a sum of two labels is a meeting
+pub met-from : {h : Hierarchy} {up down : ℕ → Option Cost} (m : Meeting) → Meets h up down m.rank m.cost → IsMet h up down m
+met-from m meets = record { cost = m.cost; meets = meets; at_most = at_most_refl m.cost; short = meets.short }
+
+-- Both sides have stopped: a node that one of them didn't settle has no lesser sum
+
+module _ (h : Hierarchy) (up down : List Mark) where
+  settled_or_stopped : (marks : List Mark) (limit : Option Cost) → IsStopped marks limit → (r : ℕ) (a : Cost) → costs_of marks r ≡ Some a → (settled_costs marks r ≡ Some a) ⊎ HasLimit limit a
+  settled_or_stopped marks limit stopped r a label =
+      let l = from_cost (label_at marks r) a label in
+      elim (label_cases (mark_at marks r) l.0 l.1) [
+        | inl opens ↦ inr (subst (λ (c : Cost). HasLimit limit c) l.2 (stopped r l.0 opens))
+        | inr settled ↦ inl (ap settled_in settled ∙ ap (λ (c : Cost). Some c) l.2)
+      ]
+
+  limit-more : {limit : Option Cost} {c d : Cost} → c ≼ d → HasLimit limit c → HasLimit limit d
+  limit-more less has = (has.0, has.1, at_most_trans has.2 less)
+
+  limit-of_meeting : (best : Option Meeting) → IsBestSoFar h up down best → IsStopped up (cost_of best) → IsStopped down (cost_of best) → (r : ℕ) (c : Cost) → Meets h (costs_of up) (costs_of down) r c → HasLimit (cost_of best) c
+  limit-of_meeting best is up_stopped down_stopped r c m = elim (settled_or_stopped up (cost_of best) up_stopped r m.rise m.risen) [
+    | inl risen ↦ elim (settled_or_stopped down (cost_of best) down_stopped r m.fall m.fallen) [
+      | inl fallen ↦ is.least r c (record { rise = m.rise; fall = m.fall; risen = risen; fallen = fallen; sum = m.sum; short = m.short })
+      | inr limit ↦ limit-more (subst (λ (d : Cost). m.fall ≼ d) (sym m.sum) (at_most_sum_right m.rise m.fall)) limit
+    ]
+    | inr limit ↦ limit-more (subst (λ (d : Cost). m.rise ≼ d) (sym m.sum) (at_most_sum_left m.rise m.fall)) limit
+  ]
+
+  no_limit : (a : Cost) → None ≡ Some a → ⊥
+  no_limit a e = cc
+
+  same_limit : (a b : Cost) → Some a ≡ Some b → b ≡ a
+  same_limit a b e = cc
+
+  pub best-stopped : (best : Option Meeting) → IsBestSoFar h up down best → IsStopped up (cost_of best) → IsStopped down (cost_of best) → IsBestMeeting h (costs_of up) (costs_of down) best
+  best-stopped None is up_stopped down_stopped = λ r d m.
+      let limit = limit-of_meeting None is up_stopped down_stopped r d m in
+      no_limit limit.0 limit.1
+  best-stopped (Some m) is up_stopped down_stopped =
+      let met : IsMet h (costs_of up) (costs_of down) m = is.met m refl in
+      let back : m.cost ≼ met.cost = least m.rank met.cost met.meets in
+      record {
+        meets = subst (λ (c : Cost). Meets h (costs_of up) (costs_of down) m.rank c) (at_most_antisym met.at_most back) met.meets;
+        least = least;
+      }
+    where
+      least : (r : ℕ) (d : Cost) → Meets h (costs_of up) (costs_of down) r d → m.cost ≼ d
+      least r d meets =
+          let limit = limit-of_meeting (Some m) is up_stopped down_stopped r d meets in
+          subst (λ (c : Cost). c ≼ d) (same_limit m.cost limit.0 limit.1) limit.2
+
+-- what is found is within the bound
+pub looked-short : (h : Hierarchy) (up down : List Mark) (r : ℕ) (c : Cost) (other : Option Cost) (best found : Option Meeting) → IsBestSoFar h up down best → IsLooked h r c other best found → IsShortLimit h (cost_of found)
+looked-short h up down r c other best None was looked = λ b e. absurd (none_some b e)
+  where
+    none_some : (b : Cost) → None ≡ Some b → ⊥
+    none_some b e = cc
+looked-short h up down r c other best (Some m) was looked = λ b e. subst (λ (d : Cost). IsNoLonger d h.bound) (some_some m.cost b e) (elim (looked.from m refl) [
+  | inl before ↦ (was.met m before).short
+  | inr here ↦ here.1.short
+])
+  where
+    some_some : (a b : Cost) → Some a ≡ Some b → a ≡ b
+    some_some a b e = cc

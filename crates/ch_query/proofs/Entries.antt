@@ -12,7 +12,7 @@ use Rattle.std.specs.declared.cmp.Ordering.TheVariants.{Less, Equal, Greater}
 use Rattle.std.specs.BinaryHeap.{IsHeap, IsUpperBound}
 use Rattle.ch_cost.specs.declared.cost.Cost.{Cost}
 use Rattle.ch_cost.specs.Cost.{◌≼◌, compare}
-use Rattle.ch_cost.specs.Cost.Laws.{at_most_refl, at_most_trans, at_most-from_not_less, at_most_trans_below, cases_cost}
+use Rattle.ch_cost.specs.Cost.Laws.{at_most_refl, at_most_trans, at_most-from_not_less, at_most_trans_below}
 use Rattle.ch_graph.specs.Queue.{Entry, entry, entry_cmp}
 use Rattle.ch_query.specs.declared.label.Label.{Label}
 use Rattle.ch_query.specs.declared.mark.Mark.{Mark}
@@ -20,7 +20,7 @@ use Rattle.ch_query.specs.declared.mark.Mark.TheVariants.{Unseen, Open, Settled}
 use Rattle.ch_query.specs.Labels.{HasAtMost}
 use Rattle.ch_query.specs.Marks.{mark_at, option_cost, costs_of, Improves, IsBelow, IsLeastOpen, IsStopped}
 use Rattle.ch_query.specs.Front.{IsEntryOf, IsFront}
-use Rattle.ch_query.proofs.Marking.{cases_write, open-settled, open-open, label-open, cost_is, open-kept, open-here, settle-label}
+use Rattle.ch_query.proofs.Marking.{limit-given, cases_write, open-settled, open-open, label-open, cost_is, open-kept, open-here, settle-label}
 
 -- Membership
 
@@ -58,13 +58,9 @@ pub none_below : (x : Entry) (xs : List Entry) (limit : Option Cost) → IsUpper
 none_below x xs limit top never = All-weaker (λ (e : Entry). x.0.0 ≼ e.0.0) (λ (e : Entry). IsBelow e.0.0 limit → ⊥) (λ e most below. never (not_below x.0.0 e.0.0 limit most below)) xs (greatest-least x xs top)
 
 -- where no entry is below the limit, no open node is
-limit_given : (c : Cost) (limit : Option Cost) → (IsBelow c limit → ⊥) → (b : Cost) × (limit ≡ Some b) × (b ≼ c)
-limit_given c None never = absurd (never tt)
-limit_given c (Some b) never = (b, refl, elim (cases_cost c b) [ inl below ↦ absurd (never below) | inr most ↦ most ])
-
 pub front-stopped : (marks : List Mark) (entries : List Entry) (touched : List ℕ) (limit : Option Cost) → IsFront marks entries touched → All (λ (e : Entry). IsBelow e.0.0 limit → ⊥) entries → IsStopped marks limit
 front-stopped marks entries touched limit front none r e opens =
-    limit_given e.cost limit (All-contains (λ (x : Entry). IsBelow x.0.0 limit → ⊥) entries (entry e.cost r) none (front.waits r e opens))
+    limit-given e.cost limit (All-contains (λ (x : Entry). IsBelow x.0.0 limit → ⊥) entries (entry e.cost r) none (front.waits r e opens))
 
 -- Steps
 

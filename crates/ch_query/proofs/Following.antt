@@ -1,10 +1,10 @@
 -- The links that climb from a node, followed one by one.
-use Rattle.std.proofs.Common.{ℕ, ◌≡◌, ◌+◌, ◌<◌, ◌≤◌, List, length, slice_index, set, Option, Some, None, ap, refl, sym, subst, ◌∙◌, inl, inr, arith}
+use Rattle.std.proofs.Common.{ℕ, ◌≡◌, ◌↔◌, ◌+◌, ◌<◌, ◌≤◌, List, length, slice_index, set, Option, Some, None, ap, refl, sym, subst, ◌∙◌, inl, inr, arith}
 use Rattle.std.proofs.lemmas.Bool.{cases_lt}
 use Rattle.std.proofs.lemmas.List.{length-set}
 use Rattle.ch_cost.specs.declared.cost.Cost.{Cost}
-use Rattle.ch_cost.specs.Cost.{◌⊕◌, ◌≼◌}
-use Rattle.ch_cost.specs.Cost.Laws.{at_most_refl, at_most_trans, at_most_sum_left, below_trans_at_most}
+use Rattle.ch_cost.specs.Cost.{◌⊕◌, ◌≼◌, ◌≺◌, IsNoLonger}
+use Rattle.ch_cost.specs.Cost.Laws.{at_most_refl, at_most_trans, at_most-from_below, at_most_sum_left, below_trans_at_most, no_longer_at_most}
 use Rattle.ch_graph.specs.Hierarchy.{Hierarchy, IsWellMade, rank_of}
 use Rattle.ch_query.specs.declared.label.Label.{Label}
 use Rattle.ch_query.specs.declared.mark.Mark.{Mark}
@@ -14,7 +14,7 @@ use Rattle.ch_query.specs.declared.upward.Step.{Step}
 use Rattle.ch_query.specs.Labels.{HasAtMost, CountsBelow}
 use Rattle.ch_query.specs.Climb.{foot_at, foot_rank, head_rank, cost_at, Climbs, ClimbsFrom}
 use Rattle.ch_query.specs.Upward.{IsLaidOut}
-use Rattle.ch_query.specs.Marks.{mark_at, costs_of, Improves, IsBelow, IsNoMore}
+use Rattle.ch_query.specs.Marks.{mark_at, costs_of, Improves, IsNoMore}
 use Rattle.ch_query.specs.Searching.{IsStepAt, IsFollowed, IsLatest, ClimbsTo, IsOpenedBy, ArePassed}
 use Rattle.ch_query.proofs.Sides.{foot_in}
 use Rattle.ch_query.proofs.Ranks.{same_node, rank_taken}
@@ -89,12 +89,27 @@ counts-more h no_more counts = record {
   below = λ a is. let limit = no_more a is in below_trans_at_most (counts.below limit.0 limit.1) limit.2;
 }
 
-pub below-from_counts : (h : Hierarchy) (limit : Option Cost) (c : Cost) → CountsBelow h limit c → IsBelow c limit
-below-from_counts h None c counts = tt
-below-from_counts h (Some b) c counts = counts.below b refl
+-- what is below a limit within the bound, is within the bound too
+pub counts-below : (h : Hierarchy) (b c : Cost) → IsNoLonger b h.bound → (c ≺ b) ↔ CountsBelow h (Some b) c
+counts-below h b c short = (
+  λ below. record {
+    short = no_longer_at_most (at_most-from_below below) short;
+    below = λ a is. subst (λ (d : Cost). c ≺ d) (same b a is) below;
+  },
+  λ counts. counts.below b refl,
+)
+  where
+    same : (x y : Cost) → Some x ≡ Some y → x ≡ y
+    same x y e = cc
 
-pub followed-more : {h : Hierarchy} {side : Side} {r : ℕ} {c : Cost} {limit found : Option Cost} {mid new : List Mark} → IsOpenedBy h side r c mid new → IsNoMore found limit → (k : ℕ) → IsFollowed h side c limit mid k → IsFollowed h side c found new k
-followed-more {h} {side} {c = c} opened less k done counts = opened.kept (head_rank h side k) (c ⊕ cost_at h k) (done (counts-more h less counts))
+pub counts-short : (h : Hierarchy) (c : Cost) → IsNoLonger c h.bound ↔ CountsBelow h None c
+counts-short h c = (λ short. record { short = short; below = λ a is. absurd (never a is) }, λ counts. counts.short)
+  where
+    never : (a : Cost) → None ≡ Some a → ⊥
+    never a e = cc
+
+pub followed-more : {h : Hierarchy} {side : Side} {r : ℕ} {c : Cost} {limit : Option Cost} {mid new : List Mark} → IsOpenedBy h side r c mid new → (k : ℕ) → IsFollowed h side c limit mid k → IsFollowed h side c limit new k
+followed-more {h} {side} {c = c} opened k done counts = opened.kept (head_rank h side k) (c ⊕ cost_at h k) (done counts)
 
 -- settled labels are above none that is followed
 pub latest-more : {h : Hierarchy} {side : Side} {r : ℕ} {c : Cost} {old new : List Mark} → IsOpenedBy h side r c old new → IsLatest old c → IsLatest new c
@@ -128,14 +143,14 @@ passing-none h side r c links begin limit marks = record {
 }
 
 -- one more link was followed
-pub passing-more : {h : Hierarchy} {side : Side} {r : ℕ} {c : Cost} {links : List ℕ} {begin : ℕ} {limit found : Option Cost} {old mid new : List Mark} (next : ℕ) → IsPassing h side r c links begin next limit old mid → IsOpenedBy h side r c mid new → IsNoMore found limit → IsFollowed h side c found new (slice_index links next) → IsPassing h side r c links begin (next + 1) found old new
-passing-more {h} {side} {r} {c} {links} {found = found} {new = new} next is opened less done = record {
+pub passing-more : {h : Hierarchy} {side : Side} {r : ℕ} {c : Cost} {links : List ℕ} {begin : ℕ} {limit : Option Cost} {old mid new : List Mark} (next : ℕ) → IsPassing h side r c links begin next limit old mid → IsOpenedBy h side r c mid new → IsFollowed h side c limit new (slice_index links next) → IsPassing h side r c links begin (next + 1) limit old new
+passing-more {h} {side} {r} {c} {links} {limit = limit} {new = new} next is opened done = record {
   opened = opened-more is.opened opened;
   followed = λ i from low. elim (cases_lt i next) [
-    | inl before ↦ followed-more opened less (slice_index links i) (is.followed i from before)
+    | inl before ↦ followed-more opened (slice_index links i) (is.followed i from before)
     | inr last ↦
         let same : i ≡ next = omega (arith, low, last) in
-        subst (λ j. IsFollowed h side c found new (slice_index links j)) (sym same) done
+        subst (λ j. IsFollowed h side c limit new (slice_index links j)) (sym same) done
   ];
 }
 

@@ -11,8 +11,7 @@ use Rattle.ch_query.specs.declared.label.Label.{Label}
 use Rattle.ch_query.specs.declared.mark.Mark.{Mark}
 use Rattle.ch_query.specs.declared.mark.Mark.TheVariants.{Unseen, Open, Settled}
 use Rattle.ch_query.specs.Labels.{HasAtMost}
-use Rattle.ch_query.specs.Marks.{mark_at, label_in, label_at, option_cost, costs_of, Improves, settled, settled_count}
-use Rattle.ch_query.specs.Meeting.{IsLessAt}
+use Rattle.ch_query.specs.Marks.{mark_at, label_in, label_at, option_cost, costs_of, settled_in, settled_costs, Improves, IsBelow, HasLimit, settled, settled_count}
 
 -- the mark that is read after one was written: the new one, or that of another rank
 pub record IsWritten (marks : List Mark) (r : ℕ) (m : Mark) (q : ℕ) : Type 0 where
@@ -95,6 +94,22 @@ from_cost (Some e) c is = (e, refl, cc)
 pub cost_is : (marks : List Mark) (r : ℕ) (e : Label) → label_at marks r ≡ Some e → costs_of marks r ≡ Some e.cost
 cost_is marks r e is = ap option_cost is
 
+-- and a settled node's that of the label with which it was settled
+pub settled_is : (m : Mark) (c : Cost) → settled_in m ≡ Some c → (e : Label) × (m ≡ Settled e) × (e.cost ≡ c)
+settled_is Unseen c is = absurd (cc)
+settled_is (Open e) c is = absurd (cc)
+settled_is (Settled e) c is = (e, refl, cc)
+
+pub settled-cost : (marks : List Mark) (r : ℕ) (c : Cost) → settled_costs marks r ≡ Some c → costs_of marks r ≡ Some c
+settled-cost marks r c is =
+    let e = settled_is (mark_at marks r) c is in
+    ap (λ (m : Mark). option_cost (label_in m)) e.1 ∙ ap (λ (d : Cost). Some d) e.2
+
+-- what isn't below a limit is at least that
+pub limit-given : (c : Cost) (limit : Option Cost) → (IsBelow c limit → ⊥) → HasLimit limit c
+limit-given c None never = absurd (never tt)
+limit-given c (Some b) never = (b, refl, elim (cases_cost c b) [ inl below ↦ absurd (never below) | inr most ↦ most ])
+
 pub has_own : (marks : List Mark) (r : ℕ) (e : Label) → label_at marks r ≡ Some e → HasAtMost (costs_of marks) r e.cost
 has_own marks r e is = record { cost = e.cost; labelled = cost_is marks r e is; at_most = at_most_refl e.cost }
 
@@ -153,12 +168,6 @@ module _ (marks : List Mark) (r : ℕ) (e : Label) (within : r < length marks) (
     }
     | inr k ↦ record { cost = has.cost; labelled = ap (λ (m : Mark). option_cost (label_in m)) k.reads ∙ has.labelled; at_most = has.at_most }
   ]
-
-  pub open-less : IsLessAt r (costs_of marks) (costs_of (set marks r (Open e)))
-  open-less = record {
-    others = λ q other. ap (λ (m : Mark). option_cost (label_in m)) (get_or-set_other marks r q (Open e) Unseen other);
-    kept = open-kept;
-  }
 
 -- a node is settled, and no label changes
 pub settle-label : (marks : List Mark) (r : ℕ) (e : Label) → mark_at marks r ≡ Open e → (q : ℕ) → label_at (set marks r (Settled e)) q ≡ label_at marks q

@@ -10,14 +10,17 @@ use Rattle.ch_query.specs.declared.label.Label.{Label}
 use Rattle.ch_query.specs.declared.mark.Mark.{Mark}
 use Rattle.ch_query.specs.declared.mark.Mark.TheVariants.{Unseen, Open, Settled}
 use Rattle.ch_query.specs.declared.side.Side.{Side}
-use Rattle.ch_query.specs.Labels.{HasAtMost}
+use Rattle.ch_query.specs.declared.meeting.Meeting.{Meeting}
+use Rattle.ch_query.specs.Labels.{HasAtMost, AreShort, Meets}
 use Rattle.ch_query.specs.Climb.{foot_rank, head_rank, cost_at, Climbs}
-use Rattle.ch_query.specs.Marks.{mark_at, label_at, option_cost, costs_of, IsLeastOpen, IsNoMore, FitAll, settled_count}
+use Rattle.ch_query.specs.Marks.{mark_at, label_at, option_cost, costs_of, settled_in, IsLeastOpen, IsNoMore, FitAll, settled_count}
 use Rattle.ch_query.specs.Searching.{IsFrom, IsFollowed, AreFollowed, IsSearching, IsLatest, ClimbsTo, IsOpenedBy, ArePassed}
+use Rattle.ch_query.specs.Meeting.{IsBestSoFar, IsLooked}
 use Rattle.ch_query.proofs.Sides.{link-made}
 use Rattle.ch_query.proofs.Ranks.{rank_below}
 use Rattle.ch_query.proofs.Following.{counts-more}
-use Rattle.ch_query.proofs.Marking.{cases_write, write_here, unseen-open, unseen-settled, open-settled, open-open, settled-settled, unseen-at, open-in, label_cases, label-open, label-settled, label-in, cost_is, settle-label, count-settle}
+use Rattle.ch_query.proofs.BestMeetings.{limit-less, met-kept, met-from}
+use Rattle.ch_query.proofs.Marking.{settled_is, settled-cost, cases_write, write_here, unseen-open, unseen-settled, open-settled, open-open, settled-settled, unseen-at, open-in, label_cases, label-open, label-settled, label-in, cost_is, settle-label, count-settle}
 
 module _ (h : Hierarchy) (made : IsWellMade h) where
   -- the bound of a well made hierarchy is small enough to be a summand
@@ -84,7 +87,7 @@ module _ (h : Hierarchy) (made : IsWellMade h) (side : Side) (start : ℕ) (star
         | inr unseen ↦ unseen-settled unseen
       ]
 
-  no_settled : (r : ℕ) (e : Label) → mark_at first_marks r ≡ Settled e → ⊥
+  pub no_settled : (r : ℕ) (e : Label) → mark_at first_marks r ≡ Settled e → ⊥
   no_settled r e closed = elim (only_mark r (Settled e) closed) [
     | inl this ↦ open-settled this.1
     | inr unseen ↦ unseen-settled unseen
@@ -204,6 +207,46 @@ module _ (h : Hierarchy) (side : Side) (start : ℕ) (old : List Mark) (r : ℕ)
 
     pub turn-more : (q : ℕ) (c : Cost) → HasAtMost (costs_of old) q c → HasAtMost (costs_of new) q c
     turn-more q c has = opened.kept q c (turn-kept q c has)
+
+    -- the best meeting so far, once the other side was looked at there
+    pub best-turn : (there : List Mark) (best found : Option Meeting) → IsBestSoFar h old there best → IsLooked h r e.cost (costs_of there r) best found → IsBestSoFar h new there found
+    best-turn there best found was looked = record {
+      met = λ m is. met-kept turn-more (elim (looked.from m is) [
+        | inl before ↦ was.met m before
+        | inr here ↦ met-from m (meets_here m here.0 here.1)
+      ]);
+      least = λ q c m.
+          let d = settled_is (mark_at new q) m.rise m.risen in
+          let cost : Some d.0.cost ≡ Some m.rise = ap (λ (a : Cost). Some a) d.2 in
+          elim (turn-settled q d.0 (opened.settled q d.0 d.1)) [
+            | inl this ↦ looked.seen c (record {
+              rise = m.rise;
+              fall = m.fall;
+              risen = ap (λ (l : Label). Some l.cost) this.1 ∙ cost;
+              fallen = subst (λ p. costs_of there p ≡ Some m.fall) this.0 (settled-cost there q m.fall m.fallen);
+              sum = m.sum;
+              short = m.short;
+            })
+            | inr before ↦ limit-less looked.less (was.least q c (record {
+              rise = m.rise;
+              fall = m.fall;
+              risen = ap settled_in before ∙ cost;
+              fallen = m.fallen;
+              sum = m.sum;
+              short = m.short;
+            }))
+          ];
+    }
+      where
+        meets_here : (m : Meeting) → m.rank ≡ r → AreShort h (Some e.cost) (costs_of there r) m.cost → Meets h (costs_of old) (costs_of there) m.rank m.cost
+        meets_here m at short = subst (λ p. Meets h (costs_of old) (costs_of there) p m.cost) (sym at) (record {
+          rise = short.rise;
+          fall = short.fall;
+          risen = cost_is old r e (label-open _ e next.opens) ∙ short.risen;
+          fallen = short.fallen;
+          sum = short.sum;
+          short = short.short;
+        })
 
     pub searching-turn : IsWellMade h → IsSearching h side start new
     searching-turn made = record {

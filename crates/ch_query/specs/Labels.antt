@@ -41,6 +41,10 @@ Meets h up down x c = AreShort h (up x) (down x) c
 abbrev pub IsBest : Hierarchy → (ℕ → Option Cost) → (ℕ → Option Cost) → Option Cost → Type 0
 IsBest h up down = IsLeastOrNone (λ (c : Cost). (x : ℕ) × Meets h up down x c)
 
+-- a limit, where there is one, is within the bound
+abbrev pub IsShortLimit : Hierarchy → Option Cost → Type 0
+IsShortLimit h limit = (b : Cost) → limit ≡ Some b → IsNoLonger b h.bound
+
 -- a cost counts where its length is within the bound, and it is below the best sum
 pub record CountsBelow (h : Hierarchy) (best : Option Cost) (c : Cost) : Type 0 where
   pub short : IsNoLonger c h.bound

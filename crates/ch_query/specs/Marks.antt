@@ -31,6 +31,15 @@ option_link (Some e) = e.link
 abbrev pub costs_of : List Mark → ℕ → Option Cost
 costs_of marks r = option_cost (label_at marks r)
 
+-- the costs of the settled nodes alone
+abbrev pub settled_in : Mark → Option Cost
+settled_in Unseen = None
+settled_in (Open e) = None
+settled_in (Settled e) = Some e.cost
+
+abbrev pub settled_costs : List Mark → ℕ → Option Cost
+settled_costs marks r = settled_in (mark_at marks r)
+
 -- a climb of this cost is better than what is known; what is settled stays
 abbrev pub Improves : Cost → Mark → Type 0
 Improves c Unseen = Unit {0}
@@ -42,9 +51,13 @@ abbrev pub IsBelow : Cost → Option Cost → Type 0
 IsBelow c None = Unit {0}
 IsBelow c (Some b) = c ≺ b
 
+-- there is a limit, and it is at most this cost
+abbrev pub HasLimit : Option Cost → Cost → Type 0
+HasLimit limit c = (b : Cost) × (limit ≡ Some b) × (b ≼ c)
+
 -- there is a limit where there was one, and it is no more
 abbrev pub IsNoMore : Option Cost → Option Cost → Type 0
-IsNoMore new old = (a : Cost) → old ≡ Some a → (b : Cost) × (new ≡ Some b) × (b ≼ a)
+IsNoMore new old = (a : Cost) → old ≡ Some a → HasLimit new a
 
 -- the node of rank r is open with the label e, and no open node has one that costs less
 pub record IsLeastOpen (marks : List Mark) (r : ℕ) (e : Label) : Type 0 where
@@ -53,7 +66,7 @@ pub record IsLeastOpen (marks : List Mark) (r : ℕ) (e : Label) : Type 0 where
 
 -- no open node has a label below the limit
 abbrev pub IsStopped : List Mark → Option Cost → Type 0
-IsStopped marks limit = (r : ℕ) (e : Label) → mark_at marks r ≡ Open e → (b : Cost) × (limit ≡ Some b) × (b ≼ e.cost)
+IsStopped marks limit = (r : ℕ) (e : Label) → mark_at marks r ≡ Open e → HasLimit limit e.cost
 
 -- each label costs little enough to be a summand
 abbrev pub FitAll : List Mark → Type 0

@@ -1,10 +1,12 @@
 -- Where the two sides of a query meet at the least cost.
-use Rattle.std.specs.Prelude.{ℕ, ◌≡◌, Option, Some, None, option_map}
+use Rattle.std.specs.Prelude.{ℕ, ◌≡◌, ◌⊎◌, List, Option, Some, None, option_map}
 use Rattle.ch_cost.specs.declared.cost.Cost.{Cost}
-use Rattle.ch_cost.specs.Cost.{◌≼◌}
+use Rattle.ch_cost.specs.Cost.{◌≼◌, IsNoLonger}
 use Rattle.ch_graph.specs.Hierarchy.{Hierarchy}
+use Rattle.ch_query.specs.declared.mark.Mark.{Mark}
 use Rattle.ch_query.specs.declared.meeting.Meeting.{Meeting}
-use Rattle.ch_query.specs.Labels.{HasAtMost, AreShort, Meets}
+use Rattle.ch_query.specs.Labels.{AreShort, Meets}
+use Rattle.ch_query.specs.Marks.{costs_of, settled_costs, HasLimit, IsNoMore}
 
 -- two labels have a short sum, or there is none
 abbrev pub IsShortSum : Hierarchy → Option Cost → Option Cost → Option Cost → Type 0
@@ -25,12 +27,21 @@ IsBestMeeting h up down None = (r : ℕ) (d : Cost) → Meets h up down r d → 
 abbrev pub cost_of : Option Meeting → Option Cost
 cost_of best = option_map (λ (m : Meeting). m.cost) best
 
--- labels that differ at the rank r alone, where the new one is less
-pub record IsLessAt (r : ℕ) (old new : ℕ → Option Cost) : Type 0 where
-  pub others : (q : ℕ) → (q ≡ r → ⊥) → new q ≡ old q
-  pub kept : (q : ℕ) (c : Cost) → HasAtMost old q c → HasAtMost new q c
+-- the node of a meeting has two labels that cost at most what the meeting says, which is within the bound
+pub record IsMet (h : Hierarchy) (up down : ℕ → Option Cost) (m : Meeting) : Type 0 where
+  pub cost : Cost
+  pub meets : Meets h up down m.rank cost
+  pub at_most : cost ≼ m.cost
+  pub short : IsNoLonger m.cost h.bound
 
--- Where a node got a lesser label of this cost, and the other side's is that: what was the best meeting of the old
--- labels, and what is that of the new ones.
-abbrev pub IsLooked : Hierarchy → ℕ → Cost → Option Cost → Option Meeting → Option Meeting → Type 0
-IsLooked h r c other best found = (old new there : ℕ → Option Cost) → IsLessAt r old new → new r ≡ Some c → there r ≡ other → IsBestMeeting h old there best → IsBestMeeting h new there found
+-- The best meeting so far: it was met, and no node that both sides settled has a lesser sum.
+pub record IsBestSoFar (h : Hierarchy) (up down : List Mark) (best : Option Meeting) : Type 0 where
+  pub met : (m : Meeting) → best ≡ Some m → IsMet h (costs_of up) (costs_of down) m
+  pub least : (r : ℕ) (c : Cost) → Meets h (settled_costs up) (settled_costs down) r c → HasLimit (cost_of best) c
+
+-- What is found where the node of rank r has a label of cost c here and another there: their sum if that is short and
+-- below the best meeting so far, or else that.
+pub record IsLooked (h : Hierarchy) (r : ℕ) (c : Cost) (other : Option Cost) (best found : Option Meeting) : Type 0 where
+  pub less : IsNoMore (cost_of found) (cost_of best)
+  pub seen : (d : Cost) → AreShort h (Some c) other d → HasLimit (cost_of found) d
+  pub from : (m : Meeting) → found ≡ Some m → (best ≡ Some m) ⊎ ((m.rank ≡ r) × AreShort h (Some c) other m.cost)

@@ -6,7 +6,7 @@
 //! cost. A query has two sides, one from the source along links that rise, and one from the target against links
 //! that fall. Both climb in rank, so one program serves them: [`upward::UpwardSteps`] are the links that a side
 //! climbs, by the rank of their feet; a [`frontier::Frontier`] holds what a side knows of the nodes, and settles the
-//! least open one; [`turn::turn`] follows its links and looks where the sides meet; and
+//! least open one; [`turn::turn`] looks whether the sides meet there, and follows its links; and
 //! [`meet::meet`] lets the sides take turns, until neither has an open node below the best meeting. Why that gives
 //! the value is the law [`labels_are_right`], which any other way to label has to meet too. A call costs what it
 //! touches: marks and queues are kept between calls.

@@ -10,7 +10,7 @@ ghost use Rattle.ch_query.specs.Meeting.{IsBestMeeting, cost_of};
 
 use crate::frontier::Frontier;
 use crate::label::Label;
-use crate::meeting::{Meeting, look_at};
+use crate::meeting::Meeting;
 use crate::side::{Climb, Side};
 use crate::turn::turn;
 use crate::upward::UpwardSteps;
@@ -55,8 +55,7 @@ pub fn meet(
     };
     begin(hierarchy, rise, up)?;
     begin(hierarchy, fall, down)?;
-    let rank = hierarchy.rank(target);
-    let mut best = look_at(hierarchy, rank, Cost::ZERO, up.label(rank), None);
+    let mut best = None;
     'turns: loop {
         let rose = turn(hierarchy, rising, rise, up, down, &mut best)?;
         let fell = turn(hierarchy, falling, fall, down, up, &mut best)?;

@@ -27,7 +27,8 @@ pub fn cost_of(best: Option<Meeting>) -> Option<Cost>
     }
 }
 
-/// The best meeting once the node of a rank has a label of this cost: the sides may meet there at less than before.
+/// The best meeting so far, once the node of a rank is settled with a label of this cost: the sides may meet there at
+/// less than before.
 pub fn look_at(
     hierarchy: &Hierarchy,
     rank: u32,

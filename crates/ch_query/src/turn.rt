@@ -1,15 +1,16 @@
 ghost use Rattle.std.specs.Prelude.{◌≡◌, ◌<◌, length, slice_index, IfOk, OnOk};
 ghost use Rattle.ch_cost.specs.Cost.{IsNoLonger, IsOfWalks};
 ghost use Rattle.ch_graph.specs.Hierarchy.{IsWellMade};
+ghost use Rattle.ch_query.specs.Labels.{IsShortLimit};
 ghost use Rattle.ch_query.specs.Climb.{foot_rank};
 ghost use Rattle.ch_query.specs.Upward.{IsLaidOut};
-ghost use Rattle.ch_query.specs.Marks.{costs_of, FitAll, IsNoMore};
+ghost use Rattle.ch_query.specs.Marks.{FitAll, IsNoMore};
 ghost use Rattle.ch_query.specs.Searching.{IsStepAt, IsLatest, IsOpenedBy, IsFollowed, AreFollowed, ArePassed, IsSearching, IsTurned};
-ghost use Rattle.ch_query.specs.Meeting.{IsBestMeeting, cost_of};
+ghost use Rattle.ch_query.specs.Meeting.{IsBestSoFar, cost_of};
 
 use crate::frontier::Frontier;
 use crate::label::Label;
-use crate::limit::{is_below, is_short};
+use crate::limit::counts;
 use crate::meeting::{Meeting, cost_of, look_at};
 use crate::side::{Climb, Side};
 use crate::upward::UpwardSteps;
@@ -17,8 +18,8 @@ use ch_cost::Cost;
 use ch_graph::Hierarchy;
 use std::alloc::AllocError;
 
-/// A turn of one side: it settles its least open node and follows the links that climb from it, and answers the
-/// best meeting then. False where no open node is below the best meeting so far: the side has stopped.
+/// A turn of one side: it settles its least open node, looks whether the other side has a label there, and follows the
+/// links that climb from it. False where no open node is below the best meeting so far: the side has stopped.
 pub fn turn(
     hierarchy: &Hierarchy,
     upward: &UpwardSteps,
@@ -33,12 +34,12 @@ pub fn turn(
     requires followed { AreFollowed hierarchy.now climb.side (cost_of best.old) here.old }
     requires there_nodes { length there.now ≡ length hierarchy.now.ranks }
     requires there_fits { FitAll there.now }
-    requires best { IsBestMeeting hierarchy.now (costs_of here.old) (costs_of there.now) best.old }
+    requires best { IsBestSoFar hierarchy.now here.old there.now best.old }
     ensures nodes { length here.new ≡ length here.old }
     ensures searching { OnOk result (IsSearching hierarchy.now climb.side climb.start here.new) }
     ensures followed { OnOk result (AreFollowed hierarchy.now climb.side (cost_of best.new) here.new) }
     ensures less { OnOk result (IsNoMore (cost_of best.new) (cost_of best.old)) }
-    ensures best { OnOk result (IsBestMeeting hierarchy.now (costs_of here.new) (costs_of there.now) best.new) }
+    ensures best { OnOk result (IsBestSoFar hierarchy.now here.new there.now best.new) }
     ensures turned { IfOk result (λ goes_on. IsTurned goes_on here.old here.new (cost_of best.old) (cost_of best.new)) }
 {
     let Some(reached) = here.settle_below(cost_of(*best)) else {
@@ -46,83 +47,72 @@ pub fn turn(
     };
     let rank = reached.rank;
     let cost = reached.label.cost;
-    *best = pass_over(
-        hierarchy, upward, climb.side, rank, cost, here, there, *best,
-    )?;
+    let found = look_at(hierarchy, rank, cost, there.label(rank), *best);
+    *best = found;
+    let limit = cost_of(found);
+    pass_over(hierarchy, upward, climb.side, rank, cost, limit, here)?;
     Ok(true)
 }
 
-/// Follows each link that climbs from the node of a rank, whose label has this cost.
+/// Follows each link that climbs from the node of a rank, whose label has this cost, where the sum is below the limit.
 fn pass_over(
     hierarchy: &Hierarchy,
     upward: &UpwardSteps,
     side: Side,
     rank: u32,
     cost: Cost,
+    limit: Option<Cost>,
     here: &mut Frontier,
-    there: &Frontier,
-    best: Option<Meeting>,
-) -> Result<Option<Meeting>, AllocError>
+) -> Result<(), AllocError>
     requires made { IsWellMade hierarchy.now }
     requires rank_in { rank < length hierarchy.now.ranks }
     requires laid { IsLaidOut hierarchy.now side upward.now.first.items upward.now.links.items upward.now.steps.items }
     requires here_nodes { length here.old ≡ length hierarchy.now.ranks }
-    requires there_nodes { length there.now ≡ length hierarchy.now.ranks }
     requires latest { IsLatest here.old cost }
     requires fits { IsOfWalks rank cost }
     requires short { IsNoLonger cost hierarchy.now.bound }
-    requires there_fits { FitAll there.now }
-    requires best { IsBestMeeting hierarchy.now (costs_of here.old) (costs_of there.now) best }
+    requires limit { IsShortLimit hierarchy.now limit }
     ensures nodes { length here.new ≡ length here.old }
     ensures opened { OnOk result (IsOpenedBy hierarchy.now side rank cost here.old here.new) }
-    ensures passed { IfOk result (λ found. ArePassed hierarchy.now side rank cost (cost_of found) here.new) }
-    ensures best { IfOk result (λ found. IsBestMeeting hierarchy.now (costs_of here.new) (costs_of there.now) found) }
+    ensures passed { OnOk result (ArePassed hierarchy.now side rank cost limit here.new) }
 {
-    let mut best = best;
     let begin = upward.first[rank as usize];
     let end = upward.first[rank as usize + 1];
     for place in begin..end {
-        best = follow(hierarchy, upward, side, place, cost, here, there, best)?;
+        follow(hierarchy, upward, side, place, cost, limit, here)?;
     }
-    Ok(best)
+    Ok(())
 }
 
-/// Follows the link at a place, from a foot whose label has this cost: the node at its head is opened, if the sum is
-/// below the best meeting and better than what is known of it, and then the sides may meet there.
+/// Follows the link at a place, from a foot whose label has this cost: the node at its head is opened, if the sum counts
+/// and is better than what is known of it.
 fn follow(
     hierarchy: &Hierarchy,
     upward: &UpwardSteps,
     side: Side,
     place: usize,
     cost: Cost,
+    limit: Option<Cost>,
     here: &mut Frontier,
-    there: &Frontier,
-    best: Option<Meeting>,
-) -> Result<Option<Meeting>, AllocError>
+) -> Result<(), AllocError>
     requires made { IsWellMade hierarchy.now }
     requires step { IsStepAt hierarchy.now side upward.now.links.items upward.now.steps.items place }
     requires here_nodes { length here.old ≡ length hierarchy.now.ranks }
-    requires there_nodes { length there.now ≡ length hierarchy.now.ranks }
     requires latest { IsLatest here.old cost }
     requires fits { IsOfWalks (foot_rank hierarchy.now side (slice_index upward.now.links.items place)) cost }
     requires short { IsNoLonger cost hierarchy.now.bound }
-    requires there_fits { FitAll there.now }
-    requires best { IsBestMeeting hierarchy.now (costs_of here.old) (costs_of there.now) best }
+    requires limit { IsShortLimit hierarchy.now limit }
     ensures nodes { length here.new ≡ length here.old }
     ensures opened { OnOk result (IsOpenedBy hierarchy.now side (foot_rank hierarchy.now side (slice_index upward.now.links.items place)) cost here.old here.new) }
-    ensures followed { IfOk result (λ found. IsFollowed hierarchy.now side cost (cost_of found) here.new (slice_index upward.now.links.items place)) }
-    ensures best { IfOk result (λ found. IsBestMeeting hierarchy.now (costs_of here.new) (costs_of there.now) found) }
+    ensures followed { OnOk result (IsFollowed hierarchy.now side cost limit here.new (slice_index upward.now.links.items place)) }
 {
     let step = upward.steps[place];
     let sum = cost.plus(step.cost);
-    if !is_short(sum, hierarchy.bound()) {
-        return Ok(best);
-    }
-    if !is_below(sum, cost_of(best)) {
-        return Ok(best);
+    if !counts(hierarchy, sum, limit) {
+        return Ok(());
     }
     if !here.is_improved_by(step.head, sum) {
-        return Ok(best);
+        return Ok(());
     }
     let link = upward.links[place];
     let label = Label {
@@ -130,5 +120,5 @@ fn follow(
         link: Some(link),
     };
     here.open(step.head, label)?;
-    Ok(look_at(hierarchy, step.head, sum, there.label(step.head), best))
+    Ok(())
 }

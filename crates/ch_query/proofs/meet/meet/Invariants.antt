@@ -1,8 +1,8 @@
 use Rattle.std.proofs.Common.{◌+◌, ◌-◌, length}
 use Rattle.ch_query.specs.declared.side.Side.TheVariants.{Rise, Fall}
-use Rattle.ch_query.specs.Marks.{costs_of, settled_count}
+use Rattle.ch_query.specs.Marks.{settled_count}
 use Rattle.ch_query.specs.Searching.{IsSearching, AreFollowed}
-use Rattle.ch_query.specs.Meeting.{IsBestMeeting, cost_of}
+use Rattle.ch_query.specs.Meeting.{IsBestSoFar, cost_of}
 use Rattle.ch_query.proofs.meet.meet.Given as goal
 
 abbrev pub invariant-turns : goal.invariant-turns
@@ -11,7 +11,7 @@ invariant-turns l = record {
   falls : IsSearching l.hierarchy Fall l.target l.down;
   up_followed : AreFollowed l.hierarchy Rise (cost_of l.best) l.up;
   down_followed : AreFollowed l.hierarchy Fall (cost_of l.best) l.down;
-  best : IsBestMeeting l.hierarchy (costs_of l.up) (costs_of l.down) l.best;
+  best : IsBestSoFar l.hierarchy l.up l.down l.best;
 }
 
 abbrev pub decreases-turns : goal.decreases-turns

@@ -1,10 +1,7 @@
 use Rattle.std.proofs.Common.{ℕ, ◌≡◌, ◌+◌, ◌<◌, length, slice_index, sym, subst, arith}
 use Rattle.std.proofs.lemmas.List.{get_or_read}
 use Rattle.ch_cost.specs.Cost.{IsOfWalks}
-use Rattle.ch_query.specs.Marks.{costs_of}
 use Rattle.ch_query.specs.Searching.{IsOpenedBy}
-use Rattle.ch_query.specs.Meeting.{cost_of}
-use Rattle.ch_query.proofs.BestMeetings.{best-no_more}
 use Rattle.ch_query.proofs.Following.{IsPassing, passing-none, passing-more, passed_over, latest-more, step-made, foot-made}
 use Rattle.ch_query.proofs.turn.pass_over.Goals as goal
 
@@ -19,8 +16,7 @@ loop-place-init c =
     record {
       from = omega (arith, begin);
       end = get_or_read first (c.args.rank + 1) c.index-end.result.now rank_in c.index-end.ensures 0;
-      passing = subst (λ n. IsPassing h c.args.side c.args.rank c.args.cost links from n (cost_of c.args.best) c.args.here.now c.args.here.now) (sym begin) (passing-none h c.args.side c.args.rank c.args.cost links from (cost_of c.args.best) c.args.here.now);
-      best = c.requires.best;
+      passing = subst (λ n. IsPassing h c.args.side c.args.rank c.args.cost links from n c.args.limit c.args.here.now c.args.here.now) (sym begin) (passing-none h c.args.side c.args.rank c.args.cost links from c.args.limit c.args.here.now);
     }
 
 pub follow-requires-clause-step : goal.follow-requires-clause-step
@@ -41,16 +37,14 @@ pub loop-place-preserved : goal.loop-place-preserved
 loop-place-preserved c =
     let h = c.args.hierarchy.now in
     let foot = foot-made h c.requires.made c.args.side c.args.upward.now.first.items c.args.upward.now.links.items c.args.upward.now.steps.items c.requires.laid c.args.rank c.requires.rank_in c.loop-place.place c.loop-place.invariant.from (omega (arith, c.loop-place.invariant.end, c.loop-place-test.true)) in
-    let opened : IsOpenedBy h c.args.side c.args.rank c.args.cost c.loop-place.here c.follow.new.here = subst (λ q. IsOpenedBy h c.args.side q c.args.cost c.loop-place.here c.follow.new.here) foot c.in_ok-best.ensures.opened in
-    let less = best-no_more h (costs_of c.loop-place.here) (costs_of c.follow.new.here) (costs_of c.args.there.now) opened.kept c.loop-place.best c.in_ok-best.best c.loop-place.invariant.best c.in_ok-best.ensures.best in
+    let opened : IsOpenedBy h c.args.side c.args.rank c.args.cost c.loop-place.here c.follow.new.here = subst (λ q. IsOpenedBy h c.args.side q c.args.cost c.loop-place.here c.follow.new.here) foot c.in_ok-follow.ensures.opened in
     record {
       from = omega (arith, c.loop-place.invariant.from);
       end = c.loop-place.invariant.end;
-      passing = passing-more c.loop-place.place c.loop-place.invariant.passing opened less c.in_ok-best.ensures.followed;
-      best = c.in_ok-best.ensures.best;
+      passing = passing-more c.loop-place.place c.loop-place.invariant.passing opened c.in_ok-follow.ensures.followed;
     }
 
 pub returns-clause-passed : goal.returns-clause-passed
 returns-clause-passed c =
     let h = c.args.hierarchy.now in
-    passed_over h c.requires.made c.args.side c.args.upward.now.first.items c.args.upward.now.links.items c.args.upward.now.steps.items c.requires.laid c.args.rank c.requires.rank_in c.args.cost c.loop-place.place (omega (arith, c.loop-place.invariant.end, c.loop-place-test.false)) (cost_of c.loop-place.best) c.args.here.now c.loop-place.here c.loop-place.invariant.passing
+    passed_over h c.requires.made c.args.side c.args.upward.now.first.items c.args.upward.now.links.items c.args.upward.now.steps.items c.requires.laid c.args.rank c.requires.rank_in c.args.cost c.loop-place.place (omega (arith, c.loop-place.invariant.end, c.loop-place-test.false)) c.args.limit c.args.here.now c.loop-place.here c.loop-place.invariant.passing

@@ -1,13 +1,22 @@
-use Rattle.std.proofs.Common.{ℕ, List, set, ap, sym, subst, arith}
+use Rattle.std.proofs.Common.{List, Option, set, sym, subst, arith}
+use Rattle.ch_cost.specs.declared.cost.Cost.{Cost}
+use Rattle.ch_query.specs.declared.label.Label.{Label}
 use Rattle.ch_query.specs.declared.mark.Mark.{Mark}
 use Rattle.ch_query.specs.declared.mark.Mark.TheVariants.{Settled}
+use Rattle.ch_query.specs.Labels.{IsShortLimit}
 use Rattle.ch_query.specs.Marks.{option_cost, costs_of}
-use Rattle.ch_query.specs.Searching.{IsLatest, IsOpenedBy, AreFollowed}
-use Rattle.ch_query.specs.Meeting.{IsBestMeeting, cost_of}
-use Rattle.ch_query.proofs.Marking.{open-in, settle-label}
-use Rattle.ch_query.proofs.BestMeetings.{best-same, best-no_more, no_more-refl}
-use Rattle.ch_query.proofs.Turning.{turn-latest, turn-fits, turn-short, searching-turn, followed-turn, turn-more}
+use Rattle.ch_query.specs.Searching.{IsLatest, IsOpenedBy, AreFollowed, ArePassed}
+use Rattle.ch_query.specs.Meeting.{IsLooked, cost_of}
+use Rattle.ch_query.proofs.Marking.{open-in, label-open}
+use Rattle.ch_query.proofs.BestMeetings.{looked-short, no_more-refl}
+use Rattle.ch_query.proofs.Turning.{label_in_limit, turn-latest, turn-fits, turn-short, searching-turn, followed-turn, best-turn}
 use Rattle.ch_query.proofs.turn.turn.Goals as goal
+
+pub look_at-found-requires-clause-fits : goal.look_at-found-requires-clause-fits
+look_at-found-requires-clause-fits c = label_in_limit c.args.hierarchy.now c.requires.made c.requires.searching c.in-Some.reached.rank c.in-Some.reached.label (label-open _ c.in-Some.reached.label c.in-Some.ensures.least.opens)
+
+pub pass_over-requires-clause-limit : goal.pass_over-requires-clause-limit
+pass_over-requires-clause-limit c = subst (λ (o : Option Cost). IsShortLimit c.args.hierarchy.now o) (sym c.cost_of-limit.ensures) (looked-short c.args.hierarchy.now c.args.here.now c.args.there.now c.in-Some.reached.rank c.in-Some.reached.label.cost (option_cost c.label.result) c.args.best.now c.look_at-found.result c.requires.best c.look_at-found.ensures)
 
 pub pass_over-requires-clause-latest : goal.pass_over-requires-clause-latest
 pass_over-requires-clause-latest c = subst (λ (ms : List Mark). IsLatest ms c.in-Some.reached.label.cost) (sym c.in-Some.ensures.settled) (turn-latest c.args.hierarchy.now c.args.climb.side c.args.climb.start c.args.here.now c.in-Some.reached.rank c.in-Some.reached.label c.requires.searching c.in-Some.ensures.least)
@@ -21,44 +30,25 @@ pass_over-requires-clause-fits c = turn-fits c.args.hierarchy.now c.args.climb.s
 pub pass_over-requires-clause-short : goal.pass_over-requires-clause-short
 pass_over-requires-clause-short c = turn-short c.args.hierarchy.now c.args.climb.side c.args.climb.start c.args.here.now c.in-Some.reached.rank c.in-Some.reached.label c.requires.searching c.in-Some.ensures.least
 
-pub pass_over-requires-clause-best : goal.pass_over-requires-clause-best
-pass_over-requires-clause-best c =
-    let h = c.args.hierarchy.now in
-    let old : List Mark = c.args.here.now in
-    let settled : List Mark = set old c.in-Some.reached.rank (Settled c.in-Some.reached.label) in
-    subst (λ (ms : List Mark). IsBestMeeting h (costs_of ms) (costs_of c.args.there.now) c.args.best.now) (sym c.in-Some.ensures.settled)
-    (best-same h (costs_of old) (costs_of settled) (costs_of c.args.there.now) (λ q. ap option_cost (settle-label old c.in-Some.reached.rank c.in-Some.reached.label c.in-Some.ensures.least.opens q)) c.args.best.now c.requires.best)
+looked : (c : goal.In_ok-pass_over) → IsLooked c.args.hierarchy.now c.in-Some.reached.rank c.in-Some.reached.label.cost (costs_of c.args.there.now c.in-Some.reached.rank) c.args.best.now c.look_at-found.result
+looked c = subst (λ (o : Option Label). IsLooked c.args.hierarchy.now c.in-Some.reached.rank c.in-Some.reached.label.cost (option_cost o) c.args.best.now c.look_at-found.result) c.label.ensures c.look_at-found.ensures
+
+opened : (c : goal.In_ok-pass_over) → IsOpenedBy c.args.hierarchy.now c.args.climb.side c.in-Some.reached.rank c.in-Some.reached.label.cost (set c.args.here.now c.in-Some.reached.rank (Settled c.in-Some.reached.label)) c.pass_over.new.here
+opened c = subst (λ (ms : List Mark). IsOpenedBy c.args.hierarchy.now c.args.climb.side c.in-Some.reached.rank c.in-Some.reached.label.cost ms c.pass_over.new.here) c.in-Some.ensures.settled c.in_ok-pass_over.ensures.opened
 
 pub returns-clause-searching : goal.returns-clause-searching
-returns-clause-searching c =
-    let h = c.args.hierarchy.now in
-    let side = c.args.climb.side in
-    let old : List Mark = c.args.here.now in
-    let r : ℕ = c.in-Some.reached.rank in
-    let e = c.in-Some.reached.label in
-    let opened : IsOpenedBy h side r e.cost (set old r (Settled e)) c.pass_over.new.here = subst (λ (ms : List Mark). IsOpenedBy h side r e.cost ms c.pass_over.new.here) c.in-Some.ensures.settled c.in_ok-best.ensures.opened in
-    searching-turn h side c.args.climb.start old r e c.requires.searching c.in-Some.ensures.least c.pass_over.new.here opened c.requires.made
+returns-clause-searching c = searching-turn c.args.hierarchy.now c.args.climb.side c.args.climb.start c.args.here.now c.in-Some.reached.rank c.in-Some.reached.label c.requires.searching c.in-Some.ensures.least c.pass_over.new.here (opened c) c.requires.made
 
 pub returns-clause-less : goal.returns-clause-less
-returns-clause-less c =
-    let h = c.args.hierarchy.now in
-    let side = c.args.climb.side in
-    let old : List Mark = c.args.here.now in
-    let r : ℕ = c.in-Some.reached.rank in
-    let e = c.in-Some.reached.label in
-    let opened : IsOpenedBy h side r e.cost (set old r (Settled e)) c.pass_over.new.here = subst (λ (ms : List Mark). IsOpenedBy h side r e.cost ms c.pass_over.new.here) c.in-Some.ensures.settled c.in_ok-best.ensures.opened in
-    best-no_more h (costs_of old) (costs_of c.pass_over.new.here) (costs_of c.args.there.now) (turn-more h side c.args.climb.start old r e c.requires.searching c.in-Some.ensures.least c.pass_over.new.here opened) c.args.best.now c.in_ok-best.field-0 c.requires.best c.in_ok-best.ensures.best
+returns-clause-less c = (looked c).less
 
 pub returns-clause-followed : goal.returns-clause-followed
 returns-clause-followed c =
-    let h = c.args.hierarchy.now in
-    let side = c.args.climb.side in
-    let old : List Mark = c.args.here.now in
-    let r : ℕ = c.in-Some.reached.rank in
-    let e = c.in-Some.reached.label in
-    let opened : IsOpenedBy h side r e.cost (set old r (Settled e)) c.pass_over.new.here = subst (λ (ms : List Mark). IsOpenedBy h side r e.cost ms c.pass_over.new.here) c.in-Some.ensures.settled c.in_ok-best.ensures.opened in
-    let less = best-no_more h (costs_of old) (costs_of c.pass_over.new.here) (costs_of c.args.there.now) (turn-more h side c.args.climb.start old r e c.requires.searching c.in-Some.ensures.least c.pass_over.new.here opened) c.args.best.now c.in_ok-best.field-0 c.requires.best c.in_ok-best.ensures.best in
-    followed-turn h side c.args.climb.start old r e c.requires.searching c.in-Some.ensures.least c.pass_over.new.here opened (cost_of c.args.best.now) (cost_of c.in_ok-best.field-0) less c.requires.followed c.in_ok-best.ensures.passed
+    let passed = subst (λ (o : Option Cost). ArePassed c.args.hierarchy.now c.args.climb.side c.in-Some.reached.rank c.in-Some.reached.label.cost o c.pass_over.new.here) c.cost_of-limit.ensures c.in_ok-pass_over.ensures.passed in
+    followed-turn c.args.hierarchy.now c.args.climb.side c.args.climb.start c.args.here.now c.in-Some.reached.rank c.in-Some.reached.label c.requires.searching c.in-Some.ensures.least c.pass_over.new.here (opened c) (cost_of c.args.best.now) (cost_of c.look_at-found.result) (looked c).less c.requires.followed passed
+
+pub returns-clause-best : goal.returns-clause-best
+returns-clause-best c = best-turn c.args.hierarchy.now c.args.climb.side c.args.climb.start c.args.here.now c.in-Some.reached.rank c.in-Some.reached.label c.requires.searching c.in-Some.ensures.least c.pass_over.new.here (opened c) c.args.there.now c.args.best.now c.look_at-found.result c.requires.best (looked c)
 
 pub returns-in_default-clause-less : goal.returns-in_default-clause-less
 returns-in_default-clause-less c = no_more-refl (cost_of c.args.best.now)
