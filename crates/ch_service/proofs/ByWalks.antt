@@ -1,5 +1,5 @@
 -- Why answers by routes of a right hierarchy are answers by least walks of its graph.
-use Rattle.std.proofs.Common.{ℕ, zero, suc, ◌≡◌, ◌+◌, ◌-◌, ◌<◌, ◌≤◌, List, [], ◌∷◌, length, map, take, Option, inl, inr, sym, subst, arith}
+use Rattle.std.proofs.Common.{ℕ, zero, suc, ◌≡◌, ◌+◌, ◌-◌, ◌<◌, ◌≤◌, List, [], ◌∷◌, ◌++◌, length, map, take, Option, inl, inr, refl, sym, subst, arith}
 use Rattle.std.specs.Prelude.{⊤, Some, None, IfSome, All, Result, OnOk, Ok, Err, IfErr}
 use Rattle.std.proofs.lemmas.List.Elements.{All-take}
 use Rattle.ch_graph.specs.declared.link.Link.{Link}
@@ -11,8 +11,10 @@ use Rattle.grfile.specs.Outcome.{FromText}
 use Rattle.grfile.specs.declared.error.GrError.{GrError}
 use Rattle.grfile.specs.Reading.{IsPair, graph_of, pairs_of}
 use Rattle.ch_service.specs.Answer.{Route, IsAnswer, AreAnswers, nothing, one_more, IsLeastWalk, Answered, Answers, AnswersFirst}
-use Rattle.ch_service.specs.Outcome.{IfTold, Writes, IsFaultOf, StopsShort, IsSearchFault, IsAnsweringFault}
-use Rattle.ch_service.specs.Route.{Spells, IsUnfoldedRoute, IsRouteBy, Routed, HasTooLong, Routes, RoutesFirst}
+use Rattle.ch_service.specs.Outcome.{IfTold, Writes, IsFaultOf, IsRoutingFault, StopsShort, ComesOfTexts, ComesOfRouting, ComesOfAnswering}
+use Rattle.ch_unpack.specs.declared.error.UnpackError.TheVariants as unpacking
+use Rattle.ch_service.specs.Route.{Spells, IsRouteBy, Routed, HasTooLong, StopsAtTooLong, Routes, RoutesFirst, RoutesToTooLong, RightRoutesAreLeast}
+use Rattle.ch_workers.specs.declared.error.BuildError.{BuildError}
 use Rattle.ch_service.specs.declared.error.ServiceError.{ServiceError}
 use Rattle.ch_service.specs.declared.error.ServiceError.TheVariants.{Graph as GraphFault, Queries, Hierarchy as HierarchyFault, Build, Unpack, Write, OutOfMemory}
 
@@ -38,57 +40,35 @@ answered-right law g h graph right within nothing = nothing
 answered-right law g h graph right within (one_more {pair = p} {line = l} first rest) =
     one_more (answer-right law g h p l graph right (within 0 p (omega arith)) first) (answered-right law g h graph right (λ k d less. within (suc k) d (omega arith)) rest)
 
-routed : RouteIsLeast → (h : Hierarchy) (pairs : List (ℕ × ℕ)) (text : List ℕ) → All (IsPair (length h.ranks)) pairs → AreAnswers (IsRouteBy h) pairs text → Routed h pairs text
-routed law h pairs text within answers = record {
-  by_hierarchy = answers;
-  by_walks = λ g graph right. answered-right law g h graph right within answers;
-}
+pub right-routes : RouteIsLeast → RightRoutesAreLeast
+right-routes law g h pairs text graph right within answers = answered-right law g h graph right (subst (λ n. All (IsPair n) pairs) (sym right.nodes) within) answers
 
-pub writes-routed : RouteIsLeast → (h : Hierarchy) (pairs : List (ℕ × ℕ)) (old new : Option (List ℕ)) → All (IsPair (length h.ranks)) pairs → Writes (AreAnswers (IsRouteBy h) pairs) old new → Writes (Routed h pairs) old new
-writes-routed law h pairs old new within w = (w.0, routed law h pairs w.0 within w.1, w.2)
+-- a refused call wrote texts of these kinds, so of these others
+stops-weaker : (P P' Q Q' : List ℕ → Type 0) (old new : Option (List ℕ)) (e : ServiceError) → ((text : List ℕ) → P text → P' text) → ((text : List ℕ) → Q text → Q' text) → StopsShort P Q old new e → StopsShort P' Q' old new e
+stops-weaker P P' Q Q' old new (GraphFault fault) f g s = tt
+stops-weaker P P' Q Q' old new (Queries fault) f g s = tt
+stops-weaker P P' Q Q' old new (HierarchyFault fault) f g s = tt
+stops-weaker P P' Q Q' old new (Build e) f g s = s
+stops-weaker P P' Q Q' old new (Unpack unpacking.OutOfMemory) f g s = (s.0, f s.0 s.1, s.2)
+stops-weaker P P' Q Q' old new (Unpack unpacking.TooLong) f g s = (s.0, g s.0 s.1, s.2)
+stops-weaker P P' Q Q' old new (Write fault) f g s = (s.0, f s.0 s.1, s.2, s.3)
+stops-weaker P P' Q Q' old new OutOfMemory f g s = elim s [ inl kept ↦ inl kept | inr w ↦ inr (w.0, f w.0 w.1, w.2) ]
 
-pub first-routed : RouteIsLeast → (h : Hierarchy) (pairs : List (ℕ × ℕ)) (text : List ℕ) → All (IsPair (length h.ranks)) pairs
-    → ((count : ℕ) × AreAnswers (IsRouteBy h) (take count pairs) text) → (count : ℕ) × Routed h (take count pairs) text
-first-routed law h pairs text within first =
-    (first.0, routed law h (take first.0 pairs) text (All-take (IsPair (length h.ranks)) first.0 pairs within) first.1)
+-- a route that is too long shows that the hierarchy is right for no graph
 
-pub writes-first : RouteIsLeast → (h : Hierarchy) (pairs : List (ℕ × ℕ)) (count : ℕ) (old new : Option (List ℕ)) → All (IsPair (length h.ranks)) pairs
-    → Writes (AreAnswers (IsRouteBy h) (take count pairs)) old new → Writes (λ text. (count : ℕ) × Routed h (take count pairs) text) old new
-writes-first law h pairs count old new within w = (w.0, first-routed law h pairs w.0 within (count, w.1), w.2)
+at_seam : (P : ℕ × ℕ → Type 0) (first rest : List (ℕ × ℕ)) (pair : ℕ × ℕ) → All P (first ++ pair ∷ rest) → P pair
+at_seam P [] rest pair all = all 0 pair (omega arith)
+at_seam P (p ∷ first) rest pair all = at_seam P first rest pair (λ k d less. all (suc k) d (omega arith))
 
-stops-weaker : (P Q : List ℕ → Type 0) (old new : Option (List ℕ)) (e : ServiceError) → ((text : List ℕ) → P text → Q text) → StopsShort P old new e → StopsShort Q old new e
-stops-weaker P Q old new (GraphFault fault) f s = tt
-stops-weaker P Q old new (Queries fault) f s = tt
-stops-weaker P Q old new (HierarchyFault fault) f s = tt
-stops-weaker P Q old new (Build e) f s = s
-stops-weaker P Q old new (Unpack e) f s = (s.0, f s.0 s.1, s.2)
-stops-weaker P Q old new (Write fault) f s = (s.0, f s.0 s.1, s.2, s.3)
-stops-weaker P Q old new OutOfMemory f s = elim s [ inl kept ↦ inl kept | inr w ↦ inr (w.0, f w.0 w.1, w.2) ]
-
-pub stops-routed : RouteIsLeast → (h : Hierarchy) (pairs : List (ℕ × ℕ)) (old new : Option (List ℕ)) (r : Result ⊤ ServiceError) → All (IsPair (length h.ranks)) pairs
-    → IfErr r (StopsShort (λ text. (count : ℕ) × AreAnswers (IsRouteBy h) (take count pairs) text) old new) → IfErr r (StopsShort (λ text. (count : ℕ) × Routed h (take count pairs) text) old new)
-stops-routed law h pairs old new (Ok x) within s = tt
-stops-routed law h pairs old new (Err e) within s = stops-weaker _ _ old new e (λ text. first-routed law h pairs text within) s
-
--- a refusal of one pair, once the lines of those before are written
-
-pub stops-whole : (h : Hierarchy) (P : List ℕ → Type 0) (old new : Option (List ℕ)) (e : ServiceError) → IsSearchFault h e → Writes P old new → StopsShort P old new e
-stops-whole h P old new (GraphFault fault) f w = tt
-stops-whole h P old new (Queries fault) f w = tt
-stops-whole h P old new (HierarchyFault fault) f w = tt
-stops-whole h P old new (Build e) f w = absurd f
-stops-whole h P old new (Unpack e) f w = w
-stops-whole h P old new (Write fault) f w = absurd f
-stops-whole h P old new OutOfMemory f w = inr w
-
-pub fault-search : (h : Hierarchy) (e : ServiceError) → IsSearchFault h e → IsAnsweringFault h e
-fault-search h (GraphFault fault) f = f
-fault-search h (Queries fault) f = f
-fault-search h (HierarchyFault fault) f = f
-fault-search h (Build e) f = f
-fault-search h (Unpack e) f = f
-fault-search h (Write fault) f = tt
-fault-search h OutOfMemory f = tt
+pub right_for_none : NeverTooLong → (g : Graph) (h : Hierarchy) (pairs : List (ℕ × ℕ)) (text : List ℕ) → IsGraph g → IsRight g h → All (IsPair (length h.ranks)) pairs → StopsAtTooLong h pairs text → ⊥
+right_for_none law g h pairs text graph right within s =
+    let ends : IsPair (length h.ranks) s.pair = at_seam (IsPair (length h.ranks)) s.first s.rest s.pair (subst (All (IsPair (length h.ranks))) s.parts within) in
+    let long = s.too_long in
+    let source : s.pair.0 < g.nodes = subst (λ n. s.pair.0 < n) right.nodes ends.0 in
+    let target : s.pair.1 < g.nodes = subst (λ n. s.pair.1 < n) right.nodes ends.1 in
+    let short = law g h s.pair.0 s.pair.1 long.cost long.links long.arcs graph right source target long.least in
+    let few : length long.arcs ≤ g.nodes - 1 = short.1 in
+    omega (arith, few, long.many, right.nodes)
 
 -- the texts of the readers, where they are told
 
@@ -102,12 +82,40 @@ first-spelled h pairs bytes pairs_text text spells read first = record {
   routed = first.1;
 }
 
+too_long-spelled : (h : Hierarchy) (pairs : List (ℕ × ℕ)) (bytes pairs_text text : List ℕ) → Spells bytes h → pairs_of (length h.ranks) pairs_text ≡ Ok pairs → StopsAtTooLong h pairs text → RoutesToTooLong bytes pairs_text text
+too_long-spelled h pairs bytes pairs_text text spells read stops = record {
+  hierarchy = h;
+  pairs = pairs;
+  spells = spells;
+  pairs_read = read;
+  stops = stops;
+}
+
 pub stops-told : (h : Hierarchy) (pairs : List (ℕ × ℕ)) (hier queries old new : Option (List ℕ)) (r : Result ⊤ ServiceError) → IfSome hier (λ bytes. Spells bytes h) → IfSome queries (λ text. pairs_of (length h.ranks) text ≡ Ok pairs)
-    → IfErr r (StopsShort (λ text. (count : ℕ) × Routed h (take count pairs) text) old new) → IfErr r (λ e. IfTold hier queries (λ bytes pairs_text. StopsShort (RoutesFirst bytes pairs_text) old new e))
+    → IfErr r (StopsShort (λ text. (count : ℕ) × Routed h (take count pairs) text) (StopsAtTooLong h pairs) old new) → IfErr r (λ e. IfTold hier queries (λ bytes pairs_text. StopsShort (RoutesFirst bytes pairs_text) (RoutesToTooLong bytes pairs_text) old new e))
 stops-told h pairs hier queries old new (Ok x) spells read s = tt
 stops-told h pairs None queries old new (Err e) spells read s = tt
 stops-told h pairs (Some bytes) None old new (Err e) spells read s = tt
-stops-told h pairs (Some bytes) (Some pairs_text) old new (Err e) spells read s = stops-weaker _ _ old new e (λ text. first-spelled h pairs bytes pairs_text text spells read) s
+stops-told h pairs (Some bytes) (Some pairs_text) old new (Err e) spells read s =
+    stops-weaker _ _ _ _ old new e (λ text. first-spelled h pairs bytes pairs_text text spells read) (λ text. too_long-spelled h pairs bytes pairs_text text spells read) s
+
+-- a refusal while pairs are answered comes only where both texts were read
+
+fault-read : (h : Hierarchy) (pairs : List (ℕ × ℕ)) (bytes pairs_text : List ℕ) (e : ServiceError) → Spells bytes h → pairs_of (length h.ranks) pairs_text ≡ Ok pairs → ComesOfAnswering e → IsRoutingFault bytes pairs_text e
+fault-read h pairs bytes pairs_text (GraphFault fault) spells read f = f
+fault-read h pairs bytes pairs_text (Queries fault) spells read f = absurd f
+fault-read h pairs bytes pairs_text (HierarchyFault e) spells read f = absurd f
+fault-read h pairs bytes pairs_text (Build e) spells read f = f
+fault-read h pairs bytes pairs_text (Unpack e) spells read f = (h, spells, (pairs, read))
+fault-read h pairs bytes pairs_text (Write fault) spells read f = (h, spells, (pairs, read))
+fault-read h pairs bytes pairs_text OutOfMemory spells read f = (h, spells, (pairs, read))
+
+pub fault-told : (h : Hierarchy) (pairs : List (ℕ × ℕ)) (hier queries : Option (List ℕ)) (r : Result ⊤ ServiceError) → IfSome hier (λ bytes. Spells bytes h) → IfSome queries (λ text. pairs_of (length h.ranks) text ≡ Ok pairs)
+    → IfErr r ComesOfAnswering → IfErr r (λ e. IfTold hier queries (λ bytes pairs_text. IsRoutingFault bytes pairs_text e))
+fault-told h pairs hier queries (Ok x) spells read f = tt
+fault-told h pairs None queries (Err e) spells read f = tt
+fault-told h pairs (Some bytes) None (Err e) spells read f = tt
+fault-told h pairs (Some bytes) (Some pairs_text) (Err e) spells read f = fault-read h pairs bytes pairs_text e spells read f
 
 -- routes by a hierarchy whose file the reader told
 pub routes-told : (h : Hierarchy) (pairs : List (ℕ × ℕ)) (hier queries old new : Option (List ℕ)) (r : Result ⊤ ServiceError) → IfSome hier (λ bytes. Spells bytes h) → IfSome queries (λ text. pairs_of (length h.ranks) text ≡ Ok pairs)
@@ -118,34 +126,84 @@ routes-told h pairs (Some bytes) None old new (Ok x) spells read w = tt
 routes-told h pairs (Some bytes) (Some pairs_text) old new (Ok x) spells read w =
     (w.0, record { hierarchy = h; pairs = pairs; spells = spells; pairs_read = read; routed = w.1 }, w.2)
 
--- answers by a hierarchy that is right for the graph that the reader told
-pub answers-told : (g : Graph) (h : Hierarchy) (pairs : List (ℕ × ℕ)) (gr queries old new : Option (List ℕ)) (r : Result ⊤ ServiceError) → IfSome gr (λ text. graph_of text ≡ Ok g) → IfSome queries (λ text. pairs_of g.nodes text ≡ Ok pairs)
-    → IsGraph g → IsRight g h → OnOk r (Writes (Routed h pairs) old new) → OnOk r (IfTold gr queries (λ graph_text pairs_text. Writes (Answers graph_text pairs_text) old new))
-answers-told g h pairs gr queries old new (Err e) reads read graph right w = tt
-answers-told g h pairs None queries old new (Ok x) reads read graph right w = tt
-answers-told g h pairs (Some text) None old new (Ok x) reads read graph right w = tt
-answers-told g h pairs (Some text) (Some pairs_text) old new (Ok x) reads read graph right w =
-    (w.0, record { graph = g; pairs = pairs; graph_reads = reads; pairs_read = read; answered = w.1.by_walks g graph right }, w.2)
+routing-kind : (e : ServiceError) → ComesOfAnswering e → ComesOfRouting e
+routing-kind (GraphFault fault) f = f
+routing-kind (Queries fault) f = tt
+routing-kind (HierarchyFault e) f = tt
+routing-kind (Build e) f = f
+routing-kind (Unpack e) f = tt
+routing-kind (Write fault) f = tt
+routing-kind OutOfMemory f = tt
 
-first-answered : (g : Graph) (h : Hierarchy) (pairs : List (ℕ × ℕ)) (graph_text pairs_text text : List ℕ) → graph_of graph_text ≡ Ok g → pairs_of g.nodes pairs_text ≡ Ok pairs → IsGraph g → IsRight g h
+pub routing-kinds : (r : Result ⊤ ServiceError) → IfErr r ComesOfAnswering → IfErr r ComesOfRouting
+routing-kinds (Ok x) f = tt
+routing-kinds (Err e) f = routing-kind e f
+
+-- answers by a hierarchy that is right for the graph that the reader told
+pub answers-told : RouteIsLeast → (g : Graph) (h : Hierarchy) (pairs : List (ℕ × ℕ)) (gr queries old new : Option (List ℕ)) (r : Result ⊤ ServiceError) → IfSome gr (λ text. graph_of text ≡ Ok g) → IfSome queries (λ text. pairs_of g.nodes text ≡ Ok pairs)
+    → IsGraph g → IsRight g h → All (IsPair g.nodes) pairs → OnOk r (Writes (Routed h pairs) old new) → OnOk r (IfTold gr queries (λ graph_text pairs_text. Writes (Answers graph_text pairs_text) old new))
+answers-told law g h pairs gr queries old new (Err e) reads read graph right within w = tt
+answers-told law g h pairs None queries old new (Ok x) reads read graph right within w = tt
+answers-told law g h pairs (Some text) None old new (Ok x) reads read graph right within w = tt
+answers-told law g h pairs (Some text) (Some pairs_text) old new (Ok x) reads read graph right within w =
+    (w.0, record { graph = g; pairs = pairs; graph_reads = reads; pairs_read = read; answered = right-routes law g h pairs w.0 graph right within w.1 }, w.2)
+
+first-answered : RouteIsLeast → (g : Graph) (h : Hierarchy) (pairs : List (ℕ × ℕ)) (graph_text pairs_text text : List ℕ) → graph_of graph_text ≡ Ok g → pairs_of g.nodes pairs_text ≡ Ok pairs → IsGraph g → IsRight g h → All (IsPair g.nodes) pairs
     → ((count : ℕ) × Routed h (take count pairs) text) → AnswersFirst graph_text pairs_text text
-first-answered g h pairs graph_text pairs_text text reads read graph right first = record {
+first-answered law g h pairs graph_text pairs_text text reads read graph right within first = record {
   graph = g;
   pairs = pairs;
   graph_reads = reads;
   pairs_read = read;
   count = first.0;
-  answered = first.1.by_walks g graph right;
+  answered = right-routes law g h (take first.0 pairs) text graph right (All-take (IsPair g.nodes) first.0 pairs within) first.1;
 }
 
-pub stops-answered : (g : Graph) (h : Hierarchy) (pairs : List (ℕ × ℕ)) (gr queries old new : Option (List ℕ)) (r : Result ⊤ ServiceError) → IfSome gr (λ text. graph_of text ≡ Ok g) → IfSome queries (λ text. pairs_of g.nodes text ≡ Ok pairs)
-    → IsGraph g → IsRight g h → IfErr r (StopsShort (λ text. (count : ℕ) × Routed h (take count pairs) text) old new)
-    → IfErr r (λ e. IfTold gr queries (λ graph_text pairs_text. StopsShort (AnswersFirst graph_text pairs_text) old new e))
-stops-answered g h pairs gr queries old new (Ok x) reads read graph right s = tt
-stops-answered g h pairs None queries old new (Err e) reads read graph right s = tt
-stops-answered g h pairs (Some text) None old new (Err e) reads read graph right s = tt
-stops-answered g h pairs (Some text) (Some pairs_text) old new (Err e) reads read graph right s =
-    stops-weaker _ _ old new e (λ answered_text. first-answered g h pairs text pairs_text answered_text reads read graph right) s
+pub stops-answered : RouteIsLeast → NeverTooLong → (g : Graph) (h : Hierarchy) (pairs : List (ℕ × ℕ)) (gr queries old new : Option (List ℕ)) (r : Result ⊤ ServiceError) → IfSome gr (λ text. graph_of text ≡ Ok g) → IfSome queries (λ text. pairs_of g.nodes text ≡ Ok pairs)
+    → IsGraph g → IsRight g h → All (IsPair g.nodes) pairs → IfErr r (StopsShort (λ text. (count : ℕ) × Routed h (take count pairs) text) (StopsAtTooLong h pairs) old new)
+    → IfErr r (λ e. IfTold gr queries (λ graph_text pairs_text. StopsShort (AnswersFirst graph_text pairs_text) (λ _. ⊥) old new e))
+stops-answered law never g h pairs gr queries old new (Ok x) reads read graph right within s = tt
+stops-answered law never g h pairs None queries old new (Err e) reads read graph right within s = tt
+stops-answered law never g h pairs (Some text) None old new (Err e) reads read graph right within s = tt
+stops-answered law never g h pairs (Some text) (Some pairs_text) old new (Err e) reads read graph right within s =
+    let in_range : All (IsPair (length h.ranks)) pairs = subst (λ n. All (IsPair n) pairs) (sym right.nodes) within in
+    stops-weaker _ _ _ _ old new e (λ answered_text. first-answered law g h pairs text pairs_text answered_text reads read graph right within) (λ answered_text stops. right_for_none never g h pairs answered_text graph right in_range stops) s
+
+-- a refusal while they are answered comes only where both texts were read
+
+fault-over : (g : Graph) (pairs : List (ℕ × ℕ)) (old new : Option (List ℕ)) (graph_text pairs_text : List ℕ) (P : List ℕ → Type 0) (e : ServiceError) → graph_of graph_text ≡ Ok g → pairs_of g.nodes pairs_text ≡ Ok pairs
+    → ComesOfAnswering e → StopsShort P (λ _. ⊥) old new e → IsFaultOf graph_text pairs_text e
+fault-over g pairs old new graph_text pairs_text P (GraphFault fault) reads read f s = absurd f
+fault-over g pairs old new graph_text pairs_text P (Queries fault) reads read f s = absurd f
+fault-over g pairs old new graph_text pairs_text P (HierarchyFault e) reads read f s = f
+fault-over g pairs old new graph_text pairs_text P (Build e) reads read f s = absurd f
+fault-over g pairs old new graph_text pairs_text P (Unpack unpacking.OutOfMemory) reads read f s = (refl, (g, reads, (pairs, read)))
+fault-over g pairs old new graph_text pairs_text P (Unpack unpacking.TooLong) reads read f s = absurd s.1
+fault-over g pairs old new graph_text pairs_text P (Write fault) reads read f s = (g, reads, (pairs, read))
+fault-over g pairs old new graph_text pairs_text P OutOfMemory reads read f s = (g, reads, (pairs, read))
+
+texts-kind : (g : Graph) (h : Hierarchy) (pairs : List (ℕ × ℕ)) (old new : Option (List ℕ)) (P : List ℕ → Type 0) (e : ServiceError) → NeverTooLong → IsGraph g → IsRight g h → All (IsPair (length h.ranks)) pairs
+    → ComesOfAnswering e → StopsShort P (StopsAtTooLong h pairs) old new e → ComesOfTexts e
+texts-kind g h pairs old new P (GraphFault fault) never graph right within f s = tt
+texts-kind g h pairs old new P (Queries fault) never graph right within f s = tt
+texts-kind g h pairs old new P (HierarchyFault e) never graph right within f s = f
+texts-kind g h pairs old new P (Build e) never graph right within f s = tt
+texts-kind g h pairs old new P (Unpack unpacking.OutOfMemory) never graph right within f s = refl
+texts-kind g h pairs old new P (Unpack unpacking.TooLong) never graph right within f s = absurd (right_for_none never g h pairs s.0 graph right within s.1)
+texts-kind g h pairs old new P (Write fault) never graph right within f s = tt
+texts-kind g h pairs old new P OutOfMemory never graph right within f s = tt
+
+pub texts-kinds : NeverTooLong → (g : Graph) (h : Hierarchy) (pairs : List (ℕ × ℕ)) (old new : Option (List ℕ)) (r : Result ⊤ ServiceError) → IsGraph g → IsRight g h → All (IsPair g.nodes) pairs → IfErr r ComesOfAnswering
+    → IfErr r (StopsShort (λ text. (count : ℕ) × Routed h (take count pairs) text) (StopsAtTooLong h pairs) old new) → IfErr r ComesOfTexts
+texts-kinds never g h pairs old new (Ok x) graph right within f s = tt
+texts-kinds never g h pairs old new (Err e) graph right within f s = texts-kind g h pairs old new _ e never graph right (subst (λ n. All (IsPair n) pairs) (sym right.nodes) within) f s
+
+pub fault-answering : (g : Graph) (pairs : List (ℕ × ℕ)) (gr queries old new : Option (List ℕ)) (r : Result ⊤ ServiceError) → IfSome gr (λ text. graph_of text ≡ Ok g) → IfSome queries (λ text. pairs_of g.nodes text ≡ Ok pairs)
+    → IfErr r ComesOfAnswering → IfErr r (λ e. IfTold gr queries (λ graph_text pairs_text. StopsShort (AnswersFirst graph_text pairs_text) (λ _. ⊥) old new e)) → IfErr r (λ e. IfTold gr queries (λ graph_text pairs_text. IsFaultOf graph_text pairs_text e))
+fault-answering g pairs gr queries old new (Ok x) reads read f s = tt
+fault-answering g pairs None queries old new (Err e) reads read f s = tt
+fault-answering g pairs (Some text) None old new (Err e) reads read f s = tt
+fault-answering g pairs (Some text) (Some pairs_text) old new (Err e) reads read f s = fault-over g pairs old new text pairs_text (AnswersFirst text pairs_text) e reads read f s
 
 -- the pairs were refused
 pub fault-answered : (g : Graph) (fault : GrError) (gr queries : Option (List ℕ)) (r : Result ⊤ ServiceError) → IfSome gr (λ text. graph_of text ≡ Ok g) → IfSome queries (λ text. FromText fault.kind (pairs_of g.nodes text ≡ Err fault))
@@ -153,3 +211,11 @@ pub fault-answered : (g : Graph) (fault : GrError) (gr queries : Option (List �
 fault-answered g fault None queries r reads read is = rw is tt
 fault-answered g fault (Some text) None r reads read is = rw is tt
 fault-answered g fault (Some text) (Some pairs_text) r reads read is = rw is (g, reads, read)
+
+-- what was refused is no refusal of the build
+
+pub graph_refused : (r : Result ⊤ ServiceError) (fault : GrError) (e : BuildError) → r ≡ Err (GraphFault fault) → r ≡ Err (Build e) → ⊥
+graph_refused r fault e was is = cc
+
+pub pairs_refused : (r : Result ⊤ ServiceError) (fault : GrError) (e : BuildError) → r ≡ Err (Queries fault) → r ≡ Err (Build e) → ⊥
+pairs_refused r fault e was is = cc

@@ -1,18 +1,21 @@
 -- How far the pairs are answered, while lines are gathered for the writer.
-use Rattle.std.proofs.Common.{ℕ, ◌≡◌, ◌+◌, ◌≤◌, List, [], ◌∷◌, ◌++◌, length, take, Option, sym, ◌∙◌, ap, subst, arith, append_assoc, append-nil, length-append}
+use Rattle.std.proofs.Common.{ℕ, ◌≡◌, ◌+◌, ◌≤◌, List, [], ◌∷◌, ◌++◌, length, take, drop, Option, inl, inr, sym, ◌∙◌, ap, subst, arith, append_assoc, append-nil, length-append}
 use Rattle.std.specs.Io.KnownBytes.{Appends}
 use Rattle.std.proofs.KnownBytes.{Appends-trans, Appends-nil}
 use Rattle.std.proofs.Math.Seq.{take-append_seam}
 use Rattle.ch_service.specs.Answer.{Route, IsAnswer, AreAnswers, nothing, one_more}
 use Rattle.ch_service.specs.Output.{HandsOn}
-use Rattle.ch_service.specs.Outcome.{Writes, StopsShort}
+use Rattle.ch_service.specs.Outcome.{Writes, StopsShort, IsSearchFault, ComesOfAnswering}
+use Rattle.ch_service.specs.Route.{Routed, StopsAtTooLong}
+use Rattle.ch_graph.specs.Hierarchy.{Hierarchy}
+use Rattle.ch_unpack.specs.declared.error.UnpackError.TheVariants as unpacking
 use Rattle.hierfile.specs.declared.error.WriteFault.{WriteFault}
 use Rattle.ch_service.specs.declared.error.ServiceError.{ServiceError}
-use Rattle.ch_service.specs.declared.error.ServiceError.TheVariants.{Write}
+use Rattle.ch_service.specs.declared.error.ServiceError.TheVariants.{Graph, Queries, Hierarchy as HierarchyFault, Build, Unpack, Write, OutOfMemory}
 use Rattle.grfile.specs.Reading.{IsPair}
 use Rattle.std.specs.Prelude.{⊤, All, Result, Ok, Err, IfErr, IsErrAnd, OnErr, OnOk, true, false}
 use Rattle.std.specs.Result.{is_err}
-use Rattle.std.proofs.lemmas.List.{take_more, take_all}
+use Rattle.std.proofs.lemmas.List.{take_more, take_all, take-append-drop}
 use Rattle.std.proofs.Common.{get_or, ◌<◌}
 
 -- what is told of two nodes
@@ -82,17 +85,55 @@ gathered-taken {Is} pairs count {old} {mid} {new} {lines} {rest} {before} {after
       subst (Appends old new) (sym first) (Appends-trans old mid new h.given k.taken h.taken k.given),
     )
 
-stops-from_taken : (Is : Told) (pairs : List (ℕ × ℕ)) (old new : Option (List ℕ)) (fault : WriteFault) (r : Result ⊤ ServiceError) → IsErrAnd r (λ e. e ≡ Write fault) → AreTaken Is pairs old new fault.written
-    → IfErr r (StopsShort (λ text. (count : ℕ) × AreAnswers Is (take count pairs) text) old new)
+stops-from_taken : (Is : Told) (pairs : List (ℕ × ℕ)) (Q : List ℕ → Type 0) (old new : Option (List ℕ)) (fault : WriteFault) (r : Result ⊤ ServiceError) → IsErrAnd r (λ e. e ≡ Write fault) → AreTaken Is pairs old new fault.written
+    → IfErr r (StopsShort (λ text. (count : ℕ) × AreAnswers Is (take count pairs) text) Q old new)
 unfolding AreTaken
-stops-from_taken Is pairs old new fault (Ok x) is h = tt
-stops-from_taken Is pairs old new fault (Err e) is h = subst (StopsShort (λ text. (count : ℕ) × AreAnswers Is (take count pairs) text) old new) (sym is) h
+stops-from_taken Is pairs Q old new fault (Ok x) is h = tt
+stops-from_taken Is pairs Q old new fault (Err e) is h = subst (StopsShort (λ text. (count : ℕ) × AreAnswers Is (take count pairs) text) Q old new) (sym is) h
 
 -- where the writer failed
-pub stops-from_gathered : {Is : Told} (pairs : List (ℕ × ℕ)) (count : ℕ) {old mid new : Option (List ℕ)} {lines : List ℕ} {before : ℕ} (fault : WriteFault) (r : Result ⊤ ServiceError) → IsErrAnd r (λ e. e ≡ Write fault)
+pub stops-from_gathered : {Is : Told} (pairs : List (ℕ × ℕ)) (count : ℕ) (Q : List ℕ → Type 0) {old mid new : Option (List ℕ)} {lines : List ℕ} {before : ℕ} (fault : WriteFault) (r : Result ⊤ ServiceError) → IsErrAnd r (λ e. e ≡ Write fault)
     → IsGathered Is (take count pairs) old mid lines before → (rest : List ℕ) × HandsOn mid new lines rest before fault.written
-    → IfErr r (StopsShort (λ text. (count : ℕ) × AreAnswers Is (take count pairs) text) old new)
-stops-from_gathered {Is} pairs count {old} {new = new} fault r is h k = stops-from_taken Is pairs old new fault r is (gathered-taken pairs count h k.1)
+    → IfErr r (StopsShort (λ text. (count : ℕ) × AreAnswers Is (take count pairs) text) Q old new)
+stops-from_gathered {Is} pairs count Q {old} {new = new} fault r is h k = stops-from_taken Is pairs Q old new fault r is (gathered-taken pairs count h k.1)
+
+-- where the next of the pairs was refused, once the lines of those before it are written
+
+parted_at : (pairs : List (ℕ × ℕ)) (i : ℕ) → i < length pairs → pairs ≡ take i pairs ++ get_or pairs i (0, 0) ∷ drop (i + 1) pairs
+parted_at pairs i within =
+    sym (take-append-drop (i + 1) pairs) ∙ ap (λ (l : List (ℕ × ℕ)). l ++ drop (i + 1) pairs) (take_more pairs i (0, 0) within)
+    ∙ append_assoc (take i pairs) (get_or pairs i (0, 0) ∷ []) (drop (i + 1) pairs)
+
+pub stops-at_next : (h : Hierarchy) (pairs : List (ℕ × ℕ)) (i : ℕ) (old new : Option (List ℕ)) (e : ServiceError) → i < length pairs → IsSearchFault h (get_or pairs i (0, 0)) e → Writes (Routed h (take i pairs)) old new
+    → StopsShort (λ text. (count : ℕ) × Routed h (take count pairs) text) (StopsAtTooLong h pairs) old new e
+stops-at_next h pairs i old new (Graph fault) within f w = tt
+stops-at_next h pairs i old new (Queries fault) within f w = tt
+stops-at_next h pairs i old new (HierarchyFault fault) within f w = tt
+stops-at_next h pairs i old new (Build e) within f w = absurd f
+stops-at_next h pairs i old new (Unpack unpacking.OutOfMemory) within f w = (w.0, (i, w.1), w.2)
+stops-at_next h pairs i old new (Unpack unpacking.TooLong) within f w = (
+  w.0,
+  record {
+    first = take i pairs;
+    pair = get_or pairs i (0, 0);
+    rest = drop (i + 1) pairs;
+    parts = parted_at pairs i within;
+    routed = w.1;
+    too_long = f;
+  },
+  w.2,
+)
+stops-at_next h pairs i old new (Write fault) within f w = absurd f
+stops-at_next h pairs i old new OutOfMemory within f w = inr (w.0, (i, w.1), w.2)
+
+pub comes_of_answering : (h : Hierarchy) (pair : ℕ × ℕ) (e : ServiceError) → IsSearchFault h pair e → ComesOfAnswering e
+comes_of_answering h pair (Graph fault) f = f
+comes_of_answering h pair (Queries fault) f = f
+comes_of_answering h pair (HierarchyFault fault) f = f
+comes_of_answering h pair (Build e) f = f
+comes_of_answering h pair (Unpack e) f = tt
+comes_of_answering h pair (Write fault) f = tt
+comes_of_answering h pair OutOfMemory f = tt
 
 -- the answer to the next of the pairs
 pub gathered-next : {Is : Told} (pairs : List (ℕ × ℕ)) (i : ℕ) {old new : Option (List ℕ)} {lines more : List ℕ} {written : ℕ} → i < length pairs → IsGathered Is (take i pairs) old new lines written

@@ -6,13 +6,13 @@ use Rattle.ch_graph.specs.declared.link.Link.{Link}
 use Rattle.ch_graph.specs.declared.hierarchy.LinkId.{LinkId}
 use Rattle.ch_graph.specs.Hierarchy.{Hierarchy, IsRiseFall, IsValue}
 use Rattle.ch_graph.proofs.Places.{same_links}
-use Rattle.ch_laws.specs.Theorems.{NeverTooLong, IsLeastRoute}
+use Rattle.ch_laws.specs.Theorems.{IsLeastRoute}
 use Rattle.ch_query.specs.declared.search.Found.{Found}
 use Rattle.ch_query.specs.Positions.{IsRiseFallAt}
 use Rattle.ch_unpack.specs.Unpacking.{Unfolded, IsUnpacked, IsTooLong}
 use Rattle.ch_unpack.specs.declared.error.UnpackError.{UnpackError}
 use Rattle.ch_unpack.specs.declared.error.UnpackError.TheVariants as unpacking
-use Rattle.ch_service.specs.Outcome.{IsSearchFault, IsUnpackingFault}
+use Rattle.ch_service.specs.Outcome.{IsSearchFault}
 use Rattle.ch_service.specs.Route.{IsUnfoldedRoute, HasTooLong}
 use Rattle.ch_service.specs.declared.error.ServiceError.{ServiceError}
 use Rattle.ch_service.specs.declared.error.ServiceError.TheVariants.{Unpack}
@@ -34,33 +34,30 @@ unpacked-route h s t c places nodes value walk u = record {
   along = u.in_order;
 }
 
--- a least route that is too long shows that the hierarchy is right for no graph
-pub too_long-route : NeverTooLong → (h : Hierarchy) (s t : ℕ) (c : Cost) (places : List LinkId) → s < length h.ranks → t < length h.ranks → IsValue h s t (Some c) → IsRiseFallAt h places s t c → IsTooLong h places → HasTooLong h
-too_long-route law h s t c places source target value walk u =
-    let least : IsLeastRoute h s t c u.unfolded.links u.arcs = least-unfolded h s t c places u.arcs value walk u.unfolded in
-    record {
-      source = s;
-      target = t;
-      cost = c;
-      links = u.unfolded.links;
-      arcs = u.arcs;
-      least = least;
-      many = u.many;
-      right_for_none = λ g graph right.
-          let short = law g h s t c u.unfolded.links u.arcs graph right (subst (λ n. s < n) right.nodes source) (subst (λ n. t < n) right.nodes target) least in
-          let few : length u.arcs ≤ g.nodes - 1 = short.1 in
-          omega (arith, few, u.many, right.nodes);
-    }
+-- a least route that is too long
+pub too_long-route : (h : Hierarchy) (s t : ℕ) (c : Cost) (places : List LinkId) → IsValue h s t (Some c) → IsRiseFallAt h places s t c → IsTooLong h places → HasTooLong h s t
+too_long-route h s t c places value walk u = record {
+  cost = c;
+  links = u.unfolded.links;
+  arcs = u.arcs;
+  least = least-unfolded h s t c places u.arcs value walk u.unfolded;
+  many = u.many;
+}
 
 -- a refusal of an unpacking, as it is told
 
-told : (h : Hierarchy) (e : UnpackError) → (e ≡ unpacking.TooLong → HasTooLong h) → IsUnpackingFault h e
-told h unpacking.OutOfMemory f = tt
-told h unpacking.TooLong f = f refl
+told : (h : Hierarchy) (pair : ℕ × ℕ) (e : UnpackError) → (e ≡ unpacking.TooLong → HasTooLong h pair.0 pair.1) → IsSearchFault h pair (Unpack e)
+told h pair unpacking.OutOfMemory f = tt
+told h pair unpacking.TooLong f = f refl
 
-pub refused-unpacking : {T : Type 0} (h : Hierarchy) (e : UnpackError) (r : Result T ServiceError) → IsErrAnd r (λ x. x ≡ Unpack e) → (e ≡ unpacking.TooLong → HasTooLong h) → IfErr r (IsSearchFault h)
-refused-unpacking h e (Ok x) is f = tt
-refused-unpacking h e (Err x) is f = subst (IsSearchFault h) (sym is) (told h e f)
+pub refused-unpacking : {T : Type 0} (h : Hierarchy) (pair : ℕ × ℕ) (e : UnpackError) (r : Result T ServiceError) → IsErrAnd r (λ x. x ≡ Unpack e) → (e ≡ unpacking.TooLong → HasTooLong h pair.0 pair.1) → IfErr r (IsSearchFault h pair)
+refused-unpacking h pair e (Ok x) is f = tt
+refused-unpacking h pair e (Err x) is f = subst (IsSearchFault h pair) (sym is) (told h pair e f)
+
+-- and where nothing else was changed
+pub refused-search : {T : Type 0} (h : Hierarchy) (pair : ℕ × ℕ) (e : ServiceError) (r : Result T ServiceError) (P : Type 0) → IsErrAnd r (λ x. x ≡ e) → IsSearchFault h pair e → P → IfErr r (λ x. IsSearchFault h pair x × P)
+refused-search h pair e (Ok x) P is f p = tt
+refused-search h pair e (Err x) P is f p = (subst (IsSearchFault h pair) (sym is) f, p)
 
 -- what a search of the hierarchy found
 

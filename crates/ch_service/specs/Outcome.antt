@@ -10,8 +10,8 @@ use Rattle.hierfile.specs.Bytes.{OfBytes}
 use Rattle.hierfile.specs.Fault.{first_fault}
 use Rattle.ch_service.specs.declared.error.ServiceError.{ServiceError}
 use Rattle.ch_service.specs.declared.error.ServiceError.TheVariants.{Graph as GraphFault, Queries, Hierarchy as HierarchyFault, Build, Unpack, Write, OutOfMemory}
-use Rattle.ch_unpack.specs.declared.error.UnpackError.{UnpackError}
 use Rattle.ch_unpack.specs.declared.error.UnpackError.TheVariants as unpacking
+use Rattle.ch_service.specs.Joined.{graph_part, pairs_part}
 use Rattle.ch_service.specs.Route.{Spells, HasTooLong}
 
 -- a fact of two texts, where both readers tell theirs
@@ -34,17 +34,25 @@ IsGraphText graph_text = (g : Graph) × (graph_of graph_text ≡ Ok g)
 abbrev pub AreTexts : List ℕ → List ℕ → Type 0
 AreTexts graph_text pairs_text = (g : Graph) × (graph_of graph_text ≡ Ok g) × ((pairs : List (ℕ × ℕ)) × (pairs_of g.nodes pairs_text ≡ Ok pairs))
 
--- A fault of a text is the first that it has, and one of the pairs comes only where the graph has none. What keeps a
--- hierarchy from being built comes only where neither text has one. Want of memory and a failed read or write say
--- nothing of the texts. No route over a graph is too long.
+-- the bytes are the file of a hierarchy, and the text spells pairs of its nodes
+abbrev pub AreRoutingTexts : List ℕ → List ℕ → Type 0
+AreRoutingTexts bytes pairs_text = (h : Hierarchy) × Spells bytes h × ((pairs : List (ℕ × ℕ)) × (pairs_of (length h.ranks) pairs_text ≡ Ok pairs))
+
+-- A fault of a text is the first that it has, and one of the pairs comes only where the graph has none. Every other
+-- refusal comes only where neither text has one. No route over a graph is too long.
 abbrev pub IsFaultOf : List ℕ → List ℕ → ServiceError → Type 0
 IsFaultOf graph_text pairs_text (GraphFault fault) = FromText fault.kind (graph_of graph_text ≡ Err fault)
 IsFaultOf graph_text pairs_text (Queries fault) = (g : Graph) × (graph_of graph_text ≡ Ok g) × FromText fault.kind (pairs_of g.nodes pairs_text ≡ Err fault)
 IsFaultOf graph_text pairs_text (HierarchyFault e) = ⊥
 IsFaultOf graph_text pairs_text (Build e) = AreTexts graph_text pairs_text
-IsFaultOf graph_text pairs_text (Unpack e) = e ≡ unpacking.OutOfMemory
-IsFaultOf graph_text pairs_text (Write fault) = ⊤
-IsFaultOf graph_text pairs_text OutOfMemory = ⊤
+IsFaultOf graph_text pairs_text (Unpack e) = (e ≡ unpacking.OutOfMemory) × AreTexts graph_text pairs_text
+IsFaultOf graph_text pairs_text (Write fault) = AreTexts graph_text pairs_text
+IsFaultOf graph_text pairs_text OutOfMemory = AreTexts graph_text pairs_text
+
+-- The same where both stand in one input. Memory may be refused before they are read.
+abbrev pub IsFaultOfJoined : List ℕ → ServiceError → Type 0
+IsFaultOfJoined input OutOfMemory = ⊤
+IsFaultOfJoined input e = IsFaultOf (graph_part input) (pairs_part input) e
 
 -- The same where a hierarchy is prepared from the text of a graph.
 abbrev pub IsPreparingFault : List ℕ → ServiceError → Type 0
@@ -53,23 +61,38 @@ IsPreparingFault graph_text (Queries fault) = ⊥
 IsPreparingFault graph_text (HierarchyFault e) = ⊥
 IsPreparingFault graph_text (Build e) = IsGraphText graph_text
 IsPreparingFault graph_text (Unpack e) = ⊥
-IsPreparingFault graph_text (Write fault) = ⊤
+IsPreparingFault graph_text (Write fault) = IsGraphText graph_text
 IsPreparingFault graph_text OutOfMemory = ⊥
 
--- A route is too long only where the hierarchy has one that is.
-abbrev pub IsUnpackingFault : Hierarchy → UnpackError → Type 0
-IsUnpackingFault h unpacking.OutOfMemory = ⊤
-IsUnpackingFault h unpacking.TooLong = HasTooLong h
-
--- And where pairs are answered by a hierarchy: a fault of the pairs comes only where the bytes spell one.
+-- And where pairs are answered by a hierarchy: a fault of the pairs comes only where the bytes spell one, and every
+-- refusal but one of the two only where both are read.
 abbrev pub IsRoutingFault : List ℕ → List ℕ → ServiceError → Type 0
 IsRoutingFault bytes pairs_text (GraphFault fault) = ⊥
 IsRoutingFault bytes pairs_text (Queries fault) = (h : Hierarchy) × Spells bytes h × FromText fault.kind (pairs_of (length h.ranks) pairs_text ≡ Err fault)
 IsRoutingFault bytes pairs_text (HierarchyFault e) = OfBytes e (first_fault bytes ≡ Some e)
 IsRoutingFault bytes pairs_text (Build e) = ⊥
-IsRoutingFault bytes pairs_text (Unpack e) = (h : Hierarchy) × Spells bytes h × IsUnpackingFault h e
-IsRoutingFault bytes pairs_text (Write fault) = ⊤
-IsRoutingFault bytes pairs_text OutOfMemory = ⊤
+IsRoutingFault bytes pairs_text (Unpack e) = AreRoutingTexts bytes pairs_text
+IsRoutingFault bytes pairs_text (Write fault) = AreRoutingTexts bytes pairs_text
+IsRoutingFault bytes pairs_text OutOfMemory = AreRoutingTexts bytes pairs_text
+
+-- The refusals of a call that answers from the texts of a graph and of pairs, whatever is known of its readers.
+abbrev pub ComesOfTexts : ServiceError → Type 0
+ComesOfTexts (HierarchyFault e) = ⊥
+ComesOfTexts (Unpack e) = e ≡ unpacking.OutOfMemory
+ComesOfTexts e = ⊤
+
+-- those of one that prepares a hierarchy
+abbrev pub ComesOfPreparing : ServiceError → Type 0
+ComesOfPreparing (GraphFault fault) = ⊤
+ComesOfPreparing (Build e) = ⊤
+ComesOfPreparing (Write fault) = ⊤
+ComesOfPreparing e = ⊥
+
+-- and those of one that answers by the file of a hierarchy
+abbrev pub ComesOfRouting : ServiceError → Type 0
+ComesOfRouting (GraphFault fault) = ⊥
+ComesOfRouting (Build e) = ⊥
+ComesOfRouting e = ⊤
 
 -- where what is read is at fault, or nothing is built, nothing is written
 abbrev pub KeepsAtFault : Option (List ℕ) → Option (List ℕ) → ServiceError → Type 0
@@ -91,32 +114,34 @@ abbrev pub BreaksOff : (List ℕ → Type 0) → Option (List ℕ) → Option (L
 BreaksOff P old new (Write fault) = WritesFirst P old new fault.written
 BreaksOff P old new e = ⊤
 
--- Where a write fails, the writer took the first `written` bytes of a text of this kind. Where a route is refused, it
--- took a whole text of this kind, and where memory is refused, nothing or such a text.
-abbrev pub StopsShort : (List ℕ → Type 0) → Option (List ℕ) → Option (List ℕ) → ServiceError → Type 0
-StopsShort P old new (GraphFault fault) = ⊤
-StopsShort P old new (Queries fault) = ⊤
-StopsShort P old new (HierarchyFault e) = ⊤
-StopsShort P old new (Build e) = Keeps old new
-StopsShort P old new (Unpack e) = Writes P old new
-StopsShort P old new (Write fault) = WritesFirst P old new fault.written
-StopsShort P old new OutOfMemory = Keeps old new ⊎ Writes P old new
+-- Where a write fails, the writer took the first `written` bytes of a text of the first kind. Where memory is refused,
+-- it took a whole text of this kind, or nothing at all, and where a route is too long, a whole text of the second kind.
+abbrev pub StopsShort : (List ℕ → Type 0) → (List ℕ → Type 0) → Option (List ℕ) → Option (List ℕ) → ServiceError → Type 0
+StopsShort P Q old new (GraphFault fault) = ⊤
+StopsShort P Q old new (Queries fault) = ⊤
+StopsShort P Q old new (HierarchyFault e) = ⊤
+StopsShort P Q old new (Build e) = Keeps old new
+StopsShort P Q old new (Unpack unpacking.OutOfMemory) = Writes P old new
+StopsShort P Q old new (Unpack unpacking.TooLong) = Writes Q old new
+StopsShort P Q old new (Write fault) = WritesFirst P old new fault.written
+StopsShort P Q old new OutOfMemory = Keeps old new ⊎ Writes P old new
 
 -- the refusals that come while pairs are answered by a hierarchy
-abbrev pub IsAnsweringFault : Hierarchy → ServiceError → Type 0
-IsAnsweringFault h (GraphFault fault) = ⊥
-IsAnsweringFault h (Queries fault) = ⊥
-IsAnsweringFault h (HierarchyFault e) = ⊥
-IsAnsweringFault h (Build e) = ⊥
-IsAnsweringFault h (Unpack e) = IsUnpackingFault h e
-IsAnsweringFault h (Write fault) = ⊤
-IsAnsweringFault h OutOfMemory = ⊤
+abbrev pub ComesOfAnswering : ServiceError → Type 0
+ComesOfAnswering (GraphFault fault) = ⊥
+ComesOfAnswering (Queries fault) = ⊥
+ComesOfAnswering (HierarchyFault e) = ⊥
+ComesOfAnswering (Build e) = ⊥
+ComesOfAnswering (Unpack e) = ⊤
+ComesOfAnswering (Write fault) = ⊤
+ComesOfAnswering OutOfMemory = ⊤
 
--- the refusals that come while a route is found
-abbrev pub IsSearchFault : Hierarchy → ServiceError → Type 0
-IsSearchFault h (Unpack e) = IsUnpackingFault h e
-IsSearchFault h OutOfMemory = ⊤
-IsSearchFault h e = ⊥
+-- the refusals that come while the route of a pair is found: it is too long only where it is that pair's
+abbrev pub IsSearchFault : Hierarchy → ℕ × ℕ → ServiceError → Type 0
+IsSearchFault h pair (Unpack unpacking.OutOfMemory) = ⊤
+IsSearchFault h pair (Unpack unpacking.TooLong) = HasTooLong h pair.0 pair.1
+IsSearchFault h pair OutOfMemory = ⊤
+IsSearchFault h pair e = ⊥
 
 -- the refusals that come while a joined input is read
 abbrev pub ComesOfReading : ServiceError → Type 0

@@ -1,11 +1,11 @@
 -- Hierarchies as they are written, and answers by them.
-use Rattle.std.specs.Prelude.{ℕ, ◌≡◌, ◌-◌, ◌<◌, ◌≤◌, List, ◌∷◌, length, map, take, Option, Some, None, Ok}
+use Rattle.std.specs.Prelude.{ℕ, ◌≡◌, ◌-◌, ◌<◌, ◌≤◌, List, ◌∷◌, ◌++◌, length, map, take, Option, Some, None, Ok, All}
 use Rattle.ch_cost.specs.declared.cost.Cost.{Cost}
 use Rattle.ch_graph.specs.declared.link.Link.{Link}
 use Rattle.ch_graph.specs.Graph.{Graph, IsGraph}
 use Rattle.ch_graph.specs.Hierarchy.{Hierarchy, IsWellMade, IsRight, IsValue}
 use Rattle.ch_laws.specs.Theorems.{IsLeastRoute}
-use Rattle.grfile.specs.Reading.{graph_of, pairs_of}
+use Rattle.grfile.specs.Reading.{graph_of, pairs_of, IsPair}
 use Rattle.hierfile.specs.Spelling.{bytes_of}
 use Rattle.ch_service.specs.Answer.{Route, AreAnswers, Answered, Answers, AnswersFirst}
 
@@ -36,23 +36,26 @@ abbrev pub IsRouteBy : Hierarchy → ℕ → ℕ → Option Route → Type 0
 IsRouteBy h s t (Some r) = IsUnfoldedRoute h s t r
 IsRouteBy h s t None = IsValue h s t None
 
--- The text answers the pairs by routes of the hierarchy; where the hierarchy is right for a graph, it answers them by
--- least walks of that graph.
-pub record Routed (h : Hierarchy) (pairs : List (ℕ × ℕ)) (text : List ℕ) : Type 0 where
-  pub by_hierarchy : AreAnswers (IsRouteBy h) pairs text
-  pub by_walks : (g : Graph) → IsGraph g → IsRight g h → Answered g pairs text
+-- the text answers the pairs by routes of the hierarchy
+abbrev pub Routed : Hierarchy → List (ℕ × ℕ) → List ℕ → Type 0
+Routed h = AreAnswers (IsRouteBy h)
 
--- A least rise-fall walk between two nodes stands for as many arcs as there are nodes, or more. So the hierarchy is
--- right for no graph.
-pub record HasTooLong (h : Hierarchy) : Type 0 where
-  pub source : ℕ
-  pub target : ℕ
+-- a least rise-fall walk from s to t stands for as many arcs as there are nodes, or more
+pub record HasTooLong (h : Hierarchy) (s t : ℕ) : Type 0 where
   pub cost : Cost
   pub links : List Link
   pub arcs : List Link
-  pub least : IsLeastRoute h source target cost links arcs
+  pub least : IsLeastRoute h s t cost links arcs
   pub many : length h.ranks - 1 < length arcs
-  pub right_for_none : (g : Graph) → IsGraph g → IsRight g h → ⊥
+
+-- the text answers the first of the pairs, and the route of the next one is too long
+pub record StopsAtTooLong (h : Hierarchy) (pairs : List (ℕ × ℕ)) (text : List ℕ) : Type 0 where
+  pub first : List (ℕ × ℕ)
+  pub pair : ℕ × ℕ
+  pub rest : List (ℕ × ℕ)
+  pub parts : pairs ≡ first ++ pair ∷ rest
+  pub routed : Routed h first text
+  pub too_long : HasTooLong h pair.0 pair.1
 
 -- the bytes are the file of a hierarchy, by which the text answers all pairs of the second text
 pub record Routes (bytes pairs_text text : List ℕ) : Type 0 where
@@ -70,6 +73,18 @@ pub record RoutesFirst (bytes pairs_text text : List ℕ) : Type 0 where
   pub pairs_read : pairs_of (length hierarchy.ranks) pairs_text ≡ Ok pairs
   pub count : ℕ
   pub routed : Routed hierarchy (take count pairs) text
+
+-- it answers the first of them, and the route of the next one is too long
+pub record RoutesToTooLong (bytes pairs_text text : List ℕ) : Type 0 where
+  pub hierarchy : Hierarchy
+  pub pairs : List (ℕ × ℕ)
+  pub spells : Spells bytes hierarchy
+  pub pairs_read : pairs_of (length hierarchy.ranks) pairs_text ≡ Ok pairs
+  pub stops : StopsAtTooLong hierarchy pairs text
+
+-- Routes of a hierarchy that is right for a graph are least walks of that graph.
+abbrev pub RightRoutesAreLeast : Type 0
+RightRoutesAreLeast = (g : Graph) (h : Hierarchy) (pairs : List (ℕ × ℕ)) (text : List ℕ) → IsGraph g → IsRight g h → All (IsPair g.nodes) pairs → Routed h pairs text → Answered g pairs text
 
 -- Where the bytes were prepared from the text of a graph, routes by these bytes are answers over that graph: each line
 -- tells the least length over all walks and the nodes along a walk of that length, or that there is no walk.

@@ -1,9 +1,10 @@
-ghost use Rattle.std.specs.Prelude.{◌≡◌, [], All, OnOk, IfErr, IfSome, vec_len};
+ghost use Rattle.std.specs.Prelude.{◌≡◌, ◌↔◌, [], All, OnOk, IfErr, IfSome, vec_len};
 ghost use Rattle.ch_service.specs.Answer.{Answers, AnswersFirst};
 ghost use Rattle.ch_service.specs.Joined.{graph_part, pairs_part};
-ghost use Rattle.ch_service.specs.Outcome.{IfTold, Writes, IsFaultOf, KeepsAtFault, StopsShort};
+ghost use Rattle.ch_service.specs.Outcome.{IfTold, Writes, ComesOfTexts, IsFaultOf, IsFaultOfJoined, KeepsAtFault, StopsShort};
 ghost use Rattle.ch_service.specs.declared.error.ServiceError.TheVariants.{Build};
 ghost use Rattle.ch_workers.specs.Options.{AreBad, AreGood};
+ghost use Rattle.ch_workers.specs.declared.error.BuildError.{BuildError};
 ghost use Rattle.ch_workers.specs.declared.error.BuildError.TheVariants.{BadOptions};
 
 use crate::building::{build_hierarchy, refuse};
@@ -12,6 +13,7 @@ use crate::input::read_whole;
 use crate::joined::parts;
 use crate::pairs::answer_pairs;
 use ch_estimate::{Estimator, Leases};
+use ch_laws::{least_route_is_a_least_walk, least_route_is_never_too_long};
 use ch_workers::{Gate, OpenGate, Options};
 use grfile::{read_graph, read_queries};
 use std::alloc::Global;
@@ -44,12 +46,13 @@ pub fn answer<G: Read, Q: Read, W: Write, P: Gate, R: Threads + Wait + Sync>(
     ensures good { OnOk result (AreGood options (vec_len lists)) }
 
     // At a refusal.
-    ensures bad { result ≡ Err (Build BadOptions) → AreBad options (vec_len lists) }
+    ensures bad { (e : BuildError) → result ≡ Err (Build e) → (e ≡ BadOptions) ↔ AreBad options (vec_len lists) }
+    ensures kinds { IfErr result ComesOfTexts }
     ensures fault { IfErr result (λ e. IfTold (G.remaining gr.old) (Q.remaining queries.old)
         (λ graph pairs. IsFaultOf graph pairs e)) }
     ensures untouched { IfErr result (KeepsAtFault (W.contents out.old) (W.contents out.new)) }
     ensures stops { IfErr result (λ e. IfTold (G.remaining gr.old) (Q.remaining queries.old)
-        (λ graph pairs. StopsShort (AnswersFirst graph pairs) (W.contents out.old) (W.contents out.new) e)) }
+        (λ graph pairs. StopsShort (AnswersFirst graph pairs) (λ _. ⊥) (W.contents out.old) (W.contents out.new) e)) }
 {
     let graph = match read_graph(alloc, gr) {
         Ok(graph) => graph,
@@ -59,6 +62,8 @@ pub fn answer<G: Read, Q: Read, W: Write, P: Gate, R: Threads + Wait + Sync>(
         Ok(pairs) => pairs,
         Err(fault) => return refuse(rt, ServiceError::Queries(fault), lists, leases),
     };
+    least_route_is_a_least_walk();
+    least_route_is_never_too_long();
     let hierarchy = build_hierarchy(rt, alloc, graph, options, lists, leases, gate)?;
     answer_pairs(alloc, &hierarchy, pairs.as_slice(), out)
 }
@@ -89,11 +94,12 @@ pub fn answer_joined<I: Read, W: Write, R: Threads + Wait + Sync>(
 
     // At a refusal.
     ensures good { result ≡ Err (Build BadOptions) → ⊥ }
+    ensures kinds { IfErr result ComesOfTexts }
     ensures fault { IfErr result (λ e. IfSome (I.remaining input.old)
-        (λ text. IsFaultOf (graph_part text) (pairs_part text) e)) }
+        (λ text. IsFaultOfJoined text e)) }
     ensures untouched { IfErr result (KeepsAtFault (W.contents out.old) (W.contents out.new)) }
     ensures stops { IfErr result (λ e. IfSome (I.remaining input.old)
-        (λ text. StopsShort (AnswersFirst (graph_part text) (pairs_part text)) (W.contents out.old) (W.contents out.new) e)) }
+        (λ text. StopsShort (AnswersFirst (graph_part text) (pairs_part text)) (λ _. ⊥) (W.contents out.old) (W.contents out.new) e)) }
 {
     let text = read_whole(alloc, input)?;
     let (mut graph, mut pairs) = parts(text.as_slice());

@@ -1,4 +1,4 @@
-ghost use Rattle.std.specs.Prelude.{◌≡◌, [], All, IfOk, OnOk, vec_len};
+ghost use Rattle.std.specs.Prelude.{◌≡◌, ◌↔◌, [], All, IfOk, OnOk, vec_len};
 ghost use Rattle.ch_graph.specs.Hierarchy.{IsRight};
 ghost use Rattle.ch_workers.specs.Options.{AreBad, AreGood};
 ghost use Rattle.ch_workers.specs.declared.error.BuildError.TheVariants.{BadOptions};
@@ -24,7 +24,7 @@ pub(crate) fn build_hierarchy<P: Gate, R: Threads + Wait + Sync>(
 ) -> Result<Hierarchy, BuildError>
     requires untold { All (λ list. All (λ estimator. heard estimator ≡ []) list.items) lists.items }
     ensures right { IfOk result (IsRight graph) }
-    ensures bad { result ≡ Err BadOptions → AreBad options (vec_len lists) }
+    ensures bad { (result ≡ Err BadOptions) ↔ AreBad options (vec_len lists) }
     ensures good { OnOk result (AreGood options (vec_len lists)) }
 {
     let Built {

@@ -6,7 +6,6 @@ ghost use Rattle.ch_service.specs.Route.{IsRouteBy};
 use crate::error::ServiceError;
 use ch_cost::Cost;
 use ch_graph::Hierarchy;
-use ch_laws::least_route_is_never_too_long;
 use ch_query::Search;
 use ch_unpack::unpack;
 use std::alloc::Global;
@@ -42,10 +41,9 @@ pub fn least_route(
     requires same { search.old ≡ hierarchy.now }
     requires in_range { IsPair (length hierarchy.now.ranks) pair }
     ensures found { IfOk result (IsRouteBy hierarchy.now pair.0 pair.1) }
-    ensures refused { IfErr result (IsSearchFault hierarchy.now) }
+    ensures refused { IfErr result (IsSearchFault hierarchy.now pair) }
     ensures kept { search.new ≡ search.old }
 {
-    least_route_is_never_too_long();
     let Some(found) = search.distance(pair.0, pair.1)? else {
         return Ok(None);
     };

@@ -1,6 +1,14 @@
-ghost use Rattle.ch_service.specs.Route.{RoutesAreExact, FirstRoutesAreExact};
+ghost use Rattle.ch_service.specs.Route.{RightRoutesAreLeast, RoutesAreExact, FirstRoutesAreExact};
 
+use ch_laws::least_route_is_a_least_walk;
 use hierfile::hierarchies_have_one_spelling;
+
+/// Routes of a hierarchy that is right for a graph are least walks of that graph. It does nothing when it runs.
+pub fn right_routes_are_least()
+    ensures { RightRoutesAreLeast }
+{
+    least_route_is_a_least_walk();
+}
 
 /// Routes are exact: whenever [`prepare`](crate::prepare) has written a hierarchy from the text of a graph,
 /// [`route`](crate::route), reading those bytes, answers each pair with the least length of a walk in that graph and the
@@ -10,6 +18,7 @@ pub fn routes_are_exact()
     ensures { RoutesAreExact }
 {
     hierarchies_have_one_spelling();
+    least_route_is_a_least_walk();
 }
 
 /// And so are the first of them, where a call was refused later. It does nothing when it runs.
@@ -17,4 +26,5 @@ pub fn first_routes_are_exact()
     ensures { FirstRoutesAreExact }
 {
     hierarchies_have_one_spelling();
+    least_route_is_a_least_walk();
 }

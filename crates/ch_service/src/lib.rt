@@ -28,6 +28,6 @@ mod routing;
 pub use answering::{answer, answer_joined};
 pub use error::ServiceError;
 pub use hierfile::WriteFault;
-pub use laws::{first_routes_are_exact, routes_are_exact};
+pub use laws::{first_routes_are_exact, right_routes_are_least, routes_are_exact};
 pub use preparing::prepare;
 pub use routing::route;

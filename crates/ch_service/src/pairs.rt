@@ -1,15 +1,14 @@
 ghost use Rattle.std.specs.Prelude.{◌≡◌, ◌++◌, ℕ, List, All, OnOk, IfErr, length, take};
 ghost use Rattle.grfile.specs.Reading.{IsPair};
 ghost use Rattle.ch_service.specs.Answer.{IsAnswer};
-ghost use Rattle.ch_service.specs.Outcome.{Writes, StopsShort, IsSearchFault, IsAnsweringFault};
-ghost use Rattle.ch_service.specs.Route.{IsRouteBy, Routed};
+ghost use Rattle.ch_service.specs.Outcome.{Writes, StopsShort, IsSearchFault, ComesOfAnswering};
+ghost use Rattle.ch_service.specs.Route.{IsRouteBy, Routed, StopsAtTooLong};
 
 use crate::error::ServiceError;
 use crate::finding::least_route;
 use crate::line::push_line;
 use crate::output::Output;
 use ch_graph::Hierarchy;
-use ch_laws::least_route_is_a_least_walk;
 use ch_query::Search;
 use std::alloc::Global;
 use std::io::Write;
@@ -24,10 +23,9 @@ pub fn answer_pairs<W: Write>(
 ) -> Result<(), ServiceError>
     requires { All (IsPair (length hierarchy.now.ranks)) pairs.now }
     ensures routed { OnOk result (Writes (Routed hierarchy.now pairs.now) (W.contents out.old) (W.contents out.new)) }
-    ensures fault { IfErr result (IsAnsweringFault hierarchy.now) }
-    ensures stops { IfErr result (StopsShort (λ text. (count : ℕ) × Routed hierarchy.now (take count pairs.now) text) (W.contents out.old) (W.contents out.new)) }
+    ensures fault { IfErr result ComesOfAnswering }
+    ensures stops { IfErr result (StopsShort (λ text. (count : ℕ) × Routed hierarchy.now (take count pairs.now) text) (StopsAtTooLong hierarchy.now pairs.now) (W.contents out.old) (W.contents out.new)) }
 {
-    least_route_is_a_least_walk();
     let mut search = Search::new(alloc, hierarchy)?;
     let mut output = Output::new(alloc);
     'pairs: for pair in pairs {
@@ -52,7 +50,7 @@ fn push_pair(
     requires same { search.old ≡ hierarchy.now }
     requires in_range { IsPair (length hierarchy.now.ranks) pair }
     ensures ok { OnOk result ((line : List ℕ) × IsAnswer (IsRouteBy hierarchy.now) pair line × (lines.new.items ≡ lines.old.items ++ line)) }
-    ensures err { IfErr result (λ e. IsSearchFault hierarchy.now e × (lines.new.items ≡ lines.old.items)) }
+    ensures err { IfErr result (λ e. IsSearchFault hierarchy.now pair e × (lines.new.items ≡ lines.old.items)) }
     ensures kept { search.new ≡ search.old }
 {
     let route = least_route(alloc, hierarchy, search, pair)?;

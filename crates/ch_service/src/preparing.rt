@@ -1,8 +1,9 @@
-ghost use Rattle.std.specs.Prelude.{◌≡◌, [], All, OnOk, IfErr, IfSome, vec_len};
-ghost use Rattle.ch_service.specs.Outcome.{Writes, IsPreparingFault, KeepsUnlessWriting, BreaksOff};
+ghost use Rattle.std.specs.Prelude.{◌≡◌, ◌↔◌, [], All, OnOk, IfErr, IfSome, vec_len};
+ghost use Rattle.ch_service.specs.Outcome.{Writes, ComesOfPreparing, IsPreparingFault, KeepsUnlessWriting, BreaksOff};
 ghost use Rattle.ch_service.specs.Route.{Prepares};
 ghost use Rattle.ch_service.specs.declared.error.ServiceError.TheVariants.{Build};
 ghost use Rattle.ch_workers.specs.Options.{AreBad, AreGood};
+ghost use Rattle.ch_workers.specs.declared.error.BuildError.{BuildError};
 ghost use Rattle.ch_workers.specs.declared.error.BuildError.TheVariants.{BadOptions};
 
 use crate::building::{build_hierarchy, refuse};
@@ -37,7 +38,8 @@ pub fn prepare<G: Read, W: Write, P: Gate, R: Threads + Wait + Sync>(
     ensures good { OnOk result (AreGood options (vec_len lists)) }
 
     // At a refusal.
-    ensures bad { result ≡ Err (Build BadOptions) → AreBad options (vec_len lists) }
+    ensures bad { (e : BuildError) → result ≡ Err (Build e) → (e ≡ BadOptions) ↔ AreBad options (vec_len lists) }
+    ensures kinds { IfErr result ComesOfPreparing }
     ensures fault { IfErr result (λ e. IfSome (G.remaining gr.old) (λ text. IsPreparingFault text e)) }
     ensures untouched { IfErr result (KeepsUnlessWriting (W.contents out.old) (W.contents out.new)) }
     ensures broken { IfErr result (λ e. IfSome (G.remaining gr.old)

@@ -1,10 +1,15 @@
-ghost use Rattle.std.specs.Prelude.{OnOk, IfErr};
-ghost use Rattle.ch_service.specs.Outcome.{IfTold, Writes, IsRoutingFault, KeepsAtFault, StopsShort};
-ghost use Rattle.ch_service.specs.Route.{Routes, RoutesFirst};
+ghost use Rattle.std.specs.Prelude.{◌≡◌, ℕ, List, Err, OnOk, IfErr, IfSome};
+ghost use Rattle.ch_service.specs.Answer.{Answers};
+ghost use Rattle.ch_service.specs.Outcome.{IfTold, Writes, ComesOfRouting, IsRoutingFault, KeepsAtFault, StopsShort};
+ghost use Rattle.ch_service.specs.Route.{Prepares, Routes, RoutesFirst, RoutesToTooLong};
+ghost use Rattle.ch_service.specs.declared.error.ServiceError.TheVariants.{Unpack};
+ghost use Rattle.ch_unpack.specs.declared.error.UnpackError.TheVariants.{TooLong};
 
 use crate::error::ServiceError;
 use crate::pairs::answer_pairs;
+use ch_laws::{least_route_is_a_least_walk, least_route_is_never_too_long};
 use grfile::read_queries;
+use hierfile::hierarchies_have_one_spelling;
 use std::alloc::Global;
 use std::io::{Read, Write};
 
@@ -25,13 +30,23 @@ pub fn route<H: Read, Q: Read, W: Write>(
     ensures routes { OnOk result (IfTold (H.remaining hier.old) (Q.remaining queries.old)
         (λ bytes pairs. Writes (Routes bytes pairs) (W.contents out.old) (W.contents out.new))) }
 
+    // Where the bytes were prepared from the text of a graph.
+    ensures exact { OnOk result (IfTold (H.remaining hier.old) (Q.remaining queries.old)
+        (λ bytes pairs. (graph_text : List ℕ) → Prepares graph_text bytes → Writes (Answers graph_text pairs) (W.contents out.old) (W.contents out.new))) }
+    ensures never_long { result ≡ Err (Unpack TooLong) → IfSome (H.remaining hier.old)
+        (λ bytes. (graph_text : List ℕ) → Prepares graph_text bytes → ⊥) }
+
     // At a refusal.
+    ensures kinds { IfErr result ComesOfRouting }
     ensures fault { IfErr result (λ e. IfTold (H.remaining hier.old) (Q.remaining queries.old)
         (λ bytes pairs. IsRoutingFault bytes pairs e)) }
     ensures untouched { IfErr result (KeepsAtFault (W.contents out.old) (W.contents out.new)) }
     ensures stops { IfErr result (λ e. IfTold (H.remaining hier.old) (Q.remaining queries.old)
-        (λ bytes pairs. StopsShort (RoutesFirst bytes pairs) (W.contents out.old) (W.contents out.new) e)) }
+        (λ bytes pairs. StopsShort (RoutesFirst bytes pairs) (RoutesToTooLong bytes pairs) (W.contents out.old) (W.contents out.new) e)) }
 {
+    hierarchies_have_one_spelling();
+    least_route_is_a_least_walk();
+    least_route_is_never_too_long();
     let hierarchy = hierfile::read(alloc, hier).map_err(ServiceError::Hierarchy)?;
     let pairs = read_queries(alloc, queries, hierarchy.nodes()).map_err(ServiceError::Queries)?;
     answer_pairs(alloc, &hierarchy, pairs.as_slice(), out)

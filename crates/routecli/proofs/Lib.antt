@@ -1,2 +1,2 @@
 mod OfOneThing
-mod Routed
+mod Statuses

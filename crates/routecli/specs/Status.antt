@@ -1,5 +1,5 @@
 -- How the program ends.
-use Rattle.std.specs.Prelude.{ℕ, ◌≡◌, ◌≢◌, ◌⊎◌, List, length, Option, Some, Result, Ok, Err, ⊤}
+use Rattle.std.specs.Prelude.{ℕ, ◌≡◌, ◌⊎◌, List, length, Option, Some, Result, Ok, Err, ⊤}
 use Rattle.std.specs.Io.KnownBytes.{Keeps}
 use Rattle.ch_graph.specs.Graph.{Graph}
 use Rattle.ch_graph.specs.Hierarchy.{Hierarchy}
@@ -16,9 +16,11 @@ use Rattle.ch_unpack.specs.declared.error.UnpackError.{UnpackError}
 use Rattle.ch_unpack.specs.declared.error.UnpackError.TheVariants as unpacking
 use Rattle.ch_service.specs.declared.error.ServiceError.{ServiceError}
 use Rattle.ch_service.specs.declared.error.ServiceError.TheVariants as service
-use Rattle.ch_service.specs.Answer.{Answers}
-use Rattle.ch_service.specs.Outcome.{Writes}
-use Rattle.ch_service.specs.Route.{Spells, Prepares, Routes, RoutesFirst, HasTooLong}
+use Rattle.ch_service.specs.Answer.{Answers, AnswersFirst}
+use Rattle.ch_service.specs.Outcome.{Writes, WritesFirst, IsGraphText, AreTexts}
+use Rattle.ch_service.specs.Route.{Spells, Prepares, Routes, RoutesFirst, RoutesToTooLong}
+use Rattle.command_line.specs.declared.job.Job.{Job}
+use Rattle.command_line.specs.declared.job.Job.TheVariants.{Answer, Prepare, Route}
 
 -- want of memory and a failed read have statuses of their own, whichever text they came with
 abbrev pub status_unless_own : GrErrorKind → ℕ → ℕ
@@ -70,17 +72,23 @@ pub record HasPairsFault (graph_text pairs_text : List ℕ) : Type 0 where
   pub graph_reads : graph_of graph_text ≡ Ok graph
   pub pairs_read : pairs_of graph.nodes pairs_text ≡ Err fault
 
--- what the status of an answering job tells of the two texts, and of what was written
+-- What the status of an answering job tells of the two texts, and of what was written: all answers, the first of them, or
+-- nothing.
 pub record Tells (status : ℕ) (graph_text pairs_text : List ℕ) (old new : Option (List ℕ)) : Type 0 where
   pub done : status ≡ 0 → Writes (Answers graph_text pairs_text) old new
   pub graph : status ≡ 3 → HasGraphFault graph_text × Keeps old new
-  pub hierarchy : status ≡ 4 → ⊥
   pub pairs : status ≡ 5 → HasPairsFault graph_text pairs_text × Keeps old new
+  pub memory : status ≡ 6 → Keeps old new ⊎ Writes (AnswersFirst graph_text pairs_text) old new
+  pub write : status ≡ 7 → Keeps old new ⊎ ((written : ℕ) × WritesFirst (AnswersFirst graph_text pairs_text) old new written)
+  pub mixed : status ≡ 8 → AreTexts graph_text pairs_text × Keeps old new
 
 -- what the status of a preparing job tells of the graph's text, and of what was written
 pub record TellsPrepared (status : ℕ) (graph_text : List ℕ) (old new : Option (List ℕ)) : Type 0 where
   pub done : status ≡ 0 → Writes (Prepares graph_text) old new
   pub graph : status ≡ 3 → HasGraphFault graph_text × Keeps old new
+  pub memory : status ≡ 6 → Keeps old new
+  pub write : status ≡ 7 → Keeps old new ⊎ ((written : ℕ) × WritesFirst (Prepares graph_text) old new written)
+  pub mixed : status ≡ 8 → IsGraphText graph_text × Keeps old new
 
 -- the bytes have a fault, so they are the file of no hierarchy
 pub record HasHierarchyFault (bytes : List ℕ) : Type 0 where
@@ -94,14 +102,29 @@ pub record HasRoutedPairsFault (bytes pairs_text : List ℕ) : Type 0 where
   pub spells : Spells bytes hierarchy
   pub pairs_read : pairs_of (length hierarchy.ranks) pairs_text ≡ Err fault
 
--- the bytes are the file of a hierarchy by which a route is too long, so it is right for no graph
-abbrev pub HasLongRoute : List ℕ → Type 0
-HasLongRoute bytes = (h : Hierarchy) × Spells bytes h × HasTooLong h
-
--- what the status of a routing job tells of the file and the text, and of what was written
+-- What the status of a routing job tells of the file and the text, and of what was written. Where it is 4, the file has a
+-- fault, or the answers end before a pair whose route is too long.
 pub record TellsRouted (status : ℕ) (bytes pairs_text : List ℕ) (old new : Option (List ℕ)) : Type 0 where
   pub done : status ≡ 0 → Writes (Routes bytes pairs_text) old new
-  pub hierarchy : status ≡ 4 → (HasHierarchyFault bytes × Keeps old new) ⊎ (HasLongRoute bytes × Writes (RoutesFirst bytes pairs_text) old new)
+  pub hierarchy : status ≡ 4 → (HasHierarchyFault bytes × Keeps old new) ⊎ Writes (RoutesToTooLong bytes pairs_text) old new
   pub pairs : status ≡ 5 → HasRoutedPairsFault bytes pairs_text × Keeps old new
-  pub line : status ≢ 2
-  pub mixed : status ≢ 8
+  pub memory : status ≡ 6 → Keeps old new ⊎ Writes (RoutesFirst bytes pairs_text) old new
+  pub write : status ≡ 7 → Keeps old new ⊎ ((written : ℕ) × WritesFirst (RoutesFirst bytes pairs_text) old new written)
+
+-- with which an answering job may end
+abbrev pub IsAnsweringStatus : ℕ → Type 0
+IsAnsweringStatus n = (n ≡ 0) ⊎ (n ≡ 3) ⊎ (n ≡ 5) ⊎ (n ≡ 6) ⊎ (n ≡ 7) ⊎ (n ≡ 8)
+
+-- a preparing one
+abbrev pub IsPreparingStatus : ℕ → Type 0
+IsPreparingStatus n = (n ≡ 0) ⊎ (n ≡ 3) ⊎ (n ≡ 6) ⊎ (n ≡ 7) ⊎ (n ≡ 8)
+
+-- and a routing one
+abbrev pub IsRoutingStatus : ℕ → Type 0
+IsRoutingStatus n = (n ≡ 0) ⊎ (n ≡ 4) ⊎ (n ≡ 5) ⊎ (n ≡ 6) ⊎ (n ≡ 7)
+
+-- the status is one of those of the job
+abbrev pub IsStatusOf : Job → ℕ → Type 0
+IsStatusOf (Answer graph queries) = IsAnsweringStatus
+IsStatusOf (Prepare graph out workers seed order) = IsPreparingStatus
+IsStatusOf (Route hierarchy queries) = IsRoutingStatus

@@ -7,6 +7,9 @@
 //! pairs, or is a hierarchy that is right for the graph.
 #![tactic(auto)]
 
+ghost use Rattle.std.specs.Prelude.{◌≡◌, ◌⊎◌};
+ghost use Rattle.routecli.specs.Status.{IsStatusOf};
+
 mod lists;
 mod new_file;
 mod perform;
@@ -72,7 +75,9 @@ fn perform_files<R: Files + AllocGlobal + Threads + Wait + Sync, W: io::Write, E
     second: &str,
     out: &mut W,
     err: &mut E,
-) -> u8 {
+) -> u8
+    ensures { IsStatusOf job.now result }
+{
     match (fs::open(rt, first), fs::open(rt, second)) {
         (Ok(mut first), Ok(mut second)) => {
             perform(rt, rt.alloc(), job, &mut first, &mut second, out, err)
@@ -89,7 +94,9 @@ fn prepare_file<R: Files + AllocGlobal + Threads + Wait + Sync, W: io::Write, E:
     graph: &str,
     out: &mut W,
     err: &mut E,
-) -> u8 {
+) -> u8
+    ensures { IsStatusOf job.now result }
+{
     let mut nothing: &[u8] = b"";
     match fs::open(rt, graph) {
         Ok(mut graph) => perform(rt, rt.alloc(), job, &mut graph, &mut nothing, out, err),
@@ -111,7 +118,9 @@ fn refuse_words<E: io::Write>(error: &io::Error, err: &mut E) -> u8 {
 }
 
 // The status where a file can't be opened.
-fn refuse_file<E: io::Write>(error: &io::Error, err: &mut E) -> u8 {
+fn refuse_file<E: io::Write>(error: &io::Error, err: &mut E) -> u8
+    ensures { (result ≡ 6) ⊎ (result ≡ 7) }
+{
     if error.kind() == ErrorKind::OutOfMemory {
         return end(6, "memory", err);
     }

@@ -1,10 +1,10 @@
-ghost use Rattle.std.specs.Prelude.{◌≡◌, ◌≢◌, true, false, IfSome};
+ghost use Rattle.std.specs.Prelude.{◌≡◌, ◌≢◌, ◌⊎◌, true, false, IfSome};
 ghost use Rattle.std.specs.Io.KnownBytes.{Keeps};
 ghost use Rattle.ch_service.specs.Joined.{graph_part, pairs_part};
 ghost use Rattle.ch_service.specs.Outcome.{IfTold};
 ghost use Rattle.ch_workers.specs.Options.{AreGood};
 ghost use Rattle.command_line.specs.Job.{is_joined, IsAnswering, IsPreparing, IsRouting};
-ghost use Rattle.routecli.specs.Status.{Tells, TellsPrepared, TellsRouted, building_status, hierarchy_status, status_after, status_of, status_unless_own, unpacking_status};
+ghost use Rattle.routecli.specs.Status.{Tells, TellsPrepared, TellsRouted, IsStatusOf, IsAnsweringStatus, IsPreparingStatus, IsRoutingStatus, building_status, hierarchy_status, status_after, status_of, status_unless_own, unpacking_status};
 
 use crate::preparing::{options, prepare_by};
 use ch_estimate::Leases;
@@ -43,9 +43,11 @@ pub fn perform<A: Read, B: Read, W: Write, E: Write, R: Threads + Wait + Sync>(
     ensures routed { IsRouting job.now → IfTold (A.remaining first.old) (B.remaining second.old)
         (λ bytes pairs. TellsRouted result bytes pairs (W.contents out.old) (W.contents out.new)) }
 
-    // The status of a job is never that of a refused command line, and where workers disagree nothing is written.
-    ensures line { (IsRouting job.now → ⊥) → result ≢ 2 }
+    // Of any readers and writers.
+    ensures status { IsStatusOf job.now result }
     ensures mixed { result ≡ 8 → Keeps (W.contents out.old) (W.contents out.new) }
+    ensures unread { (is_joined job.now ≡ true) ⊎ IsPreparing job.now → second.new ≡ second.old }
+    ensures quiet { result ≡ 0 → err.new ≡ err.old }
 {
     match job {
         Job::Answer { .. } if job.is_joined() => perform_joined(rt, alloc, first, out, err),
@@ -73,13 +75,11 @@ fn perform_prepare<A: Read, W: Write, E: Write, R: Threads + Wait + Sync>(
     requires good { AreGood options options.workers }
     ensures prepared { IfSome (A.remaining graph.old)
         (λ text. TellsPrepared result text (W.contents out.old) (W.contents out.new)) }
-    ensures line { result ≢ 2 }
+    ensures status { IsPreparingStatus result }
     ensures mixed { result ≡ 8 → Keeps (W.contents out.old) (W.contents out.new) }
+    ensures quiet { result ≡ 0 → err.new ≡ err.old }
 {
-    match prepare_by(rt, alloc, graph, out, order, options) {
-        Ok(()) => 0,
-        Err(error) => report(&error, err),
-    }
+    status_after(prepare_by(rt, alloc, graph, out, order, options), err)
 }
 
 // Answers the pairs by a hierarchy.
@@ -92,12 +92,10 @@ fn perform_route<A: Read, B: Read, W: Write, E: Write>(
 ) -> u8
     ensures routed { IfTold (A.remaining hierarchy.old) (B.remaining queries.old)
         (λ bytes pairs. TellsRouted result bytes pairs (W.contents out.old) (W.contents out.new)) }
-    ensures mixed { result ≡ 8 → Keeps (W.contents out.old) (W.contents out.new) }
+    ensures status { IsRoutingStatus result }
+    ensures quiet { result ≡ 0 → err.new ≡ err.old }
 {
-    match route(alloc, hierarchy, queries, out) {
-        Ok(()) => 0,
-        Err(error) => report(&error, err),
-    }
+    status_after(route(alloc, hierarchy, queries, out), err)
 }
 
 // Answers the pairs of one text over the graph of another.
@@ -111,13 +109,11 @@ fn perform_two<A: Read, B: Read, W: Write, E: Write, R: Threads + Wait + Sync>(
 ) -> u8
     ensures answered { IfTold (A.remaining graph.old) (B.remaining queries.old)
         (λ graph_text pairs_text. Tells result graph_text pairs_text (W.contents out.old) (W.contents out.new)) }
-    ensures line { result ≢ 2 }
+    ensures status { IsAnsweringStatus result }
     ensures mixed { result ≡ 8 → Keeps (W.contents out.old) (W.contents out.new) }
+    ensures quiet { result ≡ 0 → err.new ≡ err.old }
 {
-    match answer_alone(rt, alloc, graph, queries, out) {
-        Ok(()) => 0,
-        Err(error) => report(&error, err),
-    }
+    status_after(answer_alone(rt, alloc, graph, queries, out), err)
 }
 
 // Answers the pairs of one text over the graph of another, by a hierarchy that the calling thread builds alone.
@@ -130,7 +126,7 @@ fn answer_alone<A: Read, B: Read, W: Write, R: Threads + Wait + Sync>(
 ) -> Result<(), ServiceError>
     ensures answered { IfTold (A.remaining graph.old) (B.remaining queries.old)
         (λ graph_text pairs_text. Tells (status_after result) graph_text pairs_text (W.contents out.old) (W.contents out.new)) }
-    ensures line { status_after result ≢ 2 }
+    ensures status { IsAnsweringStatus (status_after result) }
     ensures mixed { status_after result ≡ 8 → Keeps (W.contents out.old) (W.contents out.new) }
 {
     let mut leases = Leases::new(alloc)?;
@@ -159,10 +155,19 @@ fn perform_joined<A: Read, W: Write, E: Write, R: Threads + Wait + Sync>(
 ) -> u8
     ensures answered { IfSome (A.remaining input.old)
         (λ text. Tells result (graph_part text) (pairs_part text) (W.contents out.old) (W.contents out.new)) }
-    ensures line { result ≢ 2 }
+    ensures status { IsAnsweringStatus result }
     ensures mixed { result ≡ 8 → Keeps (W.contents out.old) (W.contents out.new) }
+    ensures quiet { result ≡ 0 → err.new ≡ err.old }
 {
-    match answer_joined(rt, alloc, input, out) {
+    status_after(answer_joined(rt, alloc, input, out), err)
+}
+
+// The status after a call, whose refusal is told in a line.
+fn status_after<E: Write>(ended: Result<(), ServiceError>, err: &mut E) -> u8
+    ensures status { result ≡ status_after ended }
+    ensures quiet { result ≡ 0 → err.new ≡ err.old }
+{
+    match ended {
         Ok(()) => 0,
         Err(error) => report(&error, err),
     }
@@ -170,7 +175,8 @@ fn perform_joined<A: Read, W: Write, E: Write, R: Threads + Wait + Sync>(
 
 /// Writes the line of the refusal and answers its status. Where the line can't be written there is nobody to tell.
 pub fn report<E: Write>(error: &ServiceError, err: &mut E) -> u8
-    ensures { result ≡ status_of error.now }
+    ensures status { result ≡ status_of error.now }
+    ensures refused { result ≢ 0 }
 {
     let _ = writeln!(err, "routecli: {error}");
     status(error)

@@ -1,7 +1,7 @@
-ghost use Rattle.std.specs.Prelude.{◌≡◌, ◌≢◌, [], IfOk, IfSome};
+ghost use Rattle.std.specs.Prelude.{◌≡◌, [], IfOk, IfSome};
 ghost use Rattle.std.specs.Io.KnownBytes.{Keeps};
 ghost use Rattle.ch_workers.specs.Options.{AreGood};
-ghost use Rattle.routecli.specs.Status.{TellsPrepared, status_after};
+ghost use Rattle.routecli.specs.Status.{TellsPrepared, IsPreparingStatus, status_after};
 
 use crate::lists::a_list_each;
 use ch_estimate::{Depth, EdgeDifference, Estimator, Leases, Neighbours};
@@ -44,7 +44,7 @@ pub fn prepare_by<G: Read, W: Write, R: Threads + Wait + Sync>(
     requires good { AreGood options options.workers }
     ensures prepared { IfSome (G.remaining graph.old)
         (λ text. TellsPrepared (status_after result) text (W.contents out.old) (W.contents out.new)) }
-    ensures line { status_after result ≢ 2 }
+    ensures status { IsPreparingStatus (status_after result) }
     ensures mixed { status_after result ≡ 8 → Keeps (W.contents out.old) (W.contents out.new) }
 {
     let mut leases = Leases::new(alloc)?;
@@ -67,7 +67,7 @@ fn prepare_by_edges<G: Read, W: Write, R: Threads + Wait + Sync>(
     requires good { AreGood options options.workers }
     ensures prepared { IfSome (G.remaining graph.old)
         (λ text. TellsPrepared (status_after result) text (W.contents out.old) (W.contents out.new)) }
-    ensures line { status_after result ≢ 2 }
+    ensures status { IsPreparingStatus (status_after result) }
     ensures mixed { status_after result ≡ 8 → Keeps (W.contents out.old) (W.contents out.new) }
 {
     let lists = a_list_each(
@@ -93,7 +93,7 @@ fn prepare_by_neighbours<G: Read, W: Write, R: Threads + Wait + Sync>(
     requires good { AreGood options options.workers }
     ensures prepared { IfSome (G.remaining graph.old)
         (λ text. TellsPrepared (status_after result) text (W.contents out.old) (W.contents out.new)) }
-    ensures line { status_after result ≢ 2 }
+    ensures status { IsPreparingStatus (status_after result) }
     ensures mixed { status_after result ≡ 8 → Keeps (W.contents out.old) (W.contents out.new) }
 {
     let lists = a_list_each(
@@ -119,7 +119,7 @@ fn prepare_by_depth<G: Read, W: Write, R: Threads + Wait + Sync>(
     requires good { AreGood options options.workers }
     ensures prepared { IfSome (G.remaining graph.old)
         (λ text. TellsPrepared (status_after result) text (W.contents out.old) (W.contents out.new)) }
-    ensures line { status_after result ≢ 2 }
+    ensures status { IsPreparingStatus (status_after result) }
     ensures mixed { status_after result ≡ 8 → Keeps (W.contents out.old) (W.contents out.new) }
 {
     let lists = a_list_each(

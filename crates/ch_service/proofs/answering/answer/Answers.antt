@@ -1,24 +1,35 @@
 use Rattle.std.proofs.Common.{rules, subst}
 use Rattle.ch_graph.specs.Graph.{Graph, IsGraph}
-use Rattle.ch_service.proofs.ByWalks.{answers-told, stops-answered, fault-answered}
+use Rattle.ch_service.proofs.ByWalks.{answers-told, stops-answered, fault-answering, texts-kinds, fault-answered, pairs_refused}
 use Rattle.ch_service.proofs.answering.answer.Goals as goal
 
 pub returns-clause-answers : goal.returns-clause-answers
 returns-clause-answers g c =
-    answers-told c.in-Ok.graph c.in_ok-hierarchy.hierarchy c.as_slice.result.now _ _ _ _ c.answer_pairs.result (search rules) (search rules) (subst (λ (g : Graph). IsGraph g) c.graph.view_is c.graph.invariant.0) c.in_ok-hierarchy.ensures.right c.answer_pairs.ensures.routed
+    answers-told c.least_route_is_a_least_walk.ensures c.in-Ok.graph c.in_ok-hierarchy.hierarchy c.as_slice.result.now _ _ _ _ c.answer_pairs.result (search rules) (search rules)
+    (subst (λ (g : Graph). IsGraph g) c.graph.view_is c.graph.invariant.0) c.in_ok-hierarchy.ensures.right (search rules) c.answer_pairs.ensures.routed
 
 pub returns-clause-stops : goal.returns-clause-stops
 returns-clause-stops g c =
-    stops-answered c.in-Ok.graph c.in_ok-hierarchy.hierarchy c.as_slice.result.now _ _ _ _ c.answer_pairs.result (search rules) (search rules) (subst (λ (g : Graph). IsGraph g) c.graph.view_is c.graph.invariant.0) c.in_ok-hierarchy.ensures.right c.answer_pairs.ensures.stops
+    stops-answered c.least_route_is_a_least_walk.ensures c.least_route_is_never_too_long.ensures c.in-Ok.graph c.in_ok-hierarchy.hierarchy c.as_slice.result.now _ _ _ _ c.answer_pairs.result (search rules) (search rules)
+    (subst (λ (g : Graph). IsGraph g) c.graph.view_is c.graph.invariant.0) c.in_ok-hierarchy.ensures.right (search rules) c.answer_pairs.ensures.stops
+
+pub returns-clause-fault : goal.returns-clause-fault
+returns-clause-fault g c =
+    fault-answering c.in-Ok.graph c.as_slice.result.now _ _ _ _ c.answer_pairs.result (search rules) (search rules) c.answer_pairs.ensures.fault
+    (stops-answered c.least_route_is_a_least_walk.ensures c.least_route_is_never_too_long.ensures c.in-Ok.graph c.in_ok-hierarchy.hierarchy c.as_slice.result.now _ _ _ _ c.answer_pairs.result (search rules) (search rules)
+    (subst (λ (g : Graph). IsGraph g) c.graph.view_is c.graph.invariant.0) c.in_ok-hierarchy.ensures.right (search rules) c.answer_pairs.ensures.stops)
 
 pub returns-in-Err-read_queries-clause-fault : goal.returns-in-Err-read_queries-clause-fault
 returns-in-Err-read_queries-clause-fault g c =
     fault-answered c.in-Ok.graph c.in-Err-read_queries.fault _ _ c.refuse-in-Err-read_queries.result (search rules) (search rules) c.refuse-in-Err-read_queries.ensures
 
 pub returns-in-Err-read_queries-clause-bad : goal.returns-in-Err-read_queries-clause-bad
-returns-in-Err-read_queries-clause-bad g c is =
-    let told = c.refuse-in-Err-read_queries.ensures in
-    absurd (cc)
+returns-in-Err-read_queries-clause-bad g c e is = absurd (pairs_refused c.refuse-in-Err-read_queries.result c.in-Err-read_queries.fault e c.refuse-in-Err-read_queries.ensures is)
 
 pub returns-in-Err-read_queries-clause-untouched : goal.returns-in-Err-read_queries-clause-untouched
 returns-in-Err-read_queries-clause-untouched g c = rw c.refuse-in-Err-read_queries.ensures (search rules)
+
+pub returns-clause-kinds : goal.returns-clause-kinds
+returns-clause-kinds g c =
+    texts-kinds c.least_route_is_never_too_long.ensures c.in-Ok.graph c.in_ok-hierarchy.hierarchy c.as_slice.result.now _ _ c.answer_pairs.result
+    (subst (λ (g : Graph). IsGraph g) c.graph.view_is c.graph.invariant.0) c.in_ok-hierarchy.ensures.right (search rules) c.answer_pairs.ensures.fault c.answer_pairs.ensures.stops

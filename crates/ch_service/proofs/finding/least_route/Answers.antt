@@ -14,8 +14,8 @@ returns-in_err-nodes-clause-refused c =
     let t = c.args.pair.1 in
     let value = found-value c.args.search.now h s t c.in_ok-found.field-0 c.in-Some.found c.requires.same c.in-Some.is c.in_ok-found.ensures.value in
     let walk = found-walk c.args.search.now h s t c.in_ok-found.field-0 c.in-Some.found c.as_slice.result.now c.requires.same c.in-Some.is c.as_slice.ensures.value c.in_ok-found.ensures.walk in
-    refused-unpacking h c.in_err-nodes.field-0.0 c.from_residual-in_err-nodes.result c.from_residual-in_err-nodes.ensures.1
-    (λ e. too_long-route c.least_route_is_never_too_long.ensures h s t c.in-Some.found.cost c.as_slice.result.now c.requires.in_range.0 c.requires.in_range.1 value walk (c.in_err-nodes.ensures.too_long (ap Err e)))
+    refused-unpacking h c.args.pair c.in_err-nodes.field-0.0 c.from_residual-in_err-nodes.result c.from_residual-in_err-nodes.ensures.1
+    (λ e. too_long-route h s t c.in-Some.found.cost c.as_slice.result.now value walk (c.in_err-nodes.ensures.too_long (ap Err e)))
 
 pub returns-clause-found : goal.returns-clause-found
 returns-clause-found c =

@@ -1,4 +1,5 @@
 use Rattle.std.proofs.Common.{rules}
+use Rattle.ch_service.proofs.ByWalks.{graph_refused}
 use Rattle.ch_service.proofs.Prepared.{writes-prepared, breaks-prepared, fault-prepared}
 use Rattle.ch_service.proofs.preparing.prepare.Goals as goal
 
@@ -14,9 +15,7 @@ pub returns-in-Err-clause-fault : goal.returns-in-Err-clause-fault
 returns-in-Err-clause-fault g c = fault-prepared _ c.in-Err.fault c.refuse.result (search rules) c.refuse.ensures
 
 pub returns-in-Err-clause-bad : goal.returns-in-Err-clause-bad
-returns-in-Err-clause-bad g c is =
-    let told = c.refuse.ensures in
-    absurd (cc)
+returns-in-Err-clause-bad g c e is = absurd (graph_refused c.refuse.result c.in-Err.fault e c.refuse.ensures is)
 
 pub returns-in-Err-clause-untouched : goal.returns-in-Err-clause-untouched
 returns-in-Err-clause-untouched g c = rw c.refuse.ensures (search rules)

@@ -1,11 +1,28 @@
 use Rattle.std.proofs.Common.{rules}
-use Rattle.ch_service.proofs.ByWalks.{routes-told, stops-told}
+use Rattle.ch_service.proofs.ByWalks.{routes-told, stops-told, fault-told, routing-kinds}
+use Rattle.ch_service.proofs.Exact.{exact-told, never_long-told}
 use Rattle.ch_service.proofs.routing.route.Goals as goal
 
 pub returns-clause-stops : goal.returns-clause-stops
 returns-clause-stops g c =
     stops-told c.in_ok-hierarchy.hierarchy c.as_slice.result.now _ _ _ _ c.answer_pairs.result (search rules) (search rules) c.answer_pairs.ensures.stops
 
+pub returns-clause-fault : goal.returns-clause-fault
+returns-clause-fault g c = fault-told c.in_ok-hierarchy.hierarchy c.as_slice.result.now _ _ c.answer_pairs.result (search rules) (search rules) c.answer_pairs.ensures.fault
+
 pub returns-clause-routes : goal.returns-clause-routes
 returns-clause-routes g c =
     routes-told c.in_ok-hierarchy.hierarchy c.as_slice.result.now _ _ _ _ c.answer_pairs.result (search rules) (search rules) c.answer_pairs.ensures.routed
+
+pub returns-clause-exact : goal.returns-clause-exact
+returns-clause-exact g c =
+    exact-told c.hierarchies_have_one_spelling.ensures c.least_route_is_a_least_walk.ensures c.in_ok-hierarchy.hierarchy c.as_slice.result.now _ _ _ _ c.answer_pairs.result (search rules) (search rules)
+    c.answer_pairs.ensures.routed
+
+pub returns-clause-never_long : goal.returns-clause-never_long
+returns-clause-never_long g c =
+    never_long-told c.hierarchies_have_one_spelling.ensures c.least_route_is_never_too_long.ensures c.in_ok-hierarchy.hierarchy c.as_slice.result.now _ _ _ _ c.answer_pairs.result (search rules) (search rules)
+    c.answer_pairs.ensures.stops
+
+pub returns-clause-kinds : goal.returns-clause-kinds
+returns-clause-kinds g c = routing-kinds c.answer_pairs.result c.answer_pairs.ensures.fault

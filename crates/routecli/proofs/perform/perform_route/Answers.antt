@@ -1,5 +1,8 @@
-use Rattle.routecli.proofs.Routed.{tells_routed}
+use Rattle.routecli.proofs.Statuses.{routed_told, routing_status}
 use Rattle.routecli.proofs.perform.perform_route.Goals as goal
 
-pub returns-in-Err-clause-routed : goal.returns-in-Err-clause-routed
-returns-in-Err-clause-routed g c = rw c.report.ensures (tells_routed _ _ _ _ c.in-Err.error c.in-Err.ensures.fault c.in-Err.ensures.untouched c.in-Err.ensures.stops)
+pub returns-clause-routed : goal.returns-clause-routed
+returns-clause-routed g c = rw c.status_after.ensures.status (routed_told _ _ _ _ c.route.result c.route.ensures.routes c.route.ensures.fault c.route.ensures.untouched c.route.ensures.stops)
+
+pub returns-clause-status : goal.returns-clause-status
+returns-clause-status g c = rw c.status_after.ensures.status (routing_status c.route.result c.route.ensures.kinds)
