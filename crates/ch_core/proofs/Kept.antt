@@ -1,14 +1,14 @@
 -- What holds of a world holds after each event.
-use Rattle.std.proofs.Common.{ℕ, ◌≡◌, ◌≢◌, ◌+◌, ◌^◌, ◌<◌, ◌≤◌, List, [], ◌∷◌, ◌++◌, length, map, get_or, set, slice_index, All, AllPairs, Contains, Some, None, arith, ap, sym, subst, refl, ◌∙◌, inl, inr, suc, zero}
+use Rattle.std.proofs.Common.{ℕ, ◌≡◌, ◌≢◌, ◌+◌, ◌<◌, List, ◌∷◌, ◌++◌, length, map, get_or, slice_index, All, AllPairs, Contains, Some, arith, ap, sym, subst, ◌∙◌, suc, zero}
 use Rattle.std.specs.List.{zip, range_with_len}
 use Rattle.std.proofs.lemmas.List.{length-map, length-append}
 use Rattle.std.proofs.lemmas.List.Elements.{All-append, All-map, All-weaker, All-contains, Contains-get_or}
 use Rattle.ch_cost.specs.declared.cost.Cost.{Cost}
-use Rattle.ch_graph.specs.Graph.{Graph, bound_of}
+use Rattle.ch_graph.specs.Graph.{bound_of}
 use Rattle.ch_laws.specs.declared.shortcut.Shortcut.{Shortcut}
 use Rattle.ch_laws.specs.Rows.{Row}
 use Rattle.ch_overlay.specs.Source.{IsBound}
-use Rattle.ch_overlay.specs.Overlay.{Overlay, IsOverlay, AreEntries, row_at, no_arcs, state_of}
+use Rattle.ch_overlay.specs.Overlay.{Overlay, IsOverlay, row_at, no_arcs, state_of}
 use Rattle.ch_overlay.specs.Change.{Change, IsChange, puts}
 use Rattle.ch_overlay.proofs.Puts.{length-puts, puts-here, contains-map}
 use Rattle.ch_overlay.proofs.NewRows.{neighbour_apart}

@@ -1,24 +1,21 @@
 -- An offer whose versions are all current is a lawful contraction.
-use Rattle.std.proofs.Common.{ℕ, ◌≡◌, ◌<◌, List, [], ◌∷◌, length, get_or, Option, Some, None, All, cond, true, false, nat_eq, slice_index, arith, ap, sym, subst, refl, ◌∙◌, inl, inr}
+use Rattle.std.proofs.Common.{ℕ, ◌≡◌, ◌<◌, List, [], ◌∷◌, length, get_or, Some, All, cond, nat_eq, arith, ap, sym, subst, ◌∙◌, inl, inr}
 use Rattle.std.proofs.lemmas.Bool.{cases_Bool}
 use Rattle.std.proofs.lemmas.Bool.Decides.{nat_tests}
-use Rattle.std.proofs.lemmas.List.{get_or_default}
 use Rattle.std.proofs.lemmas.List.Elements.{All-head, All-tail}
 use Rattle.ch_cost.specs.declared.cost.Cost.{Cost}
 use Rattle.ch_graph.specs.Graph.{bound_of}
-use Rattle.ch_laws.specs.declared.shortcut.Shortcut.{Shortcut}
-use Rattle.ch_laws.specs.Contraction.{State, IsPlan, IsWitnessed}
+use Rattle.ch_laws.specs.Contraction.{IsPlan, IsWitnessed}
 use Rattle.ch_laws.specs.Rows.{Row, IsRow}
-use Rattle.ch_laws.specs.Verdicts.{AreRead, AreVerdicts}
+use Rattle.ch_laws.specs.Verdicts.{AreVerdicts}
 use Rattle.ch_laws.proofs.ByVerdicts.{verdicts_are_lawful}
 use Rattle.ch_overlay.specs.declared.source.Seen.{Seen}
 use Rattle.ch_overlay.specs.Source.{row_in, row_of}
 use Rattle.ch_overlay.specs.Overlay.{Overlay, IsOverlay, row_at, state_of, no_arcs}
 use Rattle.ch_contract.specs.Board.{Board, IsBoard, AreLawful}
 use Rattle.ch_contract.specs.Proposal.{Proposal, IsProposal}
-use Rattle.ch_core.specs.Offering.{IsCurrentIn}
 use Rattle.ch_core.specs.World.{World, Version, Standing, StandsIn, MayOffer, IsCurrent, IsIn, has, view_of}
-use Rattle.ch_core.specs.Keeping.{IsWorld, IsSound, IsSoundVersion}
+use Rattle.ch_core.specs.Keeping.{IsWorld, IsSoundVersion}
 
 -- the row of a number in the book is one
 pub one_row : (book : List Version) (x y v : ℕ) (q r : Row) → IsIn book x v q → IsIn book y v r → ◌≡◌ {A = Version} (record { node = x; row = q }) (record { node = y; row = r })

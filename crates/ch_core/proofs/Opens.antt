@@ -1,19 +1,17 @@
 -- The world at the start.
-use Rattle.std.proofs.Common.{ℕ, ◌≡◌, ◌-◌, ◌^◌, ◌<◌, ◌≤◌, List, [], length, get_or, slice_index, replicate, suc, zero, All, Some, None, arith, ap, sym, subst, refl, ◌∙◌}
+use Rattle.std.proofs.Common.{ℕ, ◌≡◌, ◌-◌, ◌^◌, ◌<◌, ◌≤◌, List, [], length, get_or, slice_index, replicate, suc, zero, Some, None, arith, ap, sym, subst, refl, ◌∙◌}
 use Rattle.std.specs.List.{range_with_len}
-use Rattle.std.specs.Map.{lookup}
 use Rattle.std.proofs.lemmas.List.{length-replicate, get_or_default}
 use Rattle.std.proofs.lemmas.List.FromFn.{get_or-range_with_len}
 use Rattle.ch_cost.specs.declared.cost.Cost.{Cost}
 use Rattle.ch_cost.specs.Cost.Laws.{more_arcs_within, within_trans}
 use Rattle.ch_graph.specs.Graph.{Graph, IsGraph, bound_of}
 use Rattle.ch_graph.proofs.Bound.{bound-within}
-use Rattle.ch_laws.specs.Rows.{Row}
 use Rattle.ch_overlay.specs.Source.{IsBound}
-use Rattle.ch_overlay.specs.Overlay.{Overlay, row_at, no_arcs}
-use Rattle.ch_contract.specs.Board.{Board, IsBoard}
-use Rattle.ch_core.specs.World.{World, Version, View, Standing, IsIn, has, stands_at, version_of}
-use Rattle.ch_core.specs.Keeping.{IsWorld, IsSoundVersion, IsSound}
+use Rattle.ch_overlay.specs.Overlay.{row_at, no_arcs}
+use Rattle.ch_contract.specs.Board.{IsBoard}
+use Rattle.ch_core.specs.World.{World, Version, View, Standing, IsIn, has, stands_at}
+use Rattle.ch_core.specs.Keeping.{IsWorld, IsSoundVersion}
 use Rattle.ch_core.proofs.Kept.{row_sound}
 
 -- the bound of a graph is one that a file can have

@@ -1,8 +1,8 @@
 -- A node is contracted where its row has a rank.
-use Rattle.std.proofs.Common.{ℕ, ◌≡◌, ◌<◌, ◌↔◌, Bool, true, false, Option, Some, None, is_some, IsTrue, length, List, slice_index, Contains, ap, sym, ◌∙◌, refl}
+use Rattle.std.proofs.Common.{ℕ, ◌≡◌, ◌<◌, ◌↔◌, Bool, true, Option, Some, None, is_some, IsTrue, length, List, slice_index, Contains, ap, sym, ◌∙◌, refl}
 use Rattle.std.proofs.lemmas.List.{get_or_default}
-use Rattle.ch_laws.specs.Rows.{Row, IsRow}
-use Rattle.ch_overlay.specs.Overlay.{Overlay, IsOverlay, row_at, state_of}
+use Rattle.ch_laws.specs.Rows.{Row}
+use Rattle.ch_overlay.specs.Overlay.{Overlay, IsOverlay, row_at}
 use Rattle.ch_overlay.proofs.Entries.{contains_place}
 
 some_rank : (o : Option ℕ) → is_some o ≡ true → (k : ℕ) × (o ≡ Some k)

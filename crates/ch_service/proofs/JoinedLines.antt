@@ -2,7 +2,7 @@
 use Rattle.std.proofs.Common.{ℕ, zero, suc, ◌≡◌, ◌+◌, ◌-◌, ◌<◌, Bool, true, false, List, [], ◌∷◌, ◌++◌, length, take, drop, refl, sym, ◌∙◌, ap, subst, arith}
 use Rattle.std.specs.List.{concat}
 use Rattle.std.proofs.Math.Seq.{take-add}
-use Rattle.std.proofs.lemmas.List.{drop-drop, append_assoc, take_rest}
+use Rattle.std.proofs.lemmas.List.{drop-drop, append-nil, append_assoc, take_rest}
 use Rattle.std.proofs.lemmas.Bool.{false_from_ne_true}
 use Rattle.memchr.specs.Find.{Nowhere, Passes, is_byte}
 use Rattle.ch_service.specs.Joined.{onto_first, ended_lines, is_percent, graph_part, pairs_part}
@@ -46,6 +46,9 @@ concat-ended_lines (b ∷ bs) = go (concat-ended_lines bs) (is_byte 10 b) refl
 percent-first : (rest : List ℕ) (n : ℕ) → ended_lines rest ≡ take n rest ∷ ended_lines (drop n rest) → is_percent (take n rest) ≡ true → pairs_part rest ≡ drop n rest
 percent-first rest n ended here = rw (ended, here) (concat-ended_lines (drop n rest))
 
+nothing-before : (rest : List ℕ) (n : ℕ) → ended_lines rest ≡ take n rest ∷ ended_lines (drop n rest) → is_percent (take n rest) ≡ true → graph_part rest ≡ []
+nothing-before rest n ended here = rw (ended, here) refl
+
 line-first : (rest : List ℕ) (n : ℕ) → ended_lines rest ≡ take n rest ∷ ended_lines (drop n rest) → is_percent (take n rest) ≡ false
     → (graph_part rest ≡ take n rest ++ graph_part (drop n rest)) × (pairs_part rest ≡ pairs_part (drop n rest))
 line-first rest n ended other = (rw (ended, other) refl, rw (ended, other) refl)
@@ -65,6 +68,14 @@ pairs_part-percent input start n ended percent =
     let begins : BeginsWithLine (drop start input) n = subst (λ r. BeginsWithLine r n) (take_rest input start) ended in
     let here : is_percent (take n (drop start input)) ≡ true = subst (λ l. is_percent l ≡ true) (line_is input start n) percent in
     percent-first (drop start input) n begins here ∙ drop-drop n start input ∙ sym (take_rest input (start + n))
+
+-- and nothing from it on belongs to the graph's text
+pub graph_part-percent : (input : List ℕ) (start n : ℕ) → BeginsWithLine (take (length input - start) (drop start input)) n → is_percent (take (start + n - start) (drop start input)) ≡ true
+    → take start input ++ graph_part (drop start input) ≡ take start input
+graph_part-percent input start n ended percent =
+    let begins : BeginsWithLine (drop start input) n = subst (λ r. BeginsWithLine r n) (take_rest input start) ended in
+    let here : is_percent (take n (drop start input)) ≡ true = subst (λ l. is_percent l ≡ true) (line_is input start n) percent in
+    ap (λ t. take start input ++ t) (nothing-before (drop start input) n begins here) ∙ append-nil (take start input)
 
 -- it isn't, and belongs to the graph's text
 pub graph_part-line : (input : List ℕ) (start n : ℕ) → BeginsWithLine (take (length input - start) (drop start input)) n → is_percent (take (start + n - start) (drop start input)) ≡ false

@@ -1,4 +1,4 @@
-use Rattle.std.proofs.Common.{◌≡◌, ◌↔◌, ◌&&◌, IsTrue, ap, sym, subst, ◌∙◌}
+use Rattle.std.proofs.Common.{◌≡◌, ◌↔◌, ◌&&◌, IsTrue, sym, subst}
 use Rattle.std.specs.Bool.{Decides}
 use Rattle.ch_laws.specs.Rows.{Row}
 use Rattle.ch_contract.proofs.SameRows.{option_decides, entries_decide, row_decides}

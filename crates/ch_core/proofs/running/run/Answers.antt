@@ -5,7 +5,7 @@ use Rattle.ch_laws.specs.Contraction.{IsReached}
 use Rattle.ch_overlay.specs.Overlay.{state_of}
 use Rattle.ch_core.specs.declared.event.Event.{Event}
 use Rattle.ch_core.specs.declared.event.Outcome.{Outcome}
-use Rattle.ch_core.specs.Steps.{Runs, ends, goes}
+use Rattle.ch_core.specs.Steps.{Runs, ends}
 use Rattle.ch_core.proofs.Ran.{runs_on}
 use Rattle.ch_core.proofs.running.run.Goals as goal
 

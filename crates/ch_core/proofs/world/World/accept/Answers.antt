@@ -3,7 +3,7 @@ use Rattle.std.specs.Arc.{arc_value}
 use Rattle.ch_laws.specs.declared.shortcut.Shortcut.{Shortcut}
 use Rattle.ch_laws.specs.Rows.{Row}
 use Rattle.ch_overlay.proofs.Puts.{map-map}
-use Rattle.ch_contract.specs.Board.{Board, IsBoard, AreLawful, IsContracted}
+use Rattle.ch_contract.specs.Board.{IsBoard, AreLawful, IsContracted}
 use Rattle.ch_contract.specs.Planned.{IsPlanned}
 use Rattle.ch_core.specs.World.{World, Version, MayOffer, IsDone, IsCurrent, version_of, IsAccepted}
 use Rattle.ch_core.specs.Keeping.{IsWorld}

@@ -1,4 +1,4 @@
-use Rattle.std.proofs.Common.{ℕ, ◌≡◌, ◌<◌, List, length, ap, sym, subst, ◌∙◌}
+use Rattle.std.proofs.Common.{ℕ, ◌≡◌, ◌<◌, length, ap, sym, subst, ◌∙◌}
 use Rattle.std.specs.List.{range_with_len}
 use Rattle.ch_graph.specs.Graph.{Graph}
 use Rattle.ch_overlay.specs.Overlay.{Overlay, row_at}
