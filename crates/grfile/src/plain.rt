@@ -10,8 +10,8 @@ pub(crate) struct Front<'a> {
     pub(crate) rest: &'a [u8],
 }
 
-/// The number at the front of a text, where it has decimal digits, this byte after them, and ten of them or fewer but
-/// for zeros in front; none else, so that the caller goes the general way.
+/// The number at the front of a text, where decimal digits spell it and this byte follows them. None elsewhere, and
+/// where it goes far beyond 2^32, as no node and no weight does: such a line is read by its fields.
 pub(crate) fn number_before(stop: u8, text: &[u8]) -> Option<Front<'_>>
     ensures { IfSome result (λ front. IsNumberBefore stop text.now front.number front.rest.now) }
 {
