@@ -1,5 +1,5 @@
 -- Why routes by prepared bytes are answers over the graph: the bytes are the file of one hierarchy alone.
-use Rattle.std.proofs.Common.{ℕ, ◌≡◌, List, length, take, sym, ◌∙◌, subst}
+use Rattle.std.proofs.Common.{ℕ, ◌≡◌, List, [], ◌++◌, length, take, sym, ◌∙◌, ap, subst}
 use Rattle.std.specs.Prelude.{⊤, Option, Some, None, IfSome, All, Result, Ok, Err, IfOk, IfErr, OnOk}
 use Rattle.std.proofs.lemmas.List.Elements.{All-take}
 use Rattle.ch_graph.specs.declared.road.Road.{Road}
@@ -110,3 +110,14 @@ pub never_long-told : HierarchiesHaveOneSpelling → NeverTooLong → (h : Hiera
 never_long-told one law h pairs hier old new P r spells within stops is =
     let written : Writes (StopsAtTooLong h pairs) old new = subst (λ (q : Result ⊤ ServiceError). IfErr q (StopsShort P (StopsAtTooLong h pairs) old new)) is stops in
     never_long one law h pairs hier written.0 spells within written.1
+
+-- in memory
+
+all_of : (P : List ℕ → Type 0) (old new : List ℕ) → old ≡ [] → Writes P (Some old) (Some new) → P new
+all_of P old new none w = subst P (sym (w.2 ∙ ap (λ (l : List ℕ). l ++ w.0) none)) w.1
+
+pub exact-in_memory : (graph_text pairs_text none bytes slice empty text : List ℕ) → none ≡ [] → empty ≡ [] → slice ≡ bytes → Writes (Prepares graph_text) (Some none) (Some bytes)
+    → ((graph : List ℕ) → Prepares graph slice → Writes (Answers graph pairs_text) (Some empty) (Some text)) → Answers graph_text pairs_text text
+exact-in_memory graph_text pairs_text none bytes slice empty text no_byte no_text same prepared routed =
+    let file : Prepares graph_text slice = subst (Prepares graph_text) (sym same) (all_of (Prepares graph_text) none bytes no_byte prepared) in
+    all_of (Answers graph_text pairs_text) empty text no_text (routed graph_text file)

@@ -6,8 +6,9 @@
 //! [`answer_joined`] build one for the call. [`ServiceError`] says why a call didn't do its work. The promise of the
 //! layer is the contract of these calls: what is written has one line for each pair, in order, with the least length
 //! over all walks of the text's graph and the nodes along a walk of exactly that length, or with none where there is no
-//! walk. For `prepare` and `route` together it is [`routes_are_exact`]. After a refusal a contract says which text was
-//! at fault, or which first part of such answers the writer took.
+//! walk. For `prepare` and `route` together it is the one clause of [`routes_in_memory`], and the law [`routes_are_exact`]
+//! for bytes that go by a file. After a refusal a contract says which text was at fault, or which first part of such
+//! answers the writer took.
 //!
 //! Nodes are numbered from 0 inside, and from 1 in every text.
 #![tactic(auto)]
@@ -16,6 +17,7 @@ mod answering;
 mod building;
 mod error;
 mod finding;
+mod in_memory;
 mod input;
 mod joined;
 mod laws;
@@ -28,6 +30,7 @@ mod routing;
 pub use answering::{answer, answer_joined};
 pub use error::ServiceError;
 pub use hierfile::WriteFault;
+pub use in_memory::routes_in_memory;
 pub use laws::{first_routes_are_exact, right_routes_are_least, routes_are_exact};
 pub use preparing::prepare;
 pub use routing::route;

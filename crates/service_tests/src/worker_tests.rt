@@ -4,7 +4,7 @@ use crate::examples::{EXAMPLES, Example, ROW, ROW_TEXT, UNTIED};
 use crate::kit::{Lists, add_list, one_list, options};
 use ch_contract::{Contraction, Facts};
 use ch_estimate::{Depth, EdgeDifference, Estimator, Leases, Neighbours, Note};
-use ch_service::{ServiceError, answer, prepare, route};
+use ch_service::{ServiceError, answer, prepare, routes_in_memory};
 use ch_workers::{BuildError, Gate, OpenGate, Options, Point};
 use grfile::{GrError, GrErrorKind};
 use std::alloc::{AllocError, Global};
@@ -55,7 +55,7 @@ fn answers_by_one<R: Threads + Wait + Sync>(
     Ok(out)
 }
 
-/// The answers to the pairs of an example, by a file that two workers prepare by these estimators.
+/// The answers to the pairs of an example in memory, by a file that two workers prepare by these estimators.
 fn routes_by_two<R: Threads + Wait + Sync>(
     rt: &R,
     alloc: Global,
@@ -69,21 +69,16 @@ fn routes_by_two<R: Threads + Wait + Sync>(
 {
     let mut lists = one_list(alloc, first)?;
     add_list(alloc, &mut lists, second)?;
-    let (mut graph, mut pairs) = (example.graph, example.pairs);
-    let mut file = Vec::new(alloc);
-    prepare(
+    routes_in_memory(
         rt,
         alloc,
-        &mut graph,
-        &mut file,
+        example.graph,
+        example.pairs,
         options(2),
         lists,
         leases,
         &OpenGate,
-    )?;
-    let mut out = Vec::new(alloc);
-    route(alloc, &mut file.as_slice(), &mut pairs, &mut out)?;
-    Ok(out)
+    )
 }
 
 #[test]

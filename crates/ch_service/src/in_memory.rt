@@ -1,0 +1,42 @@
+ghost use Rattle.std.specs.Prelude.{◌≡◌, [], All, IfOk};
+ghost use Rattle.ch_service.specs.Answer.{Answers};
+
+use crate::error::ServiceError;
+use crate::preparing::prepare;
+use crate::routing::route;
+use ch_estimate::{Estimator, Leases};
+use ch_workers::{Gate, Options};
+use std::alloc::Global;
+use std::sync::Wait;
+use std::thread::Threads;
+
+/// The answers to the pairs of one text over the graph of another, by a hierarchy's file in memory.
+///
+/// [`prepare`] writes the file from the text of the graph, and [`route`] reads it and answers the pairs: what a user does
+/// by two commands. The answers have one line for each pair, in order: the least length over all walks in the graph and
+/// the nodes along a walk of exactly that length, or that there is no walk. This holds for all options and estimators,
+/// and however the workers' reads and commits fall. Refusals, time and memory are those of the two calls, with the bytes of
+/// the file and of the answers.
+pub fn routes_in_memory<P: Gate, R: Threads + Wait + Sync>(
+    rt: &R,
+    alloc: Global,
+    graph: &[u8],
+    pairs: &[u8],
+    options: Options,
+    lists: Vec<Vec<Box<dyn Estimator + Send>>>,
+    leases: &mut Leases,
+    gate: &P,
+) -> Result<Vec<u8>, ServiceError>
+    requires untold { All (λ list. All (λ estimator. heard estimator ≡ []) list.items) lists.items }
+    ensures exact { IfOk result (λ text. Answers graph.now pairs.now text.items) }
+{
+    let (mut graph, mut pairs) = (graph, pairs);
+    let mut file = Vec::new(alloc);
+    prepare(
+        rt, alloc, &mut graph, &mut file, options, lists, leases, gate,
+    )?;
+    let mut bytes = file.as_slice();
+    let mut text = Vec::new(alloc);
+    route(alloc, &mut bytes, &mut pairs, &mut text)?;
+    Ok(text)
+}
