@@ -1,4 +1,3 @@
-pub mod Finding
 pub mod Refining
 pub mod UnderWay
 pub mod SmallHierarchies
