@@ -20,7 +20,8 @@ pub struct Finished {
 }
 
 /// The hierarchy that the contractions of a ledger lead to. Refused while a node isn't contracted, which is tested
-/// first, or for want of memory. Takes memory for the ranks and the links, which it sorts.
+/// first, or for want of memory. Takes memory for the ranks and the links, which it sorts, and for where links and their
+/// halves are.
 pub fn hierarchy_of(ledger: &Ledger) -> Result<Hierarchy, FinishError>
     ensures made { IfOk result (λ h. IsMade ledger.now.graph (state_of ledger.now.overlay) h) }
     ensures right { IfOk result (λ h. IsRight ledger.now.graph h) }
@@ -37,5 +38,9 @@ pub fn hierarchy_of(ledger: &Ledger) -> Result<Hierarchy, FinishError>
     let Ok(links) = links_of(ledger.allocator(), overlay) else {
         return Err(FinishError::OutOfMemory);
     };
-    Ok(Hierarchy::new(ranks, links, ledger.graph().bound()))
+    let bound = ledger.graph().bound();
+    let Ok(hierarchy) = Hierarchy::indexed(ledger.allocator(), ranks, links, bound) else {
+        return Err(FinishError::OutOfMemory);
+    };
+    Ok(hierarchy)
 }

@@ -2,6 +2,7 @@ pub mod HeaviestArc
 pub mod Walks
 pub mod Bound
 pub mod LinkSearch
+pub mod HeadSearch
 pub mod LinkParts
 pub mod Chains
 pub mod Unfolding
@@ -14,3 +15,4 @@ pub mod Through
 pub mod LeastArc
 pub mod OneUnfolding
 pub mod Places
+pub mod LinkPlaces

@@ -5,7 +5,7 @@ use Rattle.std.proofs.lemmas.List.{get_or_default, get_or-take, get_or-drop, len
 use Rattle.ch_cost.specs.Cost.{zero_cost}
 use Rattle.ch_graph.specs.declared.link.Link.{Link}
 use Rattle.ch_graph.specs.Hierarchy.{ComesBefore, IsLinkAt}
-use Rattle.ch_graph.specs.LinkIndex.{IsFirstFrom, IsIndexOf, IsPartOf}
+use Rattle.ch_graph.specs.LinkIndex.{IsFirstFrom, IsIndexOf, IsPartOf, IsHeadAt, ComesToLower}
 
 some_link : Link
 some_link = record { from = 0; to = 0; cost = zero_cost; middle = None }
@@ -22,24 +22,28 @@ part_length links b e b≤e within =
 part_at : (links : List Link) (b e k : ℕ) (d : Link) → k < e - b → get_or (part links b e) k d ≡ get_or links (b + k) d
 part_at links b e k d k< = get_or-take (e - b) (drop b links) k d k< ∙ get_or-drop b links k d
 
-pub part_rises : (links : List Link) (b e : ℕ) → b ≤ e → e ≤ length links → AllPairs ComesBefore links → AllPairs ComesBefore (part links b e)
-part_rises links b e b≤e within sorted i j d i<j j< =
-    let inside : j < e - b = omega (arith, part_length links b e b≤e within) in
+pub part_rises : (links : List Link) (x b e : ℕ) → IsPartOf links x b e → AllPairs ComesBefore links → AllPairs ComesToLower (part links b e)
+part_rises links x b e is_part sorted i j d i<j j< =
+    let inside : j < e - b = omega (arith, part_length links b e is_part.ordered is_part.within) in
     let first : get_or (part links b e) i d ≡ get_or links (b + i) d = part_at links b e i d (omega arith) in
     let second : get_or (part links b e) j d ≡ get_or links (b + j) d = part_at links b e j d inside in
-    rw (first, second) (sorted (b + i) (b + j) d (omega arith) (omega arith))
+    let below : (get_or links (b + i) d).to < (get_or links (b + j) d).to = elim (sorted (b + i) (b + j) d (omega arith) (omega (arith, is_part.within))) [
+      | inl h ↦ absurd (omega (arith, h, is_part.leave (b + i) d (omega arith) (omega arith), is_part.leave (b + j) d (omega arith) (omega arith)))
+      | inr h ↦ h.1
+    ] in
+    rw (first, second) below
 
 -- a place in the part is a place in the whole, and the other way round
-pub found_in_part : (links : List Link) (b e x y p : ℕ) → b ≤ e → e ≤ length links → IsLinkAt (part links b e) x y p → IsLinkAt links x y (b + p)
-found_in_part links b e x y p b≤e within at =
-    let inside : p < e - b = omega (arith, part_length links b e b≤e within, at.within) in
+pub found_in_part : (links : List Link) (b e x y p : ℕ) → IsPartOf links x b e → IsHeadAt (part links b e) y p → IsLinkAt links x y (b + p)
+found_in_part links b e x y p is_part at =
+    let inside : p < e - b = omega (arith, part_length links b e is_part.ordered is_part.within, at.within) in
     record {
-      within = omega arith;
-      from = λ (d : Link). ap (λ (l : Link). l.from) (sym (part_at links b e p d inside)) ∙ at.from d;
+      within = omega (arith, is_part.within);
+      from = λ (d : Link). is_part.leave (b + p) d (omega arith) (omega arith);
       to = λ (d : Link). ap (λ (l : Link). l.to) (sym (part_at links b e p d inside)) ∙ at.to d;
     }
 
-pub not_in_part : (links : List Link) (b e x y : ℕ) → IsPartOf links x b e → ((p : ℕ) → IsLinkAt (part links b e) x y p → ⊥) → (p : ℕ) → IsLinkAt links x y p → ⊥
+pub not_in_part : (links : List Link) (b e x y : ℕ) → IsPartOf links x b e → ((p : ℕ) → IsHeadAt (part links b e) y p → ⊥) → (p : ℕ) → IsLinkAt links x y p → ⊥
 not_in_part links b e x y is_part nowhere p at =
     let there = is_part.whole p some_link at.within (at.from some_link) in
     let low : b ≤ p = there.0 in
@@ -49,7 +53,6 @@ not_in_part links b e x y is_part nowhere p at =
     let is : (d : Link) → get_or (part links b e) (p - b) d ≡ get_or links p d = λ (d : Link). part_at links b e (p - b) d inside ∙ ap (λ k. get_or links k d) same in
     nowhere (p - b) (record {
       within = omega (arith, part_length links b e is_part.ordered is_part.within);
-      from = λ (d : Link). ap (λ (l : Link). l.from) (is d) ∙ at.from d;
       to = λ (d : Link). ap (λ (l : Link). l.to) (is d) ∙ at.to d;
     })
 
@@ -68,6 +71,7 @@ part_of links firsts x is_index x< =
         | inr h ↦ omega arith
       ];
       within = next.within;
+      leave = λ k (d : Link) low high. omega (arith, low_end, here.behind k d low (omega arith), next.before k d high);
       whole = λ k (d : Link) k< leaves. (
         elim (cases_lt k b) [
           | inl h ↦ absurd (omega (arith, here.before k d h))
@@ -79,13 +83,6 @@ part_of links firsts x is_index x< =
         ],
       );
     }
-
-pub whole_part : (links : List Link) (x : ℕ) → IsPartOf links x 0 (length links)
-whole_part links x = record {
-  ordered = omega arith;
-  within = omega arith;
-  whole = λ k (d : Link) k< leaves. (omega arith, k<);
-}
 
 -- The first link from a node on
 

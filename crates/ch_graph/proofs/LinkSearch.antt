@@ -14,13 +14,13 @@ use Rattle.ch_graph.specs.Hierarchy.{ComesBefore, IsLinkAt}
 abbrev pub ends_cmp : ℕ → ℕ → ℕ → ℕ → Ordering
 ends_cmp a b x y = ordering_then (nat_cmp a x) (nat_cmp b y)
 
-cmp-less : (a x : ℕ) → a < x → nat_cmp a x ≡ Less
+pub cmp-less : (a x : ℕ) → a < x → nat_cmp a x ≡ Less
 cmp-less a x h = grind (arith, nat_tests)
 
-cmp-equal : (a x : ℕ) → a ≡ x → nat_cmp a x ≡ Equal
+pub cmp-equal : (a x : ℕ) → a ≡ x → nat_cmp a x ≡ Equal
 cmp-equal a x h = grind (arith, nat_tests)
 
-cmp-greater : (a x : ℕ) → x < a → nat_cmp a x ≡ Greater
+pub cmp-greater : (a x : ℕ) → x < a → nat_cmp a x ≡ Greater
 cmp-greater a x h = grind (arith, nat_tests)
 
 -- by the first numbers, and then by the second

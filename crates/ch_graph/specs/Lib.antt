@@ -2,6 +2,7 @@ pub mod Walk
 pub mod Graph
 pub mod Hierarchy
 pub mod LinkIndex
+pub mod LinkHalves
 pub mod Unfolding
 pub mod Labels
 pub mod Queue

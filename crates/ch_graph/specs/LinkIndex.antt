@@ -12,8 +12,18 @@ pub record IsFirstFrom (links : List Link) (v place : ℕ) : Type 0 where
 pub record IsIndexOf (links : List Link) (firsts : List ℕ) : Type 0 where
   pub first : (v : ℕ) → v < length firsts → IsFirstFrom links v (slice_index firsts v)
 
--- all links that leave x are from the first of these places on and before the second
+-- the links that leave x are those from the first of these places on and before the second
 pub record IsPartOf (links : List Link) (x begin end : ℕ) : Type 0 where
   pub ordered : begin ≤ end
   pub within : end ≤ length links
+  pub leave : (k : ℕ) (d : Link) → begin ≤ k → k < end → (slice_index_or links k d).from ≡ x
   pub whole : (k : ℕ) (d : Link) → k < length links → (slice_index_or links k d).from ≡ x → (begin ≤ k) × (k < end)
+
+-- the order of links that leave one node: by the node that they come to
+abbrev pub ComesToLower : Link → Link → Type 0
+ComesToLower a b = a.to < b.to
+
+-- the link at this place of the list comes to y
+pub record IsHeadAt (links : List Link) (y place : ℕ) : Type 0 where
+  pub within : place < length links
+  pub to : (d : Link) → (slice_index_or links place d).to ≡ y

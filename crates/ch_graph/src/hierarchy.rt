@@ -1,8 +1,12 @@
-ghost use Rattle.std.specs.Prelude.{◌≡◌, ◌<◌, ℕ, length, slice_index, AllPairs, IfOk, IfSome, IfNone};
+ghost use Rattle.std.specs.Prelude.{◌≡◌, ◌<◌, ℕ, length, slice_index, slice_index_or, AllPairs, None, IfOk, IfSome, IfNone};
+ghost use Rattle.ch_cost.specs.Cost.{of_weight};
 ghost use Rattle.ch_graph.specs.Hierarchy.{IsWellMade, IsLinkAt, ComesBefore};
 ghost use Rattle.ch_graph.specs.LinkIndex.{IsIndexOf};
+ghost use Rattle.ch_graph.specs.LinkHalves.{AreHalvesOf, HalvesAre};
+ghost use Rattle.ch_graph.specs.declared.link.Link.{Link};
 
 use crate::link::Link;
+use crate::link_halves::{Halves, LinkHalves};
 use crate::link_index::LinkIndex;
 use ch_cost::Cost;
 use std::alloc::{AllocError, Global};
@@ -16,8 +20,8 @@ pub struct LinkId(pub usize);
 /// arcs of a graph and shortcuts for two links by way of a node of lower rank.
 ///
 /// Every hierarchy is well made, so that a file can hold it. Whether it is right for a graph is said where it is
-/// made. It holds 4 bytes a node and about 32 a link, with an index 8 bytes a node more, and no call takes memory but
-/// [`Hierarchy::indexed`].
+/// made. It holds 4 bytes a node and 24 a link, with an index 8 bytes a node and 8 a link more, and no call takes memory
+/// but [`Hierarchy::indexed`].
 #[derive(Drop)]
 pub struct Hierarchy {
     ranks: Vec<u32>,
@@ -25,35 +29,41 @@ pub struct Hierarchy {
     bound: Cost,
     // Of these links, or of no node.
     index: LinkIndex,
+    // Of these links, or of the first so many.
+    halves: LinkHalves,
 }
 
 impl Model for Hierarchy {
     ghost use Rattle.ch_graph.specs.Hierarchy as hierarchies;
     ghost use Rattle.ch_graph.specs.LinkIndex.{IsIndexOf};
+    ghost use Rattle.ch_graph.specs.LinkHalves.{AreHalvesOf};
 
     ghost Value = { hierarchies.Hierarchy };
 
     ghost view = { λ h. record { ranks = h.ranks.items; links = h.links.items; bound = h.bound } };
 
-    ghost invariant = { λ h. hierarchies.IsWellMade (record { ranks = h.ranks.items; links = h.links.items; bound = h.bound }) × IsIndexOf h.links.items h.index };
+    ghost invariant = { λ h. hierarchies.IsWellMade (record { ranks = h.ranks.items; links = h.links.items; bound = h.bound }) × IsIndexOf h.links.items h.index × AreHalvesOf h.links.items h.halves };
 }
 
 impl Hierarchy {
     /// The hierarchy of these ranks, one for each node, these links, in rising order of their ends, and this bound.
     ///
-    /// It has no index: a link is looked for among all. Takes no memory.
+    /// It has no index: a link is looked for among all, and so are its halves. Takes no memory.
     pub fn new(ranks: Vec<u32>, links: Vec<Link>, bound: Cost) -> Hierarchy
         requires { IsWellMade (record { ranks = ranks.items; links = links.items; bound = bound }) }
         ensures { result ≡ record { ranks = ranks.items; links = links.items; bound = bound } }
     {
-        let index = LinkIndex::none(*ranks.allocator());
-        Hierarchy::with_index(ranks, links, bound, index)
+        let alloc = *ranks.allocator();
+        let index = LinkIndex::none(alloc);
+        let halves = LinkHalves::none(alloc);
+        Hierarchy::with_index(ranks, links, bound, index, halves)
     }
 
     /// The same hierarchy as by [`Hierarchy::new`], with an index, so that a link is looked for among those that leave
-    /// its first node.
+    /// its first node, and with the places of the halves of links.
     ///
-    /// Takes 8 bytes a node, and looks at each link once. Fails only for want of memory.
+    /// Takes 8 bytes a node and 8 a link. It looks at each link once, and looks for the halves of each. Fails only for
+    /// want of memory.
     pub fn indexed(
         alloc: Global,
         ranks: Vec<u32>,
@@ -64,13 +74,24 @@ impl Hierarchy {
         ensures { IfOk result (λ h. h ≡ record { ranks = ranks.items; links = links.items; bound = bound }) }
     {
         let index = LinkIndex::new(alloc, ranks.len() as u32, links.as_slice())?;
-        Ok(Hierarchy::with_index(ranks, links, bound, index))
+        let none = LinkHalves::none(alloc);
+        let mut hierarchy = Hierarchy::with_index(ranks, links, bound, index, none);
+        hierarchy.halves = hierarchy.find_all_halves(alloc)?;
+        Ok(hierarchy)
     }
 
-    /// The same hierarchy as by [`Hierarchy::new`], with this index of its links. Takes no memory.
-    pub fn with_index(ranks: Vec<u32>, links: Vec<Link>, bound: Cost, index: LinkIndex) -> Hierarchy
+    /// The same hierarchy as by [`Hierarchy::new`], with this index of its links and these places of their halves. Takes
+    /// no memory.
+    pub fn with_index(
+        ranks: Vec<u32>,
+        links: Vec<Link>,
+        bound: Cost,
+        index: LinkIndex,
+        halves: LinkHalves,
+    ) -> Hierarchy
         requires made { IsWellMade (record { ranks = ranks.items; links = links.items; bound = bound }) }
         requires index { IsIndexOf links.items index }
+        requires halves { AreHalvesOf links.items halves }
         ensures { result ≡ record { ranks = ranks.items; links = links.items; bound = bound } }
     {
         Hierarchy {
@@ -78,6 +99,7 @@ impl Hierarchy {
             links,
             bound,
             index,
+            halves,
         }
     }
 
@@ -120,6 +142,49 @@ impl Hierarchy {
         ensures none { IfNone result ((place : ℕ) → IsLinkAt self.now.links from to place → ⊥) }
     {
         self.index.find(self.links.as_slice(), from, to)
+    }
+
+    /// The places of the halves of the link at a place, or none for an arc of the graph.
+    ///
+    /// Where the hierarchy keeps the places, it looks at one of these, and else it looks for both halves as
+    /// [`Hierarchy::find`] does.
+    pub fn halves(&self, id: LinkId) -> Option<Halves>
+        requires { id.0 < length self.now.links }
+        ensures { (d : Link) → HalvesAre self.now.links (slice_index_or self.now.links id.0 d) result }
+    {
+        match self.halves.get(id) {
+            Some(kept) => kept.halves(id),
+            None => self.find_halves(id),
+        }
+    }
+
+    // Looks for the halves of the link at a place.
+    fn find_halves(&self, id: LinkId) -> Option<Halves>
+        requires { id.0 < length self.now.links }
+        ensures { (d : Link) → HalvesAre self.now.links (slice_index_or self.now.links id.0 d) result }
+    {
+        let link = self.links[id.0];
+        let middle = link.middle?;
+        let Some(first) = self.find(link.from, middle) else {
+            unreachable!();
+        };
+        let Some(second) = self.find(middle, link.to) else {
+            unreachable!();
+        };
+        Some(Halves { first, second })
+    }
+
+    // Looks for the halves of each link.
+    fn find_all_halves(&self, alloc: Global) -> Result<LinkHalves, AllocError>
+        ensures { IfOk result (AreHalvesOf self.now.links) }
+    {
+        let count = self.links.len();
+        let mut halves = LinkHalves::with_room(alloc, count)?;
+        'links: for place in 0..count {
+            let id = LinkId(place);
+            halves.keep(id, self.find_halves(id))?;
+        }
+        Ok(halves)
     }
 }
 

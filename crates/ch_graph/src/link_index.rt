@@ -1,7 +1,7 @@
 ghost use Rattle.std.specs.Prelude.{◌≡◌, ◌+◌, ◌<◌, ◌≤◌, ℕ, [], length, slice_index_or, AllPairs, IfOk, IfSome, IfNone};
 ghost use Rattle.ch_graph.specs.declared.link.Link.{Link};
 ghost use Rattle.ch_graph.specs.Hierarchy.{ComesBefore, IsLinkAt};
-ghost use Rattle.ch_graph.specs.LinkIndex.{IsFirstFrom, IsIndexOf, IsPartOf};
+ghost use Rattle.ch_graph.specs.LinkIndex.{ComesToLower, IsFirstFrom, IsHeadAt, IsIndexOf, IsPartOf};
 
 use crate::hierarchy::{LinkId, find_link};
 use crate::link::Link;
@@ -69,31 +69,42 @@ impl LinkIndex {
         ensures found { IfSome result (λ id. IsLinkAt links.now from to id.0) }
         ensures none { IfNone result ((place : ℕ) → IsLinkAt links.now from to place → ⊥) }
     {
-        let part = self.part(links, from);
-        let among = &links[part.begin..part.end];
-        match find_link(among, from, to) {
-            Some(place) => Some(LinkId(part.begin + place.0)),
+        let Some(part) = self.part(links, from) else {
+            return find_link(links, from, to);
+        };
+        match find_head(&links[part.begin..part.end], to) {
+            Some(place) => Some(LinkId(part.begin + place)),
             None => None,
         }
     }
 
-    // Where the links that leave a node are.
-    fn part(&self, links: &[Link], from: u32) -> Part
+    // Where the links that leave a node are, if the index has the node.
+    fn part(&self, links: &[Link], from: u32) -> Option<Part>
         requires { IsIndexOf links.now self.now }
-        ensures { IsPartOf links.now from result.begin result.end }
+        ensures { IfSome result (λ part. IsPartOf links.now from part.begin part.end) }
     {
         let node = from as usize;
         if node + 1 < self.firsts.len() {
-            Part {
+            Some(Part {
                 begin: self.firsts[node],
                 end: self.firsts[node + 1],
-            }
+            })
         } else {
-            Part {
-                begin: 0,
-                end: links.len(),
-            }
+            None
         }
+    }
+}
+
+// The place of the link that comes to a node, among links in rising order of the nodes that they come to.
+fn find_head(links: &[Link], to: u32) -> Option<usize>
+    requires { AllPairs ComesToLower links.now }
+    ensures found { IfSome result (IsHeadAt links.now to) }
+    ensures none { IfNone result ((place : ℕ) → IsHeadAt links.now to place → ⊥) }
+{
+    let search = links.binary_search_by_key(&to, |link| link.to);
+    match search {
+        Ok(place) => Some(place),
+        Err(_) => None,
     }
 }
 

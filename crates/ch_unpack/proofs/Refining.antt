@@ -1,28 +1,57 @@
--- The nodes that lie ahead of an unfolding, and the arcs that lead along them.
-use Rattle.std.proofs.Common.{ℕ, ◌≡◌, ◌<◌, ◌≤◌, List, [], ◌∷◌, ◌++◌, length, map, Some, None, arith, ap, subst, refl, ◌∙◌, append_assoc, length-append}
+-- The arcs that links at places stand for, when the first of the links is unfolded.
+use Rattle.std.proofs.Common.{ℕ, ◌≡◌, ◌<◌, ◌≤◌, List, [], ◌∷◌, ◌++◌, length, map, Option, Some, None, get_or, arith, ap, subst, sym, refl, ◌∙◌, append_assoc, length-append}
+use Rattle.std.specs.List.{AllZip}
+use Rattle.std.specs.Option.{option_map_or}
+use Rattle.std.proofs.lemmas.List.{get_or_default}
+use Rattle.std.proofs.lemmas.Option.{slice_get_within, slice_get-get_or, get_or_from_slice_get}
 use Rattle.ch_graph.specs.declared.link.Link.{Link}
-use Rattle.ch_graph.specs.Hierarchy.{Hierarchy, IsLink, IsWellMade, Unfolds, Unfolds.whole, Unfolds.halves}
+use Rattle.ch_graph.specs.declared.hierarchy.LinkId.{LinkId}
+use Rattle.ch_graph.specs.declared.link_halves.Halves.{Halves}
+use Rattle.ch_graph.specs.Hierarchy.{Hierarchy, IsLink, IsLinkAt, IsWellMade, Unfolds, Unfolds.whole, Unfolds.halves, UnfoldsAll, UnfoldsAll.done, UnfoldsAll.more}
+use Rattle.ch_graph.specs.LinkHalves.{HalvesAre, AreHalvesAt}
+use Rattle.ch_graph.specs.Unfolding.{IsAt}
 use Rattle.ch_graph.proofs.OneUnfolding.{same_link}
-use Rattle.ch_unpack.specs.Unpacking.{HasMiddle}
+use Rattle.ch_unpack.specs.Unpacking.{Unfolded, head_at}
 
 -- the nodes that arcs come to
 abbrev pub heads : List Link → List ℕ
 heads arcs = map (λ (l : Link). l.to) arcs
 
--- A link from x to y unfolds to the first of the arcs, and the rest of them lead on.
-pub record Leg (h : Hierarchy) (Rest : List Link → Type 0) (x y : ℕ) (arcs : List Link) : Type 0 where
+-- The link at the first place unfolds to the first of the arcs, and those at the others to the rest.
+pub record First (h : Hierarchy) (place : LinkId) (places : List LinkId) (arcs : List Link) : Type 0 where
   pub link : Link
   pub us : List Link
   pub vs : List Link
-  pub leads : IsLink h x y link
+  pub is : IsAt h place link
   pub unfolds : Unfolds h link us
-  pub rest : Rest vs
+  pub others : Unfolded h places vs
   pub parts : arcs ≡ us ++ vs
 
--- links from x to each of the nodes in turn unfold to these arcs
-abbrev pub LeadAlong : Hierarchy → ℕ → List ℕ → List Link → Type 0
-LeadAlong h x [] arcs = arcs ≡ []
-LeadAlong h x (y ∷ ys) arcs = Leg h (LeadAlong h y ys) x y arcs
+first_of : (h : Hierarchy) (place : LinkId) (places : List LinkId) {links arcs : List Link} → AllZip (IsAt h) (place ∷ places) links → UnfoldsAll h links arcs → First h place places arcs
+first_of h place places are done = absurd are
+first_of h place places are (more {l = l} {ls = ls} {us = us} {vs = vs} unfolds rest) = record {
+  link = l;
+  us = us;
+  vs = vs;
+  is = are.0;
+  unfolds = unfolds;
+  others = record { links = ls; are_at = are.1; unfolds = rest };
+  parts = refl;
+}
+
+pub first : (h : Hierarchy) (place : LinkId) (places : List LinkId) (arcs : List Link) → Unfolded h (place ∷ places) arcs → First h place places arcs
+first h place places arcs all = first_of h place places all.are_at all.unfolds
+
+-- a link before links that unfold
+pub before : (h : Hierarchy) (place : LinkId) (places : List LinkId) (l : Link) (us vs : List Link) → IsAt h place l → Unfolds h l us → Unfolded h places vs → Unfolded h (place ∷ places) (us ++ vs)
+before h place places l us vs is unfolds others = record { links = l ∷ others.links; are_at = (is, others.are_at); unfolds = more unfolds others.unfolds }
+
+pub within : (h : Hierarchy) (place : LinkId) (places : List LinkId) (arcs : List Link) → Unfolded h (place ∷ places) arcs → place.0 < length h.links
+within h place places arcs all = let this : First h place places arcs = first h place places arcs all in slice_get_within h.links place.0 this.link this.is
+
+-- what is said of the link at a place by any default is said of that link
+told : (h : Hierarchy) (place : LinkId) (l : Link) (both : Option Halves) → IsAt h place l → ((d : Link) → HalvesAre h.links (get_or h.links place.0 d) both) → HalvesAre h.links l both
+told h place l both is are = subst (λ (k : Link). HalvesAre h.links k both) (get_or_from_slice_get h.links place.0 l l is) (are l)
 
 -- An arc stays as it is, and a shortcut is its halves
 
@@ -58,55 +87,59 @@ halved h {l = l} m (halves {a = a} {b = b} {m = n} {ls = ls} {rs = rs} middle_is
       parts = refl;
     }
 
--- an arc to the next node is the first of the arcs
-pub record Passed (h : Hierarchy) (y : ℕ) (ys : List ℕ) (arcs : List Link) : Type 0 where
-  pub arc : Link
+-- the link between two nodes stands where one between them was found
+at_place : (h : Hierarchy) → IsWellMade h → (x y : ℕ) (place : LinkId) (a : Link) → IsLinkAt h.links x y place.0 → IsLink h x y a → IsAt h place a
+at_place h made x y place a at is =
+    let found : Link = get_or h.links place.0 a in
+    let there : IsLink h x y found = record { among = (place.0, at.within, get_or_default h.links place.0 found a at.within); from = at.from a; to = at.to a } in
+    slice_get-get_or h.links place.0 a at.within ∙ ap (λ (k : Link). Some k) (same_link h made x y found a there is)
+
+-- an arc is the first of the arcs
+pub record Passed (h : Hierarchy) (place : LinkId) (places : List LinkId) (arcs : List Link) : Type 0 where
   pub rest : List Link
-  pub comes : arc.to ≡ y
-  pub leads : LeadAlong h y ys rest
-  pub parts : arcs ≡ arc ∷ rest
+  pub unfolded : Unfolded h places rest
+  pub route : heads arcs ≡ head_at h place ∷ heads rest
 
-pub pass : (h : Hierarchy) → IsWellMade h → (x y : ℕ) (ys : List ℕ) (arcs : List Link) → LeadAlong h x (y ∷ ys) arcs → HasMiddle h x y None → Passed h y ys arcs
-pass h made x y ys arcs leg found =
-    let same : leg.link ≡ found.link = same_link h made x y leg.link found.link leg.leads found.leads in
-    let itself : leg.us ≡ leg.link ∷ [] = only_itself h leg.unfolds (ap (λ (l : Link). l.middle) same ∙ found.by_way) in
+pub pass : (h : Hierarchy) (place : LinkId) (places : List LinkId) (arcs : List Link) → Unfolded h (place ∷ places) arcs → ((d : Link) → HalvesAre h.links (get_or h.links place.0 d) None) → Passed h place places arcs
+pass h place places arcs all are =
+    let this : First h place places arcs = first h place places arcs all in
+    let itself : this.us ≡ this.link ∷ [] = only_itself h this.unfolds (told h place this.link None this.is are) in
+    let head_is : head_at h place ≡ this.link.to = ap (λ (o : Option Link). option_map_or (λ (k : Link). k.to) o 0) this.is in
     record {
-      arc = leg.link;
-      rest = leg.vs;
-      comes = leg.leads.to;
-      leads = leg.rest;
-      parts = leg.parts ∙ ap (λ (us : List Link). us ++ leg.vs) itself;
+      rest = this.vs;
+      unfolded = this.others;
+      route = ap heads (this.parts ∙ ap (λ (us : List Link). us ++ this.vs) itself) ∙ ap (λ n. n ∷ heads this.vs) (sym head_is);
     }
 
--- the same arcs lead to the next node by way of the middle
-pub split : (h : Hierarchy) → IsWellMade h → (x y m : ℕ) (ys : List ℕ) (arcs : List Link) → LeadAlong h x (y ∷ ys) arcs → HasMiddle h x y (Some m) → LeadAlong h x (m ∷ y ∷ ys) arcs
-split h made x y m ys arcs leg found =
-    let same : leg.link ≡ found.link = same_link h made x y leg.link found.link leg.leads found.leads in
-    let parts : Halved h leg.link m leg.us = halved h m leg.unfolds (ap (λ (l : Link). l.middle) same ∙ found.by_way) in
-    record {
-      link = parts.a;
-      us = parts.ls;
-      vs = parts.rs ++ leg.vs;
-      leads = subst (λ k. IsLink h k m parts.a) leg.leads.from parts.first;
-      unfolds = parts.left;
-      rest = record {
-        link = parts.b;
-        us = parts.rs;
-        vs = leg.vs;
-        leads = subst (λ k. IsLink h m k parts.b) leg.leads.to parts.second;
-        unfolds = parts.right;
-        rest = leg.rest;
-        parts = refl;
-      };
-      parts = leg.parts ∙ ap (λ (us : List Link). us ++ leg.vs) parts.parts ∙ append_assoc parts.ls parts.rs leg.vs;
-    }
+-- the same arcs come from the halves in place of a shortcut
+pub split : (h : Hierarchy) → IsWellMade h → (place : LinkId) (places : List LinkId) (arcs : List Link) (both : Halves) → Unfolded h (place ∷ places) arcs → ((d : Link) → HalvesAre h.links (get_or h.links place.0 d) (Some both)) → Unfolded h (both.first ∷ both.second ∷ places) arcs
+split h made place places arcs both all are =
+    let this : First h place places arcs = first h place places arcs all in
+    let l : Link = this.link in
+    let at : AreHalvesAt h.links l both = told h place l (Some both) this.is are in
+    let parts : Halved h l at.middle this.us = halved h at.middle this.unfolds at.by_way in
+    let first_at : IsAt h both.first parts.a = at_place h made l.from at.middle both.first parts.a at.first parts.first in
+    let second_at : IsAt h both.second parts.b = at_place h made at.middle l.to both.second parts.b at.second parts.second in
+    let behind : Unfolded h (both.second ∷ places) (parts.rs ++ this.vs) = before h both.second places parts.b parts.rs this.vs second_at parts.right this.others in
+    let whole_way : Unfolded h (both.first ∷ both.second ∷ places) (parts.ls ++ (parts.rs ++ this.vs)) = before h both.first (both.second ∷ places) parts.a parts.ls (parts.rs ++ this.vs) first_at parts.left behind in
+    subst (λ (xs : List Link). Unfolded h (both.first ∷ both.second ∷ places) xs) (sym (this.parts ∙ ap (λ (us : List Link). us ++ this.vs) parts.parts ∙ append_assoc parts.ls parts.rs this.vs)) whole_way
+
+no_arcs : (h : Hierarchy) {links arcs : List Link} → AllZip (IsAt h) [] links → UnfoldsAll h links arcs → arcs ≡ []
+no_arcs h are done = refl
+no_arcs h are (more unfolds rest) = absurd are
+
+-- no link unfolds to no arc
+pub nothing_left : (h : Hierarchy) (arcs : List Link) → Unfolded h [] arcs → arcs ≡ []
+nothing_left h arcs all = no_arcs h all.are_at all.unfolds
 
 -- a link unfolds to one arc or more
 some_arc : (h : Hierarchy) {l : Link} {us : List Link} → Unfolds h l us → 0 < length us
 some_arc h (whole none_is) = omega arith
 some_arc h (halves {ls = ls} {rs = rs} middle_is first second left right) = omega (arith, some_arc h left, length-append ls rs)
 
--- there are as many arcs as nodes, or more
-pub nodes_at_most_arcs : (h : Hierarchy) (x : ℕ) (ys : List ℕ) (arcs : List Link) → LeadAlong h x ys arcs → length ys ≤ length arcs
-nodes_at_most_arcs h x [] arcs none_is = omega arith
-nodes_at_most_arcs h x (y ∷ ys) arcs leg = omega (arith, nodes_at_most_arcs h y ys leg.vs leg.rest, some_arc h leg.unfolds, ap (λ (k : List Link). length k) leg.parts, length-append leg.us leg.vs)
+-- there are as many arcs as links, or more
+pub places_at_most_arcs : (h : Hierarchy) (places : List LinkId) (arcs : List Link) → Unfolded h places arcs → length places ≤ length arcs
+places_at_most_arcs h [] arcs all = omega arith
+places_at_most_arcs h (place ∷ places) arcs all =
+    let this : First h place places arcs = first h place places arcs all in
+    omega (arith, places_at_most_arcs h places this.vs this.others, some_arc h this.unfolds, ap (λ (k : List Link). length k) this.parts, length-append this.us this.vs)

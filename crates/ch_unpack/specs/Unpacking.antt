@@ -1,9 +1,9 @@
 -- The nodes of a route whose links are unfolded.
-use Rattle.std.specs.Prelude.{ℕ, ◌≡◌, ◌-◌, ◌<◌, ◌≤◌, List, ◌∷◌, length, map, Option, codes, slice_get}
+use Rattle.std.specs.Prelude.{ℕ, ◌≡◌, ◌-◌, ◌<◌, ◌≤◌, List, ◌∷◌, length, map, codes, slice_get}
 use Rattle.std.specs.Option.{option_map_or}
 use Rattle.ch_graph.specs.declared.link.Link.{Link}
 use Rattle.ch_graph.specs.declared.hierarchy.LinkId.{LinkId}
-use Rattle.ch_graph.specs.Hierarchy.{Hierarchy, IsLink, UnfoldsAll}
+use Rattle.ch_graph.specs.Hierarchy.{Hierarchy, UnfoldsAll}
 use Rattle.ch_graph.specs.Unfolding.{AreAt}
 use Rattle.ch_unpack.specs.declared.error.UnpackError.{UnpackError}
 use Rattle.ch_unpack.specs.declared.error.UnpackError.TheVariants.{OutOfMemory, TooLong}
@@ -27,17 +27,6 @@ pub record IsTooLong (h : Hierarchy) (places : List LinkId) : Type 0 where
   pub arcs : List Link
   pub unfolded : Unfolded h places arcs
   pub many : length h.ranks - 1 < length arcs
-
--- some link leads from x to y
-pub record HasLink (h : Hierarchy) (x y : ℕ) : Type 0 where
-  pub link : Link
-  pub leads : IsLink h x y link
-
--- a link leads from x to y and has this middle, or none
-pub record HasMiddle (h : Hierarchy) (x y : ℕ) (middle : Option ℕ) : Type 0 where
-  pub link : Link
-  pub leads : IsLink h x y link
-  pub by_way : link.middle ≡ middle
 
 -- the node that the link at a place comes to
 abbrev pub head_at : Hierarchy → LinkId → ℕ

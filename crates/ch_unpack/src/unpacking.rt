@@ -1,10 +1,9 @@
-ghost use Rattle.std.specs.Prelude.{◌≡◌, ◌<◌, All, IfOk, length, map, reverse};
+ghost use Rattle.std.specs.Prelude.{◌≡◌, ◌<◌, IfOk, length, reverse};
 ghost use Rattle.ch_graph.specs.Unfolding.{Joined};
-ghost use Rattle.ch_unpack.specs.Unpacking.{HasLink, HasMiddle, IsUnpacked, IsTooLong, head_at};
+ghost use Rattle.ch_unpack.specs.Unpacking.{IsUnpacked, IsTooLong, head_at};
 
 use crate::error::UnpackError;
 use ch_graph::{Hierarchy, LinkId};
-use smallvec::SmallVec;
 use std::alloc::{AllocError, Global};
 
 /// The nodes of the route from `source` along the links at these places: the source, and then the heads of the arcs
@@ -13,8 +12,8 @@ use std::alloc::{AllocError, Global};
 /// The first link leaves `source`, and each other leaves the node where the one before it came to. `TooLong` where
 /// the arcs are not fewer than the nodes of the hierarchy, since then the route repeats a node.
 ///
-/// It keeps the nodes that it came to and those that still lie ahead, together at most as many as the hierarchy has,
-/// and looks up at most two links for each of these, however many arcs the links stand for.
+/// It keeps the nodes that it came to and the places of the links that still lie ahead, together at most as many as the
+/// hierarchy has nodes, and asks for the halves of each of these once, however many arcs the links stand for.
 pub fn unpack(
     alloc: Global,
     hierarchy: &Hierarchy,
@@ -32,40 +31,27 @@ pub fn unpack(
     }
     let mut nodes = Vec::new(alloc);
     nodes.push(source)?;
-    let mut ahead = heads_ahead(alloc, hierarchy, links)?;
-    let mut here = source;
+    let mut ahead = last_first(alloc, links)?;
     'route: while let Some(next) = ahead.pop() {
-        match middle_between(hierarchy, here, next) {
-            Some(middle) => {
+        match hierarchy.halves(next) {
+            Some(halves) => {
                 if nodes.len() + ahead.len() + 2 > room {
                     return Err(UnpackError::TooLong);
                 }
-                ahead.push(next)?;
-                ahead.push(middle)?;
+                ahead.push(halves.second)?;
+                ahead.push(halves.first)?;
             }
-            None => {
-                nodes.push(next)?;
-                here = next;
-            }
+            None => nodes.push(head(hierarchy, next))?,
         }
     }
     Ok(nodes)
 }
 
-/// The nodes that the links at these places come to, the last first.
-fn heads_ahead(
-    alloc: Global,
-    hierarchy: &Hierarchy,
-    places: &[LinkId],
-) -> Result<SmallVec<u32, 32>, AllocError>
-    requires { All (λ place. place.0 < length hierarchy.now.links) places.now }
-    ensures { IfOk result (λ ahead. reverse ahead.items ≡ map (head_at hierarchy.now) places.now) }
+/// The same places, the last first.
+fn last_first(alloc: Global, places: &[LinkId]) -> Result<Vec<LinkId>, AllocError>
+    ensures { IfOk result (λ ahead. reverse ahead.items ≡ places.now) }
 {
-    places
-        .iter()
-        .rev()
-        .map(|place| head(hierarchy, *place))
-        .collect(alloc)
+    places.iter().rev().copied().collect(alloc)
 }
 
 /// The node that the link at a place comes to.
@@ -74,15 +60,4 @@ fn head(hierarchy: &Hierarchy, place: LinkId) -> u32
     ensures { result ≡ head_at hierarchy.now place }
 {
     hierarchy.links()[place.0].to
-}
-
-/// The middle of the link from one node to another, or none where that link is an arc of the graph.
-fn middle_between(hierarchy: &Hierarchy, from: u32, to: u32) -> Option<u32>
-    requires { HasLink hierarchy.now from to }
-    ensures { HasMiddle hierarchy.now from to result }
-{
-    match hierarchy.find(from, to) {
-        Some(place) => hierarchy.links()[place.0].middle,
-        None => unreachable!(),
-    }
 }

@@ -1,14 +1,14 @@
 -- Links by their ends, and the halves of a link.
-use Rattle.std.proofs.Common.{ℕ, zero, suc, ◌≡◌, ◌+◌, ◌==◌, Bool, true, false, cond, not, List, [], ◌∷◌, get_or, Option, None, Some, AllPairs, inl, inr, sym, refl, ap, ◌∙◌, subst, arith}
+use Rattle.std.proofs.Common.{ℕ, zero, suc, ◌≡◌, ◌+◌, ◌==◌, ◌<◌, length, drop, Bool, true, false, cond, not, List, [], ◌∷◌, get_or, Option, None, Some, AllPairs, inl, inr, sym, refl, ap, ◌∙◌, subst, arith}
 use Rattle.std.specs.List.{find}
-use Rattle.std.specs.Option.{option_map}
 use Rattle.std.proofs.lemmas.Bool.Decides.{nat_tests}
-use Rattle.ch_cost.specs.declared.cost.Cost.{Cost}
 use Rattle.ch_cost.specs.Cost.{length_of}
 use Rattle.ch_graph.specs.declared.link.Link.{Link}
 use Rattle.ch_graph.specs.Hierarchy.{ComesBefore, IsLinkAt}
 use Rattle.hierfile.specs.declared.error.HierError.TheVariants.{HalfMissing, HalfSum}
-use Rattle.hierfile.specs.Fault.{leads, sum_fault, fault_if}
+use Rattle.hierfile.specs.declared.error.HierError.{HierError}
+use Rattle.hierfile.specs.Fault.{leads, sum_fault, halves_fault, half_fault, first_along, fault_if, ◌otherwise◌}
+use Rattle.std.proofs.Math.Seq.{drop-cons}
 
 pub leads-from : (x y : ℕ) (l : Link) → l.from ≡ x → l.to ≡ y → leads x y l ≡ true
 leads-from x y l e f = grind (arith, nat_tests)
@@ -44,23 +44,42 @@ find-none x y (l ∷ ls) none =
       | false ↦ λ is. find-none x y ls (λ place at. none (suc place) (record { within = omega (arith, at.within); from = at.from; to = at.to }))
     ] refl
 
-abbrev pub length_in : Option Link → Option ℕ
-length_in o = option_map (λ l. length_of l.cost) o
+-- The fault of a link's halves
 
-pub first_missing : (a b : Option Link) (cost : Cost) → None ≡ length_in a → sum_fault a b cost ≡ Some HalfMissing
-first_missing None b cost h = refl
-first_missing (Some l) b cost h = absurd (cc)
+module _ (links : List Link) (l : Link) (m : ℕ) (by_way : l.middle ≡ Some m) where
+  -- what is said of the halves by the middle is said of the link
+  pub by_middle : (fault : Option HierError) → sum_fault (find (leads l.from m) links) (find (leads m l.to) links) l.cost ≡ fault → half_fault links l ≡ fault
+  unfolding half_fault
+  by_middle fault is = subst (λ (o : Option ℕ). halves_fault links l.from l.to l.cost o ≡ fault) (sym by_way) is
 
-pub second_missing : (a b : Option Link) (cost : Cost) → None ≡ length_in b → sum_fault a b cost ≡ Some HalfMissing
-second_missing None b cost h = refl
-second_missing (Some l) None cost h = refl
-second_missing (Some l) (Some m) cost h = absurd (cc)
+  pub no_first : ((place : ℕ) → IsLinkAt links l.from m place → ⊥) → half_fault links l ≡ Some HalfMissing
+  no_first nowhere = by_middle (Some HalfMissing) (ap (λ (a : Option Link). sum_fault a (find (leads m l.to) links) l.cost) (find-none l.from m links nowhere))
 
-pub sum_found : (a b : Option Link) (cost : Cost) (m n : ℕ) (same : Bool) → Some m ≡ length_in a → Some n ≡ length_in b → same ≡ (length_of cost == m + n) → sum_fault a b cost ≡ fault_if (not same) HalfSum
-sum_found None b cost m n same h k e = absurd (cc)
-sum_found (Some l) None cost m n same h k e = absurd (cc)
-sum_found (Some l) (Some r) cost m n same h k e =
-    let first : m ≡ length_of l.cost = cc in
-    let second : n ≡ length_of r.cost = cc in
-    let is : (length_of cost == length_of l.cost + length_of r.cost) ≡ same = ap (λ p. length_of cost == p + length_of r.cost) (sym first) ∙ ap (λ p. length_of cost == m + p) (sym second) ∙ sym e in
-    ap (λ b. fault_if (not b) HalfSum) is
+  pub no_second : ((place : ℕ) → IsLinkAt links m l.to place → ⊥) → half_fault links l ≡ Some HalfMissing
+  no_second nowhere =
+      by_middle (Some HalfMissing) (ap (λ (b : Option Link). sum_fault (find (leads l.from m) links) b l.cost) (find-none m l.to links nowhere) ∙ missing (find (leads l.from m) links))
+    where
+      missing : (a : Option Link) → sum_fault a None l.cost ≡ Some HalfMissing
+      missing None = refl
+      missing (Some a) = refl
+
+  pub both_found : AllPairs ComesBefore links → (first second : ℕ) (d : Link) (same : Bool) → IsLinkAt links l.from m first → IsLinkAt links m l.to second → same ≡ (length_of l.cost == length_of (get_or links first d).cost + length_of (get_or links second d).cost) → half_fault links l ≡ fault_if (not same) HalfSum
+  both_found sorted first second d same at_first at_second is =
+      let a : Link = get_or links first d in
+      let b : Link = get_or links second d in
+      by_middle (fault_if (not same) HalfSum)
+      (ap (λ (o : Option Link). sum_fault o (find (leads m l.to) links) l.cost) (find-at l.from m links first d sorted at_first)
+      ∙ ap (λ (o : Option Link). sum_fault (Some a) o l.cost) (find-at m l.to links second d sorted at_second)
+      ∙ ap (λ (e : Bool). fault_if (not e) HalfSum) (sym is))
+
+-- no fault so far, and none of the next link
+pub next_along : (links : List Link) (k : ℕ) (d : Link) → k < length links → half_fault links (get_or links k d) ≡ None → first_along (half_fault links) (drop k links) ≡ first_along (half_fault links) (drop (k + 1) links)
+next_along links k d k< is =
+    let one : suc k ≡ k + 1 = omega arith in
+    ap (first_along (half_fault links)) (drop-cons links k d k<)
+    ∙ ap (λ (o : Option HierError). o otherwise first_along (half_fault links) (drop (suc k) links)) is
+    ∙ ap (λ n. first_along (half_fault links) (drop n links)) one
+
+pub stops_along : (links : List Link) (k : ℕ) (d : Link) (e : HierError) → k < length links → half_fault links (get_or links k d) ≡ Some e → first_along (half_fault links) (drop k links) ≡ Some e
+stops_along links k d e k< is =
+    ap (first_along (half_fault links)) (drop-cons links k d k<) ∙ ap (λ (o : Option HierError). o otherwise first_along (half_fault links) (drop (suc k) links)) is

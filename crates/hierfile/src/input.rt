@@ -113,6 +113,7 @@ impl Input {
     }
 
     // Whether so many bytes are still to come. If so they wait.
+    #[inline]
     fn has<R: Read>(&mut self, reader: &mut R, count: usize) -> Result<bool, HierError>
         requires { count ≤ 8 }
         ensures keeps { Keeps (coming self.old (R.remaining reader.old)) (coming self.new (R.remaining reader.new)) }
@@ -126,6 +127,7 @@ impl Input {
     }
 
     // Reads on until so many bytes wait; false where the reader's bytes end before.
+    #[cold]
     fn fill<R: Read>(&mut self, reader: &mut R, count: usize) -> Result<bool, HierError>
         requires { count ≤ 8 }
         ensures keeps { Keeps (coming self.old (R.remaining reader.old)) (coming self.new (R.remaining reader.new)) }

@@ -1,18 +1,19 @@
-ghost use Rattle.std.specs.Prelude.{◌≡◌, ◌==◌, ◌+◌, ◌-◌, ◌^◌, ◌<◌, ℕ, length, None, Some, All, AllPairs, IfSome, IfOk, IfErr, OnOk};
-ghost use Rattle.std.specs.List.{flat_map, find};
-ghost use Rattle.std.specs.Option.{option_map};
+ghost use Rattle.std.specs.Prelude.{◌≡◌, ◌==◌, ◌+◌, ◌-◌, ◌^◌, ◌<◌, ℕ, length, slice_index_or, None, Some, All, AllPairs, IfSome, IfOk, IfErr, OnOk};
+ghost use Rattle.std.specs.List.{flat_map};
 ghost use Rattle.std.specs.Io.KnownBytes.{Consumes};
 ghost use Rattle.ch_cost.specs.Cost.{length_of};
 ghost use Rattle.ch_graph.specs.Hierarchy.{ComesBefore};
+ghost use Rattle.ch_graph.specs.declared.link.Link.{Link};
 ghost use Rattle.ch_graph.specs.LinkIndex.{IsIndexOf};
+ghost use Rattle.ch_graph.specs.LinkHalves.{AreHalvesOf, HalvesAre};
 ghost use Rattle.hierfile.specs.Spelling.{link_bytes, middle_number};
-ghost use Rattle.hierfile.specs.Fault.{cut, is_in_order, link_fault, link_fault_at, links_fault, middle_fault, half_fault, first_along, leads};
-ghost use Rattle.hierfile.specs.Bytes.{coming, IsFaultOf, Tells, NoneBelow, IsWritable};
+ghost use Rattle.hierfile.specs.Fault.{cut, is_in_order, link_fault, link_fault_at, links_fault, middle_fault, half_fault, first_along};
+ghost use Rattle.hierfile.specs.Bytes.{coming, IsFaultOf, OfBytes, Tells, NoneBelow, IsWritable};
 
 use crate::error::HierError;
 use crate::input::Input;
 use ch_cost::Cost;
-use ch_graph::{Link, LinkIndex};
+use ch_graph::{Halves, Link, LinkHalves, LinkId, LinkIndex};
 use std::alloc::Global;
 use std::io::Read;
 
@@ -124,49 +125,60 @@ fn test_middle(ranks: &[u32], from: u32, to: u32, middle: Option<u32>) -> Result
     }
 }
 
-/// Tests of each link with a middle whether its halves are among the links, by their index, and sum to its weight.
-pub fn test_halves(links: &[Link], index: &LinkIndex) -> Result<(), HierError>
+/// Finds the halves of each link with a middle, by the index of the links, and tests that they sum to its weight.
+///
+/// Takes 8 bytes a link.
+pub fn find_halves(
+    alloc: Global,
+    links: &[Link],
+    index: &LinkIndex,
+) -> Result<LinkHalves, HierError>
     requires sorted { AllPairs ComesBefore links.now }
     requires index { IsIndexOf links.now index.now }
-    ensures { Tells result (first_along (half_fault links.now) links.now) }
+    ensures halves { IfOk result (AreHalvesOf links.now) }
+    ensures faultless { OnOk result (first_along (half_fault links.now) links.now ≡ None) }
+    ensures err { IfErr result (λ e. OfBytes e (first_along (half_fault links.now) links.now ≡ Some e)) }
 {
-    'links: for link in links {
-        test_half(links, index, *link)?;
+    let mut halves = LinkHalves::with_room(alloc, links.len())?;
+    'links: for place in 0..links.len() {
+        let found = halves_of(links, index, links[place])?;
+        halves.keep(LinkId(place), found)?;
     }
-    Ok(())
+    Ok(halves)
 }
 
-// Tests the halves of a link.
+// The halves of a link, or none for one without a middle.
 #[tactic(auto, unfolding(crate::specs::Fault::half_fault))]
-fn test_half(links: &[Link], index: &LinkIndex, link: Link) -> Result<(), HierError>
+fn halves_of(links: &[Link], index: &LinkIndex, link: Link) -> Result<Option<Halves>, HierError>
     requires sorted { AllPairs ComesBefore links.now }
     requires index { IsIndexOf links.now index.now }
-    ensures { Tells result (half_fault links.now link) }
+    ensures halves { IfOk result (HalvesAre links.now link) }
+    ensures faultless { OnOk result (half_fault links.now link ≡ None) }
+    ensures err { IfErr result (λ e. half_fault links.now link ≡ Some e) }
 {
     let Some(middle) = link.middle else {
-        return Ok(());
+        return Ok(None);
     };
-    let Some(first) = length_between(links, index, link.from, middle) else {
+    let Some(first) = index.find(links, link.from, middle) else {
         return Err(HierError::HalfMissing);
     };
-    let Some(second) = length_between(links, index, middle, link.to) else {
+    let Some(second) = index.find(links, middle, link.to) else {
         return Err(HierError::HalfMissing);
     };
-    if is_sum(link.cost.length(), first, second) {
-        Ok(())
+    let lengths = (length_at(links, first), length_at(links, second));
+    if is_sum(link.cost.length(), lengths.0, lengths.1) {
+        Ok(Some(Halves { first, second }))
     } else {
         Err(HierError::HalfSum)
     }
 }
 
-// The length of the link from one node to another, or none where there is no such link.
-fn length_between(links: &[Link], index: &LinkIndex, from: u32, to: u32) -> Option<u64>
-    requires sorted { AllPairs ComesBefore links.now }
-    requires index { IsIndexOf links.now index.now }
-    ensures { result ≡ option_map (λ l. length_of l.cost) (find (leads from to) links.now) }
+// The length of the link at a place.
+fn length_at(links: &[Link], id: LinkId) -> u64
+    requires { id.0 < length links.now }
+    ensures { (d : Link) → result ≡ length_of (slice_index_or links.now id.0 d).cost }
 {
-    let place = index.find(links, from, to)?;
-    Some(links[place.0].cost.length())
+    links[id.0].cost.length()
 }
 
 // Whether a number is the sum of two, which may be of any size.

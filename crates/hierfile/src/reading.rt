@@ -9,7 +9,7 @@ ghost use Rattle.hierfile.specs.Bytes.{coming, IsFaultOf, ReadsSpellings, Tells,
 
 use crate::error::HierError;
 use crate::input::Input;
-use crate::links::{read_links, test_halves};
+use crate::links::{find_halves, read_links};
 use crate::ranks::read_ranks;
 use ch_cost::Cost;
 use ch_graph::{Hierarchy, LinkIndex};
@@ -39,8 +39,8 @@ struct Head {
 /// how faults are ordered is told in `docs/FORMATS.md`. A spelling has no fault, so only `Read` and `OutOfMemory`
 /// refuse one. `Read` stands where the reader fails, also after 2^40 calls; an interrupted call is tried again.
 /// `OutOfMemory` stands where a growth is refused. Memory is taken as bytes come in, beside a buffer of 64 KiB:
-/// 4 bytes and one for each node, and about 32 for each link, and then 8 bytes for each node. Linear in the bytes, but
-/// for two binary searches for each link with a middle, among the links that leave one node.
+/// 4 bytes and one for each node, and about 32 for each link, and then 8 bytes for each node and for each link. Linear in
+/// the bytes, but for two binary searches for each link with a middle, among the links that leave one node.
 pub fn read<R: Read>(alloc: Global, reader: &mut R) -> Result<Hierarchy, HierError>
     ensures ok { IfOk result (λ hierarchy. IfSome (R.remaining reader.old) (λ bytes. bytes ≡ bytes_of hierarchy)) }
     ensures made { IfOk result IsWellMade }
@@ -118,9 +118,9 @@ fn read_body<R: Read>(
     let links = read_links(alloc, input, reader, ranks.as_slice(), bound, head.links)?;
     let all = links.as_slice();
     let index = LinkIndex::new(alloc, head.nodes, all)?;
-    test_halves(all, &index)?;
+    let halves = find_halves(alloc, all, &index)?;
     read_end(input, reader)?;
-    Ok(Hierarchy::with_index(ranks, links, bound, index))
+    Ok(Hierarchy::with_index(ranks, links, bound, index, halves))
 }
 
 // Sees that nothing follows.

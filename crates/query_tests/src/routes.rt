@@ -32,8 +32,8 @@ fn two_nodes(alloc: Global) -> Result<Hierarchy, AllocError>
     Ok(Hierarchy::new(ranks, links, seven))
 }
 
-/// Three nodes and a link from 1 to 2 by way of 0.
-fn three_nodes(alloc: Global) -> Result<Hierarchy, AllocError>
+/// Three nodes and a link from 1 to 2 by way of 0; with an index, the places of its halves are kept.
+fn three_nodes(alloc: Global, is_indexed: bool) -> Result<Hierarchy, AllocError>
     ensures { IfOk result (λ h. h ≡ record {
       ranks = 0 ∷ 1 ∷ 2 ∷ [];
       links = (record { from = 0; to = 2; cost = of_weight 3; middle = None }) ∷ (record { from = 1; to = 0; cost = of_weight 2; middle = None }) ∷ (record { from = 1; to = 2; cost = of_weight 2 ⊕ of_weight 3; middle = Some 0 }) ∷ [];
@@ -49,7 +49,11 @@ fn three_nodes(alloc: Global) -> Result<Hierarchy, AllocError>
         link(1, 0, two, None),
         link(1, 2, both, Some(0)),
     ]?;
-    Ok(Hierarchy::new(ranks, links, Cost::of_arcs(2, 3)))
+    let bound = Cost::of_arcs(2, 3);
+    if is_indexed {
+        return Hierarchy::indexed(alloc, ranks, links, bound);
+    }
+    Ok(Hierarchy::new(ranks, links, bound))
 }
 
 #[test]
@@ -66,8 +70,10 @@ fn there_and_back(rt: HostRuntime) -> Result<(), Fail> {
 
 #[test]
 fn by_way_of_a_middle(rt: HostRuntime) -> Result<(), Fail> {
-    let hierarchy = three_nodes(rt.alloc())?;
-    let nodes = unpack(rt.alloc(), &hierarchy, 1, &[LinkId(2)])?;
-    assert!(rt; nodes.as_slice() == [1u32, 0, 2].as_slice());
+    'hierarchies: for is_indexed in [false, true] {
+        let hierarchy = three_nodes(rt.alloc(), is_indexed)?;
+        let nodes = unpack(rt.alloc(), &hierarchy, 1, &[LinkId(2)])?;
+        assert!(rt; nodes.as_slice() == [1u32, 0, 2].as_slice());
+    }
     Ok(())
 }

@@ -38,22 +38,27 @@ module _ (b : Board) (o : Overlay) (ranks : List ℕ) (links : List Link) (bound
   done : AreRanks o ranks → AreLinks o links → bound ≡ bound_of b.graph → IsFinished b (record { ranks = ranks; links = links; bound = bound })
   done are_ranks are_links bound_is = finished b ranks links bound is all (subst (λ (q : Overlay). AreRanks q ranks) same are_ranks) (subst (λ (q : Overlay). AreLinks q links) same are_links) bound_is
 
-pub new-requires : goal.new-requires
-new-requires c =
+pub indexed-requires : goal.indexed-requires
+indexed-requires c =
     let all = over c.overlay-overlay.result.now _ c.overlay-overlay.ensures c.log.ensures.holds.overlay c.alive.result c.alive.ensures (omega arith) in
-    (done c.args.ledger.now c.overlay-overlay.result.now c.in-Ok.ranks.items c.in-Ok-links_of.links.items c.bound.result c.log.ensures.holds c.overlay-overlay.ensures all c.in-Ok.ensures c.in-Ok-links_of.ensures (c.bound.ensures ∙ ap bound_of c.graph.ensures)).well
+    (done c.args.ledger.now c.overlay-overlay.result.now c.in-Ok.ranks.items c.in-Ok-links_of.links.items c.bound-bound.result c.log.ensures.holds c.overlay-overlay.ensures all c.in-Ok.ensures c.in-Ok-links_of.ensures (c.bound-bound.ensures ∙ ap bound_of c.graph.ensures)).well
 
 pub returns-clause-made : goal.returns-clause-made
 returns-clause-made c =
     let all = over c.overlay-overlay.result.now _ c.overlay-overlay.ensures c.log.ensures.holds.overlay c.alive.result c.alive.ensures (omega arith) in
-    let made = (done c.args.ledger.now c.overlay-overlay.result.now c.in-Ok.ranks.items c.in-Ok-links_of.links.items c.bound.result c.log.ensures.holds c.overlay-overlay.ensures all c.in-Ok.ensures c.in-Ok-links_of.ensures (c.bound.ensures ∙ ap bound_of c.graph.ensures)).made in
-    subst (λ (h : Hierarchy). IsMade c.args.ledger.now.graph (state_of c.args.ledger.now.overlay) h) (sym c.new.ensures) made
+    let made = (done c.args.ledger.now c.overlay-overlay.result.now c.in-Ok.ranks.items c.in-Ok-links_of.links.items c.bound-bound.result c.log.ensures.holds c.overlay-overlay.ensures all c.in-Ok.ensures c.in-Ok-links_of.ensures (c.bound-bound.ensures ∙ ap bound_of c.graph.ensures)).made in
+    subst (λ (h : Hierarchy). IsMade c.args.ledger.now.graph (state_of c.args.ledger.now.overlay) h) (sym c.in-Ok-indexed.ensures) made
 
 pub returns-clause-right : goal.returns-clause-right
 returns-clause-right c =
     let all = over c.overlay-overlay.result.now _ c.overlay-overlay.ensures c.log.ensures.holds.overlay c.alive.result c.alive.ensures (omega arith) in
-    let right = (done c.args.ledger.now c.overlay-overlay.result.now c.in-Ok.ranks.items c.in-Ok-links_of.links.items c.bound.result c.log.ensures.holds c.overlay-overlay.ensures all c.in-Ok.ensures c.in-Ok-links_of.ensures (c.bound.ensures ∙ ap bound_of c.graph.ensures)).right in
-    subst (λ (h : Hierarchy). IsRight c.args.ledger.now.graph h) (sym c.new.ensures) right
+    let right = (done c.args.ledger.now c.overlay-overlay.result.now c.in-Ok.ranks.items c.in-Ok-links_of.links.items c.bound-bound.result c.log.ensures.holds c.overlay-overlay.ensures all c.in-Ok.ensures c.in-Ok-links_of.ensures (c.bound-bound.ensures ∙ ap bound_of c.graph.ensures)).right in
+    subst (λ (h : Hierarchy). IsRight c.args.ledger.now.graph h) (sym c.in-Ok-indexed.ensures) right
+
+pub returns-in_default-indexed-clause-left : goal.returns-in_default-indexed-clause-left
+returns-in_default-indexed-clause-left c =
+    let all = over c.overlay-overlay.result.now _ c.overlay-overlay.ensures c.log.ensures.holds.overlay c.alive.result c.alive.ensures (omega arith) in
+    (λ e. absurd (cc), λ left. absurd (over-leaves_none c.args.ledger.now all left))
 
 pub returns-clause-left : goal.returns-clause-left
 returns-clause-left c =

@@ -7,10 +7,11 @@ use Rattle.ch_cost.specs.Cost.Lengths.{length_of-of_length}
 use Rattle.ch_graph.specs.declared.link.Link.{Link}
 use Rattle.ch_graph.specs.Hierarchy.{ComesBefore}
 use Rattle.ch_graph.specs.LinkIndex.{IsIndexOf}
+use Rattle.ch_graph.specs.LinkHalves.{AreHalvesOf}
 use Rattle.hierfile.specs.Spelling.{word, link_bytes}
 use Rattle.hierfile.specs.Fault.{link_fault_at, links_fault, ranks_fault, half_fault, first_along, end_fault, body_fault}
 use Rattle.hierfile.specs.Bytes.{NoneBelow}
-use Rattle.hierfile.proofs.Faults.{hands_on, behind, found, of_bytes, earlier, later}
+use Rattle.hierfile.proofs.Faults.{hands_on, behind, found, earlier, later}
 use Rattle.hierfile.proofs.Bodies.{body_ranks, body_links, body_after_links}
 use Rattle.hierfile.proofs.WellMade.{links_sorted, few_nodes, well_made_of}
 use Rattle.ch_graph.specs.Hierarchy.{IsWellMade}
@@ -40,8 +41,8 @@ new-requires g c =
     let none : NoneBelow (length links) (link_fault_at c.as_slice.result.now c.of_length-bound.result links) = subst (λ m. NoneBelow m (link_fault_at c.as_slice.result.now c.of_length-bound.result links)) (sym c.in_ok-links.ensures.count) c.in_ok-links.ensures.faultless in
     subst (AllPairs ComesBefore) (sym c.as_slice-all.ensures.value) (links_sorted c.as_slice.result.now c.of_length-bound.result links none)
 
-pub test_halves-requires : goal.test_halves-requires
-test_halves-requires g c =
+pub find_halves-requires : goal.find_halves-requires
+find_halves-requires g c =
     let links = c.in_ok-links.links.items in
     let none : NoneBelow (length links) (link_fault_at c.as_slice.result.now c.of_length-bound.result links) = subst (λ m. NoneBelow m (link_fault_at c.as_slice.result.now c.of_length-bound.result links)) (sym c.in_ok-links.ensures.count) c.in_ok-links.ensures.faultless in
     record {
@@ -49,19 +50,19 @@ test_halves-requires g c =
       index = c.in_ok-index.ensures.index;
     }
 
-pub returns-in_err-test_halves-clause-err : goal.returns-in_err-test_halves-clause-err
-returns-in_err-test_halves-clause-err g c =
+pub returns-in_err-halves-clause-err : goal.returns-in_err-halves-clause-err
+returns-in_err-halves-clause-err g c =
     let head = c.args.head in
     let ranks = c.in_ok-ranks.ranks.items in
     let links = c.in_ok-links.links.items in
     let small : head.nodes < 2 ^ 32 = omega (arith, few_nodes head.nodes head.links head.bound c.requires) in
     let so_far = Consumes-trans _ _ _ _ _ c.in_ok-ranks.ensures.ok c.in_ok-links.ensures.ok in
     let links_ok : NoneBelow head.links (link_fault_at ranks (of_length head.bound) links) = λ i less. ap (λ (r : List ℕ). link_fault_at r (of_length head.bound) links i) (sym c.as_slice.ensures.value) ∙ ap (λ (b : Cost). link_fault_at c.as_slice.result.now b links i) (sym c.of_length-bound.ensures) ∙ c.in_ok-links.ensures.faultless i less in
-    hands_on c.from_residual-in_err-test_halves.result _ _ c.from_residual-in_err-test_halves.ensures.1
+    hands_on c.from_residual-in_err-halves.result _ _ c.from_residual-in_err-halves.ensures.1
     (found (flat_map word ranks ++ flat_map link_bytes links) (body_fault head.nodes head.links head.bound) _ _ _ so_far
     (λ is rest. body_after_links head.nodes head.links head.bound ranks links rest small c.in_ok-ranks.ensures.count c.in_ok-ranks.ensures.faultless c.in_ok-links.ensures.count c.in_ok-links.ensures.writable links_ok
     ∙ earlier _ (ap (λ (l : List Link). first_along (half_fault l) l) (sym c.as_slice-all.ensures.value) ∙ is))
-    (of_bytes _ c.in_err-test_halves.ensures))
+    c.in_err-halves.ensures.err)
 
 pub returns-in_err-read_end-clause-err : goal.returns-in_err-read_end-clause-err
 returns-in_err-read_end-clause-err g c =
@@ -71,7 +72,7 @@ returns-in_err-read_end-clause-err g c =
     let small : head.nodes < 2 ^ 32 = omega (arith, few_nodes head.nodes head.links head.bound c.requires) in
     let so_far = Consumes-trans _ _ _ _ _ c.in_ok-ranks.ensures.ok c.in_ok-links.ensures.ok in
     let links_ok : NoneBelow head.links (link_fault_at ranks (of_length head.bound) links) = λ i less. ap (λ (r : List ℕ). link_fault_at r (of_length head.bound) links i) (sym c.as_slice.ensures.value) ∙ ap (λ (b : Cost). link_fault_at c.as_slice.result.now b links i) (sym c.of_length-bound.ensures) ∙ c.in_ok-links.ensures.faultless i less in
-    let halves_ok = ap (λ (l : List Link). first_along (half_fault l) l) (sym c.as_slice-all.ensures.value) ∙ c.in_ok-test_halves.ensures in
+    let halves_ok = ap (λ (l : List Link). first_along (half_fault l) l) (sym c.as_slice-all.ensures.value) ∙ c.in_ok-halves.ensures.faultless in
     hands_on c.from_residual-in_err-read_end.result _ _ c.from_residual-in_err-read_end.ensures.1
     (behind (flat_map word ranks ++ flat_map link_bytes links) end_fault (body_fault head.nodes head.links head.bound) _ _ _ so_far
     (λ rest is. body_after_links head.nodes head.links head.bound ranks links rest small c.in_ok-ranks.ensures.count c.in_ok-ranks.ensures.faultless c.in_ok-links.ensures.count c.in_ok-links.ensures.writable links_ok
@@ -80,8 +81,9 @@ returns-in_err-read_end-clause-err g c =
 
 pub with_index-requires : goal.with_index-requires
 with_index-requires g c = record {
-  made = well_made_of c.args.head.nodes c.args.head.links c.args.head.bound c.in_ok-ranks.ranks.items c.as_slice.result.now c.in_ok-links.links.items c.as_slice-all.result.now c.of_length-bound.result c.requires c.in_ok-ranks.ensures.count c.in_ok-ranks.ensures.faultless c.in_ok-links.ensures.count c.in_ok-links.ensures.faultless c.in_ok-test_halves.ensures c.as_slice.ensures.value c.as_slice-all.ensures.value c.of_length-bound.ensures;
+  made = well_made_of c.args.head.nodes c.args.head.links c.args.head.bound c.in_ok-ranks.ranks.items c.as_slice.result.now c.in_ok-links.links.items c.as_slice-all.result.now c.of_length-bound.result c.requires c.in_ok-ranks.ensures.count c.in_ok-ranks.ensures.faultless c.in_ok-links.ensures.count c.in_ok-links.ensures.faultless c.in_ok-halves.ensures.faultless c.as_slice.ensures.value c.as_slice-all.ensures.value c.of_length-bound.ensures;
   index = subst (λ (ls : List Link). IsIndexOf ls c.in_ok-index.index) c.as_slice-all.ensures.value c.in_ok-index.ensures.index;
+  halves = subst (λ (ls : List Link). AreHalvesOf ls c.in_ok-halves.halves) c.as_slice-all.ensures.value c.in_ok-halves.ensures.halves;
 }
 
 pub returns-clause-sizes : goal.returns-clause-sizes
@@ -91,4 +93,4 @@ returns-clause-sizes g c =
 pub returns-clause-made : goal.returns-clause-made
 returns-clause-made g c =
     subst IsWellMade (sym c.with_index.ensures)
-    (well_made_of c.args.head.nodes c.args.head.links c.args.head.bound c.in_ok-ranks.ranks.items c.as_slice.result.now c.in_ok-links.links.items c.as_slice-all.result.now c.of_length-bound.result c.requires c.in_ok-ranks.ensures.count c.in_ok-ranks.ensures.faultless c.in_ok-links.ensures.count c.in_ok-links.ensures.faultless c.in_ok-test_halves.ensures c.as_slice.ensures.value c.as_slice-all.ensures.value c.of_length-bound.ensures)
+    (well_made_of c.args.head.nodes c.args.head.links c.args.head.bound c.in_ok-ranks.ranks.items c.as_slice.result.now c.in_ok-links.links.items c.as_slice-all.result.now c.of_length-bound.result c.requires c.in_ok-ranks.ensures.count c.in_ok-ranks.ensures.faultless c.in_ok-links.ensures.count c.in_ok-links.ensures.faultless c.in_ok-halves.ensures.faultless c.as_slice.ensures.value c.as_slice-all.ensures.value c.of_length-bound.ensures)

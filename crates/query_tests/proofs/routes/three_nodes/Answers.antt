@@ -17,5 +17,8 @@ plus-both-requires-clause-first c = subst (λ (k : Cost). IsInLimit k) (sym c.of
 pub plus-both-requires-clause-second : goal.plus-both-requires-clause-second
 plus-both-requires-clause-second c = subst (λ (k : Cost). IsInLimit k) (sym c.of_weight-three.ensures) (small_weight 3 (lit< tt) (lit< tt))
 
+pub indexed-requires : goal.indexed-requires
+indexed-requires c = is_three c.in_ok-ranks.ranks.items c.in_ok-links.links.items c.link.result c.link-2.result c.link-3.result c.of_weight-two.result c.of_weight-three.result c.plus-both.result c.of_arcs-bound.result c.in_ok-ranks.ensures.items c.in_ok-links.ensures.items c.link.ensures c.link-2.ensures c.link-3.ensures c.of_weight-two.ensures c.of_weight-three.ensures c.plus-both.ensures c.of_arcs-bound.ensures
+
 pub new-requires : goal.new-requires
-new-requires c = is_three c.in_ok-ranks.ranks.items c.in_ok-links.links.items c.link.result c.link-2.result c.link-3.result c.of_weight-two.result c.of_weight-three.result c.plus-both.result c.of_arcs.result c.in_ok-ranks.ensures.items c.in_ok-links.ensures.items c.link.ensures c.link-2.ensures c.link-3.ensures c.of_weight-two.ensures c.of_weight-three.ensures c.plus-both.ensures c.of_arcs.ensures
+new-requires c = is_three c.in_ok-ranks.ranks.items c.in_ok-links.links.items c.link.result c.link-2.result c.link-3.result c.of_weight-two.result c.of_weight-three.result c.plus-both.result c.of_arcs-bound.result c.in_ok-ranks.ensures.items c.in_ok-links.ensures.items c.link.ensures c.link-2.ensures c.link-3.ensures c.of_weight-two.ensures c.of_weight-three.ensures c.plus-both.ensures c.of_arcs-bound.ensures
