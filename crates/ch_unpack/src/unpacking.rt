@@ -4,6 +4,7 @@ ghost use Rattle.ch_unpack.specs.Unpacking.{IsUnpacked, IsTooLong, head_at};
 
 use crate::error::UnpackError;
 use ch_graph::{Hierarchy, LinkId};
+use smallvec::SmallVec;
 use std::alloc::{AllocError, Global};
 
 /// The nodes of the route from `source` along the links at these places: the source, and then the heads of the arcs
@@ -48,7 +49,7 @@ pub fn unpack(
 }
 
 /// The same places, the last first.
-fn last_first(alloc: Global, places: &[LinkId]) -> Result<Vec<LinkId>, AllocError>
+fn last_first(alloc: Global, places: &[LinkId]) -> Result<SmallVec<LinkId, 32>, AllocError>
     ensures { IfOk result (λ ahead. reverse ahead.items ≡ places.now) }
 {
     places.iter().rev().copied().collect(alloc)

@@ -23,18 +23,18 @@ halves-requires c = next_within c.in-Some.next c.pop.new.self.items c.route.inva
 pub returns-then-len-room-clause-too_long : goal.returns-then-len-room-clause-too_long
 returns-then-len-room-clause-too_long c =
     λ e. no_room c.in-Some.next c.in-Some-halves.halves c.pop.new.self.items c.nodes-room.ensures.made c.route.invariant.under_way c.in-Some.ensures.items c.in-Some-halves.ensures c.requires.source_in
-    (omega (arith, c.route.nodes.ok, c.pop.new.self.ok))
+    (omega (arith, c.route.nodes.ok))
 
 pub route-preserved-in-Continue-branch-4 : goal.route-preserved-in-Continue-branch-4
 route-preserved-in-Continue-branch-4 c =
     let left = c.pop.new.self.items in
     let both = c.in-Some-halves.halves in
-    let ahead_is : c.push-in-Some-halves-2.new.self.items ≡ (left ++ both.second ∷ []) ++ both.first ∷ [] = c.in_ok-push-in-Some-halves-2.ensures.items ∙ ap (λ (xs : List LinkId). xs ++ both.first ∷ []) c.in_ok-push-in-Some-halves.ensures.items in
+    let ahead_is : c.push-in-Some-halves-2.new.self.items ≡ (left ++ both.second ∷ []) ++ both.first ∷ [] = c.in_ok-push-in-Some-halves-2.ensures.ok ∙ ap (λ (xs : List LinkId). xs ++ both.first ∷ []) c.in_ok-push-in-Some-halves.ensures.ok in
     record {
       under_way =
           subst (λ (xs : List LinkId). IsUnderWay c.args.hierarchy.now c.args.source c.args.links.now c.route.nodes.items xs) (sym ahead_is)
           (turn_off c.in-Some.next both left c.nodes-room.ensures.made c.route.invariant.under_way c.in-Some.ensures.items c.in-Some-halves.ensures);
-      in_room = omega (arith, ap (λ (xs : List LinkId). length xs) ahead_is, length-append (left ++ both.second ∷ []) (both.first ∷ []), length-append left (both.second ∷ []), c.pop.new.self.ok);
+      in_room = omega (arith, ap (λ (xs : List LinkId). length xs) ahead_is, length-append (left ++ both.second ∷ []) (both.first ∷ []), length-append left (both.second ∷ []));
     }
 
 pub head-requires : goal.head-requires
@@ -47,7 +47,7 @@ route-preserved c =
       under_way =
           subst (λ (xs : List ℕ). IsUnderWay c.args.hierarchy.now c.args.source c.args.links.now xs c.pop.new.self.items) (sym nodes_are)
           (pass_on c.in-Some.next c.pop.new.self.items c.route.invariant.under_way c.in-Some.ensures.items c.in-None.ensures);
-      in_room = omega (arith, c.in_ok-push-in-None.ensures.len, c.in-Some.ensures.len, c.pop.new.self.ok, c.route.ahead.ok);
+      in_room = omega (arith, c.in_ok-push-in-None.ensures.len, c.in-Some.ensures.len);
     }
 
 pub returns-clause-nodes : goal.returns-clause-nodes
