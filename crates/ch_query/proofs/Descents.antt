@@ -1,5 +1,5 @@
 -- The links of a climb, from its top back to its start.
-use Rattle.std.proofs.Common.{ℕ, zero, suc, ◌≡◌, ◌+◌, ◌<◌, arith, List, [], ◌∷◌, ◌++◌, length, map, reverse, Option, Some, None, All, ap, refl, sym, subst, ◌∙◌, append_assoc}
+use Rattle.std.proofs.Common.{ℕ, zero, suc, ◌≡◌, ◌+◌, ◌<◌, arith, List, [], ◌∷◌, ◌++◌, length, slice_index, map, reverse, Option, Some, None, All, ap, refl, sym, subst, ◌∙◌, append_assoc}
 use Rattle.std.proofs.lemmas.List.{append-nil, map-append, reverse-append}
 use Rattle.std.proofs.lemmas.List.Elements.{All-nil, All-cons, All-same, All-push, All-head, All-tail}
 use Rattle.ch_cost.specs.declared.cost.Cost.{Cost}
@@ -14,7 +14,7 @@ use Rattle.ch_query.specs.declared.side.Side.{Side}
 use Rattle.ch_query.specs.declared.side.Side.TheVariants.{Rise, Fall}
 use Rattle.ch_query.specs.Positions.{link_at}
 use Rattle.ch_query.specs.Climb.{foot_at, head_at, foot_rank, cost_at, Climbs, ClimbsFrom, Descends, Descends.there, Descends.down}
-use Rattle.ch_query.specs.Marks.{label_at, option_link, costs_of}
+use Rattle.ch_query.specs.Marks.{label_at, option_place, costs_of}
 use Rattle.ch_query.specs.Searching.{ComesFrom, IsFrom, IsSearching}
 use Rattle.ch_query.proofs.Sides.{link-among, foot_in, head_in}
 use Rattle.ch_query.proofs.Ranks.{rank_below, same_node}
@@ -58,13 +58,15 @@ pub all-reverse : (P : LinkId → Type 0) (ids : List LinkId) → All P ids → 
 all-reverse P [] all = All-nil P
 all-reverse P (id ∷ ids) all = All-same P (reverse (id ∷ ids)) (reverse ids ++ id ∷ []) (reverse-append (id ∷ []) ids) (All-push P (reverse ids) id (all-reverse P ids (All-tail P id ids all)) (All-head P id ids all))
 
--- a label that came by a link is that of the node below and of the link
-pub came_from : {h : Hierarchy} {side : Side} {start : ℕ} {marks : List Mark} → IsSearching h side start marks → (r k : ℕ) → option_link (label_at marks r) ≡ Some k → (e : Label) × (label_at marks r ≡ Some e) × ComesFrom h side marks r e.cost k
-came_from {h} {side} {start} {marks} is r k by = pick (label_at marks r) refl by
+-- a label that came by the link at a place is that of the node below and of the link
+pub came_from : {h : Hierarchy} {side : Side} {links : List ℕ} {start : ℕ} {marks : List Mark} → IsSearching h side links start marks → (r i : ℕ) → option_place (label_at marks r) ≡ Some i → (e : Label) × (label_at marks r ≡ Some e) × (i < length links) × ComesFrom h side marks r e.cost (slice_index links i)
+came_from {h} {side} {links} {start} {marks} is r i by = pick (label_at marks r) refl by
   where
-    pick : (o : Option Label) → label_at marks r ≡ o → option_link o ≡ Some k → (e : Label) × (label_at marks r ≡ Some e) × ComesFrom h side marks r e.cost k
+    pick : (o : Option Label) → label_at marks r ≡ o → option_place o ≡ Some i → (e : Label) × (label_at marks r ≡ Some e) × (i < length links) × ComesFrom h side marks r e.cost (slice_index links i)
     pick None e by = absurd (cc)
-    pick (Some l) e by = (l, e, subst (λ (o : Option ℕ). IsFrom h side start marks r l.cost o) by (is.origin r l e))
+    pick (Some l) e by =
+        let from = subst (λ (o : Option ℕ). IsFrom h side links start marks r l.cost o) by (is.origin r l e) in
+        (l, e, from.0, from.1)
 
 -- the link at k climbs from its own foot
 own-foot : (h : Hierarchy) (side : Side) (k : ℕ) → Climbs h side k → ClimbsFrom h side (foot_at h side k) k
@@ -74,10 +76,12 @@ own-foot h side k climbs = record { within = climbs.within; foot = refl; climbs 
 abbrev HasDescent : Hierarchy → Side → ℕ → ℕ → Cost → Type 0
 HasDescent h side start x c = (ids : List LinkId) × Descends h side start ids x c
 
-module _ (h : Hierarchy) (made : IsWellMade h) (side : Side) (start : ℕ) (start_in : start < length h.ranks) (marks : List Mark) (is : IsSearching h side start marks) where
-  descent_from : (x : ℕ) (c : Cost) (link : Option ℕ) → x < length h.ranks → ((y : ℕ) (e : Label) → y < length h.ranks → rank_of h y < rank_of h x → label_at marks (rank_of h y) ≡ Some e → HasDescent h side start y e.cost) → IsFrom h side start marks (rank_of h x) c link → HasDescent h side start x c
+module _ (h : Hierarchy) (made : IsWellMade h) (side : Side) (links : List ℕ) (start : ℕ) (start_in : start < length h.ranks) (marks : List Mark) (is : IsSearching h side links start marks) where
+  descent_from : (x : ℕ) (c : Cost) (place : Option ℕ) → x < length h.ranks → ((y : ℕ) (e : Label) → y < length h.ranks → rank_of h y < rank_of h x → label_at marks (rank_of h y) ≡ Some e → HasDescent h side start y e.cost) → IsFrom h side links start marks (rank_of h x) c place → HasDescent h side start x c
   descent_from x c None x_in below from = ([], subst (λ y. Descends h side start [] y c) (sym (same_node h made x start x_in start_in from.0)) (subst (λ (d : Cost). Descends h side start [] start d) (sym from.1) there))
-  descent_from x c (Some k) x_in below from =
+  descent_from x c (Some i) x_in below came =
+      let k : ℕ = slice_index links i in
+      let from : ComesFrom h side marks (rank_of h x) c k = came.1 in
       let id : LinkId = record { 0 = k } in
       let foot : ℕ = foot_at h side k in
       let within : k < length h.links = from.climbs.within in
@@ -90,7 +94,7 @@ module _ (h : Hierarchy) (made : IsWellMade h) (side : Side) (start : ℕ) (star
 
   descent_within : (n x : ℕ) (e : Label) → x < length h.ranks → rank_of h x < n → label_at marks (rank_of h x) ≡ Some e → HasDescent h side start x e.cost
   descent_within zero x e x_in low label = absurd (omega (arith, low))
-  descent_within (suc n) x e x_in low label = descent_from x e.cost e.link x_in (λ y d y_in lower at_y. descent_within n y d y_in (omega (arith, low, lower)) at_y) (is.origin (rank_of h x) e label)
+  descent_within (suc n) x e x_in low label = descent_from x e.cost e.place x_in (λ y d y_in lower at_y. descent_within n y d y_in (omega (arith, low, lower)) at_y) (is.origin (rank_of h x) e label)
 
   pub descent_to : (x : ℕ) (c : Cost) → x < length h.ranks → costs_of marks (rank_of h x) ≡ Some c → (ids : List LinkId) × Descends h side start ids x c
   descent_to x c x_in label =
@@ -101,11 +105,11 @@ module _ (h : Hierarchy) (made : IsWellMade h) (side : Side) (start : ℕ) (star
   pub node_of : (r : ℕ) (c : Cost) → costs_of marks r ≡ Some c → (x : ℕ) × (x < length h.ranks) × (rank_of h x ≡ r)
   node_of r c label =
       let l = from_cost (label_at marks r) c label in
-      pick l.0.cost l.0.link (is.origin r l.0 l.1)
+      pick l.0.cost l.0.place (is.origin r l.0 l.1)
     where
-      pick : (d : Cost) (link : Option ℕ) → IsFrom h side start marks r d link → (x : ℕ) × (x < length h.ranks) × (rank_of h x ≡ r)
+      pick : (d : Cost) (place : Option ℕ) → IsFrom h side links start marks r d place → (x : ℕ) × (x < length h.ranks) × (rank_of h x ≡ r)
       pick d None from = (start, start_in, sym from.0)
-      pick d (Some k) from = (head_at h side k, head_in h made side k from.climbs.within, from.head)
+      pick d (Some i) from = (head_at h side (slice_index links i), head_in h made side (slice_index links i) from.1.climbs.within, from.1.head)
 
 -- The links so far lead from a node of the top rank down to one of this rank.
 pub record IsDescending (h : Hierarchy) (side : Side) (start : ℕ) (marks : List Mark) (top rank : ℕ) (ids : List LinkId) : Type 0 where
@@ -121,10 +125,11 @@ descending-none top top_in = record {
 one_cost : (o : Option Cost) (c d : Cost) → o ≡ Some c → o ≡ Some d → c ≡ d
 one_cost o c d first second = cc
 
-pub descending-more : {h : Hierarchy} {side : Side} {start : ℕ} {marks : List Mark} (made : IsWellMade h) → IsSearching h side start marks → (top rank k : ℕ) (ids : List LinkId) → option_link (label_at marks rank) ≡ Some k → IsDescending h side start marks top rank ids → IsDescending h side start marks top (foot_rank h side k) (ids ++ record { 0 = k } ∷ [])
-descending-more {h} {side} {start} {marks} made is top rank k ids by so_far =
-    let from = came_from is rank k by in
-    let comes = from.2 in
+pub descending-more : {h : Hierarchy} {side : Side} {links : List ℕ} {start : ℕ} {marks : List Mark} (made : IsWellMade h) → IsSearching h side links start marks → (top rank i : ℕ) (ids : List LinkId) → option_place (label_at marks rank) ≡ Some i → IsDescending h side start marks top rank ids → IsDescending h side start marks top (foot_rank h side (slice_index links i)) (ids ++ record { 0 = slice_index links i } ∷ [])
+descending-more {h} {side} {links} {start} {marks} made is top rank i ids by so_far =
+    let k : ℕ = slice_index links i in
+    let from = came_from is rank i by in
+    let comes = from.3 in
     let within : k < length h.links = comes.climbs.within in
     record {
       rank_in = rank_below h made (foot_at h side k) (foot_in h made side k within);
@@ -148,17 +153,17 @@ descending-more {h} {side} {start} {marks} made is top rank k ids by so_far =
     }
 
 -- the foot of the link has a lower rank
-pub foot_lower : {h : Hierarchy} {side : Side} {start : ℕ} {marks : List Mark} → IsSearching h side start marks → (r k : ℕ) → option_link (label_at marks r) ≡ Some k → foot_rank h side k < r
-foot_lower {h} {side} is r k by = let comes = (came_from is r k by).2 in subst (λ q. foot_rank h side k < q) comes.head comes.climbs.rises
+pub foot_lower : {h : Hierarchy} {side : Side} {links : List ℕ} {start : ℕ} {marks : List Mark} → IsSearching h side links start marks → (r i : ℕ) → option_place (label_at marks r) ≡ Some i → foot_rank h side (slice_index links i) < r
+foot_lower {h} {side} {links} is r i by = let comes = (came_from is r i by).3 in subst (λ q. foot_rank h side (slice_index links i) < q) comes.head comes.climbs.rises
 
-pub descended : {h : Hierarchy} {side : Side} {start : ℕ} {marks : List Mark} (made : IsWellMade h) → start < length h.ranks → IsSearching h side start marks → (top rank : ℕ) (ids : List LinkId) → option_link (label_at marks rank) ≡ None → IsDescending h side start marks top rank ids → (x : ℕ) (c : Cost) → x < length h.ranks → rank_of h x ≡ top → costs_of marks top ≡ Some c → Descends h side start ids x c
-descended {h} {side} {start} {marks} made start_in is top rank ids by so_far x c x_in at label =
+pub descended : {h : Hierarchy} {side : Side} {links : List ℕ} {start : ℕ} {marks : List Mark} (made : IsWellMade h) → start < length h.ranks → IsSearching h side links start marks → (top rank : ℕ) (ids : List LinkId) → option_place (label_at marks rank) ≡ None → IsDescending h side start marks top rank ids → (x : ℕ) (c : Cost) → x < length h.ranks → rank_of h x ≡ top → costs_of marks top ≡ Some c → Descends h side start ids x c
+descended {h} {side} {links} {start} {marks} made start_in is top rank ids by so_far x c x_in at label =
     let old = so_far.joins x c x_in at label in
     let y : ℕ = old.0 in
     let d : Cost = old.3 in
     let l = from_cost (label_at marks rank) d old.4 in
-    let no_link : l.0.link ≡ None = sym (ap option_link l.1) ∙ by in
-    let first = subst (λ (o : Option ℕ). IsFrom h side start marks rank l.0.cost o) no_link (is.origin rank l.0 l.1) in
+    let no_link : l.0.place ≡ None = sym (ap option_place l.1) ∙ by in
+    let first = subst (λ (o : Option ℕ). IsFrom h side links start marks rank l.0.cost o) no_link (is.origin rank l.0 l.1) in
     let same : y ≡ start = same_node h made y start old.1 start_in (old.2 ∙ first.0) in
     let here : Descends h side start [] y d = subst (λ z. Descends h side start [] z d) (sym same) (subst (λ (e : Cost). Descends h side start [] start e) (sym first.1 ∙ l.2) there) in
     subst (λ (is : List LinkId). Descends h side start is x c) (append-nil ids) (old.5 [] here)

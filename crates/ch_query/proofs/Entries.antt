@@ -20,7 +20,7 @@ use Rattle.ch_query.specs.declared.mark.Mark.TheVariants.{Unseen, Open, Settled}
 use Rattle.ch_query.specs.Labels.{HasAtMost}
 use Rattle.ch_query.specs.Marks.{mark_at, option_cost, costs_of, Improves, IsBelow, IsLeastOpen, IsStopped}
 use Rattle.ch_query.specs.Front.{IsEntryOf, IsFront}
-use Rattle.ch_query.proofs.Marking.{limit-given, cases_write, open-settled, open-open, label-open, cost_is, open-kept, open-here, settle-label}
+use Rattle.ch_query.proofs.Marking.{limit-given, unseen-at, unseen-open, cases_write, open-settled, open-open, label-open, cost_is, open-kept, open-here, settle-label}
 
 -- Membership
 
@@ -174,6 +174,19 @@ module _ (marks : List Mark) (entries new : List Entry) (touched : List ℕ) (x 
     where
       one_cost : (o : Option Cost) (c d : Cost) → o ≡ Some c → o ≡ Some d → c ≡ d
       one_cost o c d first second = cc
+
+-- nothing was seen
+pub front-new : (nodes : ℕ) (marks : List Mark) (entries : List Entry) (touched : List ℕ) → marks ≡ replicate nodes Unseen → entries ≡ [] → IsHeap entry_cmp entries → touched ≡ [] → IsFront marks entries touched
+front-new nodes marks entries touched unseen no_entry heap none = record {
+  heap = heap;
+  waits = λ r e opens. absurd (unseen-open (sym (all_unseen r) ∙ opens));
+  known = subst (λ (xs : List Entry). All (IsEntryOf marks) xs) (sym no_entry) (All-nil (IsEntryOf marks));
+  places = subst (λ (rs : List ℕ). All (λ r. r < length marks) rs) (sym none) (All-nil (λ r. r < length marks));
+  others = λ r never. all_unseen r;
+}
+  where
+    all_unseen : (r : ℕ) → mark_at marks r ≡ Unseen
+    all_unseen r = ap (λ (ms : List Mark). mark_at ms r) unseen ∙ unseen-at nodes r
 
 -- The marks of touched ranks are taken back, one by one
 

@@ -1,10 +1,10 @@
 -- One side of a query: its start, and a turn.
-use Rattle.std.proofs.Common.{ℕ, ◌≡◌, ◌+◌, ◌-◌, ◌<◌, ◌≤◌, ◌^◌, ◌⊎◌, List, length, set, replicate, Option, Some, None, ap, refl, sym, subst, ◌∙◌, inl, inr, arith}
+use Rattle.std.proofs.Common.{ℕ, ◌≡◌, ◌+◌, ◌-◌, ◌<◌, ◌≤◌, ◌^◌, ◌⊎◌, List, length, slice_index, set, replicate, Option, Some, None, ap, refl, sym, subst, ◌∙◌, inl, inr, arith}
 use Rattle.std.proofs.lemmas.Bool.{cases_lt}
 use Rattle.std.proofs.lemmas.List.{get_or_past, length-set, length-replicate}
 use Rattle.ch_cost.specs.declared.cost.Cost.{Cost}
-use Rattle.ch_cost.specs.Cost.{zero_cost, ◌⊕◌, ◌≼◌, IsNoLonger, IsInLimit, IsOfWalks}
-use Rattle.ch_cost.specs.Cost.Laws.{at_most_refl, at_most_trans, at_most_antisym, at_most_sum_left, zero_cost_at_most, zero_cost_within, no_longer-from_within, of_walks_zero_cost, of_walks_one, of_walks_sum, of_walks_more, in_limit-from_walks, cost_of_arcs_in_limit, in_limit-from_within, within_trans}
+use Rattle.ch_cost.specs.Cost.{zero_cost, ◌⊕◌, of_weight, cost_of_arcs, ◌≼◌, ◌≺◌, IsNoLonger, IsInLimit, IsOfWalks}
+use Rattle.ch_cost.specs.Cost.Laws.{at_most_refl, at_most_trans, at_most_antisym, at_most_sum_left, zero_cost_at_most, zero_cost_within, no_longer-from_within, of_walks_zero_cost, of_walks_one, of_walks_sum, of_walks_more, in_limit-from_walks, cost_of_arcs_in_limit, in_limit-from_within, within_trans, cases_cost, more_arcs_within, length_of-at_most, lengths-from_no_longer, length_of-sum, length_of-of_weight}
 use Rattle.ch_graph.specs.Hierarchy.{Hierarchy, IsWellMade, rank_of}
 use Rattle.ch_query.specs.declared.label.Label.{Label}
 use Rattle.ch_query.specs.declared.mark.Mark.{Mark}
@@ -13,8 +13,9 @@ use Rattle.ch_query.specs.declared.side.Side.{Side}
 use Rattle.ch_query.specs.declared.meeting.Meeting.{Meeting}
 use Rattle.ch_query.specs.Labels.{HasAtMost, AreShort, Meets}
 use Rattle.ch_query.specs.Climb.{foot_rank, head_rank, cost_at, Climbs}
-use Rattle.ch_query.specs.Marks.{mark_at, label_at, option_cost, costs_of, settled_in, IsLeastOpen, IsNoMore, FitAll, settled_count}
-use Rattle.ch_query.specs.Searching.{IsFrom, IsFollowed, AreFollowed, IsSearching, IsLatest, ClimbsTo, IsOpenedBy, ArePassed}
+use Rattle.ch_query.specs.Marks.{mark_at, label_at, option_cost, costs_of, far_cost, settled_in, IsLeastOpen, IsNoMore, FitAll, settled_count}
+use Rattle.ch_query.specs.Searching.{IsFrom, IsFollowed, AreFollowed, IsSearching, ClimbsTo, IsOpenedBy, ArePassed}
+use Rattle.ch_query.specs.Marks.{IsLatest}
 use Rattle.ch_query.specs.Meeting.{IsBestSoFar, IsLooked}
 use Rattle.ch_query.proofs.Sides.{link-made}
 use Rattle.ch_query.proofs.Ranks.{rank_below}
@@ -26,6 +27,16 @@ module _ (h : Hierarchy) (made : IsWellMade h) where
   -- the bound of a well made hierarchy is small enough to be a summand
   pub bound_in_limit : IsInLimit h.bound
   bound_in_limit = in_limit-from_within made.bound (cost_of_arcs_in_limit _ _ (omega (arith, made.few_nodes)) (omega arith))
+
+  -- what is no longer than the bound is below what no walk costs
+  pub below_far : (c : Cost) → IsNoLonger c h.bound → c ≺ far_cost
+  below_far c short = elim (cases_cost c far_cost) [
+    | inl below ↦ below
+    | inr most ↦
+        let arcs : Cost = cost_of_arcs (2 ^ 25) (2 ^ 32 - 1) in
+        let bound : IsNoLonger h.bound arcs = no_longer-from_within (within_trans made.bound (more_arcs_within (length h.ranks - 1) (2 ^ 25) (2 ^ 32 - 1) (omega (arith, made.few_nodes)))) in
+        absurd (omega (arith, length_of-at_most most, lengths-from_no_longer short, lengths-from_no_longer bound, length_of-sum arcs (of_weight 1), length_of-of_weight 1))
+  ]
 
   -- a link's cost is small enough to be one, and of one walk
   pub link_in_limit : (k : ℕ) → k < length h.links → IsInLimit (cost_at h k)
@@ -44,7 +55,7 @@ module _ (h : Hierarchy) (made : IsWellMade h) where
   pub climb_of_walks : (side : Side) (k : ℕ) (c : Cost) → Climbs h side k → IsOfWalks (foot_rank h side k) c → IsOfWalks (head_rank h side k) (c ⊕ cost_at h k)
   climb_of_walks side k c climbs fits = of_walks_more (omega (arith, climbs.rises)) (of_walks_sum fits (link_of_walks k climbs.within))
 
-  module _ {side : Side} {start : ℕ} {marks : List Mark} (is : IsSearching h side start marks) where
+  module _ {side : Side} {links : List ℕ} {start : ℕ} {marks : List Mark} (is : IsSearching h side links start marks) where
     pub label_in_limit : (r : ℕ) (e : Label) → label_at marks r ≡ Some e → IsInLimit e.cost
     label_in_limit r e label = in_limit-from_walks (omega (arith, label-in marks r e label, is.nodes, made.few_nodes)) (is.fits r e label) (is.short r e label) bound_in_limit
 
@@ -55,19 +66,19 @@ module _ (h : Hierarchy) (made : IsWellMade h) where
 
 module _ (h : Hierarchy) (made : IsWellMade h) (side : Side) (start : ℕ) (start_in : start < length h.ranks) where
   abbrev zero_label : Label
-  zero_label = record { cost = zero_cost; link = None }
+  zero_label = record { cost = zero_cost; place = None }
 
   abbrev pub first_marks : List Mark
-  first_marks = set (replicate (length h.ranks) Unseen) (rank_of h start) (Open (record { cost = zero_cost; link = None }))
+  first_marks = set (replicate (length h.ranks) Unseen) (rank_of h start) (Open (record { cost = zero_cost; place = None }))
 
   room : rank_of h start < length (replicate (length h.ranks) Unseen)
   room = omega (arith, rank_below h made start start_in, length-replicate (length h.ranks) Unseen)
 
-  here : mark_at first_marks (rank_of h start) ≡ Open (record { cost = zero_cost; link = None })
-  here = write_here (replicate (length h.ranks) Unseen) (rank_of h start) (Open (record { cost = zero_cost; link = None })) room
+  here : mark_at first_marks (rank_of h start) ≡ Open (record { cost = zero_cost; place = None })
+  here = write_here (replicate (length h.ranks) Unseen) (rank_of h start) (Open (record { cost = zero_cost; place = None })) room
 
-  only_mark : (r : ℕ) (m : Mark) → mark_at first_marks r ≡ m → ((r ≡ rank_of h start) × (Open (record { cost = zero_cost; link = None }) ≡ m)) ⊎ (Unseen ≡ m)
-  only_mark r m is = elim (cases_write (replicate (length h.ranks) Unseen) (rank_of h start) (Open (record { cost = zero_cost; link = None })) r room) [
+  only_mark : (r : ℕ) (m : Mark) → mark_at first_marks r ≡ m → ((r ≡ rank_of h start) × (Open (record { cost = zero_cost; place = None }) ≡ m)) ⊎ (Unseen ≡ m)
+  only_mark r m is = elim (cases_write (replicate (length h.ranks) Unseen) (rank_of h start) (Open (record { cost = zero_cost; place = None })) r room) [
     | inl w ↦ inl (w.at, sym w.reads ∙ is)
     | inr k ↦ inr (sym (unseen-at (length h.ranks) r) ∙ (sym k.reads ∙ is))
   ]
@@ -93,14 +104,14 @@ module _ (h : Hierarchy) (made : IsWellMade h) (side : Side) (start : ℕ) (star
     | inr unseen ↦ unseen-settled unseen
   ]
 
-  first_from : (r : ℕ) (e : Label) → r ≡ rank_of h start → zero_label ≡ e → IsFrom h side start first_marks r e.cost e.link
-  first_from r e at same = subst (λ (l : Label). IsFrom h side start first_marks r l.cost l.link) same (at, refl)
+  first_from : (links : List ℕ) (r : ℕ) (e : Label) → r ≡ rank_of h start → zero_label ≡ e → IsFrom h side links start first_marks r e.cost e.place
+  first_from links r e at same = subst (λ (l : Label). IsFrom h side links start first_marks r l.cost l.place) same (at, refl)
 
-  pub searching-start : IsSearching h side start first_marks
-  searching-start = record {
-    nodes = length-set (replicate (length h.ranks) Unseen) (rank_of h start) (Open (record { cost = zero_cost; link = None })) ∙ length-replicate (length h.ranks) Unseen;
+  pub searching-start : (links : List ℕ) → IsSearching h side links start first_marks
+  searching-start links = record {
+    nodes = length-set (replicate (length h.ranks) Unseen) (rank_of h start) (Open (record { cost = zero_cost; place = None })) ∙ length-replicate (length h.ranks) Unseen;
     first = cost_is first_marks (rank_of h start) zero_label (label-open _ zero_label here);
-    origin = λ r e is. let only = only_label r e is in first_from r e only.0 only.1;
+    origin = λ r e is. let only = only_label r e is in first_from links r e only.0 only.1;
     fits = λ r e is. subst (λ (l : Label). IsOfWalks r l.cost) (only_label r e is).1 (of_walks_zero_cost r);
     short = λ r e is. subst (λ (l : Label). IsNoLonger l.cost h.bound) (only_label r e is).1 (no_longer-from_within (zero_cost_within h.bound));
     ordered = λ q r d e closed opens. absurd (no_settled q d closed);
@@ -111,7 +122,7 @@ module _ (h : Hierarchy) (made : IsWellMade h) (side : Side) (start : ℕ) (star
 
 -- A turn: the node of rank r is settled, and then its links are followed
 
-module _ (h : Hierarchy) (side : Side) (start : ℕ) (old : List Mark) (r : ℕ) (e : Label) (is : IsSearching h side start old) (next : IsLeastOpen old r e) where
+module _ (h : Hierarchy) (side : Side) (links : List ℕ) (start : ℕ) (old : List Mark) (r : ℕ) (e : Label) (is : IsSearching h side links start old) (next : IsLeastOpen old r e) where
   place : r < length old
   place = open-in old r e next.opens
 
@@ -148,9 +159,9 @@ module _ (h : Hierarchy) (side : Side) (start : ℕ) (old : List Mark) (r : ℕ)
   turn-kept : (q : ℕ) (c : Cost) → HasAtMost (costs_of old) q c → HasAtMost (costs_of (set old r (Settled e))) q c
   turn-kept q c has = record { cost = has.cost; labelled = ap (λ (o : Option Label). option_cost o) (settle-label old r e next.opens q) ∙ has.labelled; at_most = has.at_most }
 
-  module _ (new : List Mark) (opened : IsOpenedBy h side r e.cost (set old r (Settled e)) new) where
+  module _ (new : List Mark) (opened : IsOpenedBy h side links r e.cost (set old r (Settled e)) new) where
     -- where a label comes from: it was there, or a link from the node led to it
-    came : (q : ℕ) (d : Label) → label_at new q ≡ Some d → (label_at old q ≡ Some d) ⊎ ClimbsTo h side r e.cost q d
+    came : (q : ℕ) (d : Label) → label_at new q ≡ Some d → (label_at old q ≡ Some d) ⊎ ClimbsTo h side links r e.cost q d
     came q d label = elim (label_cases (mark_at new q) d label) [
       | inl opens ↦ elim (opened.opened q d opens) [
         | inl there ↦ inl (label-open _ d (turn-open q d there))
@@ -159,33 +170,41 @@ module _ (h : Hierarchy) (side : Side) (start : ℕ) (old : List Mark) (r : ℕ)
       | inr closed ↦ inl (sym (settle-label old r e next.opens q) ∙ label-settled _ d (opened.settled q d closed))
     ]
 
-    from-more : (q : ℕ) (c : Cost) (link : Option ℕ) → IsFrom h side start old q c link → IsFrom h side start new q c link
+    from-more : (q : ℕ) (c : Cost) (place : Option ℕ) → IsFrom h side links start old q c place → IsFrom h side links start new q c place
     from-more q c None from = from
-    from-more q c (Some k) from = record {
-      foot = from.foot;
-      climbs = from.climbs;
-      head = from.head;
-      settled = opened.stays (foot_rank h side k) from.foot (turn-stays (foot_rank h side k) from.foot from.settled);
-      sum = from.sum;
-    }
+    from-more q c (Some i) from =
+        let k : ℕ = slice_index links i in (
+          from.0,
+          record {
+            foot = from.1.foot;
+            climbs = from.1.climbs;
+            head = from.1.head;
+            settled = opened.stays (foot_rank h side k) from.1.foot (turn-stays (foot_rank h side k) from.1.foot from.1.settled);
+            sum = from.1.sum;
+          },
+        )
 
     here_settled : mark_at new r ≡ Settled e
     here_settled = opened.stays r e (write_here old r (Settled e) place)
 
-    climbed-from : (q : ℕ) (d : Label) → ClimbsTo h side r e.cost q d → IsFrom h side start new q d.cost d.link
-    climbed-from q d climbs = subst (λ (o : Option ℕ). IsFrom h side start new q d.cost o) (sym climbs.link) (record {
-      foot = e;
-      climbs = climbs.climbs;
-      head = climbs.head;
-      settled = subst (λ p. mark_at new p ≡ Settled e) (sym climbs.foot) here_settled;
-      sum = climbs.sum;
-    })
+    climbed-from : (q : ℕ) (d : Label) → ClimbsTo h side links r e.cost q d → IsFrom h side links start new q d.cost d.place
+    climbed-from q d climbs = subst (λ (o : Option ℕ). IsFrom h side links start new q d.cost o) (sym climbs.known) (
+      climbs.within,
+      record {
+        foot = e;
+        climbs = climbs.climbs;
+        head = climbs.head;
+        settled = subst (λ p. mark_at new p ≡ Settled e) (sym climbs.foot) here_settled;
+        sum = climbs.sum;
+      },
+    )
 
-    climbed-fits : IsWellMade h → (q : ℕ) (d : Label) → ClimbsTo h side r e.cost q d → IsOfWalks q d.cost
+    climbed-fits : IsWellMade h → (q : ℕ) (d : Label) → ClimbsTo h side links r e.cost q d → IsOfWalks q d.cost
     climbed-fits made q d climbs =
-        let from : IsOfWalks (foot_rank h side climbs.place) e.cost = subst (λ p. IsOfWalks p e.cost) (sym climbs.foot) turn-fits in
-        let to : IsOfWalks (head_rank h side climbs.place) (e.cost ⊕ cost_at h climbs.place) = climb_of_walks h made side climbs.place e.cost climbs.climbs from in
-        subst (λ p. IsOfWalks p d.cost) climbs.head (subst (λ (c : Cost). IsOfWalks (head_rank h side climbs.place) c) (sym climbs.sum) to)
+        let k : ℕ = slice_index links climbs.place in
+        let from : IsOfWalks (foot_rank h side k) e.cost = subst (λ p. IsOfWalks p e.cost) (sym climbs.foot) turn-fits in
+        let to : IsOfWalks (head_rank h side k) (e.cost ⊕ cost_at h k) = climb_of_walks h made side k e.cost climbs.climbs from in
+        subst (λ p. IsOfWalks p d.cost) climbs.head (subst (λ (c : Cost). IsOfWalks (head_rank h side k) c) (sym climbs.sum) to)
 
     turn-first : costs_of new (rank_of h start) ≡ Some zero_cost
     turn-first =
@@ -196,7 +215,7 @@ module _ (h : Hierarchy) (side : Side) (start : ℕ) (old : List Mark) (r : ℕ)
     turn-above : (q : ℕ) (d : Label) → mark_at new q ≡ Open d → e.cost ≼ d.cost
     turn-above q d opens = elim (opened.opened q d opens) [
       | inl there ↦ next.least q d (turn-open q d there)
-      | inr climbs ↦ subst (λ (c : Cost). e.cost ≼ c) (sym climbs.sum) (at_most_sum_left e.cost (cost_at h climbs.place))
+      | inr climbs ↦ subst (λ (c : Cost). e.cost ≼ c) (sym climbs.sum) (at_most_sum_left e.cost (cost_at h (slice_index links climbs.place)))
     ]
 
     pub followed-turn : (limit found : Option Cost) → IsNoMore found limit → AreFollowed h side limit old → ArePassed h side r e.cost found new → AreFollowed h side found new
@@ -248,12 +267,12 @@ module _ (h : Hierarchy) (side : Side) (start : ℕ) (old : List Mark) (r : ℕ)
           short = short.short;
         })
 
-    pub searching-turn : IsWellMade h → IsSearching h side start new
+    pub searching-turn : IsWellMade h → IsSearching h side links start new
     searching-turn made = record {
       nodes = opened.nodes ∙ (length-set old r (Settled e) ∙ is.nodes);
       first = turn-first;
       origin = λ q d label. elim (came q d label) [
-        | inl there ↦ from-more q d.cost d.link (is.origin q d there)
+        | inl there ↦ from-more q d.cost d.place (is.origin q d there)
         | inr climbs ↦ climbed-from q d climbs
       ];
       fits = λ q d label. elim (came q d label) [

@@ -1,7 +1,7 @@
 -- What a side of a query knows of the nodes: a list of marks, one for each rank.
-use Rattle.std.specs.Prelude.{ℕ, ◌≡◌, List, slice_index_or, sum_by, Option, Some, None}
+use Rattle.std.specs.Prelude.{ℕ, ◌≡◌, ◌-◌, ◌^◌, List, slice_index_or, sum_by, Option, Some, None}
 use Rattle.ch_cost.specs.declared.cost.Cost.{Cost}
-use Rattle.ch_cost.specs.Cost.{◌≼◌, ◌≺◌, IsInLimit}
+use Rattle.ch_cost.specs.Cost.{◌⊕◌, of_weight, cost_of_arcs, ◌≼◌, ◌≺◌, IsInLimit}
 use Rattle.ch_query.specs.declared.label.Label.{Label}
 use Rattle.ch_query.specs.declared.mark.Mark.{Mark}
 use Rattle.ch_query.specs.declared.mark.Mark.TheVariants.{Unseen, Open, Settled}
@@ -23,13 +23,23 @@ abbrev pub option_cost : Option Label → Option Cost
 option_cost None = None
 option_cost (Some e) = Some e.cost
 
-abbrev pub option_link : Option Label → Option ℕ
-option_link None = None
-option_link (Some e) = e.link
+abbrev pub option_place : Option Label → Option ℕ
+option_place None = None
+option_place (Some e) = e.place
 
 -- the labels as costs
 abbrev pub costs_of : List Mark → ℕ → Option Cost
 costs_of marks r = option_cost (label_at marks r)
+
+-- above what any walk of a hierarchy costs
+abbrev pub far_cost : Cost
+far_cost = cost_of_arcs (2 ^ 25) (2 ^ 32 - 1) ⊕ of_weight 1
+
+-- what the label of a mark costs; where there is none, more than any walk
+abbrev pub cost_or_far : Mark → Cost
+cost_or_far Unseen = far_cost
+cost_or_far (Open e) = e.cost
+cost_or_far (Settled e) = e.cost
 
 -- the costs of the settled nodes alone
 abbrev pub settled_in : Mark → Option Cost
@@ -45,6 +55,10 @@ abbrev pub Improves : Cost → Mark → Type 0
 Improves c Unseen = Unit {0}
 Improves c (Open e) = c ≺ e.cost
 Improves c (Settled e) = ⊥
+
+-- no settled node has a label above this cost
+abbrev pub IsLatest : List Mark → Cost → Type 0
+IsLatest marks c = (r : ℕ) (e : Label) → mark_at marks r ≡ Settled e → e.cost ≼ c
 
 -- the cost is below the limit, where there is one
 abbrev pub IsBelow : Cost → Option Cost → Type 0

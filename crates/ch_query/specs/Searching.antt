@@ -21,10 +21,10 @@ pub record ComesFrom (h : Hierarchy) (side : Side) (marks : List Mark) (r : ℕ)
   pub settled : mark_at marks (foot_rank h side k) ≡ Settled foot
   pub sum : c ≡ foot.cost ⊕ cost_at h k
 
--- where a label is from: it came by a link, or it is that of the start
-abbrev pub IsFrom : Hierarchy → Side → ℕ → List Mark → ℕ → Cost → Option ℕ → Type 0
-IsFrom h side start marks r c (Some k) = ComesFrom h side marks r c k
-IsFrom h side start marks r c None = (r ≡ rank_of h start) × (c ≡ zero_cost)
+-- where a label is from: it came by the link at a place of the side's links, or it is that of the start
+abbrev pub IsFrom : Hierarchy → Side → List ℕ → ℕ → List Mark → ℕ → Cost → Option ℕ → Type 0
+IsFrom h side links start marks r c (Some i) = (i < length links) × ComesFrom h side marks r c (slice_index links i)
+IsFrom h side links start marks r c None = (r ≡ rank_of h start) × (c ≡ zero_cost)
 
 -- the link at k was followed from a foot of cost c, where the sum counts below the limit
 abbrev pub IsFollowed : Hierarchy → Side → Cost → Option Cost → List Mark → ℕ → Type 0
@@ -36,10 +36,10 @@ AreFollowed h side limit marks = (k : ℕ) (e : Label) → Climbs h side k → m
 
 -- The marks between two turns of a side: each label is the cost of a climb from the start, and those of settled nodes
 -- are at most those of open ones.
-pub record IsSearching (h : Hierarchy) (side : Side) (start : ℕ) (marks : List Mark) : Type 0 where
+pub record IsSearching (h : Hierarchy) (side : Side) (links : List ℕ) (start : ℕ) (marks : List Mark) : Type 0 where
   pub nodes : length marks ≡ length h.ranks
   pub first : costs_of marks (rank_of h start) ≡ Some zero_cost
-  pub origin : (r : ℕ) (e : Label) → label_at marks r ≡ Some e → IsFrom h side start marks r e.cost e.link
+  pub origin : (r : ℕ) (e : Label) → label_at marks r ≡ Some e → IsFrom h side links start marks r e.cost e.place
   pub fits : (r : ℕ) (e : Label) → label_at marks r ≡ Some e → IsOfWalks r e.cost
   pub short : (r : ℕ) (e : Label) → label_at marks r ≡ Some e → IsNoLonger e.cost h.bound
   pub ordered : (q r : ℕ) (d e : Label) → mark_at marks q ≡ Settled d → mark_at marks r ≡ Open e → d.cost ≼ e.cost
@@ -53,27 +53,24 @@ pub record IsStepAt (h : Hierarchy) (side : Side) (links : List ℕ) (steps : Li
   pub climbs : Climbs h side (slice_index links place)
   pub along : (s : Step) → slice_index_or steps place s ≡ step_along h side (slice_index links place)
 
--- no settled node has a label above this cost
-abbrev pub IsLatest : List Mark → Cost → Type 0
-IsLatest marks c = (r : ℕ) (e : Label) → mark_at marks r ≡ Settled e → e.cost ≼ c
-
 -- the label e of the rank q, to which some link leads from the rank r, whose own cost is c
-pub record ClimbsTo (h : Hierarchy) (side : Side) (r : ℕ) (c : Cost) (q : ℕ) (e : Label) : Type 0 where
+pub record ClimbsTo (h : Hierarchy) (side : Side) (links : List ℕ) (r : ℕ) (c : Cost) (q : ℕ) (e : Label) : Type 0 where
   pub place : ℕ
-  pub link : e.link ≡ Some place
-  pub climbs : Climbs h side place
-  pub foot : foot_rank h side place ≡ r
-  pub head : head_rank h side place ≡ q
-  pub sum : e.cost ≡ c ⊕ cost_at h place
+  pub known : e.place ≡ Some place
+  pub within : place < length links
+  pub climbs : Climbs h side (slice_index links place)
+  pub foot : foot_rank h side (slice_index links place) ≡ r
+  pub head : head_rank h side (slice_index links place) ≡ q
+  pub sum : e.cost ≡ c ⊕ cost_at h (slice_index links place)
   pub short : IsNoLonger e.cost h.bound
 
 -- Marks that come of others by opening nodes over links from the rank r, whose cost is c. No label grows.
-pub record IsOpenedBy (h : Hierarchy) (side : Side) (r : ℕ) (c : Cost) (old new : List Mark) : Type 0 where
+pub record IsOpenedBy (h : Hierarchy) (side : Side) (links : List ℕ) (r : ℕ) (c : Cost) (old new : List Mark) : Type 0 where
   pub nodes : length new ≡ length old
   pub count : settled_count new ≡ settled_count old
   pub stays : (q : ℕ) (d : Label) → mark_at old q ≡ Settled d → mark_at new q ≡ Settled d
   pub settled : (q : ℕ) (d : Label) → mark_at new q ≡ Settled d → mark_at old q ≡ Settled d
-  pub opened : (q : ℕ) (d : Label) → mark_at new q ≡ Open d → (mark_at old q ≡ Open d) ⊎ ClimbsTo h side r c q d
+  pub opened : (q : ℕ) (d : Label) → mark_at new q ≡ Open d → (mark_at old q ≡ Open d) ⊎ ClimbsTo h side links r c q d
   pub kept : (q : ℕ) (a : Cost) → HasAtMost (costs_of old) q a → HasAtMost (costs_of new) q a
 
 -- each link that climbs from the rank r was followed

@@ -1,8 +1,9 @@
-ghost use Rattle.std.specs.Prelude.{◌≡◌, ◌<◌, ◌+◌, ◌↔◌, ℕ, ◌∷◌, length, replicate, slice_set, All, Contains, IfOk, OnOk, IfSome, IfNone, IsTrue, OnSome};
+ghost use Rattle.std.specs.Prelude.{◌≡◌, ◌<◌, ◌+◌, ℕ, ◌∷◌, length, replicate, slice_set, All, Contains, IfOk, OnOk, IfSome, IfNone, IsTrue, OnSome};
 ghost use Rattle.std.specs.BinaryHeap.{heap_items, heap_len, IsHeap, IsUpperBound};
 ghost use Rattle.std.specs.List.Sorted.{IsPermutation};
+ghost use Rattle.ch_cost.specs.Cost.{◌≺◌};
 ghost use Rattle.ch_graph.specs.Queue.{entry_cmp};
-ghost use Rattle.ch_query.specs.Marks.{mark_at, label_at, Improves, IsBelow, IsLeastOpen, IsStopped};
+ghost use Rattle.ch_query.specs.Marks.{mark_at, label_at, far_cost, IsLatest, Improves, IsBelow, IsLeastOpen, IsStopped};
 ghost use Rattle.ch_query.specs.declared.mark.Mark.TheVariants.{Unseen, Open, Settled};
 
 use crate::label::Label;
@@ -16,11 +17,14 @@ use std::marker::Model;
 
 /// The marks of one side of a query, one for each rank, and which open node has the least label.
 ///
-/// The marks are made once. The queue may hold older, dearer entries of a node; they are passed over when they come
-/// up. The list of touched ranks tells which marks to take back before the next query.
+/// The marks are made once. The costs of the labels stand beside them, so that a climb to a node is compared with what
+/// is known of it by 8 bytes and one test; a node without a label has a cost there that no walk has. The queue may hold
+/// older, dearer entries of a node; they are passed over when they come up. The list of touched ranks tells which marks
+/// to take back before the next query.
 #[derive(Drop)]
 pub struct Frontier {
     marks: Vec<Mark>,
+    costs: Vec<Cost>,
     queue: BinaryHeap<Reverse<(Cost, u32)>>,
     touched: Vec<u32>,
 }
@@ -29,13 +33,13 @@ impl Model for Frontier {
     ghost use Rattle.std.specs.Prelude.{List};
     ghost use Rattle.std.specs.BinaryHeap.{heap_items};
     ghost use Rattle.ch_query.specs.declared.mark.Mark.{Mark};
-    ghost use Rattle.ch_query.specs.Front.{IsFront};
+    ghost use Rattle.ch_query.specs.Front.{IsFrontier};
 
     ghost Value = { List Mark };
 
     ghost view = { λ f. f.marks.items };
 
-    ghost invariant = { λ f. IsFront f.marks.items (heap_items f.queue) f.touched.items };
+    ghost invariant = { λ f. IsFrontier f.marks.items f.costs.items (heap_items f.queue) f.touched.items };
 }
 
 /// A node that was settled.
@@ -54,6 +58,7 @@ impl Frontier {
     {
         Ok(Frontier {
             marks: vec![in alloc; Mark::Unseen; nodes as usize]?,
+            costs: vec![in alloc; far(); nodes as usize]?,
             queue: BinaryHeap::new(alloc),
             touched: Vec::new(alloc),
         })
@@ -66,6 +71,7 @@ impl Frontier {
         self.queue.clear();
         'touched: while let Some(rank) = self.touched.pop() {
             self.marks[rank as usize] = Mark::Unseen;
+            self.costs[rank as usize] = far();
         }
     }
 
@@ -77,12 +83,15 @@ impl Frontier {
         self.marks[rank as usize].label()
     }
 
-    /// Whether a climb of this cost to the node of a rank is better than what is known of it.
+    /// Whether a climb to the node of a rank is better than what is known of it. It costs at least what each settled node
+    /// does; one that costs as much as no walk does is told as no better.
     pub fn is_improved_by(&self, rank: u32, cost: Cost) -> bool
-        requires { rank < length self.now }
-        ensures { IsTrue result ↔ Improves cost (mark_at self.now rank) }
+        requires rank_in { rank < length self.now }
+        requires latest { IsLatest self.now cost }
+        ensures better { IsTrue result → Improves cost (mark_at self.now rank) }
+        ensures each { cost ≺ far_cost → Improves cost (mark_at self.now rank) → IsTrue result }
     {
-        self.marks[rank as usize].is_improved_by(cost)
+        cost.is_below(self.costs[rank as usize])
     }
 
     /// Opens the node of a rank with a label that is better than what is known of it.
@@ -97,6 +106,7 @@ impl Frontier {
         touch(&mut self.touched, rank, self.marks[rank as usize])?;
         self.queue.push(Reverse((label.cost, rank)))?;
         self.marks[rank as usize] = Mark::Open(label);
+        self.costs[rank as usize] = label.cost;
         Ok(())
     }
 
@@ -116,6 +126,13 @@ impl Frontier {
         }
         None
     }
+}
+
+/// A cost above that of any walk: of 2^25 arcs of the greatest weight, and one more.
+fn far() -> Cost
+    ensures { result ≡ far_cost }
+{
+    Cost::of_arcs(1 << 25, u32::MAX).plus(Cost::of_weight(1))
 }
 
 /// Puts a rank into the list of touched ones, if nothing was known of its node.

@@ -5,6 +5,6 @@ use ch_cost::Cost;
 pub struct Label {
     /// The least cost of a climb to the node that was found.
     pub cost: Cost,
-    /// The position of the link that it came by, or none at the side's start.
-    pub link: Option<usize>,
+    /// The place of the step that it came by, or none at the side's start.
+    pub place: Option<usize>,
 }

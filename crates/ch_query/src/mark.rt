@@ -1,8 +1,7 @@
-ghost use Rattle.std.specs.Prelude.{◌↔◌, ◌≡◌, IsTrue};
-ghost use Rattle.ch_query.specs.Marks.{Improves, label_in};
+ghost use Rattle.std.specs.Prelude.{◌≡◌};
+ghost use Rattle.ch_query.specs.Marks.{label_in};
 
 use crate::label::Label;
-use ch_cost::Cost;
 
 /// What a side of a query knows of a node, and how far it is with it.
 #[derive(Clone, Copy)]
@@ -24,17 +23,6 @@ impl Mark {
             Mark::Unseen => None,
             Mark::Open(label) => Some(label),
             Mark::Settled(label) => Some(label),
-        }
-    }
-
-    /// Whether a climb of this cost is better than what is known.
-    pub fn is_improved_by(self, cost: Cost) -> bool
-        ensures { IsTrue result ↔ Improves cost self }
-    {
-        match self {
-            Mark::Unseen => true,
-            Mark::Open(known) => cost.is_below(known.cost),
-            Mark::Settled(_) => false,
         }
     }
 }

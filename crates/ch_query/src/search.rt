@@ -32,9 +32,9 @@ pub struct Found {
 /// Answers queries of one hierarchy.
 ///
 /// It keeps for either side the steps over the links that it climbs, apart from them the positions of those links, and
-/// a mark for each node, all by rank: about 80 bytes a node and 24 a link. The marks, queues and lists of one call are
-/// kept for the next, which takes back what the one before it touched. So after a call that ran out of memory it
-/// answers as a new one.
+/// a mark for each node and its cost, all by rank: about 96 bytes a node and 24 a link. The marks, queues and lists of
+/// one call are kept for the next, which takes back what the one before it touched. So after a call that ran out of
+/// memory it answers as a new one.
 #[derive(Drop)]
 pub struct Search<'a> {
     hierarchy: &'a Hierarchy,
@@ -105,7 +105,15 @@ impl<'a> Search<'a> {
             return Ok(None);
         };
         let found = walk_over(
-            alloc, hierarchy, source, target, &self.up, &self.down, meeting,
+            alloc,
+            hierarchy,
+            &self.rising,
+            &self.falling,
+            source,
+            target,
+            &self.up,
+            &self.down,
+            meeting,
         )?;
         Ok(Some(found))
     }
@@ -115,6 +123,8 @@ impl<'a> Search<'a> {
 fn walk_over(
     alloc: Global,
     hierarchy: &Hierarchy,
+    rising: &UpwardSteps,
+    falling: &UpwardSteps,
     source: u32,
     target: u32,
     up: &Frontier,
@@ -124,8 +134,8 @@ fn walk_over(
     requires made { IsWellMade hierarchy.now }
     requires source_in { source < length hierarchy.now.ranks }
     requires target_in { target < length hierarchy.now.ranks }
-    requires rises { IsSearching hierarchy.now Rise source up.now }
-    requires falls { IsSearching hierarchy.now Fall target down.now }
+    requires rises { IsSearching hierarchy.now Rise rising.now.links.items source up.now }
+    requires falls { IsSearching hierarchy.now Fall falling.now.links.items target down.now }
     requires meets { Meets hierarchy.now (costs_of up.now) (costs_of down.now) meeting.rank meeting.cost }
     ensures cost { IfOk result (λ f. f.cost ≡ meeting.cost) }
     ensures walk { IfOk result (λ f. IsRiseFallAt hierarchy.now f.links.items source target meeting.cost) }
@@ -139,10 +149,10 @@ fn walk_over(
         side: Side::Fall,
         start: target,
     };
-    let mut links = descent(alloc, hierarchy, rise, up, meeting.rank)?;
+    let mut links = descent(alloc, hierarchy, rising, rise, up, meeting.rank)?;
     links.reverse();
-    let falling = descent(alloc, hierarchy, fall, down, meeting.rank)?;
-    links.extend_from_slice(&falling)?;
+    let fallen = descent(alloc, hierarchy, falling, fall, down, meeting.rank)?;
+    links.extend_from_slice(&fallen)?;
     Ok(Found {
         cost: meeting.cost,
         links,

@@ -5,7 +5,8 @@ ghost use Rattle.ch_query.specs.Labels.{IsShortLimit};
 ghost use Rattle.ch_query.specs.Climb.{foot_rank};
 ghost use Rattle.ch_query.specs.Upward.{IsLaidOut};
 ghost use Rattle.ch_query.specs.Marks.{FitAll, IsNoMore};
-ghost use Rattle.ch_query.specs.Searching.{IsStepAt, IsLatest, IsOpenedBy, IsFollowed, AreFollowed, ArePassed, IsSearching, IsTurned};
+ghost use Rattle.ch_query.specs.Searching.{IsStepAt, IsOpenedBy, IsFollowed, AreFollowed, ArePassed, IsSearching, IsTurned};
+ghost use Rattle.ch_query.specs.Marks.{IsLatest};
 ghost use Rattle.ch_query.specs.Meeting.{IsBestSoFar, cost_of};
 
 use crate::frontier::Frontier;
@@ -30,13 +31,13 @@ pub fn turn(
 ) -> Result<bool, AllocError>
     requires made { IsWellMade hierarchy.now }
     requires laid { IsLaidOut hierarchy.now climb.side upward.now.first.items upward.now.links.items upward.now.steps.items }
-    requires searching { IsSearching hierarchy.now climb.side climb.start here.old }
+    requires searching { IsSearching hierarchy.now climb.side upward.now.links.items climb.start here.old }
     requires followed { AreFollowed hierarchy.now climb.side (cost_of best.old) here.old }
     requires there_nodes { length there.now ≡ length hierarchy.now.ranks }
     requires there_fits { FitAll there.now }
     requires best { IsBestSoFar hierarchy.now here.old there.now best.old }
     ensures nodes { length here.new ≡ length here.old }
-    ensures searching { OnOk result (IsSearching hierarchy.now climb.side climb.start here.new) }
+    ensures searching { OnOk result (IsSearching hierarchy.now climb.side upward.now.links.items climb.start here.new) }
     ensures followed { OnOk result (AreFollowed hierarchy.now climb.side (cost_of best.new) here.new) }
     ensures less { OnOk result (IsNoMore (cost_of best.new) (cost_of best.old)) }
     ensures best { OnOk result (IsBestSoFar hierarchy.now here.new there.now best.new) }
@@ -73,7 +74,7 @@ fn pass_over(
     requires short { IsNoLonger cost hierarchy.now.bound }
     requires limit { IsShortLimit hierarchy.now limit }
     ensures nodes { length here.new ≡ length here.old }
-    ensures opened { OnOk result (IsOpenedBy hierarchy.now side rank cost here.old here.new) }
+    ensures opened { OnOk result (IsOpenedBy hierarchy.now side upward.now.links.items rank cost here.old here.new) }
     ensures passed { OnOk result (ArePassed hierarchy.now side rank cost limit here.new) }
 {
     let begin = upward.first[rank as usize];
@@ -84,8 +85,8 @@ fn pass_over(
     Ok(())
 }
 
-/// Follows the link at a place, from a foot whose label has this cost: the node at its head is opened, if the sum counts
-/// and is better than what is known of it.
+/// Follows the link at a place, from a foot whose label has this cost: the node at its head is opened, if the sum is
+/// better than what is known of it and counts. Few are better, so that is asked first.
 fn follow(
     hierarchy: &Hierarchy,
     upward: &UpwardSteps,
@@ -103,21 +104,20 @@ fn follow(
     requires short { IsNoLonger cost hierarchy.now.bound }
     requires limit { IsShortLimit hierarchy.now limit }
     ensures nodes { length here.new ≡ length here.old }
-    ensures opened { OnOk result (IsOpenedBy hierarchy.now side (foot_rank hierarchy.now side (slice_index upward.now.links.items place)) cost here.old here.new) }
+    ensures opened { OnOk result (IsOpenedBy hierarchy.now side upward.now.links.items (foot_rank hierarchy.now side (slice_index upward.now.links.items place)) cost here.old here.new) }
     ensures followed { OnOk result (IsFollowed hierarchy.now side cost limit here.new (slice_index upward.now.links.items place)) }
 {
     let step = upward.steps[place];
     let sum = cost.plus(step.cost);
-    if !counts(hierarchy, sum, limit) {
-        return Ok(());
-    }
     if !here.is_improved_by(step.head, sum) {
         return Ok(());
     }
-    let link = upward.links[place];
+    if !counts(hierarchy, sum, limit) {
+        return Ok(());
+    }
     let label = Label {
         cost: sum,
-        link: Some(link),
+        place: Some(place),
     };
     here.open(step.head, label)?;
     Ok(())

@@ -22,7 +22,7 @@ pub struct Step {
 /// The steps of a side, in the order of the ranks of the nodes that it takes them from.
 ///
 /// Those from one node lie together, and so do those from the nodes of high rank, where all queries come by. The
-/// links lie apart, since a query reads that of a step only where the step gives a better label. It holds 8 bytes a
+/// links lie apart, since a query reads those of the steps of its walk alone. It holds 8 bytes a
 /// node and 24 a link that climbs.
 #[derive(Drop)]
 pub struct UpwardSteps {

@@ -1,20 +1,19 @@
-use Rattle.std.proofs.Common.{ℕ, slice_index, ◌≡◌, ◌<◌, ◌∙◌, List, length, Some, ap, refl, subst, sym, arith}
+use Rattle.std.proofs.Common.{Bool, true, false, ℕ, slice_index, ◌≡◌, ◌<◌, ◌∙◌, List, length, Some, ap, refl, subst, sym, arith}
 use Rattle.std.proofs.lemmas.Bool.{iff_false}
-use Rattle.std.proofs.lemmas.List.{get_or_read}
 use Rattle.ch_query.specs.declared.upward.Step.{Step}
 use Rattle.ch_query.specs.Upward.{step_along}
 use Rattle.ch_cost.specs.declared.cost.Cost.{Cost}
-use Rattle.ch_cost.specs.Cost.{◌⊕◌, IsInLimit, IsNoLonger}
-use Rattle.ch_cost.specs.Cost.Laws.{in_limit-from_walks}
+use Rattle.ch_cost.specs.Cost.{◌⊕◌, ◌≼◌, ◌≺◌, IsInLimit, IsNoLonger}
+use Rattle.ch_cost.specs.Cost.Laws.{in_limit-from_walks, at_most_trans, at_most_sum_left}
 use Rattle.ch_query.specs.declared.label.Label.{Label}
 use Rattle.ch_query.specs.declared.mark.Mark.{Mark}
 use Rattle.ch_query.specs.Labels.{CountsBelow}
 use Rattle.ch_query.specs.Climb.{foot_at, foot_rank, head_at, head_rank, cost_at}
-use Rattle.ch_query.specs.Marks.{mark_at, Improves}
+use Rattle.ch_query.specs.Marks.{mark_at, far_cost, IsLatest, Improves}
 use Rattle.ch_query.specs.Searching.{IsOpenedBy, IsFollowed, ClimbsTo}
 use Rattle.ch_query.proofs.Sides.{head_in}
 use Rattle.ch_query.proofs.Ranks.{rank_below}
-use Rattle.ch_query.proofs.Turning.{bound_in_limit, link_in_limit, rank_few}
+use Rattle.ch_query.proofs.Turning.{below_far, bound_in_limit, link_in_limit, rank_few}
 use Rattle.ch_query.proofs.Following.{opened-one, followed-put, followed-kept}
 use Rattle.ch_query.proofs.turn.follow.Goals as goal
 
@@ -31,6 +30,12 @@ plus-sum-requires-clause-second c =
     let is : step ≡ step_along h c.args.side k = c.index-step.ensures ∙ c.requires.step.along step in
     subst (λ (d : Cost). IsInLimit d) (ap (λ (s : Step). s.cost) (sym is)) (link_in_limit h c.requires.made k c.requires.step.climbs.within)
 
+latest-sum : (c : goal.After-plus-sum) → IsLatest c.args.here.now c.plus-sum.result
+latest-sum c q e closed = subst (λ (d : Cost). e.cost ≼ d) (sym c.plus-sum.ensures) (at_most_trans (c.requires.latest q e closed) (at_most_sum_left c.args.cost c.index-step.result.now.cost))
+
+true_false : {b : Bool} → b ≡ true → b ≡ false → ⊥
+true_false first second = cc
+
 pub returns-then-not-counts-clause-followed : goal.returns-then-not-counts-clause-followed
 returns-then-not-counts-clause-followed c counted =
     let h = c.args.hierarchy.now in
@@ -40,15 +45,20 @@ returns-then-not-counts-clause-followed c counted =
     let sum : c.plus-sum.result ≡ c.args.cost ⊕ cost_at h k = c.plus-sum.ensures ∙ ap (λ (s : Step). c.args.cost ⊕ s.cost) is in
     absurd (iff_false c.counts.ensures c.if-not-counts.true (subst (λ (d : Cost). CountsBelow h c.args.limit d) (sym sum) counted))
 
+pub is_improved_by-requires-clause-latest : goal.is_improved_by-requires-clause-latest
+is_improved_by-requires-clause-latest c = latest-sum c
+
 pub returns-then-not-is_improved_by-clause-followed : goal.returns-then-not-is_improved_by-clause-followed
-returns-then-not-is_improved_by-clause-followed c =
+returns-then-not-is_improved_by-clause-followed c counted =
     let h = c.args.hierarchy.now in
     let k : ℕ = slice_index c.args.upward.now.links.items c.args.place in
     let step : Step = c.index-step.result.now in
     let is : step ≡ step_along h c.args.side k = c.index-step.ensures ∙ c.requires.step.along step in
     let head : step.head ≡ head_rank h c.args.side k = ap (λ (s : Step). s.head) is in
     let sum : c.plus-sum.result ≡ c.args.cost ⊕ cost_at h k = c.plus-sum.ensures ∙ ap (λ (s : Step). c.args.cost ⊕ s.cost) is in
-    followed-kept h c.args.side c.args.cost c.args.limit c.args.here.now k step.head c.plus-sum.result (iff_false c.is_improved_by.ensures c.if-not-is_improved_by.true) c.requires.latest head sum
+    let low : c.plus-sum.result ≺ far_cost = below_far h c.requires.made c.plus-sum.result (subst (λ (d : Cost). IsNoLonger d h.bound) (sym sum) counted.short) in
+    let never : Improves c.plus-sum.result (mark_at c.args.here.now step.head) → ⊥ = λ improves. true_false (c.is_improved_by.ensures.each low improves) c.if-not-is_improved_by.true in
+    followed-kept h c.args.side c.args.cost c.args.limit c.args.here.now k step.head c.plus-sum.result never c.requires.latest head sum counted
 
 pub returns-clause-opened : goal.returns-clause-opened
 returns-clause-opened c =
@@ -61,11 +71,11 @@ returns-clause-opened c =
     let marks : List Mark = c.args.here.now in
     let sum : c.plus-sum.result ≡ c.args.cost ⊕ cost_at h k = c.plus-sum.ensures ∙ ap (λ (s : Step). c.args.cost ⊕ s.cost) is in
     let short : IsNoLonger c.plus-sum.result h.bound = (c.counts.ensures.0 c.if-not-counts.false).short in
-    let improves : Improves c.plus-sum.result (mark_at marks step.head) = c.is_improved_by.ensures.0 c.if-not-is_improved_by.false in
+    let improves : Improves c.plus-sum.result (mark_at marks step.head) = c.is_improved_by.ensures.better c.if-not-is_improved_by.false in
     let within : step.head < length marks = omega (arith, c.requires.here_nodes, head, rank_below h c.requires.made (head_at h side k) (head_in h c.requires.made side k c.requires.step.climbs.within)) in
-    let e : Label = record { cost = c.plus-sum.result; link = Some c.index-link.result.now } in
-    let climbs : ClimbsTo h side (foot_rank h side k) c.args.cost step.head e = record { place = k; link = ap Some (get_or_read c.args.upward.now.links.items c.args.place c.index-link.result.now c.requires.step.link_in c.index-link.ensures 0); climbs = c.requires.step.climbs; foot = refl; head = sym head; sum = sum; short = short } in
-    subst (λ (ms : List Mark). IsOpenedBy h side (foot_rank h side k) c.args.cost marks ms) (sym c.in_ok-open.ensures.opened) (opened-one h side (foot_rank h side k) c.args.cost marks step.head e within improves climbs)
+    let e : Label = record { cost = c.plus-sum.result; place = Some c.args.place } in
+    let climbs : ClimbsTo h side c.args.upward.now.links.items (foot_rank h side k) c.args.cost step.head e = record { place = c.args.place; known = refl; within = c.requires.step.link_in; climbs = c.requires.step.climbs; foot = refl; head = sym head; sum = sum; short = short } in
+    subst (λ (ms : List Mark). IsOpenedBy h side c.args.upward.now.links.items (foot_rank h side k) c.args.cost marks ms) (sym c.in_ok-open.ensures.opened) (opened-one h side c.args.upward.now.links.items (foot_rank h side k) c.args.cost marks step.head e within improves climbs)
 
 pub returns-clause-followed : goal.returns-clause-followed
 returns-clause-followed c =
@@ -77,7 +87,7 @@ returns-clause-followed c =
     let side = c.args.side in
     let marks : List Mark = c.args.here.now in
     let sum : c.plus-sum.result ≡ c.args.cost ⊕ cost_at h k = c.plus-sum.ensures ∙ ap (λ (s : Step). c.args.cost ⊕ s.cost) is in
-    let improves : Improves c.plus-sum.result (mark_at marks step.head) = c.is_improved_by.ensures.0 c.if-not-is_improved_by.false in
+    let improves : Improves c.plus-sum.result (mark_at marks step.head) = c.is_improved_by.ensures.better c.if-not-is_improved_by.false in
     let within : step.head < length marks = omega (arith, c.requires.here_nodes, head, rank_below h c.requires.made (head_at h side k) (head_in h c.requires.made side k c.requires.step.climbs.within)) in
-    let e : Label = record { cost = c.plus-sum.result; link = Some c.index-link.result.now } in
+    let e : Label = record { cost = c.plus-sum.result; place = Some c.args.place } in
     subst (λ (ms : List Mark). IsFollowed h side c.args.cost c.args.limit ms k) (sym c.in_ok-open.ensures.opened) (followed-put h side c.args.cost c.args.limit marks k step.head e within improves head sum)

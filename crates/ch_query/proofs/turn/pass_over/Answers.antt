@@ -37,7 +37,7 @@ pub loop-place-preserved : goal.loop-place-preserved
 loop-place-preserved c =
     let h = c.args.hierarchy.now in
     let foot = foot-made h c.requires.made c.args.side c.args.upward.now.first.items c.args.upward.now.links.items c.args.upward.now.steps.items c.requires.laid c.args.rank c.requires.rank_in c.loop-place.place c.loop-place.invariant.from (omega (arith, c.loop-place.invariant.end, c.loop-place-test.true)) in
-    let opened : IsOpenedBy h c.args.side c.args.rank c.args.cost c.loop-place.here c.follow.new.here = subst (λ q. IsOpenedBy h c.args.side q c.args.cost c.loop-place.here c.follow.new.here) foot c.in_ok-follow.ensures.opened in
+    let opened : IsOpenedBy h c.args.side c.args.upward.now.links.items c.args.rank c.args.cost c.loop-place.here c.follow.new.here = subst (λ q. IsOpenedBy h c.args.side c.args.upward.now.links.items q c.args.cost c.loop-place.here c.follow.new.here) foot c.in_ok-follow.ensures.opened in
     record {
       from = omega (arith, c.loop-place.invariant.from);
       end = c.loop-place.invariant.end;

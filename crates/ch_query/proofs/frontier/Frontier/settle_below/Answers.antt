@@ -4,17 +4,18 @@ use Rattle.std.specs.BinaryHeap.{heap_items}
 use Rattle.ch_query.specs.declared.mark.Mark.{Mark}
 use Rattle.ch_query.specs.declared.mark.Mark.TheVariants.{Unseen}
 use Rattle.ch_query.specs.Marks.{mark_at, IsLeastOpen, IsStopped}
+use Rattle.ch_query.proofs.Marking.{cost_settled}
 use Rattle.ch_query.proofs.Entries.{front-in, front-pass, front-settle, front-least, front-stopped}
 use Rattle.ch_query.proofs.frontier.Frontier.settle_below.Goals as goal
 
 pub index-requires : goal.index-requires
 index-requires c =
-    let place : c.in-Some.field-0.0.1 < length c.entries.self-inside.marks.items = front-in c.entries.self-inside.marks.items (heap_items c.entries.self-inside.queue) (heap_items c.pop_below.new.queue) c.entries.self-inside.touched.items c.in-Some.field-0 (record { cost = c.in-Some.field-0.0.0; link = None }) c.entries.invariant.front c.in-Some.ensures.moved in
+    let place : c.in-Some.field-0.0.1 < length c.entries.self-inside.marks.items = front-in c.entries.self-inside.marks.items (heap_items c.entries.self-inside.queue) (heap_items c.pop_below.new.queue) c.entries.self-inside.touched.items c.in-Some.field-0 (record { cost = c.in-Some.field-0.0.0; place = None }) c.entries.invariant.front c.in-Some.ensures.moved in
     omega (arith, place, c.entries.self-inside.marks.ok)
 
 pub index_mut-requires : goal.index_mut-requires
 index_mut-requires c =
-    let place : c.in-Some.field-0.0.1 < length c.entries.self-inside.marks.items = front-in c.entries.self-inside.marks.items (heap_items c.entries.self-inside.queue) (heap_items c.pop_below.new.queue) c.entries.self-inside.touched.items c.in-Some.field-0 (record { cost = c.in-Some.field-0.0.0; link = None }) c.entries.invariant.front c.in-Some.ensures.moved in
+    let place : c.in-Some.field-0.0.1 < length c.entries.self-inside.marks.items = front-in c.entries.self-inside.marks.items (heap_items c.entries.self-inside.queue) (heap_items c.pop_below.new.queue) c.entries.self-inside.touched.items c.in-Some.field-0 (record { cost = c.in-Some.field-0.0.0; place = None }) c.entries.invariant.front c.in-Some.ensures.moved in
     omega (arith, place, c.entries.self-inside.marks.ok)
 
 pub invariant_of-self : goal.invariant_of-self
@@ -22,7 +23,10 @@ invariant_of-self c =
     let marks : List Mark = c.entries.self-inside.marks.items in
     let place : c.in-Some.field-0.0.1 < length marks = front-in marks (heap_items c.entries.self-inside.queue) (heap_items c.pop_below.new.queue) c.entries.self-inside.touched.items c.in-Some.field-0 c.in-Open.label c.entries.invariant.front c.in-Some.ensures.moved in
     let read : c.index.result.now ≡ mark_at marks c.in-Some.field-0.0.1 = get_or_read marks c.in-Some.field-0.0.1 c.index.result.now place c.index.ensures Unseen in
-    front-settle marks (heap_items c.entries.self-inside.queue) (heap_items c.pop_below.new.queue) c.entries.self-inside.touched.items c.in-Some.field-0 c.in-Open.label c.entries.invariant.front c.in-Some.ensures.moved c.pop_below.ensures.heap (sym read ∙ c.in-Open.is)
+    record {
+      front = front-settle marks (heap_items c.entries.self-inside.queue) (heap_items c.pop_below.new.queue) c.entries.self-inside.touched.items c.in-Some.field-0 c.in-Open.label c.entries.invariant.front c.in-Some.ensures.moved c.pop_below.ensures.heap (sym read ∙ c.in-Open.is);
+      known = cost_settled marks c.entries.self-inside.costs.items c.in-Some.field-0.0.1 c.in-Open.label (sym read ∙ c.in-Open.is) c.entries.invariant.costs;
+    }
 
 pub returns-in-Open-clause-least : goal.returns-in-Open-clause-least
 returns-in-Open-clause-least c =
@@ -34,10 +38,11 @@ returns-in-Open-clause-least c =
 pub entries-preserved : goal.entries-preserved
 entries-preserved c =
     let marks : List Mark = c.entries.self-inside.marks.items in
-    let place : c.in-Some.field-0.0.1 < length marks = front-in marks (heap_items c.entries.self-inside.queue) (heap_items c.pop_below.new.queue) c.entries.self-inside.touched.items c.in-Some.field-0 (record { cost = c.in-Some.field-0.0.0; link = None }) c.entries.invariant.front c.in-Some.ensures.moved in
+    let place : c.in-Some.field-0.0.1 < length marks = front-in marks (heap_items c.entries.self-inside.queue) (heap_items c.pop_below.new.queue) c.entries.self-inside.touched.items c.in-Some.field-0 (record { cost = c.in-Some.field-0.0.0; place = None }) c.entries.invariant.front c.in-Some.ensures.moved in
     let read : c.index.result.now ≡ mark_at marks c.in-Some.field-0.0.1 = get_or_read marks c.in-Some.field-0.0.1 c.index.result.now place c.index.ensures Unseen in
     record {
       same = c.entries.invariant.same;
+      costs = c.entries.invariant.costs;
       front = front-pass marks (heap_items c.entries.self-inside.queue) (heap_items c.pop_below.new.queue) c.entries.self-inside.touched.items c.in-Some.field-0 c.entries.invariant.front c.in-Some.ensures.moved c.pop_below.ensures.heap (λ e is. c.in_default-index.not-Open e (read ∙ is));
     }
 
