@@ -1,9 +1,8 @@
 -- The book after a contraction: it has the rows that are current then, and all that it had.
-use Rattle.std.proofs.Common.{ℕ, ◌≡◌, ◌≢◌, ◌+◌, ◌<◌, ◌≤◌, List, [], ◌∷◌, ◌++◌, length, map, get_or, set, slice_index, All, AllPairs, Contains, Some, arith, ap, sym, subst, refl, ◌∙◌, inl, inr, append_assoc}
+use Rattle.std.proofs.Common.{ℕ, ◌≡◌, ◌+◌, ◌<◌, List, [], ◌∷◌, ◌++◌, length, map, set, slice_index, arith, sym, subst, ◌∙◌, inl, inr, append_assoc}
 use Rattle.std.specs.List.{zip, range_with_len}
 use Rattle.std.proofs.lemmas.Bool.{cases_eq}
-use Rattle.std.proofs.lemmas.List.{length-set, length-map, get_or-set_same, get_or-set_other, get_or_append_left, get_or_push, length-append, append-nil}
-use Rattle.std.proofs.lemmas.List.Elements.{All-append, All-map, All-cons, Contains-get_or}
+use Rattle.std.proofs.lemmas.List.{length-set, get_or-set_same, get_or-set_other, get_or_append_left, get_or_push, length-append, append-nil}
 use Rattle.ch_laws.specs.Rows.{Row}
 use Rattle.ch_overlay.specs.Overlay.{row_at, no_arcs}
 use Rattle.ch_overlay.specs.Change.{puts}

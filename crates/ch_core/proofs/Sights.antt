@@ -1,13 +1,13 @@
 -- Rows that a worker has can be relied on.
-use Rattle.std.proofs.Common.{ℕ, ◌≡◌, ◌^◌, ◌<◌, ◌≤◌, List, length, get_or, All, Some, arith, ap, sym, subst}
+use Rattle.std.proofs.Common.{ℕ, ◌≡◌, ◌^◌, ◌≤◌, length, get_or, Some, arith, subst}
 use Rattle.std.proofs.lemmas.List.Elements.{All-weaker}
 use Rattle.ch_cost.specs.declared.cost.Cost.{Cost}
 use Rattle.ch_laws.specs.declared.entry.Entry.{Entry}
 use Rattle.ch_laws.specs.Rows.{Row}
 use Rattle.ch_overlay.specs.declared.source.Seen.{Seen}
-use Rattle.ch_overlay.specs.Source.{row_in, IsSeenRow, IsBound}
-use Rattle.ch_overlay.specs.Overlay.{Overlay, IsEntry, AreEntries, no_arcs}
-use Rattle.ch_core.specs.World.{World, Version, Standing, StandsIn, stands_at, has, view_of}
+use Rattle.ch_overlay.specs.Source.{row_in, IsSeenRow}
+use Rattle.ch_overlay.specs.Overlay.{Overlay, IsEntry, no_arcs}
+use Rattle.ch_core.specs.World.{World, Version, Standing, StandsIn, has, view_of}
 use Rattle.ch_core.specs.Keeping.{IsWorld, IsSound, IsSoundVersion, Sight, IsSight}
 
 -- a row among few nodes is one among the most that there can be

@@ -1,8 +1,7 @@
 -- Worlds where the view of a worker is another one.
-use Rattle.std.proofs.Common.{ℕ, ◌≡◌, ◌≢◌, ◌<◌, List, [], length, set, Some, None, ap, sym, subst, refl, ◌∙◌, inl, inr}
+use Rattle.std.proofs.Common.{ℕ, ◌≡◌, ◌≢◌, ◌<◌, [], length, set, Some, None, ap, sym, subst, refl, ◌∙◌, inl, inr}
 use Rattle.std.proofs.lemmas.Bool.{cases_eq}
 use Rattle.std.proofs.lemmas.List.{length-set, get_or-set_same, get_or-set_other}
-use Rattle.ch_laws.specs.Rows.{Row}
 use Rattle.ch_core.specs.World.{World, View, Standing, IsIn, has, stands_at, view_of, IsRead, IsForgotten}
 use Rattle.ch_core.specs.Keeping.{IsWorld}
 use Rattle.ch_core.proofs.Kept.{world_with}

@@ -1,6 +1,6 @@
 -- Workers read rows of a graph under contraction, as old as they like, and offer contractions by what they read. One
 -- event comes after the other, in any order.
-use Rattle.std.specs.Prelude.{ℕ, ◌≡◌, ◌≢◌, ◌+◌, ◌<◌, ◌↔◌, nat_eq, List, [], ◌∷◌, ◌++◌, length, map, Option, Some, None, All, AllPairs, Contains, slice_index, slice_index_or}
+use Rattle.std.specs.Prelude.{ℕ, ◌≡◌, ◌≢◌, ◌+◌, ◌<◌, ◌↔◌, nat_eq, List, [], ◌∷◌, ◌++◌, length, map, Option, Some, None, All, AllPairs, Contains, slice_index_or}
 use Rattle.std.specs.List.{zip, range_with_len}
 use Rattle.std.specs.Map.{lookup}
 use Rattle.ch_graph.specs.Graph.{Graph, bound_of}

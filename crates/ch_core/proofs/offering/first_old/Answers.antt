@@ -1,4 +1,4 @@
-use Rattle.std.proofs.Common.{◌≡◌, ◌+◌, ◌++◌, ◌∷◌, All, List, take, drop, get_or, ap, sym, subst, refl, ◌∙◌}
+use Rattle.std.proofs.Common.{◌+◌, ◌++◌, ◌∷◌, All, List, take, drop, ap, sym, subst, refl, ◌∙◌}
 use Rattle.std.proofs.lemmas.List.{take_all, drop_more, take-append-drop}
 use Rattle.std.proofs.lemmas.List.Elements.{All-more}
 use Rattle.ch_overlay.specs.declared.source.Seen.{Seen}

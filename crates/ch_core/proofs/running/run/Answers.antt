@@ -5,7 +5,7 @@ use Rattle.ch_laws.specs.Contraction.{IsReached}
 use Rattle.ch_overlay.specs.Overlay.{state_of}
 use Rattle.ch_core.specs.declared.event.Event.{Event}
 use Rattle.ch_core.specs.declared.event.Outcome.{Outcome}
-use Rattle.ch_core.specs.Steps.{Runs, ends, goes}
+use Rattle.ch_core.specs.Steps.{Runs, ends}
 use Rattle.ch_core.proofs.Ran.{runs_on}
 use Rattle.ch_core.proofs.running.run.Goals as goal
 
@@ -32,7 +32,7 @@ nothing_left : (events : List Event) → length events ≡ 0 → events ≡ []
 nothing_left [] e = refl
 nothing_left (event ∷ events) e = absurd (omega arith)
 
-all_events : (c : goal.After-log) → c.events.yielded ≡ c.args.events.items
+all_events : (c : goal.After-holds) → c.events.yielded ≡ c.args.events.items
 all_events c =
     let none : length c.events.event-iterator.rest.items ≡ 0 = omega (arith, c.in-None.ensures.steps.0, c.events.event-iterator.rest.ok) in
     sym (append-nil c.events.yielded) ∙ ap (λ (events : List Event). c.events.yielded ++ events) (sym (nothing_left c.events.event-iterator.rest.items none)) ∙ c.events.invariant.rest
@@ -48,4 +48,4 @@ pub returns-clause-graph : goal.returns-clause-graph
 returns-clause-graph c = c.events.invariant.graph
 
 pub returns-clause-reached : goal.returns-clause-reached
-returns-clause-reached c = subst (λ (g : Graph). IsReached g c.events.world.ledger.log (state_of c.events.world.ledger.overlay)) c.events.invariant.graph c.log.ensures.reached
+returns-clause-reached c = subst (λ (g : Graph). IsReached g c.events.world.ledger.log (state_of c.events.world.ledger.overlay)) c.events.invariant.graph c.holds.ensures.board.reached

@@ -1,4 +1,4 @@
-use Rattle.std.proofs.Common.{◌≡◌, Some, ap, sym, subst, ◌∙◌}
+use Rattle.std.proofs.Common.{Some, ap, sym, subst, ◌∙◌}
 use Rattle.ch_core.specs.World.{Standing, StandsIn, stands_at}
 use Rattle.ch_core.specs.Keeping.{Sight, IsSight}
 use Rattle.ch_core.proofs.Sights.{seen_sound}
