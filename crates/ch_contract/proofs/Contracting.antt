@@ -10,7 +10,7 @@ use Rattle.ch_cost.specs.declared.cost.Cost.{Cost}
 use Rattle.ch_laws.specs.declared.shortcut.Shortcut.{Shortcut}
 use Rattle.ch_laws.specs.Contraction.{State, Contraction, Step, Puts, contracted}
 use Rattle.ch_laws.specs.Rows.{Row}
-use Rattle.ch_laws.proofs.Lawful.{plan_is_lawful, reaches_on}
+use Rattle.ch_laws.specs.Theorems.{PlanIsLawful, ReachesOn}
 use Rattle.ch_overlay.specs.Overlay.{Overlay, IsOverlay, state_of}
 use Rattle.ch_overlay.specs.Change.{Change, IsChange, puts}
 use Rattle.ch_contract.specs.Board.{Board, IsBoard, AreLawful, IsContracted, receipt_of}
@@ -21,9 +21,9 @@ pub entry_of : Board → List Shortcut → Change → Contraction
 entry_of b put c = record { node = c.node; rank = length b.overlay.order; neighbours = map (λ (a : ℕ × Row). a.0) (drop 1 c.rows); shortcuts = length put }
 
 -- a change that was planned is a lawful step to the state that it makes
-pub steps : (b : Board) (put : List Shortcut) (c : Change) (new : State) → IsBoard b → AreLawful b c.node put → IsChange b.overlay put c → new ≡ contracted (state_of b.overlay) c.node put → Step (bound_of b.graph) (state_of b.overlay) (entry_of b put c) new
+pub steps : PlanIsLawful → (b : Board) (put : List Shortcut) (c : Change) (new : State) → IsBoard b → AreLawful b c.node put → IsChange b.overlay put c → new ≡ contracted (state_of b.overlay) c.node put → Step (bound_of b.graph) (state_of b.overlay) (entry_of b put c) new
 unfolding entry_of
-steps b put c new is lawful planned made =
+steps plan_is_lawful b put c new is lawful planned made =
     let others_is : drop 1 c.rows ≡ planned.others = ap (drop 1) planned.rows in
     let puts_it : Puts b.overlay.bound (state_of b.overlay) c.node put (contracted (state_of b.overlay) c.node put) = plan_is_lawful b.overlay.bound (state_of b.overlay) c.node put lawful.plan lawful.witnessed in
     let by_bound : Puts (bound_of b.graph) (state_of b.overlay) c.node put (contracted (state_of b.overlay) c.node put) = subst (λ (bound : Cost). Puts bound (state_of b.overlay) c.node put (contracted (state_of b.overlay) c.node put)) is.bound puts_it in
@@ -94,24 +94,24 @@ abbrev pub board_with : Board → Overlay → Contraction → ℕ → Board
 board_with b new e next = record { graph = b.graph; overlay = new; log = b.log ++ e ∷ []; next = next }
 
 -- the board after a contraction is one
-pub board_after : (b : Board) (put : List Shortcut) (c : Change) (new : Overlay) (next : ℕ) → IsBoard b → AreLawful b c.node put → IsChange b.overlay put c → IsOverlay new → new.bound ≡ b.overlay.bound → state_of new ≡ contracted (state_of b.overlay) c.node put → All (λ v. v < next) new.versions → IsBoard (board_with b new (entry_of b put c) next)
-board_after b put c new next is lawful planned overlay bound made below = record {
+pub board_after : PlanIsLawful → ReachesOn → (b : Board) (put : List Shortcut) (c : Change) (new : Overlay) (next : ℕ) → IsBoard b → AreLawful b c.node put → IsChange b.overlay put c → IsOverlay new → new.bound ≡ b.overlay.bound → state_of new ≡ contracted (state_of b.overlay) c.node put → All (λ v. v < next) new.versions → IsBoard (board_with b new (entry_of b put c) next)
+board_after plan_is_lawful reaches_on b put c new next is lawful planned overlay bound made below = record {
   graph = is.graph;
   overlay = overlay;
   bound = bound ∙ is.bound;
-  reached = reaches_on b.graph b.log (state_of b.overlay) (entry_of b put c) (state_of new) is.reached (steps b put c (state_of new) is lawful planned made);
+  reached = reaches_on b.graph b.log (state_of b.overlay) (entry_of b put c) (state_of new) is.reached (steps plan_is_lawful b put c (state_of new) is lawful planned made);
   versions = below;
 }
 
 -- and the node is contracted
-pub contracted_after : (b : Board) (put : List Shortcut) (c : Change) (new : Overlay) (next : ℕ) → IsBoard b → AreLawful b c.node put → IsChange b.overlay put c → state_of new ≡ contracted (state_of b.overlay) c.node put → IsContracted b c.node put (receipt_of (entry_of b put c)) (board_with b new (entry_of b put c) next)
+pub contracted_after : PlanIsLawful → (b : Board) (put : List Shortcut) (c : Change) (new : Overlay) (next : ℕ) → IsBoard b → AreLawful b c.node put → IsChange b.overlay put c → state_of new ≡ contracted (state_of b.overlay) c.node put → IsContracted b c.node put (receipt_of (entry_of b put c)) (board_with b new (entry_of b put c) next)
 unfolding entry_of
-contracted_after b put c new next is lawful planned made = record {
+contracted_after plan_is_lawful b put c new next is lawful planned made = record {
   entry = entry_of b put c;
   of_node = refl;
   of_shortcuts = refl;
   handed = refl;
-  contracts = record { graph = refl; log = refl; step = steps b put c (state_of new) is lawful planned made };
+  contracts = record { graph = refl; log = refl; step = steps plan_is_lawful b put c (state_of new) is lawful planned made };
   state = made;
 }
 
@@ -143,19 +143,19 @@ planned_entry b node put p is =
 pub planned_lawful : (b : Board) (node : ℕ) (put : List Shortcut) (p : Planned) → IsPlanned b node put p → AreLawful b p.change.node put
 planned_lawful b node put p is = subst (λ n. AreLawful b n put) (sym is.of_node) is.lawful
 
-module _ (b : Board) (node : ℕ) (put : List Shortcut) (p : Planned) (new : Overlay) (next : ℕ) (is : IsBoard b) (plan : IsPlanned b node put p) (made : state_of new ≡ contracted (state_of b.overlay) p.change.node put) where
+module _ (plan_is_lawful : PlanIsLawful) (b : Board) (node : ℕ) (put : List Shortcut) (p : Planned) (new : Overlay) (next : ℕ) (is : IsBoard b) (plan : IsPlanned b node put p) (made : state_of new ≡ contracted (state_of b.overlay) p.change.node put) where
   -- once it is entered, the board is one
-  pub board_entered : IsOverlay new → new.bound ≡ b.overlay.bound → All (λ v. v < next) new.versions → IsBoard (board_with b new p.entry next)
-  board_entered overlay bound below =
+  pub board_entered : ReachesOn → IsOverlay new → new.bound ≡ b.overlay.bound → All (λ v. v < next) new.versions → IsBoard (board_with b new p.entry next)
+  board_entered reaches_on overlay bound below =
       subst (λ (e : Contraction). IsBoard (board_with b new e next)) (sym (planned_entry b node put p plan))
-      (board_after b put p.change new next is (planned_lawful b node put p plan) plan.change overlay bound made below)
+      (board_after plan_is_lawful reaches_on b put p.change new next is (planned_lawful b node put p plan) plan.change overlay bound made below)
 
   -- and the node is contracted
   pub contracted_entered : IsContracted b node put (receipt_of p.entry) (board_with b new p.entry next)
   contracted_entered =
       subst (λ n. IsContracted b n put (receipt_of p.entry) (board_with b new p.entry next)) plan.of_node
       (subst (λ (e : Contraction). IsContracted b p.change.node put (receipt_of e) (board_with b new e next)) (sym (planned_entry b node put p plan))
-      (contracted_after b put p.change new next is (planned_lawful b node put p plan) plan.change made))
+      (contracted_after plan_is_lawful b put p.change new next is (planned_lawful b node put p plan) plan.change made))
 
 -- as many rows change as the code counts
 pub counted : {A : Type 0} (f : A → Row) (rows : List (ℕ × A)) (all : List (ℕ × Row)) → map (λ (a : ℕ × A). (a.0, f a.1)) rows ≡ all → length rows ≡ length all

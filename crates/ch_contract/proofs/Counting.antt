@@ -9,7 +9,7 @@ use Rattle.ch_cost.specs.Cost.{zero_cost}
 use Rattle.ch_laws.specs.declared.entry.Entry.{Entry}
 use Rattle.ch_laws.specs.declared.shortcut.Shortcut.{Shortcut}
 use Rattle.ch_laws.specs.Rows.{Row, Rises, Lists}
-use Rattle.ch_laws.proofs.Members.{contains_first, contains_later, pairs_first, pairs_later}
+use Rattle.ch_laws.specs.Members.{contains_first, contains_later, pairs_first, pairs_later}
 use Rattle.ch_overlay.specs.Overlay.{IsEntry}
 use Rattle.ch_laws.specs.Verdicts.{ListsThrough}
 use Rattle.ch_overlay.specs.Source.{row_of}

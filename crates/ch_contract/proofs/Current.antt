@@ -4,7 +4,7 @@ use Rattle.std.proofs.lemmas.Bool.{cases_Bool, false≢true}
 use Rattle.std.proofs.lemmas.List.Elements.{All-contains, All-head, All-tail, Contains-append_right}
 use Rattle.ch_laws.specs.Contraction.{IsAlive}
 use Rattle.ch_laws.specs.Rows.{Row}
-use Rattle.ch_laws.proofs.Members.{contains_first}
+use Rattle.ch_laws.specs.Members.{contains_first}
 use Rattle.ch_overlay.specs.declared.source.Seen.{Seen}
 use Rattle.ch_overlay.specs.Overlay.{Overlay, IsOverlay, row_at, state_of}
 use Rattle.ch_overlay.specs.Source.{row_in}

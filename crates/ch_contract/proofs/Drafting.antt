@@ -2,7 +2,7 @@
 use Rattle.std.proofs.Common.{ℕ, ◌≡◌, List, [], ◌∷◌, Contains, sym, ◌∙◌, inl, inr}
 use Rattle.ch_cost.specs.declared.cost.Cost.{Cost}
 use Rattle.ch_graph.specs.Walk.{Along, Walk, visited}
-use Rattle.ch_witness.proofs.Copies.{moved}
+use Rattle.ch_laws.specs.Moving.{moved}
 use Rattle.ch_contract.specs.Drafts.{IsFront}
 
 no-nodes : (x : ℕ) (xs : List ℕ) → x ∷ xs ≡ [] → ⊥

@@ -6,8 +6,7 @@ use Rattle.ch_graph.specs.declared.link.Link.{Link}
 use Rattle.ch_graph.specs.Graph.{bound_of}
 use Rattle.ch_graph.specs.Hierarchy.{Hierarchy, IsWellMade, IsRight}
 use Rattle.ch_laws.specs.Contraction.{IsOver, IsMade}
-use Rattle.ch_laws.proofs.Sound.{reached-sound}
-use Rattle.ch_laws.proofs.Values.{always_right, always_well_made}
+use Rattle.ch_laws.specs.Theorems.{AlwaysRight, AlwaysWellMade}
 use Rattle.ch_overlay.specs.Overlay.{state_of}
 use Rattle.ch_contract.specs.declared.error.FinishError.{FinishError}
 use Rattle.ch_contract.specs.declared.error.FinishError.TheVariants.{OutOfMemory, NodesLeft}
@@ -21,10 +20,10 @@ pub record IsFinished (b : Board) (h : Hierarchy) : Type 0 where
   pub well : IsWellMade h
   pub right : IsRight b.graph h
 
-pub finished : (b : Board) (ranks : List ℕ) (links : List Link) (bound : Cost) → IsBoard b → IsOver (state_of b.overlay) → AreRanks b.overlay ranks → AreLinks b.overlay links → bound ≡ bound_of b.graph → IsFinished b (record { ranks = ranks; links = links; bound = bound })
-finished b ranks links bound is over ranked linked bound_is =
+pub finished : AlwaysRight → AlwaysWellMade → (b : Board) (ranks : List ℕ) (links : List Link) (bound : Cost) → IsBoard b → IsOver (state_of b.overlay) → AreRanks b.overlay ranks → AreLinks b.overlay links → bound ≡ bound_of b.graph → IsFinished b (record { ranks = ranks; links = links; bound = bound })
+finished always_right always_well_made b ranks links bound is over ranked linked bound_is =
     let h : Hierarchy = record { ranks = ranks; links = links; bound = bound } in
-    let made : IsMade b.graph (state_of b.overlay) h = made_of_parts b.overlay b.graph ranks links bound is.overlay (reached-sound is.graph is.reached) over ranked linked bound_is in
+    let made : IsMade b.graph (state_of b.overlay) h = made_of_parts b.overlay b.graph ranks links bound is.overlay over ranked linked bound_is in
     record {
       made = made;
       well = always_well_made b.graph b.log (state_of b.overlay) h is.graph is.reached over made;

@@ -12,7 +12,7 @@ use Rattle.ch_cost.specs.Cost.Laws.{at_most_trans, cases_cost}
 use Rattle.ch_graph.specs.Walk.{Walk}
 use Rattle.ch_laws.specs.declared.entry.Entry.{Entry}
 use Rattle.ch_laws.specs.declared.shortcut.Shortcut.{Shortcut}
-use Rattle.ch_laws.proofs.Members.{contains_cases, contains_first, contains_later}
+use Rattle.ch_laws.specs.Members.{contains_cases, contains_first, contains_later}
 use Rattle.ch_overlay.specs.Overlay.{AreEntries, IsEntry}
 use Rattle.ch_laws.specs.Rows.{Row, Rises, Lists}
 use Rattle.ch_laws.specs.Verdicts.{ListsThrough, SeenArc}
@@ -24,7 +24,7 @@ use Rattle.ch_witness.specs.Ways.{AreWays, IsStartRow, IsWay, way_at}
 use Rattle.ch_contract.specs.declared.draft.Draft.{Draft}
 use Rattle.ch_contract.specs.Drafts.{Agrees, AreJudged, ArePairs, IsDraftedFrom, IsJoined, Lengthens, over}
 use Rattle.ch_contract.proofs.Drafting.{moved_along}
-use Rattle.ch_witness.proofs.Copies.{row_among}
+use Rattle.ch_overlay.specs.Answers.{row_among}
 
 empty : (p : Shortcut) → Contains [] p → ⊥
 empty p among = omega (arith, among.1)

@@ -1,14 +1,13 @@
 -- A proposal that agrees with a board is a lawful contraction of it.
-use Rattle.std.proofs.Common.{◌≡◌, ◌<◌, cond, nat_eq, List, [], ◌∷◌, Some, length, All, arith, ap, sym, subst, ◌∙◌, inl, inr}
-use Rattle.std.proofs.lemmas.Bool.{cases_Bool}
-use Rattle.std.proofs.lemmas.Bool.Decides.{nat_tests}
-use Rattle.std.proofs.lemmas.List.Elements.{All-head, All-tail}
+use Rattle.std.proofs.Common.{◌≡◌, ◌<◌, List, ◌∷◌, length, All, sym, subst, ◌∙◌}
+use Rattle.std.proofs.lemmas.List.Elements.{All-head, All-contains}
 use Rattle.ch_cost.specs.declared.cost.Cost.{Cost}
 use Rattle.ch_graph.specs.Graph.{bound_of}
 use Rattle.ch_laws.specs.Contraction.{IsPlan, IsWitnessed}
 use Rattle.ch_laws.specs.Rows.{Row, IsRow}
 use Rattle.ch_laws.specs.Verdicts.{AreRead, AreVerdicts}
-use Rattle.ch_laws.proofs.ByVerdicts.{verdicts_are_lawful}
+use Rattle.ch_laws.specs.Theorems.{VerdictsAreLawful}
+use Rattle.ch_overlay.specs.Answers.{row_among}
 use Rattle.ch_overlay.specs.declared.source.Seen.{Seen}
 use Rattle.ch_overlay.specs.Overlay.{state_of}
 use Rattle.ch_overlay.specs.Source.{row_in, row_of}
@@ -16,24 +15,16 @@ use Rattle.ch_contract.specs.Board.{Board, IsBoard, AreLawful}
 use Rattle.ch_contract.specs.Proposal.{Proposal, IsProposal}
 use Rattle.ch_contract.specs.Commit.{IsRowOf, Agrees}
 
-module _ (b : Board) (is : IsBoard b) where
+module _ (verdicts_are_lawful : VerdictsAreLawful) (b : Board) (is : IsBoard b) where
   -- a row that is the board's is the row of its node
   row_of_node : (s : Seen) → IsRowOf b s → IsRow (state_of b.overlay) s.node (row_in s)
   row_of_node s here = subst (λ (r : Row). IsRow (state_of b.overlay) s.node r) (sym here.same) (is.overlay.rows s.node here.in_range)
 
   -- so are all rows that were read
   are_read : (seen : List Seen) → All (IsRowOf b) seen → AreRead (state_of b.overlay) (row_of seen)
-  are_read [] all x r found = absurd (cc)
-  are_read (s ∷ seen) all x r found = elim (cases_Bool (nat_eq s.node x)) [
-    | inl here ↦
-        let node : s.node ≡ x = grind (arith, nat_tests, here) in
-        let row : row_in s ≡ r = some_is (row_in s) r (sym (ap (λ t. cond t (Some (row_in s)) (row_of seen x)) here) ∙ found) in
-        subst (λ (q : Row). IsRow (state_of b.overlay) x q) row (subst (λ y. IsRow (state_of b.overlay) y (row_in s)) node (row_of_node s (All-head (IsRowOf b) s seen all)))
-    | inr other ↦ are_read seen (All-tail (IsRowOf b) s seen all) x r (sym (ap (λ t. cond t (Some (row_in s)) (row_of seen x)) other) ∙ found)
-  ]
-    where
-      some_is : (q r : Row) → Some q ≡ Some r → q ≡ r
-      some_is q r e = cc
+  are_read seen all x r found =
+      let s = row_among seen x r found in
+      subst (λ (q : Row). IsRow (state_of b.overlay) x q) s.3 (subst (λ y. IsRow (state_of b.overlay) y (row_in s.0)) s.2 (row_of_node s.0 (All-contains (IsRowOf b) seen s.0 all s.1)))
 
   -- and the verdicts on them are lawful
   pub agrees-lawful : (p : Proposal) → IsProposal p → Agrees b p → AreLawful b p.node p.shortcuts

@@ -13,7 +13,6 @@ pub mod Logs
 pub mod Links
 pub mod Sorting
 pub mod Finishing
-pub mod SameRows
 pub mod Current
 pub mod ShownRows
 pub mod Lawful

@@ -14,43 +14,23 @@ use Rattle.ch_graph.specs.Graph.{Graph, bound_of}
 use Rattle.ch_graph.specs.Hierarchy.{ComesBefore}
 use Rattle.ch_laws.specs.declared.entry.Entry.{Entry}
 use Rattle.ch_laws.specs.Contraction.{Before, IsOver, IsMade}
-use Rattle.ch_laws.proofs.Members.{contains_first, contains_later, contains_cases, place_of}
-use Rattle.ch_laws.proofs.Sound.{IsSound}
+use Rattle.ch_laws.specs.Members.{contains_first, contains_later, contains_cases, place_of, contains-map, contains-mapped}
 use Rattle.ch_overlay.specs.Overlay.{Overlay, IsOverlay, row_at, state_of}
 use Rattle.ch_contract.specs.Finish.{AreRanks, AreLinks, link_out, link_in, row_links, links_below}
 use Rattle.ch_contract.proofs.Ranges.{AllPairs-append, AllPairs-head, AllPairs-tail, contains-range, pairs-map, range-contains, range_with_len-rises}
 
 -- Lists
 
-contains-map : {X Y : Type 0} (f : X → Y) (xs : List X) (x : X) → Contains xs x → Contains (map f xs) (f x)
-contains-map f [] x among = absurd (omega (arith, among.1))
-contains-map f (y ∷ ys) x among = elim (contains_cases y ys x among) [
-  | inl here ↦ subst (λ z. Contains (map f (y ∷ ys)) (f z)) here (contains_first (f y) (map f ys))
-  | inr later ↦ contains_later (f y) (map f ys) (f x) (contains-map f ys x later)
-]
-
-record IsImage {X Y : Type 0} (f : X → Y) (xs : List X) (y : Y) : Type 0 where
-  of : X
-  among : Contains xs of
-  is : f of ≡ y
-
-map-contains : {X Y : Type 0} (f : X → Y) (xs : List X) (y : Y) → Contains (map f xs) y → IsImage f xs y
-map-contains f [] y among = absurd (omega (arith, among.1))
-map-contains f (x ∷ xs) y among = elim (contains_cases (f x) (map f xs) y among) [
-  | inl here ↦ record { of = x; among = contains_first x xs; is = here }
-  | inr later ↦ let rest = map-contains f xs y later in record { of = rest.of; among = contains_later x xs rest.of rest.among; is = rest.is }
-]
-
 record IsOfPart {X Y : Type 0} (f : X → List Y) (xs : List X) (y : Y) : Type 0 where
   of : X
   among : Contains xs of
   part : Contains (f of) y
 
-flat_map-contains : {X Y : Type 0} (f : X → List Y) (xs : List X) (y : Y) → Contains (flat_map f xs) y → IsOfPart f xs y
-flat_map-contains f [] y among = absurd (omega (arith, among.1))
-flat_map-contains f (x ∷ xs) y among = elim (Contains-append_cases (f x) (flat_map f xs) y among) [
+flat_contains-mapped : {X Y : Type 0} (f : X → List Y) (xs : List X) (y : Y) → Contains (flat_map f xs) y → IsOfPart f xs y
+flat_contains-mapped f [] y among = absurd (omega (arith, among.1))
+flat_contains-mapped f (x ∷ xs) y among = elim (Contains-append_cases (f x) (flat_map f xs) y among) [
   | inl here ↦ record { of = x; among = contains_first x xs; part = here }
-  | inr later ↦ let rest = flat_map-contains f xs y later in record { of = rest.of; among = contains_later x xs rest.of rest.among; part = rest.part }
+  | inr later ↦ let rest = flat_contains-mapped f xs y later in record { of = rest.of; among = contains_later x xs rest.of rest.among; part = rest.part }
 ]
 
 contains-flat_map : {X Y : Type 0} (f : X → List Y) (xs : List X) (x : X) (y : Y) → Contains xs x → Contains (f x) y → Contains (flat_map f xs) y
@@ -67,7 +47,7 @@ pairs-flat_map R f (x ∷ xs) rises within across =
     AllPairs-append R (f x) (flat_map f xs) (within x (contains_first x xs))
     (pairs-flat_map R f xs (AllPairs-tail (λ y z. y < z) x xs rises) (λ y among. within y (contains_later x xs y among)) (λ y z a b less first second. across y z a b less (contains_later x xs y first) (contains_later x xs z second)))
     (λ a b here later.
-    let rest = flat_map-contains f xs b later in
+    let rest = flat_contains-mapped f xs b later in
     across x rest.of a b (All-contains (λ y. x < y) xs rest.of (AllPairs-head (λ y z. y < z) x xs rises) rest.among) (contains_first x xs) (contains_later x xs rest.of rest.among) here rest.part)
 
 -- Links with the same ends
@@ -164,17 +144,17 @@ record IsRowLink (o : Overlay) (x : ℕ) (l : Link) : Type 0 where
   arc : (state_of o).arc l.from l.to ≡ Some (record { cost = l.cost; middle = l.middle })
   at : ((l.from ≡ x) × (Before o.order l.to x → ⊥)) ⊎ ((l.to ≡ x) × (Before o.order l.from x → ⊥))
 
-module _ (o : Overlay) (is : IsOverlay o) (g : Graph) (sound : IsSound g (state_of o)) (over : IsOver (state_of o)) where
+module _ (o : Overlay) (is : IsOverlay o) (over : IsOver (state_of o)) where
   row_link : (x : ℕ) (l : Link) → x < length o.rows → Contains (row_links (row_at o.rows x) x) l → IsRowLink o x l
   row_link x l inside among = elim (Contains-append_cases (map (link_out x) (row_at o.rows x).out) (map (link_in x) (row_at o.rows x).inn) l among) [
     | inl out ↦
-        let image = map-contains (link_out x) (row_at o.rows x).out l out in
-        let shown = ((is.rows x inside).out image.of).0 image.among in
-        subst (IsRowLink o x) image.is (record { arc = shown.0; at = inl (refl, shown.1) })
+        let image = contains-mapped (link_out x) (row_at o.rows x).out l out in
+        let shown = ((is.rows x inside).out image.0).0 image.1 in
+        subst (IsRowLink o x) image.2 (record { arc = shown.0; at = inl (refl, shown.1) })
     | inr inn ↦
-        let image = map-contains (link_in x) (row_at o.rows x).inn l inn in
-        let shown = ((is.rows x inside).inn image.of).0 image.among in
-        subst (IsRowLink o x) image.is (record { arc = shown.0; at = inr (refl, shown.1) })
+        let image = contains-mapped (link_in x) (row_at o.rows x).inn l inn in
+        let shown = ((is.rows x inside).inn image.0).0 image.1 in
+        subst (IsRowLink o x) image.2 (record { arc = shown.0; at = inr (refl, shown.1) })
   ]
 
   -- links of two rows have other ends
@@ -205,10 +185,10 @@ module _ (o : Overlay) (is : IsOverlay o) (g : Graph) (sound : IsSound g (state_
       (pairs-map (λ a b. Same a b → ⊥) (link_out x) r.out (λ i j d low high both. absurd (omega (arith, row.out_rises i j d low high, both.1))))
       (pairs-map (λ a b. Same a b → ⊥) (link_in x) r.inn (λ i j d low high both. absurd (omega (arith, row.inn_rises i j d low high, both.0))))
       (λ a b out inn both.
-      let from = map-contains (link_out x) r.out a out in
-      let to = map-contains (link_in x) r.inn b inn in
+      let from = contains-mapped (link_out x) r.out a out in
+      let to = contains-mapped (link_in x) r.inn b inn in
       let arc = row_link x a inside (Contains-append_left (map (link_out x) r.out) (map (link_in x) r.inn) a out) in
-      (sound.arcs a.from a.to _ arc.arc).apart (sym (ap (λ (l : Link). l.from) from.is) ∙ ap (λ (l : Link). l.to) to.is ∙ sym both.1))
+      (is.plain.arcs a.from a.to _ arc.arc).apart (sym (ap (λ (l : Link). l.from) from.2) ∙ ap (λ (l : Link). l.to) to.2 ∙ sym both.1))
 
   pub links_apart : AllPairs (λ a b. Same a b → ⊥) (links_below o.rows (length o.rows))
   links_apart =
@@ -227,15 +207,14 @@ module _ (o : Overlay) (is : IsOverlay o) (g : Graph) (sound : IsSound g (state_
     where
       there : Contains (links_below o.rows (length o.rows)) l → (state_of o).arc l.from l.to ≡ Some (record { cost = l.cost; middle = l.middle })
       there among =
-          let part = flat_map-contains (λ x. row_links (row_at o.rows x) x) (range_with_len 0 (length o.rows)) l among in
+          let part = flat_contains-mapped (λ x. row_links (row_at o.rows x) x) (range_with_len 0 (length o.rows)) l among in
           (row_link part.of l (range-contains (length o.rows) part.of part.among) part.part).arc
 
       found : (state_of o).arc l.from l.to ≡ Some (record { cost = l.cost; middle = l.middle }) → Contains (links_below o.rows (length o.rows)) l
       found here =
-          let arc = sound.arcs l.from l.to _ here in
-          let nodes : length o.rows ≡ g.nodes = sound.nodes in
-          let from_in : l.from < length o.rows = omega (arith, arc.from_in, nodes) in
-          let to_in : l.to < length o.rows = omega (arith, arc.to_in, nodes) in
+          let arc = is.plain.arcs l.from l.to _ here in
+          let from_in : l.from < length o.rows = arc.from_in in
+          let to_in : l.to < length o.rows = arc.to_in in
           let f : ℕ → List Link = λ x. row_links (row_at o.rows x) x in
           elim (either_before o.order l.from l.to is.once arc.apart (over l.from from_in) (over l.to to_in)) [
             | inl less ↦
@@ -253,19 +232,19 @@ module _ (o : Overlay) (is : IsOverlay o) (g : Graph) (sound : IsSound g (state_
 -- The hierarchy
 
 -- the ranks and the links of the rows make the hierarchy of the state
-pub made_of_parts : (o : Overlay) (g : Graph) (ranks : List ℕ) (links : List Link) (bound : Cost) → IsOverlay o → IsSound g (state_of o) → IsOver (state_of o) → AreRanks o ranks → AreLinks o links → bound ≡ bound_of g → IsMade g (state_of o) (record { ranks = ranks; links = links; bound = bound })
-made_of_parts o g ranks links bound is sound over ranked linked bound_is = record {
+pub made_of_parts : (o : Overlay) (g : Graph) (ranks : List ℕ) (links : List Link) (bound : Cost) → IsOverlay o → IsOver (state_of o) → AreRanks o ranks → AreLinks o links → bound ≡ bound_of g → IsMade g (state_of o) (record { ranks = ranks; links = links; bound = bound })
+made_of_parts o g ranks links bound is over ranked linked bound_is = record {
   nodes = ranked.count;
   ranks = λ k low.
       let x = slice_index o.order k in
-      let inside : x < length o.rows = is.in_range k 0 low in
+      let inside : x < length o.rows = is.plain.in_range k 0 low in
       let by_row : (row_at o.rows x).rank ≡ Some k = ((is.rows x inside).rank k).1 (low, refl) in
       let by_list : (row_at o.rows x).rank ≡ Some (slice_index ranks x) = ranked.each x inside in
       cc;
-  sorted = λ i j d low high. before (get_or links i d) (get_or links j d) (linked.no_later i j d low high) (apart-permutation (links_below o.rows (length o.rows)) links linked.all (links_apart o is g sound over) i j d low high);
+  sorted = λ i j d low high. before (get_or links i d) (get_or links j d) (linked.no_later i j d low high) (apart-permutation (links_below o.rows (length o.rows)) links linked.all (links_apart o is over) i j d low high);
   links = λ l. (
-    λ among. (links_are o is g sound over l).0 (Contains-permutation links (links_below o.rows (length o.rows)) l (IsPermutation-sym (links_below o.rows (length o.rows)) links linked.all) among),
-    λ here. Contains-permutation (links_below o.rows (length o.rows)) links l linked.all ((links_are o is g sound over l).1 here),
+    λ among. (links_are o is over l).0 (Contains-permutation links (links_below o.rows (length o.rows)) l (IsPermutation-sym (links_below o.rows (length o.rows)) links linked.all) among),
+    λ here. Contains-permutation (links_below o.rows (length o.rows)) links l linked.all ((links_are o is over l).1 here),
   );
   bound = bound_is;
 }

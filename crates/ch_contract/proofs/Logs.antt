@@ -42,7 +42,7 @@ module _ (b : Board) (is : IsBoard b) where
 
   -- and no more than there are nodes
   pub log_fits : length b.log ≤ length b.overlay.rows
-  log_fits = omega (arith, log_length, distinct_below-few b.overlay.order (length b.overlay.rows) is.overlay.once is.overlay.in_range)
+  log_fits = omega (arith, log_length, distinct_below-few b.overlay.order (length b.overlay.rows) is.overlay.once is.overlay.plain.in_range)
 
   entry : (k : ℕ) (e : Contraction) → slice_get b.log k ≡ Some e → IsEntryOf is.reached.start k e
   entry k e here = run-entry k e is.reached.run here

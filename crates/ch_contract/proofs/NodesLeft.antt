@@ -10,7 +10,7 @@ use Rattle.std.proofs.lemmas.List.Kept.{AllPairs-cons}
 use Rattle.std.proofs.lemmas.Map.Made.{IsDistinct-from_AllPairs}
 use Rattle.std.proofs.lemmas.Map.Steps.{length-le_from_distinct_below, le-length_from_below}
 use Rattle.ch_laws.specs.Contraction.{IsAlive, IsOver}
-use Rattle.ch_laws.proofs.Members.{contains_cases}
+use Rattle.ch_laws.specs.Members.{contains_cases}
 use Rattle.ch_overlay.specs.Overlay.{Overlay, IsOverlay, row_at, state_of}
 use Rattle.ch_contract.proofs.Sweeping.{waits-from_none, gone-from_some, alive-from_none}
 
@@ -42,7 +42,7 @@ module _ (o : Overlay) (is : IsOverlay o) where
         let waits = waits-from_none (is.rows x inside) none in
         let apart : All (λ y. x ≢ y) o.order = λ k d h same. waits (k, h, get_or_default o.order k x d h ∙ sym same) in
         let once : AllPairs (λ y z. y ≢ z) (x ∷ o.order) = AllPairs-cons (λ y z. y ≢ z) x o.order apart is.once in
-        let low : All (λ y. y < length o.rows) (x ∷ o.order) = All-cons (λ y. y < length o.rows) x o.order inside is.in_range in
+        let low : All (λ y. y < length o.rows) (x ∷ o.order) = All-cons (λ y. y < length o.rows) x o.order inside is.plain.in_range in
         absurd (omega (arith, full, distinct_below-few (x ∷ o.order) (length o.rows) once low))
   ]
 
@@ -72,5 +72,5 @@ pub order-has_room : (o : Overlay) → IsOverlay o → (x : ℕ) → IsAlive (st
 order-has_room o is x alive =
     let apart : All (λ y. x ≢ y) o.order = λ k d h same. alive.waits (k, h, get_or_default o.order k x d h ∙ sym same) in
     let once : AllPairs (λ y z. y ≢ z) (x ∷ o.order) = AllPairs-cons (λ y z. y ≢ z) x o.order apart is.once in
-    let low : All (λ y. y < length o.rows) (x ∷ o.order) = All-cons (λ y. y < length o.rows) x o.order alive.in_range is.in_range in
+    let low : All (λ y. y < length o.rows) (x ∷ o.order) = All-cons (λ y. y < length o.rows) x o.order alive.in_range is.plain.in_range in
     omega (arith, distinct_below-few (x ∷ o.order) (length o.rows) once low)

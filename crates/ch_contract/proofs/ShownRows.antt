@@ -1,10 +1,7 @@
 -- The rows that a board shows can be relied on.
-use Rattle.std.proofs.Common.{◌≡◌, ◌-◌, ◌^◌, ◌<◌, List, All, length, arith, sym, subst}
+use Rattle.std.proofs.Common.{◌≡◌, ◌^◌, ◌<◌, List, All, length, arith, sym, subst}
 use Rattle.ch_cost.specs.declared.cost.Cost.{Cost}
-use Rattle.ch_cost.specs.Cost.{cost_of_arcs, IsWithin}
-use Rattle.ch_cost.specs.Cost.Laws.{within_trans, more_arcs_within}
-use Rattle.ch_graph.specs.Graph.{bound_of}
-use Rattle.ch_graph.proofs.Bound.{bound-within}
+use Rattle.ch_laws.specs.Theorems.{BoundsFit}
 use Rattle.ch_laws.specs.declared.entry.Entry.{Entry}
 use Rattle.ch_laws.specs.Rows.{Row, IsRow}
 use Rattle.ch_overlay.specs.declared.source.Seen.{Seen}
@@ -34,9 +31,5 @@ module _ (o : Overlay) (is : IsOverlay o) (s : Seen) (inside : s.node < length o
       record { out = λ k d h. (entries.out k d h).in_range; inn = λ k d h. (entries.inn k d h).in_range }
 
 -- the bound of a board is one that sources have
-pub board_bound : (b : Board) → IsBoard b → IsBound b.overlay.bound
-board_bound b is =
-    let few = is.graph.few_nodes in
-    let bound : IsWithin (bound_of b.graph) (cost_of_arcs (b.graph.nodes - 1) (2 ^ 32 - 1)) = bound-within b.graph is.graph in
-    let wider : IsWithin (cost_of_arcs (b.graph.nodes - 1) (2 ^ 32 - 1)) (cost_of_arcs (2 ^ 25 - 1) (2 ^ 32 - 1)) = more_arcs_within (b.graph.nodes - 1) (2 ^ 25 - 1) (2 ^ 32 - 1) (omega (arith, few)) in
-    subst (λ (c : Cost). IsBound c) (sym is.bound) (within_trans bound wider)
+pub board_bound : BoundsFit → (b : Board) → IsBoard b → IsBound b.overlay.bound
+board_bound bounds_fit b is = subst (λ (c : Cost). IsBound c) (sym is.bound) (bounds_fit b.graph is.graph)

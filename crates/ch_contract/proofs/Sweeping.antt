@@ -7,7 +7,7 @@ use Rattle.std.proofs.lemmas.List.Elements.{All-contains, All-filter, Contains-a
 use Rattle.std.proofs.lemmas.List.FromFn.{get_or-range_with_len, length-range_with_len}
 use Rattle.ch_laws.specs.Contraction.{State, Contraction, IsAlive}
 use Rattle.ch_laws.specs.Rows.{Row, IsRow}
-use Rattle.ch_laws.proofs.Members.{contains_first, contains_later, contains_cases, contains_place, place_of}
+use Rattle.ch_laws.specs.Members.{contains_first, contains_later, contains_cases, contains_place, place_of}
 use Rattle.ch_overlay.specs.Overlay.{Overlay, IsOverlay, row_at, state_of}
 use Rattle.ch_contract.specs.declared.contraction.Receipt.{Receipt}
 use Rattle.ch_contract.specs.Board.{Board, receipt_of}
@@ -28,7 +28,7 @@ gone-from_some {s} {x} {r} row some = by_rank r.rank refl
   where
     by_rank : (o : Option ℕ) → r.rank ≡ o → Contains s.order x
     by_rank None is = absurd (false≢true (sym some ∙ ap is_none is))
-    by_rank (Some k) is = let at = (row.rank k).0 is in contains_place s.order k x at.0 at.1
+    by_rank (Some k) is = let at = (row.rank k).0 is in contains_place s.order k 0 x at.0 at.1
 
 module _ (o : Overlay) (is : IsOverlay o) (x : ℕ) (in_range : x < length o.rows) where
   -- so the rows tell which nodes aren't contracted

@@ -8,7 +8,8 @@ ghost use Rattle.ch_contract.specs.Commit.{IsContractedYet, IsOld, IsFirstChange
 use crate::error::CommitError;
 use crate::ledger::Ledger;
 use crate::proposal::Proposal;
-use ch_overlay::{Row, Seen};
+use ch_laws::verdicts_are_lawful;
+use ch_overlay::Seen;
 
 /// A row that was seen in another version than the ledger has now.
 #[derive(Clone, Copy)]
@@ -31,6 +32,7 @@ pub fn accepted(ledger: &Ledger, proposal: &Proposal) -> Result<(), CommitError>
     ensures stale { (node seen now front : ℕ) → (result ≡ Err (commits.Stale node seen now front)) ↔ IsStale ledger.now proposal.now node seen now front }
     ensures broken { (result ≡ Err commits.Broken) ↔ IsBroken ledger.now proposal.now }
 {
+    verdicts_are_lawful();
     if is_contracted(ledger, proposal.node()) {
         return Err(CommitError::Contracted);
     }
@@ -121,14 +123,5 @@ fn is_row_of(ledger: &Ledger, seen: &Seen) -> bool
     if seen.node >= overlay.nodes() {
         return false;
     }
-    is_same_row(&seen.row, overlay.row(seen.node))
-}
-
-/// Whether two rows have the same entries and the same rank.
-fn is_same_row(row: &Row, other: &Row) -> bool
-    ensures { IsTrue result ↔ (row.now ≡ other.now) }
-{
-    (row.rank == other.rank)
-        & (row.out.as_slice() == other.out.as_slice())
-        & (row.inn.as_slice() == other.inn.as_slice())
+    seen.row.is_same(overlay.row(seen.node))
 }

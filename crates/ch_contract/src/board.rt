@@ -19,6 +19,7 @@ use crate::shown::shown;
 use crate::site::Site;
 use ch_cost::Cost;
 use ch_graph::{Graph, Hierarchy};
+use ch_laws::bounds_fit;
 use ch_overlay::{Overlay, RowSource, SeeError, Seen};
 use std::alloc::{AllocError, Global};
 use std::marker::{Model, PhantomData};
@@ -83,6 +84,13 @@ impl<S: Site> Board<S> {
         ensures named { self.now.graph ≡ S.graph }
     {
         self.ledger.log()
+    }
+
+    /// What always holds of a board. It does nothing when it runs.
+    fn holds(&self)
+        ensures { IsBoard self.now }
+    {
+        self.ledger.holds()
     }
 
     /// Contracts the node of a proposal, whose rows are still the board's, and answers a receipt.
@@ -192,7 +200,7 @@ impl<S: Site> Board<S> {
         requires { node < length self.now.overlay.rows }
         ensures { IsTrue result ↔ IsAlive (state_of self.now.overlay) node }
     {
-        let _ = self.overlay().nodes();
+        self.holds();
         self.overlay().row(node).rank.is_none()
     }
 
@@ -211,7 +219,7 @@ impl<S: Site> Board<S> {
         ensures current { IfOk result (λ p. All (λ s. IsOld self.old s → ⊥) p.rests_on) }
         ensures same { self.new ≡ self.old }
     {
-        let _ = self.log();
+        self.holds();
         let alloc = self.ledger.allocator();
         match propose_with(alloc, self, scratch, node, settle) {
             Ok(proposal) => Ok(proposal),
@@ -275,7 +283,8 @@ impl<S: Site> RowSource for Board<S> {
     }
 
     fn bound(&self) -> Cost {
-        let _ = self.ledger.log();
+        self.ledger.holds();
+        bounds_fit();
         self.ledger.overlay().bound()
     }
 

@@ -9,6 +9,7 @@ use crate::error::FinishError;
 use crate::ledger::Ledger;
 use crate::parts::{links_of, ranks_of};
 use ch_graph::Hierarchy;
+use ch_laws::{reached_hierarchy_is_right, reached_hierarchy_is_well_made};
 
 /// What a board comes to when each node is contracted.
 #[derive(Drop)]
@@ -27,7 +28,9 @@ pub fn hierarchy_of(ledger: &Ledger) -> Result<Hierarchy, FinishError>
     ensures right { IfOk result (λ h. IsRight ledger.now.graph h) }
     ensures left { (result ≡ Err FinishError.NodesLeft) ↔ HasNodesLeft ledger.now }
 {
-    let _ = ledger.log();
+    ledger.holds();
+    reached_hierarchy_is_right();
+    reached_hierarchy_is_well_made();
     let overlay = ledger.overlay();
     if overlay.alive() > 0 {
         return Err(FinishError::NodesLeft);

@@ -10,6 +10,7 @@ ghost use Rattle.ch_contract.specs.Planned.{IsPlanned, WasPlanned};
 
 use crate::contraction::{Contraction, Receipt};
 use ch_graph::Graph;
+use ch_laws::{plan_is_lawful, reached_goes_on};
 use ch_overlay::{Change, Overlay, Row, Shortcut};
 use std::alloc::{AllocError, Global};
 use std::marker::Model;
@@ -118,6 +119,13 @@ impl Ledger {
         self.log.as_slice()
     }
 
+    /// What always holds of a ledger. It does nothing when it runs.
+    pub fn holds(&self)
+        ensures { IsBoard self.now }
+    {
+        let _ = self.log.len();
+    }
+
     /// What was done, without the rest. Takes no memory.
     pub fn into_log(self) -> Vec<Contraction>
         ensures { result.items ≡ self.log }
@@ -172,6 +180,8 @@ impl Ledger {
             node: entry.node,
             rank: entry.rank,
         };
+        plan_is_lawful();
+        reached_goes_on();
         self.overlay.apply(change, versions.as_slice());
         self.next_version += versions.len() as u64;
         self.log.push_reserved(entry);

@@ -4,6 +4,7 @@ ghost use Rattle.ch_overlay.specs.Source.{row_in, IsBound, IsSeenRow, NamesAlone
 ghost use Rattle.ch_contract.specs.Commit.{IsShown};
 
 use crate::ledger::Ledger;
+use ch_laws::bounds_fit;
 use ch_overlay::{SeeError, Seen};
 use std::sync::Arc;
 
@@ -17,7 +18,8 @@ pub fn shown(ledger: &Ledger, node: u32) -> Result<Seen, SeeError>
     ensures names { IfOk result (λ seen. NamesAlone (λ x. x < length ledger.now.overlay.rows) (row_in seen)) }
     ensures unseen { (result ≡ Err see.Unseen) ↔ ((node < length ledger.now.overlay.rows) → ⊥) }
 {
-    let _ = ledger.log();
+    ledger.holds();
+    bounds_fit();
     let overlay = ledger.overlay();
     if node >= overlay.nodes() {
         return Err(SeeError::Unseen);

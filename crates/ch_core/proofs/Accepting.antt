@@ -7,7 +7,7 @@ use Rattle.ch_laws.specs.declared.shortcut.Shortcut.{Shortcut}
 use Rattle.ch_laws.specs.Contraction.{State, Contraction, IsNeighbour}
 use Rattle.ch_laws.specs.Rows.{Row}
 use Rattle.ch_overlay.specs.Overlay.{Overlay, state_of}
-use Rattle.ch_overlay.specs.Change.{Change, IsChange, puts, changed_nodes}
+use Rattle.ch_overlay.specs.Change.{Change, IsChange, puts, changed_nodes, ChangesWriteTheirRows}
 use Rattle.ch_contract.specs.declared.contraction.Receipt.{Receipt}
 use Rattle.ch_contract.specs.Board.{Board, IsBoard, IsContracted}
 use Rattle.ch_contract.specs.Planned.{Planned, IsPlanned}
@@ -23,7 +23,7 @@ board_of graph bound rows versions order log next = record { graph = graph; over
 new_rows : (o : Overlay) (put : List Shortcut) (c : Change) (node : ℕ) → IsChange o put c → c.node ≡ node → AreNewRows o node put c.rows
 new_rows o put c node is of_node = subst (λ n. AreNewRows o n put c.rows) of_node (record { others = is.others; listed = is.rows; rising = is.rising; neighbours = is.neighbours; changed = is.changed })
 
-module _ (w : World) (p : Proposal) (plan : Planned) (planned : IsPlanned w.ledger p.node p.shortcuts plan) (receipt : Receipt) (new : Board) (contracted : IsContracted w.ledger p.node p.shortcuts receipt new) (goes : IsBoard new) where
+module _ (changes_write : ChangesWriteTheirRows) (w : World) (p : Proposal) (plan : Planned) (planned : IsPlanned w.ledger p.node p.shortcuts plan) (receipt : Receipt) (new : Board) (contracted : IsContracted w.ledger p.node p.shortcuts receipt new) (goes : IsBoard new) where
   its_entry : IsEntryOf (state_of w.ledger.overlay) p.node p.shortcuts contracted.entry
   its_entry = record {
     of_node = contracted.of_node;
@@ -59,7 +59,7 @@ module _ (w : World) (p : Proposal) (plan : Planned) (planned : IsPlanned w.ledg
     world_then = record { ledger = new; book = w.book ++ map version_of plan.change.rows; views = w.views }
 
     pub then_world : IsWorld world_then
-    then_world = world_after w is p.shortcuts plan.change planned.change new goes contracted.contracts.graph rows versions_are next
+    then_world = world_after changes_write w is p.shortcuts plan.change planned.change new goes contracted.contracts.graph rows versions_are next
 
     pub then_accepted : (worker : ℕ) → MayOffer w worker p → (IsDone w p → ⊥) → All (IsCurrent w) p.rests_on → IsAccepted w worker p receipt world_then
     then_accepted worker may waits current = record {

@@ -1,5 +1,5 @@
 -- What holds of a world holds after each event.
-use Rattle.std.proofs.Common.{ℕ, ◌≡◌, ◌≢◌, ◌+◌, ◌<◌, List, ◌∷◌, ◌++◌, length, map, get_or, slice_index, All, AllPairs, Contains, Some, arith, ap, sym, subst, ◌∙◌, suc, zero}
+use Rattle.std.proofs.Common.{ℕ, ◌≡◌, ◌+◌, ◌<◌, List, ◌++◌, length, map, get_or, slice_index, All, Contains, Some, arith, ap, sym, subst, ◌∙◌}
 use Rattle.std.specs.List.{zip, range_with_len}
 use Rattle.std.proofs.lemmas.List.{length-map, length-append}
 use Rattle.std.proofs.lemmas.List.Elements.{All-append, All-map, All-weaker, All-contains, Contains-get_or}
@@ -8,12 +8,8 @@ use Rattle.ch_graph.specs.Graph.{bound_of}
 use Rattle.ch_laws.specs.declared.shortcut.Shortcut.{Shortcut}
 use Rattle.ch_laws.specs.Rows.{Row}
 use Rattle.ch_overlay.specs.Source.{IsBound}
-use Rattle.ch_overlay.specs.Overlay.{Overlay, IsOverlay, row_at, no_arcs, state_of}
-use Rattle.ch_overlay.specs.Change.{Change, IsChange, puts}
-use Rattle.ch_overlay.proofs.Puts.{length-puts, puts-here, contains-map}
-use Rattle.ch_overlay.proofs.NewRows.{neighbour_apart}
-use Rattle.ch_overlay.proofs.Arcs.{overlay_sound, loopless}
-use Rattle.ch_overlay.proofs.Applied.{change_in_range}
+use Rattle.ch_overlay.specs.Overlay.{Overlay, IsOverlay, row_at}
+use Rattle.ch_overlay.specs.Change.{Change, IsChange, puts, WritesItsRows, ChangesWriteTheirRows}
 use Rattle.ch_contract.specs.Board.{Board, IsBoard}
 use Rattle.ch_core.specs.World.{World, Version, View, Standing, IsIn, has, version_of}
 use Rattle.ch_core.specs.Keeping.{IsWorld, IsSound, IsSoundVersion}
@@ -28,28 +24,15 @@ row_sound o is x inside = record {
   entries = is.entries x inside;
 }
 
--- no two rows of a change are of one node
-once : (o : Overlay) (put : List Shortcut) (c : Change) → IsOverlay o → IsChange o put c → AllPairs (λ (a b : ℕ × Row). a.0 ≢ b.0) c.rows
-once o put c holds is =
-    let apart : (a : ℕ × Row) → Contains is.others a → a.0 ≢ c.node = λ a among.
-    neighbour_apart o.bound (state_of o) c.node put is.plan (loopless (overlay_sound o holds)) a.0 ((is.neighbours a.0).0 (contains-map (λ (b : ℕ × Row). b.0) is.others a among)) in
-    subst (λ (rows : List (ℕ × Row)). AllPairs (λ (a b : ℕ × Row). a.0 ≢ b.0) rows) (sym is.rows) (pairs (c.node, _) is.others apart is.rising)
-  where
-    pairs : (first : ℕ × Row) (others : List (ℕ × Row)) → ((a : ℕ × Row) → Contains others a → a.0 ≢ first.0) → AllPairs (λ (a b : ℕ × Row). a.0 < b.0) others → AllPairs (λ (a b : ℕ × Row). a.0 ≢ b.0) (first ∷ others)
-    pairs first others apart rising zero zero d lt h = absurd (omega (arith, lt))
-    pairs first others apart rising zero (suc j) d lt h = λ same. apart (get_or others j d) (Contains-get_or others j d (omega (arith, h))) (sym same)
-    pairs first others apart rising (suc i) zero d lt h = absurd (omega (arith, lt))
-    pairs first others apart rising (suc i) (suc j) d lt h = let below = rising i j d (omega (arith, lt)) (omega (arith, h)) in omega (arith, below)
-
-module _ (old : Overlay) (put : List Shortcut) (c : Change) (holds : IsOverlay old) (is : IsChange old put c) (new : Overlay) (goes : IsOverlay new) (rows_are : new.rows ≡ puts old.rows c.rows) (bound_is : new.bound ≡ old.bound) where
+module _ (old : Overlay) (c : Change) (writes : WritesItsRows old c) (new : Overlay) (goes : IsOverlay new) (rows_are : new.rows ≡ puts old.rows c.rows) (bound_is : new.bound ≡ old.bound) where
   many : length new.rows ≡ length old.rows
-  many = ap length rows_are ∙ length-puts c.rows old.rows
+  many = ap length rows_are ∙ writes.count
 
   -- each row of a change is its node's row afterwards, so it is sound
   new_sound : (a : ℕ × Row) → Contains c.rows a → IsSoundVersion new (version_of a)
   new_sound a among =
-      let inside : a.0 < length old.rows = All-contains (λ (b : ℕ × Row). b.0 < length old.rows) c.rows a (change_in_range old holds c (put, is)) among in
-      let here : row_at new.rows a.0 ≡ a.1 = ap (λ (rows : List Row). row_at rows a.0) rows_are ∙ puts-here c.rows old.rows a no_arcs (once old put c holds is) among inside in
+      let inside : a.0 < length old.rows = All-contains (λ (b : ℕ × Row). b.0 < length old.rows) c.rows a writes.in_range among in
+      let here : row_at new.rows a.0 ≡ a.1 = ap (λ (rows : List Row). row_at rows a.0) rows_are ∙ writes.written a among in
       subst (λ (r : Row). IsSound (length new.rows) new.bound a.0 r) here (row_sound new goes a.0 (omega (arith, many, inside)))
 
   pub all_new_sound : All (IsSoundVersion new) (map version_of c.rows)
@@ -62,15 +45,15 @@ module _ (old : Overlay) (put : List Shortcut) (c : Change) (holds : IsOverlay o
       (subst (λ (b : Cost). IsSound (length old.rows) b v.node v.row) (sym bound_is) sound)
 
 -- the world after a contraction is one
-pub world_after : (w : World) → IsWorld w → (put : List Shortcut) (c : Change) → IsChange w.ledger.overlay put c → (new : Board) → IsBoard new → new.graph ≡ w.ledger.graph
+pub world_after : ChangesWriteTheirRows → (w : World) → IsWorld w → (put : List Shortcut) (c : Change) → IsChange w.ledger.overlay put c → (new : Board) → IsBoard new → new.graph ≡ w.ledger.graph
     → new.overlay.rows ≡ puts w.ledger.overlay.rows c.rows
     → new.overlay.versions ≡ puts w.ledger.overlay.versions (zip (map (λ a. a.0) c.rows) (range_with_len w.ledger.next (length c.rows)))
     → new.next ≡ w.ledger.next + length c.rows
     → IsWorld (record { ledger = new; book = w.book ++ map version_of c.rows; views = w.views })
-world_after w is put c change new goes graph rows_are versions_are next_is =
+world_after changes_write w is put c change new goes graph rows_are versions_are next_is =
     let o : Overlay = w.ledger.overlay in
     let bound_is : new.overlay.bound ≡ o.bound = goes.bound ∙ ap bound_of graph ∙ sym is.board.bound in
-    let many : length new.overlay.rows ≡ length o.rows = ap length rows_are ∙ length-puts c.rows o.rows in
+    let writes : WritesItsRows o c = changes_write o c is.board.overlay (put, change) in
     let book : List Version = w.book ++ map version_of c.rows in
     let in_book = puts_in c.rows w.book o.rows o.versions w.ledger.next is.board.overlay.versions is.next is.current in
     record {
@@ -84,8 +67,8 @@ world_after w is put c change new goes graph rows_are versions_are next_is =
           (in_book x (subst (λ (rows : List Row). x < length rows) rows_are inside)));
       views = λ k x s there. still_in w.book (map version_of c.rows) x s.version s.row (is.views k x s there);
       sound = All-append (IsSoundVersion new.overlay) w.book (map version_of c.rows)
-          (All-weaker (IsSoundVersion o) (IsSoundVersion new.overlay) (still_sound o put c is.board.overlay change new.overlay goes.overlay rows_are bound_is) w.book is.sound)
-          (all_new_sound o put c is.board.overlay change new.overlay goes.overlay rows_are bound_is);
+          (All-weaker (IsSoundVersion o) (IsSoundVersion new.overlay) (still_sound o c writes new.overlay goes.overlay rows_are bound_is) w.book is.sound)
+          (all_new_sound o c writes new.overlay goes.overlay rows_are bound_is);
     }
 
 -- what a world keeps where the views change

@@ -1,14 +1,13 @@
 -- An offer whose versions are all current is a lawful contraction.
-use Rattle.std.proofs.Common.{ℕ, ◌≡◌, ◌<◌, List, [], ◌∷◌, length, get_or, Some, All, cond, nat_eq, arith, ap, sym, subst, ◌∙◌, inl, inr}
-use Rattle.std.proofs.lemmas.Bool.{cases_Bool}
-use Rattle.std.proofs.lemmas.Bool.Decides.{nat_tests}
-use Rattle.std.proofs.lemmas.List.Elements.{All-head, All-tail}
+use Rattle.std.proofs.Common.{ℕ, ◌≡◌, ◌<◌, List, length, get_or, Some, All, ap, sym, subst, ◌∙◌}
+use Rattle.std.proofs.lemmas.List.Elements.{All-head, All-contains}
 use Rattle.ch_cost.specs.declared.cost.Cost.{Cost}
 use Rattle.ch_graph.specs.Graph.{bound_of}
 use Rattle.ch_laws.specs.Contraction.{IsPlan, IsWitnessed}
 use Rattle.ch_laws.specs.Rows.{Row, IsRow}
 use Rattle.ch_laws.specs.Verdicts.{AreVerdicts}
-use Rattle.ch_laws.proofs.ByVerdicts.{verdicts_are_lawful}
+use Rattle.ch_laws.specs.Theorems.{VerdictsAreLawful}
+use Rattle.ch_overlay.specs.Answers.{row_among}
 use Rattle.ch_overlay.specs.declared.source.Seen.{Seen}
 use Rattle.ch_overlay.specs.Source.{row_in, row_of}
 use Rattle.ch_overlay.specs.Overlay.{Overlay, IsOverlay, row_at, state_of, no_arcs}
@@ -48,21 +47,14 @@ module _ (w : World) (is : IsWorld w) where
 
 -- the first row of a node that was seen is its row
 seen_row : (o : Overlay) → IsOverlay o → (rows : List Seen) → All (IsNow o) rows → (x : ℕ) (r : Row) → row_of rows x ≡ Some r → IsRow (state_of o) x r
-seen_row o holds [] all x r e = absurd (cc)
-seen_row o holds (s ∷ rows) all x r e = elim (cases_Bool (nat_eq s.node x)) [
-  | inl here ↦
-      let node_is : s.node ≡ x = grind (arith, nat_tests, here) in
-      let now : IsNow o s = All-head (IsNow o) s rows all in
-      let some : Some (row_in s) ≡ Some r = sym (ap (λ b. cond b (Some (row_in s)) (row_of rows x)) here) ∙ e in
-      let row_is : row_at o.rows s.node ≡ r = sym now.same ∙ cc in
-      subst (λ y. IsRow (state_of o) y r) node_is (subst (λ (q : Row). IsRow (state_of o) s.node q) row_is (holds.rows s.node now.in_range))
-  | inr other ↦
-      seen_row o holds rows (All-tail (IsNow o) s rows all) x r (sym (ap (λ b. cond b (Some (row_in s)) (row_of rows x)) other) ∙ e)
-]
+seen_row o holds rows all x r found =
+    let s = row_among rows x r found in
+    let now : IsNow o s.0 = All-contains (IsNow o) rows s.0 all s.1 in
+    subst (λ y. IsRow (state_of o) y r) s.2 (subst (λ (q : Row). IsRow (state_of o) s.0.node q) (sym now.same ∙ s.3) (holds.rows s.0.node now.in_range))
 
 -- a proposal by rows that are all current is lawful
-pub lawful_by_rows : (b : Board) → IsBoard b → (p : Proposal) → IsProposal p → p.bound ≡ bound_of b.graph → All (IsNow b.overlay) p.rests_on → AreLawful b p.node p.shortcuts
-lawful_by_rows b is p holds bound now =
+pub lawful_by_rows : VerdictsAreLawful → (b : Board) → IsBoard b → (p : Proposal) → IsProposal p → p.bound ≡ bound_of b.graph → All (IsNow b.overlay) p.rests_on → AreLawful b p.node p.shortcuts
+lawful_by_rows verdicts_are_lawful b is p holds bound now =
     let first : IsNow b.overlay holds.first = All-head (IsNow b.overlay) holds.first holds.others (subst (λ (rows : List Seen). All (IsNow b.overlay) rows) holds.rests_on now) in
     let low : p.node < length b.overlay.rows = subst (λ n. n < length b.overlay.rows) holds.of_node first.in_range in
     let verdicts : AreVerdicts (bound_of b.graph) (row_of p.rests_on) p.node p.shortcuts = subst (λ (c : Cost). AreVerdicts c (row_of p.rests_on) p.node p.shortcuts) bound holds.verdicts in
@@ -73,9 +65,9 @@ lawful_by_rows b is p holds bound now =
     }
 
 -- so is an offer whose versions are all current
-pub lawful_offer : (w : World) → IsWorld w → (worker : ℕ) (p : Proposal) → IsProposal p → MayOffer w worker p → All (IsCurrent w) p.rests_on → AreLawful w.ledger p.node p.shortcuts
-lawful_offer w is worker p holds may current =
-    lawful_by_rows w.ledger is.board p holds may.bound (λ k d h. standing_now w is worker (get_or p.rests_on k d) (may.rows k d h) (current k d h))
+pub lawful_offer : VerdictsAreLawful → (w : World) → IsWorld w → (worker : ℕ) (p : Proposal) → IsProposal p → MayOffer w worker p → All (IsCurrent w) p.rests_on → AreLawful w.ledger p.node p.shortcuts
+lawful_offer verdicts_are_lawful w is worker p holds may current =
+    lawful_by_rows verdicts_are_lawful w.ledger is.board p holds may.bound (λ k d h. standing_now w is worker (get_or p.rests_on k d) (may.rows k d h) (current k d h))
 
 -- its rows are of nodes
 pub all_in_range : (w : World) → IsWorld w → (k : ℕ) (rows : List Seen) → All (StandsIn (view_of w k)) rows → All (λ (s : Seen). s.node < length w.ledger.overlay.rows) rows

@@ -1,24 +1,16 @@
 -- The world at the start.
-use Rattle.std.proofs.Common.{ℕ, ◌≡◌, ◌-◌, ◌^◌, ◌<◌, ◌≤◌, List, [], length, get_or, slice_index, replicate, suc, zero, Some, None, arith, ap, sym, subst, refl, ◌∙◌}
+use Rattle.std.proofs.Common.{ℕ, ◌≡◌, ◌^◌, ◌<◌, List, [], length, get_or, slice_index, replicate, suc, zero, Some, None, arith, ap, sym, subst, refl, ◌∙◌}
 use Rattle.std.specs.List.{range_with_len}
 use Rattle.std.proofs.lemmas.List.{length-replicate, get_or_default}
 use Rattle.std.proofs.lemmas.List.FromFn.{get_or-range_with_len}
 use Rattle.ch_cost.specs.declared.cost.Cost.{Cost}
-use Rattle.ch_cost.specs.Cost.Laws.{more_arcs_within, within_trans}
-use Rattle.ch_graph.specs.Graph.{Graph, IsGraph, bound_of}
-use Rattle.ch_graph.proofs.Bound.{bound-within}
+use Rattle.ch_laws.specs.Theorems.{BoundsFit}
 use Rattle.ch_overlay.specs.Source.{IsBound}
 use Rattle.ch_overlay.specs.Overlay.{row_at, no_arcs}
 use Rattle.ch_contract.specs.Board.{IsBoard}
 use Rattle.ch_core.specs.World.{World, Version, View, Standing, IsIn, has, stands_at}
 use Rattle.ch_core.specs.Keeping.{IsWorld, IsSoundVersion}
 use Rattle.ch_core.proofs.Kept.{row_sound}
-
--- the bound of a graph is one that a file can have
-pub graph_bound : (g : Graph) → IsGraph g → IsBound (bound_of g)
-graph_bound g is =
-    let few : g.nodes - 1 ≤ 2 ^ 25 - 1 = omega (arith, is.few_nodes) in
-    within_trans (bound-within g is) (more_arcs_within (g.nodes - 1) (2 ^ 25 - 1) (2 ^ 32 - 1) few)
 
 abbrev no_rows : View
 no_rows = []
@@ -32,7 +24,7 @@ no_view (suc n) (suc k) = no_view n k
 pub nothing_had : (w : World) (workers : ℕ) → w.views ≡ replicate workers [] → (k x : ℕ) → has w k x ≡ None
 nothing_had w workers is k x = ap (λ (views : List View). stands_at (get_or views k []) x) is ∙ ap (λ (view : View). stands_at view x) (no_view workers k)
 
-module _ (w : World) (workers : ℕ) (board : IsBoard w.ledger) (versions : w.ledger.overlay.versions ≡ range_with_len 0 w.ledger.graph.nodes) (next : w.ledger.next ≡ w.ledger.graph.nodes) (nodes : length w.ledger.overlay.rows ≡ w.ledger.graph.nodes) where
+module _ (bounds_fit : BoundsFit) (w : World) (workers : ℕ) (board : IsBoard w.ledger) (versions : w.ledger.overlay.versions ≡ range_with_len 0 w.ledger.graph.nodes) (next : w.ledger.next ≡ w.ledger.graph.nodes) (nodes : length w.ledger.overlay.rows ≡ w.ledger.graph.nodes) where
   version_is : (x : ℕ) → x < length w.ledger.overlay.rows → slice_index w.ledger.overlay.versions x ≡ x
   version_is x inside =
       let low : x < w.ledger.graph.nodes = omega (arith, inside, nodes) in
@@ -41,7 +33,7 @@ module _ (w : World) (workers : ℕ) (board : IsBoard w.ledger) (versions : w.le
   pub world_opens : length w.book ≡ length w.ledger.overlay.rows → ((x : ℕ) → x < length w.ledger.overlay.rows → IsIn w.book x x (row_at w.ledger.overlay.rows x)) → w.views ≡ replicate workers [] → workers < 2 ^ 32 → IsWorld w
   world_opens many book views few = record {
     board = board;
-    bound = subst (λ (b : Cost). IsBound b) (sym board.bound) (graph_bound w.ledger.graph board.graph);
+    bound = subst (λ (b : Cost). IsBound b) (sym board.bound) (bounds_fit w.ledger.graph board.graph);
     next = many ∙ nodes ∙ sym next;
     few_workers = omega (arith, ap length views, length-replicate {A = View} workers [], few);
     current = λ x inside. subst (λ v. IsIn w.book x v (row_at w.ledger.overlay.rows x)) (sym (version_is x inside)) (book x inside);

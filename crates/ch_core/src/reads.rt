@@ -31,7 +31,7 @@ impl Standing {
     pub fn is(&self, version: u64, row: &Row) -> bool
         ensures { IsTrue result ↔ (self.now ≡ record { version = version; row = row.now }) }
     {
-        self.version == version && is_same_row(&self.row, row)
+        self.version == version && self.row.is_same(row)
     }
 
     /// The same, with the number of its node. Takes no memory; the row is shared.
@@ -46,15 +46,6 @@ impl Standing {
             row,
         })
     }
-}
-
-/// Whether two rows have the same entries and the same rank.
-fn is_same_row(row: &Row, other: &Row) -> bool
-    ensures { IsTrue result ↔ (row.now ≡ other.now) }
-{
-    (row.rank == other.rank)
-        & (row.out.as_slice() == other.out.as_slice())
-        & (row.inn.as_slice() == other.inn.as_slice())
 }
 
 /// What a worker has of the nodes that it read.

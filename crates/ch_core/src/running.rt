@@ -28,6 +28,6 @@ pub fn run(
         let outcome = world.step(event)?;
         outcomes.push(outcome)?;
     }
-    let _ = world.log();
+    world.holds();
     Ok((world, outcomes))
 }

@@ -17,7 +17,8 @@ use crate::reads::Reads;
 use crate::view::View;
 use ch_contract::{CommitError, Contraction, Ledger, Proposal, Receipt};
 use ch_graph::Graph;
-use ch_overlay::Overlay;
+use ch_laws::{bounds_fit, verdicts_are_lawful};
+use ch_overlay::{Overlay, changes_write_their_rows};
 use std::alloc::{AllocError, Global};
 use std::marker::Model;
 
@@ -57,7 +58,8 @@ impl World {
         let ledger = Ledger::new(alloc, graph)?;
         let book = opening_book(alloc, ledger.overlay())?;
         let views = empty_views(alloc, workers)?;
-        let _ = ledger.log();
+        ledger.holds();
+        bounds_fit();
         Ok(World {
             ledger,
             book,
@@ -87,6 +89,13 @@ impl World {
         ensures holds { IsWorld self.now }
     {
         self.ledger.log()
+    }
+
+    /// What always holds of a world. It does nothing when it runs.
+    pub fn holds(&self)
+        ensures { IsWorld self.now }
+    {
+        let _ = self.views.len();
     }
 
     /// How many workers there are.
@@ -223,13 +232,15 @@ impl World {
         ensures graph { self.new.ledger.graph ≡ self.old.ledger.graph }
         ensures err { OnErr result (self.new ≡ self.old) }
     {
+        verdicts_are_lawful();
+        changes_write_their_rows();
         let alloc = *self.book.allocator();
         let planned = self.ledger.plan(proposal.node(), proposal.shortcuts())?;
         let fresh = versions_of(alloc, planned.rows())?;
         self.book.reserve(fresh.len())?;
         let receipt = self.ledger.enter(planned);
         append(&mut self.book, fresh);
-        let _ = self.ledger.log();
+        self.ledger.holds();
         Ok(receipt)
     }
 }

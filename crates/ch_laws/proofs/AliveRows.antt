@@ -1,18 +1,16 @@
 -- The rows of alive nodes show the remaining graph.
-use Rattle.std.proofs.Common.{ℕ, ◌≡◌, ◌<◌, ◌⊎◌, Option, Some, None, Contains, arith, refl, subst, inl, inr}
+use Rattle.std.proofs.Common.{ℕ, ◌≡◌, ◌<◌, ◌⊎◌, Option, Some, None, Contains, refl, subst, inl, inr}
 use Rattle.ch_cost.specs.declared.cost.Cost.{Cost}
-use Rattle.ch_graph.specs.Graph.{Graph}
 use Rattle.ch_laws.specs.Contraction.{State, Before, IsAlive, HasArc, Remains, IsNeighbour}
-use Rattle.ch_laws.specs.Rows.{Entry, Row, IsRow, Lists, ShowsRemaining}
+use Rattle.ch_laws.specs.Rows.{Entry, IsPlain, Row, IsRow, Lists, ShowsRemaining}
 use Rattle.ch_laws.specs.Theorems.{RowOfAlive, RowTellsAlive}
 use Rattle.ch_laws.proofs.Order.{before-out, before_not_alive}
-use Rattle.ch_laws.proofs.Members.{contains_place, place_of}
-use Rattle.ch_laws.proofs.Sound.{IsSound, reached-sound}
+use Rattle.ch_laws.specs.Members.{contains_place, place_of}
 
 -- a node has a rank where it is in the order
 no_rank : {s : State} {x : ℕ} {r : Row} → IsRow s x r → (Contains s.order x → ⊥) → (o : Option ℕ) → r.rank ≡ o → o ≡ None
 no_rank row out None is = refl
-no_rank {s} {x} row out (Some k) is = let place = (row.rank k).0 is in absurd (out (contains_place s.order k x place.0 place.1))
+no_rank {s} {x} row out (Some k) is = let place = (row.rank k).0 is in absurd (out (contains_place s.order k 0 x place.0 place.1))
 
 -- a node without a rank is alive
 pub row_tells_alive : RowTellsAlive
@@ -23,7 +21,7 @@ row_tells_alive s x r low row none = record {
       absurd (cc);
 }
 
-module _ {g : Graph} {s : State} {x : ℕ} {r : Row} (sound : IsSound g s) (row : IsRow s x r) (alive : IsAlive s x) where
+module _ {bound : Cost} {s : State} {x : ℕ} {r : Row} (plain : IsPlain bound s) (row : IsRow s x r) (alive : IsAlive s x) where
   -- no alive node stands before another, so the arcs between x and alive nodes are entries
   out-listed : (y : ℕ) (c : Cost) → Remains s x y c → Lists r.out y c
   out-listed y c arc =
@@ -45,7 +43,7 @@ module _ {g : Graph} {s : State} {x : ℕ} {r : Row} (sound : IsSound g s) (row 
   out-remains y c lists =
       let e : Entry = lists.entry in
       let is = (row.out e).0 lists.among in
-      let low : e.other < s.nodes = omega (arith, (sound.arcs x e.other (record { cost = e.cost; middle = e.middle }) is.0).to_in, sound.nodes) in
+      let low : e.other < s.nodes = (plain.arcs x e.other (record { cost = e.cost; middle = e.middle }) is.0).to_in in
       let has : HasArc s x e.other c = record { arc = record { cost = e.cost; middle = e.middle }; here = is.0; costs = lists.costs } in
       subst (λ n. Remains s x n c) lists.other (record { from_alive = alive; to_alive = other-alive e.other low is.1; arc = has })
 
@@ -54,7 +52,7 @@ module _ {g : Graph} {s : State} {x : ℕ} {r : Row} (sound : IsSound g s) (row 
   inn-remains y c lists =
       let e : Entry = lists.entry in
       let is = (row.inn e).0 lists.among in
-      let low : e.other < s.nodes = omega (arith, (sound.arcs e.other x (record { cost = e.cost; middle = e.middle }) is.0).from_in, sound.nodes) in
+      let low : e.other < s.nodes = (plain.arcs e.other x (record { cost = e.cost; middle = e.middle }) is.0).from_in in
       let has : HasArc s e.other x c = record { arc = record { cost = e.cost; middle = e.middle }; here = is.0; costs = lists.costs } in
       subst (λ n. Remains s n x c) lists.other (record { from_alive = other-alive e.other low is.1; to_alive = alive; arc = has })
 
@@ -87,4 +85,4 @@ module _ {g : Graph} {s : State} {x : ℕ} {r : Row} (sound : IsSound g s) (row 
 
 -- the law of rows of alive nodes
 pub row_of_alive : RowOfAlive
-row_of_alive g log s x r is reached row alive = shows-remaining (reached-sound is reached) row alive
+row_of_alive bound s x r plain row alive = shows-remaining plain row alive

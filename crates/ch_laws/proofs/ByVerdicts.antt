@@ -7,7 +7,7 @@ use Rattle.ch_laws.specs.Contraction.{State, IsAlive, Through, Avoids, HasWitnes
 use Rattle.ch_laws.specs.Rows.{Entry, Row, arc_of, IsRow, Lists}
 use Rattle.ch_laws.specs.Verdicts.{AreRead, SeenArc, HasWay, ListsThrough, IsForShortcut, AreVerdicts}
 use Rattle.ch_laws.specs.Theorems.{VerdictsAreLawful}
-use Rattle.ch_laws.proofs.Sound.{IsSound, reached-sound}
+use Rattle.ch_laws.proofs.Sound.{IsSound, reached-sound, sound-plain}
 use Rattle.ch_laws.proofs.AliveRows.{row_tells_alive, shows-remaining}
 
 module _ {g : Graph} {s : State} (sound : IsSound g s) where
@@ -24,7 +24,7 @@ module _ {g : Graph} {s : State} (sound : IsSound g s) where
     seen-avoids x y c arc =
         let row : IsRow s x arc.row = are x arc.row arc.read in
         let alive : IsAlive s x = row_tells_alive s x arc.row (listing_in_range row arc.listed) row arc.unranked in
-        record { remains = ((shows-remaining sound row alive).out y c).1 arc.listed; from_other = arc.from_other; to_other = arc.to_other }
+        record { remains = ((shows-remaining (sound-plain sound) row alive).out y c).1 arc.listed; from_other = arc.from_other; to_other = arc.to_other }
 
     -- so a way is a witness
     way-witness : {v u w : ℕ} {sum : Cost} → HasWay seen v u w sum → HasWitness s v u w sum
@@ -41,19 +41,19 @@ module _ {g : Graph} {s : State} (sound : IsSound g s) where
       -- the pairs that it lists are those by way of v
       through-listed : {u w : ℕ} {sum : Cost} → Through s v u w sum → ListsThrough verdicts.row u w sum
       through-listed {u} {w} h =
-          let shows = shows-remaining sound its_row its_alive in
+          let shows = shows-remaining (sound-plain sound) its_row its_alive in
           record { into = h.into; out = h.out; apart = h.apart; first = (shows.inn u h.into).0 h.first; second = (shows.out w h.out).0 h.second; adds = h.adds }
 
       listed-through : {u w : ℕ} {sum : Cost} → ListsThrough verdicts.row u w sum → Through s v u w sum
       listed-through {u} {w} h =
-          let shows = shows-remaining sound its_row its_alive in
+          let shows = shows-remaining (sound-plain sound) its_row its_alive in
           record { into = h.into; out = h.out; apart = h.apart; first = (shows.inn u h.into).1 h.first; second = (shows.out w h.out).1 h.second; adds = h.adds }
 
       -- a verdict for a shortcut allows it
       verdict-allowed : (p : Shortcut) → IsForShortcut bound seen verdicts.row p → IsAllowed bound s v p
       verdict-allowed p is =
           let through : Through s v p.from p.to p.cost = listed-through is.through in
-          let first = shows-remaining sound (are p.from is.first_row is.first_read) through.first.from_alive in
+          let first = shows-remaining (sound-plain sound) (are p.from is.first_row is.first_read) through.first.from_alive in
           record {
             through = through;
             within = is.within;

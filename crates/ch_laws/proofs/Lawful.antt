@@ -6,7 +6,7 @@ use Rattle.ch_cost.specs.declared.cost.Cost.{Cost}
 use Rattle.ch_laws.specs.declared.shortcut.Shortcut.{Shortcut}
 use Rattle.ch_laws.specs.Contraction.{State, StateArc, IsFor, NoShortcut, shortcut_arc, or_else, Contraction, Step, Run, Run.rest, Run.next}
 use Rattle.ch_laws.specs.Theorems.{ReachesOn, PlanIsLawful}
-use Rattle.ch_laws.proofs.Members.{pairs_first, pairs_later, contains_first, contains_later, contains_cases}
+use Rattle.ch_laws.specs.Members.{pairs_first, pairs_later, contains_first, contains_later, contains_cases}
 
 -- One more contraction
 

@@ -1,16 +1,16 @@
 -- The unfolded links of a least rise-fall walk: a least walk of the graph, with fewer arcs than there are nodes.
-use Rattle.std.proofs.Common.{ℕ, suc, ◌≡◌, ◌-◌, ◌<◌, ◌≤◌, List, [], ◌∷◌, length, map, Some, Contains, arith, sym, ap, subst, inl, inr}
+use Rattle.std.proofs.Common.{ℕ, suc, ◌≡◌, ◌-◌, ◌^◌, ◌<◌, ◌≤◌, List, [], ◌∷◌, length, map, Some, Contains, arith, sym, ap, subst, inl, inr}
 use Rattle.std.proofs.lemmas.List.{length-map}
 use Rattle.ch_cost.specs.declared.cost.Cost.{Cost}
 use Rattle.ch_cost.specs.Cost.{◌⊕◌}
-use Rattle.ch_cost.specs.Cost.Laws.{below_not_at_most}
+use Rattle.ch_cost.specs.Cost.Laws.{below_not_at_most, within_trans, more_arcs_within}
 use Rattle.ch_graph.specs.declared.link.Link.{Link}
 use Rattle.ch_graph.specs.Walk.{Walk, visited, Along}
 use Rattle.ch_graph.specs.Graph.{Graph, IsGraph, ArcOf, IsDistance}
 use Rattle.ch_graph.specs.Hierarchy.{Hierarchy, Chain, Chain.nothing, IsRiseFall, UnfoldsAll, UnfoldsAll.done, UnfoldsAll.more, IsArcOf, IsRight}
-use Rattle.ch_graph.proofs.Bound.{few_arcs_or_cheaper}
+use Rattle.ch_graph.proofs.Bound.{few_arcs_or_cheaper, bound-within}
 use Rattle.ch_graph.proofs.Chains.{chain-same, chain-join, chain-along, chain-weaker, chain-view}
-use Rattle.ch_laws.specs.Theorems.{IsLeastRoute, NeverTooLong, RouteIsLeast}
+use Rattle.ch_laws.specs.Theorems.{BoundsFit, IsLeastRoute, NeverTooLong, RouteIsLeast}
 
 -- the rise and the fall of a rise-fall walk as one chain
 leads-chain : {h : Hierarchy} {links : List Link} {s t : ℕ} {c : Cost} → IsRiseFall h links s t c → Chain (λ l. Contains h.links l) links s t c
@@ -60,3 +60,7 @@ never_too_long g h s t c links arcs is right from_in to_in route =
 -- and the law that it is a least walk
 pub route_is_least : RouteIsLeast
 route_is_least g h s t c links arcs is right from_in to_in route = (route-along right route, route-distance right from_in to_in route)
+
+-- the law of bounds
+pub bounds_fit : BoundsFit
+bounds_fit g is = within_trans (bound-within g is) (more_arcs_within (g.nodes - 1) (2 ^ 25 - 1) (2 ^ 32 - 1) (omega (arith, is.few_nodes)))

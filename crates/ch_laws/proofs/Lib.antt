@@ -1,4 +1,3 @@
-pub mod Members
 pub mod Order
 pub mod Steps
 pub mod Sound

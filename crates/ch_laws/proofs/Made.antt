@@ -14,7 +14,7 @@ use Rattle.ch_graph.specs.Graph.{Graph, IsGraph, bound_of}
 use Rattle.ch_graph.specs.Hierarchy.{Hierarchy, rank_of, IsLink, AreHalves, IsLinkWellMade, IsWellMade}
 use Rattle.ch_graph.proofs.Bound.{bound-within}
 use Rattle.ch_laws.specs.Contraction.{State, StateArc, Before, HasArc, IsOver, IsMade}
-use Rattle.ch_laws.proofs.Members.{place_of}
+use Rattle.ch_laws.specs.Members.{place_of}
 use Rattle.ch_laws.proofs.Sound.{IsSound, IsSoundArc, IsSplit}
 
 -- numbers below n, each once, are n at most

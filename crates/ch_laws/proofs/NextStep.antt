@@ -13,7 +13,7 @@ use Rattle.ch_graph.proofs.Walks.{one_arc}
 use Rattle.ch_laws.specs.Contraction.{State, StateArc, IsAlive, HasArc, Remains, Through, HasWitness, Shortcut, IsFor, NoShortcut, IsAllowed, IsPlan, IsWitnessed, contracted, IsNeighbour, Contraction, Step}
 use Rattle.ch_laws.specs.Theorems.{GoesOn}
 use Rattle.ch_laws.proofs.Pairs.{IsCovered, covered_more, covered_cases}
-use Rattle.ch_laws.proofs.Members.{contains_first, contains_later, contains_cases}
+use Rattle.ch_laws.specs.Members.{contains_first, contains_later, contains_cases}
 use Rattle.ch_laws.proofs.Steps.{one_cost}
 use Rattle.ch_laws.proofs.Sound.{IsSound, arc-apart, reached-sound}
 use Rattle.ch_laws.proofs.Lawful.{plan_is_lawful}

@@ -6,7 +6,7 @@ use Rattle.ch_graph.specs.Graph.{Graph}
 use Rattle.ch_graph.specs.Hierarchy.{Hierarchy, ComesBefore}
 use Rattle.ch_laws.specs.Contraction.{State, IsOver, IsMade}
 use Rattle.ch_laws.specs.Theorems.{MadeIsUnique}
-use Rattle.ch_laws.proofs.Members.{contains_first, contains_later, contains_cases, place_of, pairs_first, pairs_later}
+use Rattle.ch_laws.specs.Members.{contains_first, contains_later, contains_cases, place_of, pairs_first, pairs_later}
 use Rattle.ch_laws.proofs.Sound.{IsSound, reached-sound}
 use Rattle.ch_laws.proofs.Made.{rank-place}
 

@@ -3,13 +3,13 @@ use Rattle.std.proofs.Common.{ℕ, ◌≡◌, ◌≢◌, ◌<◌, ◌≤◌, ◌
 use Rattle.std.proofs.lemmas.Bool.{cases_lt}
 use Rattle.std.proofs.lemmas.List.{get_or_append_left, get_or_push, length_push}
 use Rattle.ch_laws.specs.Contraction.{State, Before, IsAlive}
-use Rattle.ch_laws.proofs.Members.{contains_place, place_of}
+use Rattle.ch_laws.specs.Members.{contains_place, place_of}
 
 -- Nodes in the order
 
 -- what stands before something is in the order
 pub before-contains : {order : List ℕ} {x y : ℕ} → Before order x y → Contains order x
-before-contains {order} {x} b = contains_place order b.place x b.within b.here
+before-contains {order} {x} b = contains_place order b.place 0 x b.within b.here
 
 -- and it stands before each node that isn't in the order
 pub before-out : (order : List ℕ) (x y : ℕ) → Contains order x → (Contains order y → ⊥) → Before order x y
@@ -17,7 +17,7 @@ before-out order x y among out = record {
   place = among.0;
   within = among.1;
   here = place_of order x among;
-  not_yet = λ k low is. out (contains_place order k y (omega (arith, low, among.1)) is);
+  not_yet = λ k low is. out (contains_place order k 0 y (omega (arith, low, among.1)) is);
 }
 
 -- it stays before when a node is added
@@ -38,7 +38,7 @@ before-last order v y out apart = record {
   within = omega (arith, length_push order v);
   here = get_or_push order v 0 (length order) refl;
   not_yet = λ k low is. elim (cases_lt k (length order)) [
-    | inl inside ↦ out (contains_place order k y inside (sym (get_or_append_left order (v ∷ []) 0 k inside) ∙ is))
+    | inl inside ↦ out (contains_place order k 0 y inside (sym (get_or_append_left order (v ∷ []) 0 k inside) ∙ is))
     | inr past ↦
         let last : length order ≡ k = omega (arith, low, past) in
         apart (sym (get_or_push order v 0 k last) ∙ is)
@@ -84,7 +84,7 @@ pub place-last : (order : List ℕ) (v k : ℕ) → (Contains order v → ⊥) �
 place-last order v k out = (
   λ is. (omega (arith, is, length_push order v), get_or_push order v 0 k is),
   λ h. elim (cases_lt k (length order)) [
-    | inl inside ↦ absurd (out (contains_place order k v inside (sym (get_or_append_left order (v ∷ []) 0 k inside) ∙ h.1)))
+    | inl inside ↦ absurd (out (contains_place order k 0 v inside (sym (get_or_append_left order (v ∷ []) 0 k inside) ∙ h.1)))
     | inr past ↦ omega (arith, past, h.0, length_push order v)
   ],
 )

@@ -1,274 +1,262 @@
 -- What a contraction does to rows.
-use Rattle.std.proofs.Common.{ℕ, ◌≡◌, ◌≢◌, ◌<◌, ◌⊎◌, ◌↔◌, List, length, get_or, Option, Some, Contains, arith, refl, sym, ◌∙◌, ap, subst, inl, inr}
-use Rattle.ch_cost.specs.declared.cost.Cost.{Cost}
-use Rattle.ch_graph.specs.Graph.{Graph, bound_of}
-use Rattle.ch_laws.specs.Contraction.{State, StateArc, Before, IsAlive, HasArc, Shortcut, Puts, IsNeighbour}
-use Rattle.ch_laws.specs.Rows.{Entry, Row, arc_of, IsRow, IsOfShortcut, IsEntryAfter, IsChanged, AreRows, AreUpdated, row_at}
-use Rattle.ch_laws.proofs.NextStep.{cases_neighbour}
+use Rattle.std.proofs.Common.{ℕ, ◌≡◌, ◌≢◌, ◌<◌, ◌⊎◌, ◌↔◌, List, [], ◌∷◌, ◌++◌, length, get_or, Option, Some, Contains, refl, sym, ◌∙◌, ap, subst, inl, inr}
 use Rattle.std.proofs.lemmas.Bool.{cases_eq}
+use Rattle.std.proofs.lemmas.List.Elements.{All-push}
+use Rattle.ch_cost.specs.declared.cost.Cost.{Cost}
+use Rattle.ch_cost.specs.Cost.{zero_cost, ◌≺◌}
+use Rattle.ch_cost.specs.Cost.Laws.{at_most_sum_left, below_trans_at_most}
+use Rattle.ch_laws.specs.Contraction.{State, StateArc, Before, IsAlive, HasArc, Shortcut, IsFor, NoShortcut, IsPlan, IsNeighbour, contracted, or_else}
+use Rattle.ch_laws.specs.Rows.{Entry, Row, arc_of, IsPlain, IsPlainArc, IsRow, IsOfShortcut, IsChanged, AreRows, AreUpdated, row_at}
 use Rattle.ch_laws.specs.Theorems.{RowKept, RowsChange, RowsGoOn}
-use Rattle.ch_laws.proofs.Order.{before-back, before_not_alive, place-kept, place-last}
-use Rattle.ch_laws.proofs.Steps.{one_arc_there, HasShortcut, find_shortcut, kept_unless_through}
-use Rattle.ch_laws.proofs.Sound.{IsSound, arc-apart, kept_out_of, kept_into, before-next, contracted-before, reached-sound}
-
--- the arc that an entry tells of
-has_arc : {s : State} {x y : ℕ} (e : Entry) → s.arc x y ≡ arc_of e → HasArc s x y e.cost
-has_arc e here = record { arc = record { cost = e.cost; middle = e.middle }; here = here; costs = refl }
-
--- the arc of an entry
-abbrev the_arc : Entry → StateArc
-the_arc e = record { cost = e.cost; middle = e.middle }
-
--- entries that tell of the same arc
-same_arc : (d e : Entry) → arc_of d ≡ arc_of e → the_arc d ≡ the_arc e
-same_arc d e same = one_arc_there (arc_of d) (the_arc d) (the_arc e) refl same
-
--- so they have the same cost
-same_cost : (d e : Entry) → arc_of d ≡ arc_of e → d.cost ≡ e.cost
-same_cost d e same = ap (λ (a : StateArc). a.cost) (same_arc d e same)
-
--- and the same middle
-same_middle : (d e : Entry) → arc_of d ≡ arc_of e → d.middle ≡ e.middle
-same_middle d e same = ap (λ (a : StateArc). a.middle) (same_arc d e same)
-
--- what a row has at a rank, and at an entry
-abbrev RankIs : State → ℕ → Option ℕ → Type 0
-RankIs s x rank = (k : ℕ) → (rank ≡ Some k) ↔ ((k < length s.order) × (get_or s.order k 0 ≡ x))
-
--- what an entry out of x says of the state, and one into it
-abbrev OutIs : State → ℕ → Entry → Type 0
-OutIs s x e = (s.arc x e.other ≡ arc_of e) × (Before s.order e.other x → ⊥)
-
--- the same of an entry into x
-abbrev InnIs : State → ℕ → Entry → Type 0
-InnIs s x e = (s.arc e.other x ≡ arc_of e) × (Before s.order e.other x → ⊥)
+use Rattle.ch_laws.proofs.Order.{before-contains, before-push, before-last, before-back, place-kept, place-last}
+use Rattle.ch_laws.proofs.Steps.{one_arc_there, find_shortcut}
+use Rattle.ch_laws.proofs.Lawful.{no_shortcut_arc, its_shortcut_arc}
+use Rattle.ch_laws.proofs.NextStep.{cases_neighbour}
 
 -- two equivalences, one after the other
 chain_iff : {P Q R : Type 0} → P ↔ Q → Q ↔ R → P ↔ R
 chain_iff f h = (λ p. h.0 (f.0 p), λ r. f.1 (h.1 r))
 
-module _ {g : Graph} {old new : State} {v : ℕ} {put : List Shortcut} (sound : IsSound g old) (puts : Puts (bound_of g) old v put new) where
-  -- Ranks
+-- Lists of entries before and after one contraction
 
-  -- another node keeps its rank, or has none still
-  rank-kept : (x : ℕ) (rank : Option ℕ) → x ≢ v → RankIs old x rank → RankIs new x rank
-  rank-kept x rank apart is k = subst (λ (order : List ℕ). (rank ≡ Some k) ↔ ((k < length order) × (get_or order k 0 ≡ x))) (sym puts.order) (chain_iff (is k) (place-kept old.order v x k apart))
+-- the entries of x for these arcs to or from others, but for those of nodes that stand before it
+abbrev Lists : List ℕ → ℕ → (ℕ → Option StateArc) → List Entry → Type 0
+Lists order x arc es = (e : Entry) → Contains es e ↔ ((arc e.other ≡ arc_of e) × (Before order e.other x → ⊥))
 
-  -- the contracted node's rank is how many were contracted before it
-  rank-of_contracted : RankIs new v (Some (length old.order))
-  rank-of_contracted k = subst (λ (order : List ℕ). (Some (length old.order) ≡ Some k) ↔ ((k < length order) × (get_or order k 0 ≡ v))) (sym puts.order)
-      (chain_iff (λ same. let place : length old.order ≡ k = cc in place, λ same. ap (λ n. Some n) same) (place-last old.order v k puts.plan.alive.waits))
+-- a list stays right where no arc changes, and where an alive node has none to or from the contracted one
+lists-kept : (order : List ℕ) (v x : ℕ) (arc new : ℕ → Option StateArc) (es : List Entry)
+    → Lists order x arc es → ((y : ℕ) → new y ≡ arc y)
+    → ((Contains order x → ⊥) → (e : Entry) → e.other ≡ v → arc e.other ≡ arc_of e → ⊥)
+    → Lists (order ++ v ∷ []) x new es
+lists-kept order v x arc new es old same far e = (
+  λ h.
+      let before = (old e).0 h in (
+        same e.other ∙ before.0,
+        λ b. elim (before-back order v e.other x b) [
+          | inl earlier ↦ before.1 earlier
+          | inr last ↦ far last.1 e last.0 before.0
+        ],
+      ),
+  λ h. (old e).1 (sym (same e.other) ∙ h.0, λ b. h.1 (before-push v b)),
+)
 
-  -- The order
-
-  -- what stands before x afterwards did so already, or it is v and x isn't in the old order
-  before-cases : (x y : ℕ) → Before new.order y x → Before old.order y x ⊎ ((y ≡ v) × (Contains old.order x → ⊥) × (y ≢ x))
-  before-cases x y b = before-back old.order v y x (subst (λ (order : List ℕ). Before order y x) puts.order b)
-
-  -- Rows that stay
-
-  -- a node with an arc from v, or to v, that isn't contracted is a neighbour of it
-  out_neighbour : (x y : ℕ) (e : Entry) → old.arc x y ≡ arc_of e → y ≡ v → (Contains old.order x → ⊥) → IsNeighbour old v x
-  out_neighbour x y e here is_v out =
-      let at_v : old.arc x v ≡ arc_of e = subst (λ n. old.arc x n ≡ arc_of e) is_v here in
-      record {
-        alive = record { in_range = omega (arith, (sound.arcs x v (record { cost = e.cost; middle = e.middle }) at_v).from_in, sound.nodes); waits = out };
-        joined = inr (e.cost, has_arc e at_v);
-      }
-
-  -- the same of an arc into x
-  inn_neighbour : (x y : ℕ) (e : Entry) → old.arc y x ≡ arc_of e → y ≡ v → (Contains old.order x → ⊥) → IsNeighbour old v x
-  inn_neighbour x y e here is_v out =
-      let at_v : old.arc v x ≡ arc_of e = subst (λ n. old.arc n x ≡ arc_of e) is_v here in
-      record {
-        alive = record { in_range = omega (arith, (sound.arcs v x (record { cost = e.cost; middle = e.middle }) at_v).to_in, sound.nodes); waits = out };
-        joined = inl (e.cost, has_arc e at_v);
-      }
-
-  -- an entry out of a node that is no neighbour says the same afterwards
-  out-kept : (x : ℕ) → (IsNeighbour old v x → ⊥) → (e : Entry) → OutIs old x e ↔ OutIs new x e
-  out-kept x far e =
-      let same : new.arc x e.other ≡ old.arc x e.other = kept_unless_through puts x e.other (λ c through. far (record { alive = through.first.from_alive; joined = inr (through.into, through.first.arc) })) in (
-        λ is. (
-          same ∙ is.0,
-          λ b. elim (before-cases x e.other b) [
-            | inl before ↦ is.1 before
-            | inr last ↦ far (out_neighbour x e.other e is.0 last.0 last.1)
+-- a changed list is right: it has the entries of shortcuts, and the old ones of other pairs and nodes
+lists-changed : (order : List ℕ) (v x : ℕ) (arc new : ℕ → Option StateArc) (old_es new_es : List Entry) (Short : Entry → Type 0) (Without : ℕ → Type 0)
+    → Lists order x arc old_es → (Contains order x → ⊥) → v ≢ x
+    → ((e : Entry) → Short e → (new e.other ≡ arc_of e) × (Contains order e.other → ⊥) × (e.other ≢ v))
+    → ((y : ℕ) → Without y → new y ≡ arc y)
+    → ((e : Entry) → new e.other ≡ arc_of e → Short e ⊎ Without e.other)
+    → ((e : Entry) → Contains new_es e ↔ (Short e ⊎ (Without e.other × (e.other ≢ v) × Contains old_es e)))
+    → Lists (order ++ v ∷ []) x new new_es
+lists-changed order v x arc new old_es new_es Short Without old alive apart short kept find changed e = (
+  λ h. elim ((changed e).0 h) [
+    | inl is ↦
+        let facts = short e is in (
+          facts.0,
+          λ b. elim (before-back order v e.other x b) [
+            | inl earlier ↦ facts.1 (before-contains earlier)
+            | inr last ↦ facts.2 last.0
           ],
-        ),
-        λ is. (sym same ∙ is.0, λ b. is.1 (before-next sound puts b)),
-      )
-
-  -- and so does one into it
-  inn-kept : (x : ℕ) → (IsNeighbour old v x → ⊥) → (e : Entry) → InnIs old x e ↔ InnIs new x e
-  inn-kept x far e =
-      let same : new.arc e.other x ≡ old.arc e.other x = kept_unless_through puts e.other x (λ c through. far (record { alive = through.second.to_alive; joined = inl (through.out, through.second.arc) })) in (
-        λ is. (
-          same ∙ is.0,
-          λ b. elim (before-cases x e.other b) [
-            | inl before ↦ is.1 before
-            | inr last ↦ far (inn_neighbour x e.other e is.0 last.0 last.1)
+        )
+    | inr is ↦
+        let before = (old e).0 is.2 in (
+          kept e.other is.0 ∙ before.0,
+          λ b. elim (before-back order v e.other x b) [
+            | inl earlier ↦ before.1 earlier
+            | inr last ↦ is.1 last.0
           ],
-        ),
-        λ is. (sym same ∙ is.0, λ b. is.1 (before-next sound puts b)),
-      )
+        )
+  ],
+  λ h. (changed e).1 (elim (find e h.0) [
+    | inl is ↦ inl is
+    | inr none ↦ inr (
+      none,
+      λ same. h.1 (subst (λ y. Before (order ++ v ∷ []) y x) (sym same) (before-last order v x alive apart)),
+      (old e).1 (sym (kept e.other none) ∙ h.0, λ b. h.1 (before-push v b)),
+    )
+  ]),
+)
 
-  -- so its row stays
-  row-kept : (x : ℕ) (r : Row) → x ≢ v → (IsNeighbour old v x → ⊥) → IsRow old x r → IsRow new x r
-  row-kept x r apart far is = record {
-    rank = rank-kept x r.rank apart is.rank;
-    out_rises = is.out_rises;
-    inn_rises = is.inn_rises;
-    out = λ e. chain_iff (is.out e) (out-kept x far e);
-    inn = λ e. chain_iff (is.inn e) (inn-kept x far e);
-  }
+-- Ranks
 
-  -- The row of the contracted node
+-- what a row has at a rank
+abbrev RankIs : List ℕ → ℕ → Option ℕ → Type 0
+RankIs order x rank = (k : ℕ) → (rank ≡ Some k) ↔ ((k < length order) × (get_or order k 0 ≡ x))
 
-  -- what stands before it stays the same
-  before-contracted : (y : ℕ) → Before new.order y v → Before old.order y v
-  before-contracted y b = elim (before-cases v y b) [
-    | inl before ↦ before
-    | inr last ↦ absurd (last.2 last.0)
+-- the contracted node's rank is how many were contracted before it
+rank-last : (order : List ℕ) (v : ℕ) → (Contains order v → ⊥) → RankIs (order ++ v ∷ []) v (Some (length order))
+rank-last order v waits k = chain_iff (λ same. let place : length order ≡ k = cc in place, λ same. ap (λ n. Some n) same) (place-last order v k waits)
+
+-- another node keeps its rank, or has none still
+rank-kept : (order : List ℕ) (v x : ℕ) (rank : Option ℕ) → x ≢ v → RankIs order x rank → RankIs (order ++ v ∷ []) x rank
+rank-kept order v x rank apart old k = chain_iff (old k) (place-kept order v x k apart)
+
+-- Rows
+
+-- the arc that an entry tells of
+has_arc : (s : State) (x y : ℕ) (e : Entry) → s.arc x y ≡ arc_of e → HasArc s x y e.cost
+has_arc s x y e here = record { arc = record { cost = e.cost; middle = e.middle }; here = here; costs = refl }
+
+module _ (bound : Cost) (s : State) (v : ℕ) (put : List Shortcut) (plain : IsPlain bound s) (plan : IsPlan bound s v put) where
+  abbrev after : State
+  after = contracted s v put
+
+  -- the arc of a pair with a shortcut, and of one without
+  put-arc : (u w : ℕ) (p : Shortcut) → Contains put p → IsFor p u w → after.arc u w ≡ Some (record { cost = p.cost; middle = Some v })
+  put-arc u w p among joins =
+      let here : after.arc p.from p.to ≡ Some (record { cost = p.cost; middle = Some v }) = ap (λ (o : Option StateArc). or_else o (s.arc p.from p.to)) (its_shortcut_arc put v p plan.once among) in
+      subst (λ n. after.arc u n ≡ Some (record { cost = p.cost; middle = Some v })) joins.1
+      (subst (λ n. after.arc n p.to ≡ Some (record { cost = p.cost; middle = Some v })) joins.0 here)
+
+  kept-arc : (u w : ℕ) → NoShortcut put u w → after.arc u w ≡ s.arc u w
+  kept-arc u w none = ap (λ (o : Option StateArc). or_else o (s.arc u w)) (no_shortcut_arc put v u w none)
+
+  -- the ends of a shortcut are neighbours
+  from_neighbour : (p : Shortcut) → Contains put p → IsNeighbour s v p.from
+  from_neighbour p among =
+      let first = (plan.allowed p among).through.first in
+      record { alive = first.from_alive; joined = inr (_, first.arc) }
+
+  to_neighbour : (p : Shortcut) → Contains put p → IsNeighbour s v p.to
+  to_neighbour p among =
+      let second = (plan.allowed p among).through.second in
+      record { alive = second.to_alive; joined = inl (_, second.arc) }
+
+  -- and these aren't v
+  neighbour_apart : (x : ℕ) → IsNeighbour s v x → x ≢ v
+  neighbour_apart x near same = elim near.joined [
+    | inl has ↦ (plain.arcs v x has.1.arc has.1.here).apart (sym same)
+    | inr has ↦ (plain.arcs x v has.1.arc has.1.here).apart same
   ]
 
-  -- so its row stays but for the rank
-  row-contracted : (r : Row) → IsRow old v r → IsRow new v (record r { rank = Some (length old.order) })
-  row-contracted r is = record {
-    rank = rank-of_contracted;
-    out_rises = is.out_rises;
-    inn_rises = is.inn_rises;
-    out = λ e. chain_iff (is.out e) (
-      λ h. (kept_out_of sound puts e.other ∙ h.0, λ b. h.1 (before-contracted e.other b)),
-      λ h. (sym (kept_out_of sound puts e.other) ∙ h.0, λ b. h.1 (before-next sound puts b)),
-    );
-    inn = λ e. chain_iff (is.inn e) (
-      λ h. (kept_into sound puts e.other ∙ h.0, λ b. h.1 (before-contracted e.other b)),
-      λ h. (sym (kept_into sound puts e.other) ∙ h.0, λ b. h.1 (before-next sound puts b)),
-    );
+  itself_far : IsNeighbour s v v → ⊥
+  itself_far near = neighbour_apart v near refl
+
+  -- a node that isn't a neighbour gets no shortcut
+  none_from : (x y : ℕ) → (IsNeighbour s v x → ⊥) → NoShortcut put x y
+  none_from x y far p among joins = far (subst (λ z. IsNeighbour s v z) joins.0 (from_neighbour p among))
+
+  none_to : (x y : ℕ) → (IsNeighbour s v y → ⊥) → NoShortcut put x y
+  none_to x y far p among joins = far (subst (λ z. IsNeighbour s v z) joins.1 (to_neighbour p among))
+
+  -- a row without shortcuts keeps its entries
+  out-kept : (x : ℕ) (r : Row) → (IsNeighbour s v x → ⊥) → IsRow s x r → Lists (s.order ++ v ∷ []) x (λ y. after.arc x y) r.out
+  out-kept x r far row = lists-kept s.order v x (λ y. s.arc x y) (λ y. after.arc x y) r.out row.out (λ y. kept-arc x y (none_from x y far)) (λ waits e same is.
+      let arc = has_arc s x v e (subst (λ y. s.arc x y ≡ arc_of e) same is) in
+      far (record { alive = record { in_range = (plain.arcs x v arc.arc arc.here).from_in; waits = waits }; joined = inr (e.cost, arc) }))
+
+  inn-kept : (x : ℕ) (r : Row) → (IsNeighbour s v x → ⊥) → IsRow s x r → Lists (s.order ++ v ∷ []) x (λ y. after.arc y x) r.inn
+  inn-kept x r far row = lists-kept s.order v x (λ y. s.arc y x) (λ y. after.arc y x) r.inn row.inn (λ y. kept-arc y x (none_to y x far)) (λ waits e same is.
+      let arc = has_arc s v x e (subst (λ y. s.arc y x ≡ arc_of e) same is) in
+      far (record { alive = record { in_range = (plain.arcs v x arc.arc arc.here).to_in; waits = waits }; joined = inl (e.cost, arc) }))
+
+  -- The row of the contracted node keeps its entries and gets its rank.
+  row-contracted : (r : Row) → IsRow s v r → IsRow after v (record r { rank = Some (length s.order) })
+  row-contracted r row = record {
+    rank = rank-last s.order v plan.alive.waits;
+    out_rises = row.out_rises;
+    inn_rises = row.inn_rises;
+    out = out-kept v r itself_far row;
+    inn = inn-kept v r itself_far row;
   }
 
-  -- The row of a neighbour
+  -- The row of a node that is neither the contracted one nor a neighbour stays.
+  row-kept : (x : ℕ) (r : Row) → x ≢ v → (IsNeighbour s v x → ⊥) → IsRow s x r → IsRow after x r
+  row-kept x r apart far row = record {
+    rank = rank-kept s.order v x r.rank apart row.rank;
+    out_rises = row.out_rises;
+    inn_rises = row.inn_rises;
+    out = out-kept x r far row;
+    inn = inn-kept x r far row;
+  }
 
-  -- the arc of a shortcut is what its entry tells of
-  shortcut-arc : (u w : ℕ) (e : Entry) → IsOfShortcut put v u w e → new.arc u w ≡ arc_of e
-  shortcut-arc u w e is =
-      let p : Shortcut = is.shortcut in
-      let costs : p.cost ≡ e.cost = sym is.cost in
-      let middle : Some v ≡ e.middle = sym is.middle in
-      let at_ends : new.arc p.from p.to ≡ Some (record { cost = p.cost; middle = Some v }) = puts.placed p is.among in
-      let at_u : new.arc u p.to ≡ Some (record { cost = p.cost; middle = Some v }) = subst (λ n. new.arc n p.to ≡ Some (record { cost = p.cost; middle = Some v })) is.joins.0 at_ends in
-      let at_w : new.arc u w ≡ Some (record { cost = p.cost; middle = Some v }) = subst (λ n. new.arc u n ≡ Some (record { cost = p.cost; middle = Some v })) is.joins.1 at_u in
-      let dear : new.arc u w ≡ Some (record { cost = e.cost; middle = Some v }) = subst (λ (c : Cost). new.arc u w ≡ Some (record { cost = c; middle = Some v })) costs at_w in
-      subst (λ (m : Option ℕ). new.arc u w ≡ Some (record { cost = e.cost; middle = m })) middle dear
+  -- what the entry of a shortcut says, and which entries are those of shortcuts
+  entry_arc : (u w : ℕ) (e : Entry) → IsOfShortcut put v u w e → after.arc u w ≡ arc_of e
+  entry_arc u w e is =
+      put-arc u w is.shortcut is.among is.joins
+      ∙ ap (λ (c : Cost). Some (record { cost = c; middle = Some v })) (sym is.cost)
+      ∙ ap (λ (m : Option ℕ). Some (record { cost = e.cost; middle = m })) (sym is.middle)
 
-  -- and an entry that tells of the arc of a pair with a shortcut tells of the shortcut
-  entry-of_shortcut : (u w : ℕ) (e : Entry) → HasShortcut put u w → new.arc u w ≡ arc_of e → IsOfShortcut put v u w e
-  entry-of_shortcut u w e has here =
-      let p : Shortcut = has.shortcut in
-      let q : Entry = record { other = e.other; cost = p.cost; middle = Some v } in
-      let put_here : new.arc u w ≡ arc_of q = shortcut-arc u w q (record { shortcut = p; among = has.among; joins = has.joins; cost = refl; middle = refl }) in
-      let same : arc_of e ≡ arc_of q = sym here ∙ put_here in
-      record { shortcut = p; among = has.among; joins = has.joins; cost = same_cost e q same; middle = same_middle e q same }
-
-  -- the ends of a shortcut stand before nothing
-  from_not_before : (u w x : ℕ) (e : Entry) → IsOfShortcut put v u w e → Before new.order u x → ⊥
-  from_not_before u w x e is b =
-      let through = (puts.plan.allowed is.shortcut is.among).through in
-      let alive : IsAlive old u = subst (λ n. IsAlive old n) is.joins.0 through.first.from_alive in
-      elim (before-cases x u b) [
-        | inl before ↦ before_not_alive before alive
-        | inr last ↦ arc-apart sound through.first.arc (is.joins.0 ∙ last.0)
-      ]
-
-  -- the same of the second end
-  to_not_before : (u w x : ℕ) (e : Entry) → IsOfShortcut put v u w e → Before new.order w x → ⊥
-  to_not_before u w x e is b =
-      let through = (puts.plan.allowed is.shortcut is.among).through in
-      let alive : IsAlive old w = subst (λ n. IsAlive old n) is.joins.1 through.second.to_alive in
-      elim (before-cases x w b) [
-        | inl before ↦ before_not_alive before alive
-        | inr last ↦ arc-apart sound through.second.arc (sym (is.joins.1 ∙ last.0))
-      ]
-
-  -- what stands before an alive node afterwards did so already, or it is v
-  before-alive : (x y : ℕ) → y ≢ v → (Before old.order y x → ⊥) → Before new.order y x → ⊥
-  before-alive x y other out b = elim (before-cases x y b) [
-    | inl before ↦ out before
-    | inr last ↦ other last.0
+  find_entry : (u w : ℕ) (e : Entry) → after.arc u w ≡ arc_of e → IsOfShortcut put v u w e ⊎ NoShortcut put u w
+  find_entry u w e is = elim (find_shortcut put u w) [
+    | inr none ↦ inr none
+    | inl found ↦
+        let p : Shortcut = found.shortcut in
+        let same = one_arc_there (after.arc u w) (record { cost = e.cost; middle = e.middle }) (record { cost = p.cost; middle = Some v }) is (put-arc u w p found.among found.joins) in
+        inl (record { shortcut = p; among = found.among; joins = found.joins; cost = ap (λ (a : StateArc). a.cost) same; middle = ap (λ (a : StateArc). a.middle) same })
   ]
 
-  -- the entries out of a neighbour, as they change, are those of the next state
-  out-changed : (x : ℕ) (r : Row) → IsAlive old x → x ≢ v → IsRow old x r → (e : Entry) → IsEntryAfter put v x e.other r.out e ↔ OutIs new x e
-  out-changed x r alive apart is e = (
-    λ after. elim after [
-      | inl shortcut ↦ (shortcut-arc x e.other e shortcut, to_not_before x e.other x e shortcut)
-      | inr kept ↦
-          let was = (is.out e).0 kept.2 in
-          (puts.others x e.other kept.0 ∙ was.0, before-alive x e.other kept.1 was.1)
-    ],
-    λ h. elim (find_shortcut put x e.other) [
-      | inl found ↦ inl (entry-of_shortcut x e.other e found h.0)
-      | inr none ↦
-          let other : e.other ≢ v = λ is_v. h.1 (subst (λ n. Before new.order n x) (sym is_v) (contracted-before sound puts alive apart)) in
-          inr (none, other, (is.out e).1 (sym (puts.others x e.other none) ∙ h.0, λ b. h.1 (before-next sound puts b)))
-    ],
-  )
+  -- The changed row of an alive node is its row.
+  row-changed : (x : ℕ) (r q : Row) → IsAlive s x → x ≢ v → IsRow s x r → IsChanged put v x r q → IsRow after x q
+  row-changed x r q alive other row change =
+      let apart : v ≢ x = λ same. other (sym same) in
+      record {
+        rank = subst (λ (k : Option ℕ). RankIs (s.order ++ v ∷ []) x k) (sym change.rank) (rank-kept s.order v x r.rank other row.rank);
+        out_rises = change.out_rises;
+        inn_rises = change.inn_rises;
+        out = lists-changed s.order v x (λ y. s.arc x y) (λ y. after.arc x y) r.out q.out (λ e. IsOfShortcut put v x e.other e) (λ y. NoShortcut put x y)
+            row.out alive.waits apart
+            (λ e is.
+            let near = subst (λ y. IsNeighbour s v y) is.joins.1 (to_neighbour is.shortcut is.among) in
+            (entry_arc x e.other e is, near.alive.waits, neighbour_apart e.other near))
+            (λ y none. kept-arc x y none) (λ e is. find_entry x e.other e is) change.out;
+        inn = lists-changed s.order v x (λ y. s.arc y x) (λ y. after.arc y x) r.inn q.inn (λ e. IsOfShortcut put v e.other x e) (λ y. NoShortcut put y x)
+            row.inn alive.waits apart
+            (λ e is.
+            let near = subst (λ y. IsNeighbour s v y) is.joins.0 (from_neighbour is.shortcut is.among) in
+            (entry_arc e.other x e is, near.alive.waits, neighbour_apart e.other near))
+            (λ y none. kept-arc y x none) (λ e is. find_entry e.other x e is) change.inn;
+      }
 
-  -- and so are those into it
-  inn-changed : (x : ℕ) (r : Row) → IsAlive old x → x ≢ v → IsRow old x r → (e : Entry) → IsEntryAfter put v e.other x r.inn e ↔ InnIs new x e
-  inn-changed x r alive apart is e = (
-    λ after. elim after [
-      | inl shortcut ↦ (shortcut-arc e.other x e shortcut, from_not_before e.other x x e shortcut)
-      | inr kept ↦
-          let was = (is.inn e).0 kept.2 in
-          (puts.others e.other x kept.0 ∙ was.0, before-alive x e.other kept.1 was.1)
-    ],
-    λ h. elim (find_shortcut put e.other x) [
-      | inl found ↦ inl (entry-of_shortcut e.other x e found h.0)
-      | inr none ↦
-          let other : e.other ≢ v = λ is_v. h.1 (subst (λ n. Before new.order n x) (sym is_v) (contracted-before sound puts alive apart)) in
-          inr (none, other, (is.inn e).1 (sym (puts.others e.other x none) ∙ h.0, λ b. h.1 (before-next sound puts b)))
-    ],
-  )
+  -- The next state is plain.
+  put-plain : (x y : ℕ) (p : Shortcut) → Contains put p → IsFor p x y → IsPlainArc s.nodes bound x y (record { cost = p.cost; middle = Some v })
+  put-plain x y p among joins =
+      let allowed = plan.allowed p among in
+      let through = allowed.through in
+      let first = plain.arcs p.from v through.first.arc.arc through.first.arc.here in
+      let into_above = subst (λ (c : Cost). zero_cost ≺ c) through.first.arc.costs first.above in
+      let above = subst (λ (c : Cost). zero_cost ≺ c) (sym through.adds) (below_trans_at_most into_above (at_most_sum_left through.into through.out)) in
+      subst (λ z. IsPlainArc s.nodes bound z y (record { cost = p.cost; middle = Some v })) joins.0
+      (subst (λ z. IsPlainArc s.nodes bound p.from z (record { cost = p.cost; middle = Some v })) joins.1
+      (record { from_in = through.first.from_alive.in_range; to_in = through.second.to_alive.in_range; apart = through.apart; above = above; within = allowed.within }))
 
-  -- so its row, changed, is its row in the next state
-  row-changed : (x : ℕ) (r q : Row) → IsAlive old x → x ≢ v → IsRow old x r → IsChanged put v x r q → IsRow new x q
-  row-changed x r q alive apart is changed = record {
-    rank = subst (λ (rank : Option ℕ). RankIs new x rank) (sym changed.rank) (rank-kept x r.rank apart is.rank);
-    out_rises = changed.out_rises;
-    inn_rises = changed.inn_rises;
-    out = λ e. chain_iff (changed.out e) (out-changed x r alive apart is e);
-    inn = λ e. chain_iff (changed.inn e) (inn-changed x r alive apart is e);
+  after-plain : IsPlain bound after
+  after-plain = record {
+    in_range = All-push (λ x. x < s.nodes) s.order v plain.in_range plan.alive.in_range;
+    arcs = λ x y arc is. elim (find_shortcut put x y) [
+      | inr none ↦ plain.arcs x y arc (sym (kept-arc x y none) ∙ is)
+      | inl found ↦ subst (λ (a : StateArc). IsPlainArc s.nodes bound x y a)
+          (one_arc_there (after.arc x y) (record { cost = found.shortcut.cost; middle = Some v }) arc (put-arc x y found.shortcut found.among found.joins) is)
+          (put-plain x y found.shortcut found.among found.joins)
+    ];
+  }
+
+  -- All rows
+
+  rows-next : (old new : List Row) → AreRows s old → AreUpdated s put v old new → AreRows after new
+  rows-next old new are updated = record {
+    many = updated.many ∙ are.many;
+    each = λ x low.
+        let was : IsRow s x (row_at old x) = are.each x low in
+        elim (cases_eq x v) [
+          | inl same ↦
+              let row : IsRow after v (record (row_at old v) { rank = Some (length s.order) }) = row-contracted (row_at old v) (are.each v plan.alive.in_range) in
+              subst (λ n. IsRow after n (row_at new n)) (sym same) (subst (λ (r : Row). IsRow after v r) (sym updated.contracted) row)
+          | inr apart ↦ elim (cases_neighbour s v x) [
+            | inl near ↦ row-changed x (row_at old x) (row_at new x) near.alive apart was (updated.neighbours x near)
+            | inr far ↦ subst (λ (r : Row). IsRow after x r) (sym (updated.others x apart far)) (row-kept x (row_at old x) apart far was)
+          ]
+        ];
   }
 
 -- the law of rows that stay
 pub row_kept : RowKept
-row_kept g log old new v put x r is reached puts apart far row = row-kept (reached-sound is reached) puts x r apart far row
+row_kept bound s v put x r plain plan apart far row = row-kept bound s v put plain plan x r apart far row
 
 -- the law of rows that change
 pub rows_change : RowsChange
-rows_change g log old new v put is reached puts = (λ r row. row-contracted (reached-sound is reached) puts r row, λ x r q alive apart row changed. row-changed (reached-sound is reached) puts x r q alive apart row changed)
-
--- all rows
-rows-next : {g : Graph} {s next : State} {v : ℕ} {put : List Shortcut} {old new : List Row} → IsSound g s → Puts (bound_of g) s v put next → AreRows s old → AreUpdated s put v old new → AreRows next new
-rows-next {g} {s} {next} {v} {put} {old} {new} sound puts are updated = record {
-  many = updated.many ∙ are.many ∙ sym puts.nodes;
-  each = λ x low.
-      let was : IsRow s x (row_at old x) = are.each x (omega (arith, low, puts.nodes)) in
-      elim (cases_eq v x) [
-        | inl same ↦
-            let row : IsRow next v (record (row_at old v) { rank = Some (length s.order) }) = row-contracted sound puts (row_at old v) (are.each v puts.plan.alive.in_range) in
-            subst (λ n. IsRow next n (row_at new n)) same (subst (λ (r : Row). IsRow next v r) (sym updated.contracted) row)
-        | inr other ↦
-            let apart : x ≢ v = λ same. other (sym same) in
-            elim (cases_neighbour s v x) [
-              | inl near ↦ row-changed sound puts x (row_at old x) (row_at new x) near.alive apart was (updated.neighbours x near)
-              | inr far ↦ subst (λ (r : Row). IsRow next x r) (sym (updated.others x apart far)) (row-kept sound puts x (row_at old x) apart far was)
-            ]
-      ];
-}
+rows_change bound s v put plain plan = (row-contracted bound s v put plain plan, row-changed bound s v put plain plan)
 
 -- and the law of all rows
 pub rows_go_on : RowsGoOn
-rows_go_on g log s next v put old new is reached puts are updated = rows-next (reached-sound is reached) puts are updated
+rows_go_on bound s v put old new plain plan are updated = (rows-next bound s v put plain plan old new are updated, after-plain bound s v put plain plan)

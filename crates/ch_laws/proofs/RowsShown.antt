@@ -3,12 +3,11 @@ use Rattle.std.proofs.Common.{ℕ, ◌≡◌, ◌≢◌, ◌≤◌, ◌⊎◌, t
 use Rattle.std.proofs.lemmas.Bool.{cases_eq, cases_lt}
 use Rattle.std.proofs.lemmas.Bool.Decides.{nat_tests}
 use Rattle.std.proofs.lemmas.List.{get_or_past}
-use Rattle.ch_graph.specs.Graph.{Graph}
+use Rattle.ch_cost.specs.declared.cost.Cost.{Cost}
 use Rattle.ch_laws.specs.Contraction.{State, StateArc, Before, or_else}
-use Rattle.ch_laws.specs.Rows.{Entry, Row, arc_of, arc_to, shown, row_at, IsRow, AreRows}
+use Rattle.ch_laws.specs.Rows.{Entry, IsPlain, Row, arc_of, arc_to, shown, no_arcs, row_at, arc_by_rows, IsRow, AreRows}
 use Rattle.ch_laws.specs.Theorems.{RowsShow, RowsAreState}
-use Rattle.ch_laws.proofs.Members.{contains_first, contains_later, contains_cases, contains_place}
-use Rattle.ch_laws.proofs.Sound.{IsSound, reached-sound}
+use Rattle.ch_laws.specs.Members.{contains_first, contains_later, contains_cases}
 
 -- two nodes don't both stand before each other
 before_not_both : {order : List ℕ} {x y : ℕ} → Before order x y → Before order y x → ⊥
@@ -95,25 +94,25 @@ module _ {s : State} {x y : ℕ} {q r : Row} (row_x : IsRow s x q) (row_y : IsRo
 
 -- the law of two rows
 pub rows_show : RowsShow
-rows_show g log s x y q r is reached row_x row_y = arc-shown row_x row_y
+rows_show s x y q r row_x row_y = arc-shown row_x row_y
 
 -- All rows
 
 -- a number that is no node has the empty row
-empty-row : {g : Graph} {s : State} → IsSound g s → (x : ℕ) → g.nodes ≤ x → IsRow s x (record { out = []; inn = []; rank = None })
-empty-row {g} {s} sound x past = record {
-  rank = λ k. (λ none. absurd (cc), λ h. absurd (omega (arith, past, sound.in_range x (contains_place s.order k x h.0 h.1))));
+empty-row : {bound : Cost} {s : State} → IsPlain bound s → (x : ℕ) → s.nodes ≤ x → IsRow s x no_arcs
+empty-row {bound} {s} plain x past = record {
+  rank = λ k. (λ none. absurd (cc), λ h. let low = plain.in_range k 0 h.0 in absurd (omega (arith, past, low, h.1)));
   out_rises = λ i j d less low. absurd (omega (arith, low));
   inn_rises = λ i j d less low. absurd (omega (arith, low));
-  out = λ e. (λ among. absurd (omega (arith, among.1)), λ h. absurd (omega (arith, past, (sound.arcs x e.other (record { cost = e.cost; middle = e.middle }) h.0).from_in)));
-  inn = λ e. (λ among. absurd (omega (arith, among.1)), λ h. absurd (omega (arith, past, (sound.arcs e.other x (record { cost = e.cost; middle = e.middle }) h.0).to_in)));
+  out = λ e. (λ among. absurd (omega (arith, among.1)), λ h. absurd (omega (arith, past, (plain.arcs x e.other (record { cost = e.cost; middle = e.middle }) h.0).from_in)));
+  inn = λ e. (λ among. absurd (omega (arith, among.1)), λ h. absurd (omega (arith, past, (plain.arcs e.other x (record { cost = e.cost; middle = e.middle }) h.0).to_in)));
 }
 
 -- so each number has the row that the list has for it
-every-row : {g : Graph} {s : State} {rows : List Row} → IsSound g s → AreRows s rows → (x : ℕ) → IsRow s x (row_at rows x)
-every-row {g} {s} {rows} sound are x = elim (cases_lt x s.nodes) [
+every-row : {bound : Cost} {s : State} {rows : List Row} → IsPlain bound s → AreRows s rows → (x : ℕ) → IsRow s x (row_at rows x)
+every-row {bound} {s} {rows} plain are x = elim (cases_lt x s.nodes) [
   | inl low ↦ are.each x low
-  | inr past ↦ subst (λ (r : Row). IsRow s x r) (sym (get_or_past rows x (record { out = []; inn = []; rank = None }) (omega (arith, past, are.many)))) (empty-row sound x (omega (arith, past, sound.nodes)))
+  | inr past ↦ subst (λ (r : Row). IsRow s x r) (sym (get_or_past rows x no_arcs (omega (arith, past, are.many)))) (empty-row plain x past)
 ]
 
 -- states with the same nodes, order and arcs are the same
@@ -122,7 +121,7 @@ same_state nodes arc s same arcs = λ i. record { nodes = same i; order = s.orde
 
 -- the law of all rows
 pub rows_are_state : RowsAreState
-rows_are_state g log s rows is reached are =
-    let sound = reached-sound is reached in
-    let every = every-row sound are in
+unfolding arc_by_rows
+rows_are_state bound s rows plain are =
+    let every = every-row plain are in
     same_state (length rows) (λ x y. shown (row_at rows x) (row_at rows y) x y) s are.many (λ x y. arc-shown (every x) (every y))

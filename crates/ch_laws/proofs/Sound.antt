@@ -1,5 +1,5 @@
 -- What holds of every state that contractions reach: each arc costs what some walk of the graph costs.
-use Rattle.std.proofs.Common.{ℕ, ◌≡◌, ◌≢◌, ◌<◌, List, Option, Some, None, AllPairs, Contains, arith, refl, sym, ◌∙◌, subst, inl, inr}
+use Rattle.std.proofs.Common.{ℕ, ◌≡◌, ◌≢◌, ◌<◌, List, get_or, Option, Some, None, AllPairs, Contains, arith, refl, sym, ◌∙◌, subst, inl, inr}
 use Rattle.std.proofs.lemmas.Bool.{cases_eq}
 use Rattle.std.proofs.lemmas.List.Elements.{Contains-push_cases, Contains-get_or}
 use Rattle.std.proofs.lemmas.List.Quantifiers.{all_pairs_push}
@@ -12,6 +12,8 @@ use Rattle.ch_graph.proofs.Walks.{one_arc, join, along_walks}
 use Rattle.ch_graph.proofs.Bound.{arc-sound, arc-within}
 use Rattle.ch_laws.specs.declared.shortcut.Shortcut.{Shortcut}
 use Rattle.ch_laws.specs.Contraction.{State, StateArc, Before, IsAlive, HasArc, Remains, IsStartArc, IsStart, Through, Avoids, Puts, Contraction, Run, Run.rest, Run.next, IsReached}
+use Rattle.ch_laws.specs.Rows.{IsPlain}
+use Rattle.ch_laws.specs.Theorems.{ReachedIsPlain}
 use Rattle.ch_laws.proofs.Order.{before_not_alive, before-push, before-last}
 use Rattle.ch_laws.proofs.Steps.{IsPut, one_arc_there, has_arc-same, pair_cases, kept_unless_through, kept_from, kept_to}
 
@@ -197,3 +199,16 @@ run-sound (next step run) sound = run-sound run (puts-sound sound step.puts)
 -- every state that is reached is sound
 pub reached-sound : {g : Graph} {log : List Contraction} {s : State} → IsGraph g → IsReached g log s → IsSound g s
 reached-sound {g} is reached = run-sound reached.run (start-sound g reached.start is reached.starts)
+
+-- and a sound state is plain
+pub sound-plain : {g : Graph} {s : State} → IsSound g s → IsPlain (bound_of g) s
+sound-plain {g} {s} sound = record {
+  in_range = λ k d low. omega (arith, sound.in_range (get_or s.order k d) (Contains-get_or s.order k d low), sound.nodes);
+  arcs = λ x y arc here.
+      let is = sound.arcs x y arc here in
+      record { from_in = omega (arith, is.from_in, sound.nodes); to_in = omega (arith, is.to_in, sound.nodes); apart = is.apart; above = is.above; within = is.within };
+}
+
+-- the law of reached states
+pub reached_is_plain : ReachedIsPlain
+reached_is_plain g log s is reached = sound-plain (reached-sound is reached)

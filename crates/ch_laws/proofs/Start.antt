@@ -7,7 +7,7 @@ use Rattle.ch_cost.specs.Cost.Laws.{at_most_refl, at_most_trans, at_most-from_be
 use Rattle.ch_graph.specs.declared.road.Road.{Road}
 use Rattle.ch_graph.specs.Graph.{Graph, ArcOf}
 use Rattle.ch_laws.specs.Contraction.{State, StateArc, IsStartArc, IsStart}
-use Rattle.ch_laws.proofs.Members.{contains_first, contains_later, contains_cases}
+use Rattle.ch_laws.specs.Members.{contains_first, contains_later, contains_cases}
 
 -- a graph of these arcs
 abbrev graph_of : ℕ → List Road → Graph

@@ -5,10 +5,11 @@ use Rattle.std.proofs.lemmas.List.{get_or_past}
 use Rattle.ch_cost.specs.Cost.Laws.{at_most_antisym}
 use Rattle.ch_graph.specs.Graph.{Graph, IsGraph, IsLeastArc}
 use Rattle.ch_graph.proofs.Bound.{arc-sound}
-use Rattle.ch_laws.specs.Contraction.{StateArc, Before, IsStartArc, or_else}
-use Rattle.ch_laws.specs.Rows.{Entry, Row, arc_of, arc_to, shown, row_at, state_of, IsRow, IsStartRow}
+use Rattle.ch_laws.specs.Contraction.{StateArc, Before, IsStartArc, IsStart, or_else}
+use Rattle.ch_laws.specs.Rows.{Entry, Row, arc_of, arc_to, shown, no_arcs, row_at, arc_by_rows, state_by, IsRow, IsStartRow}
 use Rattle.ch_laws.specs.Theorems.{RowsStart}
 use Rattle.ch_laws.proofs.Start.{least_arc}
+use Rattle.ch_laws.proofs.Sound.{start-sound, sound-plain}
 use Rattle.ch_laws.proofs.RowsShown.{HasEntry, find_entry, arc_to-none}
 
 -- nothing stands before anything in the empty order
@@ -16,7 +17,7 @@ none_before : {x y : ℕ} → Before [] x y → ⊥
 none_before b = omega (arith, b.within)
 
 -- the empty row is that of a number that is no node
-no_start-row : (g : Graph) → IsGraph g → (x : ℕ) → g.nodes ≤ x → IsStartRow g x (record { out = []; inn = []; rank = None })
+no_start-row : (g : Graph) → IsGraph g → (x : ℕ) → g.nodes ≤ x → IsStartRow g x (no_arcs)
 no_start-row g is x past = record {
   rank = refl;
   out_rises = λ i j d less low. absurd (omega (arith, low));
@@ -86,7 +87,8 @@ module _ (g : Graph) (rows : List Row) (is : IsGraph g) (each : (x : ℕ) → Is
       (apart, least.0, least.1)
 
   -- so each row is a row of the state
-  start-row : (x : ℕ) → IsRow (state_of rows []) x (row_at rows x)
+  start-row : (x : ℕ) → IsRow (state_by rows []) x (row_at rows x)
+  unfolding arc_by_rows
   start-row x = record {
     rank = λ k. (λ some. let none : (row_at rows x).rank ≡ None = (each x).rank in absurd (cc), λ h. absurd (omega (arith, h.0)));
     out_rises = (each x).out_rises;
@@ -112,13 +114,13 @@ module _ (g : Graph) (rows : List Row) (is : IsGraph g) (each : (x : ℕ) → Is
 every-start_row : (g : Graph) → IsGraph g → (rows : List Row) → length rows ≡ g.nodes → ((x : ℕ) → x < g.nodes → IsStartRow g x (row_at rows x)) → (x : ℕ) → IsStartRow g x (row_at rows x)
 every-start_row g is rows many are x = elim (cases_lt x g.nodes) [
   | inl low ↦ are x low
-  | inr past ↦ subst (λ (r : Row). IsStartRow g x r) (sym (get_or_past rows x (record { out = []; inn = []; rank = None }) (omega (arith, past, many)))) (no_start-row g is x past)
+  | inr past ↦ subst (λ (r : Row). IsStartRow g x r) (sym (get_or_past rows x (no_arcs) (omega (arith, past, many)))) (no_start-row g is x past)
 ]
 
 -- the law of rows at the start
 pub rows_start : RowsStart
+unfolding arc_by_rows
 rows_start g rows is many are =
-    let each = every-start_row g is rows many are in (
-      record { nodes = many; order = refl; loops = shown-loop g rows is each; arcs = shown-least g rows is each },
-      record { many = refl; each = λ x low. start-row g rows is each x },
-    )
+    let each = every-start_row g is rows many are in
+    let start : IsStart g (state_by rows []) = record { nodes = many; order = refl; loops = shown-loop g rows is each; arcs = shown-least g rows is each } in
+    (start, record { many = refl; each = λ x low. start-row g rows is each x }, sound-plain (start-sound g (state_by rows []) is start))

@@ -5,7 +5,7 @@ use Rattle.std.proofs.lemmas.List.Elements.{Contains-append_left, Contains-push,
 use Rattle.ch_cost.specs.declared.cost.Cost.{Cost}
 use Rattle.ch_cost.specs.Cost.{◌≺◌, IsWithin}
 use Rattle.ch_laws.specs.Contraction.{State, StateArc, IsAlive, HasArc, Through, Shortcut, IsFor, NoShortcut, Puts}
-use Rattle.ch_laws.proofs.Members.{contains_first, contains_later, contains_cases}
+use Rattle.ch_laws.specs.Members.{contains_first, contains_later, contains_cases}
 
 -- a pair has one arc
 pub one_arc_there : (o : Option StateArc) (a b : StateArc) → o ≡ Some a → o ≡ Some b → a ≡ b

@@ -10,7 +10,7 @@ use Rattle.ch_graph.specs.Graph.{Graph, IsGraph, bound_of}
 use Rattle.ch_graph.specs.Hierarchy.{Hierarchy, ComesBefore}
 use Rattle.ch_laws.specs.Contraction.{State, StateArc, IsAlive, Contraction, Step, Run.rest, IsReached, IsOver, IsMade}
 use Rattle.ch_laws.specs.Theorems.{HasRun}
-use Rattle.ch_laws.proofs.Members.{place_of}
+use Rattle.ch_laws.specs.Members.{place_of}
 use Rattle.ch_laws.proofs.Pairs.{IsCovered, covered_more, covered_cases}
 use Rattle.ch_laws.proofs.Sound.{IsSound, reached-sound}
 use Rattle.ch_laws.proofs.Made.{few_below}

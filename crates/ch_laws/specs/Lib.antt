@@ -1,4 +1,6 @@
 pub mod Contraction
+pub mod Members
+pub mod Moving
 pub mod Rows
 pub mod Theorems
 pub mod Verdicts

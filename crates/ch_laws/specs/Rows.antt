@@ -1,9 +1,23 @@
 -- The rows of a state: what it has of each node, as lists.
-use Rattle.std.specs.Prelude.{ℕ, ◌≡◌, ◌≢◌, ◌<◌, ◌⊎◌, ◌↔◌, cond, nat_eq, List, [], ◌∷◌, length, Option, Some, None, AllPairs, Contains, slice_index, slice_index_or}
+use Rattle.std.specs.Prelude.{ℕ, ◌≡◌, ◌≢◌, ◌<◌, ◌⊎◌, ◌↔◌, cond, nat_eq, List, [], ◌∷◌, length, Option, Some, None, All, AllPairs, Contains, slice_index, slice_index_or}
 use Rattle.ch_cost.specs.declared.cost.Cost.{Cost}
+use Rattle.ch_cost.specs.Cost.{zero_cost, ◌≺◌, IsWithin}
 use Rattle.ch_graph.specs.Graph.{Graph, IsLeastArc}
 pub use Rattle.ch_laws.specs.declared.entry.Entry.{Entry}
 use Rattle.ch_laws.specs.Contraction.{State, StateArc, Before, Remains, IsNeighbour, Shortcut, IsFor, NoShortcut, or_else}
+
+-- an arc between two different nodes, not free and not heavy
+pub record IsPlainArc (nodes : ℕ) (bound : Cost) (x y : ℕ) (arc : StateArc) : Type 0 where
+  pub from_in : x < nodes
+  pub to_in : y < nodes
+  pub apart : x ≢ y
+  pub above : zero_cost ≺ arc.cost
+  pub within : IsWithin arc.cost bound
+
+-- what is contracted is a node, and each arc is such an arc; every reached state is so
+pub record IsPlain (bound : Cost) (s : State) : Type 0 where
+  pub in_range : All (λ x. x < s.nodes) s.order
+  pub arcs : (x y : ℕ) (arc : StateArc) → s.arc x y ≡ Some arc → IsPlainArc s.nodes bound x y arc
 
 -- the arcs out of a node, those into it, and its rank where it is contracted
 pub record Row : Type 0 where
@@ -51,13 +65,21 @@ arc_to y (e ∷ es) = cond (nat_eq e.other y) (arc_of e) (arc_to y es)
 abbrev pub shown : Row → Row → ℕ → ℕ → Option StateArc
 shown q r x y = or_else (arc_to y q.out) (arc_to x r.inn)
 
+-- the row of a node without arcs
+abbrev pub no_arcs : Row
+no_arcs = record { out = []; inn = []; rank = None }
+
 -- the row of a node in a list of all rows
 abbrev pub row_at : List Row → ℕ → Row
-row_at rows x = slice_index_or rows x (record { out = []; inn = []; rank = None })
+row_at rows x = slice_index_or rows x no_arcs
+
+-- the arc from x to y by these rows
+unfoldable pub arc_by_rows : List Row → ℕ → ℕ → Option StateArc
+arc_by_rows rows x y = shown (row_at rows x) (row_at rows y) x y
 
 -- the state that these rows and this order show
-abbrev pub state_of : List Row → List ℕ → State
-state_of rows order = record { nodes = length rows; order = order; arc = λ x y. shown (row_at rows x) (row_at rows y) x y }
+abbrev pub state_by : List Row → List ℕ → State
+state_by rows order = record { nodes = length rows; order = order; arc = arc_by_rows rows }
 
 -- the list has the row of each node
 pub record AreRows (s : State) (rows : List Row) : Type 0 where

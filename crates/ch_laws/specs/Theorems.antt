@@ -1,13 +1,18 @@
 -- The laws of contraction, as statements.
-use Rattle.std.specs.Prelude.{ℕ, ◌≡◌, ◌≢◌, ◌-◌, ◌<◌, ◌≤◌, List, [], ◌∷◌, ◌++◌, length, Option, Some, None, map}
+use Rattle.std.specs.Prelude.{ℕ, ◌≡◌, ◌≢◌, ◌-◌, ◌^◌, ◌<◌, ◌≤◌, List, [], ◌∷◌, ◌++◌, length, Option, Some, None, map}
 use Rattle.ch_cost.specs.declared.cost.Cost.{Cost}
+use Rattle.ch_cost.specs.Cost.{cost_of_arcs, IsWithin}
 use Rattle.ch_graph.specs.declared.link.Link.{Link}
 use Rattle.ch_graph.specs.Walk.{Along}
 use Rattle.ch_graph.specs.Graph.{Graph, IsGraph, ArcOf, IsDistance, bound_of}
 use Rattle.ch_graph.specs.Hierarchy.{Hierarchy, Chain, IsRiseFall, IsValue, UnfoldsAll, IsWellMade, IsArcOf, IsRight}
 use Rattle.ch_laws.specs.Contraction.{State, IsAlive, Shortcut, IsPlan, IsWitnessed, Puts, contracted, IsNeighbour, Contraction, Step, IsStart, IsReached, IsOver, IsMade}
-use Rattle.ch_laws.specs.Rows.{Row, IsRow, ShowsRemaining, IsChanged, AreRows, AreUpdated, IsStartRow, shown, row_at, state_of}
+use Rattle.ch_laws.specs.Rows.{IsPlain, Row, IsRow, ShowsRemaining, IsChanged, AreRows, AreUpdated, IsStartRow, shown, row_at, state_by}
 use Rattle.ch_laws.specs.Verdicts.{AreRead, AreVerdicts}
+
+-- the bound of a graph is at most that of the largest graph with the heaviest arcs
+abbrev pub BoundsFit : Type 0
+BoundsFit = (g : Graph) → IsGraph g → IsWithin (bound_of g) (cost_of_arcs (2 ^ 25 - 1) (2 ^ 32 - 1))
 
 -- the hierarchy of a reached state is right
 abbrev pub AlwaysRight : Type 0
@@ -43,17 +48,21 @@ PlanIsLawful = (bound : Cost) (s : State) (v : ℕ) (put : List Shortcut) → Is
 abbrev pub VerdictsAreLawful : Type 0
 VerdictsAreLawful = (g : Graph) (log : List Contraction) (s : State) (seen : ℕ → Option Row) (v : ℕ) (put : List Shortcut) → IsGraph g → IsReached g log s → v < s.nodes → AreRead s seen → AreVerdicts (bound_of g) seen v put → IsPlan (bound_of g) s v put × IsWitnessed (bound_of g) s v put
 
+-- a reached state is plain, which is all that the laws of rows ask for
+abbrev pub ReachedIsPlain : Type 0
+ReachedIsPlain = (g : Graph) (log : List Contraction) (s : State) → IsGraph g → IsReached g log s → IsPlain (bound_of g) s
+
 -- the row of a node that is neither contracted nor an alive neighbour of the contracted one stays
 abbrev pub RowKept : Type 0
-RowKept = (g : Graph) (log : List Contraction) (old new : State) (v : ℕ) (put : List Shortcut) (x : ℕ) (r : Row) → IsGraph g → IsReached g log old → Puts (bound_of g) old v put new → x ≢ v → (IsNeighbour old v x → ⊥) → IsRow old x r → IsRow new x r
+RowKept = (bound : Cost) (s : State) (v : ℕ) (put : List Shortcut) (x : ℕ) (r : Row) → IsPlain bound s → IsPlan bound s v put → x ≢ v → (IsNeighbour s v x → ⊥) → IsRow s x r → IsRow (contracted s v put) x r
 
 -- the row of the contracted node keeps its arcs and gets its rank; that of a neighbour, changed, is its row afterwards
 abbrev pub RowsChange : Type 0
-RowsChange = (g : Graph) (log : List Contraction) (old new : State) (v : ℕ) (put : List Shortcut) → IsGraph g → IsReached g log old → Puts (bound_of g) old v put new → ((r : Row) → IsRow old v r → IsRow new v (record r { rank = Some (length old.order) })) × ((x : ℕ) (r q : Row) → IsAlive old x → x ≢ v → IsRow old x r → IsChanged put v x r q → IsRow new x q)
+RowsChange = (bound : Cost) (s : State) (v : ℕ) (put : List Shortcut) → IsPlain bound s → IsPlan bound s v put → ((r : Row) → IsRow s v r → IsRow (contracted s v put) v (record r { rank = Some (length s.order) })) × ((x : ℕ) (r q : Row) → IsAlive s x → x ≢ v → IsRow s x r → IsChanged put v x r q → IsRow (contracted s v put) x q)
 
 -- the row of an alive node shows the remaining graph there
 abbrev pub RowOfAlive : Type 0
-RowOfAlive = (g : Graph) (log : List Contraction) (s : State) (x : ℕ) (r : Row) → IsGraph g → IsReached g log s → IsRow s x r → IsAlive s x → ShowsRemaining s x r
+RowOfAlive = (bound : Cost) (s : State) (x : ℕ) (r : Row) → IsPlain bound s → IsRow s x r → IsAlive s x → ShowsRemaining s x r
 
 -- and a node whose row has no rank is alive
 abbrev pub RowTellsAlive : Type 0
@@ -61,19 +70,19 @@ RowTellsAlive = (s : State) (x : ℕ) (r : Row) → x < s.nodes → IsRow s x r 
 
 -- the rows of two nodes show the arc between them
 abbrev pub RowsShow : Type 0
-RowsShow = (g : Graph) (log : List Contraction) (s : State) (x y : ℕ) (q r : Row) → IsGraph g → IsReached g log s → IsRow s x q → IsRow s y r → s.arc x y ≡ shown q r x y
+RowsShow = (s : State) (x y : ℕ) (q r : Row) → IsRow s x q → IsRow s y r → s.arc x y ≡ shown q r x y
 
 -- so the rows of all nodes, with the order, are the state
 abbrev pub RowsAreState : Type 0
-RowsAreState = (g : Graph) (log : List Contraction) (s : State) (rows : List Row) → IsGraph g → IsReached g log s → AreRows s rows → state_of rows s.order ≡ s
+RowsAreState = (bound : Cost) (s : State) (rows : List Row) → IsPlain bound s → AreRows s rows → state_by rows s.order ≡ s
 
 -- the rows of least arcs are those of a start
 abbrev pub RowsStart : Type 0
-RowsStart = (g : Graph) (rows : List Row) → IsGraph g → length rows ≡ g.nodes → ((x : ℕ) → x < g.nodes → IsStartRow g x (row_at rows x)) → IsStart g (state_of rows []) × AreRows (state_of rows []) rows
+RowsStart = (g : Graph) (rows : List Row) → IsGraph g → length rows ≡ g.nodes → ((x : ℕ) → x < g.nodes → IsStartRow g x (row_at rows x)) → IsStart g (state_by rows []) × AreRows (state_by rows []) rows × IsPlain (bound_of g) (state_by rows [])
 
 -- and rows that are updated are those of the next state
 abbrev pub RowsGoOn : Type 0
-RowsGoOn = (g : Graph) (log : List Contraction) (s next : State) (v : ℕ) (put : List Shortcut) (old new : List Row) → IsGraph g → IsReached g log s → Puts (bound_of g) s v put next → AreRows s old → AreUpdated s put v old new → AreRows next new
+RowsGoOn = (bound : Cost) (s : State) (v : ℕ) (put : List Shortcut) (old new : List Row) → IsPlain bound s → IsPlan bound s v put → AreRows s old → AreUpdated s put v old new → AreRows (contracted s v put) new × IsPlain bound (contracted s v put)
 
 -- each alive node of a reached state can be contracted next
 abbrev pub GoesOn : Type 0

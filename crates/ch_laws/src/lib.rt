@@ -20,10 +20,11 @@ pub use entry::Entry;
 pub use right::{
     made_hierarchy_is_unique, reached_hierarchy_is_right, reached_hierarchy_is_well_made,
 };
-pub use routes::{least_route_is_a_least_walk, least_route_is_never_too_long};
+pub use routes::{bounds_fit, least_route_is_a_least_walk, least_route_is_never_too_long};
 pub use rows::{
-    row_of_others_stays, rows_are_the_state, rows_of_alive_nodes_show_what_remains,
-    rows_of_least_arcs_are_the_start, rows_of_neighbours_change, rows_show_arcs,
-    rows_without_rank_are_of_alive_nodes, updated_rows_are_the_next,
+    reached_states_are_plain, row_of_others_stays, rows_are_the_state,
+    rows_of_alive_nodes_show_what_remains, rows_of_least_arcs_are_the_start,
+    rows_of_neighbours_change, rows_show_arcs, rows_without_rank_are_of_alive_nodes,
+    updated_rows_are_the_next,
 };
 pub use shortcut::Shortcut;

@@ -1,4 +1,10 @@
-ghost use Rattle.ch_laws.specs.Theorems.{RowKept, RowOfAlive, RowTellsAlive, RowsAreState, RowsChange, RowsGoOn, RowsShow, RowsStart};
+ghost use Rattle.ch_laws.specs.Theorems.{ReachedIsPlain, RowKept, RowOfAlive, RowTellsAlive, RowsAreState, RowsChange, RowsGoOn, RowsShow, RowsStart};
+
+/// A reached state is plain: its arcs are between different nodes, not free and not heavy. The other laws of rows ask
+/// for no more. It does nothing when it runs.
+pub fn reached_states_are_plain()
+    ensures { ReachedIsPlain }
+{}
 
 /// A contraction leaves the row of each node but the contracted one and its neighbours. It does nothing when it runs.
 pub fn row_of_others_stays()

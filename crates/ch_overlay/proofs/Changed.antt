@@ -13,7 +13,7 @@ use Rattle.ch_overlay.specs.declared.placed.Placed.{Placed}
 use Rattle.ch_overlay.specs.Merging.{merged}
 use Rattle.ch_overlay.specs.Placing.{ArePlaced, out_place, in_place}
 use Rattle.ch_overlay.proofs.Merged.{merged_is}
-use Rattle.ch_overlay.proofs.Puts.{contains-map, contains-mapped}
+use Rattle.ch_laws.specs.Members.{contains-map, contains-mapped}
 use Rattle.ch_overlay.proofs.KeptArcs.{kept_in, in_kept}
 
 apart_test : (a b : ℕ) → not (nat_eq a b) ≡ true → a ≢ b

@@ -9,7 +9,7 @@ use Rattle.std.proofs.lemmas.List.Sorted.{Contains-permutation, IsPermutation-sy
 use Rattle.std.proofs.lemmas.List.Kept.{AllPairs-cons, Contains-from_dedup}
 use Rattle.ch_graph.specs.declared.road.Road.{Road}
 use Rattle.ch_overlay.specs.Opening.{ComesNoLater, have_same_ends, HaveSameEnds, EndsRise, AreLeast}
-use Rattle.ch_overlay.proofs.Entries.{contains_first, contains_later, contains_cases, contains_none, pairs_first, pairs_later}
+use Rattle.ch_laws.specs.Members.{contains_first, contains_later, contains_cases, contains_none, pairs_first, pairs_later}
 
 same_ends : (a b : Road) → have_same_ends a b ≡ true → HaveSameEnds a b
 same_ends a b e = (grind (arith, nat_tests, e), grind (arith, nat_tests, e))

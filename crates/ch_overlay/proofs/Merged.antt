@@ -6,7 +6,7 @@ use Rattle.std.proofs.lemmas.List.Kept.{AllPairs-cons}
 use Rattle.ch_laws.specs.declared.entry.Entry.{Entry}
 use Rattle.ch_laws.specs.Rows.{Rises}
 use Rattle.ch_overlay.specs.Merging.{merged, merged_with}
-use Rattle.ch_overlay.proofs.Entries.{contains_first, contains_later, contains_cases, contains_none, pairs_first, pairs_later}
+use Rattle.ch_laws.specs.Members.{contains_first, contains_later, contains_cases, contains_none, pairs_first, pairs_later}
 
 -- no entry of the list is for the other node of x
 abbrev pub IsAbsent : Entry → List Entry → Type 0

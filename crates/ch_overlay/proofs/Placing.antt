@@ -15,7 +15,7 @@ use Rattle.ch_laws.specs.declared.entry.Entry.{Entry}
 use Rattle.ch_laws.specs.Rows.{Rises}
 use Rattle.ch_overlay.specs.declared.placed.Placed.{Placed}
 use Rattle.ch_overlay.specs.Placing.{IsInOrder}
-use Rattle.ch_overlay.proofs.Entries.{contains_place}
+use Rattle.ch_laws.specs.Members.{contains_place}
 
 -- the ends of an entry
 abbrev pub ends : Placed → ℕ × ℕ

@@ -1,9 +1,9 @@
 -- What a contraction changes in an overlay.
-use Rattle.std.specs.Prelude.{ℕ, ◌≡◌, ◌<◌, ◌↔◌, List, [], ◌∷◌, length, map, Some, All, AllPairs, Contains, slice_set}
+use Rattle.std.specs.Prelude.{ℕ, ◌≡◌, ◌≢◌, ◌<◌, ◌↔◌, List, [], ◌∷◌, length, map, Some, All, AllPairs, Contains, slice_set}
 use Rattle.ch_laws.specs.declared.shortcut.Shortcut.{Shortcut}
 use Rattle.ch_laws.specs.Contraction.{IsPlan, IsNeighbour}
 use Rattle.ch_laws.specs.Rows.{Row, IsChanged}
-use Rattle.ch_overlay.specs.Overlay.{Overlay, row_at, state_of}
+use Rattle.ch_overlay.specs.Overlay.{Overlay, IsOverlay, row_at, state_of}
 
 -- the node that is contracted, and the new rows, each with its node
 pub record Change : Type 0 where
@@ -32,3 +32,13 @@ puts xs (p ∷ ps) = puts (slice_set xs p.0 p.1) ps
 -- the nodes whose rows change
 abbrev pub changed_nodes : Change → List ℕ
 changed_nodes c = map (λ a. a.0) c.rows
+
+-- A change of an overlay has one row for each of several nodes, and its rows are those of their nodes once it is put in.
+pub record WritesItsRows (o : Overlay) (c : Change) : Type 0 where
+  pub in_range : All (λ a. a.0 < length o.rows) c.rows
+  pub once : AllPairs (λ a b. a.0 ≢ b.0) c.rows
+  pub count : length (puts o.rows c.rows) ≡ length o.rows
+  pub written : (a : ℕ × Row) → Contains c.rows a → row_at (puts o.rows c.rows) a.0 ≡ a.1
+
+abbrev pub ChangesWriteTheirRows : Type 0
+ChangesWriteTheirRows = (o : Overlay) (c : Change) → IsOverlay o → IsOf o c → WritesItsRows o c

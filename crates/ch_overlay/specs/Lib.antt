@@ -4,3 +4,4 @@ pub mod Opening
 pub mod Placing
 pub mod Change
 pub mod Source
+pub mod Answers

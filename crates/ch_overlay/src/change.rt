@@ -1,7 +1,7 @@
 ghost use Rattle.std.specs.Prelude.{◌≡◌, ◌<◌, All, length, map};
 ghost use Rattle.std.specs.Arc.{arc_value};
 ghost use Rattle.std.specs.List.{zip};
-ghost use Rattle.ch_overlay.specs.Change.{puts};
+ghost use Rattle.ch_overlay.specs.Change.{puts, ChangesWriteTheirRows};
 
 use crate::row::Row;
 use std::marker::Model;
@@ -33,6 +33,12 @@ impl Change {
         self.rows.as_slice()
     }
 }
+
+/// A change of an overlay has one row for each of several nodes, and once it is put in these are their rows. It does
+/// nothing when it runs.
+pub fn changes_write_their_rows()
+    ensures { ChangesWriteTheirRows }
+{}
 
 /// The new versions of the changed rows.
 pub fn put_versions(all: &mut [u64], changed: &[(u32, Arc<Row>)], versions: &[u64])

@@ -19,7 +19,7 @@ mod row;
 mod source;
 
 pub use ch_laws::{Entry, Shortcut};
-pub use change::Change;
+pub use change::{Change, changes_write_their_rows};
 pub use overlay::Overlay;
 pub use row::Row;
 pub use source::{RowSource, SeeError, Seen};

@@ -15,7 +15,10 @@ use crate::planned::{push_changed, ranked_row};
 use crate::row::Row;
 use ch_cost::Cost;
 use ch_graph::Graph;
-use ch_laws::Shortcut;
+use ch_laws::{
+    Shortcut, rows_are_the_state, rows_of_alive_nodes_show_what_remains,
+    rows_of_least_arcs_are_the_start, updated_rows_are_the_next,
+};
 use std::alloc::{AllocError, Global};
 use std::marker::Model;
 use std::sync::Arc;
@@ -53,6 +56,7 @@ impl Overlay {
         ensures versions { IfOk result (λ o. o.versions ≡ range_with_len 0 graph.now.nodes) }
         ensures bound { IfOk result (λ o. o.bound ≡ bound_of graph.now) }
     {
+        rows_of_least_arcs_are_the_start();
         let nodes = graph.nodes();
         let least = least_arcs(alloc, graph.arcs())?;
         let rows = shared(alloc, rows_of(alloc, nodes, least.as_slice())?)?;
@@ -122,6 +126,7 @@ impl Overlay {
         ensures node { IfOk result (λ change. change.node ≡ node) }
         ensures change { IfOk result (λ change. IsChange self.now shortcuts.now change) }
     {
+        rows_of_alive_nodes_show_what_remains();
         let alloc = *self.rows.allocator();
         let row = self.row(node);
         let out = out_entries(alloc, node, shortcuts)?;
@@ -158,6 +163,8 @@ impl Overlay {
         ensures bound { self.new.bound ≡ self.old.bound }
         ensures holds { IsOverlay self.new }
     {
+        updated_rows_are_the_next();
+        rows_are_the_state();
         let Change { node, rows } = change;
         put_versions(self.versions.as_mut_slice(), rows.as_slice(), versions);
         put_rows(self.rows.as_mut_slice(), rows);

@@ -1,4 +1,4 @@
-ghost use Rattle.std.specs.Prelude.{◌≡◌, ◌↔◌, ◌<◌, ◌⊎◌, ℕ, IfOk, List, [], ◌∷◌, ◌++◌, Some, None, AllPairs, Contains, map, filter, not, nat_eq};
+ghost use Rattle.std.specs.Prelude.{◌≡◌, ◌↔◌, ◌<◌, ◌⊎◌, ℕ, IsTrue, IfOk, List, [], ◌∷◌, ◌++◌, Some, None, AllPairs, Contains, map, filter, not, nat_eq};
 ghost use Rattle.ch_overlay.specs.Merging.{merged};
 ghost use Rattle.ch_overlay.specs.Overlay.{no_arcs};
 
@@ -53,6 +53,15 @@ impl Row {
     {
         self.inn.push(entry)?;
         Ok(())
+    }
+
+    /// Whether it has the same entries and the same rank as another row. Looks once at each entry.
+    pub fn is_same(&self, other: &Row) -> bool
+        ensures { IsTrue result ↔ (self.now ≡ other.now) }
+    {
+        (self.rank == other.rank)
+            & (self.out.as_slice() == other.out.as_slice())
+            & (self.inn.as_slice() == other.inn.as_slice())
     }
 
     /// The row with its entries and this rank.

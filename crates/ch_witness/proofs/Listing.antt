@@ -3,10 +3,8 @@ use Rattle.std.proofs.Common.{ℕ, ◌≡◌, ◌≢◌, ◌⊎◌, List, [], �
 use Rattle.std.proofs.lemmas.Bool.{cases_eq}
 use Rattle.std.proofs.lemmas.List.Elements.{Contains-append_left, Contains-push, Contains-push_cases, Contains-get_or}
 use Rattle.std.proofs.lemmas.List.Quantifiers.{all_pairs_push}
-use Rattle.std.specs.List.{All}
-use Rattle.ch_cost.specs.declared.cost.Cost.{Cost}
 use Rattle.ch_overlay.specs.declared.source.Seen.{Seen}
-use Rattle.ch_witness.specs.Kept.{Kept, AreKept, AreListed, IsAnswer, IsListedFrom, OfTheirNodes}
+use Rattle.ch_witness.specs.Kept.{Kept, AreListed, IsListedFrom, OfTheirNodes}
 
 some-same : (a b : Seen) → Some a ≡ Some b → a ≡ b
 some-same a b e = cc
@@ -147,9 +145,3 @@ module _ (whole kept new : Kept) (v : ℕ) where
   pub listing-more : (nodes : List ℕ) (listed more : List Seen) → OfTheirNodes whole → (o : Option Seen) → kept v ≡ o → IsListedFrom o kept v listed new more → Listing whole kept nodes listed → Listing whole new (nodes ++ v ∷ []) more
   listing-more nodes listed more own None is step l = subst (Listing whole new (nodes ++ v ∷ [])) (sym step.1) (listing-none nodes listed is step.0 l)
   listing-more nodes listed more own (Some t) is step l = subst (Listing whole new (nodes ++ v ∷ [])) (sym step.2) (listing-some t nodes listed own is step.0 step.1 l)
-
--- what is listed is of each kind that the answers are of
-pub all_listed_are : (Bears Shows IsKind : Seen → Type 0) (bound : Cost) (kept : Kept) (nodes : List ℕ) (listed : List Seen) → AreKept Bears Shows bound kept → AreListed kept nodes listed → ((x : ℕ) (s : Seen) → IsAnswer Bears Shows bound x s → IsKind s) → All IsKind listed
-all_listed_are Bears Shows IsKind bound kept nodes listed answers listing to k d h =
-    let s = get_or listed k d in
-    to s.node s (answers s.node s (listing.from_kept s (Contains-get_or listed k d h)))

@@ -1,5 +1,6 @@
 -- The answers of a source that are kept.
-use Rattle.std.specs.Prelude.{ℕ, ◌≡◌, ◌≢◌, List, [], ◌∷◌, ◌++◌, Option, Some, None, AllPairs, Contains}
+use Rattle.std.specs.Prelude.{ℕ, ◌≡◌, ◌≢◌, List, [], ◌∷◌, ◌++◌, Option, Some, None, All, AllPairs, Contains, slice_index_or}
+use Rattle.std.proofs.lemmas.List.Elements.{Contains-get_or}
 use Rattle.ch_cost.specs.declared.cost.Cost.{Cost}
 use Rattle.ch_overlay.specs.declared.source.Seen.{Seen}
 use Rattle.ch_overlay.specs.Source.{row_in, IsBound, IsSeenRow, NamesAlone}
@@ -76,3 +77,9 @@ pub record AreListed (kept : Kept) (nodes : List ℕ) (listed : List Seen) : Typ
   pub of_nodes : (s : Seen) → Contains listed s → Contains nodes s.node
   pub every : (x : ℕ) (s : Seen) → Contains nodes x → kept x ≡ Some s → Contains listed s
   pub first : (x : ℕ) (others : List ℕ) (s : Seen) → nodes ≡ x ∷ others → kept x ≡ Some s → (more : List Seen) × (listed ≡ s ∷ more)
+
+-- what is listed is of each kind that the answers are of
+pub all_listed_are : (Bears Shows IsKind : Seen → Type 0) (bound : Cost) (kept : Kept) (nodes : List ℕ) (listed : List Seen) → AreKept Bears Shows bound kept → AreListed kept nodes listed → ((x : ℕ) (s : Seen) → IsAnswer Bears Shows bound x s → IsKind s) → All IsKind listed
+all_listed_are Bears Shows IsKind bound kept nodes listed answers listing to k d h =
+    let s = slice_index_or listed k d in
+    to s.node s (answers s.node s (listing.from_kept s (Contains-get_or listed k d h)))

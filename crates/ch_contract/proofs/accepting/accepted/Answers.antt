@@ -20,4 +20,4 @@ pub returns-clause-stale : goal.returns-clause-stale
 returns-clause-stale c node seen now front = (λ e. absurd (cc), λ stale. absurd (current-not_stale c.args.ledger.now c.args.proposal.now node seen now front c.in_default.ensures.none stale))
 
 pub returns-clause-lawful : goal.returns-clause-lawful
-returns-clause-lawful c = agrees-lawful c.args.ledger.now c.log.ensures.holds c.args.proposal.now c.agrees.ensures.holds (c.agrees.ensures.agrees.0 c.if-not-agrees.false)
+returns-clause-lawful c = agrees-lawful c.verdicts_are_lawful.ensures c.args.ledger.now c.log.ensures.holds c.args.proposal.now c.agrees.ensures.holds (c.agrees.ensures.agrees.0 c.if-not-agrees.false)

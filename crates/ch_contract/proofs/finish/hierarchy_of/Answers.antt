@@ -4,6 +4,7 @@ use Rattle.ch_graph.specs.declared.link.Link.{Link}
 use Rattle.ch_graph.specs.Graph.{bound_of}
 use Rattle.ch_graph.specs.Hierarchy.{Hierarchy, IsRight}
 use Rattle.ch_laws.specs.Contraction.{IsMade, IsOver}
+use Rattle.ch_laws.specs.Theorems.{AlwaysRight, AlwaysWellMade}
 use Rattle.ch_overlay.specs.Overlay.{Overlay, IsOverlay, state_of}
 use Rattle.ch_contract.specs.Board.{Board, IsBoard}
 use Rattle.ch_contract.specs.Finish.{AreRanks, AreLinks}
@@ -18,49 +19,49 @@ over o was same is n count none = over-from_count was is (subst (λ (q : Overlay
 pub returns-then-alive-gt0-clause-left : goal.returns-then-alive-gt0-clause-left
 returns-then-alive-gt0-clause-left c =
     let few = subst (λ (q : Overlay). length q.order < length q.rows) c.overlay-overlay.ensures (omega (arith, c.alive.ensures)) in
-    (λ _. left-from_count c.args.ledger.now.overlay c.log.ensures.holds.overlay few, λ _. refl)
+    (λ _. left-from_count c.args.ledger.now.overlay c.holds.ensures.overlay few, λ _. refl)
 
 pub ranks_of-requires : goal.ranks_of-requires
 ranks_of-requires c =
-    subst (λ (q : Overlay). IsOver (state_of q)) (sym c.overlay-overlay.ensures) (over c.overlay-overlay.result.now _ c.overlay-overlay.ensures c.log.ensures.holds.overlay c.alive.result c.alive.ensures (omega arith))
+    subst (λ (q : Overlay). IsOver (state_of q)) (sym c.overlay-overlay.ensures) (over c.overlay-overlay.result.now _ c.overlay-overlay.ensures c.holds.ensures.overlay c.alive.result c.alive.ensures (omega arith))
 
 pub returns-in_default-clause-left : goal.returns-in_default-clause-left
 returns-in_default-clause-left c =
-    let all = over c.overlay-overlay.result.now _ c.overlay-overlay.ensures c.log.ensures.holds.overlay c.alive.result c.alive.ensures (omega arith) in
+    let all = over c.overlay-overlay.result.now _ c.overlay-overlay.ensures c.holds.ensures.overlay c.alive.result c.alive.ensures (omega arith) in
     (λ e. absurd (cc), λ left. absurd (over-leaves_none c.args.ledger.now all left))
 
 pub returns-in_default-links_of-clause-left : goal.returns-in_default-links_of-clause-left
 returns-in_default-links_of-clause-left c =
-    let all = over c.overlay-overlay.result.now _ c.overlay-overlay.ensures c.log.ensures.holds.overlay c.alive.result c.alive.ensures (omega arith) in
+    let all = over c.overlay-overlay.result.now _ c.overlay-overlay.ensures c.holds.ensures.overlay c.alive.result c.alive.ensures (omega arith) in
     (λ e. absurd (cc), λ left. absurd (over-leaves_none c.args.ledger.now all left))
 
-module _ (b : Board) (o : Overlay) (ranks : List ℕ) (links : List Link) (bound : Cost) (is : IsBoard b) (same : o ≡ b.overlay) (all : IsOver (state_of b.overlay)) where
+module _ (right : AlwaysRight) (well : AlwaysWellMade) (b : Board) (o : Overlay) (ranks : List ℕ) (links : List Link) (bound : Cost) (is : IsBoard b) (same : o ≡ b.overlay) (all : IsOver (state_of b.overlay)) where
   done : AreRanks o ranks → AreLinks o links → bound ≡ bound_of b.graph → IsFinished b (record { ranks = ranks; links = links; bound = bound })
-  done are_ranks are_links bound_is = finished b ranks links bound is all (subst (λ (q : Overlay). AreRanks q ranks) same are_ranks) (subst (λ (q : Overlay). AreLinks q links) same are_links) bound_is
+  done are_ranks are_links bound_is = finished right well b ranks links bound is all (subst (λ (q : Overlay). AreRanks q ranks) same are_ranks) (subst (λ (q : Overlay). AreLinks q links) same are_links) bound_is
 
 pub indexed-requires : goal.indexed-requires
 indexed-requires c =
-    let all = over c.overlay-overlay.result.now _ c.overlay-overlay.ensures c.log.ensures.holds.overlay c.alive.result c.alive.ensures (omega arith) in
-    (done c.args.ledger.now c.overlay-overlay.result.now c.in-Ok.ranks.items c.in-Ok-links_of.links.items c.bound-bound.result c.log.ensures.holds c.overlay-overlay.ensures all c.in-Ok.ensures c.in-Ok-links_of.ensures (c.bound-bound.ensures ∙ ap bound_of c.graph.ensures)).well
+    let all = over c.overlay-overlay.result.now _ c.overlay-overlay.ensures c.holds.ensures.overlay c.alive.result c.alive.ensures (omega arith) in
+    (done c.reached_hierarchy_is_right.ensures c.reached_hierarchy_is_well_made.ensures c.args.ledger.now c.overlay-overlay.result.now c.in-Ok.ranks.items c.in-Ok-links_of.links.items c.bound-bound.result c.holds.ensures c.overlay-overlay.ensures all c.in-Ok.ensures c.in-Ok-links_of.ensures (c.bound-bound.ensures ∙ ap bound_of c.graph.ensures)).well
 
 pub returns-clause-made : goal.returns-clause-made
 returns-clause-made c =
-    let all = over c.overlay-overlay.result.now _ c.overlay-overlay.ensures c.log.ensures.holds.overlay c.alive.result c.alive.ensures (omega arith) in
-    let made = (done c.args.ledger.now c.overlay-overlay.result.now c.in-Ok.ranks.items c.in-Ok-links_of.links.items c.bound-bound.result c.log.ensures.holds c.overlay-overlay.ensures all c.in-Ok.ensures c.in-Ok-links_of.ensures (c.bound-bound.ensures ∙ ap bound_of c.graph.ensures)).made in
+    let all = over c.overlay-overlay.result.now _ c.overlay-overlay.ensures c.holds.ensures.overlay c.alive.result c.alive.ensures (omega arith) in
+    let made = (done c.reached_hierarchy_is_right.ensures c.reached_hierarchy_is_well_made.ensures c.args.ledger.now c.overlay-overlay.result.now c.in-Ok.ranks.items c.in-Ok-links_of.links.items c.bound-bound.result c.holds.ensures c.overlay-overlay.ensures all c.in-Ok.ensures c.in-Ok-links_of.ensures (c.bound-bound.ensures ∙ ap bound_of c.graph.ensures)).made in
     subst (λ (h : Hierarchy). IsMade c.args.ledger.now.graph (state_of c.args.ledger.now.overlay) h) (sym c.in-Ok-indexed.ensures) made
 
 pub returns-clause-right : goal.returns-clause-right
 returns-clause-right c =
-    let all = over c.overlay-overlay.result.now _ c.overlay-overlay.ensures c.log.ensures.holds.overlay c.alive.result c.alive.ensures (omega arith) in
-    let right = (done c.args.ledger.now c.overlay-overlay.result.now c.in-Ok.ranks.items c.in-Ok-links_of.links.items c.bound-bound.result c.log.ensures.holds c.overlay-overlay.ensures all c.in-Ok.ensures c.in-Ok-links_of.ensures (c.bound-bound.ensures ∙ ap bound_of c.graph.ensures)).right in
+    let all = over c.overlay-overlay.result.now _ c.overlay-overlay.ensures c.holds.ensures.overlay c.alive.result c.alive.ensures (omega arith) in
+    let right = (done c.reached_hierarchy_is_right.ensures c.reached_hierarchy_is_well_made.ensures c.args.ledger.now c.overlay-overlay.result.now c.in-Ok.ranks.items c.in-Ok-links_of.links.items c.bound-bound.result c.holds.ensures c.overlay-overlay.ensures all c.in-Ok.ensures c.in-Ok-links_of.ensures (c.bound-bound.ensures ∙ ap bound_of c.graph.ensures)).right in
     subst (λ (h : Hierarchy). IsRight c.args.ledger.now.graph h) (sym c.in-Ok-indexed.ensures) right
 
 pub returns-in_default-indexed-clause-left : goal.returns-in_default-indexed-clause-left
 returns-in_default-indexed-clause-left c =
-    let all = over c.overlay-overlay.result.now _ c.overlay-overlay.ensures c.log.ensures.holds.overlay c.alive.result c.alive.ensures (omega arith) in
+    let all = over c.overlay-overlay.result.now _ c.overlay-overlay.ensures c.holds.ensures.overlay c.alive.result c.alive.ensures (omega arith) in
     (λ e. absurd (cc), λ left. absurd (over-leaves_none c.args.ledger.now all left))
 
 pub returns-clause-left : goal.returns-clause-left
 returns-clause-left c =
-    let all = over c.overlay-overlay.result.now _ c.overlay-overlay.ensures c.log.ensures.holds.overlay c.alive.result c.alive.ensures (omega arith) in
+    let all = over c.overlay-overlay.result.now _ c.overlay-overlay.ensures c.holds.ensures.overlay c.alive.result c.alive.ensures (omega arith) in
     (λ e. absurd (cc), λ left. absurd (over-leaves_none c.args.ledger.now all left))

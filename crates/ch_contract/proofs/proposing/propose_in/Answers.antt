@@ -8,7 +8,7 @@ use Rattle.ch_overlay.specs.Source.{row_in, NamesAlone}
 use Rattle.ch_witness.specs.Kept.{kept_of, AllNamed, AreKept, AreListed, Kept}
 use Rattle.ch_contract.specs.Drafts.{IsDrafted}
 use Rattle.ch_contract.proofs.Gathering.{proposed}
-use Rattle.ch_witness.proofs.Listing.{all_listed_are}
+use Rattle.ch_witness.specs.Kept.{all_listed_are}
 use Rattle.ch_contract.proofs.proposing.propose_in.Goals as goal
 
 nothing : (o : Option ℕ) → false ≡ is_some o → o ≡ None

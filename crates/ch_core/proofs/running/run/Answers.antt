@@ -32,7 +32,7 @@ nothing_left : (events : List Event) → length events ≡ 0 → events ≡ []
 nothing_left [] e = refl
 nothing_left (event ∷ events) e = absurd (omega arith)
 
-all_events : (c : goal.After-log) → c.events.yielded ≡ c.args.events.items
+all_events : (c : goal.After-holds) → c.events.yielded ≡ c.args.events.items
 all_events c =
     let none : length c.events.event-iterator.rest.items ≡ 0 = omega (arith, c.in-None.ensures.steps.0, c.events.event-iterator.rest.ok) in
     sym (append-nil c.events.yielded) ∙ ap (λ (events : List Event). c.events.yielded ++ events) (sym (nothing_left c.events.event-iterator.rest.items none)) ∙ c.events.invariant.rest
@@ -48,4 +48,4 @@ pub returns-clause-graph : goal.returns-clause-graph
 returns-clause-graph c = c.events.invariant.graph
 
 pub returns-clause-reached : goal.returns-clause-reached
-returns-clause-reached c = subst (λ (g : Graph). IsReached g c.events.world.ledger.log (state_of c.events.world.ledger.overlay)) c.events.invariant.graph c.log.ensures.reached
+returns-clause-reached c = subst (λ (g : Graph). IsReached g c.events.world.ledger.log (state_of c.events.world.ledger.overlay)) c.events.invariant.graph c.holds.ensures.board.reached

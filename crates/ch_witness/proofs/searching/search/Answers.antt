@@ -1,7 +1,7 @@
 use Rattle.std.proofs.Common.{ℕ, List, ap, subst, ◌∙◌}
 use Rattle.ch_witness.specs.Kept.{kept_of, AreListed}
 use Rattle.ch_witness.proofs.Copies.{nodes_of, rows_still, start_still, ways_still}
-use Rattle.ch_witness.proofs.Listing.{all_listed_are}
+use Rattle.ch_witness.specs.Kept.{all_listed_are}
 use Rattle.ch_witness.proofs.searching.search.Goals as goal
 
 pub into_listed-requires : goal.into_listed-requires

@@ -13,4 +13,4 @@ pub unreachable-requires-in-Err-Contracted : goal.unreachable-requires-in-Err-Co
 unreachable-requires-in-Err-Contracted g c =
     let found = c.in-Err-Contracted.ensures.contracted (ap of_propose c.in-Err-Contracted.field-0-is) in
     let shown = subst (λ (b : Board). IsShown b found.0) c.propose_with.ensures.stays found.3 in
-    alive-unranked c.args.self.now c.log.ensures.holds.overlay c.args.node c.requires.alive found.0 found.1 shown found.4
+    alive-unranked c.args.self.now c.holds.ensures.overlay c.args.node c.requires.alive found.0 found.1 shown found.4

@@ -6,4 +6,4 @@ use Rattle.ch_contract.proofs.ShownRows.{board_bound}
 use Rattle.ch_contract.proofs.board.BoardRowSource.bound.Goals as goal
 
 pub returns-clause-limit : goal.returns-clause-limit
-returns-clause-limit g c = subst (λ (b : Cost). IsBound b) (sym (c.bound.ensures ∙ ap (λ (o : Overlay). o.bound) c.overlay.ensures)) (board_bound c.self.inside.ledger c.log.ensures.holds)
+returns-clause-limit g c = subst (λ (b : Cost). IsBound b) (sym (c.bound.ensures ∙ ap (λ (o : Overlay). o.bound) c.overlay.ensures)) (board_bound c.bounds_fit.ensures c.self.inside.ledger c.holds.ensures)

@@ -85,7 +85,7 @@ invariant_of-self c =
     let below = versions-below c.self.inside.overlay.versions (changed_nodes c.planned.inside.change) c.as_slice.result.now c.self.inside.next_version (length c.planned.inside.change.rows) c.self.invariant.0.versions (given c) in
     let versions = subst (λ (vs : List ℕ). All (λ v. v < next) vs) (sym c.apply.ensures.versions) below in
     let nodes : length c.apply.new.self.rows ≡ length c.self.inside.overlay.rows = ap (λ (s : State). s.nodes) (made c) in (
-      subst (λ (b : Board). IsBoard b) (after c) (board_entered (board c) c.requires.planned.0 c.requires.planned.1 (what c) c.apply.new.self next c.self.invariant.0 (plan c) (made c) c.apply.ensures.holds c.apply.ensures.bound versions),
+      subst (λ (b : Board). IsBoard b) (after c) (board_entered c.plan_is_lawful.ensures (board c) c.requires.planned.0 c.requires.planned.1 (what c) c.apply.new.self next c.self.invariant.0 (plan c) (made c) c.reached_goes_on.ensures c.apply.ensures.holds c.apply.ensures.bound versions),
       rw (count_is c) (few_versions c),
       omega (arith, nodes, c.self.invariant.2, c.push_reserved.ensures.capacity),
     )
@@ -94,7 +94,7 @@ pub returns-clause-contracted : goal.returns-clause-contracted
 returns-clause-contracted c node put is =
     let next = c.self.inside.next_version + length c.planned.inside.change.rows in
     let here : IsPlanned (board c) node put (what c) = moved _ _ _ _ _ _ c.self.view_is c.planned.view_is is in
-    let done = contracted_entered (board c) node put (what c) c.apply.new.self next c.self.invariant.0 here (c.apply.ensures.state put here.change) in
+    let done = contracted_entered c.plan_is_lawful.ensures (board c) node put (what c) c.apply.new.self next c.self.invariant.0 here (c.apply.ensures.state put here.change) in
     let new : Board = record { graph = c.self.inside.graph; overlay = c.apply.new.self; log = c.push_reserved.new.self.items; next = c.self.inside.next_version + c.len.result } in
     subst (λ (e : Contraction). IsContracted c.args.self.now node put (receipt_of e) new) (sym c.entry.view_is)
     (subst (λ (b : Board). IsContracted c.args.self.now node put (receipt_of (what c).entry) b) (after c)

@@ -11,7 +11,7 @@ invariant_of-result c =
     let w : World = record { ledger = c.in_ok-ledger.ledger; book = c.in_ok-book.book.items; views = c.in_ok-views.views.items } in
     let made = c.in_ok-ledger.ensures in
     let nodes_are : w.ledger.graph.nodes ≡ c.args.graph.nodes = ap (λ (g : Graph). g.nodes) made.graph in
-    world_opens w c.args.workers c.log.ensures.holds
+    world_opens c.bounds_fit.ensures w c.args.workers c.holds.ensures
     (made.versions ∙ ap (λ n. range_with_len 0 n) (sym nodes_are))
     (made.next ∙ sym nodes_are)
     (made.start.nodes ∙ sym nodes_are)

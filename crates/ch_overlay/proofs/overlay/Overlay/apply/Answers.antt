@@ -6,8 +6,9 @@ use Rattle.ch_cost.specs.declared.cost.Cost.{Cost}
 use Rattle.ch_laws.specs.Rows.{Row}
 use Rattle.ch_overlay.specs.Overlay.{Overlay, IsOverlay, state_of}
 use Rattle.ch_overlay.specs.Change.{Change, changed_nodes, puts}
-use Rattle.ch_overlay.proofs.Applied.{state-applied, overlay-applied, change_in_range}
-use Rattle.ch_overlay.proofs.Puts.{length-puts, map-puts, all-mapped, map-map}
+use Rattle.ch_overlay.proofs.Applied.{state-applied, overlay-applied, changes_write}
+use Rattle.ch_overlay.proofs.Puts.{length-puts, map-puts, all-mapped}
+use Rattle.ch_laws.specs.Members.{map-map}
 use Rattle.ch_overlay.proofs.Room.{order_has_room}
 use Rattle.ch_overlay.proofs.overlay.Overlay.apply.Goals as goal
 
@@ -16,7 +17,7 @@ holds_first c = subst (λ (o : Overlay). IsOverlay o) c.self.view_is c.self.inva
 
 pub put_versions-requires-clause-in_range : goal.put_versions-requires-clause-in_range
 put_versions-requires-clause-in_range c =
-    let all = change_in_range c.args.self.now (holds_first c) c.args.change c.requires.planned in
+    let all = (changes_write c.args.self.now c.args.change (holds_first c) c.requires.planned).in_range in
     let shown = subst (λ (ch : Change). All (λ (a : ℕ × Row). a.0 < length c.args.self.now.rows) ch.rows) (sym c.change.view_is) all in
     let inside = all-mapped (λ (a : ℕ × Row). a.0 < length c.args.self.now.rows) (λ a. (a.0, arc_value a.1)) c.change.inside.rows.items shown in
     let long = (holds_first c).versions in
@@ -28,7 +29,7 @@ put_versions-requires-clause-in_range c =
 pub put_rows-requires : goal.put_rows-requires
 put_rows-requires c =
     let holds = subst (λ (o : Overlay). IsOverlay o) c.self.view_is c.self.invariant.0 in
-    let all = change_in_range c.args.self.now holds c.args.change c.requires.planned in
+    let all = (changes_write c.args.self.now c.args.change holds c.requires.planned).in_range in
     let shown = subst (λ (ch : Change). All (λ (a : ℕ × Row). a.0 < length c.args.self.now.rows) ch.rows) (sym c.change.view_is) all in
     let inside = all-mapped (λ (a : ℕ × Row). a.0 < length c.args.self.now.rows) (λ a. (a.0, arc_value a.1)) c.change.inside.rows.items shown in
     let rows = ap (λ (o : Overlay). length o.rows) c.self.view_is in
@@ -80,7 +81,7 @@ returns-clause-state c put is =
     let holds = subst (λ (o : Overlay). IsOverlay o) c.self.view_is c.self.invariant.0 in
     ap (λ rows. state_of (record { bound = c.args.self.now.bound; rows = rows; versions = []; order = c.push_reserved.new.self.items })) (returns-clause-rows c)
     ∙ ap (λ order. state_of (record { bound = c.args.self.now.bound; rows = puts c.args.self.now.rows c.args.change.rows; versions = []; order = order })) (order_is c)
-    ∙ state-applied c.args.self.now holds put c.args.change is []
+    ∙ state-applied c.args.self.now holds put c.args.change is c.updated_rows_are_the_next.ensures c.rows_are_the_state.ensures []
 
 overlay_along : (versions : List ℕ) (b bound : Cost) (rows all : List Row) (first order : List ℕ) → b ≡ bound → rows ≡ all → first ≡ order
     → IsOverlay (record { bound = bound; rows = all; versions = versions; order = order }) → IsOverlay (record { bound = b; rows = rows; versions = versions; order = first })
@@ -94,7 +95,7 @@ invariant_of-self c =
     let holds = subst (λ (o : Overlay). IsOverlay o) c.self.view_is c.self.invariant.0 in
     let planned = c.requires.planned in
     let long = ap length (returns-clause-versions c) ∙ length-puts (zip (changed_nodes c.args.change) c.args.versions.now) c.args.self.now.versions in
-    let new = overlay-applied c.args.self.now holds planned.0 c.args.change planned.1 _ long in
+    let new = overlay-applied c.args.self.now holds planned.0 c.args.change planned.1 c.updated_rows_are_the_next.ensures c.rows_are_the_state.ensures _ long in
     let rows = with_items_is c.self.inside.rows c.put_rows.new.all (rows_len c) in (
       overlay_along _ _ _ _ _ _ _ (ap (λ (o : Overlay). o.bound) c.self.view_is) (returns-clause-rows c) (order_is c) new,
       omega (arith, ap length rows, rows_len c, c.self.inside.rows.ok, c.self.invariant.1, c.push_reserved.ensures.capacity),

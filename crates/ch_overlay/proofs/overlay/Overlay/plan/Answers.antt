@@ -19,7 +19,7 @@ push_changed-requires-clause-in_range c k d h =
     let nodes : c.as_slice-2.result.now ≡ others_of (row_at c.args.self.now.rows c.args.node) =
     c.as_slice-2.ensures.value ∙ c.in_ok-neighbours.ensures ∙ ap others_of (c.deref.ensures ∙ c.row-row.ensures) in
     let among = subst (λ (xs : List ℕ). Contains xs (get_or c.as_slice-2.result.now k d)) nodes (Contains-get_or c.as_slice-2.result.now k d h) in
-    let near = other_near c.args.self.now holds c.args.node c.requires.alive _ among in
+    let near = other_near c.rows_of_alive_nodes_show_what_remains.ensures c.args.self.now holds c.args.node c.requires.alive _ among in
     omega (arith, near.alive.in_range, ap length (rows_are c), length-map c.as_slice.result.now arc_value)
 
 pub push_changed-requires-clause-rising : goal.push_changed-requires-clause-rising
@@ -54,5 +54,5 @@ returns-clause-change c =
     ap (map (λ a. (a.0, arc_value a.1))) (c.in_ok-push.ensures.items ∙ ap (λ xs. xs ++ (v, c.in_ok-ranked.ranked) ∷ []) c.in_ok-rows.ensures.items)
     ∙ ap (λ (r : Row). (v, r) ∷ []) (c.in_ok-ranked.ensures ∙ ap (λ (r : Row). record r { rank = Some c.contracted.result }) (c.deref-2.ensures ∙ c.row-row.ensures)
     ∙ ap (λ (n : ℕ). record (row_at o.rows v) { rank = Some n }) c.contracted.ensures) in
-    change_is o holds v c.requires.alive c.args.shortcuts.now c.in_ok-out.out.items c.in_ok-inn.inn.items _ c.requires refl c.in_ok-out.ensures.all c.in_ok-inn.ensures.all
+    change_is c.rows_of_alive_nodes_show_what_remains.ensures o holds v c.requires.alive c.args.shortcuts.now c.in_ok-out.out.items c.in_ok-inn.inn.items _ c.requires refl c.in_ok-out.ensures.all c.in_ok-inn.ensures.all
     (changed_along rows c.as_slice-3.ensures.value c.as_slice-4.ensures.value nodes first c.in_ok-push_changed.ensures)

@@ -44,7 +44,7 @@ invariant_of-result c =
     let count = ap length c.in_ok-rows.ensures ∙ c.in_ok-rows_of.ensures.count ∙ c.nodes-nodes.ensures.count in
     let rows = λ (x : ℕ) (inside : x < g.nodes). row_is c.in_ok-rows_of.field-0.items _ c.as_slice.result.now _ c.nodes-nodes.result g.nodes x c.in_ok-rows.ensures c.nodes-nodes.ensures.count c.as_slice.ensures.value c.in_ok-rows_of.ensures.rows inside in
     let long : length c.in_ok-versions.versions.items ≡ g.nodes = ap length versions ∙ length-range_with_len 0 c.nodes-nodes.result ∙ c.nodes-nodes.ensures.count in
-    let holds = opens g c.nodes-nodes.ensures.graph c.in_ok-least.least.items least (map arc_value c.in_ok-rows.rows.items) count rows c.in_ok-versions.versions.items long in (
+    let holds = opens g c.nodes-nodes.ensures.graph c.in_ok-least.least.items least c.rows_of_least_arcs_are_the_start.ensures (map arc_value c.in_ok-rows.rows.items) count rows c.in_ok-versions.versions.items long in (
       subst (λ (order : List ℕ). IsOverlay (record { bound = c.bound.result; rows = map arc_value c.in_ok-rows.rows.items; versions = c.in_ok-versions.versions.items; order = order })) (sym c.in_ok-order.ensures.items)
           (subst (λ (b : Cost). IsOverlay (record { bound = b; rows = map arc_value c.in_ok-rows.rows.items; versions = c.in_ok-versions.versions.items; order = [] })) (sym c.bound.ensures) holds),
       omega (arith, count, length-map c.in_ok-rows.rows.items arc_value, c.in_ok-order.ensures.capacity, c.nodes-nodes.ensures.count),
@@ -56,7 +56,7 @@ returns-clause-start c =
     let least = subst (λ (arcs : List Road). AreLeast arcs c.in_ok-least.least.items) c.arcs.ensures.list c.in_ok-least.ensures in
     let count = ap length c.in_ok-rows.ensures ∙ c.in_ok-rows_of.ensures.count ∙ c.nodes-nodes.ensures.count in
     let rows = λ (x : ℕ) (inside : x < g.nodes). row_is c.in_ok-rows_of.field-0.items _ c.as_slice.result.now _ c.nodes-nodes.result g.nodes x c.in_ok-rows.ensures c.nodes-nodes.ensures.count c.as_slice.ensures.value c.in_ok-rows_of.ensures.rows inside in
-    let begins = starts g c.nodes-nodes.ensures.graph c.in_ok-least.least.items least (map arc_value c.in_ok-rows.rows.items) count rows c.bound.result c.in_ok-versions.versions.items in
+    let begins = starts g c.nodes-nodes.ensures.graph c.in_ok-least.least.items least c.rows_of_least_arcs_are_the_start.ensures (map arc_value c.in_ok-rows.rows.items) count rows c.bound.result c.in_ok-versions.versions.items in
     subst (λ (order : List ℕ). IsStart g (state_of (record { bound = c.bound.result; rows = map arc_value c.in_ok-rows.rows.items; versions = c.in_ok-versions.versions.items; order = order }))) (sym c.in_ok-order.ensures.items) begins
 
 pub returns-clause-versions : goal.returns-clause-versions

@@ -18,14 +18,14 @@ option_decides None (Some y) = (λ e. absurd (cc), λ e. absurd (cc))
 option_decides (Some x) None = (λ e. absurd (cc), λ e. absurd (cc))
 option_decides (Some x) (Some y) = (λ e. ap Some ((unsigned_Decides x y).0 e), λ e. let same : x ≡ y = cc in (unsigned_Decides x y).1 same)
 
-pub cost_decides : (a b : Cost) → Decides (same a b) (a ≡ b)
+cost_decides : (a b : Cost) → Decides (same a b) (a ≡ b)
 cost_decides a b = (equal-from_same a b, same-from_equal a b)
 
 entry : ℕ → Cost → Option ℕ → Entry
 entry other cost middle = record { other = other; cost = cost; middle = middle }
 
 -- entries are the same where their three parts are
-pub entry_decides : (a b : Entry) → Decides (a.other == b.other && (same a.cost b.cost && option_eq (λ x y. x == y) a.middle b.middle)) (a ≡ b)
+entry_decides : (a b : Entry) → Decides (a.other == b.other && (same a.cost b.cost && option_eq (λ x y. x == y) a.middle b.middle)) (a ≡ b)
 unfolding entry
 entry_decides a b =
     let parts = Decides-and (a.other == b.other) (same a.cost b.cost && option_eq (λ x y. x == y) a.middle b.middle) (unsigned_Decides a.other b.other) (Decides-and (same a.cost b.cost) (option_eq (λ x y. x == y) a.middle b.middle) (cost_decides a.cost b.cost) (option_decides a.middle b.middle)) in (
