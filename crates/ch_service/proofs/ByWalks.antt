@@ -1,19 +1,18 @@
 -- Why answers by routes of a right hierarchy are answers by least walks of its graph.
-use Rattle.std.proofs.Common.{ℕ, zero, suc, ◌≡◌, ◌+◌, ◌-◌, ◌<◌, ◌≤◌, List, [], ◌∷◌, ◌++◌, length, map, take, Option, inl, inr, refl, sym, subst, arith}
+use Rattle.std.proofs.Common.{ℕ, suc, ◌≡◌, ◌-◌, ◌<◌, ◌≤◌, List, [], ◌∷◌, ◌++◌, length, take, Option, inl, inr, refl, sym, subst, arith}
 use Rattle.std.specs.Prelude.{⊤, Some, None, IfSome, All, Result, OnOk, Ok, Err, IfErr}
 use Rattle.std.proofs.lemmas.List.Elements.{All-take}
-use Rattle.ch_graph.specs.declared.link.Link.{Link}
 use Rattle.ch_graph.specs.Walk.{Along}
 use Rattle.ch_graph.specs.Graph.{Graph, IsGraph, ArcOf}
 use Rattle.ch_graph.specs.Hierarchy.{Hierarchy, IsRight}
-use Rattle.ch_laws.specs.Theorems.{RouteIsLeast, NeverTooLong, IsLeastRoute}
+use Rattle.ch_laws.specs.Theorems.{RouteIsLeast, NeverTooLong}
 use Rattle.grfile.specs.Outcome.{FromText}
 use Rattle.grfile.specs.declared.error.GrError.{GrError}
 use Rattle.grfile.specs.Reading.{IsPair, graph_of, pairs_of}
 use Rattle.ch_service.specs.Answer.{Route, IsAnswer, AreAnswers, nothing, one_more, IsLeastWalk, Answered, Answers, AnswersFirst}
 use Rattle.ch_service.specs.Outcome.{IfTold, Writes, IsFaultOf, IsRoutingFault, StopsShort, ComesOfTexts, ComesOfRouting, ComesOfAnswering}
 use Rattle.ch_unpack.specs.declared.error.UnpackError.TheVariants as unpacking
-use Rattle.ch_service.specs.Route.{Spells, IsRouteBy, Routed, HasTooLong, StopsAtTooLong, Routes, RoutesFirst, RoutesToTooLong, RightRoutesAreLeast}
+use Rattle.ch_service.specs.Route.{Spells, IsRouteBy, Routed, StopsAtTooLong, Routes, RoutesFirst, RoutesToTooLong, RightRoutesAreLeast}
 use Rattle.ch_workers.specs.declared.error.BuildError.{BuildError}
 use Rattle.ch_service.specs.declared.error.ServiceError.{ServiceError}
 use Rattle.ch_service.specs.declared.error.ServiceError.TheVariants.{Graph as GraphFault, Queries, Hierarchy as HierarchyFault, Build, Unpack, Write, OutOfMemory}

@@ -17,7 +17,7 @@ use Rattle.hierfile.specs.Laws.{HierarchiesHaveOneSpelling}
 use Rattle.ch_laws.specs.Theorems.{RouteIsLeast, NeverTooLong}
 use Rattle.ch_service.specs.Answer.{Answers}
 use Rattle.ch_service.specs.Outcome.{IfTold, Writes, StopsShort}
-use Rattle.ch_service.specs.Route.{Spells, Prepares, Routes, RoutesFirst, Routed, StopsAtTooLong, RoutesAreExact, FirstRoutesAreExact}
+use Rattle.ch_service.specs.Route.{Spells, Prepares, Routed, StopsAtTooLong, RoutesAreExact, FirstRoutesAreExact}
 use Rattle.ch_service.specs.declared.error.ServiceError.{ServiceError}
 use Rattle.ch_service.specs.declared.error.ServiceError.TheVariants.{Unpack}
 use Rattle.ch_unpack.specs.declared.error.UnpackError.TheVariants.{TooLong}

@@ -1,5 +1,5 @@
 -- What a preparation tells of the text of the graph.
-use Rattle.std.proofs.Common.{ℕ, ◌≡◌, ◌≤◌, List, length, Option, refl, sym, subst}
+use Rattle.std.proofs.Common.{ℕ, ◌≡◌, List, Option, refl, sym, subst}
 use Rattle.std.specs.Prelude.{⊤, Some, None, IfSome, Result, Ok, Err, IfErr, IsErrAnd}
 use Rattle.std.specs.Io.KnownBytes.{Appends}
 use Rattle.ch_graph.specs.Graph.{Graph}

@@ -1,5 +1,6 @@
-ghost use Rattle.std.specs.Prelude.{◌≡◌, ◌≢◌};
-ghost use Rattle.ch_workers.specs.declared.error.BuildError.TheVariants.{BadOptions};
+ghost use Rattle.std.specs.Prelude.{◌≡◌, ◌≢◌, ◌↔◌};
+ghost use Rattle.ch_workers.specs.declared.error.BuildError.TheVariants as building;
+ghost use Rattle.ch_workers.specs.declared.trouble.Trouble.TheVariants.{OutOfMemory, Mixed};
 
 use crate::error::BuildError;
 use ch_contract::SweepError;
@@ -17,7 +18,9 @@ pub(crate) enum Trouble {
 impl Trouble {
     /// The error that tells it.
     pub(crate) fn error(self) -> BuildError
-        ensures { result ≢ BadOptions }
+        ensures good { result ≢ building.BadOptions }
+        ensures memory { (result ≡ building.OutOfMemory) ↔ (self ≡ OutOfMemory) }
+        ensures mixed { (result ≡ building.Mixed) ↔ (self ≡ Mixed) }
     {
         match self {
             Trouble::OutOfMemory => BuildError::OutOfMemory,
@@ -27,12 +30,16 @@ impl Trouble {
 }
 
 impl From<AllocError> for Trouble {
+    ghost from_gives = { λ _ e. e ≡ OutOfMemory };
+
     fn from(_refused: AllocError) -> Trouble {
         Trouble::OutOfMemory
     }
 }
 
 impl From<SweepError> for Trouble {
+    ghost from_gives = { λ _ e. e ≡ OutOfMemory };
+
     fn from(_refused: SweepError) -> Trouble {
         Trouble::OutOfMemory
     }

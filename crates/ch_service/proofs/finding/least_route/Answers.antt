@@ -1,5 +1,4 @@
 use Rattle.std.proofs.Common.{Err, ap}
-use Rattle.ch_unpack.specs.declared.error.UnpackError.{UnpackError}
 use Rattle.ch_service.proofs.Unpacked.{unpacked-route, too_long-route, refused-unpacking, found-value, found-none, found-walk}
 use Rattle.ch_service.proofs.finding.least_route.Goals as goal
 

@@ -1,4 +1,3 @@
-use Rattle.std.proofs.Common.{◌∙◌, ap}
 use Rattle.std.proofs.Transfers.{starts_with_trans, starts_with_of_append}
 use Rattle.ch_service.proofs.Naming.{named-more}
 use Rattle.ch_service.proofs.line.push_nodes.Goals as goal
