@@ -103,7 +103,7 @@ impl Frontier {
         ensures nodes { length self.new ≡ length self.old }
         ensures opened { OnOk result (self.new ≡ slice_set self.old rank (Open label)) }
     {
-        touch(&mut self.touched, rank, self.marks[rank as usize])?;
+        touch(&mut self.touched, rank, self.costs[rank as usize])?;
         self.queue.push(Reverse((label.cost, rank)))?;
         self.marks[rank as usize] = Mark::Open(label);
         self.costs[rank as usize] = label.cost;
@@ -135,15 +135,16 @@ fn far() -> Cost
     Cost::of_arcs(1 << 25, u32::MAX).plus(Cost::of_weight(1))
 }
 
-/// Puts a rank into the list of touched ones, if nothing was known of its node.
-fn touch(touched: &mut Vec<u32>, rank: u32, mark: Mark) -> Result<(), AllocError>
+/// Puts a rank into the list of touched ones, if its node has no label, so that its cost is [`far`].
+fn touch(touched: &mut Vec<u32>, rank: u32, cost: Cost) -> Result<(), AllocError>
     ensures kept { (r : ℕ) → Contains touched.old.items r → Contains touched.new.items r }
     ensures within { (nodes : ℕ) → rank < nodes → All (λ r. r < nodes) touched.old.items → All (λ r. r < nodes) touched.new.items }
-    ensures put { OnOk result (mark ≡ Unseen → Contains touched.new.items rank) }
+    ensures put { OnOk result (cost ≡ far_cost → Contains touched.new.items rank) }
 {
-    if let Mark::Unseen = mark {
-        touched.push(rank)?;
+    if cost.is_below(far()) {
+        return Ok(());
     }
+    touched.push(rank)?;
     Ok(())
 }
 
