@@ -1,13 +1,13 @@
 -- The places of the halves of links: that they are there, and that what is kept of them stays right.
-use Rattle.std.proofs.Common.{ℕ, ◌≡◌, ◌<◌, List, [], ◌∷◌, ◌++◌, length, get_or, Option, Some, Contains, inl, inr, arith, ap, subst, sym, ◌∙◌, length-append}
+use Rattle.std.proofs.Common.{ℕ, ◌≡◌, ◌<◌, List, [], ◌∷◌, ◌++◌, length, get_or, Some, Contains, inl, inr, arith, ap, subst, sym, ◌∙◌, length-append}
 use Rattle.std.proofs.lemmas.Bool.{cases_lt}
 use Rattle.std.proofs.lemmas.List.{get_or_append_left, get_or_push, get_or_default}
 use Rattle.std.proofs.lemmas.List.Elements.{All-contains}
 use Rattle.ch_graph.specs.declared.link.Link.{Link}
-use Rattle.ch_graph.specs.declared.link_halves.Halves.{Halves}
+use Rattle.ch_graph.specs.declared.link_halves.Parts.{Parts}
 use Rattle.ch_graph.specs.declared.link_halves.KeptHalves.{KeptHalves}
 use Rattle.ch_graph.specs.Hierarchy.{Hierarchy, IsLink, IsLinkAt, AreHalves, IsLinkWellMade, IsWellMade}
-use Rattle.ch_graph.specs.LinkHalves.{HalvesAre, AreHalvesOf, halves_in}
+use Rattle.ch_graph.specs.LinkHalves.{ArePartsOf, AreHalvesOf, parts_in}
 
 -- A link with a middle has halves
 
@@ -36,24 +36,16 @@ module _ (h : Hierarchy) (made : IsWellMade h) (place : ℕ) (l : Link) (within 
       let both : AreHalves h l m parts.0 parts.1 = parts.2 in
       nowhere both.second.among.0 (place_of h m l.to parts.1 both.second)
 
--- what is found is said of the link by any default
-pub at_any : (links : List Link) (place : ℕ) (l : Link) (halves : Option Halves) → place < length links → l ≡ get_or links place l → HalvesAre links l halves → (d : Link) → HalvesAre links (get_or links place d) halves
-at_any links place l halves within is found d =
-    subst (λ (k : Link). HalvesAre links k halves) (is ∙ get_or_default links place l d within) found
-
 -- What is kept
 
-pub nothing_kept : (links : List Link) (kept : List KeptHalves) → kept ≡ [] → AreHalvesOf links kept
-nothing_kept links kept is = record { each = λ k (d : Link) (e : KeptHalves) k<. absurd (omega (arith, k<, ap (λ (xs : List KeptHalves). length xs) is)) }
-
-pub one_more : (links : List Link) (kept : List KeptHalves) (place : ℕ) (last : KeptHalves) (halves : Option Halves) → length kept ≡ place → AreHalvesOf links kept → ((d : Link) → HalvesAre links (get_or links place d) halves) → halves_in place last ≡ halves → AreHalvesOf links (kept ++ last ∷ [])
-one_more links kept place last halves count are found is = record {
+pub one_more : (links : List Link) (kept : List KeptHalves) (place : ℕ) (last : KeptHalves) (parts : Parts) → length kept ≡ place → AreHalvesOf links kept → ((d : Link) → ArePartsOf links (get_or links place d) parts) → parts_in place last ≡ parts → AreHalvesOf links (kept ++ last ∷ [])
+one_more links kept place last parts count are found is = record {
   each = λ k (d : Link) (e : KeptHalves) k<. elim (cases_lt k (length kept)) [
-    | inl low ↦ subst (λ (x : KeptHalves). HalvesAre links (get_or links k d) (halves_in k x)) (sym (get_or_append_left kept (last ∷ []) e k low)) (are.each k d e low)
+    | inl low ↦ subst (λ (x : KeptHalves). ArePartsOf links (get_or links k d) (parts_in k x)) (sym (get_or_append_left kept (last ∷ []) e k low)) (are.each k d e low)
     | inr high ↦
         let here : place ≡ k = omega (arith, k<, length-append kept (last ∷ []), count) in
-        subst (λ n. HalvesAre links (get_or links n d) (halves_in n (get_or (kept ++ last ∷ []) n e))) here
-        (subst (λ (x : KeptHalves). HalvesAre links (get_or links place d) (halves_in place x)) (sym (get_or_push kept last e place count))
-        (subst (λ (o : Option Halves). HalvesAre links (get_or links place d) o) (sym is) (found d)))
+        subst (λ n. ArePartsOf links (get_or links n d) (parts_in n (get_or (kept ++ last ∷ []) n e))) here
+        (subst (λ (x : KeptHalves). ArePartsOf links (get_or links place d) (parts_in place x)) (sym (get_or_push kept last e place count))
+        (subst (λ (o : Parts). ArePartsOf links (get_or links place d) o) (sym is) (found d)))
   ];
 }

@@ -2,11 +2,11 @@ ghost use Rattle.std.specs.Prelude.{◌≡◌, ◌<◌, ℕ, length, slice_index
 ghost use Rattle.ch_cost.specs.Cost.{of_weight};
 ghost use Rattle.ch_graph.specs.Hierarchy.{IsWellMade, IsLinkAt, ComesBefore};
 ghost use Rattle.ch_graph.specs.LinkIndex.{IsIndexOf};
-ghost use Rattle.ch_graph.specs.LinkHalves.{AreHalvesOf, HalvesAre};
+ghost use Rattle.ch_graph.specs.LinkHalves.{AreHalvesOf, ArePartsOf};
 ghost use Rattle.ch_graph.specs.declared.link.Link.{Link};
 
 use crate::link::Link;
-use crate::link_halves::{Halves, LinkHalves};
+use crate::link_halves::{LinkHalves, Parts};
 use crate::link_index::LinkIndex;
 use ch_cost::Cost;
 use std::alloc::{AllocError, Global};
@@ -144,34 +144,37 @@ impl Hierarchy {
         self.index.find(self.links.as_slice(), from, to)
     }
 
-    /// The places of the halves of the link at a place, or none for an arc of the graph.
+    /// What the link at a place stands for: the places of its halves, or for an arc of the graph the node that it comes
+    /// to.
     ///
     /// Where the hierarchy keeps the places, it looks at one of these, and else it looks for both halves as
     /// [`Hierarchy::find`] does.
-    pub fn halves(&self, id: LinkId) -> Option<Halves>
+    pub fn parts(&self, id: LinkId) -> Parts
         requires { id.0 < length self.now.links }
-        ensures { (d : Link) → HalvesAre self.now.links (slice_index_or self.now.links id.0 d) result }
+        ensures { (d : Link) → ArePartsOf self.now.links (slice_index_or self.now.links id.0 d) result }
     {
         match self.halves.get(id) {
-            Some(kept) => kept.halves(id),
-            None => self.find_halves(id),
+            Some(kept) => kept.parts(id),
+            None => self.find_parts(id),
         }
     }
 
     // Looks for the halves of the link at a place.
-    fn find_halves(&self, id: LinkId) -> Option<Halves>
+    fn find_parts(&self, id: LinkId) -> Parts
         requires { id.0 < length self.now.links }
-        ensures { (d : Link) → HalvesAre self.now.links (slice_index_or self.now.links id.0 d) result }
+        ensures { (d : Link) → ArePartsOf self.now.links (slice_index_or self.now.links id.0 d) result }
     {
         let link = self.links[id.0];
-        let middle = link.middle?;
+        let Some(middle) = link.middle else {
+            return Parts::Arc(link.to);
+        };
         let Some(first) = self.find(link.from, middle) else {
             unreachable!();
         };
         let Some(second) = self.find(middle, link.to) else {
             unreachable!();
         };
-        Some(Halves { first, second })
+        Parts::Shortcut(first, second)
     }
 
     // Looks for the halves of each link.
@@ -182,7 +185,7 @@ impl Hierarchy {
         let mut halves = LinkHalves::with_room(alloc, count)?;
         'links: for place in 0..count {
             let id = LinkId(place);
-            halves.keep(id, self.find_halves(id))?;
+            halves.keep(id, self.find_parts(id))?;
         }
         Ok(halves)
     }

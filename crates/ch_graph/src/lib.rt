@@ -5,7 +5,7 @@
 //! walks from one node to another, or none where there is no walk. It is the plain program that every faster
 //! answer of the workspace is compared with. [`Graph::is_walk`] tells a route of a given cost from any other list
 //! of nodes. A [`Hierarchy`] holds what faster answers come from; [`Hierarchy::find`] gives the link of a pair, by a
-//! [`LinkIndex`] where it has one, and [`Hierarchy::halves`] the places of a link's halves, by [`LinkHalves`] where they
+//! [`LinkIndex`] where it has one, and [`Hierarchy::parts`] the places of a link's halves, by [`LinkHalves`] where they
 //! are kept.
 #![tactic(auto)]
 
@@ -26,6 +26,6 @@ pub use graph::Graph;
 pub use hierarchy::{Hierarchy, LinkId};
 pub use laws::{distance_is_unique, distance_is_within_bound, links_unfold, value_is_unique};
 pub use link::Link;
-pub use link_halves::{Halves, LinkHalves};
+pub use link_halves::{LinkHalves, Parts};
 pub use link_index::LinkIndex;
 pub use road::Road;

@@ -1,25 +1,25 @@
 ghost use Rattle.std.specs.Prelude.{◌≡◌, ◌<◌, ◌≤◌, List, [], length, slice_get, slice_index_or, IfOk, IfSome, OnOk};
 ghost use Rattle.ch_graph.specs.declared.link.Link.{Link};
-ghost use Rattle.ch_graph.specs.LinkHalves.{AreHalvesOf, HalvesAre, halves_in};
+ghost use Rattle.ch_graph.specs.LinkHalves.{AreHalvesOf, ArePartsOf, parts_in};
 
 use crate::hierarchy::LinkId;
 use std::alloc::{AllocError, Global};
 use std::marker::Model;
 
-/// The places of the two halves of a link, in a list of links.
+/// What a link of a list stands for.
 #[derive(Clone, Copy, Debug, PartialEq, Eq)]
-pub struct Halves {
-    /// That of the half which leaves the link's first node.
-    pub first: LinkId,
-    /// That of the half which comes to its last node.
-    pub second: LinkId,
+pub enum Parts {
+    /// Itself, an arc of the graph, which comes to this node.
+    Arc(u32),
+    /// The two halves at these places, of which the first leaves the node that the link leaves.
+    Shortcut(LinkId, LinkId),
 }
 
-/// The places of the halves of a link; of an arc of the graph, which has none, its own place twice.
+/// The places of the halves of a link; of an arc of the graph, its own place and the node that it comes to.
 #[derive(Clone, Copy)]
 pub struct KeptHalves {
     first: u32,
-    second: u32,
+    last: u32,
 }
 
 /// Where the halves of links are, in a list of links: of the first so many of these, mostly of all.
@@ -58,15 +58,15 @@ impl LinkHalves {
         })
     }
 
-    /// Keeps the halves of the link at a place, or that it has none, if those of all links before it are kept and the
-    /// places have at most 32 bits. Else it keeps nothing.
-    pub fn keep(&mut self, id: LinkId, halves: Option<Halves>) -> Result<(), AllocError>
-        ensures { (links : List Link) → AreHalvesOf links self.old → ((d : Link) → HalvesAre links (slice_index_or links id.0 d) halves) → OnOk result (AreHalvesOf links self.new) }
+    /// Keeps what the link at a place stands for, if that of all links before it is kept and the places have at most 32
+    /// bits. Else it keeps nothing.
+    pub fn keep(&mut self, id: LinkId, parts: Parts) -> Result<(), AllocError>
+        ensures { (links : List Link) → AreHalvesOf links self.old → ((d : Link) → ArePartsOf links (slice_index_or links id.0 d) parts) → OnOk result (AreHalvesOf links self.new) }
     {
         if id.0 != self.kept.len() {
             return Ok(());
         }
-        if let Some(kept) = kept_of(id, halves) {
+        if let Some(kept) = kept_of(id, parts) {
             self.kept.push(kept)?;
         }
         Ok(())
@@ -81,77 +81,72 @@ impl LinkHalves {
 }
 
 impl KeptHalves {
-    /// The halves of the link at this place, of which this is kept; none for an arc of the graph.
-    pub fn halves(self, id: LinkId) -> Option<Halves>
-        ensures { result ≡ halves_in id.0 self }
+    /// What the link at this place stands for, of which this is kept.
+    pub fn parts(self, id: LinkId) -> Parts
+        ensures { result ≡ parts_in id.0 self }
     {
         let first = self.first as usize;
         if first == id.0 {
-            return None;
+            return Parts::Arc(self.last);
         }
-        Some(Halves {
-            first: LinkId(first),
-            second: LinkId(self.second as usize),
-        })
+        Parts::Shortcut(LinkId(first), LinkId(self.last as usize))
     }
 }
 
 // What is kept of the link at a place. None where a place has more than 32 bits; and a half is never the link itself.
-fn kept_of(id: LinkId, halves: Option<Halves>) -> Option<KeptHalves>
-    ensures { IfSome result (λ kept. halves_in id.0 kept ≡ halves) }
+fn kept_of(id: LinkId, parts: Parts) -> Option<KeptHalves>
+    ensures { IfSome result (λ kept. parts_in id.0 kept ≡ parts) }
 {
-    let Some(Halves { first, second }) = halves else {
-        return short_places(id, id);
-    };
-    if first.0 == id.0 {
-        return None;
+    match parts {
+        Parts::Arc(to) => Some(KeptHalves {
+            first: short(id)?,
+            last: to,
+        }),
+        Parts::Shortcut(first, second) => {
+            if first.0 == id.0 {
+                return None;
+            }
+            Some(KeptHalves {
+                first: short(first)?,
+                last: short(second)?,
+            })
+        }
     }
-    short_places(first, second)
 }
 
-// Both places in 32 bits, or none where one has more.
-fn short_places(first: LinkId, second: LinkId) -> Option<KeptHalves>
-    ensures { IfSome result (λ kept. (kept.first ≡ first.0) × (kept.second ≡ second.0)) }
+// A place in 32 bits, or none where it has more.
+fn short(id: LinkId) -> Option<u32>
+    ensures { IfSome result (λ place. place ≡ id.0) }
 {
-    let longest = u32::MAX as usize;
-    if first.0 > longest || second.0 > longest {
+    if id.0 > u32::MAX as usize {
         return None;
     }
-    Some(KeptHalves {
-        first: first.0 as u32,
-        second: second.0 as u32,
-    })
+    Some(id.0 as u32)
 }
 
 #[cfg(test)]
 mod tests {
     use super::*;
 
-    fn of(halves: &LinkHalves, place: usize) -> Option<Option<Halves>> {
+    fn of(halves: &LinkHalves, place: usize) -> Option<Parts> {
         let id = LinkId(place);
         let kept = halves.get(id)?;
-        Some(kept.halves(id))
+        Some(kept.parts(id))
     }
 
     #[test]
     fn keeps_places_in_turn(rt: HostRuntime) -> Result<(), AllocError> {
-        let both = Some(Halves {
-            first: LinkId(2),
-            second: LinkId(0),
-        });
-        let far = Some(Halves {
-            first: LinkId(0),
-            second: LinkId(1 << 32),
-        });
+        let arc = Parts::Arc(7);
+        let shortcut = Parts::Shortcut(LinkId(2), LinkId(0));
         let mut halves = LinkHalves::with_room(rt.alloc(), 3)?;
         assert!(rt; of(&halves, 0).is_none());
-        halves.keep(LinkId(0), None)?;
-        halves.keep(LinkId(2), None)?;
-        halves.keep(LinkId(1), both)?;
-        halves.keep(LinkId(2), far)?;
-        halves.keep(LinkId(3), None)?;
-        assert!(rt; of(&halves, 0) == Some(None));
-        assert!(rt; of(&halves, 1) == Some(both));
+        halves.keep(LinkId(0), arc)?;
+        halves.keep(LinkId(2), arc)?;
+        halves.keep(LinkId(1), shortcut)?;
+        halves.keep(LinkId(2), Parts::Shortcut(LinkId(0), LinkId(1 << 32)))?;
+        halves.keep(LinkId(3), arc)?;
+        assert!(rt; of(&halves, 0) == Some(arc));
+        assert!(rt; of(&halves, 1) == Some(shortcut));
         assert!(rt; of(&halves, 2).is_none());
         assert!(rt; of(&halves, 3).is_none());
         Ok(())

@@ -1,17 +1,17 @@
 -- The arcs that links at places stand for, when the first of the links is unfolded.
-use Rattle.std.proofs.Common.{ℕ, ◌≡◌, ◌<◌, ◌≤◌, List, [], ◌∷◌, ◌++◌, length, map, Option, Some, None, get_or, arith, ap, subst, sym, refl, ◌∙◌, append_assoc, length-append}
+use Rattle.std.proofs.Common.{ℕ, ◌≡◌, ◌<◌, ◌≤◌, List, [], ◌∷◌, ◌++◌, length, map, Some, None, get_or, arith, ap, subst, sym, refl, ◌∙◌, append_assoc, length-append}
 use Rattle.std.specs.List.{AllZip}
-use Rattle.std.specs.Option.{option_map_or}
 use Rattle.std.proofs.lemmas.List.{get_or_default}
 use Rattle.std.proofs.lemmas.Option.{slice_get_within, slice_get-get_or, get_or_from_slice_get}
 use Rattle.ch_graph.specs.declared.link.Link.{Link}
 use Rattle.ch_graph.specs.declared.hierarchy.LinkId.{LinkId}
-use Rattle.ch_graph.specs.declared.link_halves.Halves.{Halves}
+use Rattle.ch_graph.specs.declared.link_halves.Parts.{Parts}
+use Rattle.ch_graph.specs.declared.link_halves.Parts.TheVariants.{Arc, Shortcut}
 use Rattle.ch_graph.specs.Hierarchy.{Hierarchy, IsLink, IsLinkAt, IsWellMade, Unfolds, Unfolds.whole, Unfolds.halves, UnfoldsAll, UnfoldsAll.done, UnfoldsAll.more}
-use Rattle.ch_graph.specs.LinkHalves.{HalvesAre, AreHalvesAt}
+use Rattle.ch_graph.specs.LinkHalves.{ArePartsOf, AreHalvesAt}
 use Rattle.ch_graph.specs.Unfolding.{IsAt}
 use Rattle.ch_graph.proofs.OneUnfolding.{same_link}
-use Rattle.ch_unpack.specs.Unpacking.{Unfolded, head_at}
+use Rattle.ch_unpack.specs.Unpacking.{Unfolded}
 
 -- the nodes that arcs come to
 abbrev pub heads : List Link → List ℕ
@@ -50,8 +50,8 @@ pub within : (h : Hierarchy) (place : LinkId) (places : List LinkId) (arcs : Lis
 within h place places arcs all = let this : First h place places arcs = first h place places arcs all in slice_get_within h.links place.0 this.link this.is
 
 -- what is said of the link at a place by any default is said of that link
-told : (h : Hierarchy) (place : LinkId) (l : Link) (both : Option Halves) → IsAt h place l → ((d : Link) → HalvesAre h.links (get_or h.links place.0 d) both) → HalvesAre h.links l both
-told h place l both is are = subst (λ (k : Link). HalvesAre h.links k both) (get_or_from_slice_get h.links place.0 l l is) (are l)
+told : (h : Hierarchy) (place : LinkId) (l : Link) (parts : Parts) → IsAt h place l → ((d : Link) → ArePartsOf h.links (get_or h.links place.0 d) parts) → ArePartsOf h.links l parts
+told h place l parts is are = subst (λ (k : Link). ArePartsOf h.links k parts) (get_or_from_slice_get h.links place.0 l l is) (are l)
 
 -- An arc stays as it is, and a shortcut is its halves
 
@@ -94,35 +94,35 @@ at_place h made x y place a at is =
     let there : IsLink h x y found = record { among = (place.0, at.within, get_or_default h.links place.0 found a at.within); from = at.from a; to = at.to a } in
     slice_get-get_or h.links place.0 a at.within ∙ ap (λ (k : Link). Some k) (same_link h made x y found a there is)
 
--- an arc is the first of the arcs
-pub record Passed (h : Hierarchy) (place : LinkId) (places : List LinkId) (arcs : List Link) : Type 0 where
+-- an arc to this node is the first of the arcs
+pub record Passed (h : Hierarchy) (to : ℕ) (places : List LinkId) (arcs : List Link) : Type 0 where
   pub rest : List Link
   pub unfolded : Unfolded h places rest
-  pub route : heads arcs ≡ head_at h place ∷ heads rest
+  pub route : heads arcs ≡ to ∷ heads rest
 
-pub pass : (h : Hierarchy) (place : LinkId) (places : List LinkId) (arcs : List Link) → Unfolded h (place ∷ places) arcs → ((d : Link) → HalvesAre h.links (get_or h.links place.0 d) None) → Passed h place places arcs
-pass h place places arcs all are =
+pub pass : (h : Hierarchy) (place : LinkId) (places : List LinkId) (arcs : List Link) (to : ℕ) → Unfolded h (place ∷ places) arcs → ((d : Link) → ArePartsOf h.links (get_or h.links place.0 d) (Arc to)) → Passed h to places arcs
+pass h place places arcs to all are =
     let this : First h place places arcs = first h place places arcs all in
-    let itself : this.us ≡ this.link ∷ [] = only_itself h this.unfolds (told h place this.link None this.is are) in
-    let head_is : head_at h place ≡ this.link.to = ap (λ (o : Option Link). option_map_or (λ (k : Link). k.to) o 0) this.is in
+    let arc = told h place this.link (Arc to) this.is are in
+    let itself : this.us ≡ this.link ∷ [] = only_itself h this.unfolds arc.0 in
     record {
       rest = this.vs;
       unfolded = this.others;
-      route = ap heads (this.parts ∙ ap (λ (us : List Link). us ++ this.vs) itself) ∙ ap (λ n. n ∷ heads this.vs) (sym head_is);
+      route = ap heads (this.parts ∙ ap (λ (us : List Link). us ++ this.vs) itself) ∙ ap (λ n. n ∷ heads this.vs) arc.1;
     }
 
 -- the same arcs come from the halves in place of a shortcut
-pub split : (h : Hierarchy) → IsWellMade h → (place : LinkId) (places : List LinkId) (arcs : List Link) (both : Halves) → Unfolded h (place ∷ places) arcs → ((d : Link) → HalvesAre h.links (get_or h.links place.0 d) (Some both)) → Unfolded h (both.first ∷ both.second ∷ places) arcs
-split h made place places arcs both all are =
+pub split : (h : Hierarchy) → IsWellMade h → (place : LinkId) (places : List LinkId) (arcs : List Link) (one two : LinkId) → Unfolded h (place ∷ places) arcs → ((d : Link) → ArePartsOf h.links (get_or h.links place.0 d) (Shortcut one two)) → Unfolded h (one ∷ two ∷ places) arcs
+split h made place places arcs one two all are =
     let this : First h place places arcs = first h place places arcs all in
     let l : Link = this.link in
-    let at : AreHalvesAt h.links l both = told h place l (Some both) this.is are in
+    let at : AreHalvesAt h.links l one two = told h place l (Shortcut one two) this.is are in
     let parts : Halved h l at.middle this.us = halved h at.middle this.unfolds at.by_way in
-    let first_at : IsAt h both.first parts.a = at_place h made l.from at.middle both.first parts.a at.first parts.first in
-    let second_at : IsAt h both.second parts.b = at_place h made at.middle l.to both.second parts.b at.second parts.second in
-    let behind : Unfolded h (both.second ∷ places) (parts.rs ++ this.vs) = before h both.second places parts.b parts.rs this.vs second_at parts.right this.others in
-    let whole_way : Unfolded h (both.first ∷ both.second ∷ places) (parts.ls ++ (parts.rs ++ this.vs)) = before h both.first (both.second ∷ places) parts.a parts.ls (parts.rs ++ this.vs) first_at parts.left behind in
-    subst (λ (xs : List Link). Unfolded h (both.first ∷ both.second ∷ places) xs) (sym (this.parts ∙ ap (λ (us : List Link). us ++ this.vs) parts.parts ∙ append_assoc parts.ls parts.rs this.vs)) whole_way
+    let first_at : IsAt h one parts.a = at_place h made l.from at.middle one parts.a at.first_at parts.first in
+    let second_at : IsAt h two parts.b = at_place h made at.middle l.to two parts.b at.second_at parts.second in
+    let behind : Unfolded h (two ∷ places) (parts.rs ++ this.vs) = before h two places parts.b parts.rs this.vs second_at parts.right this.others in
+    let whole_way : Unfolded h (one ∷ two ∷ places) (parts.ls ++ (parts.rs ++ this.vs)) = before h one (two ∷ places) parts.a parts.ls (parts.rs ++ this.vs) first_at parts.left behind in
+    subst (λ (xs : List Link). Unfolded h (one ∷ two ∷ places) xs) (sym (this.parts ∙ ap (λ (us : List Link). us ++ this.vs) parts.parts ∙ append_assoc parts.ls parts.rs this.vs)) whole_way
 
 no_arcs : (h : Hierarchy) {links arcs : List Link} → AllZip (IsAt h) [] links → UnfoldsAll h links arcs → arcs ≡ []
 no_arcs h are done = refl

@@ -1,15 +1,15 @@
 -- A route on its way from links to arcs.
-use Rattle.std.proofs.Common.{ℕ, ◌≡◌, ◌+◌, ◌<◌, ◌≤◌, List, [], ◌∷◌, ◌++◌, length, reverse, Some, None, get_or, Contains, arith, ap, subst, sym, refl, ◌∙◌, append_assoc, append-nil, length-append}
+use Rattle.std.proofs.Common.{ℕ, ◌≡◌, ◌+◌, ◌<◌, ◌≤◌, List, [], ◌∷◌, ◌++◌, length, reverse, get_or, Contains, arith, ap, subst, sym, refl, ◌∙◌, append_assoc, append-nil, length-append}
 use Rattle.std.proofs.lemmas.List.{length-map, length-reverse, reverse-append, reverse-reverse}
 use Rattle.std.proofs.lemmas.Option.{slice_get_within, get_or_from_slice_get}
 use Rattle.ch_graph.specs.declared.link.Link.{Link}
 use Rattle.ch_graph.specs.declared.hierarchy.LinkId.{LinkId}
-use Rattle.ch_graph.specs.declared.link_halves.Halves.{Halves}
+use Rattle.ch_graph.specs.declared.link_halves.Parts.TheVariants.{Arc, Shortcut}
 use Rattle.ch_graph.specs.Hierarchy.{Hierarchy, IsWellMade, UnfoldsAll.done}
-use Rattle.ch_graph.specs.LinkHalves.{HalvesAre}
+use Rattle.ch_graph.specs.LinkHalves.{ArePartsOf}
 use Rattle.ch_graph.specs.Unfolding.{IsAt, Joined}
 use Rattle.ch_graph.proofs.Unfolding.{HasUnfolding, link-unfolds}
-use Rattle.ch_unpack.specs.Unpacking.{Unfolded, IsUnpacked, IsTooLong, head_at}
+use Rattle.ch_unpack.specs.Unpacking.{Unfolded, IsUnpacked, IsTooLong}
 use Rattle.ch_unpack.proofs.Refining.{heads, before, within, Passed, pass, split, nothing_left, places_at_most_arcs}
 
 -- The links of the route unfold to arcs. Their heads are the nodes so far and those of the rest, to which the links
@@ -62,22 +62,22 @@ module _ {h : Hierarchy} {source : ℕ} {places : List LinkId} where
   next_within next left way ahead_is = within h next (reverse left) way.rest (nearest_first next left way ahead_is)
 
   -- an arc leads to its head
-  pub pass_on : {nodes : List ℕ} (next : LinkId) (left : List LinkId) {ahead : List LinkId} → IsUnderWay h source places nodes ahead → ahead ≡ left ++ next ∷ [] → ((d : Link) → HalvesAre h.links (get_or h.links next.0 d) None) → IsUnderWay h source places (nodes ++ head_at h next ∷ []) left
-  pass_on {nodes = nodes} next left way ahead_is are =
-      let passed : Passed h next (reverse left) way.rest = pass h next (reverse left) way.rest (nearest_first next left way ahead_is) are in
+  pub pass_on : {nodes : List ℕ} (next : LinkId) (to : ℕ) (left : List LinkId) {ahead : List LinkId} → IsUnderWay h source places nodes ahead → ahead ≡ left ++ next ∷ [] → ((d : Link) → ArePartsOf h.links (get_or h.links next.0 d) (Arc to)) → IsUnderWay h source places (nodes ++ to ∷ []) left
+  pass_on {nodes = nodes} next to left way ahead_is are =
+      let passed : Passed h to (reverse left) way.rest = pass h next (reverse left) way.rest to (nearest_first next left way ahead_is) are in
       record {
         arcs = way.arcs;
         unfolded = way.unfolded;
         rest = passed.rest;
         leads = passed.unfolded;
-        route = append_assoc nodes (head_at h next ∷ []) (heads passed.rest) ∙ ap (λ (ys : List ℕ). nodes ++ ys) (sym passed.route) ∙ way.route;
+        route = append_assoc nodes (to ∷ []) (heads passed.rest) ∙ ap (λ (ys : List ℕ). nodes ++ ys) (sym passed.route) ∙ way.route;
       }
 
   -- a shortcut is gone along by its halves
-  pub turn_off : {nodes : List ℕ} (next : LinkId) (both : Halves) (left : List LinkId) {ahead : List LinkId} → IsWellMade h → IsUnderWay h source places nodes ahead → ahead ≡ left ++ next ∷ [] → ((d : Link) → HalvesAre h.links (get_or h.links next.0 d) (Some both)) → IsUnderWay h source places nodes ((left ++ both.second ∷ []) ++ both.first ∷ [])
-  turn_off next both left made way ahead_is are =
-      let turned : reverse ((left ++ both.second ∷ []) ++ both.first ∷ []) ≡ both.first ∷ both.second ∷ reverse left = reverse-append (left ++ both.second ∷ []) (both.first ∷ []) ∙ ap (λ (ps : List LinkId). both.first ∷ ps) (reverse-append left (both.second ∷ [])) in
-      let by_halves : Unfolded h (both.first ∷ both.second ∷ reverse left) way.rest = split h made next (reverse left) way.rest both (nearest_first next left way ahead_is) are in
+  pub turn_off : {nodes : List ℕ} (next : LinkId) (one two : LinkId) (left : List LinkId) {ahead : List LinkId} → IsWellMade h → IsUnderWay h source places nodes ahead → ahead ≡ left ++ next ∷ [] → ((d : Link) → ArePartsOf h.links (get_or h.links next.0 d) (Shortcut one two)) → IsUnderWay h source places nodes ((left ++ two ∷ []) ++ one ∷ [])
+  turn_off next one two left made way ahead_is are =
+      let turned : reverse ((left ++ two ∷ []) ++ one ∷ []) ≡ one ∷ two ∷ reverse left = reverse-append (left ++ two ∷ []) (one ∷ []) ∙ ap (λ (ps : List LinkId). one ∷ ps) (reverse-append left (two ∷ [])) in
+      let by_halves : Unfolded h (one ∷ two ∷ reverse left) way.rest = split h made next (reverse left) way.rest one two (nearest_first next left way ahead_is) are in
       record {
         arcs = way.arcs;
         unfolded = way.unfolded;
@@ -118,6 +118,6 @@ module _ {h : Hierarchy} {source : ℕ} {places : List LinkId} where
       go_too_far way some_node (omega (arith, many, length-reverse places))
 
   -- a shortcut leads to one node more than there is room for
-  pub no_room : {nodes : List ℕ} (next : LinkId) (both : Halves) (left : List LinkId) {ahead : List LinkId} → IsWellMade h → IsUnderWay h source places nodes ahead → ahead ≡ left ++ next ∷ [] → ((d : Link) → HalvesAre h.links (get_or h.links next.0 d) (Some both)) → source < length h.ranks → length h.ranks < length nodes + length left + 2 → IsTooLong h places
-  no_room next both left made way ahead_is are some_node far =
-      go_too_far (turn_off next both left made way ahead_is are) some_node (omega (arith, far, length-append (left ++ both.second ∷ []) (both.first ∷ []), length-append left (both.second ∷ [])))
+  pub no_room : {nodes : List ℕ} (next : LinkId) (one two : LinkId) (left : List LinkId) {ahead : List LinkId} → IsWellMade h → IsUnderWay h source places nodes ahead → ahead ≡ left ++ next ∷ [] → ((d : Link) → ArePartsOf h.links (get_or h.links next.0 d) (Shortcut one two)) → source < length h.ranks → length h.ranks < length nodes + length left + 2 → IsTooLong h places
+  no_room next one two left made way ahead_is are some_node far =
+      go_too_far (turn_off next one two left made way ahead_is are) some_node (omega (arith, far, length-append (left ++ two ∷ []) (one ∷ []), length-append left (two ∷ [])))

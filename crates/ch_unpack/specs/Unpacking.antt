@@ -1,6 +1,5 @@
 -- The nodes of a route whose links are unfolded.
-use Rattle.std.specs.Prelude.{ℕ, ◌≡◌, ◌-◌, ◌<◌, ◌≤◌, List, ◌∷◌, length, map, codes, slice_get}
-use Rattle.std.specs.Option.{option_map_or}
+use Rattle.std.specs.Prelude.{ℕ, ◌≡◌, ◌-◌, ◌<◌, ◌≤◌, List, ◌∷◌, length, map, codes}
 use Rattle.ch_graph.specs.declared.link.Link.{Link}
 use Rattle.ch_graph.specs.declared.hierarchy.LinkId.{LinkId}
 use Rattle.ch_graph.specs.Hierarchy.{Hierarchy, UnfoldsAll}
@@ -27,10 +26,6 @@ pub record IsTooLong (h : Hierarchy) (places : List LinkId) : Type 0 where
   pub arcs : List Link
   pub unfolded : Unfolded h places arcs
   pub many : length h.ranks - 1 < length arcs
-
--- the node that the link at a place comes to
-abbrev pub head_at : Hierarchy → LinkId → ℕ
-head_at h place = option_map_or (λ (l : Link). l.to) (slice_get h.links place.0) 0
 
 -- the variant's name
 abbrev pub error_name : UnpackError → List ℕ

@@ -1,9 +1,9 @@
 ghost use Rattle.std.specs.Prelude.{◌≡◌, ◌<◌, IfOk, length, reverse};
 ghost use Rattle.ch_graph.specs.Unfolding.{Joined};
-ghost use Rattle.ch_unpack.specs.Unpacking.{IsUnpacked, IsTooLong, head_at};
+ghost use Rattle.ch_unpack.specs.Unpacking.{IsUnpacked, IsTooLong};
 
 use crate::error::UnpackError;
-use ch_graph::{Hierarchy, LinkId};
+use ch_graph::{Hierarchy, LinkId, Parts};
 use smallvec::SmallVec;
 use std::alloc::{AllocError, Global};
 
@@ -14,7 +14,7 @@ use std::alloc::{AllocError, Global};
 /// the arcs are not fewer than the nodes of the hierarchy, since then the route repeats a node.
 ///
 /// It keeps the nodes that it came to and the places of the links that still lie ahead, together at most as many as the
-/// hierarchy has nodes, and asks for the halves of each of these once, however many arcs the links stand for.
+/// hierarchy has nodes, and asks for the parts of each of these once, however many arcs the links stand for.
 pub fn unpack(
     alloc: Global,
     hierarchy: &Hierarchy,
@@ -34,15 +34,15 @@ pub fn unpack(
     nodes.push(source)?;
     let mut ahead = last_first(alloc, links)?;
     'route: while let Some(next) = ahead.pop() {
-        match hierarchy.halves(next) {
-            Some(halves) => {
+        match hierarchy.parts(next) {
+            Parts::Shortcut(first, second) => {
                 if nodes.len() + ahead.len() + 2 > room {
                     return Err(UnpackError::TooLong);
                 }
-                ahead.push(halves.second)?;
-                ahead.push(halves.first)?;
+                ahead.push(second)?;
+                ahead.push(first)?;
             }
-            None => nodes.push(head(hierarchy, next))?,
+            Parts::Arc(to) => nodes.push(to)?,
         }
     }
     Ok(nodes)
@@ -53,12 +53,4 @@ fn last_first(alloc: Global, places: &[LinkId]) -> Result<SmallVec<LinkId, 32>, 
     ensures { IfOk result (λ ahead. reverse ahead.items ≡ places.now) }
 {
     places.iter().rev().copied().collect(alloc)
-}
-
-/// The node that the link at a place comes to.
-fn head(hierarchy: &Hierarchy, place: LinkId) -> u32
-    requires { place.0 < length hierarchy.now.links }
-    ensures { result ≡ head_at hierarchy.now place }
-{
-    hierarchy.links()[place.0].to
 }

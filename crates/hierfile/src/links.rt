@@ -5,7 +5,7 @@ ghost use Rattle.ch_cost.specs.Cost.{length_of};
 ghost use Rattle.ch_graph.specs.Hierarchy.{ComesBefore};
 ghost use Rattle.ch_graph.specs.declared.link.Link.{Link};
 ghost use Rattle.ch_graph.specs.LinkIndex.{IsIndexOf};
-ghost use Rattle.ch_graph.specs.LinkHalves.{AreHalvesOf, HalvesAre};
+ghost use Rattle.ch_graph.specs.LinkHalves.{AreHalvesOf, ArePartsOf};
 ghost use Rattle.hierfile.specs.Spelling.{link_bytes, middle_number};
 ghost use Rattle.hierfile.specs.Fault.{cut, is_in_order, link_fault, link_fault_at, links_fault, middle_fault, half_fault, first_along};
 ghost use Rattle.hierfile.specs.Bytes.{coming, IsFaultOf, OfBytes, Tells, NoneBelow, IsWritable};
@@ -13,7 +13,7 @@ ghost use Rattle.hierfile.specs.Bytes.{coming, IsFaultOf, OfBytes, Tells, NoneBe
 use crate::error::HierError;
 use crate::input::Input;
 use ch_cost::Cost;
-use ch_graph::{Halves, Link, LinkHalves, LinkId, LinkIndex};
+use ch_graph::{Link, LinkHalves, LinkId, LinkIndex, Parts};
 use std::alloc::Global;
 use std::io::Read;
 
@@ -141,23 +141,23 @@ pub fn find_halves(
 {
     let mut halves = LinkHalves::with_room(alloc, links.len())?;
     'links: for place in 0..links.len() {
-        let found = halves_of(links, index, links[place])?;
-        halves.keep(LinkId(place), found)?;
+        let parts = parts_of(links, index, links[place])?;
+        halves.keep(LinkId(place), parts)?;
     }
     Ok(halves)
 }
 
-// The halves of a link, or none for one without a middle.
+// What a link stands for: its halves, or itself where it has no middle.
 #[tactic(auto, unfolding(crate::specs::Fault::half_fault))]
-fn halves_of(links: &[Link], index: &LinkIndex, link: Link) -> Result<Option<Halves>, HierError>
+fn parts_of(links: &[Link], index: &LinkIndex, link: Link) -> Result<Parts, HierError>
     requires sorted { AllPairs ComesBefore links.now }
     requires index { IsIndexOf links.now index.now }
-    ensures halves { IfOk result (HalvesAre links.now link) }
+    ensures parts { IfOk result (ArePartsOf links.now link) }
     ensures faultless { OnOk result (half_fault links.now link ≡ None) }
     ensures err { IfErr result (λ e. half_fault links.now link ≡ Some e) }
 {
     let Some(middle) = link.middle else {
-        return Ok(None);
+        return Ok(Parts::Arc(link.to));
     };
     let Some(first) = index.find(links, link.from, middle) else {
         return Err(HierError::HalfMissing);
@@ -167,7 +167,7 @@ fn halves_of(links: &[Link], index: &LinkIndex, link: Link) -> Result<Option<Hal
     };
     let lengths = (length_at(links, first), length_at(links, second));
     if is_sum(link.cost.length(), lengths.0, lengths.1) {
-        Ok(Some(Halves { first, second }))
+        Ok(Parts::Shortcut(first, second))
     } else {
         Err(HierError::HalfSum)
     }

@@ -1,7 +1,6 @@
 use Rattle.std.proofs.Common.{rules, ℕ, ◌≡◌, ◌≤◌, List, [], ◌∷◌, ◌++◌, length, arith, ap, subst, sym, ◌∙◌}
 use Rattle.std.proofs.lemmas.List.{length-reverse, length-append}
 use Rattle.ch_graph.specs.declared.hierarchy.LinkId.{LinkId}
-use Rattle.ch_unpack.specs.Unpacking.{head_at}
 use Rattle.ch_unpack.proofs.UnderWay.{IsUnderWay, set_out, next_within, pass_on, turn_off, arrive, too_many_links, no_room}
 use Rattle.ch_unpack.proofs.unpacking.unpack.Goals as goal
 
@@ -17,37 +16,34 @@ route-init c =
       in_room = omega (arith, ap (λ (xs : List ℕ). length xs) first, ap (λ (xs : List LinkId). length xs) c.in_ok-ahead.ensures, length-reverse ahead);
     }
 
-pub halves-requires : goal.halves-requires
-halves-requires c = next_within c.in-Some.next c.pop.new.self.items c.route.invariant.under_way c.in-Some.ensures.items
+pub parts-requires : goal.parts-requires
+parts-requires c = next_within c.in-Some.next c.pop.new.self.items c.route.invariant.under_way c.in-Some.ensures.items
 
 pub returns-then-len-room-clause-too_long : goal.returns-then-len-room-clause-too_long
 returns-then-len-room-clause-too_long c =
-    λ e. no_room c.in-Some.next c.in-Some-halves.halves c.pop.new.self.items c.nodes-room.ensures.made c.route.invariant.under_way c.in-Some.ensures.items c.in-Some-halves.ensures c.requires.source_in
+    λ e. no_room c.in-Some.next c.in-Shortcut.first c.in-Shortcut.second c.pop.new.self.items c.nodes-room.ensures.made c.route.invariant.under_way c.in-Some.ensures.items c.in-Shortcut.ensures c.requires.source_in
     (omega (arith, c.route.nodes.ok))
 
 pub route-preserved-in-Continue-branch-4 : goal.route-preserved-in-Continue-branch-4
 route-preserved-in-Continue-branch-4 c =
     let left = c.pop.new.self.items in
-    let both = c.in-Some-halves.halves in
-    let ahead_is : c.push-in-Some-halves-2.new.self.items ≡ (left ++ both.second ∷ []) ++ both.first ∷ [] = c.in_ok-push-in-Some-halves-2.ensures.ok ∙ ap (λ (xs : List LinkId). xs ++ both.first ∷ []) c.in_ok-push-in-Some-halves.ensures.ok in
+    let one = c.in-Shortcut.first in
+    let two = c.in-Shortcut.second in
+    let ahead_is : c.push-in-Shortcut-2.new.self.items ≡ (left ++ two ∷ []) ++ one ∷ [] = c.in_ok-push-in-Shortcut-2.ensures.ok ∙ ap (λ (xs : List LinkId). xs ++ one ∷ []) c.in_ok-push-in-Shortcut.ensures.ok in
     record {
       under_way =
           subst (λ (xs : List LinkId). IsUnderWay c.args.hierarchy.now c.args.source c.args.links.now c.route.nodes.items xs) (sym ahead_is)
-          (turn_off c.in-Some.next both left c.nodes-room.ensures.made c.route.invariant.under_way c.in-Some.ensures.items c.in-Some-halves.ensures);
-      in_room = omega (arith, ap (λ (xs : List LinkId). length xs) ahead_is, length-append (left ++ both.second ∷ []) (both.first ∷ []), length-append left (both.second ∷ []));
+          (turn_off c.in-Some.next one two left c.nodes-room.ensures.made c.route.invariant.under_way c.in-Some.ensures.items c.in-Shortcut.ensures);
+      in_room = omega (arith, ap (λ (xs : List LinkId). length xs) ahead_is, length-append (left ++ two ∷ []) (one ∷ []), length-append left (two ∷ []));
     }
-
-pub head-requires : goal.head-requires
-head-requires c = next_within c.in-Some.next c.pop.new.self.items c.route.invariant.under_way c.in-Some.ensures.items
 
 pub route-preserved : goal.route-preserved
 route-preserved c =
-    let nodes_are : c.push-in-None.new.self.items ≡ c.route.nodes.items ++ head_at c.args.hierarchy.now c.in-Some.next ∷ [] = c.in_ok-push-in-None.ensures.items ∙ ap (λ n. c.route.nodes.items ++ n ∷ []) c.head.ensures in
     record {
       under_way =
-          subst (λ (xs : List ℕ). IsUnderWay c.args.hierarchy.now c.args.source c.args.links.now xs c.pop.new.self.items) (sym nodes_are)
-          (pass_on c.in-Some.next c.pop.new.self.items c.route.invariant.under_way c.in-Some.ensures.items c.in-None.ensures);
-      in_room = omega (arith, c.in_ok-push-in-None.ensures.len, c.in-Some.ensures.len);
+          subst (λ (xs : List ℕ). IsUnderWay c.args.hierarchy.now c.args.source c.args.links.now xs c.pop.new.self.items) (sym c.in_ok-push-in-Arc.ensures.items)
+          (pass_on c.in-Some.next c.in-Arc.to c.pop.new.self.items c.route.invariant.under_way c.in-Some.ensures.items c.in-Arc.ensures);
+      in_room = omega (arith, c.in_ok-push-in-Arc.ensures.len, c.in-Some.ensures.len);
     }
 
 pub returns-clause-nodes : goal.returns-clause-nodes

@@ -1,11 +1,11 @@
-use Rattle.std.proofs.Common.{◌≡◌, ◌<◌, List, Option, length, get_or, subst, sym}
+use Rattle.std.proofs.Common.{◌≡◌, ◌<◌, List, length, get_or, subst, sym}
 use Rattle.std.proofs.lemmas.Option.{slice_get_within, get_or_from_slice_get}
 use Rattle.ch_graph.specs.declared.link.Link.{Link}
-use Rattle.ch_graph.specs.declared.link_halves.Halves.{Halves}
+use Rattle.ch_graph.specs.declared.link_halves.Parts.{Parts}
 use Rattle.ch_graph.specs.declared.link_halves.KeptHalves.{KeptHalves}
 use Rattle.ch_graph.specs.Hierarchy.{Hierarchy}
-use Rattle.ch_graph.specs.LinkHalves.{HalvesAre, AreHalvesOf, halves_in}
-use Rattle.ch_graph.proofs.hierarchy.Hierarchy.halves.Goals as goal
+use Rattle.ch_graph.specs.LinkHalves.{ArePartsOf, AreHalvesOf, parts_in}
+use Rattle.ch_graph.proofs.hierarchy.Hierarchy.parts.Goals as goal
 
 pub returns-in-Some : goal.returns-in-Some
 returns-in-Some c = λ (d : Link).
@@ -16,5 +16,5 @@ returns-in-Some c = λ (d : Link).
     let got = sym c.in-Some.ensures in
     let within : place < length all = slice_get_within all place kept got in
     let is : get_or all place kept ≡ kept = get_or_from_slice_get all place kept kept got in
-    let told : HalvesAre c.args.self.now.links (get_or c.args.self.now.links place d) (halves_in place kept) = subst (λ (e : KeptHalves). HalvesAre c.args.self.now.links (get_or c.args.self.now.links place d) (halves_in place e)) is (are.each place d kept within) in
-    subst (λ (o : Option Halves). HalvesAre c.args.self.now.links (get_or c.args.self.now.links place d) o) (sym c.halves.ensures) told
+    let told : ArePartsOf c.args.self.now.links (get_or c.args.self.now.links place d) (parts_in place kept) = subst (λ (e : KeptHalves). ArePartsOf c.args.self.now.links (get_or c.args.self.now.links place d) (parts_in place e)) is (are.each place d kept within) in
+    subst (λ (o : Parts). ArePartsOf c.args.self.now.links (get_or c.args.self.now.links place d) o) (sym c.parts.ensures) told

@@ -4,7 +4,7 @@ use Rattle.ch_graph.specs.declared.link.Link.{Link}
 use Rattle.hierfile.specs.declared.error.HierError.TheVariants.{HalfSum}
 use Rattle.hierfile.specs.Fault.{fault_if}
 use Rattle.hierfile.proofs.Halves.{no_first, no_second, both_found}
-use Rattle.hierfile.proofs.links.halves_of.Goals as goal
+use Rattle.hierfile.proofs.links.parts_of.Goals as goal
 
 pub returns-in_default-find-clause-err : goal.returns-in_default-find-clause-err
 returns-in_default-find-clause-err c = no_first c.args.links.now c.args.link c.in-Some.middle c.in-Some.is c.in_default-find.ensures.none
