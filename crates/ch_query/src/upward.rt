@@ -55,6 +55,7 @@ impl UpwardSteps {
             add_links(hierarchy, &ladder, side, order[rank], &mut links)?;
             first.push(links.len())?;
         }
+        drop(ladder);
         links.shrink_to_fit();
         let steps = steps_along(alloc, hierarchy, side, &links)?;
         Ok(UpwardSteps {
