@@ -14,7 +14,7 @@ use crate::label::Label;
 use crate::limit::counts;
 use crate::meeting::{Meeting, cost_of, look_at};
 use crate::side::{Climb, Side};
-use crate::upward::UpwardSteps;
+use crate::upward::{UpwardSteps, step_cost};
 use ch_cost::Cost;
 use ch_graph::Hierarchy;
 use std::alloc::AllocError;
@@ -108,7 +108,7 @@ fn follow(
     ensures followed { OnOk result (IsFollowed hierarchy.now side cost limit here.new (slice_index upward.now.links.items place)) }
 {
     let step = upward.steps[place];
-    let sum = cost.plus(step.cost);
+    let sum = cost.plus(step_cost(hierarchy, upward, place));
     if !here.is_improved_by(step.head, sum) {
         return Ok(());
     }
