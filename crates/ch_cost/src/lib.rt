@@ -1,11 +1,14 @@
 //! Costs of walks in a road graph: sums, and their order.
 //!
-//! The lowest layer, which stands on std alone. Its one type is [`Cost`]. What the layers above may know of a
-//! cost are the laws that [`cost_laws`] ensures, and the clauses of the methods; none of them looks inside.
+//! The lowest layer, which stands on std alone. Its main type is [`Cost`], and a [`ShortCost`] keeps one in half its
+//! memory, where it fits. What the layers above may know of a cost are the laws that [`cost_laws`] ensures, and the
+//! clauses of the methods; none of them looks inside.
 #![tactic(auto)]
 
 mod cost;
 mod laws;
+mod short_cost;
 
 pub use cost::Cost;
 pub use laws::cost_laws;
+pub use short_cost::ShortCost;

@@ -149,6 +149,17 @@ below-from_better Unseen c low improves = low
 below-from_better (Open e) c low improves = improves
 below-from_better (Settled e) c low improves = absurd improves
 
+-- what is read there is the cost of a label where it costs less than a node has that has none
+pub near-some : (m : Mark) (c : Cost) → c ≡ cost_or_far m → c ≺ far_cost → Some c ≡ option_cost (label_in m)
+near-some Unseen c is below = absurd (below_not_at_most below (subst (λ (d : Cost). far_cost ≼ d) (sym is) (at_most_refl far_cost)))
+near-some (Open e) c is below = ap (λ (d : Cost). Some d) is
+near-some (Settled e) c is below = ap (λ (d : Cost). Some d) is
+
+pub near-none : (m : Mark) (c : Cost) → c ≡ cost_or_far m → ((e : Label) → label_in m ≡ Some e → e.cost ≺ far_cost) → (c ≺ far_cost → ⊥) → None ≡ option_cost (label_in m)
+near-none Unseen c is near never = refl
+near-none (Open e) c is near never = absurd (never (subst (λ (d : Cost). d ≺ far_cost) (sym is) (near e refl)))
+near-none (Settled e) c is near never = absurd (never (subst (λ (d : Cost). d ≺ far_cost) (sym is) (near e refl)))
+
 pub cost_read : (marks : List Mark) (costs : List Cost) (r : ℕ) (d : Cost) → costs ≡ map cost_or_far marks → r < length marks → get_or costs r d ≡ cost_or_far (mark_at marks r)
 cost_read marks costs r d are within = ap (λ (cs : List Cost). get_or cs r d) are ∙ get_or-map cost_or_far marks r Unseen d within
 

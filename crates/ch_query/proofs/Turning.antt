@@ -1,5 +1,5 @@
 -- One side of a query: its start, and a turn.
-use Rattle.std.proofs.Common.{ℕ, ◌≡◌, ◌+◌, ◌-◌, ◌<◌, ◌≤◌, ◌^◌, ◌⊎◌, List, length, slice_index, set, replicate, Option, Some, None, ap, refl, sym, subst, ◌∙◌, inl, inr, arith}
+use Rattle.std.proofs.Common.{ℕ, ◌≡◌, ◌+◌, ◌-◌, ◌<◌, ◌≤◌, ◌^◌, ◌⊎◌, List, length, slice_index, set, replicate, Option, Some, None, IfSome, ap, refl, sym, subst, ◌∙◌, inl, inr, arith}
 use Rattle.std.proofs.lemmas.Bool.{cases_lt}
 use Rattle.std.proofs.lemmas.List.{get_or_past, length-set, length-replicate}
 use Rattle.ch_cost.specs.declared.cost.Cost.{Cost}
@@ -13,7 +13,7 @@ use Rattle.ch_query.specs.declared.side.Side.{Side}
 use Rattle.ch_query.specs.declared.meeting.Meeting.{Meeting}
 use Rattle.ch_query.specs.Labels.{HasAtMost, AreShort, Meets}
 use Rattle.ch_query.specs.Climb.{foot_rank, head_rank, cost_at, Climbs}
-use Rattle.ch_query.specs.Marks.{mark_at, label_at, option_cost, costs_of, far_cost, settled_in, IsLeastOpen, IsNoMore, FitAll, settled_count}
+use Rattle.ch_query.specs.Marks.{mark_at, label_at, option_cost, costs_of, far_cost, settled_in, IsLeastOpen, IsNoMore, FitAll, AreNear, settled_count}
 use Rattle.ch_query.specs.Searching.{IsFrom, IsFollowed, AreFollowed, IsSearching, ClimbsTo, IsOpenedBy, ArePassed}
 use Rattle.ch_query.specs.Marks.{IsLatest}
 use Rattle.ch_query.specs.Meeting.{IsBestSoFar, IsLooked}
@@ -21,7 +21,7 @@ use Rattle.ch_query.proofs.Sides.{link-made}
 use Rattle.ch_query.proofs.Ranks.{rank_below}
 use Rattle.ch_query.proofs.Following.{counts-more}
 use Rattle.ch_query.proofs.BestMeetings.{limit-less, met-kept, met-from}
-use Rattle.ch_query.proofs.Marking.{settled_is, settled-cost, cases_write, write_here, unseen-open, unseen-settled, open-settled, open-open, settled-settled, unseen-at, open-in, label_cases, label-open, label-settled, label-in, cost_is, settle-label, count-settle}
+use Rattle.ch_query.proofs.Marking.{from_cost, settled_is, settled-cost, cases_write, write_here, unseen-open, unseen-settled, open-settled, open-open, settled-settled, unseen-at, open-in, label_cases, label-open, label-settled, label-in, cost_is, settle-label, count-settle}
 
 module _ (h : Hierarchy) (made : IsWellMade h) where
   -- the bound of a well made hierarchy is small enough to be a summand
@@ -61,6 +61,16 @@ module _ (h : Hierarchy) (made : IsWellMade h) where
 
     pub labels_fit : FitAll marks
     labels_fit = label_in_limit
+
+    pub labels_near : AreNear marks
+    labels_near r e label = below_far e.cost (is.short r e label)
+
+-- the cost of a label, if there is one, is small enough to be a summand
+pub fits-cost : (marks : List Mark) → FitAll marks → (r : ℕ) (o : Option Cost) → o ≡ costs_of marks r → IfSome o (λ (d : Cost). IsInLimit d)
+fits-cost marks fit r None is = tt
+fits-cost marks fit r (Some d) is =
+    let own = from_cost (label_at marks r) d (sym is) in
+    subst (λ (c : Cost). IsInLimit c) own.2 (fit r own.0 own.1)
 
 -- The start
 

@@ -86,6 +86,10 @@ IsStopped marks limit = (r : ℕ) (e : Label) → mark_at marks r ≡ Open e →
 abbrev pub FitAll : List Mark → Type 0
 FitAll marks = (r : ℕ) (e : Label) → label_at marks r ≡ Some e → IsInLimit e.cost
 
+-- each label costs less than a node has that has none
+abbrev pub AreNear : List Mark → Type 0
+AreNear marks = (r : ℕ) (e : Label) → label_at marks r ≡ Some e → e.cost ≺ far_cost
+
 -- how many nodes are settled
 abbrev pub settled : Mark → ℕ
 settled Unseen = 0

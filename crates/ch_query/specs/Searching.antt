@@ -53,6 +53,10 @@ pub record IsStepAt (h : Hierarchy) (side : Side) (links : List ℕ) (steps : Li
   pub climbs : Climbs h side (slice_index links place)
   pub along : (s : Step) → slice_index_or steps place s ≡ step_along h side (slice_index links place)
 
+-- at a place is a step of one of the sides
+abbrev pub IsOneStepAt : Hierarchy → List ℕ → List Step → ℕ → Type 0
+IsOneStepAt h links steps place = (side : Side) × IsStepAt h side links steps place
+
 -- the label e of the rank q, to which some link leads from the rank r, whose own cost is c
 pub record ClimbsTo (h : Hierarchy) (side : Side) (links : List ℕ) (r : ℕ) (c : Cost) (q : ℕ) (e : Label) : Type 0 where
   pub place : ℕ

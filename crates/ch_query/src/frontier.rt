@@ -3,7 +3,7 @@ ghost use Rattle.std.specs.BinaryHeap.{heap_items, heap_len, IsHeap, IsUpperBoun
 ghost use Rattle.std.specs.List.Sorted.{IsPermutation};
 ghost use Rattle.ch_cost.specs.Cost.{◌≺◌};
 ghost use Rattle.ch_graph.specs.Queue.{entry_cmp};
-ghost use Rattle.ch_query.specs.Marks.{mark_at, label_at, far_cost, IsLatest, Improves, IsBelow, IsLeastOpen, IsStopped};
+ghost use Rattle.ch_query.specs.Marks.{mark_at, label_at, costs_of, far_cost, AreNear, IsLatest, Improves, IsBelow, IsLeastOpen, IsStopped};
 ghost use Rattle.ch_query.specs.declared.mark.Mark.TheVariants.{Unseen, Open, Settled};
 
 use crate::label::Label;
@@ -81,6 +81,19 @@ impl Frontier {
         ensures { result ≡ label_at self.now rank }
     {
         self.marks[rank as usize].label()
+    }
+
+    /// What the label of the node of a rank costs, if it has one. Its mark isn't read.
+    pub fn cost(&self, rank: u32) -> Option<Cost>
+        requires rank_in { rank < length self.now }
+        requires near { AreNear self.now }
+        ensures { result ≡ costs_of self.now rank }
+    {
+        let cost = self.costs[rank as usize];
+        if cost.is_below(far()) {
+            return Some(cost);
+        }
+        None
     }
 
     /// Whether a climb to the node of a rank is better than what is known of it. It costs at least what each settled node

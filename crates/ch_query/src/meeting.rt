@@ -1,9 +1,7 @@
 ghost use Rattle.std.specs.Prelude.{◌≡◌, Some, IfSome};
 ghost use Rattle.ch_cost.specs.Cost.{IsInLimit};
-ghost use Rattle.ch_query.specs.Marks.{option_cost};
 ghost use Rattle.ch_query.specs.Meeting.{IsShortSum, IsLooked, cost_of};
 
-use crate::label::Label;
 use crate::limit::{is_below, is_short};
 use ch_cost::Cost;
 use ch_graph::Hierarchy;
@@ -27,18 +25,18 @@ pub fn cost_of(best: Option<Meeting>) -> Option<Cost>
     }
 }
 
-/// The best meeting so far, once the node of a rank is settled with a label of this cost: the sides may meet there at
-/// less than before.
+/// The best meeting so far, once the node of a rank is settled with a label of this cost: where the other side has a
+/// label there too, the sides may meet at less than before.
 pub fn look_at(
     hierarchy: &Hierarchy,
     rank: u32,
     cost: Cost,
-    other: Option<Label>,
+    other: Option<Cost>,
     best: Option<Meeting>,
 ) -> Option<Meeting>
     requires fits { IsInLimit cost }
-    requires other_fits { IfSome other (λ e. IsInLimit e.cost) }
-    ensures { IsLooked hierarchy.now rank cost (option_cost other) best result }
+    requires other_fits { IfSome other (λ d. IsInLimit d) }
+    ensures { IsLooked hierarchy.now rank cost other best result }
 {
     let Some(sum) = short_sum(hierarchy, cost, other) else {
         return best;
@@ -49,14 +47,14 @@ pub fn look_at(
     best
 }
 
-/// What a cost and a label of the other side make together, if that is a length within the bound.
-fn short_sum(hierarchy: &Hierarchy, cost: Cost, other: Option<Label>) -> Option<Cost>
+/// What a cost and that of a label of the other side make together, if that is a length within the bound.
+fn short_sum(hierarchy: &Hierarchy, cost: Cost, other: Option<Cost>) -> Option<Cost>
     requires fits { IsInLimit cost }
-    requires other_fits { IfSome other (λ e. IsInLimit e.cost) }
-    ensures { IsShortSum hierarchy.now (Some cost) (option_cost other) result }
+    requires other_fits { IfSome other (λ d. IsInLimit d) }
+    ensures { IsShortSum hierarchy.now (Some cost) other result }
 {
-    let label = other?;
-    let sum = cost.plus(label.cost);
+    let there = other?;
+    let sum = cost.plus(there);
     if is_short(sum, hierarchy.bound()) {
         return Some(sum);
     }

@@ -4,7 +4,7 @@ ghost use Rattle.ch_graph.specs.Hierarchy.{IsWellMade};
 ghost use Rattle.ch_query.specs.Labels.{IsShortLimit};
 ghost use Rattle.ch_query.specs.Climb.{foot_rank};
 ghost use Rattle.ch_query.specs.Upward.{IsLaidOut};
-ghost use Rattle.ch_query.specs.Marks.{FitAll, IsNoMore};
+ghost use Rattle.ch_query.specs.Marks.{FitAll, AreNear, IsNoMore};
 ghost use Rattle.ch_query.specs.Searching.{IsStepAt, IsOpenedBy, IsFollowed, AreFollowed, ArePassed, IsSearching, IsTurned};
 ghost use Rattle.ch_query.specs.Marks.{IsLatest};
 ghost use Rattle.ch_query.specs.Meeting.{IsBestSoFar, cost_of};
@@ -14,7 +14,7 @@ use crate::label::Label;
 use crate::limit::counts;
 use crate::meeting::{Meeting, cost_of, look_at};
 use crate::side::{Climb, Side};
-use crate::upward::UpwardSteps;
+use crate::upward::{UpwardSteps, step_cost};
 use ch_cost::Cost;
 use ch_graph::Hierarchy;
 use std::alloc::AllocError;
@@ -35,6 +35,7 @@ pub fn turn(
     requires followed { AreFollowed hierarchy.now climb.side (cost_of best.old) here.old }
     requires there_nodes { length there.now ≡ length hierarchy.now.ranks }
     requires there_fits { FitAll there.now }
+    requires there_near { AreNear there.now }
     requires best { IsBestSoFar hierarchy.now here.old there.now best.old }
     ensures nodes { length here.new ≡ length here.old }
     ensures searching { OnOk result (IsSearching hierarchy.now climb.side upward.now.links.items climb.start here.new) }
@@ -48,7 +49,7 @@ pub fn turn(
     };
     let rank = reached.rank;
     let cost = reached.label.cost;
-    let found = look_at(hierarchy, rank, cost, there.label(rank), *best);
+    let found = look_at(hierarchy, rank, cost, there.cost(rank), *best);
     *best = found;
     let limit = cost_of(found);
     pass_over(hierarchy, upward, climb.side, rank, cost, limit, here)?;
@@ -108,7 +109,7 @@ fn follow(
     ensures followed { OnOk result (IsFollowed hierarchy.now side cost limit here.new (slice_index upward.now.links.items place)) }
 {
     let step = upward.steps[place];
-    let sum = cost.plus(step.cost);
+    let sum = cost.plus(step_cost(hierarchy, upward, place));
     if !here.is_improved_by(step.head, sum) {
         return Ok(());
     }

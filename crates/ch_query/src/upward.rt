@@ -1,12 +1,14 @@
-ghost use Rattle.std.specs.Prelude.{◌≡◌, ◌<◌, length, map, All, IfOk};
+ghost use Rattle.std.specs.Prelude.{◌≡◌, ◌<◌, length, slice_index, map, All, IfOk};
 ghost use Rattle.ch_graph.specs.Hierarchy.{IsWellMade};
 ghost use Rattle.ch_query.specs.Ladder.{IsByRank, IsLadder};
+ghost use Rattle.ch_query.specs.Climb.{cost_at};
 ghost use Rattle.ch_query.specs.Upward.{step_along, IsLaidOut, AreAdded};
+ghost use Rattle.ch_query.specs.Searching.{IsOneStepAt};
 
 use crate::ladder::Ladder;
 use crate::position::link_at;
 use crate::side::Side;
-use ch_cost::Cost;
+use ch_cost::{Cost, ShortCost};
 use ch_graph::Hierarchy;
 use std::alloc::{AllocError, Global};
 
@@ -15,15 +17,15 @@ use std::alloc::{AllocError, Global};
 pub struct Step {
     /// The rank of the node that it comes to.
     pub head: u32,
-    /// What the link costs.
-    pub cost: Cost,
+    /// What the link costs, if that fits.
+    pub cost: ShortCost,
 }
 
 /// The steps of a side, in the order of the ranks of the nodes that it takes them from.
 ///
 /// Those from one node lie together, and so do those from the nodes of high rank, where all queries come by. The
-/// links lie apart, since a query reads those of the steps of its walk alone. It holds 8 bytes a
-/// node and 24 a link that climbs.
+/// links lie apart, since a query reads those of the steps of its walk alone, and of the steps whose cost doesn't fit.
+/// It holds 8 bytes a node and 16 a link that climbs.
 #[derive(Drop)]
 pub struct UpwardSteps {
     /// For each rank the place of the first step from the node of that rank, and then the number of steps.
@@ -113,6 +115,27 @@ fn step_along(hierarchy: &Hierarchy, side: Side, at: usize) -> Step
     let link = link_at(hierarchy, at);
     Step {
         head: hierarchy.rank(side.head(link)),
-        cost: link.cost,
+        cost: ShortCost::of(link.cost),
     }
+}
+
+/// What the step at a place costs: the link itself is read only where its cost doesn't fit into the step.
+pub fn step_cost(hierarchy: &Hierarchy, upward: &UpwardSteps, place: usize) -> Cost
+    requires { IsOneStepAt hierarchy.now upward.now.links.items upward.now.steps.items place }
+    ensures { result ≡ cost_at hierarchy.now (slice_index upward.now.links.items place) }
+{
+    match upward.steps[place].cost.cost() {
+        Some(cost) => cost,
+        None => link_cost(hierarchy, upward, place),
+    }
+}
+
+/// What the link of the step at a place costs, as the hierarchy has it.
+#[cold]
+fn link_cost(hierarchy: &Hierarchy, upward: &UpwardSteps, place: usize) -> Cost
+    requires place_in { place < length upward.now.links.items }
+    requires link_in { slice_index upward.now.links.items place < length hierarchy.now.links }
+    ensures { result ≡ cost_at hierarchy.now (slice_index upward.now.links.items place) }
+{
+    link_at(hierarchy, upward.links[place]).cost
 }

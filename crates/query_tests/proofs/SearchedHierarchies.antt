@@ -3,8 +3,8 @@ use Rattle.std.proofs.Common.{ℕ, ◌≡◌, ◌≢◌, ◌-◌, ◌^◌, ◌<�
 use Rattle.std.proofs.lemmas.List.Elements.{All-nil, All-cons}
 use Rattle.std.proofs.lemmas.List.Kept.{AllPairs-cons}
 use Rattle.ch_cost.specs.declared.cost.Cost.{Cost}
-use Rattle.ch_cost.specs.Cost.{zero_cost, of_weight, cost_of_arcs, IsWithin}
-use Rattle.ch_cost.specs.Cost.Laws.{sum-zero_cost, arc_above, weight-from, within_refl, zero_cost_within, arc_and_arcs_within, more_arcs_within, heavier_arcs_within, within_trans}
+use Rattle.ch_cost.specs.Cost.{zero_cost, of_weight, cost_of_arcs, IsWeight, IsWithin}
+use Rattle.ch_cost.specs.Cost.Laws.{sum-zero_cost, arc_above, weight-from, weight_fits, within_refl, zero_cost_within, arc_and_arcs_within, more_arcs_within, heavier_arcs_within, within_trans}
 use Rattle.ch_graph.specs.declared.link.Link.{Link}
 use Rattle.ch_graph.specs.Hierarchy.{Hierarchy, IsWellMade, IsLinkWellMade, ComesBefore}
 
@@ -31,31 +31,33 @@ pub one_node-made : (ranks : List ℕ) (links : List Link) (bound : Cost) → ra
 one_node-made ranks links bound one_is no_link no_cost =
     subst (λ (rs : List ℕ). IsWellMade (record { ranks = rs; links = links; bound = bound })) (sym one_is) (no_links-made (0 ∷ []) links bound no_link no_cost (omega arith) (All-cons (λ r. r < 1) 0 [] (omega arith) (All-nil (λ r. r < 1))))
 
-within_one_arc : IsWithin (of_weight 7) (cost_of_arcs 1 (2 ^ 32 - 1))
-within_one_arc = subst (λ (c : Cost). IsWithin c (cost_of_arcs 1 (2 ^ 32 - 1))) (sum-zero_cost (of_weight 7)) (arc_and_arcs_within 7 0 (2 ^ 32 - 1) zero_cost (omega arith) (zero_cost_within (cost_of_arcs 0 (2 ^ 32 - 1))))
+-- one arc of a weight
+module _ (w : ℕ) (is : IsWeight w) where
+  within_one_arc : IsWithin (of_weight w) (cost_of_arcs 1 (2 ^ 32 - 1))
+  within_one_arc = subst (λ (c : Cost). IsWithin c (cost_of_arcs 1 (2 ^ 32 - 1))) (sum-zero_cost (of_weight w)) (arc_and_arcs_within w 0 (2 ^ 32 - 1) zero_cost (omega (arith, weight_fits is)) (zero_cost_within (cost_of_arcs 0 (2 ^ 32 - 1))))
 
-one_arc : IsWellMade (record { ranks = 0 ∷ 1 ∷ []; links = record { from = 0; to = 1; cost = of_weight 7; middle = None } ∷ []; bound = of_weight 7 })
-one_arc = record {
-  few_nodes = omega arith;
-  bound = within_one_arc;
-  in_range = All-cons (λ r. r < 2) 0 (1 ∷ []) (omega arith) (All-cons (λ r. r < 2) 1 [] (omega arith) (All-nil (λ r. r < 2)));
-  once = AllPairs-cons (λ q r. q ≢ r) 0 (1 ∷ []) (All-cons (λ r. 0 ≢ r) 1 [] (λ e. omega (arith, e)) (All-nil (λ r. 0 ≢ r))) (λ i j d low high. absurd (omega (arith, low, high)));
-  sorted = λ i j d low high. absurd (omega (arith, low, high));
-  links = All-cons (IsLinkWellMade (record { ranks = 0 ∷ 1 ∷ []; links = record { from = 0; to = 1; cost = of_weight 7; middle = None } ∷ []; bound = of_weight 7 })) (record { from = 0; to = 1; cost = of_weight 7; middle = None }) [] (record {
-    from_in = omega arith;
-    to_in = omega arith;
-    apart = λ e. omega (arith, e);
-    above = arc_above (weight-from 7 (omega arith) (omega arith));
-    within = within_refl (of_weight 7);
-    middle = λ m is. absurd (cc);
-  }) (All-nil (IsLinkWellMade (record { ranks = 0 ∷ 1 ∷ []; links = record { from = 0; to = 1; cost = of_weight 7; middle = None } ∷ []; bound = of_weight 7 })));
-}
+  one_arc : IsWellMade (record { ranks = 0 ∷ 1 ∷ []; links = record { from = 0; to = 1; cost = of_weight w; middle = None } ∷ []; bound = of_weight w })
+  one_arc = record {
+    few_nodes = omega arith;
+    bound = within_one_arc;
+    in_range = All-cons (λ r. r < 2) 0 (1 ∷ []) (omega arith) (All-cons (λ r. r < 2) 1 [] (omega arith) (All-nil (λ r. r < 2)));
+    once = AllPairs-cons (λ q r. q ≢ r) 0 (1 ∷ []) (All-cons (λ r. 0 ≢ r) 1 [] (λ e. omega (arith, e)) (All-nil (λ r. 0 ≢ r))) (λ i j d low high. absurd (omega (arith, low, high)));
+    sorted = λ i j d low high. absurd (omega (arith, low, high));
+    links = All-cons (IsLinkWellMade (record { ranks = 0 ∷ 1 ∷ []; links = record { from = 0; to = 1; cost = of_weight w; middle = None } ∷ []; bound = of_weight w })) (record { from = 0; to = 1; cost = of_weight w; middle = None }) [] (record {
+      from_in = omega arith;
+      to_in = omega arith;
+      apart = λ e. omega (arith, e);
+      above = arc_above is;
+      within = within_refl (of_weight w);
+      middle = λ m is. absurd (cc);
+    }) (All-nil (IsLinkWellMade (record { ranks = 0 ∷ 1 ∷ []; links = record { from = 0; to = 1; cost = of_weight w; middle = None } ∷ []; bound = of_weight w })));
+  }
 
-pub one_arc-made : (ranks : List ℕ) (links : List Link) (cost : Cost) → cost ≡ of_weight 7 → ranks ≡ 0 ∷ 1 ∷ [] → links ≡ record { from = 0; to = 1; cost = cost; middle = None } ∷ [] → IsWellMade (record { ranks = ranks; links = links; bound = cost })
-one_arc-made ranks links cost seven two_is one_is =
-    subst (λ (rs : List ℕ). IsWellMade (record { ranks = rs; links = links; bound = cost })) (sym two_is)
-    (subst (λ (ls : List Link). IsWellMade (record { ranks = 0 ∷ 1 ∷ []; links = ls; bound = cost })) (sym one_is)
-    (subst (λ (c : Cost). IsWellMade (record { ranks = 0 ∷ 1 ∷ []; links = record { from = 0; to = 1; cost = c; middle = None } ∷ []; bound = c })) (sym seven) one_arc))
+  pub one_arc-made : (ranks : List ℕ) (links : List Link) (cost : Cost) → cost ≡ of_weight w → ranks ≡ 0 ∷ 1 ∷ [] → links ≡ record { from = 0; to = 1; cost = cost; middle = None } ∷ [] → IsWellMade (record { ranks = ranks; links = links; bound = cost })
+  one_arc-made ranks links cost costs two_is one_is =
+      subst (λ (rs : List ℕ). IsWellMade (record { ranks = rs; links = links; bound = cost })) (sym two_is)
+      (subst (λ (ls : List Link). IsWellMade (record { ranks = 0 ∷ 1 ∷ []; links = ls; bound = cost })) (sym one_is)
+      (subst (λ (c : Cost). IsWellMade (record { ranks = 0 ∷ 1 ∷ []; links = record { from = 0; to = 1; cost = c; middle = None } ∷ []; bound = c })) (sym costs) one_arc))
 
 -- Four nodes ranked in their order, and four links over two tops
 

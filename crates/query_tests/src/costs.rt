@@ -1,4 +1,4 @@
-use ch_cost::Cost;
+use ch_cost::{Cost, ShortCost};
 use std::cmp::Ordering;
 
 fn sum(a: Cost, b: Cost) -> Option<Cost> {
@@ -66,4 +66,20 @@ fn bounds(rt: HostRuntime) {
         !twice.is_some_and(Cost::is_in_limit),
     ];
     assert!(rt; all_hold(&statements));
+}
+
+#[test]
+fn short_costs(rt: HostRuntime) {
+    let lengths = [
+        (0, true),
+        (7, true),
+        (4_294_967_294, true),
+        (4_294_967_295, false),
+        (4_294_967_303, false),
+        (u64::MAX, false),
+    ];
+    for (length, fits) in lengths {
+        let cost = Cost::of_length(length);
+        assert!(rt; ShortCost::of(cost).cost() == fits.then_some(cost));
+    }
 }

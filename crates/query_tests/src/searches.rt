@@ -1,4 +1,4 @@
-ghost use Rattle.std.specs.Prelude.{◌≡◌, length, None, IfOk};
+ghost use Rattle.std.specs.Prelude.{◌≡◌, ◌<◌, length, None, IfOk};
 ghost use Rattle.ch_cost.specs.Cost.{of_weight};
 
 use ch_cost::Cost;
@@ -15,11 +15,12 @@ fn one_node(alloc: Global) -> Result<Hierarchy, AllocError>
     Ok(Hierarchy::new(ranks, Vec::new(alloc), Cost::ZERO))
 }
 
-/// The hierarchy of one arc of weight 7, from node 0 to node 1.
-fn one_arc(alloc: Global) -> Result<Hierarchy, AllocError>
+/// The hierarchy of one arc of this weight, from node 0 to node 1.
+fn one_arc(alloc: Global, weight: u32) -> Result<Hierarchy, AllocError>
+    requires { 0 < weight }
     ensures { IfOk result (λ h. length h.ranks ≡ 2) }
 {
-    let cost = Cost::of_weight(7);
+    let cost = Cost::of_weight(weight);
     let ranks = vec![in alloc; 0, 1]?;
     let link = Link {
         from: 0,
@@ -83,7 +84,7 @@ fn a_node_and_itself(rt: HostRuntime) -> Result<(), Fail> {
 #[test]
 fn over_one_arc(rt: HostRuntime) -> Result<(), Fail> {
     let alloc = rt.alloc();
-    let hierarchy = one_arc(alloc)?;
+    let hierarchy = one_arc(alloc, 7)?;
     let mut search = Search::new(alloc, &hierarchy)?;
     let found = search.distance(0, 1)?.expect(&rt, "a walk");
     assert_eq!(rt; found.cost.length(), 7);
@@ -91,6 +92,16 @@ fn over_one_arc(rt: HostRuntime) -> Result<(), Fail> {
     assert!(rt; search.distance(1, 0)?.is_none());
     let found = search.distance(0, 0)?.expect(&rt, "a walk");
     assert!(rt; found.cost == Cost::ZERO && found.links.is_empty());
+    Ok(())
+}
+
+#[test]
+fn over_the_heaviest_arc(rt: HostRuntime) -> Result<(), Fail> {
+    let alloc = rt.alloc();
+    let hierarchy = one_arc(alloc, u32::MAX)?;
+    let mut search = Search::new(alloc, &hierarchy)?;
+    let found = search.distance(0, 1)?.expect(&rt, "a walk");
+    assert_eq!(rt; found.cost.length(), 4_294_967_295);
     Ok(())
 }
 

@@ -17,6 +17,9 @@ use Rattle.ch_query.proofs.Turning.{below_far, bound_in_limit, link_in_limit, ra
 use Rattle.ch_query.proofs.Following.{opened-one, followed-put, followed-kept}
 use Rattle.ch_query.proofs.turn.follow.Goals as goal
 
+pub step_cost-requires : goal.step_cost-requires
+step_cost-requires c = (c.args.side, c.requires.step)
+
 pub plus-sum-requires-clause-first : goal.plus-sum-requires-clause-first
 plus-sum-requires-clause-first c =
     let h = c.args.hierarchy.now in
@@ -26,12 +29,10 @@ pub plus-sum-requires-clause-second : goal.plus-sum-requires-clause-second
 plus-sum-requires-clause-second c =
     let h = c.args.hierarchy.now in
     let k : ℕ = slice_index c.args.upward.now.links.items c.args.place in
-    let step : Step = c.index-step.result.now in
-    let is : step ≡ step_along h c.args.side k = c.index-step.ensures ∙ c.requires.step.along step in
-    subst (λ (d : Cost). IsInLimit d) (ap (λ (s : Step). s.cost) (sym is)) (link_in_limit h c.requires.made k c.requires.step.climbs.within)
+    subst (λ (d : Cost). IsInLimit d) (sym c.step_cost.ensures) (link_in_limit h c.requires.made k c.requires.step.climbs.within)
 
 latest-sum : (c : goal.After-plus-sum) → IsLatest c.args.here.now c.plus-sum.result
-latest-sum c q e closed = subst (λ (d : Cost). e.cost ≼ d) (sym c.plus-sum.ensures) (at_most_trans (c.requires.latest q e closed) (at_most_sum_left c.args.cost c.index-step.result.now.cost))
+latest-sum c q e closed = subst (λ (d : Cost). e.cost ≼ d) (sym c.plus-sum.ensures) (at_most_trans (c.requires.latest q e closed) (at_most_sum_left c.args.cost c.step_cost.result))
 
 true_false : {b : Bool} → b ≡ true → b ≡ false → ⊥
 true_false first second = cc
@@ -40,9 +41,7 @@ pub returns-then-not-counts-clause-followed : goal.returns-then-not-counts-claus
 returns-then-not-counts-clause-followed c counted =
     let h = c.args.hierarchy.now in
     let k : ℕ = slice_index c.args.upward.now.links.items c.args.place in
-    let step : Step = c.index-step.result.now in
-    let is : step ≡ step_along h c.args.side k = c.index-step.ensures ∙ c.requires.step.along step in
-    let sum : c.plus-sum.result ≡ c.args.cost ⊕ cost_at h k = c.plus-sum.ensures ∙ ap (λ (s : Step). c.args.cost ⊕ s.cost) is in
+    let sum : c.plus-sum.result ≡ c.args.cost ⊕ cost_at h k = c.plus-sum.ensures ∙ ap (λ (d : Cost). c.args.cost ⊕ d) c.step_cost.ensures in
     absurd (iff_false c.counts.ensures c.if-not-counts.true (subst (λ (d : Cost). CountsBelow h c.args.limit d) (sym sum) counted))
 
 pub is_improved_by-requires-clause-latest : goal.is_improved_by-requires-clause-latest
@@ -55,7 +54,7 @@ returns-then-not-is_improved_by-clause-followed c counted =
     let step : Step = c.index-step.result.now in
     let is : step ≡ step_along h c.args.side k = c.index-step.ensures ∙ c.requires.step.along step in
     let head : step.head ≡ head_rank h c.args.side k = ap (λ (s : Step). s.head) is in
-    let sum : c.plus-sum.result ≡ c.args.cost ⊕ cost_at h k = c.plus-sum.ensures ∙ ap (λ (s : Step). c.args.cost ⊕ s.cost) is in
+    let sum : c.plus-sum.result ≡ c.args.cost ⊕ cost_at h k = c.plus-sum.ensures ∙ ap (λ (d : Cost). c.args.cost ⊕ d) c.step_cost.ensures in
     let low : c.plus-sum.result ≺ far_cost = below_far h c.requires.made c.plus-sum.result (subst (λ (d : Cost). IsNoLonger d h.bound) (sym sum) counted.short) in
     let never : Improves c.plus-sum.result (mark_at c.args.here.now step.head) → ⊥ = λ improves. true_false (c.is_improved_by.ensures.each low improves) c.if-not-is_improved_by.true in
     followed-kept h c.args.side c.args.cost c.args.limit c.args.here.now k step.head c.plus-sum.result never c.requires.latest head sum counted
@@ -69,7 +68,7 @@ returns-clause-opened c =
     let head : step.head ≡ head_rank h c.args.side k = ap (λ (s : Step). s.head) is in
     let side = c.args.side in
     let marks : List Mark = c.args.here.now in
-    let sum : c.plus-sum.result ≡ c.args.cost ⊕ cost_at h k = c.plus-sum.ensures ∙ ap (λ (s : Step). c.args.cost ⊕ s.cost) is in
+    let sum : c.plus-sum.result ≡ c.args.cost ⊕ cost_at h k = c.plus-sum.ensures ∙ ap (λ (d : Cost). c.args.cost ⊕ d) c.step_cost.ensures in
     let short : IsNoLonger c.plus-sum.result h.bound = (c.counts.ensures.0 c.if-not-counts.false).short in
     let improves : Improves c.plus-sum.result (mark_at marks step.head) = c.is_improved_by.ensures.better c.if-not-is_improved_by.false in
     let within : step.head < length marks = omega (arith, c.requires.here_nodes, head, rank_below h c.requires.made (head_at h side k) (head_in h c.requires.made side k c.requires.step.climbs.within)) in
@@ -86,7 +85,7 @@ returns-clause-followed c =
     let head : step.head ≡ head_rank h c.args.side k = ap (λ (s : Step). s.head) is in
     let side = c.args.side in
     let marks : List Mark = c.args.here.now in
-    let sum : c.plus-sum.result ≡ c.args.cost ⊕ cost_at h k = c.plus-sum.ensures ∙ ap (λ (s : Step). c.args.cost ⊕ s.cost) is in
+    let sum : c.plus-sum.result ≡ c.args.cost ⊕ cost_at h k = c.plus-sum.ensures ∙ ap (λ (d : Cost). c.args.cost ⊕ d) c.step_cost.ensures in
     let improves : Improves c.plus-sum.result (mark_at marks step.head) = c.is_improved_by.ensures.better c.if-not-is_improved_by.false in
     let within : step.head < length marks = omega (arith, c.requires.here_nodes, head, rank_below h c.requires.made (head_at h side k) (head_in h c.requires.made side k c.requires.step.climbs.within)) in
     let e : Label = record { cost = c.plus-sum.result; place = Some c.args.place } in

@@ -1,23 +1,25 @@
 use Rattle.std.proofs.Common.{List, Option, set, sym, subst, arith}
 use Rattle.ch_cost.specs.declared.cost.Cost.{Cost}
-use Rattle.ch_query.specs.declared.label.Label.{Label}
 use Rattle.ch_query.specs.declared.mark.Mark.{Mark}
 use Rattle.ch_query.specs.declared.mark.Mark.TheVariants.{Settled}
 use Rattle.ch_query.specs.Labels.{IsShortLimit}
-use Rattle.ch_query.specs.Marks.{option_cost, costs_of}
+use Rattle.ch_query.specs.Marks.{costs_of}
 use Rattle.ch_query.specs.Searching.{IsOpenedBy, AreFollowed, ArePassed}
 use Rattle.ch_query.specs.Marks.{IsLatest}
 use Rattle.ch_query.specs.Meeting.{IsLooked, cost_of}
 use Rattle.ch_query.proofs.Marking.{open-in, label-open}
 use Rattle.ch_query.proofs.BestMeetings.{looked-short, no_more-refl}
-use Rattle.ch_query.proofs.Turning.{label_in_limit, turn-latest, turn-fits, turn-short, searching-turn, followed-turn, best-turn}
+use Rattle.ch_query.proofs.Turning.{fits-cost, label_in_limit, turn-latest, turn-fits, turn-short, searching-turn, followed-turn, best-turn}
 use Rattle.ch_query.proofs.turn.turn.Goals as goal
 
 pub look_at-found-requires-clause-fits : goal.look_at-found-requires-clause-fits
 look_at-found-requires-clause-fits c = label_in_limit c.args.hierarchy.now c.requires.made c.requires.searching c.in-Some.reached.rank c.in-Some.reached.label (label-open _ c.in-Some.reached.label c.in-Some.ensures.least.opens)
 
+pub look_at-found-requires-clause-other_fits : goal.look_at-found-requires-clause-other_fits
+look_at-found-requires-clause-other_fits c = fits-cost c.args.there.now c.requires.there_fits c.in-Some.reached.rank c.cost.result c.cost.ensures
+
 pub pass_over-requires-clause-limit : goal.pass_over-requires-clause-limit
-pass_over-requires-clause-limit c = subst (λ (o : Option Cost). IsShortLimit c.args.hierarchy.now o) (sym c.cost_of-limit.ensures) (looked-short c.args.hierarchy.now c.args.here.now c.args.there.now c.in-Some.reached.rank c.in-Some.reached.label.cost (option_cost c.label.result) c.args.best.now c.look_at-found.result c.requires.best c.look_at-found.ensures)
+pass_over-requires-clause-limit c = subst (λ (o : Option Cost). IsShortLimit c.args.hierarchy.now o) (sym c.cost_of-limit.ensures) (looked-short c.args.hierarchy.now c.args.here.now c.args.there.now c.in-Some.reached.rank c.in-Some.reached.label.cost c.cost.result c.args.best.now c.look_at-found.result c.requires.best c.look_at-found.ensures)
 
 pub pass_over-requires-clause-latest : goal.pass_over-requires-clause-latest
 pass_over-requires-clause-latest c = subst (λ (ms : List Mark). IsLatest ms c.in-Some.reached.label.cost) (sym c.in-Some.ensures.settled) (turn-latest c.args.hierarchy.now c.args.climb.side c.args.upward.now.links.items c.args.climb.start c.args.here.now c.in-Some.reached.rank c.in-Some.reached.label c.requires.searching c.in-Some.ensures.least)
@@ -32,7 +34,7 @@ pub pass_over-requires-clause-short : goal.pass_over-requires-clause-short
 pass_over-requires-clause-short c = turn-short c.args.hierarchy.now c.args.climb.side c.args.upward.now.links.items c.args.climb.start c.args.here.now c.in-Some.reached.rank c.in-Some.reached.label c.requires.searching c.in-Some.ensures.least
 
 looked : (c : goal.In_ok-pass_over) → IsLooked c.args.hierarchy.now c.in-Some.reached.rank c.in-Some.reached.label.cost (costs_of c.args.there.now c.in-Some.reached.rank) c.args.best.now c.look_at-found.result
-looked c = subst (λ (o : Option Label). IsLooked c.args.hierarchy.now c.in-Some.reached.rank c.in-Some.reached.label.cost (option_cost o) c.args.best.now c.look_at-found.result) c.label.ensures c.look_at-found.ensures
+looked c = subst (λ (o : Option Cost). IsLooked c.args.hierarchy.now c.in-Some.reached.rank c.in-Some.reached.label.cost o c.args.best.now c.look_at-found.result) c.cost.ensures c.look_at-found.ensures
 
 opened : (c : goal.In_ok-pass_over) → IsOpenedBy c.args.hierarchy.now c.args.climb.side c.args.upward.now.links.items c.in-Some.reached.rank c.in-Some.reached.label.cost (set c.args.here.now c.in-Some.reached.rank (Settled c.in-Some.reached.label)) c.pass_over.new.here
 opened c = subst (λ (ms : List Mark). IsOpenedBy c.args.hierarchy.now c.args.climb.side c.args.upward.now.links.items c.in-Some.reached.rank c.in-Some.reached.label.cost ms c.pass_over.new.here) c.in-Some.ensures.settled c.in_ok-pass_over.ensures.opened

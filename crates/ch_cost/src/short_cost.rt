@@ -1,0 +1,35 @@
+ghost use Rattle.std.specs.Prelude.{◌≡◌};
+ghost use Rattle.ch_cost.specs.ShortCost.{short_of, kept_in};
+
+use crate::cost::Cost;
+
+/// A cost in half its memory, where it fits.
+///
+/// For lists that are long and often read. Whoever reads a cost there that didn't fit takes it from where it came.
+#[derive(Clone, Copy, Debug)]
+pub struct ShortCost {
+    // What isn't below the greatest number is kept as that.
+    length: u32,
+}
+
+impl ShortCost {
+    /// The short form of a cost.
+    pub fn of(cost: Cost) -> ShortCost
+        ensures { result ≡ short_of cost }
+    {
+        let length = cost.length().min(u64::from(u32::MAX));
+        ShortCost {
+            length: length as u32,
+        }
+    }
+
+    /// The cost that it was made of, or none where that didn't fit.
+    pub fn cost(self) -> Option<Cost>
+        ensures { result ≡ kept_in self }
+    {
+        if self.length == u32::MAX {
+            return None;
+        }
+        Some(Cost::of_length(u64::from(self.length)))
+    }
+}
