@@ -7,6 +7,7 @@ ghost use Rattle.ch_overlay.specs.Source.{IsSeenRow};
 use ch_cost::Cost;
 use ch_overlay::{Entry, Row, RowSource, SeeError, Seen};
 use std::alloc::{AllocError, Global};
+use std::marker::Model;
 use std::sync::Arc;
 
 /// An arc between two nodes, and what it costs: so many arcs of this weight.
@@ -20,6 +21,16 @@ pub struct Shelf {
     /// The bound is what so many arcs of this weight cost.
     count: u16,
     heaviest: u32,
+}
+
+/// A contract sees the bound alone.
+impl Model for Shelf {
+    ghost use Rattle.ch_cost.specs.declared.cost.Cost.{Cost};
+    ghost use Rattle.ch_cost.specs.Cost.{cost_of_arcs};
+
+    ghost Value = { Cost };
+
+    ghost view = { λ s. cost_of_arcs s.count s.heaviest };
 }
 
 impl Shelf {
@@ -46,7 +57,7 @@ impl Shelf {
 
     /// Whether a cost is within the bound.
     pub fn allows(&self, cost: Cost) -> bool
-        ensures { IsTrue result → IsWithin cost (cost_of_arcs self.now.count self.now.heaviest) }
+        ensures { IsTrue result → IsWithin cost self.now }
     {
         cost.is_within(Cost::of_arcs(u32::from(self.count), self.heaviest))
     }
@@ -107,15 +118,15 @@ fn is_sound(node: u32, row: &Row, bound: Cost) -> bool
 }
 
 impl Shelf {
-    /// The row that it has of a node, if that can be relied on.
-    fn seen(&self, node: u32) -> Result<Seen, SeeError>
+    /// The row that it has of a node, if that can be relied on under this bound.
+    fn seen(&self, node: u32, bound: Cost) -> Result<Seen, SeeError>
         ensures node { IfOk result (λ seen. seen.node ≡ node) }
-        ensures row { IfOk result (IsSeenRow (cost_of_arcs self.now.count self.now.heaviest)) }
+        ensures row { IfOk result (IsSeenRow bound) }
     {
         let Some(row) = self.rows.get(node as usize) else {
             return Err(SeeError::Unseen);
         };
-        if !is_sound(node, row, self.bound()) {
+        if !is_sound(node, row, bound) {
             return Err(SeeError::Unseen);
         }
         Ok(Seen {
@@ -129,20 +140,20 @@ impl Shelf {
 impl RowSource for Shelf {
     ghost use Rattle.std.specs.Prelude.{◌≡◌, refl};
     ghost use Rattle.std.proofs.Common.{◌∙◌};
-    ghost use Rattle.ch_cost.specs.Cost.{cost_of_arcs};
 
     ghost bears = { λ s. Unit {0} };
 
     ghost shows = { λ a s. Unit {0} };
 
-    ghost stays = { λ a b. cost_of_arcs b.count b.heaviest ≡ cost_of_arcs a.count a.heaviest };
+    ghost stays = { λ a b. b ≡ a };
 
     ghost whole = { λ a x. ⊥ };
 
-    ghost bound_of = { λ a. cost_of_arcs a.count a.heaviest };
+    ghost bound_of = { λ a. a };
 
     fn row_of(&mut self, node: u32) -> Result<Seen, SeeError> {
-        let seen = self.seen(node)?;
+        let bound = self.bound();
+        let seen = self.seen(node, bound)?;
         self.asked.push(node)?;
         Ok(seen)
     }
