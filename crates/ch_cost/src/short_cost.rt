@@ -5,10 +5,11 @@ use crate::cost::Cost;
 
 /// A cost in half its memory, where it fits.
 ///
-/// For lists that are long and often read. Whoever reads a cost there that didn't fit takes it from where it came.
+/// For lists that are long and often read; a cost that doesn't fit has to be read elsewhere. No call takes memory or
+/// fails.
 #[derive(Clone, Copy, Debug)]
 pub struct ShortCost {
-    // What isn't below the greatest number is kept as that.
+    // The length, or the greatest number for any that doesn't fit.
     length: u32,
 }
 

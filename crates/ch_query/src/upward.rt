@@ -132,6 +132,7 @@ pub fn step_cost(hierarchy: &Hierarchy, upward: &UpwardSteps, place: usize) -> C
 
 /// What the link of the step at a place costs, as the hierarchy has it.
 #[cold]
+#[inline(never)]
 fn link_cost(hierarchy: &Hierarchy, upward: &UpwardSteps, place: usize) -> Cost
     requires place_in { place < length upward.now.links.items }
     requires link_in { slice_index upward.now.links.items place < length hierarchy.now.links }
