@@ -1,6 +1,6 @@
 -- Why answers by routes of a right hierarchy are answers by least walks of its graph.
 use Rattle.std.proofs.Common.{ℕ, suc, ◌≡◌, ◌-◌, ◌<◌, ◌≤◌, List, [], ◌∷◌, ◌++◌, length, take, Option, inl, inr, refl, sym, subst, arith}
-use Rattle.std.specs.Prelude.{⊤, Some, None, IfSome, All, Result, OnOk, Ok, Err, IfErr}
+use Rattle.std.specs.Prelude.{⊤, Some, None, IfSome, All, Result, OnOk, Ok, Err, IfErr, IsErrAnd, MatchResult}
 use Rattle.std.proofs.lemmas.List.Elements.{All-take}
 use Rattle.ch_graph.specs.Walk.{Along}
 use Rattle.ch_graph.specs.Graph.{Graph, IsGraph, ArcOf}
@@ -210,6 +210,19 @@ pub fault-answered : (g : Graph) (fault : GrError) (gr queries : Option (List �
 fault-answered g fault None queries r reads read is = rw is tt
 fault-answered g fault (Some text) None r reads read is = rw is tt
 fault-answered g fault (Some text) (Some pairs_text) r reads read is = rw is (g, reads, read)
+
+-- and where they are answered by the file of a hierarchy
+pub fault-routed : {V : Type 0} (h : Hierarchy) (hier queries : Option (List ℕ)) (read : Result V GrError) (told : Result V ServiceError) (e : ServiceError) (r : Result ⊤ ServiceError) → IfSome hier (λ bytes. Spells bytes h)
+    → IfErr read (λ fault. IfSome queries (λ text. FromText fault.kind (pairs_of (length h.ranks) text ≡ Err fault))) → MatchResult read (λ x. told ≡ Ok x) (λ fault. IsErrAnd told (λ x. x ≡ Queries fault)) → told ≡ Err e → IsErrAnd r (λ x. x ≡ e)
+    → IfErr r (λ x. IfTold hier queries (λ bytes pairs_text. IsRoutingFault bytes pairs_text x))
+fault-routed h hier queries (Ok v) told e r spells reads cases was is = absurd (cc)
+fault-routed h hier queries (Err fault) (Ok v) e r spells reads cases was is = absurd cases
+fault-routed h hier queries (Err fault) (Err t) e (Ok x) spells reads cases was is = tt
+fault-routed h None queries (Err fault) (Err t) e (Err x) spells reads cases was is = tt
+fault-routed h (Some bytes) None (Err fault) (Err t) e (Err x) spells reads cases was is = tt
+fault-routed h (Some bytes) (Some pairs_text) (Err fault) (Err t) e (Err x) spells reads cases was is =
+    let same : Queries fault ≡ x = cc in
+    subst (IsRoutingFault bytes pairs_text) same (h, spells, reads)
 
 -- what was refused is no refusal of the build
 

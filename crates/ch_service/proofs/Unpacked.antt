@@ -55,9 +55,13 @@ refused-unpacking h pair e (Ok x) is f = tt
 refused-unpacking h pair e (Err x) is f = subst (IsSearchFault h pair) (sym is) (told h pair e f)
 
 -- and where nothing else was changed
-pub refused-search : {T : Type 0} (h : Hierarchy) (pair : ℕ × ℕ) (e : ServiceError) (r : Result T ServiceError) (P : Type 0) → IsErrAnd r (λ x. x ≡ e) → IsSearchFault h pair e → P → IfErr r (λ x. IsSearchFault h pair x × P)
-refused-search h pair e (Ok x) P is f p = tt
-refused-search h pair e (Err x) P is f p = (subst (IsSearchFault h pair) (sym is) f, p)
+pub refused-search : {T U : Type 0} (h : Hierarchy) (pair : ℕ × ℕ) (found : Result U ServiceError) (e : ServiceError) (r : Result T ServiceError) (P : Type 0) → found ≡ Err e → IfErr found (IsSearchFault h pair) → IsErrAnd r (λ x. x ≡ e) → P
+    → IfErr r (λ x. IsSearchFault h pair x × P)
+refused-search h pair (Ok v) e r P was f is p = absurd (cc)
+refused-search h pair (Err y) e (Ok x) P was f is p = tt
+refused-search h pair (Err y) e (Err x) P was f is p =
+    let same : y ≡ x = cc in
+    (subst (IsSearchFault h pair) same f, p)
 
 -- what a search of the hierarchy found
 

@@ -235,6 +235,39 @@ routed_told (Some bytes) None old new r w f k s = tt
 routed_told (Some bytes) (Some pairs) old new (Ok x) w f k s = is_routed bytes pairs old new w
 routed_told (Some bytes) (Some pairs) old new (Err e) w f k s = routed_refused bytes pairs old new e f k s
 
+-- the status that a job ends with is that after the call
+
+pub two_after : (first second old new : Option (List ℕ)) (r : Result ⊤ ServiceError) (status : ℕ) → status ≡ status_after r → IfTold first second (λ graph pairs. Tells (status_after r) graph pairs old new)
+    → IfTold first second (λ graph pairs. Tells status graph pairs old new)
+two_after first second old new r status is told = rw is told
+
+pub joined_after : (first old new : Option (List ℕ)) (r : Result ⊤ ServiceError) (status : ℕ) → status ≡ status_after r → IfSome first (λ text. Tells (status_after r) (graph_part text) (pairs_part text) old new)
+    → IfSome first (λ text. Tells status (graph_part text) (pairs_part text) old new)
+joined_after first old new r status is told = rw is told
+
+pub prepared_after : (first old new : Option (List ℕ)) (r : Result ⊤ ServiceError) (status : ℕ) → status ≡ status_after r → IfSome first (λ text. TellsPrepared (status_after r) text old new) → IfSome first (λ text. TellsPrepared status text old new)
+prepared_after first old new r status is told = rw is told
+
+pub routed_after : (first second old new : Option (List ℕ)) (r : Result ⊤ ServiceError) (status : ℕ) → status ≡ status_after r → IfTold first second (λ bytes pairs. TellsRouted (status_after r) bytes pairs old new)
+    → IfTold first second (λ bytes pairs. TellsRouted status bytes pairs old new)
+routed_after first second old new r status is told = rw is told
+
+-- and where what the workers told doesn't agree, nothing was written
+
+refused_mixed : (old new : Option (List ℕ)) (e : ServiceError) → KeepsAtFault old new e → status_of e ≡ 8 → Keeps old new
+refused_mixed old new (Graph fault) k is = k
+refused_mixed old new (Queries fault) k is = k
+refused_mixed old new (Hierarchy e) k is = k
+refused_mixed old new (Build e) k is = k
+refused_mixed old new (Unpack unpacking.OutOfMemory) k is = absurd (cc)
+refused_mixed old new (Unpack unpacking.TooLong) k is = absurd (cc)
+refused_mixed old new (Write fault) k is = absurd (cc)
+refused_mixed old new OutOfMemory k is = absurd (cc)
+
+pub mixed_keeps : (old new : Option (List ℕ)) (r : Result ⊤ ServiceError) → IfErr r (KeepsAtFault old new) → status_after r ≡ 8 → Keeps old new
+mixed_keeps old new (Ok x) k is = absurd (cc)
+mixed_keeps old new (Err e) k is = refused_mixed old new e k is
+
 -- Which statuses there are
 
 -- a refusal has a status of its own
