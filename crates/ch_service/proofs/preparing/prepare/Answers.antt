@@ -4,12 +4,12 @@ use Rattle.ch_service.proofs.Prepared.{writes-prepared, breaks-prepared, fault-p
 use Rattle.ch_service.proofs.preparing.prepare.Goals as goal
 
 pub returns-clause-prepares : goal.returns-clause-prepares
-returns-clause-prepares g c = writes-prepared c.in-Ok.graph c.in_ok-hierarchy.hierarchy _ _ _ (search rules) c.in_ok-hierarchy.ensures.right (search rules) (search rules)
+returns-clause-prepares g c = writes-prepared c.in-Ok.graph c.in_ok-hierarchy.hierarchy _ _ _ (search rules) c.in_ok-hierarchy.ensures.right (search rules) c.in_ok-write.ensures.ok
 
 pub returns-in_err-write-clause-broken : goal.returns-in_err-write-clause-broken
 returns-in_err-write-clause-broken g c =
     breaks-prepared c.in-Ok.graph c.in_ok-hierarchy.hierarchy _ _ _ c.in_err-write.field-0.0 c.from_residual-in_err-write.result (search rules) c.in_ok-hierarchy.ensures.right (search rules)
-    c.from_residual-in_err-write.ensures.1 (search rules)
+    c.from_residual-in_err-write.ensures.1 c.in_err-write.ensures.err
 
 pub returns-in-Err-clause-fault : goal.returns-in-Err-clause-fault
 returns-in-Err-clause-fault g c = fault-prepared _ c.in-Err.fault c.refuse.result (search rules) c.refuse.ensures
