@@ -4,8 +4,7 @@ use crate::networks::{HEAVY, Line, MOST, PARALLEL, ROW, TIE, graph_of};
 use crate::proposals::{are_of, are_shortcuts};
 use crate::shelf::Arcs;
 use ch_contract::{
-    Board, CommitError, Contraction, FinishError, Proposal, ProposeError, Receipt, Site,
-    contract_by_sweep, propose,
+    Board, CommitError, Contraction, FinishError, Proposal, ProposeError, Receipt, Site, propose,
 };
 use ch_cost::Cost;
 use ch_graph::{Graph, Hierarchy, Link, Road};
@@ -194,8 +193,8 @@ fn comes_to<S: Site>(alloc: Global, graph: Graph, case: Case) -> Result<bool, Fa
     holds &= refuses(alloc, &mut board, case.nodes, ProposeError::Unseen);
     let receipts = board.sweep(SETTLE)?;
     holds &= in_order(&receipts, contracted) & is_log(board.log(), case);
-    match board.into_hierarchy() {
-        Ok(hierarchy) => Ok(holds & is_hierarchy(&hierarchy, case)),
+    match board.finish() {
+        Ok(finished) => Ok(holds & is_hierarchy(&finished.hierarchy, case)),
         Err((_, error)) => Err(Fail::from(error)),
     }
 }
@@ -269,15 +268,6 @@ fn boards_come_to_their_hierarchies(rt: HostRuntime) -> Result<(), Fail> {
     Ok(())
 }
 
-/// A sweep of the row of three nodes, by the call that names the graph itself.
-#[test]
-fn hierarchy_by_sweep(rt: HostRuntime) -> Result<(), Fail> {
-    let alloc = rt.alloc();
-    let hierarchy = contract_by_sweep(alloc, graph_of(alloc, 3, &ROW)?, SETTLE)?;
-    assert!(rt; is_hierarchy(&hierarchy, ROW_OF_THREE));
-    Ok(())
-}
-
 /// The row of three nodes with another weight, which leaves the bound as it is.
 const OTHER_ROW: [Line; 2] = [(1, 0, 3), (0, 2, 3)];
 
@@ -323,7 +313,7 @@ fn has_nodes_left<S: Site>(alloc: Global, graph: Graph) -> Result<bool, Fail>
     requires named { S.graph ≡ graph }
 {
     let board: Board<S> = Board::new(alloc, graph)?;
-    match board.into_hierarchy() {
+    match board.finish() {
         Ok(_) => Ok(false),
         Err((back, error)) => Ok((error == FinishError::NodesLeft) & is_fresh(&back)),
     }
