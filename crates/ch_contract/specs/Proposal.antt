@@ -1,5 +1,5 @@
 -- Proposals to contract a node: the rows that they rest on, and a verdict for each pair of neighbours.
-use Rattle.std.specs.Prelude.{ℕ, ◌≡◌, ◌≢◌, ◌⊎◌, ◌<◌, ◌≤◌, ◌*◌, ◌^◌, List, ◌∷◌, length, Option, Some, None, All, AllPairs, Contains, codes}
+use Rattle.std.specs.Prelude.{ℕ, ◌≡◌, ◌≢◌, ◌↔◌, ◌⊎◌, ◌<◌, ◌≤◌, ◌*◌, ◌^◌, List, ◌∷◌, length, Option, Some, None, Result, Err, All, AllPairs, Contains, codes}
 use Rattle.ch_cost.specs.declared.cost.Cost.{Cost}
 use Rattle.ch_cost.specs.Cost.{IsWithin}
 use Rattle.ch_laws.specs.declared.shortcut.Shortcut.{Shortcut}
@@ -8,7 +8,7 @@ use Rattle.ch_laws.specs.declared.entry.Entry.{Entry}
 use Rattle.ch_laws.specs.Rows.{Row, Lists}
 use Rattle.ch_laws.specs.Verdicts.{HasWay, ListsThrough, AreVerdicts}
 use Rattle.ch_overlay.specs.declared.source.Seen.{Seen}
-use Rattle.ch_overlay.specs.Source.{row_of, IsBound, IsSeenRow}
+use Rattle.ch_overlay.specs.Source.{row_in, row_of, IsBound, IsSeenRow}
 use Rattle.ch_contract.specs.declared.error.ProposeError.{ProposeError}
 use Rattle.ch_contract.specs.declared.error.ProposeError.TheVariants.{OutOfMemory, Unseen, Contracted}
 use Rattle.ch_contract.specs.declared.facts.Facts.{Facts}
@@ -80,3 +80,15 @@ pub record AreFactsOf (p : Proposal) (f : Facts) : Type 0 where
   pub ins : f.ins ≡ length row.inn
   pub outs : f.outs ≡ length row.out
   pub shortcuts : f.shortcuts ≡ length p.shortcuts
+
+-- Where memory sufficed and no row was missing, a row of the node was read, and the answer is that the node is contracted
+-- exactly where that row has a rank.
+pub record IsToldByRank (Bears Shows : Seen → Type 0) (node : ℕ) (result : Result Proposal ProposeError) : Type 0 where
+  pub row : Seen
+  pub of_node : row.node ≡ node
+  pub bears : Bears row
+  pub shows : Shows row
+  pub ranked : (result ≡ Err Contracted) ↔ ((row_in row).rank ≢ None)
+
+abbrev pub TellsContracted : (Seen → Type 0) → (Seen → Type 0) → ℕ → Result Proposal ProposeError → Type 0
+TellsContracted Bears Shows node result = (result ≡ Err OutOfMemory → ⊥) → (result ≡ Err Unseen → ⊥) → IsToldByRank Bears Shows node result
