@@ -9,6 +9,7 @@
 //! are kept.
 #![tactic(auto)]
 
+mod error;
 mod frontier;
 mod graph;
 mod hierarchy;
@@ -22,6 +23,7 @@ mod road;
 mod search;
 mod step;
 
+pub use error::GraphError;
 pub use graph::Graph;
 pub use hierarchy::{Hierarchy, LinkId};
 pub use laws::{
