@@ -18,7 +18,7 @@ use crate::proposing::{Scratch, propose_with};
 use crate::shown::shown;
 use crate::site::Site;
 use ch_cost::Cost;
-use ch_graph::Graph;
+use ch_graph::{Graph, Hierarchy};
 use ch_laws::bounds_fit;
 use ch_overlay::{Overlay, RowSource, SeeError, Seen};
 use std::alloc::{AllocError, Global};
@@ -137,11 +137,24 @@ impl<S: Site> Board<S> {
         Ok(receipts)
     }
 
-    /// The hierarchy that the contractions lead to, and the log: the rank of a node is the number of nodes that were
-    /// contracted before it, and the links are the arcs that the rows have, by their ends. It is right for the graph.
+    /// The hierarchy that the contractions lead to: the rank of a node is the number of nodes that were contracted
+    /// before it, and the links are the arcs that the rows have, by their ends. It is right for the graph.
     ///
     /// Refused while a node isn't contracted, which is tested first, or for want of memory; the board is handed back as
     /// it was. Takes memory for the ranks and the links, which it sorts.
+    pub fn into_hierarchy(self) -> Result<Hierarchy, (Board<S>, FinishError)>
+        ensures made { IfOk result (λ h. IsMade self.graph (state_of self.overlay) h) }
+        ensures right { IfOk result (λ h. IsRight S.graph h) }
+        ensures left { IsErrOf result (self, FinishError.NodesLeft) ↔ HasNodesLeft self }
+        ensures back { IfErr result (λ refused. refused.0 ≡ self) }
+    {
+        match hierarchy_of(&self.ledger) {
+            Ok(hierarchy) => Ok(hierarchy),
+            Err(error) => Err((self, error)),
+        }
+    }
+
+    /// The hierarchy that the contractions lead to, as [`Board::into_hierarchy`] makes it, and the log.
     pub fn finish(self) -> Result<Finished, (Board<S>, FinishError)>
         ensures made { IfOk result (λ f. IsMade self.graph (state_of self.overlay) f.hierarchy) }
         ensures right { IfOk result (λ f. IsRight S.graph f.hierarchy) }

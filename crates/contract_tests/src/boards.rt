@@ -193,8 +193,8 @@ fn comes_to<S: Site>(alloc: Global, graph: Graph, case: Case) -> Result<bool, Fa
     holds &= refuses(alloc, &mut board, case.nodes, ProposeError::Unseen);
     let receipts = board.sweep(SETTLE)?;
     holds &= in_order(&receipts, contracted) & is_log(board.log(), case);
-    match board.finish() {
-        Ok(finished) => Ok(holds & is_hierarchy(&finished.hierarchy, case)),
+    match board.into_hierarchy() {
+        Ok(hierarchy) => Ok(holds & is_hierarchy(&hierarchy, case)),
         Err((_, error)) => Err(Fail::from(error)),
     }
 }
@@ -313,7 +313,7 @@ fn has_nodes_left<S: Site>(alloc: Global, graph: Graph) -> Result<bool, Fail>
     requires named { S.graph ≡ graph }
 {
     let board: Board<S> = Board::new(alloc, graph)?;
-    match board.finish() {
+    match board.into_hierarchy() {
         Ok(_) => Ok(false),
         Err((back, error)) => Ok((error == FinishError::NodesLeft) & is_fresh(&back)),
     }
