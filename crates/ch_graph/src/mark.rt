@@ -1,11 +1,11 @@
 ghost use Rattle.std.specs.Prelude.{◌↔◌, IsTrue};
-ghost use Rattle.ch_graph.specs.Labels.{Improves};
+ghost use Rattle.ch_graph.specs.Marks.{Improves};
 
 use ch_cost::Cost;
 
 /// What a search knows of a node.
 #[derive(Clone, Copy, Debug)]
-pub enum Label {
+pub enum Mark {
     /// No walk to it was found yet.
     Unseen,
     /// A walk of this cost leads to it, and a cheaper one may still be found.
@@ -14,15 +14,15 @@ pub enum Label {
     Settled(Cost),
 }
 
-impl Label {
-    /// Whether a walk of this cost to the node is better than what the label knows.
+impl Mark {
+    /// Whether a walk of this cost to the node is better than what the mark knows.
     pub fn is_improved_by(self, cost: Cost) -> bool
         ensures { IsTrue result ↔ Improves cost self }
     {
         match self {
-            Label::Unseen => true,
-            Label::Open(known) => cost.is_below(known),
-            Label::Settled(_) => false,
+            Mark::Unseen => true,
+            Mark::Open(known) => cost.is_below(known),
+            Mark::Settled(_) => false,
         }
     }
 }
