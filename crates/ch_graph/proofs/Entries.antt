@@ -12,11 +12,11 @@ use Rattle.std.specs.BinaryHeap.{IsHeap, IsUpperBound}
 use Rattle.ch_cost.specs.declared.cost.Cost.{Cost}
 use Rattle.ch_cost.specs.Cost.{◌≼◌, compare}
 use Rattle.ch_cost.specs.Cost.Laws.{at_most_refl, at_most_trans, at_most-from_not_less}
-use Rattle.ch_graph.specs.declared.label.Label.{Label}
-use Rattle.ch_graph.specs.declared.label.Label.TheVariants.{Open, Settled}
-use Rattle.ch_graph.specs.Labels.{label, IsAtMost, Improves, IsLeastOpen}
+use Rattle.ch_graph.specs.declared.mark.Mark.{Mark}
+use Rattle.ch_graph.specs.declared.mark.Mark.TheVariants.{Open, Settled}
+use Rattle.ch_graph.specs.Marks.{mark, IsAtMost, Improves, IsLeastOpen}
 use Rattle.ch_graph.specs.Queue.{Entry, entry, entry_cmp, IsEntryOf, IsQueue}
-use Rattle.ch_graph.proofs.LabelSteps.{cases_write, improves-below, open-settled, open-open}
+use Rattle.ch_graph.proofs.MarkSteps.{cases_write, improves-below, open-settled, open-open}
 
 -- Membership
 
@@ -43,82 +43,82 @@ greatest-least x xs top = All-weaker (λ e. is_lt (entry_cmp x e) ≡ false) (λ
 
 -- Steps
 
--- a node is opened with a cost that improves its label, and put into the queue
-pub queue-open : (labels : List Label) (entries new : List Entry) (v : ℕ) (c : Cost) → IsQueue labels entries → v < length labels → Improves c (label labels v) → IsPermutation (entry c v ∷ entries) new → IsHeap entry_cmp new → IsQueue (set labels v (Open c)) new
-queue-open labels entries new v c queue h improves moved heap = record {
+-- a node is opened with a cost that improves its mark, and put into the queue
+pub queue-open : (marks : List Mark) (entries new : List Entry) (v : ℕ) (c : Cost) → IsQueue marks entries → v < length marks → Improves c (mark marks v) → IsPermutation (entry c v ∷ entries) new → IsHeap entry_cmp new → IsQueue (set marks v (Open c)) new
+queue-open marks entries new v c queue h improves moved heap = record {
   heap = heap;
   waits = λ u d is. Contains-permutation (entry c v ∷ entries) new (entry d u) moved (waits u d is);
-  known = All-permutation (IsEntryOf written) (entry c v ∷ entries) new moved (All-cons (IsEntryOf written) (entry c v) entries (omega (arith, h, length-set labels v (Open c)), first) (All-weaker (IsEntryOf labels) (IsEntryOf written) stays entries queue.known));
+  known = All-permutation (IsEntryOf written) (entry c v ∷ entries) new moved (All-cons (IsEntryOf written) (entry c v) entries (omega (arith, h, length-set marks v (Open c)), first) (All-weaker (IsEntryOf marks) (IsEntryOf written) stays entries queue.known));
 } where
-  written : List Label
-  written = set labels v (Open c)
+  written : List Mark
+  written = set marks v (Open c)
 
-  waits : (u : ℕ) (d : Cost) → label (set labels v (Open c)) u ≡ Open d → Contains (entry c v ∷ entries) (entry d u)
-  waits u d is = elim (cases_write labels v (Open c) u h) [
+  waits : (u : ℕ) (d : Cost) → mark (set marks v (Open c)) u ≡ Open d → Contains (entry c v ∷ entries) (entry d u)
+  waits u d is = elim (cases_write marks v (Open c) u h) [
     | inl w ↦ subst (λ k. Contains (entry c v ∷ entries) (entry k u)) (open-open (sym w.reads ∙ is)) (subst (λ k. Contains (entry c v ∷ entries) (entry c k)) (sym w.at) (contains_head (entry c v) entries))
     | inr k ↦ contains_tail (entry c v) (entry d u) entries (queue.waits u d (sym k.reads ∙ is))
   ]
 
-  first : IsAtMost (label (set labels v (Open c)) v) c
-  first = elim (cases_write labels v (Open c) v h) [
+  first : IsAtMost (mark (set marks v (Open c)) v) c
+  first = elim (cases_write marks v (Open c) v h) [
     | inl w ↦ subst (λ l. IsAtMost l c) (sym w.reads) (at_most_refl c)
     | inr k ↦ absurd (k.other refl)
   ]
 
-  stays : (e : Entry) → IsEntryOf labels e → IsEntryOf (set labels v (Open c)) e
+  stays : (e : Entry) → IsEntryOf marks e → IsEntryOf (set marks v (Open c)) e
   stays e k = (
-    omega (arith, k.0, length-set labels v (Open c)),
-    elim (cases_write labels v (Open c) e.0.1 h) [
-      | inl w ↦ subst (λ l. IsAtMost l e.0.0) (sym w.reads) (improves-below (label labels v) c e.0.0 improves (subst (λ u. IsAtMost (label labels u) e.0.0) w.at k.1))
+    omega (arith, k.0, length-set marks v (Open c)),
+    elim (cases_write marks v (Open c) e.0.1 h) [
+      | inl w ↦ subst (λ l. IsAtMost l e.0.0) (sym w.reads) (improves-below (mark marks v) c e.0.0 improves (subst (λ u. IsAtMost (mark marks u) e.0.0) w.at k.1))
       | inr o ↦ subst (λ l. IsAtMost l e.0.0) (sym o.reads) k.1
     ],
   )
 
 -- the entry of a node that isn't open is passed over
-pub queue-pass : (labels : List Label) (entries new : List Entry) (x : Entry) → IsQueue labels entries → IsPermutation entries (x ∷ new) → IsHeap entry_cmp new → ((c : Cost) → label labels x.0.1 ≡ Open c → ⊥) → IsQueue labels new
-queue-pass labels entries new x queue moved heap closed = record {
+pub queue-pass : (marks : List Mark) (entries new : List Entry) (x : Entry) → IsQueue marks entries → IsPermutation entries (x ∷ new) → IsHeap entry_cmp new → ((c : Cost) → mark marks x.0.1 ≡ Open c → ⊥) → IsQueue marks new
+queue-pass marks entries new x queue moved heap closed = record {
   heap = heap;
   waits = λ v c is. elim (contains_cases x (entry c v) new (Contains-permutation entries (x ∷ new) (entry c v) moved (queue.waits v c is))) [
-    | inl e ↦ absurd (closed c (subst (λ (y : Entry). label labels y.0.1 ≡ Open c) (sym e) is))
+    | inl e ↦ absurd (closed c (subst (λ (y : Entry). mark marks y.0.1 ≡ Open c) (sym e) is))
     | inr k ↦ k
   ];
-  known = All-tail (IsEntryOf labels) x new (All-permutation (IsEntryOf labels) entries (x ∷ new) moved queue.known);
+  known = All-tail (IsEntryOf marks) x new (All-permutation (IsEntryOf marks) entries (x ∷ new) moved queue.known);
 }
 
 -- an open node is taken out of the queue and settled
-pub queue-settle : (labels : List Label) (entries new : List Entry) (x : Entry) (c : Cost) → IsQueue labels entries → IsPermutation entries (x ∷ new) → IsHeap entry_cmp new → label labels x.0.1 ≡ Open c → x.0.1 < length labels → IsQueue (set labels x.0.1 (Settled c)) new
-queue-settle labels entries new x c queue moved heap opens h = record {
+pub queue-settle : (marks : List Mark) (entries new : List Entry) (x : Entry) (c : Cost) → IsQueue marks entries → IsPermutation entries (x ∷ new) → IsHeap entry_cmp new → mark marks x.0.1 ≡ Open c → x.0.1 < length marks → IsQueue (set marks x.0.1 (Settled c)) new
+queue-settle marks entries new x c queue moved heap opens h = record {
   heap = heap;
-  waits = λ v d is. elim (cases_write labels x.0.1 (Settled c) v h) [
+  waits = λ v d is. elim (cases_write marks x.0.1 (Settled c) v h) [
     | inl w ↦ absurd (open-settled (sym is ∙ w.reads))
     | inr k ↦ elim (contains_cases x (entry d v) new (Contains-permutation entries (x ∷ new) (entry d v) moved (queue.waits v d (sym k.reads ∙ is)))) [
       | inl e ↦ absurd (k.other (ap (λ (y : Entry). y.0.1) (sym e)))
       | inr there ↦ there
     ]
   ];
-  known = All-weaker (IsEntryOf labels) (IsEntryOf (set labels x.0.1 (Settled c))) stays new (All-tail (IsEntryOf labels) x new (All-permutation (IsEntryOf labels) entries (x ∷ new) moved queue.known));
+  known = All-weaker (IsEntryOf marks) (IsEntryOf (set marks x.0.1 (Settled c))) stays new (All-tail (IsEntryOf marks) x new (All-permutation (IsEntryOf marks) entries (x ∷ new) moved queue.known));
 } where
-  stays : (e : Entry) → IsEntryOf labels e → IsEntryOf (set labels x.0.1 (Settled c)) e
+  stays : (e : Entry) → IsEntryOf marks e → IsEntryOf (set marks x.0.1 (Settled c)) e
   stays e k = (
-    omega (arith, k.0, length-set labels x.0.1 (Settled c)),
-    elim (cases_write labels x.0.1 (Settled c) e.0.1 h) [
-      | inl w ↦ subst (λ l. IsAtMost l e.0.0) (sym w.reads) (subst (λ l. IsAtMost l e.0.0) opens (subst (λ u. IsAtMost (label labels u) e.0.0) w.at k.1))
+    omega (arith, k.0, length-set marks x.0.1 (Settled c)),
+    elim (cases_write marks x.0.1 (Settled c) e.0.1 h) [
+      | inl w ↦ subst (λ l. IsAtMost l e.0.0) (sym w.reads) (subst (λ l. IsAtMost l e.0.0) opens (subst (λ u. IsAtMost (mark marks u) e.0.0) w.at k.1))
       | inr o ↦ subst (λ l. IsAtMost l e.0.0) (sym o.reads) k.1
     ],
   )
 
 -- what is popped is in range
-pub queue-in : (labels : List Label) (entries new : List Entry) (x : Entry) → IsQueue labels entries → IsPermutation entries (x ∷ new) → x.0.1 < length labels
-queue-in labels entries new x queue moved = (All-head (IsEntryOf labels) x new (All-permutation (IsEntryOf labels) entries (x ∷ new) moved queue.known)).0
+pub queue-in : (marks : List Mark) (entries new : List Entry) (x : Entry) → IsQueue marks entries → IsPermutation entries (x ∷ new) → x.0.1 < length marks
+queue-in marks entries new x queue moved = (All-head (IsEntryOf marks) x new (All-permutation (IsEntryOf marks) entries (x ∷ new) moved queue.known)).0
 
 -- an open node whose entry is the greatest has the least cost of all open nodes
-pub queue-least : (labels : List Label) (entries new : List Entry) (x : Entry) (c : Cost) → IsQueue labels entries → IsPermutation entries (x ∷ new) → IsUpperBound entry_cmp x entries → label labels x.0.1 ≡ Open c → IsLeastOpen labels x.0.1 c
-queue-least labels entries new x c queue moved top opens = record { opens = opens; least = least } where
-  known : IsAtMost (label labels x.0.1) x.0.0
-  known = (All-head (IsEntryOf labels) x new (All-permutation (IsEntryOf labels) entries (x ∷ new) moved queue.known)).1
+pub queue-least : (marks : List Mark) (entries new : List Entry) (x : Entry) (c : Cost) → IsQueue marks entries → IsPermutation entries (x ∷ new) → IsUpperBound entry_cmp x entries → mark marks x.0.1 ≡ Open c → IsLeastOpen marks x.0.1 c
+queue-least marks entries new x c queue moved top opens = record { opens = opens; least = least } where
+  known : IsAtMost (mark marks x.0.1) x.0.0
+  known = (All-head (IsEntryOf marks) x new (All-permutation (IsEntryOf marks) entries (x ∷ new) moved queue.known)).1
 
-  below : (u : ℕ) (d : Cost) → label labels u ≡ Open d → x.0.0 ≼ d
+  below : (u : ℕ) (d : Cost) → mark marks u ≡ Open d → x.0.0 ≼ d
   below u d is = All-contains (λ e. x.0.0 ≼ e.0.0) entries (entry d u) (greatest-least x entries top) (queue.waits u d is)
 
-  least : (u : ℕ) (d : Cost) → label labels u ≡ Open d → c ≼ d
+  least : (u : ℕ) (d : Cost) → mark marks u ≡ Open d → c ≼ d
   least u d is = at_most_trans (subst (λ l. IsAtMost l x.0.0) opens known) (below u d is)

@@ -4,7 +4,7 @@ pub mod LinkSearch
 pub mod HeadSearch
 pub mod LinkParts
 pub mod Unfolding
-pub mod LabelSteps
+pub mod MarkSteps
 pub mod Entries
 pub mod Linking
 pub mod Following

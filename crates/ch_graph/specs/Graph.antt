@@ -1,7 +1,9 @@
 -- Directed graphs with weights, and distance.
-use Rattle.std.specs.Prelude.{ℕ, ◌≡◌, ◌-◌, ◌^◌, ◌<◌, ◌≤◌, List, [], ◌∷◌, length, Option, Some, max, All, Contains}
+use Rattle.std.specs.Prelude.{ℕ, ◌≡◌, ◌-◌, ◌^◌, ◌<◌, ◌≤◌, List, [], ◌∷◌, length, Option, Some, max, All, Contains, slice_index_or}
 use Rattle.ch_cost.specs.declared.cost.Cost.{Cost}
 use Rattle.ch_cost.specs.Cost.{of_weight, cost_of_arcs, IsWeight, IsWithin}
+use Rattle.ch_graph.specs.declared.error.GraphError.{GraphError}
+use Rattle.ch_graph.specs.declared.error.GraphError.TheVariants.{TooManyNodes, TooManyArcs, BadArc}
 use Rattle.ch_graph.specs.declared.road.Road.{Road}
 use Rattle.ch_graph.specs.Walk.{Walk, IsLeast, IsLeastOrNone, Along}
 pub mod Laws
@@ -22,6 +24,18 @@ pub record IsGraph (g : Graph) : Type 0 where
   pub few_nodes : g.nodes ≤ 2 ^ 25
   pub few_arcs : length g.arcs ≤ 2 ^ 27
   pub roads : All (IsRoad g.nodes) g.arcs
+
+-- the first of these arcs that isn't allowed between so many nodes is at this place
+pub record IsFirstBad (nodes : ℕ) (arcs : List Road) (place : ℕ) : Type 0 where
+  pub within : place < length arcs
+  pub bad : (d : Road) → IsRoad nodes (slice_index_or arcs place d) → ⊥
+  pub before : (k : ℕ) (d : Road) → k < place → IsRoad nodes (slice_index_or arcs k d)
+
+-- why these arcs between so many nodes are no graph within the limits
+abbrev pub IsRefusal : ℕ → List Road → GraphError → Type 0
+IsRefusal nodes arcs TooManyNodes = 2 ^ 25 < nodes
+IsRefusal nodes arcs TooManyArcs = 2 ^ 27 < length arcs
+IsRefusal nodes arcs (BadArc place) = IsFirstBad nodes arcs place
 
 -- an arc of the graph from x to y costs c
 pub record ArcOf (g : Graph) (x y : ℕ) (c : Cost) : Type 0 where

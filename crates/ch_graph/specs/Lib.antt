@@ -4,7 +4,7 @@ pub mod Hierarchy
 pub mod LinkIndex
 pub mod LinkHalves
 pub mod Unfolding
-pub mod Labels
+pub mod Marks
 pub mod Queue
 pub mod Outgoing
 pub mod Search

@@ -1,35 +1,35 @@
 ghost use Rattle.std.specs.Prelude.{◌≡◌, ◌<◌, length, replicate, slice_set, IfOk, OnOk, IfSome, IfNone};
-ghost use Rattle.ch_graph.specs.Labels.{IsOffered, IsLeastOpen, NoneOpen};
-ghost use Rattle.ch_graph.specs.declared.label.Label.TheVariants as label;
+ghost use Rattle.ch_graph.specs.Marks.{IsOffered, IsLeastOpen, NoneOpen};
+ghost use Rattle.ch_graph.specs.declared.mark.Mark.TheVariants as mark;
 
-use crate::label::Label;
+use crate::mark::Mark;
 use ch_cost::Cost;
 use std::alloc::{AllocError, Global};
 use std::cmp::Reverse;
 use std::collections::BinaryHeap;
 use std::marker::Model;
 
-/// The labels of a search, and which open node has the least cost.
+/// The marks of a search, and which open node has the least cost.
 ///
 /// The queue may hold older, dearer entries of a node; they are passed over when they come up. It holds one entry
 /// at most for each offer.
 #[derive(Drop)]
 pub struct Frontier {
-    labels: Vec<Label>,
+    marks: Vec<Mark>,
     queue: BinaryHeap<Reverse<(Cost, u32)>>,
 }
 
 impl Model for Frontier {
     ghost use Rattle.std.specs.Prelude.{List};
     ghost use Rattle.std.specs.BinaryHeap.{heap_items};
-    ghost use Rattle.ch_graph.specs.declared.label.Label.{Label};
+    ghost use Rattle.ch_graph.specs.declared.mark.Mark.{Mark};
     ghost use Rattle.ch_graph.specs.Queue.{IsQueue};
 
-    ghost Value = { List Label };
+    ghost Value = { List Mark };
 
-    ghost view = { λ f. f.labels.items };
+    ghost view = { λ f. f.marks.items };
 
-    ghost invariant = { λ f. IsQueue f.labels.items (heap_items f.queue) };
+    ghost invariant = { λ f. IsQueue f.marks.items (heap_items f.queue) };
 }
 
 /// A node that was settled, and the cost of the least walk to it.
@@ -42,12 +42,12 @@ pub struct Reached {
 }
 
 impl Frontier {
-    /// Labels for so many nodes, none of them seen.
+    /// Marks for so many nodes, none of them seen.
     pub fn new(alloc: Global, nodes: u32) -> Result<Frontier, AllocError>
-        ensures { IfOk result (λ f. f ≡ replicate nodes label.Unseen) }
+        ensures { IfOk result (λ f. f ≡ replicate nodes mark.Unseen) }
     {
         Ok(Frontier {
-            labels: vec![in alloc; Label::Unseen; nodes as usize]?,
+            marks: vec![in alloc; Mark::Unseen; nodes as usize]?,
             queue: BinaryHeap::new(alloc),
         })
     }
@@ -59,9 +59,9 @@ impl Frontier {
         requires { node < length self.old }
         ensures { OnOk result (IsOffered self.old node cost self.new) }
     {
-        if self.labels[node as usize].is_improved_by(cost) {
+        if self.marks[node as usize].is_improved_by(cost) {
             self.queue.push(Reverse((cost, node)))?;
-            self.labels[node as usize] = Label::Open(cost);
+            self.marks[node as usize] = Mark::Open(cost);
         }
         Ok(())
     }
@@ -71,11 +71,11 @@ impl Frontier {
     pub fn settle_next(&mut self) -> Option<Reached>
         ensures none { IfNone result (NoneOpen self.old) }
         ensures least { IfSome result (λ r. IsLeastOpen self.old r.node r.cost) }
-        ensures settled { IfSome result (λ r. self.new ≡ slice_set self.old r.node (label.Settled r.cost)) }
+        ensures settled { IfSome result (λ r. self.new ≡ slice_set self.old r.node (mark.Settled r.cost)) }
     {
         'entries: while let Some(Reverse((cost, node))) = self.queue.pop() {
-            if let Label::Open(known) = self.labels[node as usize] {
-                self.labels[node as usize] = Label::Settled(known);
+            if let Mark::Open(known) = self.marks[node as usize] {
+                self.marks[node as usize] = Mark::Settled(known);
                 return Some(Reached { node, cost: known });
             }
         }

@@ -1,7 +1,8 @@
-ghost use Rattle.std.specs.Prelude.{◌≡◌, ◌<◌, ◌↔◌, All, IfOk, IfSome, IsTrue};
+ghost use Rattle.std.specs.Prelude.{◌≡◌, ◌<◌, ◌↔◌, All, IfErr, IfNone, IfOk, IfSome, IsTrue};
 ghost use Rattle.ch_cost.specs.Cost.{IsWithin};
-ghost use Rattle.ch_graph.specs.Graph.{IsGraph, IsDistance, IsWalkThrough, bound_of};
+ghost use Rattle.ch_graph.specs.Graph.{IsRoad, IsFirstBad, IsGraph, IsRefusal, IsDistance, IsWalkThrough, bound_of};
 
+use crate::error::GraphError;
 use crate::road::Road;
 use crate::{search, step};
 use ch_cost::Cost;
@@ -47,6 +48,25 @@ impl Graph {
             arcs,
             heaviest,
         }
+    }
+
+    /// The graph of these arcs, as [`Graph::new`] makes it, where they are within the limits, and else why they aren't.
+    ///
+    /// Takes no memory, and looks at each arc twice. The arcs are dropped where they are refused.
+    pub fn checked(nodes: u32, arcs: Vec<Road>) -> Result<Graph, GraphError>
+        ensures graph { IfOk result (λ g. g ≡ record { nodes = nodes; arcs = arcs.items }) }
+        ensures refused { IfErr result (IsRefusal nodes arcs.items) }
+    {
+        if nodes > 1 << 25 {
+            return Err(GraphError::TooManyNodes);
+        }
+        if arcs.len() > 1 << 27 {
+            return Err(GraphError::TooManyArcs);
+        }
+        if let Some(place) = first_bad(nodes, arcs.as_slice()) {
+            return Err(GraphError::BadArc(place));
+        }
+        Ok(Graph::new(nodes, arcs))
     }
 
     /// How many nodes there are.
@@ -107,4 +127,17 @@ impl Graph {
         let count = self.nodes;
         nodes.iter().all(|node| *node < count)
     }
+}
+
+// The place of the first of these arcs that isn't allowed between so many nodes, or none where each is.
+fn first_bad(nodes: u32, arcs: &[Road]) -> Option<usize>
+    ensures found { IfSome result (IsFirstBad nodes arcs.now) }
+    ensures none { IfNone result (All (IsRoad nodes) arcs.now) }
+{
+    'arcs: for place in 0..arcs.len() {
+        if !arcs[place].is_allowed(nodes) {
+            return Some(place);
+        }
+    }
+    None
 }

@@ -9,19 +9,21 @@
 //! are kept.
 #![tactic(auto)]
 
+mod error;
 mod frontier;
 mod graph;
 mod hierarchy;
-mod label;
 mod laws;
 mod link;
 mod link_halves;
 mod link_index;
+mod mark;
 mod outgoing;
 mod road;
 mod search;
 mod step;
 
+pub use error::GraphError;
 pub use graph::Graph;
 pub use hierarchy::{Hierarchy, LinkId};
 pub use laws::{

@@ -1,3 +1,6 @@
+ghost use Rattle.std.specs.Prelude.{◌↔◌, IsTrue};
+ghost use Rattle.ch_graph.specs.Graph.{IsRoad};
+
 /// An arc of a road graph, in one direction. A road in two directions is two of them.
 #[derive(Clone, Copy, Debug, PartialEq, Eq)]
 pub struct Road {
@@ -7,4 +10,13 @@ pub struct Road {
     pub to: u32,
     /// Its weight, in the unit of the graph's text, from 1.
     pub weight: u32,
+}
+
+impl Road {
+    /// Whether it may be an arc of a graph of so many nodes: both ends are nodes, and its weight is from 1.
+    pub fn is_allowed(self, nodes: u32) -> bool
+        ensures { IsTrue result ↔ IsRoad nodes self }
+    {
+        (self.from < nodes) & (self.to < nodes) & (self.weight > 0)
+    }
 }

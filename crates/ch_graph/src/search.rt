@@ -44,7 +44,7 @@ fn follow(
 ) -> Result<(), AllocError>
     requires node_in { reached.node < graph.now.nodes }
     requires links { IsLinked graph.now outgoing.now.last.items outgoing.now.before.items }
-    requires labels { length frontier.old ≡ graph.now.nodes }
+    requires marks { length frontier.old ≡ graph.now.nodes }
     requires latest { IsLatest frontier.old reached.cost }
     requires fits { IsInLimit reached.cost }
     ensures opened { OnOk result (IsOpenedFrom graph.now reached.node reached.cost frontier.old frontier.new) }

@@ -1,6 +1,6 @@
 pub mod LeastSum
 pub mod Ranks
-pub mod Ladders
+pub mod Counts
 pub mod Laying
 pub mod Sides
 pub mod Marking

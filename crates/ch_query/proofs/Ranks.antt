@@ -1,15 +1,13 @@
 -- The ranks of a hierarchy: each number below the number of nodes is the rank of one node.
-use Rattle.std.proofs.Common.{ℕ, ◌≡◌, ◌≢◌, ◌+◌, ◌<◌, ◌≤◌, ◌⊎◌, suc, true, false, eqb, List, [], ◌∷◌, length, get_or, set, All, slice_index, arith, sym, ap, subst, ◌∙◌, inl, inr}
+use Rattle.std.proofs.Common.{ℕ, ◌≡◌, ◌≢◌, ◌<◌, ◌≤◌, ◌⊎◌, suc, true, false, eqb, List, [], ◌∷◌, length, get_or, All, arith, sym, inl, inr}
 use Rattle.std.specs.List.{list_any}
 use Rattle.std.proofs.lemmas.Bool.{cases_eq, cases_lt}
 use Rattle.std.proofs.lemmas.Bool.Decides.{nat_tests, Decides-eqb}
-use Rattle.std.proofs.lemmas.List.{get_or-set_same, get_or-set_other, length-set}
 use Rattle.std.proofs.lemmas.List.Elements.{All-nil, All-cons, All-tail, All-head}
 use Rattle.std.proofs.lemmas.List.Kept.{AllPairs-cons}
 use Rattle.std.proofs.lemmas.Map.Made.{IsDistinct-from_AllPairs}
 use Rattle.std.proofs.lemmas.Map.Steps.{length-le_from_distinct_below}
 use Rattle.ch_graph.specs.Hierarchy.{Hierarchy, IsWellMade, rank_of}
-use Rattle.ch_query.specs.Ladder.{IsByRank}
 
 pub rank_below : (h : Hierarchy) → IsWellMade h → (x : ℕ) → x < length h.ranks → rank_of h x < length h.ranks
 rank_below h made x low = made.in_range x 0 low
@@ -53,30 +51,3 @@ rank_taken h made r low = elim (found_or_apart r h.ranks) [
       let few : length (r ∷ h.ranks) ≤ length h.ranks = length-le_from_distinct_below (r ∷ h.ranks) (length h.ranks) (IsDistinct-from_AllPairs Decides-eqb (r ∷ h.ranks) distinct) (any_below (length h.ranks) (r ∷ h.ranks) (All-cons (λ n. n < length h.ranks) r h.ranks low made.in_range)) in
       absurd (omega (arith, few))
 ]
-
--- The nodes in order: those below `count` stand at their ranks, and all that stand are nodes.
-pub record IsOrdered (h : Hierarchy) (count : ℕ) (order : List ℕ) : Type 0 where
-  pub nodes : length order ≡ length h.ranks
-  pub placed : (x : ℕ) → x < count → slice_index order (rank_of h x) ≡ x
-
-pub ordered-more : (h : Hierarchy) → IsWellMade h → (n : ℕ) (order : List ℕ) → n < length h.ranks → IsOrdered h n order → IsOrdered h (n + 1) (set order (rank_of h n) n)
-ordered-more h made n order low is = record {
-  nodes = length-set order (rank_of h n) n ∙ is.nodes;
-  placed = λ x below. elim (cases_eq x n) [
-    | inl here ↦ subst (λ y. get_or (set order (rank_of h n) n) (rank_of h y) 0 ≡ y) (sym here) (get_or-set_same order (rank_of h n) n 0 (omega (arith, is.nodes, rank_below h made n low)))
-    | inr other ↦
-        let apart : rank_of h x ≢ rank_of h n = λ same. other (same_node h made x n (omega (arith, below, low)) low same) in
-        get_or-set_other order (rank_of h n) (rank_of h x) n 0 apart ∙ is.placed x (omega (arith, below, other))
-  ];
-}
-
-pub by_rank-from_ordered : (h : Hierarchy) → IsWellMade h → (n : ℕ) (order : List ℕ) → length h.ranks ≤ n → IsOrdered h n order → IsByRank h order
-by_rank-from_ordered h made n order all is = record {
-  nodes = is.nodes;
-  node_in = λ r low. let x = rank_taken h made r low in
-      let place : slice_index order r ≡ x.0 = subst (λ q. slice_index order q ≡ x.0) x.2 (is.placed x.0 (omega (arith, all, x.1))) in
-      subst (λ y. y < length h.ranks) (sym place) x.1;
-  ranked = λ r low. let x = rank_taken h made r low in
-      let place : slice_index order r ≡ x.0 = subst (λ q. slice_index order q ≡ x.0) x.2 (is.placed x.0 (omega (arith, all, x.1))) in
-      ap (rank_of h) place ∙ x.2;
-}

@@ -1,8 +1,8 @@
 pub mod Labels
 pub mod Positions
 pub mod Climb
-pub mod Ladder
 pub mod Upward
+pub mod Counting
 pub mod Marks
 pub mod Front
 pub mod Ready

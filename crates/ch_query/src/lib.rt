@@ -5,7 +5,7 @@
 //! of the hierarchy for the two nodes, none exactly where it has none, and the links are a rise-fall walk of that
 //! cost. A query has two sides, one from the source along links that rise, and one from the target against links
 //! that fall. Both climb in rank, so one program serves them: [`upward::UpwardSteps`] are the links that a side
-//! climbs, by the rank of their feet; a [`frontier::Frontier`] holds what a side knows of the nodes, and settles the
+//! climbs, by the rank of their feet, and [`layout::Layout`] has those of both; a [`frontier::Frontier`] holds what a side knows of the nodes, and settles the
 //! least open one; [`turn::turn`] looks whether the sides meet there, and follows its links; and
 //! [`meet::meet`] lets the sides take turns, until neither has an open node below the best meeting. Why that gives
 //! the value is the law [`labels_are_right`], which any other way to label has to meet too. A call costs what it
@@ -15,13 +15,12 @@
 mod descent;
 mod frontier;
 mod label;
-mod ladder;
 mod laws;
+mod layout;
 mod limit;
 mod mark;
 mod meet;
 mod meeting;
-mod order;
 mod position;
 mod search;
 mod side;

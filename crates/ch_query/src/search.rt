@@ -9,9 +9,9 @@ ghost use Rattle.ch_query.specs.Positions.{IsRiseFallAt};
 
 use crate::descent::descent;
 use crate::frontier::Frontier;
+use crate::layout::Layout;
 use crate::meet::meet;
 use crate::meeting::Meeting;
-use crate::order::nodes_by_rank;
 use crate::side::{Climb, Side};
 use crate::upward::UpwardSteps;
 use ch_cost::Cost;
@@ -56,15 +56,14 @@ impl<'a> Model for Search<'a> {
 }
 
 impl<'a> Search<'a> {
-    /// A search of a hierarchy. Looks at each node and each link a fixed number of times.
+    /// A search of a hierarchy. Looks at each node a fixed number of times and at each link twice.
     pub fn new(alloc: Global, hierarchy: &'a Hierarchy) -> Result<Search<'a>, AllocError>
         ensures { IfOk result (λ search. search ≡ hierarchy.now) }
     {
-        let order = nodes_by_rank(alloc, hierarchy)?;
-        let rising = UpwardSteps::new(alloc, hierarchy, &order, Side::Rise)?;
-        let falling = UpwardSteps::new(alloc, hierarchy, &order, Side::Fall)?;
-        let up = Frontier::new(alloc, hierarchy.nodes())?;
-        let down = Frontier::new(alloc, hierarchy.nodes())?;
+        let nodes = hierarchy.nodes();
+        let Layout { rising, falling } = Layout::new(alloc, hierarchy)?;
+        let up = Frontier::new(alloc, nodes)?;
+        let down = Frontier::new(alloc, nodes)?;
         Ok(Search {
             hierarchy,
             rising,

@@ -1,11 +1,10 @@
-ghost use Rattle.std.specs.Prelude.{◌≡◌, ◌<◌, length, slice_index, map, All, IfOk};
+ghost use Rattle.std.specs.Prelude.{◌≡◌, ◌+◌, ◌^◌, ◌<◌, length, slice_index, IfOk};
 ghost use Rattle.ch_graph.specs.Hierarchy.{IsWellMade};
-ghost use Rattle.ch_query.specs.Ladder.{IsByRank, IsLadder};
-ghost use Rattle.ch_query.specs.Climb.{cost_at};
-ghost use Rattle.ch_query.specs.Upward.{step_along, IsLaidOut, AreAdded};
+ghost use Rattle.ch_query.specs.Climb.{cost_at, Climbs};
+ghost use Rattle.ch_query.specs.Counting.{all_below, IsCounted, IsSummed, IsFilled};
+ghost use Rattle.ch_query.specs.Upward.{step_along};
 ghost use Rattle.ch_query.specs.Searching.{IsOneStepAt};
 
-use crate::ladder::Ladder;
 use crate::position::link_at;
 use crate::side::Side;
 use ch_cost::{Cost, ShortCost};
@@ -37,73 +36,74 @@ pub struct UpwardSteps {
 }
 
 impl UpwardSteps {
-    /// Lays out the links that one side climbs. Looks at each node and each link a fixed number of times, and holds
-    /// 16 bytes a node and 16 a link meanwhile.
-    pub fn new(
+    /// Room for the steps of a side over the links that are counted, and none of them put in.
+    ///
+    /// The counts become the places of the ranks. Takes 16 bytes a link that climbs.
+    pub fn with_room(
         alloc: Global,
         hierarchy: &Hierarchy,
-        order: &[u32],
         side: Side,
+        counts: Vec<usize>,
     ) -> Result<UpwardSteps, AllocError>
-        requires { IsByRank hierarchy.now order.now }
-        ensures { IfOk result (λ upward. IsLaidOut hierarchy.now side upward.first.items upward.links.items upward.steps.items) }
+        requires made { IsWellMade hierarchy.now }
+        requires few { length hierarchy.now.links < 2 ^ 64 }
+        requires counted { IsCounted hierarchy.now side (length hierarchy.now.links) counts.items }
+        ensures { IfOk result (λ upward. IsFilled hierarchy.now side 0 upward.first.items upward.links.items upward.steps.items) }
     {
-        let ladder = Ladder::new(alloc, hierarchy, side)?;
-        let nodes = hierarchy.nodes() as usize;
-        let mut first = Vec::with_capacity(alloc, nodes + 1)?;
-        let mut links = Vec::new(alloc);
-        first.push(0)?;
-        for rank in 0..nodes {
-            add_links(hierarchy, &ladder, side, order[rank], &mut links)?;
-            first.push(links.len())?;
-        }
-        drop(ladder);
-        links.shrink_to_fit();
-        let steps = steps_along(alloc, hierarchy, side, &links)?;
+        let mut first = counts;
+        let count = sum_up(hierarchy, side, &mut first);
+        let links = vec![in alloc; 0; count]?;
+        let steps = vec![in alloc; first_step(hierarchy, side); count]?;
         Ok(UpwardSteps {
             first,
             steps,
             links,
         })
     }
+
+    /// Puts in the link at a position, which the side climbs, before those from the same node.
+    pub fn put(&mut self, hierarchy: &Hierarchy, side: Side, at: usize)
+        requires made { IsWellMade hierarchy.now }
+        requires climbs { Climbs hierarchy.now side at }
+        requires filled { IsFilled hierarchy.now side at self.old.first.items self.old.links.items self.old.steps.items }
+        ensures { IsFilled hierarchy.now side (at + 1) self.new.first.items self.new.links.items self.new.steps.items }
+    {
+        let step = step_along(hierarchy, side, at);
+        let foot = hierarchy.rank(side.foot(link_at(hierarchy, at))) as usize;
+        let place = self.first[foot] - 1;
+        self.first[foot] = place;
+        self.links[place] = at;
+        self.steps[place] = step;
+    }
 }
 
-/// Adds the links that climb from a node, from its last one to its first.
-fn add_links(
-    hierarchy: &Hierarchy,
-    ladder: &Ladder,
-    side: Side,
-    node: u32,
-    links: &mut Vec<usize>,
-) -> Result<(), AllocError>
-    requires node_in { node < length hierarchy.now.ranks }
-    requires ladder { IsLadder hierarchy.now side ladder.now.last.items ladder.now.before.items }
-    ensures { IfOk result (λ _. AreAdded hierarchy.now side node links.old.items links.new.items) }
+/// Adds to the count of each rank those of the ranks below it. Answers how many links there are in all.
+fn sum_up(hierarchy: &Hierarchy, side: Side, counts: &mut [usize]) -> usize
+    requires few { length hierarchy.now.links < 2 ^ 64 }
+    requires counted { IsCounted hierarchy.now side (length hierarchy.now.links) counts.old }
+    ensures sums { IsSummed hierarchy.now side counts.new }
+    ensures all { result ≡ all_below hierarchy.now side (length counts.new) }
 {
-    let mut next = ladder.last[node as usize];
-    'links: while let Some(at) = next {
-        links.push(at)?;
-        next = ladder.before[at];
+    let mut sum = 0;
+    'ranks: for rank in 0..counts.len() {
+        sum += counts[rank];
+        counts[rank] = sum;
     }
-    Ok(())
+    sum
 }
 
-/// The steps along these links.
-fn steps_along(
-    alloc: Global,
-    hierarchy: &Hierarchy,
-    side: Side,
-    links: &[usize],
-) -> Result<Vec<Step>, AllocError>
-    requires made { IsWellMade hierarchy.now }
-    requires links_in { All (λ k. k < length hierarchy.now.links) links.now }
-    ensures { IfOk result (λ steps. steps.items ≡ map (step_along hierarchy.now side) links.now) }
+/// The step along the first link; any step where there is no link.
+fn first_step(hierarchy: &Hierarchy, side: Side) -> Step
+    requires { IsWellMade hierarchy.now }
+    ensures { 0 < length hierarchy.now.links → result ≡ step_along hierarchy.now side 0 }
 {
-    let mut steps = Vec::with_capacity(alloc, links.len())?;
-    for at in links {
-        steps.push(step_along(hierarchy, side, *at))?;
+    if hierarchy.links().is_empty() {
+        return Step {
+            head: 0,
+            cost: ShortCost::of(Cost::ZERO),
+        };
     }
-    Ok(steps)
+    step_along(hierarchy, side, 0)
 }
 
 /// The step along the link at a position.

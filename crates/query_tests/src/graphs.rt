@@ -1,9 +1,8 @@
 ghost use Rattle.std.specs.Prelude.{◌≡◌, IfOk};
-ghost use Rattle.ch_graph.specs.Graph.{IsRoad};
 
 use ch_cost::Cost;
-use ch_graph::{Graph, Road};
-use std::alloc::Global;
+use ch_graph::{Graph, GraphError, Road};
+use std::alloc::{AllocError, Global};
 use std::process::Abort;
 use std::test::Fail;
 
@@ -29,32 +28,25 @@ const AROUND: [(u32, u32, u32); 6] = [
 /// Arcs of the greatest weight.
 const HEAVIEST: [(u32, u32, u32); 4] = [(2, 0, HEAVY), (0, 1, HEAVY), (1, 0, HEAVY), (0, 3, HEAVY)];
 
-/// An arc between two of so many nodes.
-fn road(rt: &impl Abort, nodes: u32, from: u32, to: u32, weight: u32) -> Road
-    ensures { IsRoad nodes result }
-{
-    assert!(rt; from < nodes);
-    assert!(rt; to < nodes);
-    assert!(rt; 0 < weight);
-    Road { from, to, weight }
-}
-
-/// The graph of these arcs, each given by its ends and its weight.
-fn graph_of(
-    rt: &impl Abort,
-    alloc: Global,
-    nodes: u32,
-    arcs: &[(u32, u32, u32)],
-) -> Result<Graph, Fail>
-    ensures { IfOk result (λ g. g.nodes ≡ nodes) }
-{
+/// Arcs, each given by its ends and its weight.
+fn roads_of(alloc: Global, arcs: &[(u32, u32, u32)]) -> Result<Vec<Road>, AllocError> {
     let mut roads = Vec::new(alloc);
     for (from, to, weight) in arcs {
-        roads.push(road(rt, nodes, *from, *to, *weight))?;
+        roads.push(Road {
+            from: *from,
+            to: *to,
+            weight: *weight,
+        })?;
     }
-    assert!(rt; nodes <= 1 << 25);
-    assert!(rt; roads.len() <= 1 << 27);
-    Ok(Graph::new(nodes, roads))
+    Ok(roads)
+}
+
+/// The graph of these arcs.
+fn graph_of(alloc: Global, nodes: u32, arcs: &[(u32, u32, u32)]) -> Result<Graph, Fail>
+    ensures { IfOk result (λ g. g.nodes ≡ nodes) }
+{
+    let graph = Graph::checked(nodes, roads_of(alloc, arcs)?)?;
+    Ok(graph)
 }
 
 /// Compares the bound of a graph and least lengths, each given by its ends.
@@ -97,7 +89,7 @@ fn check_walks(rt: &impl Abort, graph: &Graph, walks: &[(&[u32], &[u32], bool)])
 
 #[test]
 fn keeps_what_it_is_made_of(rt: HostRuntime) -> Result<(), Fail> {
-    let graph = graph_of(&rt, rt.alloc(), 3, &ROW)?;
+    let graph = graph_of(rt.alloc(), 3, &ROW)?;
     assert!(rt; graph.nodes() == 3);
     assert!(rt;
         graph.arcs()
@@ -115,6 +107,22 @@ fn keeps_what_it_is_made_of(rt: HostRuntime) -> Result<(), Fail> {
             ]
             .as_slice()
     );
+    Ok(())
+}
+
+#[test]
+fn refuses_arcs_that_are_not_allowed(rt: HostRuntime) -> Result<(), Fail> {
+    let cases: [(u32, &[(u32, u32, u32)], GraphError); 4] = [
+        (33554433, &[], GraphError::TooManyNodes),
+        (2, &[(2, 0, 1)], GraphError::BadArc(0)),
+        (2, &[(0, 1, 1), (0, 2, 1), (5, 0, 1)], GraphError::BadArc(1)),
+        (2, &[(0, 1, 1), (0, 1, 0)], GraphError::BadArc(1)),
+    ];
+    for (nodes, arcs, error) in cases {
+        let roads = roads_of(rt.alloc(), arcs)?;
+        let refused = Graph::checked(nodes, roads).err();
+        assert!(rt; refused == Some(error));
+    }
     Ok(())
 }
 
@@ -149,7 +157,7 @@ fn answers_least_lengths(rt: HostRuntime) -> Result<(), Fail> {
         (1, &[], 0, &[(0, 0, Some(0))]),
     ];
     for (nodes, arcs, bound, lengths) in cases {
-        let graph = graph_of(&rt, rt.alloc(), nodes, arcs)?;
+        let graph = graph_of(rt.alloc(), nodes, arcs)?;
         check_least(&rt, &graph, bound, lengths)?;
     }
     Ok(())
@@ -157,7 +165,7 @@ fn answers_least_lengths(rt: HostRuntime) -> Result<(), Fail> {
 
 #[test]
 fn tells_walks(rt: HostRuntime) -> Result<(), Fail> {
-    let row = graph_of(&rt, rt.alloc(), 3, &ROW)?;
+    let row = graph_of(rt.alloc(), 3, &ROW)?;
     check_walks(
         &rt,
         &row,
@@ -174,7 +182,7 @@ fn tells_walks(rt: HostRuntime) -> Result<(), Fail> {
             (&[], &[], false),
         ],
     );
-    let parallel = graph_of(&rt, rt.alloc(), 2, &PARALLEL)?;
+    let parallel = graph_of(rt.alloc(), 2, &PARALLEL)?;
     check_walks(
         &rt,
         &parallel,

@@ -100,6 +100,9 @@ at_most_sum_right a b = record { weight = omega arith }
 pub weight-from : (w : ℕ) → 0 < w → w < 2 ^ 32 → IsWeight w
 weight-from w above fits = record { above = above; fits = fits }
 
+pub weight_above : {w : ℕ} → IsWeight w → 0 < w
+weight_above h = h.above
+
 pub weight_fits : {w : ℕ} → IsWeight w → w < 2 ^ 32
 weight_fits h = h.fits
 

@@ -4,7 +4,7 @@ use Rattle.ch_cost.specs.Cost.{◌⊕◌, of_weight}
 use Rattle.ch_cost.specs.Cost.Laws.{of_arcs_arc, in_limit-from_arcs, at_most_trans, at_most_sum_left}
 use Rattle.ch_graph.specs.declared.road.Road.{Road}
 use Rattle.ch_graph.specs.Graph.{Graph}
-use Rattle.ch_graph.specs.Labels.{label, IsAtMost, IsOffered}
+use Rattle.ch_graph.specs.Marks.{mark, IsAtMost, IsOffered}
 use Rattle.ch_graph.specs.Outgoing.{road_at, IsLastFrom}
 use Rattle.ch_cost.specs.declared.cost.Cost.{Cost}
 use Rattle.ch_graph.proofs.Linking.{places_to, last_from-below}
@@ -43,10 +43,10 @@ arcs-preserved c =
     let at_in : at < length graph.arcs = omega (arith, (last.leaves at refl).0, c.arcs.invariant.within) in
     let leaves : (road_at graph.arcs at).from ≡ c.args.reached.node = (last.leaves at refl).1 in
     let read : c.index-next-in-Some.result.now ≡ get_or c.args.outgoing.now.before.items at None = get_or_read c.args.outgoing.now.before.items at c.index-next-in-Some.result.now (omega (arith, at_in, c.requires.links.arcs)) c.index-next-in-Some.ensures None in
-    let place : (road_at graph.arcs at).to < length c.arcs.frontier = omega (arith, (c.arcs-arcs.ensures.graph.roads at (record { from = 0; to = 0; weight = 0 }) at_in).to_in, c.arcs.invariant.opened.nodes, c.requires.labels) in
+    let place : (road_at graph.arcs at).to < length c.arcs.frontier = omega (arith, (c.arcs-arcs.ensures.graph.roads at (record { from = 0; to = 0; weight = 0 }) at_in).to_in, c.arcs.invariant.opened.nodes, c.requires.marks) in
     let cost : Cost = c.args.reached.cost ⊕ of_weight (road_at graph.arcs at).weight in
     let offered : IsOffered c.arcs.frontier (road_at graph.arcs at).to cost c.offer.new.self = subst (λ (rs : List Road). IsOffered c.arcs.frontier (road_at rs at).to (c.args.reached.cost ⊕ of_weight (road_at rs at).weight) c.offer.new.self) c.arcs-arcs.ensures.list (subst (λ (d : Cost). IsOffered c.arcs.frontier (road_at c.arcs-arcs.result.now at).to d c.offer.new.self) (c.plus.ensures ∙ ap (λ (d : Cost). c.args.reached.cost ⊕ d) c.of_weight.ensures) c.in_ok-offer.ensures) in
-    let kept : (u : ℕ) (d : Cost) → IsAtMost (label c.arcs.frontier u) d → IsAtMost (label c.offer.new.self u) d = offer-kept c.arcs.frontier c.offer.new.self (road_at graph.arcs at).to cost place offered in
+    let kept : (u : ℕ) (d : Cost) → IsAtMost (mark c.arcs.frontier u) d → IsAtMost (mark c.offer.new.self u) d = offer-kept c.arcs.frontier c.offer.new.self (road_at graph.arcs at).to cost place offered in
     record {
       opened = opened-more c.arcs.frontier c.offer.new.self (road_at graph.arcs at).to cost place offered graph c.args.reached.node c.args.reached.cost c.args.frontier.now (leads-road graph c.args.reached.node c.args.reached.cost at at_in leaves) c.arcs.invariant.opened;
       from = at;

@@ -1,5 +1,5 @@
 use Rattle.std.proofs.Common.{◌-◌}
-use Rattle.ch_graph.specs.Labels.{settled_count}
+use Rattle.ch_graph.specs.Marks.{settled_count}
 use Rattle.ch_graph.specs.Search.{IsSearch}
 use Rattle.ch_graph.proofs.search.least_cost.Given as goal
 

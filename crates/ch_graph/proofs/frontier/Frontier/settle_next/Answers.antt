@@ -1,32 +1,32 @@
 use Rattle.std.proofs.Common.{◌≡◌, ◌<◌, ◌∙◌, List, length, subst, sym}
 use Rattle.std.proofs.lemmas.List.{get_or_read}
 use Rattle.std.specs.BinaryHeap.{heap_items}
-use Rattle.ch_graph.specs.declared.label.Label.{Label}
-use Rattle.ch_graph.specs.declared.label.Label.TheVariants.{Unseen}
-use Rattle.ch_graph.specs.Labels.{label, IsLeastOpen}
+use Rattle.ch_graph.specs.declared.mark.Mark.{Mark}
+use Rattle.ch_graph.specs.declared.mark.Mark.TheVariants.{Unseen}
+use Rattle.ch_graph.specs.Marks.{mark, IsLeastOpen}
 use Rattle.ch_graph.proofs.Entries.{queue-in, queue-pass, queue-settle, queue-least}
 use Rattle.ch_graph.proofs.frontier.Frontier.settle_next.Goals as goal
 
 pub invariant_of-self : goal.invariant_of-self
 invariant_of-self c =
-    let labels : List Label = c.entries.self-inside.labels.items in
-    let place : c.in-Some.field-0.0.1 < length labels = queue-in labels (heap_items c.entries.self-inside.queue) (heap_items c.pop.new.self) c.in-Some.field-0 c.entries.invariant.queue c.in-Some.ensures.permutation in
-    let read : c.index.result.now ≡ label labels c.in-Some.field-0.0.1 = get_or_read labels c.in-Some.field-0.0.1 c.index.result.now place c.index.ensures Unseen in
-    queue-settle labels (heap_items c.entries.self-inside.queue) (heap_items c.pop.new.self) c.in-Some.field-0 c.in-Open.known c.entries.invariant.queue c.in-Some.ensures.permutation (c.in-Some.ensures.heap_order c.entries.invariant.queue.heap).0 (sym read ∙ c.in-Open.is) place
+    let marks : List Mark = c.entries.self-inside.marks.items in
+    let place : c.in-Some.field-0.0.1 < length marks = queue-in marks (heap_items c.entries.self-inside.queue) (heap_items c.pop.new.self) c.in-Some.field-0 c.entries.invariant.queue c.in-Some.ensures.permutation in
+    let read : c.index.result.now ≡ mark marks c.in-Some.field-0.0.1 = get_or_read marks c.in-Some.field-0.0.1 c.index.result.now place c.index.ensures Unseen in
+    queue-settle marks (heap_items c.entries.self-inside.queue) (heap_items c.pop.new.self) c.in-Some.field-0 c.in-Open.known c.entries.invariant.queue c.in-Some.ensures.permutation (c.in-Some.ensures.heap_order c.entries.invariant.queue.heap).0 (sym read ∙ c.in-Open.is) place
 
 pub returns-in-Open-clause-least : goal.returns-in-Open-clause-least
 returns-in-Open-clause-least c =
-    let labels : List Label = c.entries.self-inside.labels.items in
-    let place : c.in-Some.field-0.0.1 < length labels = queue-in labels (heap_items c.entries.self-inside.queue) (heap_items c.pop.new.self) c.in-Some.field-0 c.entries.invariant.queue c.in-Some.ensures.permutation in
-    let read : c.index.result.now ≡ label labels c.in-Some.field-0.0.1 = get_or_read labels c.in-Some.field-0.0.1 c.index.result.now place c.index.ensures Unseen in
-    subst (λ (xs : List Label). IsLeastOpen xs c.in-Some.field-0.0.1 c.in-Open.known) (c.entries.invariant.same ∙ c.self.view_is) (queue-least labels (heap_items c.entries.self-inside.queue) (heap_items c.pop.new.self) c.in-Some.field-0 c.in-Open.known c.entries.invariant.queue c.in-Some.ensures.permutation (c.in-Some.ensures.heap_order c.entries.invariant.queue.heap).1 (sym read ∙ c.in-Open.is))
+    let marks : List Mark = c.entries.self-inside.marks.items in
+    let place : c.in-Some.field-0.0.1 < length marks = queue-in marks (heap_items c.entries.self-inside.queue) (heap_items c.pop.new.self) c.in-Some.field-0 c.entries.invariant.queue c.in-Some.ensures.permutation in
+    let read : c.index.result.now ≡ mark marks c.in-Some.field-0.0.1 = get_or_read marks c.in-Some.field-0.0.1 c.index.result.now place c.index.ensures Unseen in
+    subst (λ (xs : List Mark). IsLeastOpen xs c.in-Some.field-0.0.1 c.in-Open.known) (c.entries.invariant.same ∙ c.self.view_is) (queue-least marks (heap_items c.entries.self-inside.queue) (heap_items c.pop.new.self) c.in-Some.field-0 c.in-Open.known c.entries.invariant.queue c.in-Some.ensures.permutation (c.in-Some.ensures.heap_order c.entries.invariant.queue.heap).1 (sym read ∙ c.in-Open.is))
 
 pub entries-preserved : goal.entries-preserved
 entries-preserved c =
-    let labels : List Label = c.entries.self-inside.labels.items in
-    let place : c.in-Some.field-0.0.1 < length labels = queue-in labels (heap_items c.entries.self-inside.queue) (heap_items c.pop.new.self) c.in-Some.field-0 c.entries.invariant.queue c.in-Some.ensures.permutation in
-    let read : c.index.result.now ≡ label labels c.in-Some.field-0.0.1 = get_or_read labels c.in-Some.field-0.0.1 c.index.result.now place c.index.ensures Unseen in
+    let marks : List Mark = c.entries.self-inside.marks.items in
+    let place : c.in-Some.field-0.0.1 < length marks = queue-in marks (heap_items c.entries.self-inside.queue) (heap_items c.pop.new.self) c.in-Some.field-0 c.entries.invariant.queue c.in-Some.ensures.permutation in
+    let read : c.index.result.now ≡ mark marks c.in-Some.field-0.0.1 = get_or_read marks c.in-Some.field-0.0.1 c.index.result.now place c.index.ensures Unseen in
     record {
       same = c.entries.invariant.same;
-      queue = queue-pass labels (heap_items c.entries.self-inside.queue) (heap_items c.pop.new.self) c.in-Some.field-0 c.entries.invariant.queue c.in-Some.ensures.permutation (c.in-Some.ensures.heap_order c.entries.invariant.queue.heap).0 (λ d is. c.in_default-index.not-Open d (read ∙ is));
+      queue = queue-pass marks (heap_items c.entries.self-inside.queue) (heap_items c.pop.new.self) c.in-Some.field-0 c.entries.invariant.queue c.in-Some.ensures.permutation (c.in-Some.ensures.heap_order c.entries.invariant.queue.heap).0 (λ d is. c.in_default-index.not-Open d (read ∙ is));
     }

@@ -3,11 +3,11 @@ use Rattle.std.specs.BinaryHeap.{heap_items, heap_len}
 use Rattle.ch_graph.specs.Queue.{IsQueue}
 use Rattle.ch_graph.proofs.frontier.Frontier.settle_next.Given as goal
 
--- entries were passed over, and no label was written
+-- entries were passed over, and no mark was written
 abbrev pub invariant-entries : goal.invariant-entries
 invariant-entries l = record {
-  same : l.self-inside.labels.items ≡ l.initial.self-inside.labels.items;
-  queue : IsQueue l.self-inside.labels.items (heap_items l.self-inside.queue);
+  same : l.self-inside.marks.items ≡ l.initial.self-inside.marks.items;
+  queue : IsQueue l.self-inside.marks.items (heap_items l.self-inside.queue);
 }
 
 abbrev pub decreases-entries : goal.decreases-entries

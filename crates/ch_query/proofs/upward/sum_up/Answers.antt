@@ -1,0 +1,17 @@
+use Rattle.std.proofs.Common.{◌+◌, length, refl, sym, arith}
+use Rattle.ch_query.proofs.Counts.{count-first, count-at_most}
+use Rattle.ch_query.proofs.upward.sum_up.Goals as goal
+
+pub ranks-init : goal.ranks-init
+ranks-init c = record {
+  nodes = refl;
+  sum = sym (count-first c.args.hierarchy.now c.args.side (length c.args.hierarchy.now.links));
+  done = λ r low. absurd (omega (arith, low));
+  left = λ r from. refl;
+}
+
+pub overflow_add-sum : goal.overflow_add-sum
+overflow_add-sum c =
+    let h = c.args.hierarchy.now in
+    let rank = c.ranks.rank in
+    omega (arith, c.ranks.invariant.sum, c.ranks.invariant.left rank (omega arith), c.requires.counted.each rank c.ranks-test.true, count-at_most h c.args.side (rank + 1) (length h.links), c.requires.few)
