@@ -2,7 +2,7 @@ use Rattle.std.proofs.Common.{ap, subst, sym, get_or, List, ◌∙◌, None, ◌
 use Rattle.std.proofs.lemmas.List.{get_or_default}
 use Rattle.ch_cost.specs.Cost.{zero_cost}
 use Rattle.ch_graph.specs.declared.link.Link.{Link}
-use Rattle.ch_query.proofs.position.link_at.Goals as goal
+use Rattle.ch_query.proofs.place.link_at.Goals as goal
 
 pub returns : goal.returns
 returns c =

@@ -1,4 +1,4 @@
--- Links by their positions in a hierarchy.
+-- Links by their places in a hierarchy.
 use Rattle.std.specs.Prelude.{ℕ, List, None, slice_index_or}
 use Rattle.ch_cost.specs.declared.cost.Cost.{Cost}
 use Rattle.ch_cost.specs.Cost.{zero_cost}
@@ -7,7 +7,7 @@ use Rattle.ch_graph.specs.declared.hierarchy.LinkId.{LinkId}
 use Rattle.ch_graph.specs.Hierarchy.{Hierarchy, IsRiseFall}
 use Rattle.ch_graph.specs.Unfolding.{AreAt}
 
--- the link at a position; past the end, a link of no meaning
+-- the link at a place; past the end, a link of no meaning
 abbrev pub link_at : Hierarchy → ℕ → Link
 link_at h k = slice_index_or h.links k (record { from = 0; to = 0; cost = zero_cost; middle = None })
 
