@@ -8,7 +8,7 @@ use Rattle.hierfile.proofs.Faults.{hands_on, behind}
 use Rattle.hierfile.proofs.Heads.{sizes}
 use Rattle.hierfile.proofs.Whole.{from_start, first_magic, first_head, first_body, nothing_waits, spelled_whole}
 use Rattle.hierfile.proofs.ReadBack.{refused, read_back}
-use Rattle.hierfile.proofs.reading.read.Goals as goal
+use Rattle.hierfile.proofs.reading.read_within.Goals as goal
 
 pub returns-in_err-read_magic-clause-err : goal.returns-in_err-read_magic-clause-err
 returns-in_err-read_magic-clause-err g c =

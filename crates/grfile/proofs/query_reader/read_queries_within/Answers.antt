@@ -2,7 +2,7 @@ use Rattle.std.proofs.lemmas.Result.{err_from_is_err_and, IfOk-at_ok}
 use Rattle.grfile.specs.Lines.{lines_of}
 use Rattle.grfile.proofs.Sound.{pairs_listed}
 use Rattle.grfile.proofs.Readings.{pairs_fault_known, pairs_read_known}
-use Rattle.grfile.proofs.query_reader.read_queries.Goals as goal
+use Rattle.grfile.proofs.query_reader.read_queries_within.Goals as goal
 
 pub returns-in_err-listed-clause-reading : goal.returns-in_err-listed-clause-reading
 returns-in_err-listed-clause-reading g c =

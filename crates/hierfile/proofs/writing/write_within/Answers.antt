@@ -5,7 +5,7 @@ use Rattle.hierfile.specs.Spelling.{word, head_bytes, link_bytes, bytes_of}
 use Rattle.hierfile.specs.Bytes.{IsPartOf}
 use Rattle.hierfile.proofs.Faults.{hands_on}
 use Rattle.hierfile.proofs.Handing.{Handed, handed_none, handed_then, part_then, part_none, took_part, took_all}
-use Rattle.hierfile.proofs.writing.write.Goals as goal
+use Rattle.hierfile.proofs.writing.write_within.Goals as goal
 
 pub returns-in_err-write_head-clause-err : goal.returns-in_err-write_head-clause-err
 returns-in_err-write_head-clause-err g c =

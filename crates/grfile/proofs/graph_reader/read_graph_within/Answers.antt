@@ -2,7 +2,7 @@ use Rattle.std.proofs.lemmas.Result.{err_from_is_err_and, IfOk-at_ok}
 use Rattle.grfile.specs.Lines.{lines_of}
 use Rattle.grfile.proofs.Sound.{graph_listed}
 use Rattle.grfile.proofs.Readings.{graph_fault_known, graph_read_known}
-use Rattle.grfile.proofs.graph_reader.read_graph.Goals as goal
+use Rattle.grfile.proofs.graph_reader.read_graph_within.Goals as goal
 
 pub returns-in_err-size-clause-reading : goal.returns-in_err-size-clause-reading
 returns-in_err-size-clause-reading g c =
