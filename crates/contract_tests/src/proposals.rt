@@ -7,6 +7,9 @@ use std::test::Fail;
 /// Node 1 leads to node 0, and node 0 to node 2.
 const CHAIN: [Arcs; 2] = [(1, 0, 1, 2), (0, 2, 1, 3)];
 
+/// Nodes 0 and 1 lead to one another alone.
+const PAIR: [Arcs; 2] = [(1, 0, 1, 2), (0, 1, 1, 3)];
+
 /// Node 3 is reached from node 2 by way of 0 or of 1, at the same cost.
 const TIE: [Arcs; 4] = [(2, 0, 1, 1), (0, 3, 1, 1), (2, 1, 1, 1), (1, 3, 1, 1)];
 
@@ -49,7 +52,7 @@ const TIED: Case = Case {
     shortcuts: &[],
 };
 
-const CASES: [Case; 7] = [
+const CASES: [Case; 8] = [
     // A pair of three nodes.
     Case {
         lines: &CHAIN,
@@ -60,6 +63,17 @@ const CASES: [Case; 7] = [
         verdicts: &[(1, 2, Some(Verdict::Shortcut)), (2, 1, None), (1, 1, None)],
         ins: 1,
         shortcuts: &[(1, 2, 1, 5)],
+    },
+    // No other arc leads on, so the neighbour's row isn't asked for.
+    Case {
+        lines: &PAIR,
+        bound: (1, 3),
+        node: 0,
+        settle: 64,
+        rests_on: &[0],
+        verdicts: &[(1, 1, None), (0, 1, None)],
+        ins: 1,
+        shortcuts: &[],
     },
     // The tie of four nodes, and how far a search goes in it.
     TIED,
