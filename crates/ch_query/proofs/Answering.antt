@@ -18,14 +18,14 @@ use Rattle.ch_query.specs.declared.meeting.Meeting.{Meeting}
 use Rattle.ch_query.specs.declared.side.Side.{Side}
 use Rattle.ch_query.specs.declared.side.Side.TheVariants.{Rise, Fall}
 use Rattle.ch_query.specs.Labels.{HasAtMost, AreUpLabels, AreDownLabels, Meets, CountsBelow, IsBest}
-use Rattle.ch_query.specs.Positions.{link_at, IsRiseFallAt}
+use Rattle.ch_query.specs.Places.{link_at, IsRiseFallAt}
 use Rattle.ch_query.specs.Climb.{foot_of, head_of, foot_rank, head_rank, cost_at, Climbs, Descends}
 use Rattle.ch_query.specs.Marks.{mark_at, label_at, costs_of, IsStopped}
 use Rattle.ch_query.specs.Searching.{IsSearching, AreFollowed}
 use Rattle.ch_query.specs.Meeting.{IsBestMeeting, cost_of}
 use Rattle.ch_query.proofs.LeastSum.{stop_right}
 use Rattle.ch_query.proofs.Marking.{from_cost, label_cases, label-in}
-use Rattle.ch_query.proofs.Descents.{IsPosition, links_at, rise-chain, fall-chain, descends-positions, all-reverse, descent_to, node_of}
+use Rattle.ch_query.proofs.Descents.{IsPlace, links_at, rise-chain, fall-chain, descends-places, all-reverse, descent_to, node_of}
 
 -- Marks are by rank, and labels by node: a number that is no node has a rank past the last
 
@@ -38,7 +38,7 @@ named h marks x = costs_of marks (place_of h x)
 place-rank : (h : Hierarchy) (x : ℕ) → x < length h.ranks → place_of h x ≡ rank_of h x
 place-rank h x low = get_or_default h.ranks x (length h.ranks) 0 low
 
--- a link of the hierarchy has a position
+-- a link of the hierarchy has a place
 link_is : (h : Hierarchy) (l : Link) (among : Contains h.links l) → link_at h among.0 ≡ l
 link_is h l among = get_or_default h.links among.0 _ l among.1 ∙ among.2
 
@@ -123,10 +123,10 @@ module _ (h : Hierarchy) (made : IsWellMade h) (s t : ℕ) (s_in : s < length h.
   pub answered : (best : Option Meeting) → IsBestMeeting h (costs_of up) (costs_of down) best → IsStopped up (cost_of best) → IsStopped down (cost_of best) → AreFollowed h Rise (cost_of best) up → AreFollowed h Fall (cost_of best) down → IsValue h s t (cost_of best)
   answered best is up_stopped down_stopped up_followed down_followed = stop_right h s t (named h up) (named h down) (cost_of best) (up_labels h made ups s s_in up rises (cost_of best) up_stopped up_followed) (down_labels h made downs t t_in down falls (cost_of best) down_stopped down_followed) (best-named best is)
 
--- at positions of links are the links that are read there
-are_at-positions : (h : Hierarchy) (ids : List LinkId) → All (IsPosition h) ids → AreAt h ids (links_at h ids)
-are_at-positions h [] within = tt
-are_at-positions h (id ∷ ids) within = (slice_get-get_or h.links id.0 _ (All-head (IsPosition h) id ids within), are_at-positions h ids (All-tail (IsPosition h) id ids within))
+-- at places of links are the links that are read there
+are_at-places : (h : Hierarchy) (ids : List LinkId) → All (IsPlace h) ids → AreAt h ids (links_at h ids)
+are_at-places h [] within = tt
+are_at-places h (id ∷ ids) within = (slice_get-get_or h.links id.0 _ (All-head (IsPlace h) id ids within), are_at-places h ids (All-tail (IsPlace h) id ids within))
 
 -- the links of both sides make the walk
 walk_leads : (h : Hierarchy) (s t x : ℕ) (a b c : Cost) (ups downs : List LinkId) → Descends h Rise s ups x a → Descends h Fall t downs x b → c ≡ a ⊕ b → IsRiseFall h (links_at h (reverse ups ++ downs)) s t c
@@ -142,12 +142,12 @@ walk_leads h s t x a b c ups downs rises falls sum = record {
   sum = sum;
 }
 
-walk_positions : (h : Hierarchy) (s t x : ℕ) (a b : Cost) (ups downs : List LinkId) → Descends h Rise s ups x a → Descends h Fall t downs x b → All (IsPosition h) (reverse ups ++ downs)
-walk_positions h s t x a b ups downs rises falls = All-append (IsPosition h) (reverse ups) downs (all-reverse (IsPosition h) ups (descends-positions rises)) (descends-positions falls)
+walk_places : (h : Hierarchy) (s t x : ℕ) (a b : Cost) (ups downs : List LinkId) → Descends h Rise s ups x a → Descends h Fall t downs x b → All (IsPlace h) (reverse ups ++ downs)
+walk_places h s t x a b ups downs rises falls = All-append (IsPlace h) (reverse ups) downs (all-reverse (IsPlace h) ups (descends-places rises)) (descends-places falls)
 
 pub walk_at : (h : Hierarchy) (s t x : ℕ) (a b c : Cost) (ups downs : List LinkId) → Descends h Rise s ups x a → Descends h Fall t downs x b → c ≡ a ⊕ b → IsRiseFallAt h (reverse ups ++ downs) s t c
 walk_at h s t x a b c ups downs rises falls sum = record {
   links = links_at h (reverse ups ++ downs);
-  are_at = are_at-positions h (reverse ups ++ downs) (walk_positions h s t x a b ups downs rises falls);
+  are_at = are_at-places h (reverse ups ++ downs) (walk_places h s t x a b ups downs rises falls);
   leads = walk_leads h s t x a b c ups downs rises falls sum;
 }

@@ -12,7 +12,7 @@ use Rattle.ch_query.specs.declared.label.Label.{Label}
 use Rattle.ch_query.specs.declared.mark.Mark.{Mark}
 use Rattle.ch_query.specs.declared.side.Side.{Side}
 use Rattle.ch_query.specs.declared.side.Side.TheVariants.{Rise, Fall}
-use Rattle.ch_query.specs.Positions.{link_at}
+use Rattle.ch_query.specs.Places.{link_at}
 use Rattle.ch_query.specs.Climb.{foot_at, head_at, foot_rank, cost_at, Climbs, ClimbsFrom, Descends, Descends.there, Descends.down}
 use Rattle.ch_query.specs.Marks.{label_at, option_place, costs_of}
 use Rattle.ch_query.specs.Searching.{ComesFrom, IsFrom, IsSearching}
@@ -20,7 +20,7 @@ use Rattle.ch_query.proofs.Sides.{link-among, foot_in, head_in}
 use Rattle.ch_query.proofs.Ranks.{rank_below, same_node}
 use Rattle.ch_query.proofs.Marking.{from_cost, cost_is, label-settled}
 
--- the links at these positions, in order
+-- the links at these places, in order
 abbrev pub links_at : Hierarchy → List LinkId → List Link
 links_at h ids = map (λ (id : LinkId). link_at h id.0) ids
 
@@ -47,12 +47,12 @@ fall-chain h start (down {id = id} {ids = ids} {v = v} {c = c} climbs rest) =
     let rest_from : Chain (IsFalling h) (links_at h ids) l.to start c = subst (λ y. Chain (IsFalling h) (links_at h ids) y start c) (sym climbs.foot) (fall-chain h start rest) in
     subst (λ (d : Cost). Chain (IsFalling h) (links_at h (id ∷ ids)) l.from start d) (sum_comm l.cost c) (then falling refl rest_from)
 
-abbrev pub IsPosition : Hierarchy → LinkId → Type 0
-IsPosition h id = id.0 < length h.links
+abbrev pub IsPlace : Hierarchy → LinkId → Type 0
+IsPlace h id = id.0 < length h.links
 
-pub descends-positions : {h : Hierarchy} {side : Side} {start : ℕ} {ids : List LinkId} {x : ℕ} {c : Cost} → Descends h side start ids x c → All (IsPosition h) ids
-descends-positions {h} there = All-nil (IsPosition h)
-descends-positions {h} (down {id = id} {ids = ids} climbs rest) = All-cons (IsPosition h) id ids climbs.within (descends-positions rest)
+pub descends-places : {h : Hierarchy} {side : Side} {start : ℕ} {ids : List LinkId} {x : ℕ} {c : Cost} → Descends h side start ids x c → All (IsPlace h) ids
+descends-places {h} there = All-nil (IsPlace h)
+descends-places {h} (down {id = id} {ids = ids} climbs rest) = All-cons (IsPlace h) id ids climbs.within (descends-places rest)
 
 pub all-reverse : (P : LinkId → Type 0) (ids : List LinkId) → All P ids → All P (reverse ids)
 all-reverse P [] all = All-nil P

@@ -4,7 +4,7 @@ use Rattle.std.proofs.lemmas.List.Elements.{All-contains, Contains-get_or}
 use Rattle.ch_graph.specs.Hierarchy.{Hierarchy, IsWellMade, IsLinkWellMade}
 use Rattle.ch_query.specs.declared.side.Side.{Side}
 use Rattle.ch_query.specs.declared.side.Side.TheVariants.{Rise, Fall}
-use Rattle.ch_query.specs.Positions.{link_at}
+use Rattle.ch_query.specs.Places.{link_at}
 use Rattle.ch_query.specs.Climb.{foot_at, head_at}
 
 pub link-among : (h : Hierarchy) (k : ℕ) → k < length h.links → Contains h.links (link_at h k)

@@ -7,7 +7,7 @@ use Rattle.ch_graph.specs.declared.hierarchy.LinkId.{LinkId}
 use Rattle.ch_graph.specs.Hierarchy.{Hierarchy, rank_of}
 use Rattle.ch_query.specs.declared.side.Side.{Side}
 use Rattle.ch_query.specs.declared.side.Side.TheVariants.{Rise, Fall}
-use Rattle.ch_query.specs.Positions.{link_at}
+use Rattle.ch_query.specs.Places.{link_at}
 
 -- the end where a side comes to a link
 abbrev pub foot_of : Side → Link → ℕ
@@ -19,7 +19,7 @@ abbrev pub head_of : Side → Link → ℕ
 head_of Rise l = l.to
 head_of Fall l = l.from
 
--- the ends of the link at a position, and its cost
+-- the ends of the link at a place, and its cost
 abbrev pub foot_at : Hierarchy → Side → ℕ → ℕ
 foot_at h side k = foot_of side (link_at h k)
 
@@ -36,18 +36,18 @@ foot_rank h side k = rank_of h (foot_at h side k)
 abbrev pub head_rank : Hierarchy → Side → ℕ → ℕ
 head_rank h side k = rank_of h (head_at h side k)
 
--- the link at this position leads up in rank
+-- the link at this place leads up in rank
 pub record Climbs (h : Hierarchy) (side : Side) (k : ℕ) : Type 0 where
   pub within : k < length h.links
   pub rises : foot_rank h side k < head_rank h side k
 
--- the link at this position leads from the node v to one of higher rank
+-- the link at this place leads from the node v to one of higher rank
 pub record ClimbsFrom (h : Hierarchy) (side : Side) (v k : ℕ) : Type 0 where
   pub within : k < length h.links
   pub foot : foot_at h side k ≡ v
   pub climbs : rank_of h v < rank_of h (head_at h side k)
 
--- The links at these positions lead from a node back down to where a side began, and cost c together.
+-- The links at these places lead from a node back down to where a side began, and cost c together.
 pub data Descends (h : Hierarchy) (side : Side) (start : ℕ) : List LinkId → ℕ → Cost → Type 0 where
   there : Descends h side start [] start zero_cost
   down : {id : LinkId} {ids : List LinkId} {v : ℕ} {c : Cost} → ClimbsFrom h side v id.0 → Descends h side start ids v c → Descends h side start (id ∷ ids) (head_at h side id.0) (c ⊕ cost_at h id.0)

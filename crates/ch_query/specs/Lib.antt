@@ -1,5 +1,5 @@
 pub mod Labels
-pub mod Positions
+pub mod Places
 pub mod Climb
 pub mod Upward
 pub mod Counting

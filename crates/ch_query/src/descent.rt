@@ -6,7 +6,7 @@ ghost use Rattle.ch_query.specs.Marks.{label_at, costs_of, option_place};
 ghost use Rattle.ch_query.specs.Searching.{IsSearching};
 
 use crate::frontier::Frontier;
-use crate::position::link_at;
+use crate::place::link_at;
 use crate::side::Climb;
 use crate::upward::UpwardSteps;
 use ch_graph::{Hierarchy, LinkId};

@@ -21,7 +21,7 @@ mod limit;
 mod mark;
 mod meet;
 mod meeting;
-mod position;
+mod place;
 mod search;
 mod side;
 mod turn;

@@ -5,7 +5,7 @@ ghost use Rattle.ch_query.specs.declared.side.Side.TheVariants.{Rise, Fall};
 ghost use Rattle.ch_query.specs.Labels.{Meets};
 ghost use Rattle.ch_query.specs.Marks.{costs_of};
 ghost use Rattle.ch_query.specs.Searching.{IsSearching};
-ghost use Rattle.ch_query.specs.Positions.{IsRiseFallAt};
+ghost use Rattle.ch_query.specs.Places.{IsRiseFallAt};
 
 use crate::descent::descent;
 use crate::frontier::Frontier;
@@ -24,14 +24,14 @@ use std::marker::Model;
 pub struct Found {
     /// What the links cost together.
     pub cost: Cost,
-    /// The positions of the links in the hierarchy, in the order of the walk: first those that rise, then those
+    /// The places of the links in the hierarchy, in the order of the walk: first those that rise, then those
     /// that fall.
     pub links: Vec<LinkId>,
 }
 
 /// Answers queries of one hierarchy.
 ///
-/// It keeps for either side the steps over the links that it climbs, apart from them the positions of those links, and
+/// It keeps for either side the steps over the links that it climbs, apart from them the places of those links, and
 /// a mark for each node and its cost, all by rank: about 96 bytes a node and 16 a link. The marks, queues and lists of
 /// one call are kept for the next, which takes back what the one before it touched. So after a call that ran out of
 /// memory it answers as a new one.

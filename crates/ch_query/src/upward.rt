@@ -5,7 +5,7 @@ ghost use Rattle.ch_query.specs.Counting.{all_below, IsCounted, IsSummed, IsFill
 ghost use Rattle.ch_query.specs.Upward.{step_along};
 ghost use Rattle.ch_query.specs.Searching.{IsOneStepAt};
 
-use crate::position::link_at;
+use crate::place::link_at;
 use crate::side::Side;
 use ch_cost::{Cost, ShortCost};
 use ch_graph::Hierarchy;
@@ -31,7 +31,7 @@ pub struct UpwardSteps {
     pub first: Vec<usize>,
     /// The steps.
     pub steps: Vec<Step>,
-    /// For each step the position of the link that it goes along.
+    /// For each step the place of the link that it goes along.
     pub links: Vec<usize>,
 }
 
@@ -61,7 +61,7 @@ impl UpwardSteps {
         })
     }
 
-    /// Puts in the link at a position, which the side climbs, before those from the same node.
+    /// Puts in the link at a place, which the side climbs, before those from the same node.
     pub fn put(&mut self, hierarchy: &Hierarchy, side: Side, at: usize)
         requires made { IsWellMade hierarchy.now }
         requires climbs { Climbs hierarchy.now side at }
@@ -106,7 +106,7 @@ fn first_step(hierarchy: &Hierarchy, side: Side) -> Step
     step_along(hierarchy, side, 0)
 }
 
-/// The step along the link at a position.
+/// The step along the link at a place.
 fn step_along(hierarchy: &Hierarchy, side: Side, at: usize) -> Step
     requires made { IsWellMade hierarchy.now }
     requires link_in { at < length hierarchy.now.links }

@@ -1,6 +1,6 @@
 -- Why routes by prepared bytes are answers over the graph: the bytes are the file of one hierarchy alone.
 use Rattle.std.proofs.Common.{ℕ, ◌≡◌, List, [], ◌++◌, length, take, sym, ◌∙◌, ap, subst}
-use Rattle.std.specs.Prelude.{⊤, Option, Some, None, IfSome, All, Result, Ok, Err, IfOk, IfErr, OnOk}
+use Rattle.std.specs.Prelude.{⊤, Option, Some, None, IfSome, All, Result, Ok, Err, IfErr, OnOk}
 use Rattle.std.proofs.lemmas.List.Elements.{All-take}
 use Rattle.ch_graph.specs.Graph.{Graph, IsGraph}
 use Rattle.ch_graph.specs.Hierarchy.{Hierarchy, IsRight}

@@ -1,7 +1,6 @@
 pub mod ByWalks
 pub mod Exact
 pub mod FromBuild
-pub mod Handing
 pub mod JoinedLines
 pub mod Naming
 pub mod Prepared

@@ -9,7 +9,7 @@ use Rattle.grfile.specs.Reading.{graph_of}
 use Rattle.grfile.specs.declared.error.GrError.{GrError}
 use Rattle.hierfile.specs.Bytes.{Took}
 use Rattle.hierfile.specs.Spelling.{bytes_of}
-use Rattle.hierfile.specs.declared.error.WriteFault.{WriteFault}
+use Rattle.counted_io.specs.declared.writing.WriteFault.{WriteFault}
 use Rattle.ch_service.specs.Outcome.{Writes, IsPreparingFault, BreaksOff}
 use Rattle.ch_service.specs.Route.{Prepares}
 use Rattle.ch_service.specs.declared.error.ServiceError.{ServiceError}

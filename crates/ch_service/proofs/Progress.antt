@@ -4,12 +4,12 @@ use Rattle.std.specs.Io.KnownBytes.{Appends}
 use Rattle.std.proofs.KnownBytes.{Appends-trans, Appends-nil}
 use Rattle.std.proofs.Math.Seq.{take-append_seam}
 use Rattle.ch_service.specs.Answer.{Route, IsAnswer, AreAnswers, nothing, one_more}
-use Rattle.ch_service.specs.Output.{HandsOn}
+use Rattle.counted_io.specs.Handing.{HandsOn}
 use Rattle.ch_service.specs.Outcome.{Writes, StopsShort, IsSearchFault, ComesOfAnswering}
 use Rattle.ch_service.specs.Route.{Routed, StopsAtTooLong}
 use Rattle.ch_graph.specs.Hierarchy.{Hierarchy}
 use Rattle.ch_unpack.specs.declared.error.UnpackError.TheVariants as unpacking
-use Rattle.hierfile.specs.declared.error.WriteFault.{WriteFault}
+use Rattle.counted_io.specs.declared.writing.WriteFault.{WriteFault}
 use Rattle.ch_service.specs.declared.error.ServiceError.{ServiceError}
 use Rattle.ch_service.specs.declared.error.ServiceError.TheVariants.{Graph, Queries, Hierarchy as HierarchyFault, Build, Unpack, Write, OutOfMemory}
 use Rattle.std.specs.Prelude.{⊤, Result, Ok, Err, IfErr, IsErrAnd}

@@ -8,7 +8,7 @@ use Rattle.ch_graph.specs.Hierarchy.{Hierarchy, IsRiseFall, IsValue}
 use Rattle.ch_graph.specs.Unfolding.{PlacesNameLinks}
 use Rattle.ch_laws.specs.Theorems.{IsLeastRoute}
 use Rattle.ch_query.specs.declared.search.Found.{Found}
-use Rattle.ch_query.specs.Positions.{IsRiseFallAt}
+use Rattle.ch_query.specs.Places.{IsRiseFallAt}
 use Rattle.ch_unpack.specs.Unpacking.{Unfolded, IsUnpacked, IsTooLong}
 use Rattle.ch_unpack.specs.declared.error.UnpackError.{UnpackError}
 use Rattle.ch_unpack.specs.declared.error.UnpackError.TheVariants as unpacking

@@ -1,6 +1,5 @@
 pub mod Answer
 pub mod Joined
 pub mod Outcome
-pub mod Output
 pub mod Shown
 pub mod Route

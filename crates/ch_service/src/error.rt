@@ -4,8 +4,9 @@ ghost use Rattle.ch_service.specs.declared.error.ServiceError.TheVariants.{Build
 
 use ch_unpack::UnpackError;
 use ch_workers::BuildError;
+use counted_io::WriteFault;
 use grfile::{GrError, GrErrorKind};
-use hierfile::{HierError, WriteFault};
+use hierfile::HierError;
 use std::alloc::AllocError;
 use std::error::Error;
 use std::fmt;

@@ -1,17 +1,15 @@
-ghost use Rattle.std.specs.Prelude.{◌≡◌, ◌<◌, ◌++◌, ℕ, List, true, length, IfOk, IfErr, IfSome, OnOk};
+ghost use Rattle.std.specs.Prelude.{◌≡◌, ◌<◌, ◌++◌, ℕ, List, false, length, IfOk, IfErr, IfSome, OnOk};
 ghost use Rattle.std.specs.Io.KnownBytes.{Consumes, IsAtEnd};
 ghost use Rattle.ch_service.specs.Outcome.{ComesOfReading};
 
 use crate::error::ServiceError;
+use counted_io::{MOST_CALLS, ReadCalls};
 use grfile::{GrError, GrErrorKind};
 use std::alloc::{AllocError, Global};
-use std::io::{ErrorKind, Read};
+use std::io::Read;
 
 /// How many bytes a reader is asked for in a call.
 const PIECE: usize = 1 << 16;
-
-/// How often a reader is called at most.
-const CALLS: u64 = 1 << 40;
 
 /// All that the reader gives. A read that fails, or the last call that is allowed, is a fault of the graph's text.
 pub fn read_whole<R: Read>(alloc: Global, input: &mut R) -> Result<Vec<u8>, ServiceError>
@@ -41,32 +39,30 @@ fn read_pieces<R: Read>(
     ensures ok { OnOk result (IfSome (R.remaining input.old) (λ bytes. text.new.items ≡ text.old.items ++ bytes)) }
     ensures kinds { IfErr result ComesOfReading }
 {
-    for _ in 0..CALLS {
-        if read_piece(input, piece, text)? {
-            return Ok(());
-        }
-    }
-    Err(read_fault(text))
+    let mut calls = ReadCalls::new(MOST_CALLS);
+    'pieces: while read_piece(&mut calls, input, piece, text)? {}
+    Ok(())
 }
 
-// One call of the reader, which appends what it gave. It answers whether that was the end.
+// Appends the next bytes that the reader gives, and answers whether there were any before its end.
 fn read_piece<R: Read>(
+    calls: &mut ReadCalls,
     input: &mut R,
     piece: &mut [u8],
     text: &mut Vec<u8>,
 ) -> Result<bool, ServiceError>
     requires { 0 < length piece.old }
-    ensures ok { IfOk result (λ is_end. (bytes : List ℕ) × (text.new.items ≡ text.old.items ++ bytes)
-        × Consumes (R.remaining input.old) (R.remaining input.new) bytes × (is_end ≡ true → IsAtEnd (R.remaining input.new))) }
+    ensures ok { IfOk result (λ more. (bytes : List ℕ) × (text.new.items ≡ text.old.items ++ bytes)
+        × Consumes (R.remaining input.old) (R.remaining input.new) bytes × (more ≡ false → IsAtEnd (R.remaining input.new))) }
+    ensures counted { OnOk result (calls.new.left < calls.old.left) }
     ensures kinds { IfErr result ComesOfReading }
 {
-    match input.read(piece) {
-        Ok(0) => Ok(true),
-        Ok(n) => {
-            text.extend_from_slice(&piece[..n])?;
-            Ok(false)
+    match calls.read(input, piece) {
+        Ok(0) => Ok(false),
+        Ok(count) => {
+            text.extend_from_slice(&piece[..count])?;
+            Ok(true)
         }
-        Err(error) if error.kind() == ErrorKind::Interrupted => Ok(false),
         Err(_) => Err(read_fault(text)),
     }
 }

@@ -1,7 +1,8 @@
 //! The work of the program `routecli`, over readers and writers of any kind.
 //!
 //! Stands on `grfile` for the two texts, on `ch_workers` for hierarchies and `hierfile` for their files, on `ch_query`
-//! and `ch_unpack` for routes, on `ch_laws` for why they are right, and on `itoa` for decimals. [`prepare`] writes a
+//! and `ch_unpack` for routes, on `ch_laws` for why they are right, on `counted_io` for the
+//! calls of readers and writers, and on `itoa` for decimals. [`prepare`] writes a
 //! hierarchy of a graph, which workers build, and [`route`] answers pairs of nodes by it; [`answer`] and
 //! [`answer_joined`] build one for the call. [`ServiceError`] says why a call didn't do its work. The promise of the
 //! layer is the contract of these calls: what is written has one line for each pair, in order, with the least length
@@ -28,8 +29,8 @@ mod preparing;
 mod routing;
 
 pub use answering::{answer, answer_joined};
+pub use counted_io::WriteFault;
 pub use error::ServiceError;
-pub use hierfile::WriteFault;
 pub use in_memory::routes_in_memory;
 pub use laws::{first_routes_are_exact, right_routes_are_least, routes_are_exact};
 pub use preparing::prepare;

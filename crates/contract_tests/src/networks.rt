@@ -1,5 +1,3 @@
-ghost use Rattle.std.specs.Prelude.{◌≡◌, ◌<◌, ◌^◌, IsTrue, All};
-
 use ch_graph::{Graph, Road};
 use std::alloc::Global;
 use std::test::Fail;
@@ -22,20 +20,6 @@ pub const PARALLEL: [Line; 4] = [(0, 0, 12), (0, 1, 9), (0, 1, 4), (0, 1, 6)];
 /// At node 1 the way from 2 to 3 costs four times the greatest weight, which is above the bound of three times.
 pub const HEAVY: [Line; 4] = [(2, 0, MOST), (0, 1, MOST), (1, 0, MOST), (0, 3, MOST)];
 
-fn all_allowed(nodes: u32, roads: &[Road]) -> bool
-    ensures { IsTrue result → All (λ r. (r.from < nodes) × (r.to < nodes) × (0 < r.weight) × (r.weight < 2 ^ 32)) roads.now }
-{
-    roads.iter().all(|road| road.from < nodes && road.to < nodes && road.weight > 0)
-}
-
-/// The graph of these roads, or none where a road isn't allowed.
-pub fn graph(nodes: u32, roads: Vec<Road>) -> Option<Graph> {
-    if nodes > 1 << 25 || roads.len() > 1 << 27 || !all_allowed(nodes, roads.as_slice()) {
-        return None;
-    }
-    Some(Graph::new(nodes, roads))
-}
-
 /// The graph of these arcs, which have to be allowed.
 pub fn graph_of(alloc: Global, nodes: u32, lines: &[Line]) -> Result<Graph, Fail> {
     let mut roads = Vec::new(alloc);
@@ -46,6 +30,6 @@ pub fn graph_of(alloc: Global, nodes: u32, lines: &[Line]) -> Result<Graph, Fail
             weight: *weight,
         })?;
     }
-    let graph = graph(nodes, roads).ok_or("an arc that isn't allowed")?;
+    let graph = Graph::checked(nodes, roads)?;
     Ok(graph)
 }

@@ -1,7 +1,6 @@
-use crate::networks::graph;
 use ch_contract::{CommitError, Proposal, Receipt, propose};
 use ch_core::{Event, Outcome, World, run};
-use ch_graph::Road;
+use ch_graph::{Graph, Road};
 use std::alloc::{AllocError, Global};
 use std::test::Fail;
 
@@ -13,7 +12,7 @@ fn road(from: u32, to: u32, weight: u32) -> Road {
 
 /// The world of a graph, with so many workers.
 fn world_of(alloc: Global, nodes: u32, roads: Vec<Road>, workers: u32) -> Result<World, Fail> {
-    let graph = graph(nodes, roads).ok_or("a road that isn't allowed")?;
+    let graph = Graph::checked(nodes, roads)?;
     let world = World::new(alloc, graph, workers)?;
     Ok(world)
 }
@@ -192,7 +191,7 @@ fn offers_that_share_no_row(rt: HostRuntime) -> Result<(), Fail> {
 #[test]
 fn run_of_reads(rt: HostRuntime) -> Result<(), Fail> {
     let alloc = rt.alloc();
-    let graph = graph(4, diamond(alloc)?).ok_or("a road that isn't allowed")?;
+    let graph = Graph::checked(4, diamond(alloc)?)?;
     let events = vec![in alloc; read(0, 0, 0), read(0, 0, 1), Event::Forget { worker: 0 }]?;
     let (world, outcomes) = run(alloc, graph, 1, events)?;
     assert_eq!(rt;

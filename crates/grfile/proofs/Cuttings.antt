@@ -1,17 +1,17 @@
 -- What is told of a text that was taken in pieces, and how many of its lines have ended.
-use Rattle.std.proofs.Common.{ℕ, ◌≡◌, ◌≢◌, ◌+◌, ◌^◌, ◌<◌, ◌≤◌, List, [], ◌++◌, length, Option, Some, None, Result, Ok, Err, MatchResult, MatchOption, IfSome, arith, refl, ap, sym, subst, ◌∙◌}
+use Rattle.std.proofs.Common.{ℕ, ◌≡◌, ◌≢◌, ◌+◌, ◌*◌, ◌^◌, ◌<◌, ◌≤◌, List, [], ◌++◌, length, Option, Some, None, Result, Ok, Err, MatchResult, MatchOption, IfSome, arith, refl, ap, sym, subst, ◌∙◌}
 use Rattle.std.specs.Prelude.{⊤}
 use Rattle.std.specs.Io.KnownBytes.{Consumes, Keeps, IsAtEnd}
 use Rattle.std.specs.Result.{IfOk, IfErr, ForOk}
-use Rattle.std.proofs.lemmas.List.{append_assoc, append-nil}
+use Rattle.std.proofs.lemmas.List.{append_assoc, append-nil, length-append}
+use Rattle.counted_io.specs.Handing.{IsGivenBy}
 use Rattle.grfile.specs.declared.error.GrError.{GrError}
 use Rattle.grfile.specs.declared.error.GrErrorKind.{GrErrorKind}
 use Rattle.grfile.specs.declared.error.GrErrorKind.TheVariants.{OutOfMemory, Read, UnknownLine, NoProblemLine, SecondProblemLine, FieldCount, NotANumber, NodeRange, ZeroWeight, WeightTooBig, TooManyNodes, TooManyArcs, ArcCount}
 use Rattle.grfile.specs.Lines.{lines_of}
 use Rattle.grfile.specs.Outcome.{◌>>=◌, Answers, FromText, IsOfLine, SaysNothing, Takes, capped, next_line}
 use Rattle.grfile.specs.Grammar.{Grammar, Listing, listing_after}
-use Rattle.grfile.specs.declared.pieces.Pieces.{Pieces}
-use Rattle.grfile.specs.Taken.{CountsLines, HasTaken, IsAtEndOf, IsReached, IsReachedAfter, StopsAtReached, Taken, line_feeds, taken_of, told_with}
+use Rattle.grfile.specs.Taken.{CountsLines, HasTaken, IsAtEndOf, IsReached, IsReachedAfter, StopsAtReached, Taken, line_feeds, told_with}
 use Rattle.grfile.proofs.LineCuts.{feeds_both, lines_first}
 use Rattle.grfile.proofs.Readings.{from_text_map}
 
@@ -128,12 +128,32 @@ pub stops_at_end : {A B : Type 0} (r : Result A GrError) (old mid : List ℕ →
 stops_at_end (Ok x) old mid line had left taken ends = tt
 stops_at_end (Err e) old mid line had left taken ends = stops_between old mid line had left e taken (λ nothing. ends.memory (wants_memory e.kind nothing ends.no_read))
 
--- where two ways of the code join
-pub taken_as : {E : Type 0} (grammar : Grammar E) (old : List ℕ → Result (Listing E) GrError) (joined one : Pieces E) (had left : Option (List ℕ)) → joined ≡ one → HasTaken old (told_with grammar (taken_of one)) one.progress.line had left → HasTaken old (told_with grammar (taken_of joined)) joined.progress.line had left
-taken_as {E} grammar old joined one had left is taken = subst (λ (p : Pieces E). HasTaken old (told_with grammar (taken_of p)) p.progress.line had left) (sym is) taken
+-- what is known of a piece that came
+pub at_some : (A : Type 0) (P : ℕ → Type 0) (o : Option ℕ) (n : ℕ) → o ≡ Some n → MatchOption o A P → P n
+at_some A P None n is known = absurd (cc)
+at_some A P (Some m) n is known = let same : m ≡ n = cc in subst P same known
 
-pub failed_as : {E : Type 0} (joined one : Pieces E) (o : Option GrError) → joined ≡ one → one.failed ≡ o → joined.failed ≡ o
-failed_as {E} joined one o is failed = ap (λ (p : Pieces E). p.failed) is ∙ failed
+-- How many calls were made
+
+-- each call that is gone gave a piece at most
+abbrev pub IsWithin : Option (List ℕ) → Option (List ℕ) → ℕ → ℕ → Type 0
+IsWithin had left after before = IfSome had (λ text. MatchOption left ⊥ (λ rest. length text + after * 65536 ≤ length rest + before * 65536))
+
+pub within_first : (had : Option (List ℕ)) (after before : ℕ) → after ≤ before → IsWithin had had after before
+within_first None after before fewer = tt
+within_first (Some text) after before fewer = omega (arith, fewer)
+
+pub within_more : (had left later : Option (List ℕ)) (chunk : List ℕ) (after mid before : ℕ) → IsWithin had left mid before → Consumes left later chunk → length chunk ≤ 65536 → after < mid → IsWithin had later after before
+within_more None left later chunk after mid before within consumes short fewer = tt
+within_more (Some text) None later chunk after mid before within consumes short fewer = absurd within
+within_more (Some text) (Some xs) None chunk after mid before within consumes short fewer = absurd consumes
+within_more (Some text) (Some xs) (Some ys) chunk after mid before within consumes short fewer = omega (arith, within, short, fewer, ap length consumes, length-append chunk ys)
+
+pub within_end : (had left later : Option (List ℕ)) (after mid before : ℕ) → IsWithin had left mid before → Keeps left later → IsAtEnd later → after < mid → IsGivenBy before had
+within_end None left later after mid before within keeps ended fewer = tt
+within_end (Some text) None later after mid before within keeps ended fewer = absurd within
+within_end (Some text) (Some xs) None after mid before within keeps ended fewer = absurd keeps
+within_end (Some text) (Some xs) (Some ys) after mid before within keeps ended fewer = omega (arith, within, fewer, ap length keeps, ap length ended)
 
 -- From what a reader says at first to what the text says
 

@@ -1,5 +1,6 @@
 ghost use Rattle.std.specs.Prelude.{◌≡◌, ◌++◌, [], None, Some, IfErr, OnOk, IfSome, Err, List, ℕ};
 ghost use Rattle.std.specs.Io.KnownBytes.{IsAtEnd};
+ghost use Rattle.counted_io.specs.Handing.{IsGivenBy};
 ghost use Rattle.grfile.specs.Outcome.{Answers, Takes};
 ghost use Rattle.grfile.specs.Reading.{graph_of};
 ghost use Rattle.grfile.specs.Taken.{CountsLines, IsAtEndOf, StopsAtReached, graph_with, line_feeds};
@@ -9,6 +10,7 @@ use crate::listing::Listed;
 use crate::pieces::{Pieces, feed, finish, read_listing};
 use crate::roads::Roads;
 use ch_graph::{Graph, Road};
+use counted_io::MOST_CALLS;
 use std::alloc::Global;
 use std::io::Read;
 use std::marker::Model;
@@ -82,6 +84,21 @@ pub fn read_graph<R: Read>(alloc: Global, reader: &mut R) -> Result<Graph, GrErr
     ensures ended { OnOk result (IsAtEnd (R.remaining reader.new)) }
     ensures reached { IfErr result (StopsAtReached (R.remaining reader.old) (R.remaining reader.new)) }
 {
-    let Listed { size, entries } = read_listing(alloc, Roads, reader)?;
+    read_graph_within(alloc, reader, MOST_CALLS)
+}
+
+/// Reads as [`read_graph`] does, by so many calls of the reader, or 2^40 where they are more. After the last of them
+/// the answer is `Read`.
+pub fn read_graph_within<R: Read>(
+    alloc: Global,
+    reader: &mut R,
+    calls: u64,
+) -> Result<Graph, GrError>
+    ensures reading { IfSome (R.remaining reader.old) (λ text. Answers (λ g. g) result (graph_of text)) }
+    ensures ended { OnOk result (IsAtEnd (R.remaining reader.new)) }
+    ensures few { OnOk result (IsGivenBy calls (R.remaining reader.old)) }
+    ensures reached { IfErr result (StopsAtReached (R.remaining reader.old) (R.remaining reader.new)) }
+{
+    let Listed { size, entries } = read_listing(alloc, Roads, reader, calls)?;
     Ok(Graph::new(size.nodes, entries))
 }

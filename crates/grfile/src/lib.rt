@@ -1,6 +1,6 @@
 //! The texts of road graphs and of pairs of nodes, as the Ninth DIMACS Implementation Challenge has them.
 //!
-//! Stands on `ch_graph`, whose graphs it makes, and on `bstr`, which cuts the lines. Its main types are
+//! Stands on `ch_graph`, whose graphs it makes, on `counted_io`, which calls the reader, and on `bstr`, which cuts the lines. Its main types are
 //! [`GrReader`] and [`QueryReader`], which take a text in pieces, and [`GrError`], the first fault of a text.
 //! The promise of the layer is the contract of [`read_graph`] and [`read_queries`]: whatever a text says, its
 //! graph, its pairs or its first fault and the line of that, is what the call answers. Of a text no more is kept than
@@ -22,6 +22,6 @@ mod query_reader;
 mod roads;
 
 pub use error::{GrError, GrErrorKind};
-pub use graph_reader::{GrReader, read_graph};
+pub use graph_reader::{GrReader, read_graph, read_graph_within};
 pub use laws::{spelled_graphs_are_in_range, spelled_pairs_are_in_range};
-pub use query_reader::{QueryReader, read_queries};
+pub use query_reader::{QueryReader, read_queries, read_queries_within};

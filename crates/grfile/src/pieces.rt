@@ -1,23 +1,22 @@
-ghost use Rattle.std.specs.Prelude.{◌≡◌, ◌+◌, ◌∷◌, ◌++◌, [], None, Some, IfErr, OnOk, IfOk, IfSome, Ok, Err, MatchResult, MatchOption, List, ℕ};
-ghost use Rattle.std.specs.Io.KnownBytes.{IsAtEnd};
+ghost use Rattle.std.specs.Prelude.{◌≡◌, ◌+◌, ◌<◌, ◌≤◌, ◌∷◌, ◌++◌, [], None, Some, IfErr, OnOk, IfOk, IfSome, Ok, Err, MatchResult, MatchOption, List, ℕ, length, take};
+ghost use Rattle.std.specs.Io.KnownBytes.{Consumes, IsAtEnd, Keeps};
 ghost use Rattle.std.specs.Option.{option_map};
 ghost use Rattle.std.specs.Str.Lines.{strip_carriage_return};
+ghost use Rattle.counted_io.specs.Handing.{IsGivenBy};
 ghost use Rattle.grfile.specs.Lines.{lines_of};
 ghost use Rattle.grfile.specs.Outcome.{Answers, FromText, IsOfLine, Takes, capped, next_line};
 ghost use Rattle.grfile.specs.Grammar.{listing_after};
 ghost use Rattle.grfile.specs.Progress.{listing_of, listing_from, told_from};
 ghost use Rattle.grfile.specs.Taken.{CountsLines, HasTaken, IsAtEndOf, IsReached, StopsAtReached, TakesLine, line_feeds, lines_after, taken_of, told_with};
-ghost use Rattle.grfile.specs.declared.error.GrErrorKind.TheVariants.{OutOfMemory};
+ghost use Rattle.grfile.specs.declared.error.GrErrorKind.TheVariants.{OutOfMemory, Read};
 
 use crate::error::{GrError, GrErrorKind};
 use crate::form::Form;
 use crate::line::{first_line, without_return};
 use crate::listing::{Listed, Progress, end, take_line, take_plain};
+use counted_io::ReadCalls;
 use std::alloc::Global;
-use std::io::{ErrorKind, Read};
-
-/// How often a reader is called at most.
-const CALLS: u64 = 1 << 40;
+use std::io::Read;
 
 /// What is kept of a text that comes in pieces.
 #[derive(Drop)]
@@ -185,44 +184,63 @@ pub(crate) fn finish<F: Form>(
     end(progress)
 }
 
-/// What the text lists that a reader gives to its end, or its first fault. An interrupted call is made again.
+/// What the text lists that a reader gives to its end in so many calls, or its first fault.
 pub(crate) fn read_listing<F: Form, R: Read>(
     alloc: Global,
     form: F,
     reader: &mut R,
+    calls: u64,
 ) -> Result<Listed<F::Entry>, GrError>
     ensures told { IfSome (R.remaining reader.old) (λ text. Answers listing_of result (listing_after (F.grammar form) 0 (lines_of text))) }
     ensures listed { IfOk result (λ listed. (text : List ℕ) × (listing_after (F.grammar form) 0 (lines_of text) ≡ Ok (listing_of listed))) }
     ensures ended { OnOk result (IsAtEnd (R.remaining reader.new)) }
+    ensures few { OnOk result (IsGivenBy calls (R.remaining reader.old)) }
     ensures reached { IfErr result (StopsAtReached (R.remaining reader.old) (R.remaining reader.new)) }
 {
     let mut pieces = Pieces::new(alloc);
-    feed_all(&mut pieces, form, reader)?;
+    feed_all(&mut pieces, form, reader, calls)?;
     finish(pieces, form)
 }
 
-/// Takes all that a reader gives, in pieces of 64 KiB at most.
+/// Takes all that a reader gives in so many calls, in pieces of 64 KiB at most.
 fn feed_all<F: Form, R: Read>(
     pieces: &mut Pieces<F::Entry>,
     form: F,
     reader: &mut R,
+    calls: u64,
 ) -> Result<(), GrError>
     requires fresh { pieces.old.failed ≡ None }
     requires begins { pieces.old.progress.line ≡ 0 }
     ensures ok { OnOk result (HasTaken (told_with (F.grammar form) (taken_of pieces.old)) (told_with (F.grammar form) (taken_of pieces.new)) pieces.new.progress.line (R.remaining reader.old) (R.remaining reader.new)) }
     ensures stays { OnOk result (pieces.new.failed ≡ None) }
     ensures ended { OnOk result (IsAtEnd (R.remaining reader.new)) }
+    ensures few { OnOk result (IsGivenBy calls (R.remaining reader.old)) }
     ensures err { IfErr result (λ e. IfSome (R.remaining reader.old) (λ text. FromText e.kind (told_with (F.grammar form) (taken_of pieces.old) text ≡ Err e))) }
     ensures reached { IfErr result (StopsAtReached (R.remaining reader.old) (R.remaining reader.new)) }
 {
+    let mut calls = ReadCalls::new(calls);
     let mut piece = [0u8; 65536];
-    for _ in 0..CALLS {
-        match reader.read(&mut piece) {
-            Ok(0) => return Ok(()),
-            Ok(count) => feed(pieces, form, &piece[..count])?,
-            Err(e) if e.kind() == ErrorKind::Interrupted => {}
-            Err(_) => break,
-        }
+    while let Some(count) = read_piece(&mut calls, reader, &mut piece, pieces.progress.line)? {
+        feed(pieces, form, &piece[..count])?;
     }
-    Err(GrErrorKind::Read.at(pieces.progress.line.saturating_add(1)))
+    Ok(())
+}
+
+/// Reads the next bytes into the piece, and answers how many they are, or none at the end. So many lines have ended.
+fn read_piece<R: Read>(
+    calls: &mut ReadCalls,
+    reader: &mut R,
+    piece: &mut [u8],
+    line: u64,
+) -> Result<Option<usize>, GrError>
+    requires room { 0 < length piece.old }
+    ensures bytes { IfOk result (λ o. MatchOption o (IsAtEnd (R.remaining reader.new) × Keeps (R.remaining reader.old) (R.remaining reader.new)) (λ n. (n ≤ length piece.new) × Consumes (R.remaining reader.old) (R.remaining reader.new) (take n piece.new))) }
+    ensures counted { OnOk result (calls.new.left < calls.old.left) }
+    ensures refused { IfErr result (λ e. (e ≡ record { kind = Read; line = next_line line }) × Keeps (R.remaining reader.old) (R.remaining reader.new)) }
+{
+    match calls.read(reader, piece) {
+        Ok(0) => Ok(None),
+        Ok(count) => Ok(Some(count)),
+        Err(_) => Err(GrErrorKind::Read.at(line.saturating_add(1))),
+    }
 }

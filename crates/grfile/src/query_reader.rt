@@ -1,5 +1,6 @@
 ghost use Rattle.std.specs.Prelude.{◌≡◌, ◌++◌, [], None, Some, IfOk, IfErr, OnOk, IfSome, Err, All, List, ℕ};
 ghost use Rattle.std.specs.Io.KnownBytes.{IsAtEnd};
+ghost use Rattle.counted_io.specs.Handing.{IsGivenBy};
 ghost use Rattle.grfile.specs.Outcome.{Answers, Takes};
 ghost use Rattle.grfile.specs.Reading.{pairs_of, IsPair};
 ghost use Rattle.grfile.specs.Taken.{CountsLines, IsAtEndOf, StopsAtReached, line_feeds, pairs_with};
@@ -7,6 +8,7 @@ ghost use Rattle.grfile.specs.Taken.{CountsLines, IsAtEndOf, StopsAtReached, lin
 use crate::error::GrError;
 use crate::pairs::Pairs;
 use crate::pieces::{Pieces, feed, finish, read_listing};
+use counted_io::MOST_CALLS;
 use std::alloc::Global;
 use std::io::Read;
 use std::marker::Model;
@@ -91,6 +93,23 @@ pub fn read_queries<R: Read>(
     ensures ended { OnOk result (IsAtEnd (R.remaining reader.new)) }
     ensures reached { IfErr result (StopsAtReached (R.remaining reader.old) (R.remaining reader.new)) }
 {
-    let listed = read_listing(alloc, Pairs { nodes }, reader)?;
+    read_queries_within(alloc, reader, nodes, MOST_CALLS)
+}
+
+/// Reads as [`read_queries`] does, by so many calls of the reader, or 2^40 where they are more. After the last of them
+/// the answer is `Read`.
+pub fn read_queries_within<R: Read>(
+    alloc: Global,
+    reader: &mut R,
+    nodes: u32,
+    calls: u64,
+) -> Result<Vec<(u32, u32)>, GrError>
+    ensures reading { IfSome (R.remaining reader.old) (λ text. Answers (λ v. v.items) result (pairs_of nodes text)) }
+    ensures in_range { IfOk result (λ pairs. All (IsPair nodes) pairs.items) }
+    ensures ended { OnOk result (IsAtEnd (R.remaining reader.new)) }
+    ensures few { OnOk result (IsGivenBy calls (R.remaining reader.old)) }
+    ensures reached { IfErr result (StopsAtReached (R.remaining reader.old) (R.remaining reader.new)) }
+{
+    let listed = read_listing(alloc, Pairs { nodes }, reader, calls)?;
     Ok(listed.entries)
 }

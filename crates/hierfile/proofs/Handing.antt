@@ -1,28 +1,15 @@
 -- What a writer took of gathered bytes.
-use Rattle.std.proofs.Common.{ℕ, ◌≡◌, ◌+◌, ◌-◌, ◌<◌, ◌≤◌, get_or, List, [], ◌++◌, length, take, drop, Option, refl, sym, ◌∙◌, ap, subst, arith, append_assoc, append-nil, length-append}
+use Rattle.std.proofs.Common.{ℕ, ◌≡◌, ◌+◌, ◌-◌, ◌<◌, get_or, List, [], ◌++◌, length, take, drop, Option, refl, sym, ◌∙◌, ap, subst, arith, append_assoc, append-nil, length-append}
 use Rattle.std.specs.Io.KnownBytes.{Appends}
 use Rattle.std.proofs.KnownBytes.{Appends-trans, Appends-nil}
-use Rattle.std.proofs.Math.Seq.{take-add, take-append_seam}
-use Rattle.std.proofs.lemmas.List.{take-append-drop, length-take-le, take_rest, take_more, flat_map_more}
+use Rattle.std.proofs.Math.Seq.{take-append_seam}
+use Rattle.std.proofs.lemmas.List.{take-append-drop, take_more, flat_map_more}
 use Rattle.std.proofs.lemmas.List.Concat.{flat_map-append}
 use Rattle.std.specs.List.{flat_map}
 use Rattle.hierfile.specs.Spelling.{word, long}
-use Rattle.hierfile.specs.Bytes.{HandsOn, Gathered, IsPartOf, Took}
+use Rattle.counted_io.specs.Handing.{HandsOn}
+use Rattle.hierfile.specs.Bytes.{Gathered, IsPartOf, Took}
 use Rattle.byteorder.specs.Endian.{big_bytes}
-
--- the first bytes, and then the first of the rest
-pub appends-take_more : (old mid new : Option (List ℕ)) (n m : ℕ) (bytes : List ℕ) → Appends old mid (take n bytes) → Appends mid new (take m (take (length bytes - n) (drop n bytes))) → Appends old new (take (n + m) bytes)
-appends-take_more old mid new n m bytes p q =
-    subst (Appends old new) (sym (take-add n m bytes)) (Appends-trans old mid new _ _ p (subst (λ rest. Appends mid new (take m rest)) (take_rest bytes n) q))
-
--- so many of the gathered bytes were taken
-pub hands_on_first : (old new : Option (List ℕ)) (waiting bytes : List ℕ) (n before : ℕ) → bytes ≡ waiting → n ≤ length bytes → Appends old new (take n bytes) → HandsOn old new waiting (drop n bytes) before (before + n)
-hands_on_first old new waiting bytes n before same within given = record {
-  taken = take n bytes;
-  parts = sym (take-append-drop n bytes ∙ same);
-  given = given;
-  counted = omega (arith, length-take-le n bytes within);
-}
 
 -- more bytes are gathered behind
 pub hands_on_more : (old new : Option (List ℕ)) (waiting mid more rest : List ℕ) (before between after : ℕ) → HandsOn old new waiting mid before between → rest ≡ mid ++ more → after ≡ between

@@ -2,6 +2,7 @@
 use Rattle.std.specs.Prelude.{ℕ, ◌≡◌, ◌+◌, ◌-◌, ◌≤◌, take, ◌^◌, ◌<◌, List, ◌++◌, length, Option, Some, None, IfSome, IfOk, IfErr, Result, Ok, Err, ⊤, Bool, false, ◌==◌, slice_index_or}
 use Rattle.std.specs.List.{list_any}
 use Rattle.std.specs.Io.KnownBytes.{Appends, prepend_known}
+use Rattle.counted_io.specs.Handing.{HandsOn}
 use Rattle.ch_cost.specs.Cost.{length_of}
 use Rattle.ch_graph.specs.declared.link.Link.{Link}
 use Rattle.ch_graph.specs.Hierarchy.{Hierarchy, IsWellMade}
@@ -61,14 +62,6 @@ pub record IsBodyOf (h : Hierarchy) (nodes count longest : ℕ) : Type 0 where
 pub record Gathered : Type 0 where
   pub waiting : List ℕ
   pub written : ℕ
-
--- The writer took the first bytes of the gathered ones, the rest is what follows them, and the count of written
--- bytes grew by as many as were taken.
-pub record HandsOn (old new : Option (List ℕ)) (gathered rest : List ℕ) (before after : ℕ) : Type 0 where
-  pub taken : List ℕ
-  pub parts : gathered ≡ taken ++ rest
-  pub given : Appends old new taken
-  pub counted : after ≡ before + length taken
 
 -- The writer took a first part of what was gathered and of these bytes.
 abbrev pub IsPartOf : Option (List ℕ) → Option (List ℕ) → Gathered → List ℕ → ℕ → Type 0

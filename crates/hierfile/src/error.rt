@@ -1,7 +1,8 @@
 ghost use Rattle.std.specs.Prelude.{◌≡◌, Some};
-ghost use Rattle.hierfile.specs.declared.error.HierError.TheVariants.{OutOfMemory};
-ghost use Rattle.hierfile.specs.Names.{error_name, fault_text};
+ghost use Rattle.hierfile.specs.declared.error.HierError.TheVariants.{OutOfMemory, Read};
+ghost use Rattle.hierfile.specs.Names.{error_name};
 
+use counted_io::ReadFault;
 use std::alloc::{AllocError, AllocFailed};
 use std::error::Error;
 use std::fmt;
@@ -86,20 +87,10 @@ impl<T: Drop> From<AllocFailed<T>> for HierError {
     }
 }
 
-/// The writer failed.
-#[derive(Clone, Copy, Debug, PartialEq, Eq)]
-pub struct WriteFault {
-    /// How many bytes it had taken.
-    pub written: u64,
-}
+impl From<ReadFault> for HierError {
+    ghost from_gives = { λ _ e. e ≡ Read };
 
-impl fmt::Display for WriteFault {
-    ghost output = { λ fault. Some (fault_text fault) };
-
-    fn fmt<W: fmt::Write>(&self, f: &mut fmt::Formatter<W>) -> fmt::Result {
-        let written = self.written;
-        write!(f, "the writer failed after {written} bytes")
+    fn from(_fault: ReadFault) -> HierError {
+        HierError::Read
     }
 }
-
-impl Error for WriteFault {}

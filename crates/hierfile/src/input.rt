@@ -1,19 +1,17 @@
-ghost use Rattle.std.specs.Prelude.{◌≡◌, ◌+◌, ◌<◌, ◌≤◌, [], ◌∷◌, length, take, IfOk, IfErr, OnOk, OnErr, MatchBool, MatchOption};
+ghost use Rattle.std.specs.Prelude.{◌≡◌, ◌+◌, ◌<◌, ◌≤◌, [], ◌∷◌, length, take, IfOk, IfErr, OnOk, MatchBool, MatchOption};
 ghost use Rattle.std.specs.Io.KnownBytes.{Consumes, Keeps, IsAtEnd};
 ghost use Rattle.hierfile.specs.Spelling.{word, long};
 ghost use Rattle.hierfile.specs.Fault.{cut};
 ghost use Rattle.hierfile.specs.Bytes.{coming, IsFaultOf};
 
 use crate::error::HierError;
+use counted_io::{ReadCalls, ReadFault};
 use std::alloc::{AllocError, Global};
-use std::io::{self, ErrorKind, Read};
+use std::io::Read;
 use std::marker::Model;
 
 /// How many bytes the buffer holds.
 const SIZE: usize = 1 << 16;
-
-/// How often a reader is called at most.
-const CALLS: u64 = 1 << 40;
 
 /// The bytes of a reader, taken number by number through a buffer. It is seen as the bytes that wait in the buffer.
 #[derive(Drop)]
@@ -23,8 +21,8 @@ pub struct Input {
     at: usize,
     // and end before this place.
     end: usize,
-    // How often the reader was called.
-    calls: u64,
+    // How often the reader may still be called.
+    calls: ReadCalls,
 }
 
 impl Model for Input {
@@ -38,15 +36,15 @@ impl Model for Input {
 }
 
 impl Input {
-    /// Nothing waits, and the reader wasn't called yet.
-    pub fn new(alloc: Global) -> Result<Input, AllocError>
+    /// Nothing waits, and the reader may be called so often.
+    pub fn new(alloc: Global, calls: u64) -> Result<Input, AllocError>
         ensures { IfOk result (λ input. input ≡ []) }
     {
         Ok(Input {
             buffer: vec![in alloc; 0; SIZE]?,
             at: 0,
             end: 0,
-            calls: 0,
+            calls: ReadCalls::new(calls),
         })
     }
 
@@ -116,7 +114,7 @@ impl Input {
     #[inline]
     fn has<R: Read>(&mut self, reader: &mut R, count: usize) -> Result<bool, HierError>
         requires { count ≤ 8 }
-        ensures keeps { Keeps (coming self.old (R.remaining reader.old)) (coming self.new (R.remaining reader.new)) }
+        ensures keeps { OnOk result (Keeps (coming self.old (R.remaining reader.old)) (coming self.new (R.remaining reader.new))) }
         ensures ok { IfOk result (λ enough. MatchBool enough (count ≤ length self.new) ((length self.new < count) × IsAtEnd (R.remaining reader.new))) }
         ensures err { IfErr result (λ e. e ≡ HierError.Read) }
     {
@@ -130,7 +128,7 @@ impl Input {
     #[cold]
     fn fill<R: Read>(&mut self, reader: &mut R, count: usize) -> Result<bool, HierError>
         requires { count ≤ 8 }
-        ensures keeps { Keeps (coming self.old (R.remaining reader.old)) (coming self.new (R.remaining reader.new)) }
+        ensures keeps { OnOk result (Keeps (coming self.old (R.remaining reader.old)) (coming self.new (R.remaining reader.new))) }
         ensures ok { IfOk result (λ enough. MatchBool enough (count ≤ length self.new) ((length self.new < count) × IsAtEnd (R.remaining reader.new))) }
         ensures err { IfErr result (λ e. e ≡ HierError.Read) }
     {
@@ -138,29 +136,33 @@ impl Input {
         self.end -= self.at;
         self.at = 0;
         while self.end < count {
-            if self.calls >= CALLS {
-                return Err(HierError::Read);
+            let more = read_behind(
+                &mut self.calls,
+                reader,
+                self.buffer.as_mut_slice(),
+                self.end,
+            )?;
+            if more == 0 {
+                return Ok(false);
             }
-            self.calls += 1;
-            match read_behind(reader, self.buffer.as_mut_slice(), self.end) {
-                Ok(0) => return Ok(false),
-                Ok(n) => self.end += n,
-                Err(error) if error.kind() == ErrorKind::Interrupted => {}
-                Err(_) => return Err(HierError::Read),
-            }
+            self.end += more;
         }
         Ok(true)
     }
 }
 
-// One call of the reader, which puts its bytes behind the first ones of the buffer.
-fn read_behind<R: Read>(reader: &mut R, buffer: &mut [u8], end: usize) -> io::Result<usize>
+// Reads the next bytes, and puts them behind the first ones of the buffer.
+fn read_behind<R: Read>(
+    calls: &mut ReadCalls,
+    reader: &mut R,
+    buffer: &mut [u8],
+    end: usize,
+) -> Result<usize, ReadFault>
     requires { end ≤ length buffer.old }
     ensures room { IfOk result (λ n. end + n ≤ length buffer.new) }
     ensures ok { IfOk result (λ n. Keeps (coming (take end buffer.old) (R.remaining reader.old)) (coming (take (end + n) buffer.new) (R.remaining reader.new))) }
     ensures end { IfOk result (λ n. n ≡ 0 → end < length buffer.new → IsAtEnd (R.remaining reader.new)) }
-    ensures err { OnErr result (Keeps (coming (take end buffer.old) (R.remaining reader.old)) (coming (take end buffer.new) (R.remaining reader.new))) }
 {
-    let count = reader.read(&mut buffer[end..])?;
+    let count = calls.read(reader, &mut buffer[end..])?;
     Ok(count)
 }

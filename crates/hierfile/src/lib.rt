@@ -1,6 +1,7 @@
 //! Hierarchies in files.
 //!
-//! Stands on `ch_graph` for hierarchies and links and on `ch_cost` for lengths; numbers are written by `byteorder`.
+//! Stands on `ch_graph` for hierarchies and links, on `ch_cost` for lengths, and on `counted_io` for the calls of readers and
+//! writers; numbers are written by `byteorder`.
 //! [`write`] and [`read`] carry its promise: what is written is the spelling of the hierarchy (`bytes_of` in
 //! `specs/Spelling.antt`); what is read is a hierarchy whose spelling the bytes are, and what is refused has the
 //! first fault that is told (`first_fault` in `specs/Fault.antt`).
@@ -19,9 +20,10 @@ mod ranks;
 mod reading;
 mod writing;
 
-pub use error::{HierError, WriteFault};
+pub use counted_io::WriteFault;
+pub use error::HierError;
 pub use laws::{
     faultless_bytes_are_spellings, hierarchies_have_one_spelling, spellings_have_no_fault,
 };
-pub use reading::read;
-pub use writing::write;
+pub use reading::{read, read_within};
+pub use writing::{write, write_within};

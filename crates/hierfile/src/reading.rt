@@ -13,6 +13,7 @@ use crate::links::{find_halves, read_links};
 use crate::ranks::read_ranks;
 use ch_cost::Cost;
 use ch_graph::{Hierarchy, LinkIndex};
+use counted_io::MOST_CALLS;
 use std::alloc::Global;
 use std::io::Read;
 
@@ -47,7 +48,22 @@ pub fn read<R: Read>(alloc: Global, reader: &mut R) -> Result<Hierarchy, HierErr
     ensures spelling { IfSome (R.remaining reader.old) (λ bytes. ReadsSpellings bytes result) }
     ensures err { IfErr result (IsFaultOf first_fault (R.remaining reader.old)) }
 {
-    let mut input = Input::new(alloc)?;
+    read_within(alloc, reader, MOST_CALLS)
+}
+
+/// Reads as [`read`] does, by so many calls of the reader, or 2^40 where they are more. After the last of them the
+/// answer is `Read`.
+pub fn read_within<R: Read>(
+    alloc: Global,
+    reader: &mut R,
+    calls: u64,
+) -> Result<Hierarchy, HierError>
+    ensures ok { IfOk result (λ hierarchy. IfSome (R.remaining reader.old) (λ bytes. bytes ≡ bytes_of hierarchy)) }
+    ensures made { IfOk result IsWellMade }
+    ensures spelling { IfSome (R.remaining reader.old) (λ bytes. ReadsSpellings bytes result) }
+    ensures err { IfErr result (IsFaultOf first_fault (R.remaining reader.old)) }
+{
+    let mut input = Input::new(alloc, calls)?;
     read_magic(&mut input, reader)?;
     let head = read_head(&mut input, reader)?;
     let hierarchy = read_body(alloc, &mut input, reader, head)?;

@@ -2,12 +2,13 @@ ghost use Rattle.std.specs.Prelude.{◌≡◌, ◌++◌, ◌≤◌, ℕ, List, l
 ghost use Rattle.std.specs.List.{flat_map};
 ghost use Rattle.std.specs.Io.KnownBytes.{Appends};
 ghost use Rattle.hierfile.specs.Spelling.{bytes_of, word, long, head_bytes, link_bytes, middle_number};
-ghost use Rattle.hierfile.specs.Bytes.{HandsOn, IsPartOf, Took};
+ghost use Rattle.counted_io.specs.Handing.{HandsOn};
+ghost use Rattle.hierfile.specs.Bytes.{IsPartOf, Took};
 
-use crate::error::WriteFault;
 use crate::links::NO_MIDDLE;
 use crate::output::Output;
 use ch_graph::{Hierarchy, Link};
+use counted_io::{MOST_CALLS, WriteFault};
 use std::io::Write;
 
 /// The magic, as a number of four bytes.
@@ -22,7 +23,20 @@ pub fn write<W: Write>(hierarchy: &Hierarchy, writer: &mut W) -> Result<(), Writ
     ensures ok { OnOk result (Appends (W.contents writer.old) (W.contents writer.new) (bytes_of hierarchy.now)) }
     ensures err { IfErr result (λ fault. Took (W.contents writer.old) (W.contents writer.new) fault.written (bytes_of hierarchy.now)) }
 {
-    let mut output = Output::new();
+    write_within(hierarchy, writer, MOST_CALLS)
+}
+
+/// Writes as [`write`] does, by so many calls of the writer, or 2^40 where they are more. After the last of them it has
+/// failed.
+pub fn write_within<W: Write>(
+    hierarchy: &Hierarchy,
+    writer: &mut W,
+    calls: u64,
+) -> Result<(), WriteFault>
+    ensures ok { OnOk result (Appends (W.contents writer.old) (W.contents writer.new) (bytes_of hierarchy.now)) }
+    ensures err { IfErr result (λ fault. Took (W.contents writer.old) (W.contents writer.new) fault.written (bytes_of hierarchy.now)) }
+{
+    let mut output = Output::new(calls);
     write_head(hierarchy, &mut output, writer)?;
     write_ranks(hierarchy, &mut output, writer)?;
     write_links(hierarchy.links(), &mut output, writer)?;

@@ -1,12 +1,15 @@
 use ch_graph::Hierarchy;
 use ch_query::Search;
-use hierfile::{HierError, WriteFault, read, write};
+use hierfile::{HierError, WriteFault, read, read_within, write, write_within};
 use std::alloc::{AllocError, Global};
 use std::io::{self, ErrorKind, Read, Write};
 
 const MAGIC: u32 = 0x5243_4831;
 
 const NONE: u32 = u32::MAX;
+
+/// More calls than any reader or writer here gets.
+const MANY: u64 = 1 << 40;
 
 // Files as numbers of four bytes.
 
@@ -288,18 +291,19 @@ impl Read for Pieces<'_> {
 fn reads_in_pieces(rt: HostRuntime) -> Result<(), AllocError> {
     let row = bytes(rt.alloc(), &ROW)?;
     let table = [
-        (1, 1000, None),
-        (7, 1000, None),
-        (40, 1, Some(HierError::Read)),
+        (1, 1000, 194, None),
+        (1, 1000, 193, Some(HierError::Read)),
+        (7, 1000, MANY, None),
+        (40, 1, MANY, Some(HierError::Read)),
     ];
-    for (most, calls, expected) in table {
+    for (most, calls, limit, expected) in table {
         let mut pieces = Pieces {
             bytes: row.as_slice(),
             most,
             calls,
             is_odd: false,
         };
-        assert!(rt; read(rt.alloc(), &mut pieces).err() == expected);
+        assert!(rt; read_within(rt.alloc(), &mut pieces, limit).err() == expected);
     }
     Ok(())
 }
@@ -330,7 +334,7 @@ impl Write for Taker {
     }
 }
 
-fn row(alloc: Global) -> Result<Option<Hierarchy>, AllocError> {
+pub(crate) fn row(alloc: Global) -> Result<Option<Hierarchy>, AllocError> {
     let bytes = bytes(alloc, &ROW)?;
     let mut rest = bytes.as_slice();
     Ok(read(alloc, &mut rest).ok())
@@ -340,12 +344,13 @@ fn row(alloc: Global) -> Result<Option<Hierarchy>, AllocError> {
 fn writes_in_pieces(rt: HostRuntime) -> Result<(), AllocError> {
     let bytes = bytes(rt.alloc(), &ROW)?;
     let table = [
-        (1, 1000, Ok(()), 96),
-        (1000, 30, Err(WriteFault { written: 30 }), 30),
-        (7, 30, Err(WriteFault { written: 30 }), 30),
-        (7, 0, Err(WriteFault { written: 0 }), 0),
+        (1, 1000, 192, Ok(()), 96),
+        (1, 1000, 191, Err(WriteFault { written: 95 }), 95),
+        (1000, 30, MANY, Err(WriteFault { written: 30 }), 30),
+        (7, 30, MANY, Err(WriteFault { written: 30 }), 30),
+        (7, 0, MANY, Err(WriteFault { written: 0 }), 0),
     ];
-    for (most, left, expected, count) in table {
+    for (most, left, limit, expected, count) in table {
         let mut taker = Taker {
             taken: Vec::new(rt.alloc()),
             most,
@@ -355,7 +360,7 @@ fn writes_in_pieces(rt: HostRuntime) -> Result<(), AllocError> {
         let Some(hierarchy) = row(rt.alloc())? else {
             continue;
         };
-        assert!(rt; write(&hierarchy, &mut taker) == expected);
+        assert!(rt; write_within(&hierarchy, &mut taker, limit) == expected);
         assert!(rt; Some(taker.taken.as_slice()) == bytes.as_slice().get(..count));
     }
     Ok(())

@@ -1,7 +1,9 @@
 ghost use Rattle.std.specs.Prelude.{◌≤◌, length};
 
 use ch_graph::{Graph, Road};
-use grfile::{GrError, GrErrorKind, GrReader, QueryReader, read_graph, read_queries};
+use grfile::{
+    GrError, GrErrorKind, GrReader, QueryReader, read_graph, read_graph_within, read_queries,
+};
 use std::alloc::Global;
 use std::io::{self, ErrorKind, Read};
 
@@ -370,6 +372,9 @@ fn a_fault_stays_before_a_long_line(rt: HostRuntime) {
     );
 }
 
+/// More calls than any reader here gets.
+const MANY: u64 = 1 << 40;
+
 /// A reader that gives one byte at a call. Each third call is interrupted, and one fails.
 #[derive(Drop)]
 struct Uneven<'a> {
@@ -398,21 +403,31 @@ impl Read for Uneven<'_> {
     }
 }
 
-/// Whether a reader that fails at this call, 0 for none, is read so.
-fn is_read_so(alloc: Global, text: &[u8], fails_at: u32, wanted: Wanted) -> bool {
+/// Whether a reader that fails at this call, 0 for none, is read so by so many calls.
+fn is_read_so(alloc: Global, text: &[u8], fails_at: u32, calls: u64, wanted: Wanted) -> bool {
     let mut reader = Uneven {
         text,
         calls: 0,
         fails_at,
     };
-    is_graph(read_graph(alloc, &mut reader), wanted)
+    is_graph(read_graph_within(alloc, &mut reader, calls), wanted)
 }
 
-/// Whether the faults of a failing reader are of the lines that were reached.
+/// Whether the faults of a reader that fails, or may not be called again, are of the lines that were reached.
 fn fails_at_lines(alloc: Global) -> bool {
-    for (fails_at, line) in [(1, 1), (2, 1), (4, 2), (5, 3), (10, 3), (11, 4)] {
+    let text = b"c\n\nc y\n".as_slice();
+    for (fails_at, before, line) in [
+        (1, 0, 1),
+        (2, 1, 1),
+        (4, 3, 2),
+        (5, 4, 3),
+        (10, 9, 3),
+        (11, 10, 4),
+    ] {
         let wanted = Wanted::Fault(GrErrorKind::Read, line);
-        if !is_read_so(alloc, b"c\n\nc y\n", fails_at, wanted) {
+        if !is_read_so(alloc, text, fails_at, MANY, wanted)
+            || !is_read_so(alloc, text, 0, before, wanted)
+        {
             return false;
         }
     }
@@ -422,7 +437,7 @@ fn fails_at_lines(alloc: Global) -> bool {
 #[test]
 fn readers(rt: HostRuntime) {
     let seven = Wanted::Graph(2, SEVEN);
-    assert!(rt; is_read_so(rt.alloc(), b"p sp 2 1\na 1 2 7\n", 0, seven));
+    assert!(rt; is_read_so(rt.alloc(), b"p sp 2 1\na 1 2 7\n", 0, MANY, seven));
     assert!(rt; fails_at_lines(rt.alloc()));
     let mut failing = Uneven {
         text: b"p aux sp p2p 0".as_slice(),

@@ -1,4 +1,4 @@
-ghost use Rattle.std.specs.Prelude.{◌≡◌, ◌<◌, ◌^◌, ◌∷◌, [], All, IfOk, IsTrue, Ok};
+ghost use Rattle.std.specs.Prelude.{◌≡◌, ◌∷◌, [], All, IfOk, Ok};
 ghost use Rattle.ch_estimate.specs.declared.lease.Lease.{Lease};
 
 use ch_contract::{Contraction, Facts};
@@ -33,43 +33,25 @@ fn road(from: u32, to: u32, weight: u32) -> Road {
     Road { from, to, weight }
 }
 
-/// Whether the arcs are between so many nodes, and of weights from 1.
-fn all_allowed(nodes: u32, roads: &[Road]) -> bool
-    ensures { IsTrue result → All (λ r. (r.from < nodes) × (r.to < nodes) × (0 < r.weight) × (r.weight < 2 ^ 32)) roads.now }
-{
-    roads.iter().all(|road| road.from < nodes && road.to < nodes && road.weight > 0)
-}
-
-/// The graph, or none where it has too many nodes or arcs, or an arc isn't allowed.
-fn graph_if_allowed(nodes: u32, roads: Vec<Road>) -> Option<Graph> {
-    if nodes > 1 << 25 || roads.len() > 1 << 27 || !all_allowed(nodes, roads.as_slice()) {
-        return None;
-    }
-    Some(Graph::new(nodes, roads))
-}
-
-/// The graph of these arcs. Fails where it isn't allowed.
-fn graph_of(nodes: u32, roads: Vec<Road>) -> Result<Graph, Fail> {
-    let graph = graph_if_allowed(nodes, roads).ok_or("an arc that isn't allowed")?;
-    Ok(graph)
-}
-
 /// Arcs from nodes 1 and 2 into node 0, and from there to nodes 3 and 4.
 pub(crate) fn star(alloc: Global) -> Result<Graph, Fail> {
     let arcs = vec![in alloc; road(1, 0, 1), road(2, 0, 1), road(0, 3, 1), road(0, 4, 1)]?;
-    graph_of(5, arcs)
+    let graph = Graph::checked(5, arcs)?;
+    Ok(graph)
 }
 
 /// The row of three nodes: 1 to 0, and 0 to 2.
 pub(crate) fn row(alloc: Global) -> Result<Graph, Fail> {
     let arcs = vec![in alloc; road(1, 0, 2), road(0, 2, 3)]?;
-    graph_of(3, arcs)
+    let graph = Graph::checked(3, arcs)?;
+    Ok(graph)
 }
 
 /// Two ways from node 2 to node 3, by 0 and by 1, of one length.
 pub(crate) fn tie(alloc: Global) -> Result<Graph, Fail> {
     let arcs = vec![in alloc; road(2, 0, 1), road(0, 3, 1), road(2, 1, 1), road(1, 3, 1)]?;
-    graph_of(4, arcs)
+    let graph = Graph::checked(4, arcs)?;
+    Ok(graph)
 }
 
 /// The grid of 25 nodes `5i + j`, with both directions between nodes next to each other.
@@ -83,7 +65,8 @@ pub(crate) fn grid(alloc: Global) -> Result<Graph, Fail> {
             add_both(&mut arcs, node, node + 5)?;
         }
     }
-    graph_of(25, arcs)
+    let graph = Graph::checked(25, arcs)?;
+    Ok(graph)
 }
 
 /// Puts in the arcs between two nodes of the grid, in both directions. Their weight is 1 and the product of the numbers

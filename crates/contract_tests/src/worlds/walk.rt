@@ -1,8 +1,7 @@
 use super::{read, road};
-use crate::networks::graph;
 use ch_contract::{CommitError, Proposal, Receipt, propose};
 use ch_core::{Event, Outcome, World};
-use ch_graph::Road;
+use ch_graph::{Graph, Road};
 use ch_overlay::Seen;
 use std::alloc::{AllocError, Global};
 use std::test::Fail;
@@ -265,7 +264,7 @@ fn random_roads(alloc: Global, dice: &mut Dice) -> Result<Vec<Road>, AllocError>
 fn walk_of(alloc: Global, dice: &mut Dice) -> Result<Walk, Fail> {
     let roads = random_roads(alloc, dice)?;
     let slow = Slow::new(alloc, roads.as_slice())?;
-    let graph = graph(NODES, roads).ok_or("a road that isn't allowed")?;
+    let graph = Graph::checked(NODES, roads)?;
     let world = World::new(alloc, graph, WORKERS)?;
     Ok(Walk {
         world,

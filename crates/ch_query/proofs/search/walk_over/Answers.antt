@@ -1,7 +1,7 @@
 use Rattle.std.proofs.Common.{◌≡◌, ◌++◌, reverse, List, ap, ◌∙◌, sym, subst}
 use Rattle.ch_graph.specs.declared.hierarchy.LinkId.{LinkId}
 use Rattle.ch_query.specs.declared.side.Side.TheVariants.{Rise}
-use Rattle.ch_query.specs.Positions.{IsRiseFallAt}
+use Rattle.ch_query.specs.Places.{IsRiseFallAt}
 use Rattle.ch_query.proofs.Descents.{node_of}
 use Rattle.ch_query.proofs.Answering.{walk_at}
 use Rattle.ch_query.proofs.search.walk_over.Goals as goal

@@ -8,5 +8,5 @@ invariant-pairs g l =
     let contents = g.W.Write.contents in
     record {
       same : l.search ≡ l.hierarchy;
-      gathered : IsGathered (IsRouteBy l.hierarchy) (take l.pair-index l.pairs) (contents l.fn.out) (contents l.out) l.output.lines.items l.output.written;
+      gathered : IsGathered (IsRouteBy l.hierarchy) (take l.pair-index l.pairs) (contents l.fn.out) (contents l.out) l.output.lines.items l.output.calls.written;
     }

@@ -1,33 +1,32 @@
-use Rattle.std.proofs.Common.{◌∙◌, take}
-use Rattle.std.proofs.Common.{arith}
+use Rattle.std.proofs.Common.{◌≤◌, ◌∙◌, length, take, arith}
+use Rattle.std.proofs.lemmas.List.{length-take-le}
 use Rattle.std.proofs.lemmas.Result.{err_from_is_err_and}
 use Rattle.grfile.specs.Taken.{taken_of, told_with}
-use Rattle.grfile.proofs.Cuttings.{failed_as, stops_in_piece, taken_as, taken_more, taken_same}
-use Rattle.grfile.proofs.pieces.feed_all.Goals.{in-Ok+in_ok-feed-in-Ok, in-Err}
+use Rattle.grfile.proofs.Cuttings.{at_some, stops_in_piece, taken_more, within_more}
 use Rattle.grfile.proofs.pieces.feed_all.Goals as goal
 
-pub loop-preserved : goal.loop-preserved
-loop-preserved g c =
+pub loop-count-preserved : goal.loop-count-preserved
+loop-count-preserved g c =
     let grammar = g.F.Form.grammar c.args.form in
-    let kept = c.loop.invariant in
+    let kept = c.loop-count.invariant in
     let had = g.R.Read.remaining c.args.reader.now in
-    let left = g.R.Read.remaining c.loop.reader in
-    let later = g.R.Read.remaining c.read.new.self in
-    let old = told_with grammar (taken_of c.args.pieces.now) in
-    elim c.match-read.branch [
-      | in-Ok+in_ok-feed-in-Ok w ↦ record {
-        fresh = failed_as c.match-read.pieces w.feed.new.pieces _ w.pieces-is (w.in_ok-feed-in-Ok.ensures.stays ∙ kept.fresh);
-        told = taken_as grammar old c.match-read.pieces w.feed.new.pieces had later w.pieces-is (taken_more old (told_with grammar (taken_of c.loop.pieces)) (told_with grammar (taken_of w.feed.new.pieces)) c.loop.pieces.progress.line w.feed.new.pieces.progress.line had left later (take w.in-Ok.count c.read.new.buf) kept.told w.in_ok-feed-in-Ok.ensures.takes (w.in_ok-feed-in-Ok.ensures.lines kept.fresh) w.in-Ok.ensures.bytes.0);
-      }
-      | in-Err w ↦ record {
-        fresh = failed_as c.match-read.pieces c.loop.pieces _ w.pieces-is kept.fresh;
-        told = taken_as grammar old c.match-read.pieces c.loop.pieces had later w.pieces-is (taken_same old (told_with grammar (taken_of c.loop.pieces)) c.loop.pieces.progress.line had left later kept.told w.in-Err.ensures.bytes);
-      }
-    ]
+    let left = g.R.Read.remaining c.loop-count.reader in
+    let later = g.R.Read.remaining c.read_piece.new.reader in
+    let given = at_some _ _ _ _ c.in-Some.is c.in_ok-count.ensures.bytes in
+    let chunk = take c.in-Some.count c.read_piece.new.piece in
+    let short : length chunk ≤ 65536 = omega (arith, given.0, length-take-le c.in-Some.count c.read_piece.new.piece given.0) in
+    record {
+      fresh = c.in_ok-feed.ensures.stays ∙ kept.fresh;
+      told = taken_more (told_with grammar (taken_of c.args.pieces.now)) (told_with grammar (taken_of c.loop-count.pieces)) (told_with grammar (taken_of c.feed.new.pieces)) c.loop-count.pieces.progress.line c.feed.new.pieces.progress.line had left later chunk kept.told c.in_ok-feed.ensures.takes (c.in_ok-feed.ensures.lines kept.fresh) given.1;
+      few = within_more had left later chunk c.read_piece.new.calls.left c.loop-count.calls.left c.args.calls kept.few given.1 short c.in_ok-count.ensures.counted;
+    }
 
-pub returns-in_err-feed-in-Ok-clause-reached : goal.returns-in_err-feed-in-Ok-clause-reached
-returns-in_err-feed-in-Ok-clause-reached g c =
+pub returns-in_err-feed-clause-reached : goal.returns-in_err-feed-clause-reached
+returns-in_err-feed-clause-reached g c =
     let grammar = g.F.Form.grammar c.args.form in
-    let kept = c.loop.invariant in
-    let exit = err_from_is_err_and c.from_residual.result c.from_residual.ensures.1 in
-    rw (exit.1, exit.2) (stops_in_piece (told_with grammar (taken_of c.args.pieces.now)) (told_with grammar (taken_of c.loop.pieces)) c.loop.pieces.progress.line _ (g.R.Read.remaining c.args.reader.now) (g.R.Read.remaining c.loop.reader) (g.R.Read.remaining c.read.new.self) (take c.in-Ok.count c.read.new.buf) _ kept.told c.in-Ok.ensures.bytes.0 (omega (arith, c.in-Ok.ensures.bound.0, c.in-Ok.ensures.bound.1)) (c.in_err-feed-in-Ok.ensures.lines kept.fresh))
+    let kept = c.loop-count.invariant in
+    let given = at_some _ _ _ _ c.in-Some.is c.in_ok-count.ensures.bytes in
+    let chunk = take c.in-Some.count c.read_piece.new.piece in
+    let short : length chunk ≤ 65536 = omega (arith, given.0, length-take-le c.in-Some.count c.read_piece.new.piece given.0) in
+    let exit = err_from_is_err_and c.from_residual-in_err-feed.result c.from_residual-in_err-feed.ensures.1 in
+    rw (exit.1, exit.2) (stops_in_piece (told_with grammar (taken_of c.args.pieces.now)) (told_with grammar (taken_of c.loop-count.pieces)) c.loop-count.pieces.progress.line _ (g.R.Read.remaining c.args.reader.now) (g.R.Read.remaining c.loop-count.reader) (g.R.Read.remaining c.read_piece.new.reader) chunk _ kept.told given.1 short (c.in_err-feed.ensures.lines kept.fresh))

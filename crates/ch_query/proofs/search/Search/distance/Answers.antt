@@ -4,7 +4,7 @@ use Rattle.ch_graph.specs.Hierarchy.{Hierarchy, IsValue}
 use Rattle.ch_query.specs.declared.mark.Mark.TheVariants.{Unseen}
 use Rattle.ch_query.specs.declared.meeting.Meeting.{Meeting}
 use Rattle.ch_query.specs.Meeting.{cost_of}
-use Rattle.ch_query.specs.Positions.{IsRiseFallAt}
+use Rattle.ch_query.specs.Places.{IsRiseFallAt}
 use Rattle.ch_query.proofs.Answering.{answered}
 use Rattle.ch_query.proofs.search.Search.distance.Goals as goal
 

@@ -1,6 +1,5 @@
 use Rattle.std.proofs.Common.{◌≡◌, ◌-◌, ◌≤◌, length, take}
 use Rattle.std.specs.Io.KnownBytes.{Keeps}
-use Rattle.hierfile.specs.declared.input.TheConstants.{CALLS}
 use Rattle.hierfile.specs.Bytes.{coming}
 use Rattle.hierfile.proofs.input.Input.fill.Given as goal
 
@@ -16,4 +15,4 @@ invariant-loop-self g l =
     }
 
 abbrev pub decreases-loop-self : goal.decreases-loop-self
-decreases-loop-self g l = CALLS - l.self-inside.calls
+decreases-loop-self g l = l.fn.count - l.self-inside.end

@@ -12,10 +12,10 @@ returns-clause-ok g c =
     let new = c.write_u64.new.buf in
     let bytes : List ℕ = take output.end output.buffer in
     let waits : bytes ≡ mid.waiting = ap (λ (o : Gathered). o.waiting) c.self.view_is in
-    let count : output.written ≡ mid.written = ap (λ (o : Gathered). o.written) c.self.view_is in
+    let count : output.calls.written ≡ mid.written = ap (λ (o : Gathered). o.written) c.self.view_is in
     let within : output.end ≤ length output.buffer = omega (arith, c.self.told, c.self.invariant.0) in
     let room : 8 ≤ length new = omega (arith, ap length c.write_u64.ensures) in
     let number : take 8 new ≡ long c.args.number = long-first c.args.number new c.write_u64.ensures in
     let put = put_behind (8192 - output.end) output.buffer new output.end 8 within room in
-    hands_on_more _ _ c.args.self.now.waiting mid.waiting (long c.args.number) _ c.args.self.now.written mid.written output.written c.in_ok-make_room.ensures.ok
+    hands_on_more _ _ c.args.self.now.waiting mid.waiting (long c.args.number) _ c.args.self.now.written mid.written output.calls.written c.in_ok-make_room.ensures.ok
     (put ∙ ap (λ l. l ++ take 8 new) waits ∙ ap (λ l. mid.waiting ++ l) number) count

@@ -1,0 +1,16 @@
+use Rattle.std.proofs.Common.{◌+◌, ◌*◌, ◌≤◌, length, take}
+use Rattle.std.specs.Io.KnownBytes.{Appends}
+use Rattle.counted_io.specs.declared.TheConstants.{PIECE}
+use Rattle.counted_io.proofs.writing.write_bytes.Given as goal
+
+abbrev pub invariant-loop-taken : goal.invariant-loop-taken
+invariant-loop-taken g l =
+    let contents = g.W.Write.contents in
+    record {
+      within : l.taken ≤ length l.bytes;
+      given : Appends (contents l.fn.writer) (contents l.writer) (take l.taken l.bytes);
+      counted : l.taken + l.left * PIECE ≤ l.fn.left * PIECE;
+    }
+
+abbrev pub decreases-loop-taken : goal.decreases-loop-taken
+decreases-loop-taken g l = l.left

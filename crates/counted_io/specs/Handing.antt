@@ -1,0 +1,16 @@
+-- Bytes that come from a reader and go to a writer by so many calls.
+use Rattle.std.specs.Prelude.{ℕ, ◌≡◌, ◌+◌, ◌*◌, ◌≤◌, List, ◌++◌, length, Option, IfSome}
+use Rattle.std.specs.Io.KnownBytes.{Appends}
+
+-- The writer took the first of these bytes, the rest is what follows them, and the count of written bytes grew by as
+-- many as were taken.
+pub record HandsOn (old new : Option (List ℕ)) (bytes rest : List ℕ) (before after : ℕ) : Type 0 where
+  pub taken : List ℕ
+  pub parts : bytes ≡ taken ++ rest
+  pub given : Appends old new taken
+  pub counted : after ≡ before + length taken
+
+-- So many calls give all that a reader has, where that is known: 65,536 bytes at most in each but the last, which finds
+-- the end.
+abbrev pub IsGivenBy : ℕ → Option (List ℕ) → Type 0
+IsGivenBy calls had = IfSome had (λ bytes. length bytes + 65536 ≤ calls * 65536)

@@ -1,0 +1,20 @@
+//! Reading and writing by so many calls.
+//!
+//! A reader or a writer may give or take few bytes in a call, and may be interrupted time and again. So whoever reads or
+//! writes in a loop counts the calls, and ends where no more may be made. Stands on std alone. [`ReadCalls`] has the
+//! one loop over readers, and [`WriteCalls`] the one over writers. An interrupted call is made again, and counts; a
+//! write that takes no byte is a failure. The promise is in the contracts of [`ReadCalls::read`] and
+//! [`WriteCalls::write`]: which bytes the reader gave or the writer took, to the byte, also at a failure.
+#![tactic(auto)]
+
+mod reading;
+mod writing;
+
+pub use reading::{ReadCalls, ReadFault};
+pub use writing::{WriteCalls, WriteFault};
+
+/// How often a reader or a writer is called at most.
+pub const MOST_CALLS: u64 = 1 << 40;
+
+/// How many bytes a writer gets at most in a call.
+const PIECE: usize = 1 << 16;

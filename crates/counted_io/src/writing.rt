@@ -1,0 +1,102 @@
+ghost use Rattle.std.specs.Prelude.{◌≡◌, ◌+◌, ◌*◌, ◌≤◌, ℕ, [], List, Some, take, length, min, OnOk, IfErr, MatchOption};
+ghost use Rattle.std.specs.Io.KnownBytes.{Appends, Keeps};
+ghost use Rattle.counted_io.specs.Handing.{HandsOn};
+ghost use Rattle.counted_io.specs.Names.{fault_text};
+ghost use Rattle.counted_io.specs.declared.TheConstants.{MOST_CALLS, PIECE};
+
+use crate::{MOST_CALLS, PIECE};
+use std::error::Error;
+use std::fmt;
+use std::io::{ErrorKind, Write};
+
+/// The calls that a writer may still get, and what it has taken so far.
+#[derive(Drop)]
+pub struct WriteCalls {
+    /// How many calls they are.
+    pub left: u64,
+    /// How many bytes the writer has taken.
+    pub written: u64,
+    ghost bounded: { written + left * PIECE ≤ MOST_CALLS * PIECE },
+}
+
+impl WriteCalls {
+    /// So many calls, but no more than 2^40. Nothing is written yet.
+    pub fn new(calls: u64) -> WriteCalls
+        ensures left { result.left ≡ min calls MOST_CALLS }
+        ensures written { result.written ≡ 0 }
+    {
+        WriteCalls {
+            left: calls.min(MOST_CALLS),
+            written: 0,
+        }
+    }
+
+    /// Writes the bytes, 64 KiB at most in a call.
+    ///
+    /// The writer is called again where it took a part or was interrupted. It is refused where the writer fails or takes
+    /// no byte, or where no more calls may be made. Takes no memory.
+    pub fn write<W: Write>(&mut self, writer: &mut W, bytes: &[u8]) -> Result<(), WriteFault>
+        ensures ok { OnOk result (HandsOn (W.contents writer.old) (W.contents writer.new) bytes.now [] self.old.written self.new.written) }
+        ensures err { IfErr result (λ fault. (rest : List ℕ) × HandsOn (W.contents writer.old) (W.contents writer.new) bytes.now rest self.old.written fault.written) }
+        ensures told { IfErr result (λ fault. fault.written ≡ self.new.written) }
+        ensures counted { self.new.written + self.new.left * PIECE ≤ self.old.written + self.old.left * PIECE }
+    {
+        let mut left = self.left;
+        let taken = write_bytes(bytes, writer, &mut left);
+        let written = self.written + taken as u64;
+        *self = WriteCalls { left, written };
+        if taken < bytes.len() {
+            return Err(WriteFault { written });
+        }
+        Ok(())
+    }
+}
+
+// Writes the bytes, and answers how many of them the writer took: all, or fewer where it failed.
+fn write_bytes<W: Write>(bytes: &[u8], writer: &mut W, left: &mut u64) -> usize
+    ensures within { result ≤ length bytes.now }
+    ensures given { Appends (W.contents writer.old) (W.contents writer.new) (take result bytes.now) }
+    ensures counted { result + left.new * PIECE ≤ left.old * PIECE }
+{
+    let mut taken = 0;
+    while taken < bytes.len() && *left > 0 {
+        *left -= 1;
+        let Some(more) = write_piece(&bytes[taken..], writer) else {
+            break;
+        };
+        taken += more;
+    }
+    taken
+}
+
+// One call of the writer: how many bytes it took, 0 where it was interrupted, or none where it failed.
+fn write_piece<W: Write>(bytes: &[u8], writer: &mut W) -> Option<usize>
+    ensures { MatchOption result (Keeps (W.contents writer.old) (W.contents writer.new))
+        (λ n. (n ≤ length bytes.now) × (n ≤ PIECE) × Appends (W.contents writer.old) (W.contents writer.new) (take n bytes.now)) }
+{
+    let piece = &bytes[..bytes.len().min(PIECE)];
+    match writer.write(piece) {
+        Ok(0) => None,
+        Ok(n) => Some(n),
+        Err(error) if error.kind() == ErrorKind::Interrupted => Some(0),
+        Err(_) => None,
+    }
+}
+
+/// The writer failed, or no more calls of it may be made.
+#[derive(Clone, Copy, Debug, PartialEq, Eq)]
+pub struct WriteFault {
+    /// How many bytes it had taken.
+    pub written: u64,
+}
+
+impl fmt::Display for WriteFault {
+    ghost output = { λ fault. Some (fault_text fault) };
+
+    fn fmt<W: fmt::Write>(&self, f: &mut fmt::Formatter<W>) -> fmt::Result {
+        let written = self.written;
+        write!(f, "the writer failed after {written} bytes")
+    }
+}
+
+impl Error for WriteFault {}

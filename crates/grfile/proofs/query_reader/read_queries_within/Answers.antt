@@ -1,0 +1,17 @@
+use Rattle.std.proofs.lemmas.Result.{err_from_is_err_and, IfOk-at_ok}
+use Rattle.grfile.specs.Lines.{lines_of}
+use Rattle.grfile.proofs.Sound.{pairs_listed}
+use Rattle.grfile.proofs.Readings.{pairs_fault_known, pairs_read_known}
+use Rattle.grfile.proofs.query_reader.read_queries_within.Goals as goal
+
+pub returns-in_err-listed-clause-reading : goal.returns-in_err-listed-clause-reading
+returns-in_err-listed-clause-reading g c =
+    let exit = err_from_is_err_and c.from_residual.result c.from_residual.ensures.1 in
+    rw (exit.1, exit.2) (pairs_fault_known c.args.nodes (g.R.Read.remaining c.args.reader.now) _ c.in_err-listed.ensures.told)
+
+pub returns-clause-reading : goal.returns-clause-reading
+returns-clause-reading g c = pairs_read_known c.args.nodes (g.R.Read.remaining c.args.reader.now) _ c.in_ok-listed.ensures.told
+
+pub returns-clause-in_range : goal.returns-clause-in_range
+returns-clause-in_range g c = let listed = c.in_ok-listed.ensures.listed in
+    IfOk-at_ok _ listed.1 (pairs_listed c.args.nodes 0 (lines_of listed.0))

@@ -1,0 +1,100 @@
+use Rattle.std.proofs.Common.{ℕ, ◌++◌, List, [], length, refl, sym, ◌∙◌, subst, append-nil, append_assoc}
+use Rattle.std.specs.List.{flat_map}
+use Rattle.ch_graph.specs.declared.link.Link.{Link}
+use Rattle.hierfile.specs.Spelling.{word, head_bytes, link_bytes, bytes_of}
+use Rattle.hierfile.specs.Bytes.{IsPartOf}
+use Rattle.hierfile.proofs.Faults.{hands_on}
+use Rattle.hierfile.proofs.Handing.{Handed, handed_none, handed_then, part_then, part_none, took_part, took_all}
+use Rattle.hierfile.proofs.writing.write_within.Goals as goal
+
+pub returns-in_err-write_head-clause-err : goal.returns-in_err-write_head-clause-err
+returns-in_err-write_head-clause-err g c =
+    let contents = g.W.Write.contents in
+    let h = c.args.hierarchy.now in
+    let start = c.new-output.result in
+    let head : List ℕ = head_bytes (length h.ranks) (length h.links) h.bound in
+    let ranks : List ℕ = flat_map word h.ranks in
+    let links : List ℕ = flat_map link_bytes h.links in
+    let w0 = contents c.args.writer.now in
+    let fault = c.in_err-write_head.field-0.0 in
+    hands_on c.from_residual.result _ fault c.from_residual.ensures.1 (took_part w0 (contents c.write_head.new.writer) start (bytes_of h) fault.written c.new-output.ensures
+    (part_then w0 w0 (contents c.write_head.new.writer) start start [] head (ranks ++ links) (bytes_of h) fault.written (handed_none w0 start) c.in_err-write_head.ensures.err (sym (append_assoc head ranks links))))
+
+pub returns-in_err-write_ranks-clause-err : goal.returns-in_err-write_ranks-clause-err
+returns-in_err-write_ranks-clause-err g c =
+    let contents = g.W.Write.contents in
+    let h = c.args.hierarchy.now in
+    let start = c.new-output.result in
+    let head : List ℕ = head_bytes (length h.ranks) (length h.links) h.bound in
+    let ranks : List ℕ = flat_map word h.ranks in
+    let links : List ℕ = flat_map link_bytes h.links in
+    let w0 = contents c.args.writer.now in
+    let w1 = contents c.write_head.new.writer in
+    let g1 = c.write_head.new.output in
+    let h1 : Handed w0 w1 start g1 head = c.in_ok-write_head.ensures.ok in
+    let fault = c.in_err-write_ranks.field-0.0 in
+    hands_on c.from_residual-in_err-write_ranks.result _ fault c.from_residual-in_err-write_ranks.ensures.1 (took_part w0 (contents c.write_ranks.new.writer) start (bytes_of h) fault.written c.new-output.ensures
+    (part_then w0 w1 (contents c.write_ranks.new.writer) start g1 head ranks links (bytes_of h) fault.written h1 c.in_err-write_ranks.ensures.err refl))
+
+pub returns-in_err-write_links-clause-err : goal.returns-in_err-write_links-clause-err
+returns-in_err-write_links-clause-err g c =
+    let contents = g.W.Write.contents in
+    let h = c.args.hierarchy.now in
+    let start = c.new-output.result in
+    let head : List ℕ = head_bytes (length h.ranks) (length h.links) h.bound in
+    let ranks : List ℕ = flat_map word h.ranks in
+    let links : List ℕ = flat_map link_bytes h.links in
+    let w0 = contents c.args.writer.now in
+    let w1 = contents c.write_head.new.writer in
+    let g1 = c.write_head.new.output in
+    let h1 : Handed w0 w1 start g1 head = c.in_ok-write_head.ensures.ok in
+    let w2 = contents c.write_ranks.new.writer in
+    let g2 = c.write_ranks.new.output in
+    let h2 = handed_then w0 w1 w2 start g1 g2 head ranks h1 c.in_ok-write_ranks.ensures.ok in
+    let fault = c.in_err-write_links.field-0.0 in
+    hands_on c.from_residual-in_err-write_links.result _ fault c.from_residual-in_err-write_links.ensures.1 (took_part w0 (contents c.write_links.new.writer) start (bytes_of h) fault.written c.new-output.ensures
+    (part_then w0 w2 (contents c.write_links.new.writer) start g2 (head ++ ranks) links [] (bytes_of h) fault.written h2 (subst (λ (l : List Link). IsPartOf w2 (contents c.write_links.new.writer) g2 (flat_map link_bytes l) fault.written) c.links.ensures c.in_err-write_links.ensures.err) (append-nil (bytes_of h))))
+
+pub returns-in_err-hand_over-clause-err : goal.returns-in_err-hand_over-clause-err
+returns-in_err-hand_over-clause-err g c =
+    let contents = g.W.Write.contents in
+    let h = c.args.hierarchy.now in
+    let start = c.new-output.result in
+    let head : List ℕ = head_bytes (length h.ranks) (length h.links) h.bound in
+    let ranks : List ℕ = flat_map word h.ranks in
+    let links : List ℕ = flat_map link_bytes h.links in
+    let w0 = contents c.args.writer.now in
+    let w1 = contents c.write_head.new.writer in
+    let g1 = c.write_head.new.output in
+    let h1 : Handed w0 w1 start g1 head = c.in_ok-write_head.ensures.ok in
+    let w2 = contents c.write_ranks.new.writer in
+    let g2 = c.write_ranks.new.output in
+    let h2 = handed_then w0 w1 w2 start g1 g2 head ranks h1 c.in_ok-write_ranks.ensures.ok in
+    let w3 = contents c.write_links.new.writer in
+    let g3 = c.write_links.new.output in
+    let more : Handed w2 w3 g2 g3 links = subst (λ (l : List Link). Handed w2 w3 g2 g3 (flat_map link_bytes l)) c.links.ensures c.in_ok-write_links.ensures.ok in
+    let h3 = handed_then w0 w2 w3 start g2 g3 (head ++ ranks) links h2 more in
+    let fault = c.in_err-hand_over.field-0.0 in
+    hands_on c.from_residual-in_err-hand_over.result _ fault c.from_residual-in_err-hand_over.ensures.1 (took_part w0 (contents c.hand_over.new.writer) start (bytes_of h) fault.written c.new-output.ensures
+    (part_then w0 w3 (contents c.hand_over.new.writer) start g3 (bytes_of h) [] [] (bytes_of h) fault.written h3 (part_none w3 (contents c.hand_over.new.writer) g3 [] fault.written c.in_err-hand_over.ensures.err) (append-nil (bytes_of h ++ []) ∙ append-nil (bytes_of h))))
+
+pub returns-clause-ok : goal.returns-clause-ok
+returns-clause-ok g c =
+    let contents = g.W.Write.contents in
+    let h = c.args.hierarchy.now in
+    let start = c.new-output.result in
+    let head : List ℕ = head_bytes (length h.ranks) (length h.links) h.bound in
+    let ranks : List ℕ = flat_map word h.ranks in
+    let links : List ℕ = flat_map link_bytes h.links in
+    let w0 = contents c.args.writer.now in
+    let w1 = contents c.write_head.new.writer in
+    let g1 = c.write_head.new.output in
+    let h1 : Handed w0 w1 start g1 head = c.in_ok-write_head.ensures.ok in
+    let w2 = contents c.write_ranks.new.writer in
+    let g2 = c.write_ranks.new.output in
+    let h2 = handed_then w0 w1 w2 start g1 g2 head ranks h1 c.in_ok-write_ranks.ensures.ok in
+    let w3 = contents c.write_links.new.writer in
+    let g3 = c.write_links.new.output in
+    let more : Handed w2 w3 g2 g3 links = subst (λ (l : List Link). Handed w2 w3 g2 g3 (flat_map link_bytes l)) c.links.ensures c.in_ok-write_links.ensures.ok in
+    let h3 = handed_then w0 w2 w3 start g2 g3 (head ++ ranks) links h2 more in
+    took_all w0 w3 (contents c.hand_over.new.writer) start g3 c.hand_over.new.self (bytes_of h) c.new-output.ensures h3 c.in_ok-hand_over.ensures.ok c.in_ok-hand_over.ensures.all
