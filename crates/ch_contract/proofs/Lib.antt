@@ -1,3 +1,4 @@
+pub mod PartByPart
 pub mod Ranges
 pub mod Search
 pub mod Drafting

@@ -1,13 +1,12 @@
 -- Pairs and their verdicts, one by one.
-use Rattle.std.proofs.Common.{ℕ, ◌≡◌, ◌≢◌, ◌+◌, ◌<◌, ◌⊎◌, List, [], ◌∷◌, ◌++◌, length, get_or, take, Option, Some, None, AllPairs, Contains, append_assoc, refl, ap, sym, subst, ◌∙◌, arith, inl, inr}
+use Rattle.std.proofs.Common.{ℕ, ◌≡◌, ◌≢◌, ◌+◌, ◌<◌, List, [], ◌∷◌, ◌++◌, length, get_or, take, Option, Some, None, AllPairs, Contains, append_assoc, refl, ap, sym, subst, ◌∙◌, arith, inl, inr}
 use Rattle.std.specs.List.{slice_get}
-use Rattle.std.proofs.lemmas.Bool.{cases_lt}
 use Rattle.std.proofs.lemmas.List.{append-nil, get_or_append_left, get_or_default, get_or_push, length_push, take_more}
-use Rattle.std.proofs.lemmas.List.Elements.{Contains-append_left, Contains-append_right, Contains-push, Contains-push_cases, Contains-get_or}
+use Rattle.std.proofs.lemmas.List.Elements.{Contains-append_left, Contains-push, Contains-push_cases, Contains-get_or}
 use Rattle.std.proofs.lemmas.List.Quantifiers.{all_pairs_push}
 use Rattle.std.proofs.lemmas.Option.{slice_get-get_or, slice_get_within, get_or_from_slice_get}
 use Rattle.ch_cost.specs.declared.cost.Cost.{Cost}
-use Rattle.ch_cost.specs.Cost.{◌⊕◌, ◌≼◌, IsWithin}
+use Rattle.ch_cost.specs.Cost.{◌⊕◌, IsWithin}
 use Rattle.ch_laws.specs.declared.entry.Entry.{Entry}
 use Rattle.ch_laws.specs.declared.shortcut.Shortcut.{Shortcut}
 use Rattle.ch_laws.specs.Rows.{Rises}
@@ -15,7 +14,9 @@ use Rattle.ch_witness.specs.declared.way.Way.{Way}
 use Rattle.ch_witness.specs.Ways.{IsFound, way_at}
 use Rattle.ch_contract.proofs.Ranges.{AllPairs-take}
 use Rattle.ch_contract.specs.declared.draft.Draft.{Draft}
-use Rattle.ch_contract.specs.Drafts.{AreJudged, ArePairs, HasListedWay, IsPairAdded, IsPairJudged, IsPairOf, over}
+use Rattle.ch_contract.specs.Listed.{Parts, ends}
+use Rattle.ch_contract.specs.Drafts.{AreJudged, ArePairs, IsJudgedBy, IsPairAdded, IsPairJudged, IsPairOf, IsPairPart, over}
+use Rattle.ch_contract.proofs.PartByPart.{parts_map, parts_push}
 
 empty : {A : Type 0} (x : A) → Contains [] x → ⊥
 empty x among = omega (arith, among.1)
@@ -30,6 +31,7 @@ pairs_none bound into = record {
   each = λ p among. absurd (empty p among);
   every = λ out among apart within. absurd (empty out among);
   sorted = λ i j d low high. absurd (omega (arith, high));
+  parts = ends;
 }
 
 pub last_is_past : (outs : List Entry) (out : Entry) → Rises (outs ++ out ∷ []) → (e : Entry) → Contains outs e → e.other < out.other
@@ -49,6 +51,7 @@ module _ (bound : Cost) (into : Entry) (outs : List Entry) (out : Entry) (rises 
         | inr here ↦ absurd (not-both (subst (λ (e : Entry). into.other ≢ e.other) (sym here) apart) (subst (λ (e : Entry). IsWithin (into.cost ⊕ e.cost) bound) (sym here) within) h.0)
       ];
       sorted = are.sorted;
+      parts = subst (Parts (IsPairPart bound into) (outs ++ out ∷ [])) (append-nil pairs) (parts_push (IsPairPart bound into) out [] are.parts (inl (h.0, refl)));
     })
     | inr h ↦ subst (ArePairs bound into (outs ++ out ∷ [])) (sym h.2) (record {
       each = λ p among. elim (Contains-push_cases pairs h.0 p among) [
@@ -60,6 +63,7 @@ module _ (bound : Cost) (into : Entry) (outs : List Entry) (out : Entry) (rises 
         | inr here ↦ subst (λ (q : Shortcut). Contains (pairs ++ h.0 ∷ []) q) (h.1.2 ∙ ap (λ (e : Entry). over into e) here) (Contains-push pairs h.0)
       ];
       sorted = all_pairs_push (λ p q. p.to < q.to) pairs h.0 are.sorted (λ k d inside. below (get_or pairs k d) (are.each (get_or pairs k d) (Contains-get_or pairs k d inside)) h.0 h.1);
+      parts = parts_push (IsPairPart bound into) out (h.0 ∷ []) are.parts (inr (h.0, h.1, refl));
     })
   ] where
     not-both : into.other ≢ out.other → IsWithin (into.cost ⊕ out.cost) bound → IsPairOf bound into out None → ⊥
@@ -83,22 +87,13 @@ judged_none pairs ways d = record {
   shortcuts = sym (append-nil d.shortcuts.items);
   listed = sym (append-nil d.listed.items);
   only = λ p among. absurd (empty p among);
-  every = λ k p low is. absurd (omega (arith, low));
+  parts = ends;
   sorted = λ all i j d low high. absurd (omega (arith, high));
 }
 
-still_listed : {ways : List (Option Way)} {k : ℕ} {cost : Cost} (more rest : List ℕ) → HasListedWay ways k cost more → HasListedWay ways k cost (more ++ rest)
-still_listed more rest h = record { way = h.way; here = h.here; at_most = h.at_most; inner = h.inner; is_front = h.is_front; among = λ x among. Contains-append_left more rest x (h.among x among) }
-
 module _ (pairs : List Shortcut) (ways : List (Option Way)) (n : ℕ) (p : Shortcut) (here : slice_get pairs n ≡ Some p) (old mid new : Draft) (judged : AreJudged pairs ways n old mid) where
-  earlier : (k : ℕ) → k < n + 1 → (k < n) ⊎ (k ≡ n)
-  earlier k low = elim (cases_lt k n) [
-    | inl less ↦ inl less
-    | inr past ↦ inr (omega (arith, low, past))
-  ]
-
-  itself : (k : ℕ) (q : Shortcut) → k ≡ n → slice_get pairs k ≡ Some q → p ≡ q
-  itself k q e is = same-some p q (sym here ∙ subst (λ (j : ℕ). slice_get pairs j ≡ Some q) e is)
+  one_more : take (n + 1) pairs ≡ take n pairs ++ p ∷ []
+  one_more = take_more pairs n p (slice_get_within pairs n p here) ∙ ap (λ (q : Shortcut). take n pairs ++ q ∷ []) (get_or_from_slice_get pairs n p p here)
 
   in_order : AllPairs (λ a b. a.to < b.to) pairs → (q : Shortcut) → Contains judged.put q → q.to < p.to
   in_order all q among =
@@ -118,13 +113,11 @@ module _ (pairs : List Shortcut) (ways : List (Option Way)) (n : ℕ) (p : Short
         | inl before ↦ let was = judged.only q before in (was.0, omega (arith, was.1), was.2, was.3)
         | inr is ↦ (n, omega arith, here ∙ ap (λ (a : Shortcut). Some a) is, subst (λ (a : Shortcut). IsFound ways n a.cost → ⊥) is h.0)
       ];
-      every = λ k q low is. elim (earlier k low) [
-        | inl less ↦ elim (judged.every k q less is) [
-          | inl put ↦ inl (Contains-append_left judged.put (p ∷ []) q put)
-          | inr way ↦ inr way
-        ]
-        | inr e ↦ inl (subst (λ (a : Shortcut). Contains (judged.put ++ p ∷ []) a) (itself k q e is) (Contains-push judged.put p))
-      ];
+      parts = subst (λ (ps : List Shortcut). Parts (IsJudgedBy pairs ways (judged.put ++ p ∷ [])) ps judged.more) (sym one_more)
+          (subst (Parts (IsJudgedBy pairs ways (judged.put ++ p ∷ [])) (take n pairs ++ p ∷ [])) (append-nil judged.more)
+          (parts_push (IsJudgedBy pairs ways (judged.put ++ p ∷ [])) p []
+          (parts_map (IsJudgedBy pairs ways judged.put) (IsJudgedBy pairs ways (judged.put ++ p ∷ [])) (take n pairs) still judged.parts)
+          (n, here, inl (h.0, Contains-push judged.put p, refl))));
       sorted = λ all. all_pairs_push (λ a b. a.to < b.to) judged.put p (judged.sorted all) (λ k d inside. in_order all (get_or judged.put k d) (Contains-get_or judged.put k d inside));
     }
     | inr h ↦ record {
@@ -133,23 +126,16 @@ module _ (pairs : List Shortcut) (ways : List (Option Way)) (n : ℕ) (p : Short
       shortcuts = h.3 ∙ judged.shortcuts;
       listed = h.4.1 ∙ ap (λ (ns : List ℕ). ns ++ h.4.0) judged.listed ∙ append_assoc old.listed.items judged.more h.4.0;
       only = λ q among. let was = judged.only q among in (was.0, omega (arith, was.1), was.2, was.3);
-      every = λ k q low is. elim (earlier k low) [
-        | inl less ↦ elim (judged.every k q less is) [
-          | inl put ↦ inl put
-          | inr way ↦ inr (still_listed judged.more h.4.0 way)
-        ]
-        | inr e ↦ inr (record {
-          way = h.0;
-          here = ap (λ (j : ℕ). way_at ways j) e ∙ h.1;
-          at_most = subst (λ (a : Shortcut). h.0.cost ≼ a.cost) (itself k q e is) h.2;
-          inner = h.4.0;
-          is_front = h.4.2;
-          among = λ x among. Contains-append_right judged.more h.4.0 x among;
-        })
-      ];
+      parts = subst (λ (ps : List Shortcut). Parts (IsJudgedBy pairs ways judged.put) ps (judged.more ++ h.4.0)) (sym one_more)
+          (parts_push (IsJudgedBy pairs ways judged.put) p h.4.0 judged.parts (n, here, inr (h.0, h.1, h.2, h.4.2)));
       sorted = judged.sorted;
     }
-  ]
+  ] where
+    still : (q : Shortcut) (inner : List ℕ) → Contains (take n pairs) q → ((x : ℕ) → Contains inner x → Contains judged.more x) → IsJudgedBy pairs ways judged.put q inner → IsJudgedBy pairs ways (judged.put ++ p ∷ []) q inner
+    still q inner among inside by = elim by.2 [
+      | inl put ↦ (by.0, by.1, inl (put.0, Contains-append_left judged.put (p ∷ []) q put.1, put.2))
+      | inr way ↦ (by.0, by.1, inr way)
+    ]
 
 -- one step of a loop over the arcs out, and over the pairs
 pub next_pairs : (bound : Cost) (into : Entry) (outs : List Entry) (k : ℕ) (d : Entry) (pairs new : List Shortcut) → k < length outs → Rises outs → IsPairAdded bound into (get_or outs k d) pairs new → ArePairs bound into (take k outs) pairs → ArePairs bound into (take (k + 1) outs) new

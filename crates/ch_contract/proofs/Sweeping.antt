@@ -5,12 +5,14 @@ use Rattle.std.proofs.lemmas.Bool.{cases_Bool, false≢true}
 use Rattle.std.proofs.lemmas.List.{append-nil, map-append}
 use Rattle.std.proofs.lemmas.List.Elements.{All-contains, All-filter, Contains-append_left, Contains-append_right, Contains-append_cases, filter-append}
 use Rattle.std.proofs.lemmas.List.FromFn.{get_or-range_with_len, length-range_with_len}
-use Rattle.ch_laws.specs.Contraction.{State, Contraction, IsAlive}
+use Rattle.ch_cost.specs.declared.cost.Cost.{Cost}
+use Rattle.ch_graph.specs.Graph.{Graph, bound_of}
+use Rattle.ch_laws.specs.Contraction.{State, Contraction, Step, Run, rest, next, IsAlive}
 use Rattle.ch_laws.specs.Rows.{Row, IsRow}
 use Rattle.ch_laws.specs.Members.{contains_first, contains_later, contains_cases, contains_place, place_of}
 use Rattle.ch_overlay.specs.Overlay.{Overlay, IsOverlay, row_at, state_of}
 use Rattle.ch_contract.specs.declared.contraction.Receipt.{Receipt}
-use Rattle.ch_contract.specs.Board.{Board, receipt_of}
+use Rattle.ch_contract.specs.Board.{Board, receipt_of, alive_nodes}
 use Rattle.ch_contract.specs.Sweep.{AreContracted, IsSwept, IsPartlySwept, IsTaken, IsVisited}
 use Rattle.ch_contract.proofs.Ranges.{contains-range, range_with_len-more, range_with_len-append}
 
@@ -43,6 +45,11 @@ module _ (o : Overlay) (is : IsOverlay o) (x : ℕ) (in_range : x < length o.row
 
 -- Node by node
 
+-- a lawful contraction goes on from a run
+run-more : {bound : Cost} {old mid new : State} {e : Contraction} {log : List Contraction} → Run bound old log mid → Step bound mid e new → Run bound old (log ++ e ∷ []) new
+run-more rest step = next step rest
+run-more (next first run) step = next first (run-more run step)
+
 -- the nodes below this one that weren't contracted before the sweep
 abbrev pub alive_below : Board → ℕ → List ℕ
 alive_below b i = filter (λ x. is_none (row_at b.overlay.rows x).rank) (range_with_len 0 i)
@@ -59,10 +66,20 @@ pub record IsSweptTo (old : Board) (i : ℕ) (receipts : List Receipt) (now : Bo
 pub swept-start : (b : Board) → IsSweptTo b 0 [] b
 swept-start b = record {
   entries = [];
-  contracted = record { graph = refl; log = sym (append-nil b.log); of_nodes = refl };
+  contracted = record { graph = refl; log = sym (append-nil b.log); of_nodes = refl; run = rest };
   handed = refl;
   count = refl;
   order = sym (append-nil b.overlay.order);
+}
+
+-- nor where nothing is done
+pub unswept : (b : Board) → IsPartlySwept b b
+unswept b = record {
+  entries = [];
+  nodes = [];
+  left = alive_nodes b;
+  contracted = record { graph = refl; log = sym (append-nil b.log); of_nodes = refl; run = rest };
+  first = refl;
 }
 
 below-range : (i : ℕ) → All (λ x. x < i) (range_with_len 0 i)
@@ -116,6 +133,7 @@ module _ (old now : Board) (i : ℕ) (receipts : List Receipt) (is : IsOverlay o
           graph = t.contracted.contracts.graph ∙ so_far.contracted.graph;
           log = t.contracted.contracts.log ∙ ap (λ (es : List Contraction). es ++ e ∷ []) so_far.contracted.log ∙ append_assoc old.log so_far.entries (e ∷ []);
           of_nodes = map-append (λ (f : Contraction). f.node) so_far.entries (e ∷ []) ∙ ap (λ ns. ns ++ e.node ∷ []) so_far.contracted.of_nodes ∙ ap (λ n. alive_below old i ++ n ∷ []) t.contracted.of_node ∙ sym nodes;
+          run = run-more so_far.contracted.run (subst (λ (g : Graph). Step (bound_of g) (state_of now.overlay) e (state_of new.overlay)) so_far.contracted.graph t.contracted.contracts.step);
         };
         handed = t.handed ∙ ap (λ (rs : List Receipt). rs ++ t.receipt ∷ []) so_far.handed ∙ ap (λ (r : Receipt). map receipt_of so_far.entries ++ r ∷ []) t.contracted.handed ∙ sym (map-append receipt_of so_far.entries (e ∷ []));
         count = ap (λ (s : State). s.nodes) t.contracted.state ∙ so_far.count;
@@ -130,7 +148,7 @@ module _ (old now : Board) (i : ℕ) (receipts : List Receipt) (is : IsOverlay o
       ] in
       record {
         entries = so_far.entries;
-        contracted = record { graph = so_far.contracted.graph; log = so_far.contracted.log; of_nodes = so_far.contracted.of_nodes ∙ sym nodes };
+        contracted = record { graph = so_far.contracted.graph; log = so_far.contracted.log; of_nodes = so_far.contracted.of_nodes ∙ sym nodes; run = so_far.contracted.run };
         handed = nothing ∙ so_far.handed;
         count = so_far.count;
         order = so_far.order ∙ ap (λ ns. old.overlay.order ++ ns) (sym nodes);

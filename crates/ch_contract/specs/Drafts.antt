@@ -1,5 +1,5 @@
 -- Proposals in the making.
-use Rattle.std.specs.Prelude.{ℕ, ◌≡◌, ◌≢◌, ◌<◌, ◌⊎◌, List, [], ◌∷◌, ◌++◌, Option, Some, None, AllPairs, Contains, IsSomeAnd}
+use Rattle.std.specs.Prelude.{ℕ, ◌≡◌, ◌≢◌, ◌<◌, ◌≤◌, ◌⊎◌, length, take, List, [], ◌∷◌, ◌++◌, Option, Some, None, AllPairs, Contains, IsSomeAnd}
 use Rattle.std.specs.List.{slice_get}
 use Rattle.ch_cost.specs.declared.cost.Cost.{Cost}
 use Rattle.ch_cost.specs.Cost.{◌⊕◌, ◌≼◌, IsWithin}
@@ -11,18 +11,19 @@ use Rattle.ch_laws.specs.Verdicts.{HasWay, IsForShortcut, ListsThrough}
 use Rattle.ch_overlay.specs.declared.source.Seen.{Seen}
 use Rattle.ch_overlay.specs.Source.{row_in}
 use Rattle.ch_witness.specs.declared.way.Way.{Way}
-use Rattle.ch_witness.specs.Kept.{Kept}
+use Rattle.ch_witness.specs.Kept.{HasAll, Kept}
 use Rattle.ch_witness.specs.Ways.{IsFound, way_at}
 use Rattle.ch_contract.specs.declared.draft.Draft.{Draft}
+use Rattle.ch_contract.specs.Listed.{AreNamed, IsNamedBy, Parts}
 use Rattle.ch_contract.specs.Proposal.{ShortcutBefore}
 
 -- for each node of the list it has the row that is kept
 abbrev pub Agrees : (ℕ → Option Row) → Kept → List ℕ → Type 0
 Agrees seen kept listed = (x : ℕ) (s : Seen) → Contains listed x → kept x ≡ Some s → seen x ≡ Some (row_in s)
 
--- all of the nodes but the last
-abbrev pub IsFront : List ℕ → List ℕ → Type 0
-IsFront nodes front = (nodes ≡ []) ⊎ ((last : ℕ) × (nodes ≡ front ++ last ∷ []))
+-- all of the nodes but the first and the last
+abbrev pub IsInner : List ℕ → List ℕ → Type 0
+IsInner nodes inner = ((length nodes ≤ 1) × (inner ≡ [])) ⊎ ((first last : ℕ) × (nodes ≡ first ∷ inner ++ last ∷ []))
 
 -- the pair that the two arcs join, with what they cost together
 abbrev pub over : Entry → Entry → Shortcut
@@ -37,28 +38,29 @@ IsPairOf bound into out (Some p) = (into.other ≢ out.other) × IsWithin (into.
 abbrev pub IsPairAdded : Cost → Entry → Entry → List Shortcut → List Shortcut → Type 0
 IsPairAdded bound into out old new = (IsPairOf bound into out None × (new ≡ old)) ⊎ ((p : Shortcut) × IsPairOf bound into out (Some p) × (new ≡ old ++ p ∷ []))
 
+-- the pair of the two arcs alone, or nothing where there is none
+abbrev pub IsPairPart : Cost → Entry → Entry → List Shortcut → Type 0
+IsPairPart bound into out pairs = (IsPairOf bound into out None × (pairs ≡ [])) ⊎ ((p : Shortcut) × IsPairOf bound into out (Some p) × (pairs ≡ p ∷ []))
+
 -- the pairs of one arc into a node with these arcs out of it
 pub record ArePairs (bound : Cost) (into : Entry) (outs : List Entry) (pairs : List Shortcut) : Type 0 where
   pub each : (p : Shortcut) → Contains pairs p → (out : Entry) × Contains outs out × IsPairOf bound into out (Some p)
   pub every : (out : Entry) → Contains outs out → into.other ≢ out.other → IsWithin (into.cost ⊕ out.cost) bound → Contains pairs (over into out)
   pub sorted : AllPairs (λ p q. p.to < q.to) pairs
+  pub parts : Parts (IsPairPart bound into) outs pairs
 
 -- these nodes were listed beyond those before
 abbrev pub Lengthens : List ℕ → Draft → Draft → Type 0
 Lengthens more old new = new.listed.items ≡ old.listed.items ++ more
 
--- the pair got a shortcut, as no way costs at most as much; or one does, and its nodes but the last were listed
+-- the pair got a shortcut, as no way costs at most as much; or one does, and its inner nodes were listed
 abbrev pub IsPairJudged : Shortcut → Option Way → Draft → Draft → Type 0
-IsPairJudged pair way old new = ((IsSomeAnd way (λ w. w.cost ≼ pair.cost) → ⊥) × (new.listed.items ≡ old.listed.items) × (new.shortcuts.items ≡ old.shortcuts.items ++ pair ∷ [])) ⊎ ((w : Way) × (way ≡ Some w) × (w.cost ≼ pair.cost) × (new.shortcuts.items ≡ old.shortcuts.items) × ((more : List ℕ) × Lengthens more old new × IsFront w.nodes.items more))
+IsPairJudged pair way old new = ((IsSomeAnd way (λ w. w.cost ≼ pair.cost) → ⊥) × (new.listed.items ≡ old.listed.items) × (new.shortcuts.items ≡ old.shortcuts.items ++ pair ∷ [])) ⊎ ((w : Way) × (way ≡ Some w) × (w.cost ≼ pair.cost) × (new.shortcuts.items ≡ old.shortcuts.items) × ((more : List ℕ) × Lengthens more old new × IsInner w.nodes.items more))
 
--- the way at this place costs at most so much, and its nodes but the last are among these
-pub record HasListedWay (ways : List (Option Way)) (k : ℕ) (cost : Cost) (more : List ℕ) : Type 0 where
-  pub way : Way
-  pub here : way_at ways k ≡ Some way
-  pub at_most : way.cost ≼ cost
-  pub inner : List ℕ
-  pub is_front : IsFront way.nodes.items inner
-  pub among : (x : ℕ) → Contains inner x → Contains more x
+-- the pair got a shortcut, as the way at its place, if there is one, costs more; or that way doesn't, and has these inner
+-- nodes
+abbrev pub IsJudgedBy : List Shortcut → List (Option Way) → List Shortcut → Shortcut → List ℕ → Type 0
+IsJudgedBy pairs ways put p inner = (k : ℕ) × (slice_get pairs k ≡ Some p) × (((IsFound ways k p.cost → ⊥) × Contains put p × (inner ≡ [])) ⊎ ((w : Way) × (way_at ways k ≡ Some w) × (w.cost ≼ p.cost) × IsInner w.nodes.items inner))
 
 -- The first n pairs are judged, each by the way at its place.
 pub record AreJudged (pairs : List Shortcut) (ways : List (Option Way)) (n : ℕ) (old new : Draft) : Type 0 where
@@ -67,7 +69,7 @@ pub record AreJudged (pairs : List Shortcut) (ways : List (Option Way)) (n : ℕ
   pub shortcuts : new.shortcuts.items ≡ old.shortcuts.items ++ put
   pub listed : Lengthens more old new
   pub only : (p : Shortcut) → Contains put p → (k : ℕ) × (k < n) × (slice_get pairs k ≡ Some p) × (IsFound ways k p.cost → ⊥)
-  pub every : (k : ℕ) (p : Shortcut) → k < n → slice_get pairs k ≡ Some p → Contains put p ⊎ HasListedWay ways k p.cost more
+  pub parts : Parts (IsJudgedBy pairs ways put) (take n pairs) more
   pub sorted : AllPairs (λ p q. p.to < q.to) pairs → AllPairs (λ p q. p.to < q.to) put
 
 -- by these rows each of the shortcuts is a verdict on a pair from u, and each other pair from u that isn't heavy has a
@@ -76,15 +78,18 @@ pub record IsJoined (bound : Cost) (seen : ℕ → Option Row) (row : Row) (v u 
   pub shortcuts : (p : Shortcut) → Contains put p → IsForShortcut bound seen row p
   pub ways : (w : ℕ) (sum : Cost) → ListsThrough row u w sum → IsWithin sum bound → NoShortcut put u w → HasWay seen v u w sum
 
--- The pairs from u are worked out: the verdicts on them hold by all rows that are listed.
-pub record IsDraftedFrom (bound : Cost) (v : ℕ) (row : Row) (u : ℕ) (kept : Kept) (old new : Draft) : Type 0 where
+-- The pairs from the end of this arc into v are worked out: the verdicts on them hold by all rows that are listed, and
+-- these are the ones that they ask for.
+pub record IsDraftedFrom (bound : Cost) (v : ℕ) (row : Row) (into : Entry) (kept : Kept) (old new : Draft) : Type 0 where
   pub put : List Shortcut
   pub more : List ℕ
   pub shortcuts : new.shortcuts.items ≡ old.shortcuts.items ++ put
   pub listed : Lengthens more old new
-  pub from_it : (p : Shortcut) → Contains put p → p.from ≡ u
+  pub from_it : (p : Shortcut) → Contains put p → p.from ≡ into.other
   pub sorted : AllPairs (λ p q. p.to < q.to) put
-  pub joined : (seen : ℕ → Option Row) → Agrees seen kept new.listed.items → IsJoined bound seen row v u put
+  pub joined : (seen : ℕ → Option Row) → Agrees seen kept new.listed.items → IsJoined bound seen row v into.other put
+  pub named : (seen : ℕ → Option Row) → Agrees seen kept new.listed.items → IsNamedBy bound seen v row put into more
+  pub has_all : HasAll kept more
 
 -- no pair is worked out yet, and the node's own row is listed
 pub record IsBegun (v : ℕ) (d : Draft) : Type 0 where
@@ -103,3 +108,5 @@ pub record IsDrafted (bound : Cost) (v : ℕ) (row : Row) (inns : List Entry) (k
   pub sorted : AllPairs ShortcutBefore d.shortcuts.items
   pub shortcuts : (seen : ℕ → Option Row) → Agrees seen kept d.listed.items → (p : Shortcut) → Contains d.shortcuts.items p → IsForShortcut bound seen row p
   pub ways : (seen : ℕ → Option Row) → Agrees seen kept d.listed.items → (u w : ℕ) (sum : Cost) → Names inns u → ListsThrough row u w sum → IsWithin sum bound → NoShortcut d.shortcuts.items u w → HasWay seen v u w sum
+  pub named : (seen : ℕ → Option Row) → Agrees seen kept d.listed.items → AreNamed bound seen v row d.shortcuts.items inns others
+  pub has_all : HasAll kept others

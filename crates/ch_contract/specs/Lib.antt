@@ -2,6 +2,7 @@ pub mod Board
 pub mod Planned
 pub mod Sweep
 pub mod Finish
+pub mod Listed
 pub mod Proposal
 pub mod Commit
 pub mod Names

@@ -1,5 +1,5 @@
 -- Proposals to contract a node: the rows that they rest on, and a verdict for each pair of neighbours.
-use Rattle.std.specs.Prelude.{ℕ, ◌≡◌, ◌≢◌, ◌⊎◌, ◌<◌, ◌≤◌, ◌*◌, ◌^◌, List, ◌∷◌, length, Option, Some, None, All, AllPairs, Contains, codes}
+use Rattle.std.specs.Prelude.{ℕ, ◌≡◌, ◌≢◌, ◌↔◌, ◌⊎◌, ◌<◌, ◌≤◌, ◌*◌, ◌^◌, List, ◌∷◌, length, map, Option, Some, None, Result, Err, All, AllPairs, Contains}
 use Rattle.ch_cost.specs.declared.cost.Cost.{Cost}
 use Rattle.ch_cost.specs.Cost.{IsWithin}
 use Rattle.ch_laws.specs.declared.shortcut.Shortcut.{Shortcut}
@@ -8,7 +8,9 @@ use Rattle.ch_laws.specs.declared.entry.Entry.{Entry}
 use Rattle.ch_laws.specs.Rows.{Row, Lists}
 use Rattle.ch_laws.specs.Verdicts.{HasWay, ListsThrough, AreVerdicts}
 use Rattle.ch_overlay.specs.declared.source.Seen.{Seen}
-use Rattle.ch_overlay.specs.Source.{row_of, IsBound, IsSeenRow}
+use Rattle.ch_overlay.specs.Source.{row_in, row_of, IsBound, IsSeenRow}
+use Rattle.ch_witness.specs.FirstPlaces.{first_places}
+use Rattle.ch_contract.specs.Listed.{AreNamed}
 use Rattle.ch_contract.specs.declared.error.ProposeError.{ProposeError}
 use Rattle.ch_contract.specs.declared.error.ProposeError.TheVariants.{OutOfMemory, Unseen, Contracted}
 use Rattle.ch_contract.specs.declared.facts.Facts.{Facts}
@@ -27,8 +29,14 @@ pub record Proposal : Type 0 where
 abbrev pub ShortcutBefore : Shortcut → Shortcut → Type 0
 ShortcutBefore p q = (p.from < q.from) ⊎ ((p.from ≡ q.from) × (p.to < q.to))
 
+-- The rows are those of the node and then of the nodes that the pairs name, each once, at its first place, and no other.
+pub record IsListing (p : Proposal) (row : Row) : Type 0 where
+  pub named : List ℕ
+  pub by_pairs : AreNamed p.bound (row_of p.rests_on) p.node row p.shortcuts row.inn named
+  pub nodes : map (λ s. s.node) p.rests_on ≡ first_places (p.node ∷ named)
+
 -- The rows are of different nodes, the proposal's first, and can be relied on. By these rows each shortcut is a
--- verdict, and each other pair of neighbours is heavy or has a way.
+-- verdict, and each other pair of neighbours is heavy or has a way; and they are the rows of these ways alone.
 pub record IsProposal (p : Proposal) : Type 0 where
   pub bound : IsBound p.bound
   pub first : Seen
@@ -39,6 +47,7 @@ pub record IsProposal (p : Proposal) : Type 0 where
   pub rows : All (IsSeenRow p.bound) p.rests_on
   pub sorted : AllPairs ShortcutBefore p.shortcuts
   pub verdicts : AreVerdicts p.bound (row_of p.rests_on) p.node p.shortcuts
+  pub listing : IsListing p verdicts.row
 
 -- by the row that was read of the node, the pair (u, w) is joined by way of it at this sum
 pub record Joins (p : Proposal) (u w : ℕ) (sum : Cost) : Type 0 where
@@ -80,3 +89,15 @@ pub record AreFactsOf (p : Proposal) (f : Facts) : Type 0 where
   pub ins : f.ins ≡ length row.inn
   pub outs : f.outs ≡ length row.out
   pub shortcuts : f.shortcuts ≡ length p.shortcuts
+
+-- Where memory sufficed and no row was missing, a row of the node was read, and the answer is that the node is contracted
+-- exactly where that row has a rank.
+pub record IsToldByRank (Bears Shows : Seen → Type 0) (node : ℕ) (result : Result Proposal ProposeError) : Type 0 where
+  pub row : Seen
+  pub of_node : row.node ≡ node
+  pub bears : Bears row
+  pub shows : Shows row
+  pub ranked : (result ≡ Err Contracted) ↔ ((row_in row).rank ≢ None)
+
+abbrev pub TellsContracted : (Seen → Type 0) → (Seen → Type 0) → ℕ → Result Proposal ProposeError → Type 0
+TellsContracted Bears Shows node result = (result ≡ Err OutOfMemory → ⊥) → (result ≡ Err Unseen → ⊥) → IsToldByRank Bears Shows node result

@@ -1,16 +1,19 @@
 -- The contraction of all nodes of a board, by rising number.
 use Rattle.std.specs.Prelude.{ℕ, ◌≡◌, List, ◌++◌, [], ◌∷◌, map, ◌⊎◌}
+use Rattle.ch_graph.specs.Graph.{bound_of}
 use Rattle.ch_laws.specs.declared.shortcut.Shortcut.{Shortcut}
-use Rattle.ch_laws.specs.Contraction.{Contraction, IsAlive, IsOver}
+use Rattle.ch_laws.specs.Contraction.{Contraction, Run, IsAlive, IsOver}
 use Rattle.ch_overlay.specs.Overlay.{state_of}
 use Rattle.ch_contract.specs.declared.contraction.Receipt.{Receipt}
 use Rattle.ch_contract.specs.Board.{Board, IsContracted, receipt_of, alive_nodes}
 
--- these nodes were contracted, one after the other: their entries stand behind the old ones in the log
+-- These nodes were contracted, one after the other: their entries stand behind the old ones in the log, and tell the
+-- lawful contractions that lead from the old rows to the new ones.
 pub record AreContracted (old : Board) (nodes : List ℕ) (entries : List Contraction) (new : Board) : Type 0 where
   pub graph : new.graph ≡ old.graph
   pub log : new.log ≡ old.log ++ entries
   pub of_nodes : map (λ e. e.node) entries ≡ nodes
+  pub run : Run (bound_of old.graph) (state_of old.overlay) entries (state_of new.overlay)
 
 -- each node that wasn't contracted was, by rising number, and its receipt was handed out
 pub record IsSwept (old : Board) (receipts : List Receipt) (new : Board) : Type 0 where

@@ -1,4 +1,4 @@
-ghost use Rattle.std.specs.Prelude.{◌≡◌, ◌≢◌, ◌≤◌, ◌^◌, ℕ, List, [], ◌∷◌, ◌++◌, IfOk, OnOk, All, Contains, IsTrue, length, map};
+ghost use Rattle.std.specs.Prelude.{◌≡◌, ◌↔◌, ◌≤◌, ◌^◌, ℕ, List, [], ◌∷◌, ◌++◌, IfOk, OnOk, Contains, IsTrue, length, map};
 ghost use Rattle.ch_cost.specs.declared.cost.Cost.{Cost};
 ghost use Rattle.ch_cost.specs.Cost.{◌≼◌, IsWithin};
 ghost use Rattle.ch_laws.specs.declared.shortcut.Shortcut.{Shortcut};
@@ -6,7 +6,8 @@ ghost use Rattle.ch_laws.specs.Rows.{Rises};
 ghost use Rattle.ch_overlay.specs.Overlay.{AreEntries};
 ghost use Rattle.ch_overlay.specs.Source.{IsBound, NamesAlone};
 ghost use Rattle.ch_witness.specs.Kept.{kept_of, AllNamed, AreKept, IsMore};
-ghost use Rattle.ch_contract.specs.Drafts.{ArePairs, AreJudged, IsPairAdded, IsPairJudged, IsPairOf, IsDraftedFrom, IsFront, Lengthens};
+ghost use Rattle.ch_contract.specs.Drafts.{ArePairs, AreJudged, IsPairAdded, IsPairJudged, IsPairOf, IsDraftedFrom, IsInner, Lengthens};
+ghost use Rattle.ch_contract.specs.Listed.{LeadsOn};
 ghost use Rattle.ch_contract.specs.declared.error.ProposeError.TheVariants.{Unseen, Contracted};
 
 use crate::error::ProposeError;
@@ -50,8 +51,8 @@ impl Draft {
         })
     }
 
-    /// Puts in a shortcut for each pair to which no way leads that costs at most as much, and lists the nodes of the
-    /// other ways.
+    /// Puts in a shortcut for each pair to which no way leads that costs at most as much, and lists the inner
+    /// nodes of the other ways.
     fn judge(&mut self, pairs: &[Shortcut], ways: &[Option<Way>]) -> Result<(), AllocError>
         requires many { length ways.now ≡ length pairs.now }
         ensures { OnOk result (AreJudged pairs.now ways.now (length pairs.now) self.old self.new) }
@@ -68,21 +69,25 @@ impl Draft {
     {
         if let Some(way) = way {
             if way.cost.is_at_most(pair.cost) {
-                return self.list_front(&way.nodes);
+                return self.list_inner(&way.nodes);
             }
         }
         self.shortcuts.push(pair)?;
         Ok(())
     }
 
-    /// Lists the nodes of a way but the last.
-    fn list_front(&mut self, nodes: &[u32]) -> Result<(), AllocError>
+    /// Lists the nodes of a way but its ends.
+    fn list_inner(&mut self, nodes: &[u32]) -> Result<(), AllocError>
         ensures shortcuts { OnOk result (self.new.shortcuts.items ≡ self.old.shortcuts.items) }
-        ensures listed { OnOk result ((more : List ℕ) × Lengthens more self.old self.new × IsFront nodes.now more) }
+        ensures listed { OnOk result ((more : List ℕ) × Lengthens more self.old self.new × IsInner nodes.now more) }
     {
-        if let Some((_, front)) = nodes.split_last() {
-            self.listed.extend_from_slice(front)?;
-        }
+        let Some((_, front)) = nodes.split_last() else {
+            return Ok(());
+        };
+        let Some((_, inner)) = front.split_first() else {
+            return Ok(());
+        };
+        self.listed.extend_from_slice(inner)?;
         Ok(())
     }
 }
@@ -110,7 +115,7 @@ pub fn draft_pairs<S: RowSource>(
     requires entries { AreEntries (2 ^ 25) task.bound task.node row.now }
     requires among { Contains row.now.inn into }
     requires kept { AreKept S.bears (S.shows source.old) (S.bound_of source.old) (kept_of rows.old) }
-    ensures draft { OnOk result (IsDraftedFrom task.bound task.node row.now into.other (kept_of rows.new) draft.old draft.new) }
+    ensures draft { OnOk result (IsDraftedFrom task.bound task.node row.now into (kept_of rows.new) draft.old draft.new) }
     ensures kept { AreKept S.bears (S.shows source.new) (S.bound_of source.new) (kept_of rows.new) }
     ensures more { IsMore (kept_of rows.old) (kept_of rows.new) }
     ensures stays { S.stays source.old source.new }
@@ -146,9 +151,9 @@ pub fn draft_pairs<S: RowSource>(
 
 /// Whether one of the entries is for another node than this.
 fn leads_on(entries: &[Entry], node: u32) -> bool
-    ensures { (IsTrue result → ⊥) → All (λ e. e.other ≡ node) entries.now }
+    ensures { IsTrue result ↔ LeadsOn entries.now node }
 {
-    entries.iter().any(|entry| entry.other != node)
+    entries.iter().any(|entry| node != entry.other)
 }
 
 /// The pairs from one neighbour to the others that aren't heavy, with what their two arcs cost together.

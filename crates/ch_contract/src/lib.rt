@@ -3,9 +3,9 @@
 //! Stands on `ch_overlay`, whose rows it changes, on the searches of `ch_witness`, and on the laws of `ch_laws`. Its
 //! main types are [`Proposal`], a contraction that was worked out by rows, and [`Board`]: a graph, its rows, and the
 //! log of the contractions that were made. A board contracts a node by a proposal, [`Board::commit`], as long as the
-//! rows that the proposal rests on are still its own. The promise of the layer is the contract of
-//! [`Board::into_hierarchy`]: what it answers is right for the graph, so its values are the graph's distances. It
-//! rests on what every [`Ledger`] keeps, that its rows come from the graph's by the lawful contractions of its log.
+//! rows that the proposal rests on are still its own. The promise of the layer is the contract of [`Board::finish`]:
+//! the hierarchy that it answers is right for the graph, so its values are the graph's distances. It rests on what
+//! every [`Ledger`] keeps, that its rows come from the graph's by the lawful contractions of its log.
 #![tactic(auto)]
 
 mod accepting;
@@ -21,7 +21,6 @@ mod proposal;
 mod proposing;
 mod shown;
 mod site;
-mod sweep;
 mod verdict;
 
 pub use board::Board;
@@ -33,5 +32,4 @@ pub use ledger::{Ledger, Planned};
 pub use proposal::Proposal;
 pub use proposing::{Scratch, propose, propose_with};
 pub use site::Site;
-pub use sweep::contract_by_sweep;
 pub use verdict::Verdict;

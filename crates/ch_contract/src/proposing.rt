@@ -1,11 +1,10 @@
-ghost use Rattle.std.specs.Prelude.{◌≡◌, ◌≢◌, ◌≤◌, ◌^◌, ℕ, IfOk, OnOk, All, None};
-ghost use Rattle.ch_overlay.specs.declared.source.Seen.{Seen};
+ghost use Rattle.std.specs.Prelude.{◌≡◌, ◌≤◌, ◌^◌, ℕ, IfOk, OnOk, All, None};
 ghost use Rattle.ch_overlay.specs.Overlay.{AreEntries};
-ghost use Rattle.ch_overlay.specs.Source.{row_in, IsBound, NamesAlone};
+ghost use Rattle.ch_overlay.specs.Source.{IsBound, NamesAlone};
 ghost use Rattle.ch_laws.specs.Rows.{Rises};
 ghost use Rattle.ch_witness.specs.Kept.{kept_of, AllNamed, AreKept, IsMore};
 ghost use Rattle.ch_contract.specs.Drafts.{IsBegun, IsDrafted};
-ghost use Rattle.ch_contract.specs.Proposal.{IsProposal};
+ghost use Rattle.ch_contract.specs.Proposal.{IsProposal, TellsContracted};
 ghost use Rattle.ch_contract.specs.declared.error.ProposeError.TheVariants.{Unseen, Contracted};
 
 use crate::draft::{Draft, Task, draft_pairs};
@@ -20,8 +19,8 @@ use std::alloc::Global;
 /// A pair of neighbours, an arc from the first to the node and one from there to the second, gets a shortcut unless
 /// the arcs cost more than the bound together, or a search finds another way that costs at most as much. A search
 /// settles at most `settle` nodes (1 to 65,536). `OutOfMemory` where a growth was refused, `Unseen` where the source
-/// has no row of a node that is asked for, `Contracted` where the node's row, which is read first, has a rank; the
-/// source has then moved as reading moves it, and nothing else. Memory and time go by the nodes that are settled.
+/// has no row of a node that is asked for, `Contracted` exactly where the node's row, which is read first, has a rank;
+/// the source has then moved as reading moves it, and nothing else. Memory and time go by the nodes that are settled.
 pub fn propose<S: RowSource>(
     alloc: Global,
     source: &mut S,
@@ -35,7 +34,7 @@ pub fn propose<S: RowSource>(
     ensures holds { IfOk result IsProposal }
     ensures bears { IfOk result (λ p. All S.bears p.rests_on) }
     ensures shows { IfOk result (λ p. All (S.shows source.new) p.rests_on) }
-    ensures contracted { result ≡ Err Contracted → (s : Seen) × (s.node ≡ node) × S.bears s × S.shows source.new s × ((row_in s).rank ≢ None) }
+    ensures contracted { TellsContracted S.bears (S.shows source.new) node result }
     ensures stays { S.stays source.old source.new }
     ensures found { S.whole source.old node → result ≡ Err Unseen → ⊥ }
 {
@@ -77,7 +76,7 @@ pub fn propose_with<S: RowSource>(
     ensures holds { IfOk result IsProposal }
     ensures bears { IfOk result (λ p. All S.bears p.rests_on) }
     ensures shows { IfOk result (λ p. All (S.shows source.new) p.rests_on) }
-    ensures contracted { result ≡ Err Contracted → (s : Seen) × (s.node ≡ node) × S.bears s × S.shows source.new s × ((row_in s).rank ≢ None) }
+    ensures contracted { TellsContracted S.bears (S.shows source.new) node result }
     ensures stays { S.stays source.old source.new }
     ensures found { S.whole source.old node → result ≡ Err Unseen → ⊥ }
 {
@@ -109,7 +108,7 @@ fn propose_in<S: RowSource>(
     ensures holds { IfOk result IsProposal }
     ensures bears { IfOk result (λ p. All S.bears p.rests_on) }
     ensures shows { IfOk result (λ p. All (S.shows source.new) p.rests_on) }
-    ensures contracted { result ≡ Err Contracted → (s : Seen) × (s.node ≡ node) × S.bears s × S.shows source.new s × ((row_in s).rank ≢ None) }
+    ensures contracted { TellsContracted S.bears (S.shows source.new) node result }
     ensures stays { S.stays source.old source.new }
     ensures found { S.whole source.old node → result ≡ Err Unseen → ⊥ }
 {

@@ -12,7 +12,7 @@ use Rattle.ch_graph.specs.Walk.{Walk, stay, go}
 use Rattle.ch_graph.specs.Graph.{Graph, IsGraph, IsRoad, ArcOf, IsDistance}
 use Rattle.ch_graph.specs.Labels.{label, HasCost, IsAtMost, Improves, IsOffered, IsLeastOpen, NoneOpen, settled, settled_count}
 use Rattle.ch_graph.specs.Search.{IsLatest, LeadsTo, IsOpenedFrom, IsFollowed, IsSearch}
-use Rattle.ch_graph.proofs.Walks.{one_arc, join}
+use Rattle.ch_graph.specs.Walk.Laws.{one_arc, join}
 use Rattle.ch_graph.proofs.LabelSteps.{cases_write, unseen-open, unseen-settled, open-settled, settled-settled, count-settle}
 
 -- The start

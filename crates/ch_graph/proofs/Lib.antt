@@ -1,10 +1,8 @@
 pub mod HeaviestArc
-pub mod Walks
-pub mod Bound
+pub mod Distances
 pub mod LinkSearch
 pub mod HeadSearch
 pub mod LinkParts
-pub mod Chains
 pub mod Unfolding
 pub mod LabelSteps
 pub mod Entries

@@ -4,6 +4,7 @@ use Rattle.ch_cost.specs.declared.cost.Cost.{Cost}
 use Rattle.ch_cost.specs.Cost.{of_weight, cost_of_arcs, IsWeight, IsWithin}
 use Rattle.ch_graph.specs.declared.road.Road.{Road}
 use Rattle.ch_graph.specs.Walk.{Walk, IsLeast, IsLeastOrNone, Along}
+pub mod Laws
 
 -- the nodes are the numbers below `nodes`
 pub record Graph : Type 0 where

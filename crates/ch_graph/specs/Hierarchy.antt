@@ -5,6 +5,7 @@ use Rattle.ch_cost.specs.Cost.{zero_cost, ◌⊕◌, ◌≺◌, cost_of_arcs, Is
 use Rattle.ch_graph.specs.declared.link.Link.{Link}
 use Rattle.ch_graph.specs.Walk.{IsLeastOrNone}
 use Rattle.ch_graph.specs.Graph.{Graph, ArcOf, IsDistance}
+pub mod Chains
 
 -- the rank of each node, the links, and the greatest length that a query answers
 pub record Hierarchy : Type 0 where

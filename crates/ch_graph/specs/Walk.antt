@@ -2,6 +2,7 @@
 use Rattle.std.specs.Prelude.{ℕ, ◌≡◌, List, [], ◌∷◌, Option, Some, None}
 use Rattle.ch_cost.specs.declared.cost.Cost.{Cost}
 use Rattle.ch_cost.specs.Cost.{zero_cost, ◌⊕◌, ◌≼◌}
+pub mod Laws
 
 -- A walk is a list of arcs, each beginning where the last one ended: to stay costs nothing, and to go over an
 -- arc and then a walk costs both together. `Arc x y c` says that an arc from x to y costs c.

@@ -1,6 +1,6 @@
 ghost use Rattle.ch_graph.specs.Graph.{DistanceIsUnique, DistanceIsWithinBound};
 ghost use Rattle.ch_graph.specs.Hierarchy.{ValueIsUnique};
-ghost use Rattle.ch_graph.specs.Unfolding.{LinksUnfold};
+ghost use Rattle.ch_graph.specs.Unfolding.{LinksUnfold, PlacesNameLinks, RiseFallJoins};
 
 /// Every distance is within the bound of its graph: a least walk repeats no node, so it has fewer arcs than there
 /// are nodes. It does nothing when it runs.
@@ -21,4 +21,14 @@ pub fn value_is_unique()
 /// Each link of a well made hierarchy stands for one list of links without a middle. It does nothing when it runs.
 pub fn links_unfold()
     ensures { LinksUnfold }
+{}
+
+/// Places name one list of links. It does nothing when it runs.
+pub fn places_name_links()
+    ensures { PlacesNameLinks }
+{}
+
+/// The links of a rise-fall walk join, each to the next. It does nothing when it runs.
+pub fn rise_fall_joins()
+    ensures { RiseFallJoins }
 {}

@@ -2,7 +2,7 @@
 use Rattle.std.proofs.Common.{ℕ, ◌≡◌, ◌<◌, List, Option, arith}
 use Rattle.ch_cost.specs.declared.cost.Cost.{Cost}
 use Rattle.ch_graph.specs.Graph.{Graph}
-use Rattle.ch_graph.proofs.Walks.{along_arcs}
+use Rattle.ch_graph.specs.Walk.Laws.{along_arcs}
 use Rattle.ch_laws.specs.Contraction.{State, IsAlive, Through, Avoids, HasWitness, Shortcut, IsAllowed, IsPlan, IsWitnessed}
 use Rattle.ch_laws.specs.Rows.{Entry, Row, arc_of, IsRow, Lists}
 use Rattle.ch_laws.specs.Verdicts.{AreRead, SeenArc, HasWay, ListsThrough, IsForShortcut, AreVerdicts}

@@ -8,8 +8,8 @@ use Rattle.ch_graph.specs.declared.link.Link.{Link}
 use Rattle.ch_graph.specs.Walk.{Walk, visited, Along}
 use Rattle.ch_graph.specs.Graph.{Graph, IsGraph, ArcOf, IsDistance}
 use Rattle.ch_graph.specs.Hierarchy.{Hierarchy, Chain, Chain.nothing, IsRiseFall, UnfoldsAll, UnfoldsAll.done, UnfoldsAll.more, IsArcOf, IsRight}
-use Rattle.ch_graph.proofs.Bound.{few_arcs_or_cheaper, bound-within}
-use Rattle.ch_graph.proofs.Chains.{chain-same, chain-join, chain-along, chain-weaker, chain-view}
+use Rattle.ch_graph.specs.Graph.Laws.{few_arcs_or_cheaper, bound-within}
+use Rattle.ch_graph.specs.Hierarchy.Chains.{chain-same, chain-join, chain-along, chain-weaker, chain-view}
 use Rattle.ch_laws.specs.Theorems.{BoundsFit, IsLeastRoute, NeverTooLong, RouteIsLeast}
 
 -- the rise and the fall of a rise-fall walk as one chain

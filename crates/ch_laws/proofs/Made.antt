@@ -12,7 +12,7 @@ use Rattle.ch_cost.specs.Cost.{◌⊕◌, cost_of_arcs, IsWithin}
 use Rattle.ch_graph.specs.declared.link.Link.{Link}
 use Rattle.ch_graph.specs.Graph.{Graph, IsGraph, bound_of}
 use Rattle.ch_graph.specs.Hierarchy.{Hierarchy, rank_of, IsLink, AreHalves, IsLinkWellMade, IsWellMade}
-use Rattle.ch_graph.proofs.Bound.{bound-within}
+use Rattle.ch_graph.specs.Graph.Laws.{bound-within}
 use Rattle.ch_laws.specs.Contraction.{State, StateArc, Before, HasArc, IsOver, IsMade}
 use Rattle.ch_laws.specs.Members.{place_of}
 use Rattle.ch_laws.proofs.Sound.{IsSound, IsSoundArc, IsSplit}

@@ -9,7 +9,7 @@ use Rattle.ch_cost.specs.declared.cost.Cost.{Cost}
 use Rattle.ch_cost.specs.Cost.{◌⊕◌, ◌≼◌, ◌≺◌, IsWithin}
 use Rattle.ch_cost.specs.Cost.Laws.{cases_cost, cases_within}
 use Rattle.ch_graph.specs.Graph.{Graph, bound_of}
-use Rattle.ch_graph.proofs.Walks.{one_arc}
+use Rattle.ch_graph.specs.Walk.Laws.{one_arc}
 use Rattle.ch_laws.specs.Contraction.{State, StateArc, IsAlive, HasArc, Remains, Through, HasWitness, Shortcut, IsFor, NoShortcut, IsAllowed, IsPlan, IsWitnessed, contracted, IsNeighbour, Contraction, Step}
 use Rattle.ch_laws.specs.Theorems.{GoesOn}
 use Rattle.ch_laws.proofs.Pairs.{IsCovered, covered_more, covered_cases}

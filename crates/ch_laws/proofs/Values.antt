@@ -7,10 +7,10 @@ use Rattle.ch_graph.specs.declared.link.Link.{Link}
 use Rattle.ch_graph.specs.Walk.{Walk, Walk.stay, Walk.go}
 use Rattle.ch_graph.specs.Graph.{Graph, IsGraph, ArcOf, bound_of, IsDistance}
 use Rattle.ch_graph.specs.Hierarchy.{Hierarchy, Chain, Chain.nothing, Chain.then, IsRising, IsFalling, HasRiseFall, IsValue, Unfolds, Unfolds.whole, Unfolds.halves, IsArcOf}
-use Rattle.ch_graph.proofs.Walks.{Cheaper, join}
-use Rattle.ch_graph.proofs.Bound.{within_or_cheaper}
-use Rattle.ch_graph.proofs.Chains.{chain-same, chain-join, one_link, chain-walk}
-use Rattle.ch_graph.proofs.Unfolding.{link-unfolds}
+use Rattle.ch_graph.specs.Walk.Laws.{Cheaper, join}
+use Rattle.ch_graph.specs.Graph.Laws.{within_or_cheaper}
+use Rattle.ch_graph.specs.Hierarchy.Chains.{chain-same, chain-join, one_link, chain-walk}
+use Rattle.ch_graph.specs.Unfolding.{LinksUnfold}
 use Rattle.ch_laws.specs.Contraction.{State, Contraction, IsReached, IsOver, IsMade}
 use Rattle.ch_laws.specs.Theorems.{AlwaysRight, AlwaysWellMade}
 use Rattle.ch_laws.proofs.Steps.{one_cost}
@@ -121,14 +121,14 @@ module _ {g : Graph} {log : List Contraction} {s : State} {h : Hierarchy} (is : 
   )
 
 -- the law that the hierarchy is right
-pub always_right : AlwaysRight
-always_right g log s h is reached over made =
+pub always_right : LinksUnfold → AlwaysRight
+always_right links_unfold g log s h is reached over made =
     let sound = reached-sound is reached in
     let well = made-well sound over made is in
     record {
       nodes = made.nodes ∙ sound.nodes;
       value = λ x z c from_in to_in. value-same is reached over made x z c;
-      unfolds = λ l among. let found = link-unfolds h well l among in (found.arcs, found.unfolds);
+      unfolds = λ l among. let found = links_unfold h l well among in (found.0, found.1);
       unfolded = λ l arcs among unfolds. unfolded-chain sound over made unfolds among;
     }
 

@@ -1,4 +1,5 @@
 pub mod Puts
+pub mod Renewed
 pub mod SameRows
 pub mod Arcs
 pub mod Applied

@@ -1,5 +1,5 @@
 -- What a contraction changes in an overlay.
-use Rattle.std.specs.Prelude.{ℕ, ◌≡◌, ◌≢◌, ◌<◌, ◌↔◌, List, [], ◌∷◌, length, map, Some, All, AllPairs, Contains, slice_set}
+use Rattle.std.specs.Prelude.{ℕ, ◌≡◌, ◌≢◌, ◌<◌, ◌↔◌, List, [], ◌∷◌, length, map, Some, All, AllPairs, Contains, slice_index, slice_set}
 use Rattle.ch_laws.specs.declared.shortcut.Shortcut.{Shortcut}
 use Rattle.ch_laws.specs.Contraction.{IsPlan, IsNeighbour}
 use Rattle.ch_laws.specs.Rows.{Row, IsChanged}
@@ -32,6 +32,12 @@ puts xs (p ∷ ps) = puts (slice_set xs p.0 p.1) ps
 -- the nodes whose rows change
 abbrev pub changed_nodes : Change → List ℕ
 changed_nodes c = map (λ a. a.0) c.rows
+
+-- Of these nodes each gets a version above all earlier ones, and every other keeps its own.
+pub record AreRenewed (nodes old new : List ℕ) : Type 0 where
+  pub count : length new ≡ length old
+  pub others : (x : ℕ) → (Contains nodes x → ⊥) → slice_index new x ≡ slice_index old x
+  pub risen : (x : ℕ) → Contains nodes x → All (λ v. v < slice_index new x) old
 
 -- A change of an overlay has one row for each of several nodes, and its rows are those of their nodes once it is put in.
 pub record WritesItsRows (o : Overlay) (c : Change) : Type 0 where

@@ -5,7 +5,7 @@ ghost use Rattle.ch_graph.specs.Graph.{bound_of};
 ghost use Rattle.ch_laws.specs.declared.shortcut.Shortcut.{Shortcut};
 ghost use Rattle.ch_laws.specs.Contraction.{IsStart, IsPlan, contracted};
 ghost use Rattle.ch_overlay.specs.Overlay.{IsOverlay, row_at, state_of};
-ghost use Rattle.ch_overlay.specs.Change.{IsChange, IsOf, changed_nodes, puts};
+ghost use Rattle.ch_overlay.specs.Change.{AreRenewed, IsChange, IsOf, changed_nodes, puts};
 
 use crate::change::{Change, put_rows, put_versions};
 use crate::least::least_arcs;
@@ -160,6 +160,7 @@ impl Overlay {
         ensures state { (put : List Shortcut) → IsChange self.old put change → state_of self.new ≡ contracted (state_of self.old) change.node put }
         ensures rows { self.new.rows ≡ puts self.old.rows change.rows }
         ensures versions { self.new.versions ≡ puts self.old.versions (zip (changed_nodes change) versions.now) }
+        ensures renewed { AreRenewed (changed_nodes change) self.old.versions self.new.versions }
         ensures bound { self.new.bound ≡ self.old.bound }
         ensures holds { IsOverlay self.new }
     {

@@ -1,16 +1,16 @@
 -- Two sides that have stopped give the value, and walks of that cost.
-use Rattle.std.proofs.Common.{ℕ, ◌≡◌, ◌<◌, List, ◌++◌, length, reverse, get_or, Option, Some, None, All, Contains, arith, ap, sym, subst, ◌∙◌, inl, inr}
+use Rattle.std.proofs.Common.{ℕ, ◌≡◌, ◌<◌, List, [], ◌∷◌, ◌++◌, length, reverse, get_or, Option, Some, None, All, Contains, arith, ap, sym, subst, ◌∙◌, inl, inr}
 use Rattle.std.proofs.lemmas.Bool.{cases_lt}
 use Rattle.std.proofs.lemmas.List.{get_or_default, get_or_past, map-append}
-use Rattle.std.proofs.lemmas.List.Elements.{All-append, All-contains}
+use Rattle.std.proofs.lemmas.List.Elements.{All-append, All-contains, All-head, All-tail}
+use Rattle.std.proofs.lemmas.Option.{slice_get-get_or}
 use Rattle.ch_cost.specs.declared.cost.Cost.{Cost}
 use Rattle.ch_cost.specs.Cost.{zero_cost, ◌⊕◌, ◌≼◌}
 use Rattle.ch_cost.specs.Cost.Laws.{sum_comm, at_most_sum_left, at_most_trans, below_not_at_most}
 use Rattle.ch_graph.specs.declared.link.Link.{Link}
 use Rattle.ch_graph.specs.declared.hierarchy.LinkId.{LinkId}
 use Rattle.ch_graph.specs.Hierarchy.{Hierarchy, IsWellMade, IsLinkWellMade, IsRiseFall, IsValue, rank_of}
-use Rattle.ch_graph.specs.Unfolding.{Joined}
-use Rattle.ch_graph.proofs.Places.{are_at-get_or, joined-from_rise_fall}
+use Rattle.ch_graph.specs.Unfolding.{AreAt}
 use Rattle.ch_query.specs.declared.label.Label.{Label}
 use Rattle.ch_query.specs.declared.mark.Mark.{Mark}
 use Rattle.ch_query.specs.declared.mark.Mark.TheVariants.{Settled}
@@ -123,6 +123,11 @@ module _ (h : Hierarchy) (made : IsWellMade h) (s t : ℕ) (s_in : s < length h.
   pub answered : (best : Option Meeting) → IsBestMeeting h (costs_of up) (costs_of down) best → IsStopped up (cost_of best) → IsStopped down (cost_of best) → AreFollowed h Rise (cost_of best) up → AreFollowed h Fall (cost_of best) down → IsValue h s t (cost_of best)
   answered best is up_stopped down_stopped up_followed down_followed = stop_right h s t (named h up) (named h down) (cost_of best) (up_labels h made ups s s_in up rises (cost_of best) up_stopped up_followed) (down_labels h made downs t t_in down falls (cost_of best) down_stopped down_followed) (best-named best is)
 
+-- at positions of links are the links that are read there
+are_at-positions : (h : Hierarchy) (ids : List LinkId) → All (IsPosition h) ids → AreAt h ids (links_at h ids)
+are_at-positions h [] within = tt
+are_at-positions h (id ∷ ids) within = (slice_get-get_or h.links id.0 _ (All-head (IsPosition h) id ids within), are_at-positions h ids (All-tail (IsPosition h) id ids within))
+
 -- the links of both sides make the walk
 walk_leads : (h : Hierarchy) (s t x : ℕ) (a b c : Cost) (ups downs : List LinkId) → Descends h Rise s ups x a → Descends h Fall t downs x b → c ≡ a ⊕ b → IsRiseFall h (links_at h (reverse ups ++ downs)) s t c
 walk_leads h s t x a b c ups downs rises falls sum = record {
@@ -143,9 +148,6 @@ walk_positions h s t x a b ups downs rises falls = All-append (IsPosition h) (re
 pub walk_at : (h : Hierarchy) (s t x : ℕ) (a b c : Cost) (ups downs : List LinkId) → Descends h Rise s ups x a → Descends h Fall t downs x b → c ≡ a ⊕ b → IsRiseFallAt h (reverse ups ++ downs) s t c
 walk_at h s t x a b c ups downs rises falls sum = record {
   links = links_at h (reverse ups ++ downs);
-  are_at = are_at-get_or h _ (reverse ups ++ downs) (walk_positions h s t x a b ups downs rises falls);
+  are_at = are_at-positions h (reverse ups ++ downs) (walk_positions h s t x a b ups downs rises falls);
   leads = walk_leads h s t x a b c ups downs rises falls sum;
 }
-
-pub walk_joined : (h : Hierarchy) (places : List LinkId) (s t : ℕ) (c : Cost) → IsRiseFallAt h places s t c → Joined h s places
-walk_joined h places s t c is = joined-from_rise_fall h places is.links s t c is.are_at is.leads

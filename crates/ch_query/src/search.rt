@@ -15,7 +15,7 @@ use crate::meeting::Meeting;
 use crate::side::{Climb, Side};
 use crate::upward::UpwardSteps;
 use ch_cost::Cost;
-use ch_graph::{Hierarchy, LinkId};
+use ch_graph::{Hierarchy, LinkId, rise_fall_joins};
 use std::alloc::{AllocError, Global};
 use std::marker::Model;
 
@@ -140,6 +140,7 @@ fn walk_over(
     ensures walk { IfOk result (λ f. IsRiseFallAt hierarchy.now f.links.items source target meeting.cost) }
     ensures joined { IfOk result (λ f. Joined hierarchy.now source f.links.items) }
 {
+    rise_fall_joins();
     let rise = Climb {
         side: Side::Rise,
         start: source,

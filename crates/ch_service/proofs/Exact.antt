@@ -2,17 +2,9 @@
 use Rattle.std.proofs.Common.{ℕ, ◌≡◌, List, [], ◌++◌, length, take, sym, ◌∙◌, ap, subst}
 use Rattle.std.specs.Prelude.{⊤, Option, Some, None, IfSome, All, Result, Ok, Err, IfOk, IfErr, OnOk}
 use Rattle.std.proofs.lemmas.List.Elements.{All-take}
-use Rattle.ch_graph.specs.declared.road.Road.{Road}
 use Rattle.ch_graph.specs.Graph.{Graph, IsGraph}
 use Rattle.ch_graph.specs.Hierarchy.{Hierarchy, IsRight}
-use Rattle.grfile.specs.declared.error.GrError.{GrError}
-use Rattle.grfile.specs.Lines.{lines_of}
-use Rattle.grfile.specs.Outcome.{◌>>=◌}
-use Rattle.grfile.specs.Grammar.{Listing, listing_after}
-use Rattle.grfile.specs.Roads.{graph_grammar}
-use Rattle.grfile.specs.Pairs.{pair_grammar}
-use Rattle.grfile.specs.Reading.{IsPair, graph_of, pairs_of}
-use Rattle.grfile.proofs.Sound.{graph_listed, pairs_listed}
+use Rattle.grfile.specs.Reading.{IsPair, graph_of, pairs_of, SpelledGraphsAreInRange, SpelledPairsAreInRange}
 use Rattle.hierfile.specs.Laws.{HierarchiesHaveOneSpelling}
 use Rattle.ch_laws.specs.Theorems.{RouteIsLeast, NeverTooLong}
 use Rattle.ch_service.specs.Answer.{Answers}
@@ -23,29 +15,6 @@ use Rattle.ch_service.specs.declared.error.ServiceError.TheVariants.{Unpack}
 use Rattle.ch_unpack.specs.declared.error.UnpackError.TheVariants.{TooLong}
 use Rattle.ch_service.proofs.ByWalks.{right-routes, right_for_none}
 
--- what a text spells is a graph within the limits
-listed_graph : (read : Result (Listing Road) GrError) (g : Graph) → IfOk read (λ l. IsGraph (record { nodes = l.size.nodes; arcs = l.entries })) → (read >>= (λ (l : Listing Road). Ok (record { nodes = l.size.nodes; arcs = l.entries }))) ≡ Ok g → IsGraph g
-listed_graph (Ok l) g is e =
-    let read : Graph = record { nodes = l.size.nodes; arcs = l.entries } in
-    let same : read ≡ g = cc in
-    subst (λ (k : Graph). IsGraph k) same is
-listed_graph (Err x) g is e = absurd (cc)
-
-read_graph : (text : List ℕ) (g : Graph) → graph_of text ≡ Ok g → IsGraph g
-unfolding graph_of
-read_graph text g e = listed_graph (listing_after graph_grammar 0 (lines_of text)) g (graph_listed 0 (lines_of text)) e
-
--- and the pairs are of its nodes
-listed_pairs : (n : ℕ) (read : Result (Listing (ℕ × ℕ)) GrError) (pairs : List (ℕ × ℕ)) → IfOk read (λ l. All (IsPair n) l.entries) → (read >>= (λ (l : Listing (ℕ × ℕ)). Ok l.entries)) ≡ Ok pairs → All (IsPair n) pairs
-listed_pairs n (Ok l) pairs is e =
-    let same : l.entries ≡ pairs = cc in
-    subst (All (IsPair n)) same is
-listed_pairs n (Err x) pairs is e = absurd (cc)
-
-read_pairs : (n : ℕ) (text : List ℕ) (pairs : List (ℕ × ℕ)) → pairs_of n text ≡ Ok pairs → All (IsPair n) pairs
-unfolding pairs_of
-read_pairs n text pairs e = listed_pairs n (listing_after (pair_grammar n) 0 (lines_of text)) pairs (pairs_listed n 0 (lines_of text)) e
-
 -- what was prepared, where the bytes are the file of this hierarchy
 record IsPrepared (graph_text bytes : List ℕ) (h : Hierarchy) : Type 0 where
   graph : Graph
@@ -53,29 +22,29 @@ record IsPrepared (graph_text bytes : List ℕ) (h : Hierarchy) : Type 0 where
   within : IsGraph graph
   right : IsRight graph h
 
-is_prepared : HierarchiesHaveOneSpelling → (graph_text bytes : List ℕ) (h : Hierarchy) → Prepares graph_text bytes → Spells bytes h → IsPrepared graph_text bytes h
-is_prepared one graph_text bytes h p spells = record {
+is_prepared : HierarchiesHaveOneSpelling → SpelledGraphsAreInRange → (graph_text bytes : List ℕ) (h : Hierarchy) → Prepares graph_text bytes → Spells bytes h → IsPrepared graph_text bytes h
+is_prepared one graphs graph_text bytes h p spells = record {
   graph = p.graph;
   reads = p.graph_reads;
-  within = read_graph graph_text p.graph p.graph_reads;
+  within = graphs graph_text p.graph p.graph_reads;
   right = subst (λ (k : Hierarchy). IsRight p.graph k) (one p.hierarchy h p.spells.made spells.made (sym p.spells.spelled ∙ spells.spelled)) p.right;
 }
 
-pub routes-exact : HierarchiesHaveOneSpelling → RouteIsLeast → RoutesAreExact
-routes-exact one law graph_text bytes pairs_text text p r =
-    let q = is_prepared one graph_text bytes r.hierarchy p r.spells in
+pub routes-exact : HierarchiesHaveOneSpelling → SpelledGraphsAreInRange → SpelledPairsAreInRange → RouteIsLeast → RoutesAreExact
+routes-exact one graphs pairs_fit law graph_text bytes pairs_text text p r =
+    let q = is_prepared one graphs graph_text bytes r.hierarchy p r.spells in
     let read : pairs_of q.graph.nodes pairs_text ≡ Ok r.pairs = subst (λ (n : ℕ). pairs_of n pairs_text ≡ Ok r.pairs) q.right.nodes r.pairs_read in
     record {
       graph = q.graph;
       pairs = r.pairs;
       graph_reads = q.reads;
       pairs_read = read;
-      answered = right-routes law q.graph r.hierarchy r.pairs text q.within q.right (read_pairs q.graph.nodes pairs_text r.pairs read) r.routed;
+      answered = right-routes law q.graph r.hierarchy r.pairs text q.within q.right (pairs_fit q.graph.nodes pairs_text r.pairs read) r.routed;
     }
 
-pub first-routes-exact : HierarchiesHaveOneSpelling → RouteIsLeast → FirstRoutesAreExact
-first-routes-exact one law graph_text bytes pairs_text text p r =
-    let q = is_prepared one graph_text bytes r.hierarchy p r.spells in
+pub first-routes-exact : HierarchiesHaveOneSpelling → SpelledGraphsAreInRange → SpelledPairsAreInRange → RouteIsLeast → FirstRoutesAreExact
+first-routes-exact one graphs pairs_fit law graph_text bytes pairs_text text p r =
+    let q = is_prepared one graphs graph_text bytes r.hierarchy p r.spells in
     let read : pairs_of q.graph.nodes pairs_text ≡ Ok r.pairs = subst (λ (n : ℕ). pairs_of n pairs_text ≡ Ok r.pairs) q.right.nodes r.pairs_read in
     record {
       graph = q.graph;
@@ -83,33 +52,33 @@ first-routes-exact one law graph_text bytes pairs_text text p r =
       graph_reads = q.reads;
       pairs_read = read;
       count = r.count;
-      answered = right-routes law q.graph r.hierarchy (take r.count r.pairs) text q.within q.right (All-take (IsPair q.graph.nodes) r.count r.pairs (read_pairs q.graph.nodes pairs_text r.pairs read)) r.routed;
+      answered = right-routes law q.graph r.hierarchy (take r.count r.pairs) text q.within q.right (All-take (IsPair q.graph.nodes) r.count r.pairs (pairs_fit q.graph.nodes pairs_text r.pairs read)) r.routed;
     }
 
 -- what a call wrote by bytes that were prepared
 
-pub exact-told : HierarchiesHaveOneSpelling → RouteIsLeast → (h : Hierarchy) (pairs : List (ℕ × ℕ)) (hier queries old new : Option (List ℕ)) (r : Result ⊤ ServiceError) → IfSome hier (λ bytes. Spells bytes h) → IfSome queries (λ text. pairs_of (length h.ranks) text ≡ Ok pairs)
+pub exact-told : RoutesAreExact → (h : Hierarchy) (pairs : List (ℕ × ℕ)) (hier queries old new : Option (List ℕ)) (r : Result ⊤ ServiceError) → IfSome hier (λ bytes. Spells bytes h) → IfSome queries (λ text. pairs_of (length h.ranks) text ≡ Ok pairs)
     → OnOk r (Writes (Routed h pairs) old new) → OnOk r (IfTold hier queries (λ bytes pairs_text. (graph_text : List ℕ) → Prepares graph_text bytes → Writes (Answers graph_text pairs_text) old new))
-exact-told one law h pairs hier queries old new (Err e) spells read w = tt
-exact-told one law h pairs None queries old new (Ok x) spells read w = tt
-exact-told one law h pairs (Some bytes) None old new (Ok x) spells read w = tt
-exact-told one law h pairs (Some bytes) (Some pairs_text) old new (Ok x) spells read w = λ graph_text p.
-    (w.0, routes-exact one law graph_text bytes pairs_text w.0 p (record { hierarchy = h; pairs = pairs; spells = spells; pairs_read = read; routed = w.1 }), w.2)
+exact-told exact h pairs hier queries old new (Err e) spells read w = tt
+exact-told exact h pairs None queries old new (Ok x) spells read w = tt
+exact-told exact h pairs (Some bytes) None old new (Ok x) spells read w = tt
+exact-told exact h pairs (Some bytes) (Some pairs_text) old new (Ok x) spells read w = λ graph_text p.
+    (w.0, exact graph_text bytes pairs_text w.0 p (record { hierarchy = h; pairs = pairs; spells = spells; pairs_read = read; routed = w.1 }), w.2)
 
 -- no route by them is too long
 
-never_long : HierarchiesHaveOneSpelling → NeverTooLong → (h : Hierarchy) (pairs : List (ℕ × ℕ)) (hier : Option (List ℕ)) (text : List ℕ) → IfSome hier (λ bytes. Spells bytes h) → All (IsPair (length h.ranks)) pairs → StopsAtTooLong h pairs text
+never_long : HierarchiesHaveOneSpelling → SpelledGraphsAreInRange → NeverTooLong → (h : Hierarchy) (pairs : List (ℕ × ℕ)) (hier : Option (List ℕ)) (text : List ℕ) → IfSome hier (λ bytes. Spells bytes h) → All (IsPair (length h.ranks)) pairs → StopsAtTooLong h pairs text
     → IfSome hier (λ bytes. (graph_text : List ℕ) → Prepares graph_text bytes → ⊥)
-never_long one law h pairs None text spells within s = tt
-never_long one law h pairs (Some bytes) text spells within s = λ graph_text p.
-    let q = is_prepared one graph_text bytes h p spells in
+never_long one graphs law h pairs None text spells within s = tt
+never_long one graphs law h pairs (Some bytes) text spells within s = λ graph_text p.
+    let q = is_prepared one graphs graph_text bytes h p spells in
     right_for_none law q.graph h pairs text q.within q.right within s
 
-pub never_long-told : HierarchiesHaveOneSpelling → NeverTooLong → (h : Hierarchy) (pairs : List (ℕ × ℕ)) (hier old new : Option (List ℕ)) (P : List ℕ → Type 0) (r : Result ⊤ ServiceError) → IfSome hier (λ bytes. Spells bytes h) → All (IsPair (length h.ranks)) pairs
+pub never_long-told : HierarchiesHaveOneSpelling → SpelledGraphsAreInRange → NeverTooLong → (h : Hierarchy) (pairs : List (ℕ × ℕ)) (hier old new : Option (List ℕ)) (P : List ℕ → Type 0) (r : Result ⊤ ServiceError) → IfSome hier (λ bytes. Spells bytes h) → All (IsPair (length h.ranks)) pairs
     → IfErr r (StopsShort P (StopsAtTooLong h pairs) old new) → r ≡ Err (Unpack TooLong) → IfSome hier (λ bytes. (graph_text : List ℕ) → Prepares graph_text bytes → ⊥)
-never_long-told one law h pairs hier old new P r spells within stops is =
+never_long-told one graphs law h pairs hier old new P r spells within stops is =
     let written : Writes (StopsAtTooLong h pairs) old new = subst (λ (q : Result ⊤ ServiceError). IfErr q (StopsShort P (StopsAtTooLong h pairs) old new)) is stops in
-    never_long one law h pairs hier written.0 spells within written.1
+    never_long one graphs law h pairs hier written.0 spells within written.1
 
 -- in memory
 

@@ -5,7 +5,7 @@ use Rattle.ch_cost.specs.declared.cost.Cost.{Cost}
 use Rattle.ch_graph.specs.declared.link.Link.{Link}
 use Rattle.ch_graph.specs.declared.hierarchy.LinkId.{LinkId}
 use Rattle.ch_graph.specs.Hierarchy.{Hierarchy, IsRiseFall, IsValue}
-use Rattle.ch_graph.proofs.Places.{same_links}
+use Rattle.ch_graph.specs.Unfolding.{PlacesNameLinks}
 use Rattle.ch_laws.specs.Theorems.{IsLeastRoute}
 use Rattle.ch_query.specs.declared.search.Found.{Found}
 use Rattle.ch_query.specs.Positions.{IsRiseFallAt}
@@ -18,29 +18,29 @@ use Rattle.ch_service.specs.declared.error.ServiceError.{ServiceError}
 use Rattle.ch_service.specs.declared.error.ServiceError.TheVariants.{Unpack}
 
 -- the links at these places are a least walk, and they stand for these arcs
-least-unfolded : (h : Hierarchy) (s t : ℕ) (c : Cost) (places : List LinkId) (arcs : List Link) → IsValue h s t (Some c) → IsRiseFallAt h places s t c → (u : Unfolded h places arcs) → IsLeastRoute h s t c u.links arcs
-least-unfolded h s t c places arcs value walk u = record {
-  leads = subst (λ (ls : List Link). IsRiseFall h ls s t c) (same_links h places walk.links u.links walk.are_at u.are_at) walk.leads;
+least-unfolded : PlacesNameLinks → (h : Hierarchy) (s t : ℕ) (c : Cost) (places : List LinkId) (arcs : List Link) → IsValue h s t (Some c) → IsRiseFallAt h places s t c → (u : Unfolded h places arcs) → IsLeastRoute h s t c u.links arcs
+least-unfolded law h s t c places arcs value walk u = record {
+  leads = subst (λ (ls : List Link). IsRiseFall h ls s t c) (law h places walk.links u.links walk.are_at u.are_at) walk.leads;
   least = value;
   unfolds = u.unfolds;
 }
 
-pub unpacked-route : (h : Hierarchy) (s t : ℕ) (c : Cost) (places : List LinkId) (nodes : List ℕ) → IsValue h s t (Some c) → IsRiseFallAt h places s t c → IsUnpacked h s places nodes → IsUnfoldedRoute h s t (record { cost = c; nodes = nodes })
-unpacked-route h s t c places nodes value walk u = record {
+pub unpacked-route : PlacesNameLinks → (h : Hierarchy) (s t : ℕ) (c : Cost) (places : List LinkId) (nodes : List ℕ) → IsValue h s t (Some c) → IsRiseFallAt h places s t c → IsUnpacked h s places nodes → IsUnfoldedRoute h s t (record { cost = c; nodes = nodes })
+unpacked-route law h s t c places nodes value walk u = record {
   links = u.unfolded.links;
   arcs = u.arcs;
-  least = least-unfolded h s t c places u.arcs value walk u.unfolded;
+  least = least-unfolded law h s t c places u.arcs value walk u.unfolded;
   few = u.few;
   along = u.in_order;
 }
 
 -- a least route that is too long
-pub too_long-route : (h : Hierarchy) (s t : ℕ) (c : Cost) (places : List LinkId) → IsValue h s t (Some c) → IsRiseFallAt h places s t c → IsTooLong h places → HasTooLong h s t
-too_long-route h s t c places value walk u = record {
+pub too_long-route : PlacesNameLinks → (h : Hierarchy) (s t : ℕ) (c : Cost) (places : List LinkId) → IsValue h s t (Some c) → IsRiseFallAt h places s t c → IsTooLong h places → HasTooLong h s t
+too_long-route law h s t c places value walk u = record {
   cost = c;
   links = u.unfolded.links;
   arcs = u.arcs;
-  least = least-unfolded h s t c places u.arcs value walk u.unfolded;
+  least = least-unfolded law h s t c places u.arcs value walk u.unfolded;
   many = u.many;
 }
 

@@ -5,7 +5,7 @@ ghost use Rattle.ch_service.specs.Route.{IsRouteBy};
 
 use crate::error::ServiceError;
 use ch_cost::Cost;
-use ch_graph::Hierarchy;
+use ch_graph::{Hierarchy, places_name_links};
 use ch_query::Search;
 use ch_unpack::unpack;
 use std::alloc::Global;
@@ -44,6 +44,7 @@ pub fn least_route(
     ensures refused { IfErr result (IsSearchFault hierarchy.now pair) }
     ensures kept { search.new ≡ search.old }
 {
+    places_name_links();
     let Some(found) = search.distance(pair.0, pair.1)? else {
         return Ok(None);
     };

@@ -1,6 +1,7 @@
 ghost use Rattle.ch_service.specs.Route.{RightRoutesAreLeast, RoutesAreExact, FirstRoutesAreExact};
 
 use ch_laws::least_route_is_a_least_walk;
+use grfile::{spelled_graphs_are_in_range, spelled_pairs_are_in_range};
 use hierfile::hierarchies_have_one_spelling;
 
 /// Routes of a hierarchy that is right for a graph are least walks of that graph. It does nothing when it runs.
@@ -18,6 +19,8 @@ pub fn routes_are_exact()
     ensures { RoutesAreExact }
 {
     hierarchies_have_one_spelling();
+    spelled_graphs_are_in_range();
+    spelled_pairs_are_in_range();
     least_route_is_a_least_walk();
 }
 
@@ -26,5 +29,7 @@ pub fn first_routes_are_exact()
     ensures { FirstRoutesAreExact }
 {
     hierarchies_have_one_spelling();
+    spelled_graphs_are_in_range();
+    spelled_pairs_are_in_range();
     least_route_is_a_least_walk();
 }

@@ -6,9 +6,10 @@ ghost use Rattle.ch_service.specs.declared.error.ServiceError.TheVariants.{Unpac
 ghost use Rattle.ch_unpack.specs.declared.error.UnpackError.TheVariants.{TooLong};
 
 use crate::error::ServiceError;
+use crate::laws::routes_are_exact;
 use crate::pairs::answer_pairs;
-use ch_laws::{least_route_is_a_least_walk, least_route_is_never_too_long};
-use grfile::read_queries;
+use ch_laws::least_route_is_never_too_long;
+use grfile::{read_queries, spelled_graphs_are_in_range};
 use hierfile::hierarchies_have_one_spelling;
 use std::alloc::Global;
 use std::io::{Read, Write};
@@ -44,8 +45,9 @@ pub fn route<H: Read, Q: Read, W: Write>(
     ensures stops { IfErr result (λ e. IfTold (H.remaining hier.old) (Q.remaining queries.old)
         (λ bytes pairs. StopsShort (RoutesFirst bytes pairs) (RoutesToTooLong bytes pairs) (W.contents out.old) (W.contents out.new) e)) }
 {
+    routes_are_exact();
     hierarchies_have_one_spelling();
-    least_route_is_a_least_walk();
+    spelled_graphs_are_in_range();
     least_route_is_never_too_long();
     let hierarchy = hierfile::read(alloc, hier).map_err(ServiceError::Hierarchy)?;
     let pairs = read_queries(alloc, queries, hierarchy.nodes()).map_err(ServiceError::Queries)?;

@@ -1,5 +1,5 @@
 -- The arcs that links at places stand for, when the first of the links is unfolded.
-use Rattle.std.proofs.Common.{ℕ, ◌≡◌, ◌<◌, ◌≤◌, List, [], ◌∷◌, ◌++◌, length, map, Some, None, get_or, arith, ap, subst, sym, refl, ◌∙◌, append_assoc, length-append}
+use Rattle.std.proofs.Common.{ℕ, ◌≡◌, ◌<◌, ◌≤◌, List, [], ◌∷◌, ◌++◌, length, map, None, Contains, get_or, arith, ap, subst, sym, refl, ◌∙◌, append_assoc, length-append}
 use Rattle.std.specs.List.{AllZip}
 use Rattle.std.proofs.lemmas.List.{get_or_default}
 use Rattle.std.proofs.lemmas.Option.{slice_get_within, slice_get-get_or, get_or_from_slice_get}
@@ -9,8 +9,7 @@ use Rattle.ch_graph.specs.declared.link_halves.Parts.{Parts}
 use Rattle.ch_graph.specs.declared.link_halves.Parts.TheVariants.{Arc, Shortcut}
 use Rattle.ch_graph.specs.Hierarchy.{Hierarchy, IsLink, IsLinkAt, IsWellMade, Unfolds, Unfolds.whole, Unfolds.halves, UnfoldsAll, UnfoldsAll.done, UnfoldsAll.more}
 use Rattle.ch_graph.specs.LinkHalves.{ArePartsOf, AreHalvesAt}
-use Rattle.ch_graph.specs.Unfolding.{IsAt}
-use Rattle.ch_graph.proofs.OneUnfolding.{same_link}
+use Rattle.ch_graph.specs.Unfolding.{IsAt, LinksUnfold}
 use Rattle.ch_unpack.specs.Unpacking.{Unfolded}
 
 -- the nodes that arcs come to
@@ -49,6 +48,10 @@ before h place places l us vs is unfolds others = record { links = l ∷ others.
 pub within : (h : Hierarchy) (place : LinkId) (places : List LinkId) (arcs : List Link) → Unfolded h (place ∷ places) arcs → place.0 < length h.links
 within h place places arcs all = let this : First h place places arcs = first h place places arcs all in slice_get_within h.links place.0 this.link this.is
 
+-- the link at a place is one of the links
+pub among_links : (h : Hierarchy) (place : LinkId) (l : Link) → IsAt h place l → Contains h.links l
+among_links h place l is = (place.0, slice_get_within h.links place.0 l is, get_or_from_slice_get h.links place.0 l l is)
+
 -- what is said of the link at a place by any default is said of that link
 told : (h : Hierarchy) (place : LinkId) (l : Link) (parts : Parts) → IsAt h place l → ((d : Link) → ArePartsOf h.links (get_or h.links place.0 d) parts) → ArePartsOf h.links l parts
 told h place l parts is are = subst (λ (k : Link). ArePartsOf h.links k parts) (get_or_from_slice_get h.links place.0 l l is) (are l)
@@ -59,40 +62,9 @@ only_itself : (h : Hierarchy) {l : Link} {us : List Link} → Unfolds h l us →
 only_itself h (whole none_is) e = refl
 only_itself h (halves middle_is first second left right) e = absurd (cc)
 
--- how a link with a middle unfolds
-record Halved (h : Hierarchy) (l : Link) (m : ℕ) (us : List Link) : Type 0 where
-  pub a : Link
-  pub b : Link
-  pub ls : List Link
-  pub rs : List Link
-  pub first : IsLink h l.from m a
-  pub second : IsLink h m l.to b
-  pub left : Unfolds h a ls
-  pub right : Unfolds h b rs
-  pub parts : us ≡ ls ++ rs
-
-halved : (h : Hierarchy) {l : Link} {us : List Link} (m : ℕ) → Unfolds h l us → l.middle ≡ Some m → Halved h l m us
-halved h m (whole none_is) e = absurd (cc)
-halved h {l = l} m (halves {a = a} {b = b} {m = n} {ls = ls} {rs = rs} middle_is first second left right) e =
-    let same : n ≡ m = cc in
-    record {
-      a = a;
-      b = b;
-      ls = ls;
-      rs = rs;
-      first = subst (λ k. IsLink h l.from k a) same first;
-      second = subst (λ k. IsLink h k l.to b) same second;
-      left = left;
-      right = right;
-      parts = refl;
-    }
-
--- the link between two nodes stands where one between them was found
-at_place : (h : Hierarchy) → IsWellMade h → (x y : ℕ) (place : LinkId) (a : Link) → IsLinkAt h.links x y place.0 → IsLink h x y a → IsAt h place a
-at_place h made x y place a at is =
-    let found : Link = get_or h.links place.0 a in
-    let there : IsLink h x y found = record { among = (place.0, at.within, get_or_default h.links place.0 found a at.within); from = at.from a; to = at.to a } in
-    slice_get-get_or h.links place.0 a at.within ∙ ap (λ (k : Link). Some k) (same_link h made x y found a there is)
+-- the link that is read at a place
+found : (h : Hierarchy) (x y : ℕ) (place : LinkId) (d : Link) → IsLinkAt h.links x y place.0 → IsLink h x y (get_or h.links place.0 d)
+found h x y place d at = record { among = (place.0, at.within, get_or_default h.links place.0 (get_or h.links place.0 d) d at.within); from = at.from d; to = at.to d }
 
 -- an arc to this node is the first of the arcs
 pub record Passed (h : Hierarchy) (to : ℕ) (places : List LinkId) (arcs : List Link) : Type 0 where
@@ -111,18 +83,23 @@ pass h place places arcs to all are =
       route = ap heads (this.parts ∙ ap (λ (us : List Link). us ++ this.vs) itself) ∙ ap (λ n. n ∷ heads this.vs) arc.1;
     }
 
--- the same arcs come from the halves in place of a shortcut
-pub split : (h : Hierarchy) → IsWellMade h → (place : LinkId) (places : List LinkId) (arcs : List Link) (one two : LinkId) → Unfolded h (place ∷ places) arcs → ((d : Link) → ArePartsOf h.links (get_or h.links place.0 d) (Shortcut one two)) → Unfolded h (one ∷ two ∷ places) arcs
-split h made place places arcs one two all are =
+-- the same arcs come from the halves in place of a shortcut, since it unfolds to one list alone
+pub split : LinksUnfold → (h : Hierarchy) → IsWellMade h → (place : LinkId) (places : List LinkId) (arcs : List Link) (one two : LinkId) → Unfolded h (place ∷ places) arcs → ((d : Link) → ArePartsOf h.links (get_or h.links place.0 d) (Shortcut one two)) → Unfolded h (one ∷ two ∷ places) arcs
+split law h made place places arcs one two all are =
     let this : First h place places arcs = first h place places arcs all in
     let l : Link = this.link in
     let at : AreHalvesAt h.links l one two = told h place l (Shortcut one two) this.is are in
-    let parts : Halved h l at.middle this.us = halved h at.middle this.unfolds at.by_way in
-    let first_at : IsAt h one parts.a = at_place h made l.from at.middle one parts.a at.first_at parts.first in
-    let second_at : IsAt h two parts.b = at_place h made at.middle l.to two parts.b at.second_at parts.second in
-    let behind : Unfolded h (two ∷ places) (parts.rs ++ this.vs) = before h two places parts.b parts.rs this.vs second_at parts.right this.others in
-    let whole_way : Unfolded h (one ∷ two ∷ places) (parts.ls ++ (parts.rs ++ this.vs)) = before h one (two ∷ places) parts.a parts.ls (parts.rs ++ this.vs) first_at parts.left behind in
-    subst (λ (xs : List Link). Unfolded h (one ∷ two ∷ places) xs) (sym (this.parts ∙ ap (λ (us : List Link). us ++ this.vs) parts.parts ∙ append_assoc parts.ls parts.rs this.vs)) whole_way
+    let a : Link = get_or h.links one.0 l in
+    let b : Link = get_or h.links two.0 l in
+    let a_is : IsLink h l.from at.middle a = found h l.from at.middle one l at.first_at in
+    let b_is : IsLink h at.middle l.to b = found h at.middle l.to two l at.second_at in
+    let left = law h a made a_is.among in
+    let right = law h b made b_is.among in
+    let only = (law h l made (among_links h place l this.is)).2 in
+    let same : this.us ≡ left.0 ++ right.0 = only this.us this.unfolds ∙ sym (only (left.0 ++ right.0) (halves at.by_way a_is b_is left.1 right.1)) in
+    let behind : Unfolded h (two ∷ places) (right.0 ++ this.vs) = before h two places b right.0 this.vs (slice_get-get_or h.links two.0 l at.second_at.within) right.1 this.others in
+    let whole_way : Unfolded h (one ∷ two ∷ places) (left.0 ++ (right.0 ++ this.vs)) = before h one (two ∷ places) a left.0 (right.0 ++ this.vs) (slice_get-get_or h.links one.0 l at.first_at.within) left.1 behind in
+    subst (λ (xs : List Link). Unfolded h (one ∷ two ∷ places) xs) (sym (this.parts ∙ ap (λ (us : List Link). us ++ this.vs) same ∙ append_assoc left.0 right.0 this.vs)) whole_way
 
 no_arcs : (h : Hierarchy) {links arcs : List Link} → AllZip (IsAt h) [] links → UnfoldsAll h links arcs → arcs ≡ []
 no_arcs h are done = refl

@@ -1,16 +1,14 @@
 -- A route on its way from links to arcs.
-use Rattle.std.proofs.Common.{ℕ, ◌≡◌, ◌+◌, ◌<◌, ◌≤◌, List, [], ◌∷◌, ◌++◌, length, reverse, get_or, Contains, arith, ap, subst, sym, refl, ◌∙◌, append_assoc, append-nil, length-append}
+use Rattle.std.proofs.Common.{ℕ, ◌≡◌, ◌+◌, ◌<◌, ◌≤◌, List, [], ◌∷◌, ◌++◌, length, reverse, get_or, arith, ap, subst, sym, refl, ◌∙◌, append_assoc, append-nil, length-append}
 use Rattle.std.proofs.lemmas.List.{length-map, length-reverse, reverse-append, reverse-reverse}
-use Rattle.std.proofs.lemmas.Option.{slice_get_within, get_or_from_slice_get}
 use Rattle.ch_graph.specs.declared.link.Link.{Link}
 use Rattle.ch_graph.specs.declared.hierarchy.LinkId.{LinkId}
 use Rattle.ch_graph.specs.declared.link_halves.Parts.TheVariants.{Arc, Shortcut}
 use Rattle.ch_graph.specs.Hierarchy.{Hierarchy, IsWellMade, UnfoldsAll.done}
 use Rattle.ch_graph.specs.LinkHalves.{ArePartsOf}
-use Rattle.ch_graph.specs.Unfolding.{IsAt, Joined}
-use Rattle.ch_graph.proofs.Unfolding.{HasUnfolding, link-unfolds}
+use Rattle.ch_graph.specs.Unfolding.{Joined, LinksUnfold}
 use Rattle.ch_unpack.specs.Unpacking.{Unfolded, IsUnpacked, IsTooLong}
-use Rattle.ch_unpack.proofs.Refining.{heads, before, within, Passed, pass, split, nothing_left, places_at_most_arcs}
+use Rattle.ch_unpack.proofs.Refining.{heads, among_links, before, within, Passed, pass, split, nothing_left, places_at_most_arcs}
 
 -- The links of the route unfold to arcs. Their heads are the nodes so far and those of the rest, to which the links
 -- ahead unfold, the nearest of them last.
@@ -23,28 +21,25 @@ pub record IsUnderWay (h : Hierarchy) (source : ℕ) (places : List LinkId) (nod
 
 -- The links that join
 
-among_links : (h : Hierarchy) (place : LinkId) (l : Link) → IsAt h place l → Contains h.links l
-among_links h place l is = (place.0, slice_get_within h.links place.0 l is, get_or_from_slice_get h.links place.0 l l is)
-
 -- links that join unfold
 record JoinedArcs (h : Hierarchy) (places : List LinkId) : Type 0 where
   pub arcs : List Link
   pub unfolded : Unfolded h places arcs
 
-joined_arcs : (h : Hierarchy) → IsWellMade h → (x : ℕ) (places : List LinkId) → Joined h x places → JoinedArcs h places
-joined_arcs h made x [] joined = record { arcs = []; unfolded = record { links = []; are_at = tt; unfolds = done } }
-joined_arcs h made x (place ∷ places) joined =
+joined_arcs : LinksUnfold → (h : Hierarchy) → IsWellMade h → (x : ℕ) (places : List LinkId) → Joined h x places → JoinedArcs h places
+joined_arcs law h made x [] joined = record { arcs = []; unfolded = record { links = []; are_at = tt; unfolds = done } }
+joined_arcs law h made x (place ∷ places) joined =
     let l : Link = joined.0 in
-    let this : HasUnfolding h l = link-unfolds h made l (among_links h place l joined.1) in
-    let others : JoinedArcs h places = joined_arcs h made l.to places joined.3 in
-    record { arcs = this.arcs ++ others.arcs; unfolded = before h place places l this.arcs others.arcs joined.1 this.unfolds others.unfolded }
+    let this = law h l made (among_links h place l joined.1) in
+    let others : JoinedArcs h places = joined_arcs law h made l.to places joined.3 in
+    record { arcs = this.0 ++ others.arcs; unfolded = before h place places l this.0 others.arcs joined.1 this.1 others.unfolded }
 
 -- The route from its first node to its last
 
 module _ {h : Hierarchy} {source : ℕ} {places : List LinkId} where
-  pub set_out : IsWellMade h → {nodes : List ℕ} {ahead : List LinkId} → Joined h source places → nodes ≡ source ∷ [] → reverse ahead ≡ places → IsUnderWay h source places nodes ahead
-  set_out made joined nodes_are ahead_is =
-      let all : JoinedArcs h places = joined_arcs h made source places joined in
+  pub set_out : LinksUnfold → IsWellMade h → {nodes : List ℕ} {ahead : List LinkId} → Joined h source places → nodes ≡ source ∷ [] → reverse ahead ≡ places → IsUnderWay h source places nodes ahead
+  set_out law made joined nodes_are ahead_is =
+      let all : JoinedArcs h places = joined_arcs law h made source places joined in
       record {
         arcs = all.arcs;
         unfolded = all.unfolded;
@@ -74,10 +69,10 @@ module _ {h : Hierarchy} {source : ℕ} {places : List LinkId} where
       }
 
   -- a shortcut is gone along by its halves
-  pub turn_off : {nodes : List ℕ} (next : LinkId) (one two : LinkId) (left : List LinkId) {ahead : List LinkId} → IsWellMade h → IsUnderWay h source places nodes ahead → ahead ≡ left ++ next ∷ [] → ((d : Link) → ArePartsOf h.links (get_or h.links next.0 d) (Shortcut one two)) → IsUnderWay h source places nodes ((left ++ two ∷ []) ++ one ∷ [])
-  turn_off next one two left made way ahead_is are =
+  pub turn_off : {nodes : List ℕ} (next : LinkId) (one two : LinkId) (left : List LinkId) {ahead : List LinkId} → LinksUnfold → IsWellMade h → IsUnderWay h source places nodes ahead → ahead ≡ left ++ next ∷ [] → ((d : Link) → ArePartsOf h.links (get_or h.links next.0 d) (Shortcut one two)) → IsUnderWay h source places nodes ((left ++ two ∷ []) ++ one ∷ [])
+  turn_off next one two left law made way ahead_is are =
       let turned : reverse ((left ++ two ∷ []) ++ one ∷ []) ≡ one ∷ two ∷ reverse left = reverse-append (left ++ two ∷ []) (one ∷ []) ∙ ap (λ (ps : List LinkId). one ∷ ps) (reverse-append left (two ∷ [])) in
-      let by_halves : Unfolded h (one ∷ two ∷ reverse left) way.rest = split h made next (reverse left) way.rest one two (nearest_first next left way ahead_is) are in
+      let by_halves : Unfolded h (one ∷ two ∷ reverse left) way.rest = split law h made next (reverse left) way.rest one two (nearest_first next left way ahead_is) are in
       record {
         arcs = way.arcs;
         unfolded = way.unfolded;
@@ -112,12 +107,12 @@ module _ {h : Hierarchy} {source : ℕ} {places : List LinkId} where
       }
 
   -- there are as many links as nodes
-  pub too_many_links : IsWellMade h → Joined h source places → source < length h.ranks → length h.ranks ≤ length places → IsTooLong h places
-  too_many_links made joined some_node many =
-      let way : IsUnderWay h source places (source ∷ []) (reverse places) = set_out made joined refl (reverse-reverse places) in
+  pub too_many_links : LinksUnfold → IsWellMade h → Joined h source places → source < length h.ranks → length h.ranks ≤ length places → IsTooLong h places
+  too_many_links law made joined some_node many =
+      let way : IsUnderWay h source places (source ∷ []) (reverse places) = set_out law made joined refl (reverse-reverse places) in
       go_too_far way some_node (omega (arith, many, length-reverse places))
 
   -- a shortcut leads to one node more than there is room for
-  pub no_room : {nodes : List ℕ} (next : LinkId) (one two : LinkId) (left : List LinkId) {ahead : List LinkId} → IsWellMade h → IsUnderWay h source places nodes ahead → ahead ≡ left ++ next ∷ [] → ((d : Link) → ArePartsOf h.links (get_or h.links next.0 d) (Shortcut one two)) → source < length h.ranks → length h.ranks < length nodes + length left + 2 → IsTooLong h places
-  no_room next one two left made way ahead_is are some_node far =
-      go_too_far (turn_off next one two left made way ahead_is are) some_node (omega (arith, far, length-append (left ++ two ∷ []) (one ∷ []), length-append left (two ∷ [])))
+  pub no_room : {nodes : List ℕ} (next : LinkId) (one two : LinkId) (left : List LinkId) {ahead : List LinkId} → LinksUnfold → IsWellMade h → IsUnderWay h source places nodes ahead → ahead ≡ left ++ next ∷ [] → ((d : Link) → ArePartsOf h.links (get_or h.links next.0 d) (Shortcut one two)) → source < length h.ranks → length h.ranks < length nodes + length left + 2 → IsTooLong h places
+  no_room next one two left law made way ahead_is are some_node far =
+      go_too_far (turn_off next one two left law made way ahead_is are) some_node (omega (arith, far, length-append (left ++ two ∷ []) (one ∷ []), length-append left (two ∷ [])))

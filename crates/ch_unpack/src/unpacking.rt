@@ -3,7 +3,7 @@ ghost use Rattle.ch_graph.specs.Unfolding.{Joined};
 ghost use Rattle.ch_unpack.specs.Unpacking.{IsUnpacked, IsTooLong};
 
 use crate::error::UnpackError;
-use ch_graph::{Hierarchy, LinkId, Parts};
+use ch_graph::{Hierarchy, LinkId, Parts, links_unfold};
 use smallvec::SmallVec;
 use std::alloc::{AllocError, Global};
 
@@ -26,6 +26,7 @@ pub fn unpack(
     ensures nodes { IfOk result (λ nodes. IsUnpacked hierarchy.now source links.now nodes.items) }
     ensures too_long { result ≡ Err UnpackError.TooLong → IsTooLong hierarchy.now links.now }
 {
+    links_unfold();
     let room = hierarchy.nodes() as usize;
     if links.len() >= room {
         return Err(UnpackError::TooLong);

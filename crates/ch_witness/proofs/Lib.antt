@@ -1,3 +1,4 @@
+pub mod FirstPlaces
 pub mod Copies
 pub mod Following
 pub mod Giving

@@ -1,10 +1,13 @@
 -- The answers that are kept, listed one by one.
-use Rattle.std.proofs.Common.{ℕ, ◌≡◌, ◌≢◌, ◌⊎◌, List, [], ◌∷◌, ◌++◌, get_or, Option, Some, None, Contains, refl, ap, sym, subst, ◌∙◌, arith, inl, inr}
+use Rattle.std.proofs.Common.{ℕ, ◌≡◌, ◌≢◌, ◌⊎◌, List, [], ◌∷◌, ◌++◌, get_or, map, Option, Some, None, Contains, refl, ap, sym, subst, ◌∙◌, arith, inl, inr}
 use Rattle.std.proofs.lemmas.Bool.{cases_eq}
+use Rattle.std.proofs.lemmas.List.{map-append}
 use Rattle.std.proofs.lemmas.List.Elements.{Contains-append_left, Contains-push, Contains-push_cases, Contains-get_or}
 use Rattle.std.proofs.lemmas.List.Quantifiers.{all_pairs_push}
 use Rattle.ch_overlay.specs.declared.source.Seen.{Seen}
-use Rattle.ch_witness.specs.Kept.{Kept, AreListed, IsListedFrom, OfTheirNodes}
+use Rattle.ch_witness.specs.FirstPlaces.{first_places}
+use Rattle.ch_witness.specs.Kept.{HasAll, Kept, AreListed, IsListedFrom, OfTheirNodes}
+use Rattle.ch_witness.proofs.FirstPlaces.{first_places-new, first_places-old}
 
 some-same : (a b : Seen) → Some a ≡ Some b → a ≡ b
 some-same a b e = cc
@@ -37,6 +40,7 @@ listing-start kept = record {
     of_nodes = λ s among. absurd (empty s among);
     every = λ x s among is. absurd (none-among x among);
     first = λ x others s e is. absurd (no-first x others e);
+    in_order = λ all. refl;
   };
   gone = λ s among. absurd (empty s among);
   left = λ x s is. is;
@@ -58,7 +62,7 @@ among-nothing : (xs : List Seen) (s : Seen) → xs ≡ [] → Contains xs s → 
 among-nothing xs s e among = empty s (subst (λ (ys : List Seen). Contains ys s) e among)
 
 -- none is kept for the node
-module _ (whole kept new : Kept) (v : ℕ) where
+module _ (whole kept new : Kept) (own : OfTheirNodes whole) (v : ℕ) where
   -- none is kept for the node
   first-none : (nodes : List ℕ) (listed : List Seen) → kept v ≡ None → Listing whole kept nodes listed → (x : ℕ) (others : List ℕ) (s : Seen) → nodes ++ v ∷ [] ≡ x ∷ others → whole x ≡ Some s → (more : List Seen) × (listed ≡ s ∷ more)
   first-none [] listed none l x others s e is = elim (l.rest v s (subst (λ (y : ℕ). whole y ≡ Some s) (sym (first-of v x others e)) is)) [
@@ -76,9 +80,22 @@ module _ (whole kept new : Kept) (v : ℕ) where
     ]
   ]
 
+  has-first : (nodes : List ℕ) → HasAll whole (nodes ++ v ∷ []) → HasAll whole nodes
+  has-first nodes all x among = all x (Contains-append_left nodes (v ∷ []) x among)
+
+  order-none : (nodes : List ℕ) (listed : List Seen) → kept v ≡ None → Listing whole kept nodes listed → HasAll whole (nodes ++ v ∷ []) → map (λ s. s.node) listed ≡ first_places (nodes ++ v ∷ [])
+  order-none nodes listed none l all =
+      let has = all v (Contains-push nodes v) in
+      elim (l.rest v has.0 has.1) [
+        | inl k ↦ absurd (some-none has.0 (kept v) k none)
+        | inr among ↦
+            let node : has.0.node ≡ v = own v has.0 has.1 in
+            l.is.in_order (has-first nodes all) ∙ sym (first_places-old nodes v (subst (λ (x : ℕ). Contains nodes x) node (l.is.of_nodes has.0 among)))
+      ]
+
   listing-none : (nodes : List ℕ) (listed : List Seen) → kept v ≡ None → ((y : ℕ) → new y ≡ kept y) → Listing whole kept nodes listed → Listing whole new (nodes ++ v ∷ []) listed
   listing-none nodes listed none same l = record {
-    is = record { once = l.is.once; from_kept = l.is.from_kept; of_nodes = λ s among. Contains-append_left nodes (v ∷ []) s.node (l.is.of_nodes s among); every = every-none nodes listed none l; first = first-none nodes listed none l };
+    is = record { once = l.is.once; from_kept = l.is.from_kept; of_nodes = λ s among. Contains-append_left nodes (v ∷ []) s.node (l.is.of_nodes s among); every = every-none nodes listed none l; first = first-none nodes listed none l; in_order = order-none nodes listed none l };
     gone = λ s among. same s.node ∙ l.gone s among;
     left = λ x s is. l.left x s (sym (same x) ∙ is);
     none = λ e. absurd (not-nothing nodes v e);
@@ -97,8 +114,8 @@ module _ (whole kept new : Kept) (v : ℕ) where
       let old = l.is.first n nodes s refl (subst (λ (y : ℕ). whole y ≡ Some s) (sym (first-of-more n v x nodes others e)) is) in
       (old.0 ++ t ∷ [], ap (λ (ys : List Seen). ys ++ t ∷ []) old.1)
 
-  listing-some : (t : Seen) (nodes : List ℕ) (listed : List Seen) → OfTheirNodes whole → kept v ≡ Some t → new v ≡ None → ((y : ℕ) → y ≢ v → new y ≡ kept y) → Listing whole kept nodes listed → Listing whole new (nodes ++ v ∷ []) (listed ++ t ∷ [])
-  listing-some t nodes listed own some none others l = record {
+  listing-some : (t : Seen) (nodes : List ℕ) (listed : List Seen) → kept v ≡ Some t → new v ≡ None → ((y : ℕ) → y ≢ v → new y ≡ kept y) → Listing whole kept nodes listed → Listing whole new (nodes ++ v ∷ []) (listed ++ t ∷ [])
+  listing-some t nodes listed some none others l = record {
     is = record {
       once = all_pairs_push (λ a b. a.node ≢ b.node) listed t l.is.once (λ k d inside. apart (get_or listed k d) (Contains-get_or listed k d inside));
       from_kept = λ s among. elim (Contains-push_cases listed t s among) [
@@ -114,6 +131,11 @@ module _ (whole kept new : Kept) (v : ℕ) where
         | inr here ↦ subst (λ (u : Seen). Contains (listed ++ t ∷ []) u) (some-same t s (sym (l.left v t some) ∙ subst (λ (y : ℕ). whole y ≡ Some s) (sym here) is)) (Contains-push listed t)
       ];
       first = first-some t nodes listed some l;
+      in_order = λ all.
+          map-append (λ (s : Seen). s.node) listed (t ∷ [])
+          ∙ ap (λ ns. ns ++ t.node ∷ []) (l.is.in_order (has-first nodes all))
+          ∙ ap (λ (x : ℕ). first_places nodes ++ x ∷ []) node
+          ∙ sym (first_places-new nodes v absent);
     };
     gone = λ s among. elim (Contains-push_cases listed t s among) [
       | inl old ↦ others s.node (λ e. apart s old (e ∙ sym node)) ∙ l.gone s old
@@ -138,10 +160,13 @@ module _ (whole kept new : Kept) (v : ℕ) where
     at : whole t.node ≡ Some t
     at = subst (λ (y : ℕ). whole y ≡ Some t) (sym node) (l.left v t some)
 
+    absent : Contains nodes v → ⊥
+    absent among = some-none t (kept v) some (subst (λ (y : ℕ). kept y ≡ None) node (l.gone t (l.is.every v t among (l.left v t some))))
+
     apart : (s : Seen) → Contains listed s → s.node ≢ t.node
     apart s among e = some-none t (kept v) some (subst (λ (y : ℕ). kept y ≡ None) (e ∙ node) (l.gone s among))
 
   -- whichever it is
-  pub listing-more : (nodes : List ℕ) (listed more : List Seen) → OfTheirNodes whole → (o : Option Seen) → kept v ≡ o → IsListedFrom o kept v listed new more → Listing whole kept nodes listed → Listing whole new (nodes ++ v ∷ []) more
-  listing-more nodes listed more own None is step l = subst (Listing whole new (nodes ++ v ∷ [])) (sym step.1) (listing-none nodes listed is step.0 l)
-  listing-more nodes listed more own (Some t) is step l = subst (Listing whole new (nodes ++ v ∷ [])) (sym step.2) (listing-some t nodes listed own is step.0 step.1 l)
+  pub listing-more : (nodes : List ℕ) (listed more : List Seen) → (o : Option Seen) → kept v ≡ o → IsListedFrom o kept v listed new more → Listing whole kept nodes listed → Listing whole new (nodes ++ v ∷ []) more
+  listing-more nodes listed more None is step l = subst (Listing whole new (nodes ++ v ∷ [])) (sym step.1) (listing-none nodes listed is step.0 l)
+  listing-more nodes listed more (Some t) is step l = subst (Listing whole new (nodes ++ v ∷ [])) (sym step.2) (listing-some t nodes listed is step.0 step.1 l)

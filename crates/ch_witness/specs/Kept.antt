@@ -1,10 +1,11 @@
 -- The answers of a source that are kept.
-use Rattle.std.specs.Prelude.{ℕ, ◌≡◌, ◌≢◌, List, [], ◌∷◌, ◌++◌, Option, Some, None, All, AllPairs, Contains, slice_index_or}
+use Rattle.std.specs.Prelude.{ℕ, ◌≡◌, ◌≢◌, List, [], ◌∷◌, ◌++◌, Option, Some, None, map, All, AllPairs, Contains, slice_index_or}
 use Rattle.std.proofs.lemmas.List.Elements.{Contains-get_or}
 use Rattle.ch_cost.specs.declared.cost.Cost.{Cost}
 use Rattle.ch_overlay.specs.declared.source.Seen.{Seen}
 use Rattle.ch_overlay.specs.Source.{row_in, IsBound, IsSeenRow, NamesAlone}
 use Rattle.ch_witness.specs.declared.rows.Rows.{Rows}
+use Rattle.ch_witness.specs.FirstPlaces.{first_places}
 use Rattle.ch_witness.specs.Places.{value_in}
 
 -- the answer that is kept for each node
@@ -70,13 +71,19 @@ IsListedFrom (Some s) kept x listed new more = (new x ≡ None) × ((y : ℕ) �
 abbrev pub IsListed : Kept → ℕ → List Seen → Kept → List Seen → Type 0
 IsListed kept x listed new more = IsListedFrom (kept x) kept x listed new more
 
--- The list has the answers that are kept for these nodes, each once, that of the first node first.
+-- an answer is kept for each of these nodes
+abbrev pub HasAll : Kept → List ℕ → Type 0
+HasAll kept nodes = (x : ℕ) → Contains nodes x → (s : Seen) × (kept x ≡ Some s)
+
+-- The list has the answers that are kept for these nodes, each once, that of the first node first. Where one is kept for
+-- each of them, they stand in the order of the nodes, each at its first place.
 pub record AreListed (kept : Kept) (nodes : List ℕ) (listed : List Seen) : Type 0 where
   pub once : AllPairs (λ a b. a.node ≢ b.node) listed
   pub from_kept : (s : Seen) → Contains listed s → kept s.node ≡ Some s
   pub of_nodes : (s : Seen) → Contains listed s → Contains nodes s.node
   pub every : (x : ℕ) (s : Seen) → Contains nodes x → kept x ≡ Some s → Contains listed s
   pub first : (x : ℕ) (others : List ℕ) (s : Seen) → nodes ≡ x ∷ others → kept x ≡ Some s → (more : List Seen) × (listed ≡ s ∷ more)
+  pub in_order : HasAll kept nodes → map (λ s. s.node) listed ≡ first_places nodes
 
 -- what is listed is of each kind that the answers are of
 pub all_listed_are : (Bears Shows IsKind : Seen → Type 0) (bound : Cost) (kept : Kept) (nodes : List ℕ) (listed : List Seen) → AreKept Bears Shows bound kept → AreListed kept nodes listed → ((x : ℕ) (s : Seen) → IsAnswer Bears Shows bound x s → IsKind s) → All IsKind listed

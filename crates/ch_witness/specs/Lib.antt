@@ -1,3 +1,4 @@
+pub mod FirstPlaces
 pub mod Frontier
 pub mod Kept
 pub mod Places

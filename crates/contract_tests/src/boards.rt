@@ -4,8 +4,7 @@ use crate::networks::{HEAVY, Line, MOST, PARALLEL, ROW, TIE, graph_of};
 use crate::proposals::{are_of, are_shortcuts};
 use crate::shelf::Arcs;
 use ch_contract::{
-    Board, CommitError, Contraction, FinishError, Proposal, ProposeError, Receipt, Site,
-    contract_by_sweep, propose,
+    Board, CommitError, Contraction, FinishError, Proposal, ProposeError, Receipt, Site, propose,
 };
 use ch_cost::Cost;
 use ch_graph::{Graph, Hierarchy, Link, Road};
@@ -266,15 +265,6 @@ fn boards_come_to_their_hierarchies(rt: HostRuntime) -> Result<(), Fail> {
         let graph = graph_of(alloc, case.nodes, case.lines)?;
         assert!(rt; comes_to::<Brand>(alloc, graph, case)?);
     }
-    Ok(())
-}
-
-/// A sweep of the row of three nodes, by the call that names the graph itself.
-#[test]
-fn hierarchy_by_sweep(rt: HostRuntime) -> Result<(), Fail> {
-    let alloc = rt.alloc();
-    let hierarchy = contract_by_sweep(alloc, graph_of(alloc, 3, &ROW)?, SETTLE)?;
-    assert!(rt; is_hierarchy(&hierarchy, ROW_OF_THREE));
     Ok(())
 }
 

@@ -11,7 +11,7 @@ use Rattle.grfile.specs.Outcome.{◌>>=◌, FromText, SaysNothing}
 use Rattle.grfile.specs.Grammar.{Listing, listing_after}
 use Rattle.grfile.specs.Roads.{graph_grammar}
 use Rattle.grfile.specs.Pairs.{pair_grammar}
-use Rattle.grfile.specs.Reading.{graph_of, pairs_of, IsPair}
+use Rattle.grfile.specs.Reading.{graph_of, pairs_of, IsPair, SpelledGraphsAreInRange, SpelledPairsAreInRange}
 use Rattle.grfile.proofs.Sound.{graph_listed, pairs_listed}
 
 pub from_text_map : (kind : GrErrorKind) {P Q : Type 0} → (P → Q) → FromText kind P → FromText kind Q
@@ -70,7 +70,7 @@ listed_graph (Ok read) g h is =
     subst (λ (g : Graph). IsGraph g) same h
 listed_graph (Err e) g h is = absurd (cc)
 
-pub graph_sound : (text : List ℕ) (g : Graph) → graph_of text ≡ Ok g → IsGraph g
+pub graph_sound : SpelledGraphsAreInRange
 graph_sound text g is = listed_graph (listing_after graph_grammar 0 (lines_of text)) g (graph_listed 0 (lines_of text)) (graph_seen text ∙ is)
 
 listed_pairs : (nodes : ℕ) (r : Result (Listing (ℕ × ℕ)) GrError) (pairs : List (ℕ × ℕ)) → IfOk r (λ listing. All (IsPair nodes) listing.entries) → (r >>= as_pairs) ≡ Ok pairs → All (IsPair nodes) pairs
@@ -79,7 +79,7 @@ listed_pairs nodes (Ok read) pairs h is =
     subst (λ (pairs : List (ℕ × ℕ)). All (IsPair nodes) pairs) same h
 listed_pairs nodes (Err e) pairs h is = absurd (cc)
 
-pub pairs_sound : (nodes : ℕ) (text : List ℕ) (pairs : List (ℕ × ℕ)) → pairs_of nodes text ≡ Ok pairs → All (IsPair nodes) pairs
+pub pairs_sound : SpelledPairsAreInRange
 pairs_sound nodes text pairs is = listed_pairs nodes (listing_after (pair_grammar nodes) 0 (lines_of text)) pairs (pairs_listed nodes 0 (lines_of text)) (pairs_seen nodes text ∙ is)
 
 pub graph_fault_known : (had : Option (List ℕ)) (e : GrError) → IfSome had (λ text. FromText e.kind (listing_after graph_grammar 0 (lines_of text) ≡ Err e)) → IfSome had (λ text. FromText e.kind (graph_of text ≡ Err e))

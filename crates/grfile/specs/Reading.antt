@@ -1,7 +1,7 @@
--- The reading of a text: the graph, or the pairs, or the first fault, by cases on the list of its lines.
-use Rattle.std.specs.Prelude.{ℕ, ◌<◌, List, Result, Ok}
+-- The reading of a text: the graph, or the pairs, or the first fault, by cases on the list of its lines; and the laws on it.
+use Rattle.std.specs.Prelude.{ℕ, ◌≡◌, ◌<◌, List, All, Result, Ok}
 use Rattle.ch_graph.specs.declared.road.Road.{Road}
-use Rattle.ch_graph.specs.Graph.{Graph}
+use Rattle.ch_graph.specs.Graph.{Graph, IsGraph}
 use Rattle.grfile.specs.declared.error.GrError.{GrError}
 use Rattle.grfile.specs.Lines.{lines_of}
 use Rattle.grfile.specs.Outcome.{◌>>=◌}
@@ -20,3 +20,11 @@ pairs_of nodes text = listing_after (pair_grammar nodes) 0 (lines_of text) >>= (
 -- two of so many nodes
 abbrev pub IsPair : ℕ → ℕ × ℕ → Type 0
 IsPair nodes p = (p.0 < nodes) × (p.1 < nodes)
+
+-- a graph that a text spells is within the limits
+abbrev pub SpelledGraphsAreInRange : Type 0
+SpelledGraphsAreInRange = (text : List ℕ) (g : Graph) → graph_of text ≡ Ok g → IsGraph g
+
+-- and pairs that a text spells are pairs of nodes
+abbrev pub SpelledPairsAreInRange : Type 0
+SpelledPairsAreInRange = (nodes : ℕ) (text : List ℕ) (pairs : List (ℕ × ℕ)) → pairs_of nodes text ≡ Ok pairs → All (IsPair nodes) pairs

@@ -11,6 +11,7 @@ mod error;
 mod fields;
 mod form;
 mod graph_reader;
+mod laws;
 mod line;
 mod listing;
 mod number;
@@ -22,4 +23,5 @@ mod roads;
 
 pub use error::{GrError, GrErrorKind};
 pub use graph_reader::{GrReader, read_graph};
+pub use laws::{spelled_graphs_are_in_range, spelled_pairs_are_in_range};
 pub use query_reader::{QueryReader, read_queries};

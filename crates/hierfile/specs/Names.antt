@@ -1,7 +1,8 @@
 -- The names of refusals, as they are printed.
-use Rattle.std.specs.Prelude.{ℕ, List, codes}
+use Rattle.std.specs.Prelude.{ℕ, List, ◌++◌, codes, decimal}
 use Rattle.hierfile.specs.declared.error.HierError.{HierError}
 use Rattle.hierfile.specs.declared.error.HierError.TheVariants.{OutOfMemory, Read, BadMagic, Truncated, TooBig, BoundTooBig, RankRange, RankTwice, LinkEnds, LinkOrder, LinkWeight, MiddleRange, MiddleRank, HalfMissing, HalfSum, Trailing}
+use Rattle.hierfile.specs.declared.error.WriteFault.{WriteFault}
 
 abbrev pub error_name : HierError → List ℕ
 error_name OutOfMemory = codes "OutOfMemory"
@@ -20,3 +21,7 @@ error_name MiddleRank = codes "MiddleRank"
 error_name HalfMissing = codes "HalfMissing"
 error_name HalfSum = codes "HalfSum"
 error_name Trailing = codes "Trailing"
+
+-- the writer failed after N bytes
+abbrev pub fault_text : WriteFault → List ℕ
+fault_text fault = codes "the writer failed after " ++ decimal fault.written ++ codes " bytes"

@@ -1,6 +1,6 @@
 ghost use Rattle.std.specs.Prelude.{◌≡◌, Some};
 ghost use Rattle.hierfile.specs.declared.error.HierError.TheVariants.{OutOfMemory};
-ghost use Rattle.hierfile.specs.Names.{error_name};
+ghost use Rattle.hierfile.specs.Names.{error_name, fault_text};
 
 use std::alloc::{AllocError, AllocFailed};
 use std::error::Error;
@@ -94,8 +94,11 @@ pub struct WriteFault {
 }
 
 impl fmt::Display for WriteFault {
+    ghost output = { λ fault. Some (fault_text fault) };
+
     fn fmt<W: fmt::Write>(&self, f: &mut fmt::Formatter<W>) -> fmt::Result {
-        write!(f, "the writer failed after {} bytes", self.written)
+        let written = self.written;
+        write!(f, "the writer failed after {written} bytes")
     }
 }
 

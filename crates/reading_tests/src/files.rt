@@ -1,4 +1,5 @@
 use ch_graph::Hierarchy;
+use ch_query::Search;
 use hierfile::{HierError, WriteFault, read, write};
 use std::alloc::{AllocError, Global};
 use std::io::{self, ErrorKind, Read, Write};
@@ -226,11 +227,33 @@ fn push_link(words: &mut Vec<u32>, from: u32, to: u32) -> Result<(), AllocError>
     ])
 }
 
+// The length of the least walk between two nodes of a file and the number of its links, or none.
+fn distance(
+    alloc: Global,
+    words: &[u32],
+    from: u32,
+    to: u32,
+) -> Result<Option<(u64, usize)>, AllocError> {
+    let bytes = bytes(alloc, words)?;
+    let mut rest = bytes.as_slice();
+    let Ok(hierarchy) = read(alloc, &mut rest) else {
+        return Ok(None);
+    };
+    if from.max(to) >= hierarchy.nodes() {
+        return Ok(None);
+    }
+    let mut search = Search::new(alloc, &hierarchy)?;
+    let found = search.distance(from, to)?;
+    Ok(found.map(|found| (found.cost.length(), found.links.len())))
+}
+
 #[test]
 fn keeps_a_cascade(rt: HostRuntime) -> Result<(), AllocError> {
     let words = cascade(rt.alloc())?;
     assert!(rt; words.len() == 6 + 38 + 5 * 1406);
     assert!(rt; is_kept(rt.alloc(), words.as_slice())?);
+    let last = distance(rt.alloc(), words.as_slice(), 37, 36)?;
+    assert!(rt; last == Some((68_719_476_736, 1)));
     Ok(())
 }
 

@@ -1,5 +1,4 @@
 use Rattle.std.proofs.Common.{ℕ, Bool, ◌≡◌, List, [], ◌∷◌, length, map, Contains, Some, true, false, refl, ap, sym, subst, ◌∙◌, arith}
-use Rattle.std.specs.List.{All}
 use Rattle.std.proofs.lemmas.Bool.Decides.{nat_tests}
 use Rattle.std.proofs.lemmas.Result.{err_from_is_err_and}
 use Rattle.std.proofs.lemmas.List.Elements.{All-contains}
@@ -11,12 +10,16 @@ use Rattle.ch_laws.specs.Rows.{Row}
 use Rattle.ch_witness.specs.Kept.{kept_of}
 use Rattle.ch_witness.specs.Ways.{AreWays}
 use Rattle.ch_contract.specs.declared.error.ProposeError.TheVariants.{Unseen}
+use Rattle.ch_contract.specs.Listed.{LeadsOn}
 use Rattle.ch_contract.specs.Drafts.{ArePairs}
-use Rattle.ch_contract.proofs.Joining.{direct_for, drafted_idle, drafted_search, idle_alone, judged_for, no_target, through_pair, pair_through}
+use Rattle.ch_contract.proofs.Joining.{direct_for, drafted_search, idle_alone, idle_read, judged_for, no_target, pair_through}
 use Rattle.ch_contract.proofs.draft.draft_pairs.Goals as goal
 
 not-true : (b : Bool) → b ≡ false → b ≡ true → ⊥
 not-true b f t = cc
+
+is-true : (b : Bool) → b ≡ true → b ≡ true
+is-true b t = t
 
 no-items : (xs : List Shortcut) → length xs ≡ 0 → xs ≡ []
 no-items [] e = refl
@@ -25,16 +28,18 @@ no-items (x ∷ xs) e = absurd (omega (arith, e))
 pub returns-then-not-leads_on-clause-draft : goal.returns-then-not-leads_on-clause-draft
 returns-then-not-leads_on-clause-draft g c =
     let outs : c.deref.result.now ≡ c.args.row.now.out = c.deref.ensures.value ∙ ap (λ (r : Row). r.out) c.row.view_is in
-    idle_alone c.args.task.bound c.args.task.node c.args.row.now c.args.into.other (kept_of c.args.rows.now) c.args.draft.now (subst (All (λ (e : Entry). e.other ≡ c.args.into.other)) outs (c.leads_on.ensures (λ yes. not-true _ c.if-not-leads_on.true yes)))
+    idle_alone c.args.task.bound c.args.task.node c.args.row.now c.args.into (kept_of c.args.rows.now) c.args.draft.now (λ leads. not-true _ c.if-not-leads_on.true (c.leads_on.ensures.1 (subst (λ (es : List Entry). LeadsOn es c.args.into.other) (sym outs) leads)))
 
 pub returns-then-is_empty-clause-draft : goal.returns-then-is_empty-clause-draft
 returns-then-is_empty-clause-draft g c =
     let long : length c.in_ok-pairs.pairs.items ≡ 0 = grind (arith, nat_tests, c.is_empty.ensures, c.if-is_empty.true, c.in_ok-pairs.pairs.ok) in
     let none = no-items c.in_ok-pairs.pairs.items long in
-    drafted_idle c.args.task.bound c.args.task.node c.args.row.now c.args.into.other (kept_of c.read.new.self) c.args.draft.now _ (c.args.into.other ∷ []) (λ w sum t within. empty _ (subst (λ (ps : List Shortcut). Contains ps (record { from = c.args.into.other; to = w; cost = sum })) none (through_pair c.args.task.bound c.args.row.now c.args.into c.in_ok-pairs.pairs.items c.requires.among c.requires.inn_rises (subst (λ (es : List Entry). ArePairs c.args.task.bound c.args.into es c.in_ok-pairs.pairs.items) (c.deref-2.ensures.value ∙ ap (λ (r : Row). r.out) c.row.view_is) c.in_ok-pairs.ensures) w sum t within))) refl c.in_ok-push.ensures.items
-  where
-    empty : (p : Shortcut) → Contains [] p → ⊥
-    empty p among = omega (arith, among.1)
+    let first = c.in_ok-read.ensures.copy in
+    let outs : c.deref.result.now ≡ c.args.row.now.out = c.deref.ensures.value ∙ ap (λ (r : Row). r.out) c.row.view_is in
+    idle_read c.args.task.bound c.args.task.node c.args.row.now c.args.into (kept_of c.read.new.self) first.original (subst (λ (x : ℕ). kept_of c.read.new.self x ≡ Some first.original) c.in_ok-read.ensures.node first.here) c.args.draft.now _ c.requires.among c.requires.inn_rises c.requires.out_rises
+    (subst (λ (es : List Entry). LeadsOn es c.args.into.other) outs (c.leads_on.ensures.0 (is-true _ c.if-not-leads_on.false)))
+    (subst (λ (ps : List Shortcut). ArePairs c.args.task.bound c.args.into c.args.row.now.out ps) none (subst (λ (es : List Entry). ArePairs c.args.task.bound c.args.into es c.in_ok-pairs.pairs.items) (c.deref-2.ensures.value ∙ ap (λ (r : Row). r.out) c.row.view_is) c.in_ok-pairs.ensures))
+    refl c.in_ok-push.ensures.items
 
 pub search_in-requires-clause-targets : goal.search_in-requires-clause-targets
 search_in-requires-clause-targets g c =
@@ -68,7 +73,9 @@ returns-clause-draft g c =
     let first = c.in_ok-read.ensures.copy in
     let ways = c.in_ok-found.found.ways.items in
     let rows = c.in_ok-found.found.seen.items in
+    let outs : c.deref.result.now ≡ c.args.row.now.out = c.deref.ensures.value ∙ ap (λ (r : Row). r.out) c.row.view_is in
     drafted_search c.args.task.bound c.args.task.node c.args.row.now c.args.into pairs c.requires.among c.requires.inn_rises (subst (λ (es : List Entry). ArePairs c.args.task.bound c.args.into es c.in_ok-pairs.pairs.items) (c.deref-2.ensures.value ∙ ap (λ (r : Row). r.out) c.row.view_is) c.in_ok-pairs.ensures)
+    c.requires.out_rises (subst (λ (es : List Entry). LeadsOn es c.args.into.other) outs (c.leads_on.ensures.0 (is-true _ c.if-not-leads_on.false)))
     (kept_of c.search_in.new.rows) first.original (c.in_ok-found.ensures.more c.args.into.other first.original (subst (λ (x : ℕ). kept_of c.read.new.self x ≡ Some first.original) c.in_ok-read.ensures.node first.here))
     rows c.greatest-cutoff.result ways (subst (λ (ts : List ℕ). AreWays rows c.args.into.other c.args.task.node c.greatest-cutoff.result ts ways) targets c.in_ok-found.ensures.ways)
     (λ p among. c.greatest-cutoff.ensures.most p (subst (λ (ps : List Shortcut). Contains ps p) (sym c.deref-4.ensures.value) among))

@@ -25,10 +25,16 @@ none-kept kept empty IsKind x s is = absurd (apart (kept x) is (empty x)) where
   apart o e f = cc
 
 pub returns-then-is_some-clause-contracted : goal.returns-then-is_some-clause-contracted
-returns-then-is_some-clause-contracted g c = λ e.
+returns-then-is_some-clause-contracted g c = λ memory unseen.
     let k = c.in_ok-own.ensures.copy in
     let a = c.in_ok-own.ensures.kept c.in_ok-own.own.node k.original k.here in
-    (k.original, a.node ∙ c.in_ok-own.ensures.node, a.bears, a.shows, λ none. ranked c.behind-own.inside.rank c.if-is_some.ensures (ap (λ (r : Row). r.rank) (c.behind-own.view_is ∙ c.deref.ensures ∙ k.same.row) ∙ none))
+    record {
+      row = k.original;
+      of_node = a.node ∙ c.in_ok-own.ensures.node;
+      bears = a.bears;
+      shows = a.shows;
+      ranked = (λ e none. ranked c.behind-own.inside.rank c.if-is_some.ensures (ap (λ (r : Row). r.rank) (c.behind-own.view_is ∙ c.deref.ensures ∙ k.same.row) ∙ none), λ some. refl);
+    }
 
 pub returns-in_err-draft_all-clause-found : goal.returns-in_err-draft_all-clause-found
 returns-in_err-draft_all-clause-found g c = λ whole e.
@@ -73,3 +79,16 @@ returns-clause-bears g c = all_listed_are g.S.RowSource.bears (g.S.RowSource.sho
 
 pub returns-clause-shows : goal.returns-clause-shows
 returns-clause-shows g c = all_listed_are g.S.RowSource.bears (g.S.RowSource.shows c.draft_all.new.source) (g.S.RowSource.shows c.draft_all.new.source) (g.S.RowSource.bound_of c.draft_all.new.source) (kept_of c.draft_all.new.rows) c.deref-3.result.now c.in_ok-hand_out.field-0.items c.in_ok-draft_all.ensures.kept c.in_ok-hand_out.ensures (λ x s a. a.shows)
+
+pub returns-clause-contracted : goal.returns-clause-contracted
+returns-clause-contracted g c = λ memory unseen.
+    let k = c.in_ok-own.ensures.copy in
+    let a = c.in_ok-draft_all.ensures.kept c.in_ok-own.own.node k.original (c.in_ok-draft_all.ensures.more c.in_ok-own.own.node k.original k.here) in
+    let unranked = ap (λ (r : Row). r.rank) (sym (c.behind-own.view_is ∙ c.deref.ensures ∙ k.same.row)) ∙ nothing c.behind-own.inside.rank c.if-is_some.ensures in
+    record {
+      row = k.original;
+      of_node = a.node ∙ c.in_ok-own.ensures.node;
+      bears = a.bears;
+      shows = a.shows;
+      ranked = (λ done. absurd (cc), λ some. absurd (some unranked));
+    }

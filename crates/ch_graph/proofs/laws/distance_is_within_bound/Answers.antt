@@ -1,4 +1,4 @@
-use Rattle.ch_graph.proofs.Bound.{distance_within_bound}
+use Rattle.ch_graph.proofs.Distances.{distance_within_bound}
 use Rattle.ch_graph.proofs.laws.distance_is_within_bound.Goals as goal
 
 pub returns : goal.returns

@@ -1,4 +1,4 @@
-use Rattle.ch_graph.proofs.Bound.{value_unique}
+use Rattle.ch_graph.proofs.Distances.{value_unique}
 use Rattle.ch_graph.proofs.laws.value_is_unique.Goals as goal
 
 pub returns : goal.returns

@@ -8,7 +8,7 @@ use Rattle.ch_graph.specs.declared.label.Label.TheVariants.{Unseen, Settled}
 use Rattle.ch_graph.specs.Graph.{IsDistance}
 use Rattle.ch_graph.specs.Labels.{IsOffered, IsLeastOpen, settled_count}
 use Rattle.ch_graph.specs.Search.{IsLatest, IsOpenedFrom}
-use Rattle.ch_graph.proofs.Bound.{distance_within_bound}
+use Rattle.ch_graph.proofs.Distances.{distance_within_bound}
 use Rattle.ch_graph.proofs.LabelSteps.{count-most}
 use Rattle.ch_graph.proofs.Dijkstra.{search-start, search-turn, search-found, search-not_found, turn-latest, turn-fits, turn-count}
 use Rattle.ch_graph.proofs.search.least_cost.Goals as goal

@@ -3,7 +3,7 @@ use Rattle.ch_graph.specs.declared.hierarchy.LinkId.{LinkId}
 use Rattle.ch_query.specs.declared.side.Side.TheVariants.{Rise}
 use Rattle.ch_query.specs.Positions.{IsRiseFallAt}
 use Rattle.ch_query.proofs.Descents.{node_of}
-use Rattle.ch_query.proofs.Answering.{walk_at, walk_joined}
+use Rattle.ch_query.proofs.Answering.{walk_at}
 use Rattle.ch_query.proofs.search.walk_over.Goals as goal
 
 joined : (c : goal.After-drop-fallen-2) → c.extend_from_slice.new.self.items ≡ reverse c.in_ok-links.links.items ++ c.in_ok-fallen.fallen.items
@@ -23,4 +23,6 @@ pub returns-clause-walk : goal.returns-clause-walk
 returns-clause-walk c = walk c
 
 pub returns-clause-joined : goal.returns-clause-joined
-returns-clause-joined c = walk_joined c.args.hierarchy.now c.extend_from_slice.new.self.items c.args.source c.args.target c.args.meeting.cost (walk c)
+returns-clause-joined c =
+    let found = walk c in
+    c.rise_fall_joins.ensures c.args.hierarchy.now c.extend_from_slice.new.self.items found.links c.args.source c.args.target c.args.meeting.cost found.are_at found.leads

@@ -14,7 +14,7 @@ returns-in_err-nodes-clause-refused c =
     let value = found-value c.args.search.now h s t c.in_ok-found.field-0 c.in-Some.found c.requires.same c.in-Some.is c.in_ok-found.ensures.value in
     let walk = found-walk c.args.search.now h s t c.in_ok-found.field-0 c.in-Some.found c.as_slice.result.now c.requires.same c.in-Some.is c.as_slice.ensures.value c.in_ok-found.ensures.walk in
     refused-unpacking h c.args.pair c.in_err-nodes.field-0.0 c.from_residual-in_err-nodes.result c.from_residual-in_err-nodes.ensures.1
-    (λ e. too_long-route h s t c.in-Some.found.cost c.as_slice.result.now value walk (c.in_err-nodes.ensures.too_long (ap Err e)))
+    (λ e. too_long-route c.places_name_links.ensures h s t c.in-Some.found.cost c.as_slice.result.now value walk (c.in_err-nodes.ensures.too_long (ap Err e)))
 
 pub returns-clause-found : goal.returns-clause-found
 returns-clause-found c =
@@ -23,4 +23,4 @@ returns-clause-found c =
     let t = c.args.pair.1 in
     let value = found-value c.args.search.now h s t c.in_ok-found.field-0 c.in-Some.found c.requires.same c.in-Some.is c.in_ok-found.ensures.value in
     let walk = found-walk c.args.search.now h s t c.in_ok-found.field-0 c.in-Some.found c.as_slice.result.now c.requires.same c.in-Some.is c.as_slice.ensures.value c.in_ok-found.ensures.walk in
-    unpacked-route h s t c.in-Some.found.cost c.as_slice.result.now c.in_ok-nodes.nodes.items value walk c.in_ok-nodes.ensures.nodes
+    unpacked-route c.places_name_links.ensures h s t c.in-Some.found.cost c.as_slice.result.now c.in_ok-nodes.nodes.items value walk c.in_ok-nodes.ensures.nodes

@@ -2,4 +2,4 @@ use Rattle.ch_service.proofs.Exact.{first-routes-exact}
 use Rattle.ch_service.proofs.laws.first_routes_are_exact.Goals as goal
 
 pub returns : goal.returns
-returns c = first-routes-exact c.hierarchies_have_one_spelling.ensures c.least_route_is_a_least_walk.ensures
+returns c = first-routes-exact c.hierarchies_have_one_spelling.ensures c.spelled_graphs_are_in_range.ensures c.spelled_pairs_are_in_range.ensures c.least_route_is_a_least_walk.ensures

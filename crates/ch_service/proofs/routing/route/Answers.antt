@@ -16,12 +16,12 @@ returns-clause-routes g c =
 
 pub returns-clause-exact : goal.returns-clause-exact
 returns-clause-exact g c =
-    exact-told c.hierarchies_have_one_spelling.ensures c.least_route_is_a_least_walk.ensures c.in_ok-hierarchy.hierarchy c.as_slice.result.now _ _ _ _ c.answer_pairs.result (search rules) (search rules)
+    exact-told c.routes_are_exact.ensures c.in_ok-hierarchy.hierarchy c.as_slice.result.now _ _ _ _ c.answer_pairs.result (search rules) (search rules)
     c.answer_pairs.ensures.routed
 
 pub returns-clause-never_long : goal.returns-clause-never_long
 returns-clause-never_long g c =
-    never_long-told c.hierarchies_have_one_spelling.ensures c.least_route_is_never_too_long.ensures c.in_ok-hierarchy.hierarchy c.as_slice.result.now _ _ _ _ c.answer_pairs.result (search rules) (search rules)
+    never_long-told c.hierarchies_have_one_spelling.ensures c.spelled_graphs_are_in_range.ensures c.least_route_is_never_too_long.ensures c.in_ok-hierarchy.hierarchy c.as_slice.result.now _ _ _ _ c.answer_pairs.result (search rules) (search rules)
     c.answer_pairs.ensures.stops
 
 pub returns-clause-kinds : goal.returns-clause-kinds

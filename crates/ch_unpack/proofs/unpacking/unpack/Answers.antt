@@ -5,14 +5,14 @@ use Rattle.ch_unpack.proofs.UnderWay.{IsUnderWay, set_out, next_within, pass_on,
 use Rattle.ch_unpack.proofs.unpacking.unpack.Goals as goal
 
 pub returns-then-links-room-clause-too_long : goal.returns-then-links-room-clause-too_long
-returns-then-links-room-clause-too_long c = λ e. too_many_links c.nodes-room.ensures.made c.requires.joined c.requires.source_in (omega arith)
+returns-then-links-room-clause-too_long c = λ e. too_many_links c.links_unfold.ensures c.nodes-room.ensures.made c.requires.joined c.requires.source_in (omega arith)
 
 pub route-init : goal.route-init
 route-init c =
     let first : c.push.new.self.items ≡ c.args.source ∷ [] = c.in_ok-push.ensures.items ∙ ap (λ (xs : List ℕ). xs ++ c.args.source ∷ []) c.new-nodes.ensures.items in
     let ahead = c.in_ok-ahead.ahead.items in
     record {
-      under_way = set_out c.nodes-room.ensures.made c.requires.joined first c.in_ok-ahead.ensures;
+      under_way = set_out c.links_unfold.ensures c.nodes-room.ensures.made c.requires.joined first c.in_ok-ahead.ensures;
       in_room = omega (arith, ap (λ (xs : List ℕ). length xs) first, ap (λ (xs : List LinkId). length xs) c.in_ok-ahead.ensures, length-reverse ahead);
     }
 
@@ -21,7 +21,7 @@ parts-requires c = next_within c.in-Some.next c.pop.new.self.items c.route.invar
 
 pub returns-then-len-room-clause-too_long : goal.returns-then-len-room-clause-too_long
 returns-then-len-room-clause-too_long c =
-    λ e. no_room c.in-Some.next c.in-Shortcut.first c.in-Shortcut.second c.pop.new.self.items c.nodes-room.ensures.made c.route.invariant.under_way c.in-Some.ensures.items c.in-Shortcut.ensures c.requires.source_in
+    λ e. no_room c.in-Some.next c.in-Shortcut.first c.in-Shortcut.second c.pop.new.self.items c.links_unfold.ensures c.nodes-room.ensures.made c.route.invariant.under_way c.in-Some.ensures.items c.in-Shortcut.ensures c.requires.source_in
     (omega (arith, c.route.nodes.ok))
 
 pub route-preserved-in-Continue-branch-4 : goal.route-preserved-in-Continue-branch-4
@@ -33,7 +33,7 @@ route-preserved-in-Continue-branch-4 c =
     record {
       under_way =
           subst (λ (xs : List LinkId). IsUnderWay c.args.hierarchy.now c.args.source c.args.links.now c.route.nodes.items xs) (sym ahead_is)
-          (turn_off c.in-Some.next one two left c.nodes-room.ensures.made c.route.invariant.under_way c.in-Some.ensures.items c.in-Shortcut.ensures);
+          (turn_off c.in-Some.next one two left c.links_unfold.ensures c.nodes-room.ensures.made c.route.invariant.under_way c.in-Some.ensures.items c.in-Shortcut.ensures);
       in_room = omega (arith, ap (λ (xs : List LinkId). length xs) ahead_is, length-append (left ++ two ∷ []) (one ∷ []), length-append left (two ∷ []));
     }
 

@@ -11,6 +11,7 @@ of_propose e = Err e
 
 pub unreachable-requires-in-Err-Contracted : goal.unreachable-requires-in-Err-Contracted
 unreachable-requires-in-Err-Contracted g c =
-    let found = c.in-Err-Contracted.ensures.contracted (ap of_propose c.in-Err-Contracted.field-0-is) in
-    let shown = subst (λ (b : Board). IsShown b found.0) c.propose_with.ensures.stays found.3 in
-    alive-unranked c.args.self.now c.holds.ensures.overlay c.args.node c.requires.alive found.0 found.1 shown found.4
+    let is = ap of_propose c.in-Err-Contracted.field-0-is in
+    let found = c.in-Err-Contracted.ensures.contracted (λ other. cc) (λ other. cc) in
+    let shown = subst (λ (b : Board). IsShown b found.row) c.propose_with.ensures.stays found.shows in
+    alive-unranked c.args.self.now c.holds.ensures.overlay c.args.node c.requires.alive found.row found.of_node shown (found.ranked.0 is)

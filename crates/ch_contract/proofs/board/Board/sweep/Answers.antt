@@ -1,9 +1,23 @@
-use Rattle.std.proofs.Common.{arith, subst, sym}
+use Rattle.std.proofs.Common.{List, length, arith, ap, subst, sym, ◌∙◌}
 use Rattle.std.proofs.lemmas.Result.{err_from_is_err_and}
+use Rattle.ch_overlay.specs.Overlay.{Overlay, IsOverlay}
+use Rattle.ch_contract.specs.declared.contraction.Receipt.{Receipt}
 use Rattle.ch_contract.specs.Board.{Board}
 use Rattle.ch_contract.specs.Sweep.{IsPartlySwept}
-use Rattle.ch_contract.proofs.Sweeping.{swept-more, swept-all, swept-partly}
+use Rattle.ch_contract.proofs.Sweeping.{IsSweptTo, swept-start, unswept, swept-more, swept-all, swept-partly}
 use Rattle.ch_contract.proofs.board.Board.sweep.Goals as goal
+
+pub returns-in_err-receipts-clause-refused : goal.returns-in_err-receipts-clause-refused
+returns-in_err-receipts-clause-refused g c =
+    let exit = err_from_is_err_and c.from_residual.result c.from_residual.ensures.1 in
+    rw exit.1 (unswept c.args.self.now)
+
+pub nodes-init : goal.nodes-init
+nodes-init g c = record {
+  old = subst IsOverlay c.overlay.ensures c.nodes-nodes.ensures.holds;
+  count = c.nodes-nodes.ensures.count ∙ ap (λ (o : Overlay). length o.rows) c.overlay.ensures;
+  swept = subst (λ (rs : List Receipt). IsSweptTo c.args.self.now 0 rs c.args.self.now) (sym c.in_ok-receipts.ensures.items) (swept-start c.args.self.now);
+}
 
 pub returns-in_err-visit-clause-refused : goal.returns-in_err-visit-clause-refused
 returns-in_err-visit-clause-refused g c =

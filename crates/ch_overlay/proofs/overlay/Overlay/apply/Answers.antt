@@ -1,14 +1,16 @@
 use Rattle.std.proofs.Common.{ℕ, ◌≡◌, ◌<◌, List, [], ◌∷◌, ◌++◌, length, map, All, arith, sym, ◌∙◌, ap, subst}
 use Rattle.std.specs.Arc.{arc_value}
 use Rattle.std.specs.List.{zip}
-use Rattle.std.proofs.lemmas.List.{length-map, with_items_is}
+use Rattle.std.proofs.lemmas.List.{get_or-map, length-map, with_items_is}
+use Rattle.std.proofs.lemmas.List.Elements.{All-map}
 use Rattle.ch_cost.specs.declared.cost.Cost.{Cost}
 use Rattle.ch_laws.specs.Rows.{Row}
-use Rattle.ch_overlay.specs.Overlay.{Overlay, IsOverlay, state_of}
-use Rattle.ch_overlay.specs.Change.{Change, changed_nodes, puts}
+use Rattle.ch_overlay.specs.Overlay.{Overlay, IsOverlay, no_arcs, state_of}
+use Rattle.ch_overlay.specs.Change.{AreRenewed, Change, changed_nodes, puts}
 use Rattle.ch_overlay.proofs.Applied.{state-applied, overlay-applied, changes_write}
 use Rattle.ch_overlay.proofs.Puts.{length-puts, map-puts, all-mapped}
 use Rattle.ch_laws.specs.Members.{map-map}
+use Rattle.ch_overlay.proofs.Renewed.{renewed}
 use Rattle.ch_overlay.proofs.Room.{order_has_room}
 use Rattle.ch_overlay.proofs.overlay.Overlay.apply.Goals as goal
 
@@ -68,6 +70,22 @@ returns-clause-versions c =
     with_items_is c.self.inside.versions c.put_versions.new.all (versions_len c) ∙ c.put_versions.ensures
     ∙ ap (λ xs. puts xs (zip (map (λ a. a.0) c.as_slice.result.now) c.args.versions.now)) (c.as_mut_slice.ensures.value ∙ ap (λ (o : Overlay). o.versions) c.self.view_is)
     ∙ ap (λ xs. puts c.args.self.now.versions (zip xs c.args.versions.now)) nodes
+
+pub returns-clause-renewed : goal.returns-clause-renewed
+returns-clause-renewed c =
+    let o = c.args.self.now in
+    let nodes : List ℕ = changed_nodes c.args.change in
+    let holds = subst (λ (o : Overlay). IsOverlay o) c.self.view_is c.self.invariant.0 in
+    let writes = changes_write o c.args.change holds c.requires.planned in
+    let many : length c.args.versions.now ≡ length nodes = c.requires.count ∙ sym (length-map c.args.change.rows (λ (a : ℕ × Row). a.0)) in
+    subst (λ (vs : List ℕ). AreRenewed nodes o.versions vs) (sym (returns-clause-versions c))
+    (renewed nodes c.args.versions.now o.versions many
+    (λ i j d low high same.
+    let long = length-map c.args.change.rows (λ (a : ℕ × Row). a.0) in
+    let at = λ (k : ℕ) (h : k < length c.args.change.rows). get_or-map (λ (a : ℕ × Row). a.0) c.args.change.rows k (d, no_arcs) d h in
+    writes.once i j (d, no_arcs) low (omega (arith, high, long)) (sym (at i (omega (arith, low, high, long))) ∙ same ∙ at j (omega (arith, high, long))))
+    (λ k d h. omega (arith, All-map (λ x. x < length o.rows) (λ (a : ℕ × Row). a.0) c.args.change.rows writes.in_range k d h, holds.versions))
+    c.requires.above)
 
 -- the fields are those of the overlay after the change
 order_is : (c : goal.After-push_reserved) → c.push_reserved.new.self.items ≡ c.args.self.now.order ++ c.args.change.node ∷ []

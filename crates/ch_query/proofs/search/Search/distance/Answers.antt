@@ -4,6 +4,7 @@ use Rattle.ch_graph.specs.Hierarchy.{Hierarchy, IsValue}
 use Rattle.ch_query.specs.declared.mark.Mark.TheVariants.{Unseen}
 use Rattle.ch_query.specs.declared.meeting.Meeting.{Meeting}
 use Rattle.ch_query.specs.Meeting.{cost_of}
+use Rattle.ch_query.specs.Positions.{IsRiseFallAt}
 use Rattle.ch_query.proofs.Answering.{answered}
 use Rattle.ch_query.proofs.search.Search.distance.Goals as goal
 
@@ -29,3 +30,8 @@ returns-clause-value c =
     let value : IsValue h c.args.source c.args.target (cost_of c.in_ok-best.best) = answered h c.self.invariant.made c.args.source c.args.target source_in target_in c.self.inside.rising.links.items c.self.inside.falling.links.items c.meet.new.up c.meet.new.down c.in_ok-best.ensures.rises c.in_ok-best.ensures.falls c.in_ok-best.best c.in_ok-best.ensures.best c.in_ok-best.ensures.up_stopped c.in_ok-best.ensures.down_stopped c.in_ok-best.ensures.up_followed c.in_ok-best.ensures.down_followed in
     let found : IsValue h c.args.source c.args.target (Some c.in-Some.meeting.cost) = subst (λ (o : Option Meeting). IsValue h c.args.source c.args.target (cost_of o)) c.in-Some.is value in
     subst (λ (k : Hierarchy). IsValue k c.args.source c.args.target (Some c.in_ok-found.found.cost)) c.self.view_is (subst (λ (d : Cost). IsValue h c.args.source c.args.target (Some d)) (sym c.in_ok-found.ensures.cost) found)
+
+pub returns-clause-walk : goal.returns-clause-walk
+returns-clause-walk c =
+    let walk : IsRiseFallAt c.self.inside.hierarchy.now c.in_ok-found.found.links.items c.args.source c.args.target c.in_ok-found.found.cost = subst (λ (d : Cost). IsRiseFallAt c.self.inside.hierarchy.now c.in_ok-found.found.links.items c.args.source c.args.target d) (sym c.in_ok-found.ensures.cost) c.in_ok-found.ensures.walk in
+    subst (λ (k : Hierarchy). IsRiseFallAt k c.in_ok-found.found.links.items c.args.source c.args.target c.in_ok-found.found.cost) c.self.view_is walk

@@ -1,14 +1,13 @@
--- No least walk repeats a node, so each distance is within the bound; and there is one distance, and one value, at most.
-use Rattle.std.proofs.Common.{ℕ, ◌≡◌, ◌≢◌, ◌+◌, ◌-◌, ◌^◌, ◌<◌, ◌≤◌, ◌⊎◌, List, [], ◌∷◌, length, Option, Some, None, max, All, arith, add-one, ap, subst, refl, inl, inr}
+-- Laws of graphs within the limits: what their arcs are, and that a walk is within the bound or there is a cheaper one.
+use Rattle.std.proofs.Common.{ℕ, ◌≡◌, ◌≢◌, ◌+◌, ◌-◌, ◌^◌, ◌<◌, ◌≤◌, ◌⊎◌, List, [], ◌∷◌, length, max, All, arith, add-one, subst, inl, inr}
 use Rattle.std.proofs.lemmas.List.Elements.{All-nil, All-cons, All-head, All-tail, All-weaker, All-contains}
 use Rattle.ch_cost.specs.declared.cost.Cost.{Cost}
 use Rattle.ch_cost.specs.Cost.{zero_cost, ◌⊕◌, of_weight, cost_of_arcs, ◌≺◌, IsWithin}
-use Rattle.ch_cost.specs.Cost.Laws.{arc_above, arc_and_arcs_within, at_most_antisym, below_not_at_most, heavier_arcs_within, more_arcs_within, weight_fits, sum-zero_cost, within_trans, zero_cost_within}
+use Rattle.ch_cost.specs.Cost.Laws.{arc_above, arc_and_arcs_within, heavier_arcs_within, more_arcs_within, weight_fits, sum-zero_cost, within_trans, zero_cost_within}
 use Rattle.ch_graph.specs.declared.road.Road.{Road}
-use Rattle.ch_graph.specs.Walk.{Walk, Walk.stay, Walk.go, IsLeastOrNone, visited}
-use Rattle.ch_graph.specs.Graph.{Graph, IsRoad, IsGraph, ArcOf, heaviest, bound_of, DistanceIsWithinBound, DistanceIsUnique}
-use Rattle.ch_graph.specs.Hierarchy.{HasRiseFall, ValueIsUnique}
-use Rattle.ch_graph.proofs.Walks.{Cheaper, short_or_cheaper}
+use Rattle.ch_graph.specs.Walk.{Walk, Walk.stay, Walk.go, visited}
+use Rattle.ch_graph.specs.Graph.{Graph, IsRoad, IsGraph, ArcOf, heaviest, bound_of}
+use Rattle.ch_graph.specs.Walk.Laws.{Cheaper, short_or_cheaper}
 
 -- no arc is heavier than the heaviest
 no_heavier : (rs : List Road) → All (λ (r : Road). r.weight ≤ heaviest rs) rs
@@ -76,24 +75,3 @@ within_or_cheaper g is w = elim (few_arcs_or_cheaper g is w) [
   | inl few ↦ inl (within_trans (walk-within g w) (more_arcs_within (length (visited w)) (g.nodes - 1) (heaviest g.arcs) few))
   | inr less ↦ inr less
 ]
-
--- so a distance is within the bound, since nothing is cheaper than it
-pub distance_within_bound : DistanceIsWithinBound
-distance_within_bound g s t c is distance = elim (within_or_cheaper g is distance.0) [
-  | inl within ↦ within
-  | inr less ↦ absurd (below_not_at_most less.below (distance.1 less.cost less.walk))
-]
-
--- there is one least cost, or none
-pub least_unique : (P : Cost → Type 0) (a b : Option Cost) → IsLeastOrNone P a → IsLeastOrNone P b → a ≡ b
-least_unique P (Some c) (Some d) least other = ap (λ (e : Cost). Some e) (at_most_antisym (least.1 d other.0) (other.1 c least.0))
-least_unique P (Some c) None least none_is = absurd (none_is c least.0)
-least_unique P None (Some d) none_is least = absurd (none_is d least.0)
-least_unique P None None none_is other = refl
-
--- and two nodes have one
-pub distance_unique : DistanceIsUnique
-distance_unique g s t a b first second = least_unique (Walk (ArcOf g) s t) a b first second
-
-pub value_unique : ValueIsUnique
-value_unique h s t a b first second = least_unique (HasRiseFall h s t) a b first second

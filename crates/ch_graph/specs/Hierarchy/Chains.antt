@@ -6,7 +6,7 @@ use Rattle.ch_cost.specs.Cost.Laws.{sum_assoc, zero_cost-sum, sum-zero_cost}
 use Rattle.ch_graph.specs.declared.link.Link.{Link}
 use Rattle.ch_graph.specs.Walk.{Walk, Walk.stay, Walk.go, Along}
 use Rattle.ch_graph.specs.Hierarchy.{Chain, Chain.nothing, Chain.then}
-use Rattle.ch_graph.proofs.Walks.{join}
+use Rattle.ch_graph.specs.Walk.Laws.{join}
 
 module _ {IsKind : Link → Type 0} where
   -- a chain of equal cost

@@ -1,0 +1,5 @@
+use Rattle.grfile.proofs.Readings.{graph_sound}
+use Rattle.grfile.proofs.laws.spelled_graphs_are_in_range.Goals as goal
+
+pub returns : goal.returns
+returns c = graph_sound

@@ -1,0 +1,5 @@
+use Rattle.grfile.proofs.Readings.{pairs_sound}
+use Rattle.grfile.proofs.laws.spelled_pairs_are_in_range.Goals as goal
+
+pub returns : goal.returns
+returns c = pairs_sound
