@@ -1,0 +1,12 @@
+use Rattle.std.specs.Prelude.{map}
+use Rattle.std.proofs.Common.{subst, sym}
+use Rattle.std.specs.Arc.{arc_value}
+use Rattle.ch_laws.specs.Rows.{row_at}
+use Rattle.ch_rowbook.specs.Books.{BookName}
+use Rattle.ch_rowbook.specs.Records.{IsSoundRow}
+use Rattle.ch_rowbook.proofs.opening.open.Goals as goal
+
+-- the book's bound is the blank's
+pub lay_rows-requires-clause-sound : goal.lay_rows-requires-clause-sound
+lay_rows-requires-clause-sound g c =
+    λ x h. subst (λ (b : BookName). IsSoundRow b.bound x (row_at (map arc_value c.args.rows.now) x)) (sym c.requires.named) (c.requires.sound x h)

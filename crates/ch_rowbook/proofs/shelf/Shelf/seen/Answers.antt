@@ -1,0 +1,12 @@
+use Rattle.std.proofs.Common.{subst}
+use Rattle.ch_cost.specs.declared.cost.Cost.{Cost}
+use Rattle.ch_rowbook.specs.Records.{IsSoundRow, row_of}
+use Rattle.ch_rowbook.proofs.Sound.{marked_is, seen_sound}
+use Rattle.ch_rowbook.proofs.shelf.Shelf.seen.Goals as goal
+
+-- each record of the list has a row that can be relied on
+pub returns-clause-row : goal.returns-clause-row
+returns-clause-row g c =
+    let shelf = c.args.self.now in
+    let sound = subst (λ (b : Cost). IsSoundRow b c.in-Some.record.now.node (row_of c.in-Some.record.now)) (marked_is shelf.list.tag shelf.bound g.B.Book.book.bound shelf.mark shelf.bound_is) c.in-Some.ensures.kept in
+    seen_sound g.B.Book.book.bound _ (row_of c.in-Some.record.now) c.in_ok-row.ensures sound

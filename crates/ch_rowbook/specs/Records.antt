@@ -1,0 +1,46 @@
+-- Records of rows, and what a token of one shows.
+use Rattle.std.specs.Prelude.{ℕ, ◌≡◌, ◌^◌, ◌<◌, List, [], ◌∷◌, length}
+use Rattle.std.specs.Arc.{arc_value}
+use Rattle.boxcar.specs.Table.{Shelves, Shows}
+use Rattle.ch_cost.specs.declared.cost.Cost.{Cost}
+use Rattle.ch_cost.specs.Cost.{length_of, of_length}
+use Rattle.ch_laws.specs.Rows.{Row, Rises, row_at}
+use Rattle.ch_overlay.specs.Overlay.{AreEntries}
+use Rattle.ch_overlay.specs.Source.{row_in}
+use Rattle.ch_rowbook.specs.declared.record.Record.{Record}
+use Rattle.ch_rowbook.specs.declared.record.SeenRecord.{SeenRecord}
+
+-- A row of a node that can be relied on: the numbers of nodes are small, each list rises, and each entry is of another
+-- node, not free and not heavy.
+pub record IsSoundRow (bound : Cost) (node : ℕ) (row : Row) : Type 0 where
+  pub in_range : node < 2 ^ 25
+  pub out_rises : Rises row.out
+  pub inn_rises : Rises row.inn
+  pub entries : AreEntries (2 ^ 25) bound node row
+
+-- each row can be relied on, as that of the node of its place
+abbrev pub AreSoundRows : Cost → List Row → Type 0
+AreSoundRows bound rows = (x : ℕ) → x < length rows → IsSoundRow bound x (row_at rows x)
+
+-- how a list of records is marked with the bound of its rows, and the bound of a mark
+abbrev pub mark_of : Cost → List ℕ
+mark_of bound = length_of bound ∷ []
+
+abbrev pub marked : List ℕ → Cost
+marked [] = of_length 0
+marked (n ∷ rest) = of_length n
+
+-- the row of a record
+abbrev pub row_of : Record → Row
+row_of r = arc_value r.row
+
+-- each record of a list has a row that can be relied on under the list's bound
+abbrev pub IsSoundRecord : List ℕ → ℕ → Record → Type 0
+IsSoundRecord mark place r = IsSoundRow (marked mark) r.node (row_of r)
+
+-- The answer is the record of the list at its version.
+pub record Bears (list : Shelves) (s : SeenRecord) : Type 0 where
+  pub token : Shows list s.token
+  pub version : s.token.index ≡ s.seen.version
+  pub node : s.token.value.node ≡ s.seen.node
+  pub row : row_of s.token.value ≡ row_in s.seen

@@ -1,0 +1,46 @@
+-- The words of a book and what its pen and its readers know of them.
+use Rattle.std.specs.Prelude.{ℕ, ◌≡◌, ◌≤◌, max, true, false, List, [], ◌∷◌, length, slice_index, slice_set, replicate}
+use mathlib.Core.Option.{some}
+use lib.ListN.{get_elem?}
+use Rattle.atomic_table.specs.Table.{State, Me, Step}
+use Rattle.ch_rowbook.specs.declared.words.Known.{Known}
+
+-- the pen knows the words as they are
+abbrev pub pen_with : List ℕ → Known
+pen_with versions = record { is_pen = true; versions = versions }
+
+-- a reader knows a front
+abbrev pub reader_with : List ℕ → Known
+reader_with versions = record { is_pen = false; versions = versions }
+
+-- a book of no node has one word, which is no node's
+abbrev pub width : ℕ → ℕ
+width nodes = max nodes 1
+
+abbrev pub no_versions : ℕ → List ℕ
+no_versions words = replicate words 0
+
+-- nowhere above
+abbrev pub IsBelow : List ℕ → List ℕ → Type 0
+IsBelow xs ys = (x : ℕ) → slice_index xs x ≤ slice_index ys x
+
+-- the greater of two, at each place
+abbrev pub greater : List ℕ → List ℕ → List ℕ
+greater [] ys = ys
+greater (x ∷ xs) [] = x ∷ xs
+greater (x ∷ xs) (y ∷ ys) = max x y ∷ greater xs ys
+
+-- The rule: there are so many words, the first seat alone is the pen's, who knows each word, and no front is above its
+-- word. A front that was joined into another is empty.
+pub record Keeps (words : ℕ) (s : State (Unit {0}) Known) : Type 0 where
+  pub wide : length s.words ≡ words
+  pub pens : (id : ℕ) (v : Known) → get_elem? s.views id ≡ some v → v.is_pen ≡ true → (id ≡ 0) × (v.versions ≡ s.words)
+  pub below : (id : ℕ) (v : Known) → get_elem? s.views id ≡ some v → IsBelow v.versions s.words
+
+-- a reader's load: what it finds isn't below its front there, and becomes the front
+abbrev pub IsLoad : Step (Unit {0}) → Me (Unit {0}) Known → ℕ → Me (Unit {0}) Known → Type 0
+IsLoad s me found after = (slice_index me.0.versions s.word ≤ found) × (after ≡ (reader_with (slice_set me.0.versions s.word found), me.1))
+
+-- the pen's store: it knows the word that it stored
+abbrev pub IsStore : Step (Unit {0}) → Me (Unit {0}) Known → ℕ → Me (Unit {0}) Known → Type 0
+IsStore s me found after = after ≡ (pen_with (slice_set me.0.versions s.word s.first), me.1)

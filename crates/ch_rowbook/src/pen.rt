@@ -1,0 +1,154 @@
+//! The pen of a book.
+ghost use Rattle.std.specs.Prelude.{◌≡◌, ◌+◌, ◌<◌, ◌≤◌, IfOk, OnErr, slice_index, slice_set};
+ghost use Rattle.std.specs.Arc.{arc_value};
+ghost use Rattle.ch_laws.specs.Rows.{row_at};
+ghost use Rattle.ch_overlay.specs.Source.{IsSeenRow, row_in};
+ghost use Rattle.ch_rowbook.specs.Books.{PenKeeps, pen_of};
+ghost use Rattle.ch_rowbook.specs.Records.{Bears, IsSoundRow, row_of};
+
+use crate::book::Book;
+use crate::error::BookError;
+use crate::laid::Laid;
+use crate::record::{SeenRecord, Token};
+use crate::shelf::Shelf;
+use crate::words::Known;
+use atomic_table::Seat;
+use ch_overlay::Row;
+use std::alloc::AllocError;
+use std::marker::{Model, PhantomData};
+use std::sync::{Arc, Wait};
+
+/// Writes the rows of a book; a book has one.
+///
+/// A contract sees the current version and row of each node, and the least version that a row may get next.
+#[derive(Drop)]
+pub struct Pen<B: Book> {
+    pub(crate) shelf: Arc<Shelf<B>>,
+    pub(crate) seat: Seat<(), Known>,
+    next: u64,
+    current: Vec<Token>,
+}
+
+impl<B: Book> Model for Pen<B> {
+    ghost use Rattle.ch_rowbook.specs.Books as books;
+
+    ghost Value = { books.PenView };
+
+    ghost view = { λ p. books.pen_of p.next p.current.items };
+
+    ghost invariant = { λ p. books.PenKeeps B.book p.seat p.next p.current.items };
+}
+
+impl<B: Book> Pen<B> {
+    /// A pen of this seat, whose nodes have these records.
+    pub(crate) fn seated(
+        shelf: Arc<Shelf<B>>,
+        seat: Seat<(), Known>,
+        next: u64,
+        current: Vec<Token>,
+    ) -> Pen<B>
+        requires { PenKeeps B.book seat next current.items }
+        ensures { result ≡ pen_of next current.items }
+    {
+        Pen {
+            shelf,
+            seat,
+            next,
+            current,
+        }
+    }
+
+    /// Lays a row of a node, which is in range: it has a version from now on, and no reader knows of it.
+    ///
+    /// `Slot` where the list gives a place that isn't above the earlier ones. On a refusal nothing changes. Takes
+    /// memory for the record, and waits while another thread makes room for it.
+    pub fn lay<R: Wait>(&mut self, rt: &R, node: u32, row: Arc<Row>) -> Result<Laid<B>, BookError>
+        requires within { node < B.book.nodes }
+        requires row { IsSoundRow B.book.bound node (arc_value row) }
+        ensures node { IfOk result (λ l. l.node ≡ node) }
+        ensures row { IfOk result (λ l. row_of l.token.value ≡ arc_value row) }
+        ensures above { IfOk result (λ l. slice_index self.old.versions node < l.token.index) }
+        ensures later { IfOk result (λ l. self.old.next ≤ l.token.index) }
+        ensures next { IfOk result (λ l. self.new ≡ record self.old { next = l.token.index + 1 }) }
+        ensures err { OnErr result (self.new ≡ self.old) }
+    {
+        let token = self.shelf.append(rt, node, row, self.next)?;
+        self.next = token.index() as u64 + 1;
+        Ok(Laid {
+            token,
+            node,
+            of: PhantomData,
+        })
+    }
+
+    /// Makes a record that this pen laid the current one of its node. Its version is above the node's current one.
+    ///
+    /// It is one store. Takes no memory, and can't fail.
+    pub fn show(&mut self, laid: Laid<B>)
+        requires above { slice_index self.old.versions laid.node < laid.token.index }
+        requires laid { laid.token.index < self.old.next }
+        ensures versions { self.new.versions ≡ slice_set self.old.versions laid.node laid.token.index }
+        ensures rows { self.new.rows ≡ slice_set self.old.rows laid.node (row_of laid.token.value) }
+        ensures next { self.new.next ≡ self.old.next }
+    {
+        self.show_one(&laid);
+    }
+
+    pub(crate) fn show_one(&mut self, laid: &Laid<B>)
+        requires above { slice_index self.old.versions laid.now.node < laid.now.token.index }
+        requires laid { laid.now.token.index < self.old.next }
+        ensures versions { self.new.versions ≡ slice_set self.old.versions laid.now.node laid.now.token.index }
+        ensures rows { self.new.rows ≡ slice_set self.old.rows laid.now.node (row_of laid.now.token.value) }
+        ensures next { self.new.next ≡ self.old.next }
+    {
+        self.shelf.store(&mut self.seat, laid.node, laid.version());
+        self.current[laid.node as usize] = laid.token.again();
+    }
+
+    /// Lays a row and shows it, and answers its version. On a refusal nothing changes.
+    pub fn write<R: Wait>(&mut self, rt: &R, node: u32, row: Arc<Row>) -> Result<u64, BookError>
+        requires within { node < B.book.nodes }
+        requires row { IsSoundRow B.book.bound node (arc_value row) }
+        ensures above { IfOk result (λ v. slice_index self.old.versions node < v) }
+        ensures versions { IfOk result (λ v. self.new.versions ≡ slice_set self.old.versions node v) }
+        ensures rows { IfOk result (λ _. self.new.rows ≡ slice_set self.old.rows node (arc_value row)) }
+        ensures err { OnErr result (self.new ≡ self.old) }
+    {
+        let laid = self.lay(rt, node, row)?;
+        let version = laid.version();
+        self.show(laid);
+        Ok(version)
+    }
+
+    /// The version of a node's current row. The node is in range.
+    pub fn version(&self, node: u32) -> u64
+        requires { node < B.book.nodes }
+        ensures { result ≡ slice_index self.now.versions node }
+    {
+        self.current[node as usize].index() as u64
+    }
+
+    /// The current row of a node, which is in range. Takes no memory: the row is shared.
+    pub fn see(&self, node: u32) -> Result<SeenRecord, AllocError>
+        requires { node < B.book.nodes }
+        ensures node { IfOk result (λ s. s.seen.node ≡ node) }
+        ensures version { IfOk result (λ s. s.seen.version ≡ slice_index self.now.versions node) }
+        ensures current { IfOk result (λ s. row_in s.seen ≡ row_at self.now.rows node) }
+        ensures record { IfOk result (λ s. Bears B.book.list s) }
+        ensures row { IfOk result (λ s. IsSeenRow B.book.bound s.seen) }
+    {
+        self.shelf.seen(self.current[node as usize].again())
+    }
+
+    /// An answer of this book whose version is current has the current row. It does nothing when it runs but look at
+    /// the node's record.
+    pub fn agrees(&self, seen: &SeenRecord)
+        requires record { Bears B.book.list seen.now }
+        requires within { seen.now.seen.node < B.book.nodes }
+        requires current { seen.now.seen.version ≡ slice_index self.now.versions seen.now.seen.node }
+        ensures { row_in seen.now.seen ≡ row_at self.now.rows seen.now.seen.node }
+    {
+        let node = seen.seen.node as usize;
+        self.shelf.list.agrees(&self.current[node], &seen.token);
+    }
+}

@@ -1,0 +1,56 @@
+//! The words of a book: the rule that they keep, and what each step on them tells.
+ghost use Rattle.ch_rowbook.specs.Words.{Keeps, IsLoad, IsStore, greater, no_versions, pen_with, reader_with};
+
+use atomic_table::{Join, Play, Split, TableRule};
+use std::collections::LinkedList;
+
+/// What the holder of a seat knows of the words. No value of it is made.
+pub struct Known {
+    /// Whether it is the pen.
+    pub is_pen: bool,
+    /// The pen: each node's word. A reader: its front.
+    pub versions: LinkedList<u64>,
+}
+
+/// The rule of the words, of which there are so many.
+pub struct Versions;
+
+impl TableRule<(), Known, usize> for Versions {
+    ghost holds = { Keeps };
+
+    ghost first = { λ words. pen_with (no_versions words) };
+}
+
+/// A reader's load of a word.
+pub struct Loads;
+
+impl Play<(), Known> for Loads {
+    ghost then = { IsLoad };
+}
+
+/// The pen's store of a word.
+pub struct Stores;
+
+impl Play<(), Known> for Stores {
+    ghost then = { IsStore };
+}
+
+/// A reader is split off, with the same front.
+pub struct Parts;
+
+impl Split<Known> for Parts {
+    ghost left = { λ v. v };
+
+    ghost right = { λ v. reader_with v.versions };
+}
+
+/// A reader is joined into another, whose front becomes the greater at each node.
+pub struct Meets;
+
+impl Join<Known> for Meets {
+    ghost use Rattle.std.specs.Prelude.{[]};
+
+    ghost both = { λ v w. reader_with (greater v.versions w.versions) };
+
+    ghost spent = { reader_with [] };
+}
