@@ -1,0 +1,116 @@
+ghost use Rattle.std.specs.Prelude.{◌≡◌, length, map};
+ghost use Rattle.std.specs.Arc.{arc_value};
+ghost use Rattle.ch_overlay.specs.Source.{IsBound};
+ghost use Rattle.ch_rowbook.specs.Blanks.{name_of};
+ghost use Rattle.ch_rowbook.specs.Records.{AreSoundRows};
+
+use crate::kit::{Entries, are, are_sound, bound, is_sound, row};
+use ch_overlay::{Row, RowSource, SeeError};
+use ch_rowbook::{Blank, Book, Pen, Reader, SeenRecord, open};
+use std::alloc::Global;
+use std::marker::Brand;
+use std::sync::{Arc, Wait};
+use std::test::Fail;
+
+/// The opening rows of three nodes: 1 leads to 0, and 0 to 2.
+const ROWS: [(Entries<'static>, Entries<'static>); 3] = [
+    (&[(2, 3)], &[(1, 2)]),
+    (&[(0, 2)], &[]),
+    (&[], &[(0, 3)]),
+];
+
+/// The row of node 1 once node 0 is contracted.
+const LATER: Entries<'static> = &[(2, 5)];
+
+/// Whether an answer is of this node and has these entries.
+fn shows(seen: &SeenRecord, node: u32, out: Entries<'_>, inn: Entries<'_>) -> bool {
+    seen.seen.node == node && are(&seen.seen.row.out, out) && are(&seen.seen.row.inn, inn)
+}
+
+/// A row, which has to be one that can be relied on, is read back where it was written, and only once it is shown.
+fn is_read_back<B: Book, R: Wait>(
+    rt: &R,
+    alloc: Global,
+    pen: &mut Pen<B>,
+    reader: &mut Reader<B>,
+) -> Result<bool, Fail>
+    requires nodes { B.book.nodes ≡ 3 }
+    requires bound { IsBound B.book.bound }
+{
+    let opening = reader.read(1)?;
+    let mut other = reader.split()?;
+    let limit = reader.bound();
+    let later = row(alloc, LATER, &[])?;
+    if !is_sound(1, &later, limit) {
+        return Ok(false);
+    }
+    let laid = pen.lay(rt, 1, later)?;
+    let before = reader.read(1)?;
+    let version = laid.version();
+    pen.show(laid);
+    let after = other.read(1)?;
+    let again = reader.glance(1);
+    let own = pen.see(1)?;
+    Ok(
+        shows(&opening, 1, ROWS[1].0, &[])
+            && shows(&before, 1, ROWS[1].0, &[])
+            && before.seen.version == opening.seen.version
+            && version > opening.seen.version
+            && shows(&after, 1, LATER, &[])
+            && after.seen.version == version
+            && again == version
+            && pen.version(1) == version
+            && shows(&own, 1, LATER, &[]),
+    )
+}
+
+/// Opens a book of three nodes, and reads and writes it.
+fn is_read<B: Book, R: Wait>(
+    rt: &R,
+    alloc: Global,
+    blank: Blank,
+    rows: &[Arc<Row>],
+) -> Result<bool, Fail>
+    requires named { B.book ≡ name_of blank }
+    requires nodes { blank.nodes ≡ 3 }
+    requires count { length rows.now ≡ 3 }
+    requires sound { AreSoundRows blank.bound (map arc_value rows.now) }
+    requires bound { IsBound blank.bound }
+{
+    let (mut pen, mut reader): (Pen<B>, Reader<B>) = open(rt, alloc, blank, rows)?;
+    let mut holds = true;
+    for node in 0..3u32 {
+        let (out, inn) = ROWS[node as usize];
+        let seen = reader.read(node)?;
+        holds &= shows(&seen, node, out, inn);
+    }
+    holds &= matches!(reader.read(3), Err(SeeError::Unseen));
+    holds &= matches!(reader.row_of(3), Err(SeeError::Unseen));
+    holds &= is_read_back(rt, alloc, &mut pen, &mut reader)?;
+    Ok(holds)
+}
+
+/// The opening rows.
+fn opening(alloc: Global) -> Result<Vec<Arc<Row>>, Fail> {
+    let mut rows = Vec::new(alloc);
+    for (out, inn) in ROWS {
+        rows.push(row(alloc, out, inn)?)?;
+    }
+    Ok(rows)
+}
+
+#[test]
+fn row_of_three_nodes(rt: HostRuntime) -> Result<(), Fail> {
+    let alloc = rt.alloc();
+    let rows = opening(alloc)?;
+    let (all, limit) = (rows.as_slice(), bound());
+    if all.len() != 3 {
+        return Err(Fail::new("there are three opening rows"));
+    }
+    if !are_sound(all, limit) {
+        return Err(Fail::new("the opening rows can be relied on"));
+    }
+    let blank = Blank::new(alloc, 3, limit)?;
+    assert!(rt; is_read::<Brand, HostRuntime>(&rt, alloc, blank, all)?);
+    Ok(())
+}

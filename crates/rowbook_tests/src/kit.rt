@@ -1,0 +1,117 @@
+ghost use Rattle.std.specs.Prelude.{◌≡◌, ◌^◌, ◌<◌, IsTrue, All, IfSome, map};
+ghost use Rattle.std.specs.Arc.{arc_value};
+ghost use Rattle.ch_laws.specs.Rows.{Rises};
+ghost use Rattle.ch_overlay.specs.Overlay.{IsEntry};
+ghost use Rattle.ch_overlay.specs.Source.{IsBound};
+ghost use Rattle.ch_rowbook.specs.Records.{AreSoundRows, IsSoundRow};
+
+use ch_cost::Cost;
+use ch_overlay::{Entry, Row};
+use std::alloc::{AllocError, Global};
+use std::sync::Arc;
+
+/// Entries of a row: the other node and the weight of each.
+pub type Entries<'a> = &'a [(u32, u32)];
+
+/// The bound of every book here: that of the largest graph.
+pub fn bound() -> Cost
+    ensures { IsBound result }
+{
+    Cost::of_arcs((1 << 25) - 1, u32::MAX)
+}
+
+fn entries(alloc: Global, all: Entries<'_>) -> Result<Vec<Entry>, AllocError> {
+    let mut list = Vec::new(alloc);
+    for (other, weight) in all {
+        list.push(Entry {
+            other: *other,
+            cost: Cost::of_weight(*weight),
+            middle: None,
+        })?;
+    }
+    Ok(list)
+}
+
+/// A row of these entries.
+pub fn row(alloc: Global, out: Entries<'_>, inn: Entries<'_>) -> Result<Arc<Row>, AllocError> {
+    let row = Row {
+        out: entries(alloc, out)?,
+        inn: entries(alloc, inn)?,
+        rank: None,
+    };
+    Ok(Arc::new(alloc, row)?)
+}
+
+fn is_entry(entry: &Entry, node: u32, bound: Cost) -> bool
+    ensures { IsTrue result → IsEntry (2 ^ 25) bound node entry.now }
+{
+    if entry.other >= 1 << 25 {
+        return false;
+    }
+    if entry.other == node {
+        return false;
+    }
+    if !Cost::ZERO.is_below(entry.cost) {
+        return false;
+    }
+    entry.cost.is_within(bound)
+}
+
+fn are_entries(entries: &[Entry], node: u32, bound: Cost) -> bool
+    ensures { IsTrue result → All (IsEntry (2 ^ 25) bound node) entries.now }
+{
+    entries.iter().all(|entry| is_entry(entry, node, bound))
+}
+
+fn rises(entries: &[Entry]) -> bool
+    ensures { IsTrue result → Rises entries.now }
+{
+    for place in 1..entries.len() {
+        if entries[place - 1].other >= entries[place].other {
+            return false;
+        }
+    }
+    true
+}
+
+/// Whether a row can be relied on.
+pub fn is_sound(node: u32, row: &Row, bound: Cost) -> bool
+    ensures { IsTrue result → IsSoundRow bound node row.now }
+{
+    if node >= 1 << 25 {
+        return false;
+    }
+    if !rises(&row.out) {
+        return false;
+    }
+    if !rises(&row.inn) {
+        return false;
+    }
+    if !are_entries(&row.out, node, bound) {
+        return false;
+    }
+    are_entries(&row.inn, node, bound)
+}
+
+/// Whether each row can be relied on, as that of the node of its place.
+pub fn are_sound(rows: &[Arc<Row>], bound: Cost) -> bool
+    ensures { IsTrue result → AreSoundRows bound (map arc_value rows.now) }
+{
+    for node in 0..rows.len() {
+        if node >= 1 << 25 {
+            return false;
+        }
+        if !is_sound(node as u32, &rows[node], bound) {
+            return false;
+        }
+    }
+    true
+}
+
+/// Whether the entries are these.
+pub fn are(entries: &[Entry], expected: Entries<'_>) -> bool {
+    entries.len() == expected.len()
+        && entries.iter().zip(expected).all(|(entry, (other, weight))| {
+            (entry.other == *other) & (entry.cost == Cost::of_weight(*weight))
+        })
+}
