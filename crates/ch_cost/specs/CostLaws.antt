@@ -1,8 +1,8 @@
 -- What other crates may rest on: the laws of costs, as one statement.
-use Rattle.std.specs.Prelude.{ℕ, ◌≡◌, ◌+◌, ◌^◌, ◌≤◌, ◌⊎◌, Some}
+use Rattle.std.specs.Prelude.{ℕ, ◌≡◌, ◌+◌, ◌^◌, ◌≤◌, ◌⊎◌, Some, None}
 use Rattle.ch_cost.specs.declared.cost.Cost.{Cost}
 use Rattle.ch_cost.specs.Cost.{zero_cost, ◌⊕◌, of_weight, cost_of_arcs, length_of, IsWeight, ◌≼◌, ◌≺◌, IsWithin, IsNoLonger, IsInLimit, IsOfArcs}
-use Rattle.ch_cost.specs.ShortCost.{short_of, kept_in}
+use Rattle.ch_cost.specs.ShortCost.{no_short, short_of, kept_in}
 
 -- Sums associate and commute, and the cost of no arc adds nothing.
 pub record SumLaws : Type 0 where
@@ -36,13 +36,14 @@ pub record BoundLaws : Type 0 where
   pub no_longer : (c bound : Cost) → IsWithin c bound → IsNoLonger c bound
   pub summands : (n : ℕ) (c : Cost) → n ≤ 2 ^ 25 → IsOfArcs n c → IsInLimit c
 
--- What a short cost keeps is the cost that it was made of.
-abbrev pub ShortsKeep : Type 0
-ShortsKeep = (c d : Cost) → kept_in (short_of c) ≡ Some d → d ≡ c
+-- What a short cost keeps is the cost that it was made of, and that of no cost keeps none.
+pub record ShortLaws : Type 0 where
+  pub kept : (c d : Cost) → kept_in (short_of c) ≡ Some d → d ≡ c
+  pub none : kept_in no_short ≡ None
 
 pub record CostLaws : Type 0 where
   pub sums : SumLaws
   pub order : OrderLaws
   pub arcs : ArcLaws
   pub bounds : BoundLaws
-  pub shorts : ShortsKeep
+  pub shorts : ShortLaws

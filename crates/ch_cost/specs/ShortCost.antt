@@ -1,10 +1,15 @@
 -- A cost in half its memory.
--- These definitions are closed: other crates know of short costs what `ShortCost.Laws.kept` says, and nothing else.
+-- These definitions are closed: other crates know of short costs what `kept` and `kept_not` of `ShortCost.Laws` say, and
+-- nothing else.
 use Rattle.std.specs.Prelude.{◌-◌, ◌^◌, min, ◌==◌, if◌then◌else◌, Option, Some, None}
 use Rattle.ch_cost.specs.declared.cost.Cost.{Cost}
 use Rattle.ch_cost.specs.declared.short_cost.ShortCost.{ShortCost}
 use Rattle.ch_cost.specs.Cost.{length_of, of_length}
 pub mod Laws
+
+-- the short form that keeps no cost
+pub no_short : ShortCost
+no_short = record { length = 2 ^ 32 - 1 }
 
 -- the short form of a cost; 2^32 - 1 stands for all that don't fit
 pub short_of : Cost → ShortCost

@@ -1,5 +1,5 @@
 ghost use Rattle.std.specs.Prelude.{◌≡◌};
-ghost use Rattle.ch_cost.specs.ShortCost.{short_of, kept_in};
+ghost use Rattle.ch_cost.specs.ShortCost.{no_short, short_of, kept_in};
 
 use crate::cost::Cost;
 
@@ -14,6 +14,13 @@ pub struct ShortCost {
 }
 
 impl ShortCost {
+    /// The short form that stands for no cost: it keeps none.
+    pub fn none() -> ShortCost
+        ensures { result ≡ no_short }
+    {
+        ShortCost { length: u32::MAX }
+    }
+
     /// The short form of a cost.
     pub fn of(cost: Cost) -> ShortCost
         ensures { result ≡ short_of cost }

@@ -1,56 +1,57 @@
--- What a binary search over links that leave one node finds, by the nodes that they come to.
-use Rattle.std.proofs.Common.{ℕ, ◌≡◌, ◌<◌, ◌≤◌, List, length, get_or, None, AllPairs, inl, inr, arith, subst}
-use Rattle.std.specs.List.{HoldsAt}
-use Rattle.std.specs.List.Sorted.{IsNonDecreasingBy, IsPartitionPoint}
-use Rattle.std.specs.Ordering.{nat_cmp, ordering_index}
-use Rattle.std.specs.declared.cmp.Ordering.TheVariants.{Less, Equal, Greater}
+-- Where the link to a node is, among links that leave one node.
+use Rattle.std.proofs.Common.{ℕ, ◌≡◌, ◌≢◌, ◌+◌, ◌<◌, ◌≤◌, List, get_or, None, AllPairs, inl, inr, subst, arith}
 use Rattle.std.proofs.lemmas.Bool.{cases_lt}
+use Rattle.std.proofs.lemmas.List.{get_or_default}
 use Rattle.ch_cost.specs.Cost.{zero_cost}
 use Rattle.ch_graph.specs.declared.link.Link.{Link}
-use Rattle.ch_graph.specs.LinkIndex.{ComesToLower, IsHeadAt}
-use Rattle.ch_graph.proofs.LinkSearch.{cmp-less, cmp-equal, cmp-greater}
+use Rattle.ch_graph.specs.LinkIndex.{ComesToLower, IsHeadAt, IsHeadWithin}
 
-equal_numbers : (a y : ℕ) → nat_cmp a y ≡ Equal → a ≡ y
-equal_numbers a y is = elim (cases_lt a y) [
-  | inl h ↦ let less : nat_cmp a y ≡ Less = cmp-less a y h in absurd (cc)
-  | inr h ↦ elim (cases_lt y a) [
-    | inl k ↦ let greater : nat_cmp a y ≡ Greater = cmp-greater a y k in absurd (cc)
-    | inr k ↦ omega arith
-  ]
+abbrev some_link : Link
+some_link = record { from = 0; to = 0; cost = zero_cost; middle = None }
+
+abbrev head : List Link → ℕ → ℕ
+head links k = (get_or links k some_link).to
+
+-- from the place of a lower head on, or of the head itself
+pub upper_half : (links : List Link) (y begin end middle : ℕ) (e : Link) → AllPairs ComesToLower links → IsHeadWithin links y begin end → middle < end → (get_or links middle e).to ≤ y → IsHeadWithin links y middle end
+upper_half links y begin end middle e sorted near inside low = record {
+  ordered = omega arith;
+  within = near.within;
+  holds = λ place at. elim (cases_lt place middle) [
+    | inl before ↦
+        let here : head links middle ≤ y = subst (λ (l : Link). l.to ≤ y) (get_or_default links middle e some_link (omega (arith, near.within))) low in
+        let below : head links place < head links middle = sorted place middle some_link before (omega (arith, near.within)) in
+        absurd (omega (arith, below, here, at.to some_link))
+    | inr after ↦ (omega arith, (near.holds place at).1)
+  ];
+}
+
+-- before the place of a higher head
+pub lower_half : (links : List Link) (y begin end middle : ℕ) (e : Link) → AllPairs ComesToLower links → IsHeadWithin links y begin end → begin ≤ middle → middle < end → y < (get_or links middle e).to → IsHeadWithin links y begin middle
+lower_half links y begin end middle e sorted near inside below_end high = record {
+  ordered = inside;
+  within = omega (arith, near.within);
+  holds = λ place at. elim (cases_lt place middle) [
+    | inl before ↦ ((near.holds place at).0, before)
+    | inr after ↦
+        let here : y < head links middle = subst (λ (l : Link). y < l.to) (get_or_default links middle e some_link (omega (arith, near.within))) high in
+        elim (cases_lt middle place) [
+          | inl more ↦
+              let above : head links middle < head links place = sorted middle place some_link more at.within in
+              absurd (omega (arith, above, here, at.to some_link))
+          | inr same ↦
+              let is : middle ≡ place = omega arith in
+              let above : y < head links place = subst (λ k. y < head links k) is here in
+              absurd (omega (arith, above, at.to some_link))
+        ]
+  ];
+}
+
+-- it is at no place up to one that has another head
+pub not_here : (links : List Link) (y place : ℕ) (e : Link) → ((k : ℕ) → k < place → IsHeadAt links y k → ⊥) → (get_or links place e).to ≢ y → (k : ℕ) → k < place + 1 → IsHeadAt links y k → ⊥
+not_here links y place e before apart k low at = elim (cases_lt k place) [
+  | inl earlier ↦ before k earlier at
+  | inr here ↦
+      let is : k ≡ place = omega arith in
+      apart (subst (λ (n : ℕ). (get_or links n e).to ≡ y) is (at.to e))
 ]
-
--- the place of an equal comparison is that of the head
-pub head_at : (links : List Link) (y place : ℕ) → place < length links → HoldsAt (λ (l : Link). nat_cmp l.to y ≡ Equal) links place → IsHeadAt links y place
-head_at links y place within h = record { within = within; to = λ (d : Link). equal_numbers (get_or links place d).to y (h d) }
-
-index_rises : (a b y : ℕ) → a ≤ b → ordering_index (nat_cmp a y) ≤ ordering_index (nat_cmp b y)
-index_rises a b y a≤b = elim (cases_lt a y) [
-  | inl h ↦ rw (cmp-less a y h) (omega arith)
-  | inr h ↦ elim (cases_lt y a) [
-    | inl k ↦ let above : y < b = omega arith in rw (cmp-greater a y k, cmp-greater b y above) (omega arith)
-    | inr k ↦ let e : a ≡ y = omega arith in elim (cases_lt y b) [
-      | inl m ↦ rw (cmp-equal a y e, cmp-greater b y m) (omega arith)
-      | inr m ↦ let f : b ≡ y = omega arith in rw (cmp-equal a y e, cmp-equal b y f) (omega arith)
-    ]
-  ]
-]
-
-pub heads_rise : (links : List Link) (y : ℕ) → AllPairs ComesToLower links → IsNonDecreasingBy (λ (l : Link). ordering_index (nat_cmp l.to y)) links
-heads_rise links y sorted i j d at_most within =
-    let a : Link = get_or links i d in
-    let b : Link = get_or links j d in
-    elim (cases_lt i j) [
-      | inl h ↦ let below : a.to < b.to = sorted i j d h within in index_rises a.to b.to y (omega arith)
-      | inr h ↦ let e : i ≡ j = omega arith in subst (λ k. let l : Link = get_or links k d in ordering_index (nat_cmp a.to y) ≤ ordering_index (nat_cmp l.to y)) e (omega arith)
-    ]
-
--- where nothing compares equal there is no such link
-pub no_head : (links : List Link) (y i : ℕ) → IsPartitionPoint (λ (l : Link). nat_cmp l.to y ≡ Less) (λ (l : Link). nat_cmp l.to y ≡ Greater) links i → (place : ℕ) → IsHeadAt links y place → ⊥
-no_head links y i split place at =
-    let some : Link = record { from = 0; to = 0; cost = zero_cost; middle = None } in
-    let l : Link = get_or links place some in
-    let equal : nat_cmp l.to y ≡ Equal = cmp-equal l.to y (at.to some) in
-    elim (cases_lt place i) [
-      | inl h ↦ let less : nat_cmp l.to y ≡ Less = split.0 place some (omega arith) h in cc
-      | inr h ↦ let greater : nat_cmp l.to y ≡ Greater = split.1 place some h at.within in cc
-    ]

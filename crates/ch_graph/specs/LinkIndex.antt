@@ -27,3 +27,9 @@ ComesToLower a b = a.to < b.to
 pub record IsHeadAt (links : List Link) (y place : ℕ) : Type 0 where
   pub within : place < length links
   pub to : (d : Link) → (slice_index_or links place d).to ≡ y
+
+-- the link that comes to y, if there is one, is at one of these places
+pub record IsHeadWithin (links : List Link) (y begin end : ℕ) : Type 0 where
+  pub ordered : begin ≤ end
+  pub within : end ≤ length links
+  pub holds : (place : ℕ) → IsHeadAt links y place → (begin ≤ place) × (place < end)

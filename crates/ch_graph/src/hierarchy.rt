@@ -135,8 +135,7 @@ impl Hierarchy {
 
     /// The place of the link from one node to another, or none where there is no such link.
     ///
-    /// Looks at as many links as the number of those that leave the node has binary digits, and without an index as the
-    /// number of all.
+    /// Takes time by the logarithm of the number of links that leave the node, and without an index of that of all.
     pub fn find(&self, from: u32, to: u32) -> Option<LinkId>
         ensures found { IfSome result (λ id. IsLinkAt self.now.links from to id.0) }
         ensures none { IfNone result ((place : ℕ) → IsLinkAt self.now.links from to place → ⊥) }

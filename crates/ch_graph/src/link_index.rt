@@ -1,12 +1,15 @@
-ghost use Rattle.std.specs.Prelude.{◌≡◌, ◌+◌, ◌<◌, ◌≤◌, ℕ, [], length, slice_index_or, AllPairs, IfOk, IfSome, IfNone};
+ghost use Rattle.std.specs.Prelude.{◌≡◌, ◌+◌, ◌-◌, ◌<◌, ◌≤◌, ℕ, [], length, slice_index_or, AllPairs, IfOk, IfSome, IfNone};
 ghost use Rattle.ch_graph.specs.declared.link.Link.{Link};
 ghost use Rattle.ch_graph.specs.Hierarchy.{ComesBefore, IsLinkAt};
-ghost use Rattle.ch_graph.specs.LinkIndex.{ComesToLower, IsFirstFrom, IsHeadAt, IsIndexOf, IsPartOf};
+ghost use Rattle.ch_graph.specs.LinkIndex.{ComesToLower, IsFirstFrom, IsHeadAt, IsHeadWithin, IsIndexOf, IsPartOf};
 
 use crate::hierarchy::{LinkId, find_link};
 use crate::link::Link;
 use std::alloc::{AllocError, Global};
 use std::marker::Model;
+
+/// So many links are looked at in turn, which takes less time than to halve them further.
+const FEW: usize = 16;
 
 /// Where the links of each node begin, in a list of links in rising order of their ends.
 ///
@@ -61,8 +64,8 @@ impl LinkIndex {
 
     /// The place of the link from one node to another among these links, or none where there is no such link.
     ///
-    /// Looks at as many links as the number of those that leave the node has binary digits, and where the index
-    /// doesn't have the node, as the number of all.
+    /// Takes time by the logarithm of the number of links that leave the node, and where the index doesn't have the node,
+    /// of that of all.
     pub fn find(&self, links: &[Link], from: u32, to: u32) -> Option<LinkId>
         requires sorted { AllPairs ComesBefore links.now }
         requires index { IsIndexOf links.now self.now }
@@ -101,10 +104,50 @@ fn find_head(links: &[Link], to: u32) -> Option<usize>
     ensures found { IfSome result (IsHeadAt links.now to) }
     ensures none { IfNone result ((place : ℕ) → IsHeadAt links.now to place → ⊥) }
 {
-    let search = links.binary_search_by_key(&to, |link| link.to);
-    match search {
-        Ok(place) => Some(place),
-        Err(_) => None,
+    let near = near_head(links, to);
+    'links: for place in near.begin..near.end {
+        if links[place].to == to {
+            return Some(place);
+        }
+    }
+    None
+}
+
+// A few places, among which is that of the link that comes to a node, if there is one: halves are left out as long as
+// there are more.
+fn near_head(links: &[Link], to: u32) -> Part
+    requires { AllPairs ComesToLower links.now }
+    ensures { IsHeadWithin links.now to result.begin result.end }
+{
+    let mut near = Part {
+        begin: 0,
+        end: links.len(),
+    };
+    'halves: while near.end - near.begin > FEW {
+        near = half_with(links, near, to);
+    }
+    near
+}
+
+// The half of these places among which is that of the link that comes to a node, if it is among them.
+fn half_with(links: &[Link], near: Part, to: u32) -> Part
+    requires sorted { AllPairs ComesToLower links.now }
+    requires near { IsHeadWithin links.now to near.begin near.end }
+    requires several { near.begin + 1 < near.end }
+    ensures near { IsHeadWithin links.now to result.begin result.end }
+    ensures fewer { result.end - result.begin < near.end - near.begin }
+{
+    let middle = near.begin + (near.end - near.begin) / 2;
+    if links[middle].to <= to {
+        Part {
+            begin: middle,
+            end: near.end,
+        }
+    } else {
+        Part {
+            begin: near.begin,
+            end: middle,
+        }
     }
 }
 

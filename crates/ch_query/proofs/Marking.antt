@@ -1,17 +1,20 @@
 -- Marks, one of which is written.
-use Rattle.std.proofs.Common.{ℕ, ◌≡◌, ◌+◌, ◌<◌, ◌≤◌, ◌⊎◌, List, ◌∷◌, zero, suc, get_or, map, length, set, replicate, Option, Some, None, ap, refl, sym, subst, ◌∙◌, inl, inr, arith}
+use Rattle.std.proofs.Common.{ℕ, ◌≡◌, ◌+◌, ◌<◌, ◌≤◌, ◌⊎◌, ◌↔◌, List, ◌∷◌, zero, suc, get_or, map, length, set, replicate, Option, Some, None, ap, refl, sym, subst, ◌∙◌, inl, inr, arith}
 use Rattle.std.proofs.lemmas.Bool.{cases_eq, cases_lt}
 use Rattle.std.proofs.lemmas.List.{get_or-set_same, get_or-set_other, get_or-replicate, get_or_past, length-replicate, length-map, map-set, get_or-map, set-get_or}
 use Rattle.std.proofs.lemmas.List.Elements.{All-from_get_or}
 use Rattle.std.proofs.lemmas.List.Sums.{sum_by-set, sum_by-le}
 use Rattle.ch_cost.specs.declared.cost.Cost.{Cost}
+use Rattle.ch_cost.specs.declared.short_cost.ShortCost.{ShortCost}
 use Rattle.ch_cost.specs.Cost.{◌≼◌, ◌≺◌}
+use Rattle.ch_cost.specs.ShortCost.{no_short, short_of, kept_in}
+use Rattle.ch_cost.specs.ShortCost.Laws.{kept, kept_not}
 use Rattle.ch_cost.specs.Cost.Laws.{at_most_refl, at_most_trans, at_most-from_below, below_not_at_most, cases_cost}
 use Rattle.ch_query.specs.declared.label.Label.{Label}
 use Rattle.ch_query.specs.declared.mark.Mark.{Mark}
 use Rattle.ch_query.specs.declared.mark.Mark.TheVariants.{Unseen, Open, Settled}
 use Rattle.ch_query.specs.Labels.{HasAtMost}
-use Rattle.ch_query.specs.Marks.{mark_at, label_in, label_at, option_cost, costs_of, far_cost, cost_or_far, settled_in, settled_costs, Improves, IsBelow, HasLimit, settled, settled_count}
+use Rattle.ch_query.specs.Marks.{mark_at, label_in, label_at, option_cost, costs_of, short_in, settled_in, settled_costs, Improves, IsBelow, HasLimit, settled, settled_count}
 
 -- the mark that is read after one was written: the new one, or that of another rank
 pub record IsWritten (marks : List Mark) (r : ℕ) (m : Mark) (q : ℕ) : Type 0 where
@@ -137,47 +140,47 @@ improves-not_settled Unseen c e improves is = unseen-settled is
 improves-not_settled (Open d) c e improves is = open-settled is
 improves-not_settled (Settled d) c e improves is = improves
 
--- A climb is better than what is known where it costs less than that, or than any walk
+-- A climb is better than what is known where it costs less, or nothing is known
+pub better_than : (m : Mark) (c known : Cost) → ((e : Label) → m ≡ Settled e → e.cost ≼ c) → Some known ≡ option_cost (label_in m) → (c ≺ known) ↔ Improves c m
+better_than Unseen c known latest is = absurd (cc)
+better_than (Open e) c known latest is =
+    let same : known ≡ e.cost = cc in
+    (λ below. subst (λ (d : Cost). c ≺ d) same below, λ below. subst (λ (d : Cost). c ≺ d) (sym same) below)
+better_than (Settled e) c known latest is =
+    let same : known ≡ e.cost = cc in
+    (λ below. below_not_at_most (subst (λ (d : Cost). c ≺ d) same below) (latest e refl), λ improves. absurd improves)
 
-pub better-from_below : (m : Mark) (c : Cost) → ((e : Label) → m ≡ Settled e → e.cost ≼ c) → c ≺ cost_or_far m → Improves c m
-better-from_below Unseen c latest below = tt
-better-from_below (Open e) c latest below = below
-better-from_below (Settled e) c latest below = below_not_at_most below (latest e refl)
+pub better_than_none : (m : Mark) (c : Cost) → None ≡ option_cost (label_in m) → Improves c m
+better_than_none Unseen c is = tt
+better_than_none (Open e) c is = absurd (cc)
+better_than_none (Settled e) c is = absurd (cc)
 
-pub below-from_better : (m : Mark) (c : Cost) → c ≺ far_cost → Improves c m → c ≺ cost_or_far m
-below-from_better Unseen c low improves = low
-below-from_better (Open e) c low improves = improves
-below-from_better (Settled e) c low improves = absurd improves
+-- The costs of labels in the short form
 
--- what is read there is the cost of a label where it costs less than a node has that has none
-pub near-some : (m : Mark) (c : Cost) → c ≡ cost_or_far m → c ≺ far_cost → Some c ≡ option_cost (label_in m)
-near-some Unseen c is below = absurd (below_not_at_most below (subst (λ (d : Cost). far_cost ≼ d) (sym is) (at_most_refl far_cost)))
-near-some (Open e) c is below = ap (λ (d : Cost). Some d) is
-near-some (Settled e) c is below = ap (λ (d : Cost). Some d) is
+-- what is kept there is the cost of the label
+pub kept_cost : (m : Mark) (c : Cost) → kept_in (short_in m) ≡ Some c → Some c ≡ option_cost (label_in m)
+kept_cost Unseen c is = let none : kept_in no_short ≡ None = kept_not in absurd (cc)
+kept_cost (Open e) c is = ap (λ (d : Cost). Some d) (kept e.cost c is)
+kept_cost (Settled e) c is = ap (λ (d : Cost). Some d) (kept e.cost c is)
 
-pub near-none : (m : Mark) (c : Cost) → c ≡ cost_or_far m → ((e : Label) → label_in m ≡ Some e → e.cost ≺ far_cost) → (c ≺ far_cost → ⊥) → None ≡ option_cost (label_in m)
-near-none Unseen c is near never = refl
-near-none (Open e) c is near never = absurd (never (subst (λ (d : Cost). d ≺ far_cost) (sym is) (near e refl)))
-near-none (Settled e) c is near never = absurd (never (subst (λ (d : Cost). d ≺ far_cost) (sym is) (near e refl)))
+pub cost_read : (marks : List Mark) (costs : List ShortCost) (r : ℕ) (d : ShortCost) → costs ≡ map short_in marks → r < length marks → get_or costs r d ≡ short_in (mark_at marks r)
+cost_read marks costs r d are within = ap (λ (cs : List ShortCost). get_or cs r d) are ∙ get_or-map short_in marks r Unseen d within
 
-pub cost_read : (marks : List Mark) (costs : List Cost) (r : ℕ) (d : Cost) → costs ≡ map cost_or_far marks → r < length marks → get_or costs r d ≡ cost_or_far (mark_at marks r)
-cost_read marks costs r d are within = ap (λ (cs : List Cost). get_or cs r d) are ∙ get_or-map cost_or_far marks r Unseen d within
-
-pub cost_written : (marks : List Mark) (costs : List Cost) (r : ℕ) (m : Mark) → costs ≡ map cost_or_far marks → set costs r (cost_or_far m) ≡ map cost_or_far (set marks r m)
-cost_written marks costs r m are = ap (λ (cs : List Cost). set cs r (cost_or_far m)) are ∙ sym (map-set cost_or_far marks r m)
+pub cost_written : (marks : List Mark) (costs : List ShortCost) (r : ℕ) (m : Mark) → costs ≡ map short_in marks → set costs r (short_in m) ≡ map short_in (set marks r m)
+cost_written marks costs r m are = ap (λ (cs : List ShortCost). set cs r (short_in m)) are ∙ sym (map-set short_in marks r m)
 
 -- a node that is settled keeps its cost
-pub cost_settled : (marks : List Mark) (costs : List Cost) (r : ℕ) (e : Label) → mark_at marks r ≡ Open e → costs ≡ map cost_or_far marks → costs ≡ map cost_or_far (set marks r (Settled e))
+pub cost_settled : (marks : List Mark) (costs : List ShortCost) (r : ℕ) (e : Label) → mark_at marks r ≡ Open e → costs ≡ map short_in marks → costs ≡ map short_in (set marks r (Settled e))
 cost_settled marks costs r e is are =
-    let same : get_or costs r far_cost ≡ e.cost = cost_read marks costs r far_cost are (open-in marks r e is) ∙ ap cost_or_far is in
-    sym (set-get_or costs r far_cost) ∙ (ap (λ (c : Cost). set costs r c) same ∙ cost_written marks costs r (Settled e) are)
+    let same : get_or costs r no_short ≡ short_of e.cost = cost_read marks costs r no_short are (open-in marks r e is) ∙ ap short_in is in
+    sym (set-get_or costs r no_short) ∙ (ap (λ (c : ShortCost). set costs r c) same ∙ cost_written marks costs r (Settled e) are)
 
-pub as_many_costs : (marks : List Mark) (costs : List Cost) → costs ≡ map cost_or_far marks → length costs ≡ length marks
-as_many_costs marks costs are = ap length are ∙ length-map marks cost_or_far
+pub as_many_costs : (marks : List Mark) (costs : List ShortCost) → costs ≡ map short_in marks → length costs ≡ length marks
+as_many_costs marks costs are = ap length are ∙ length-map marks short_in
 
-pub first_costs : (nodes : ℕ) → replicate nodes far_cost ≡ map cost_or_far (replicate nodes Unseen)
+pub first_costs : (nodes : ℕ) → replicate nodes no_short ≡ map short_in (replicate nodes Unseen)
 first_costs zero = refl
-first_costs (suc n) = ap (λ (cs : List Cost). far_cost ∷ cs) (first_costs n)
+first_costs (suc n) = ap (λ (cs : List ShortCost). no_short ∷ cs) (first_costs n)
 
 -- How many nodes are settled
 

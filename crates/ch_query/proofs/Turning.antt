@@ -3,8 +3,8 @@ use Rattle.std.proofs.Common.{ℕ, ◌≡◌, ◌+◌, ◌-◌, ◌<◌, ◌≤�
 use Rattle.std.proofs.lemmas.Bool.{cases_lt}
 use Rattle.std.proofs.lemmas.List.{get_or_past, length-set, length-replicate}
 use Rattle.ch_cost.specs.declared.cost.Cost.{Cost}
-use Rattle.ch_cost.specs.Cost.{zero_cost, ◌⊕◌, of_weight, cost_of_arcs, ◌≼◌, ◌≺◌, IsNoLonger, IsInLimit, IsOfWalks}
-use Rattle.ch_cost.specs.Cost.Laws.{at_most_refl, at_most_trans, at_most_antisym, at_most_sum_left, zero_cost_at_most, zero_cost_within, no_longer-from_within, of_walks_zero_cost, of_walks_one, of_walks_sum, of_walks_more, in_limit-from_walks, cost_of_arcs_in_limit, in_limit-from_within, within_trans, cases_cost, more_arcs_within, length_of-at_most, lengths-from_no_longer, length_of-sum, length_of-of_weight}
+use Rattle.ch_cost.specs.Cost.{zero_cost, ◌⊕◌, ◌≼◌, IsNoLonger, IsInLimit, IsOfWalks}
+use Rattle.ch_cost.specs.Cost.Laws.{at_most_refl, at_most_trans, at_most_antisym, at_most_sum_left, zero_cost_at_most, zero_cost_within, no_longer-from_within, of_walks_zero_cost, of_walks_one, of_walks_sum, of_walks_more, in_limit-from_walks, cost_of_arcs_in_limit, in_limit-from_within, within_trans}
 use Rattle.ch_graph.specs.Hierarchy.{Hierarchy, IsWellMade, rank_of}
 use Rattle.ch_query.specs.declared.label.Label.{Label}
 use Rattle.ch_query.specs.declared.mark.Mark.{Mark}
@@ -13,7 +13,7 @@ use Rattle.ch_query.specs.declared.side.Side.{Side}
 use Rattle.ch_query.specs.declared.meeting.Meeting.{Meeting}
 use Rattle.ch_query.specs.Labels.{HasAtMost, AreShort, Meets}
 use Rattle.ch_query.specs.Climb.{foot_rank, head_rank, cost_at, Climbs}
-use Rattle.ch_query.specs.Marks.{mark_at, label_at, option_cost, costs_of, far_cost, settled_in, IsLeastOpen, IsNoMore, FitAll, AreNear, settled_count}
+use Rattle.ch_query.specs.Marks.{mark_at, label_at, option_cost, costs_of, settled_in, IsLeastOpen, IsNoMore, FitAll, settled_count}
 use Rattle.ch_query.specs.Searching.{IsFrom, IsFollowed, AreFollowed, IsSearching, ClimbsTo, IsOpenedBy, ArePassed}
 use Rattle.ch_query.specs.Marks.{IsLatest}
 use Rattle.ch_query.specs.Meeting.{IsBestSoFar, IsLooked}
@@ -27,16 +27,6 @@ module _ (h : Hierarchy) (made : IsWellMade h) where
   -- the bound of a well made hierarchy is small enough to be a summand
   pub bound_in_limit : IsInLimit h.bound
   bound_in_limit = in_limit-from_within made.bound (cost_of_arcs_in_limit _ _ (omega (arith, made.few_nodes)) (omega arith))
-
-  -- what is no longer than the bound is below what no walk costs
-  pub below_far : (c : Cost) → IsNoLonger c h.bound → c ≺ far_cost
-  below_far c short = elim (cases_cost c far_cost) [
-    | inl below ↦ below
-    | inr most ↦
-        let arcs : Cost = cost_of_arcs (2 ^ 25) (2 ^ 32 - 1) in
-        let bound : IsNoLonger h.bound arcs = no_longer-from_within (within_trans made.bound (more_arcs_within (length h.ranks - 1) (2 ^ 25) (2 ^ 32 - 1) (omega (arith, made.few_nodes)))) in
-        absurd (omega (arith, length_of-at_most most, lengths-from_no_longer short, lengths-from_no_longer bound, length_of-sum arcs (of_weight 1), length_of-of_weight 1))
-  ]
 
   -- a link's cost is small enough to be one, and of one walk
   pub link_in_limit : (k : ℕ) → k < length h.links → IsInLimit (cost_at h k)
@@ -61,9 +51,6 @@ module _ (h : Hierarchy) (made : IsWellMade h) where
 
     pub labels_fit : FitAll marks
     labels_fit = label_in_limit
-
-    pub labels_near : AreNear marks
-    labels_near r e label = below_far e.cost (is.short r e label)
 
 -- the cost of a label, if there is one, is small enough to be a summand
 pub fits-cost : (marks : List Mark) → FitAll marks → (r : ℕ) (o : Option Cost) → o ≡ costs_of marks r → IfSome o (λ (d : Cost). IsInLimit d)

@@ -1,7 +1,9 @@
 -- What a side of a query knows of the nodes: a list of marks, one for each rank.
-use Rattle.std.specs.Prelude.{ℕ, ◌≡◌, ◌-◌, ◌^◌, List, slice_index_or, sum_by, Option, Some, None}
+use Rattle.std.specs.Prelude.{ℕ, ◌≡◌, List, slice_index_or, sum_by, Option, Some, None}
 use Rattle.ch_cost.specs.declared.cost.Cost.{Cost}
-use Rattle.ch_cost.specs.Cost.{◌⊕◌, of_weight, cost_of_arcs, ◌≼◌, ◌≺◌, IsInLimit}
+use Rattle.ch_cost.specs.declared.short_cost.ShortCost.{ShortCost}
+use Rattle.ch_cost.specs.Cost.{◌≼◌, ◌≺◌, IsInLimit}
+use Rattle.ch_cost.specs.ShortCost.{no_short, short_of}
 use Rattle.ch_query.specs.declared.label.Label.{Label}
 use Rattle.ch_query.specs.declared.mark.Mark.{Mark}
 use Rattle.ch_query.specs.declared.mark.Mark.TheVariants.{Unseen, Open, Settled}
@@ -31,15 +33,11 @@ option_place (Some e) = e.place
 abbrev pub costs_of : List Mark → ℕ → Option Cost
 costs_of marks r = option_cost (label_at marks r)
 
--- above what any walk of a hierarchy costs
-abbrev pub far_cost : Cost
-far_cost = cost_of_arcs (2 ^ 25) (2 ^ 32 - 1) ⊕ of_weight 1
-
--- what the label of a mark costs; where there is none, more than any walk
-abbrev pub cost_or_far : Mark → Cost
-cost_or_far Unseen = far_cost
-cost_or_far (Open e) = e.cost
-cost_or_far (Settled e) = e.cost
+-- the short form of what the label of a mark costs, if there is one
+abbrev pub short_in : Mark → ShortCost
+short_in Unseen = no_short
+short_in (Open e) = short_of e.cost
+short_in (Settled e) = short_of e.cost
 
 -- the costs of the settled nodes alone
 abbrev pub settled_in : Mark → Option Cost
@@ -85,10 +83,6 @@ IsStopped marks limit = (r : ℕ) (e : Label) → mark_at marks r ≡ Open e →
 -- each label costs little enough to be a summand
 abbrev pub FitAll : List Mark → Type 0
 FitAll marks = (r : ℕ) (e : Label) → label_at marks r ≡ Some e → IsInLimit e.cost
-
--- each label costs less than a node has that has none
-abbrev pub AreNear : List Mark → Type 0
-AreNear marks = (r : ℕ) (e : Label) → label_at marks r ≡ Some e → e.cost ≺ far_cost
 
 -- how many nodes are settled
 abbrev pub settled : Mark → ℕ

@@ -1,15 +1,14 @@
-ghost use Rattle.std.specs.Prelude.{◌≡◌, ◌<◌, ◌+◌, ℕ, ◌∷◌, length, replicate, slice_set, All, Contains, IfOk, OnOk, IfSome, IfNone, IsTrue, OnSome};
+ghost use Rattle.std.specs.Prelude.{◌≡◌, ◌<◌, ◌+◌, ◌↔◌, ℕ, ◌∷◌, length, replicate, slice_set, All, Contains, IfOk, OnOk, IfSome, IfNone, IsTrue, OnSome};
 ghost use Rattle.std.specs.BinaryHeap.{heap_items, heap_len, IsHeap, IsUpperBound};
 ghost use Rattle.std.specs.List.Sorted.{IsPermutation};
-ghost use Rattle.ch_cost.specs.Cost.{◌≺◌};
 ghost use Rattle.ch_graph.specs.Queue.{entry_cmp};
-ghost use Rattle.ch_query.specs.Marks.{mark_at, label_at, costs_of, far_cost, AreNear, IsLatest, Improves, IsBelow, IsLeastOpen, IsStopped};
+ghost use Rattle.ch_query.specs.Marks.{mark_at, label_at, costs_of, IsLatest, Improves, IsBelow, IsLeastOpen, IsStopped};
 ghost use Rattle.ch_query.specs.declared.mark.Mark.TheVariants.{Unseen, Open, Settled};
 
 use crate::label::Label;
 use crate::limit::is_below;
 use crate::mark::Mark;
-use ch_cost::Cost;
+use ch_cost::{Cost, ShortCost};
 use std::alloc::{AllocError, Global};
 use std::cmp::Reverse;
 use std::collections::BinaryHeap;
@@ -17,14 +16,14 @@ use std::marker::Model;
 
 /// The marks of one side of a query, one for each rank, and which open node has the least label.
 ///
-/// The marks are made once. The costs of the labels stand beside them, so that a climb to a node is compared with what
-/// is known of it by 8 bytes and one test; a node without a label has a cost there that no walk has. The queue may hold
-/// older, dearer entries of a node; they are passed over when they come up. The list of touched ranks tells which marks
-/// to take back before the next query.
+/// The marks are made once. The costs of the labels stand beside them, in half their memory, so that a climb to a node is
+/// compared with what is known of it by 4 bytes; only where these keep no cost the mark itself is read. The queue may
+/// hold older, dearer entries of a node; they are passed over when they come up. The list of touched ranks tells which
+/// marks to take back before the next query.
 #[derive(Drop)]
 pub struct Frontier {
     marks: Vec<Mark>,
-    costs: Vec<Cost>,
+    costs: Vec<ShortCost>,
     queue: BinaryHeap<Reverse<(Cost, u32)>>,
     touched: Vec<u32>,
 }
@@ -58,7 +57,7 @@ impl Frontier {
     {
         Ok(Frontier {
             marks: vec![in alloc; Mark::Unseen; nodes as usize]?,
-            costs: vec![in alloc; far(); nodes as usize]?,
+            costs: vec![in alloc; ShortCost::none(); nodes as usize]?,
             queue: BinaryHeap::new(alloc),
             touched: Vec::new(alloc),
         })
@@ -71,7 +70,7 @@ impl Frontier {
         self.queue.clear();
         'touched: while let Some(rank) = self.touched.pop() {
             self.marks[rank as usize] = Mark::Unseen;
-            self.costs[rank as usize] = far();
+            self.costs[rank as usize] = ShortCost::none();
         }
     }
 
@@ -83,28 +82,39 @@ impl Frontier {
         self.marks[rank as usize].label()
     }
 
-    /// What the label of the node of a rank costs, if it has one. Its mark isn't read.
+    /// What the label of the node of a rank costs, if it has one.
     pub fn cost(&self, rank: u32) -> Option<Cost>
-        requires rank_in { rank < length self.now }
-        requires near { AreNear self.now }
+        requires { rank < length self.now }
         ensures { result ≡ costs_of self.now rank }
     {
-        let cost = self.costs[rank as usize];
-        if cost.is_below(far()) {
-            return Some(cost);
+        match self.costs[rank as usize].cost() {
+            Some(cost) => Some(cost),
+            None => self.marked_cost(rank),
         }
-        None
+    }
+
+    /// The same, as the mark has it.
+    fn marked_cost(&self, rank: u32) -> Option<Cost>
+        requires { rank < length self.now }
+        ensures { result ≡ costs_of self.now rank }
+    {
+        match self.label(rank) {
+            Some(label) => Some(label.cost),
+            None => None,
+        }
     }
 
     /// Whether a climb to the node of a rank is better than what is known of it. It costs at least what each settled node
-    /// does; one that costs as much as no walk does is told as no better.
+    /// does.
     pub fn is_improved_by(&self, rank: u32, cost: Cost) -> bool
         requires rank_in { rank < length self.now }
         requires latest { IsLatest self.now cost }
-        ensures better { IsTrue result → Improves cost (mark_at self.now rank) }
-        ensures each { cost ≺ far_cost → Improves cost (mark_at self.now rank) → IsTrue result }
+        ensures { IsTrue result ↔ Improves cost (mark_at self.now rank) }
     {
-        cost.is_below(self.costs[rank as usize])
+        match self.cost(rank) {
+            Some(known) => cost.is_below(known),
+            None => true,
+        }
     }
 
     /// Opens the node of a rank with a label that is better than what is known of it.
@@ -116,10 +126,10 @@ impl Frontier {
         ensures nodes { length self.new ≡ length self.old }
         ensures opened { OnOk result (self.new ≡ slice_set self.old rank (Open label)) }
     {
-        touch(&mut self.touched, rank, self.costs[rank as usize])?;
+        touch(&mut self.touched, rank, self.marks[rank as usize])?;
         self.queue.push(Reverse((label.cost, rank)))?;
         self.marks[rank as usize] = Mark::Open(label);
-        self.costs[rank as usize] = label.cost;
+        self.costs[rank as usize] = ShortCost::of(label.cost);
         Ok(())
     }
 
@@ -141,23 +151,15 @@ impl Frontier {
     }
 }
 
-/// A cost above that of any walk: of 2^25 arcs of the greatest weight, and one more.
-fn far() -> Cost
-    ensures { result ≡ far_cost }
-{
-    Cost::of_arcs(1 << 25, u32::MAX).plus(Cost::of_weight(1))
-}
-
-/// Puts a rank into the list of touched ones, if its node has no label, so that its cost is [`far`].
-fn touch(touched: &mut Vec<u32>, rank: u32, cost: Cost) -> Result<(), AllocError>
+/// Puts a rank into the list of touched ones, if its node isn't seen yet.
+fn touch(touched: &mut Vec<u32>, rank: u32, mark: Mark) -> Result<(), AllocError>
     ensures kept { (r : ℕ) → Contains touched.old.items r → Contains touched.new.items r }
     ensures within { (nodes : ℕ) → rank < nodes → All (λ r. r < nodes) touched.old.items → All (λ r. r < nodes) touched.new.items }
-    ensures put { OnOk result (cost ≡ far_cost → Contains touched.new.items rank) }
+    ensures put { OnOk result (mark ≡ Unseen → Contains touched.new.items rank) }
 {
-    if cost.is_below(far()) {
-        return Ok(());
+    if let Mark::Unseen = mark {
+        touched.push(rank)?;
     }
-    touched.push(rank)?;
     Ok(())
 }
 

@@ -4,7 +4,7 @@ ghost use Rattle.ch_graph.specs.Hierarchy.{IsWellMade};
 ghost use Rattle.ch_query.specs.Labels.{IsShortLimit};
 ghost use Rattle.ch_query.specs.Climb.{foot_rank};
 ghost use Rattle.ch_query.specs.Upward.{IsLaidOut};
-ghost use Rattle.ch_query.specs.Marks.{FitAll, AreNear, IsNoMore};
+ghost use Rattle.ch_query.specs.Marks.{FitAll, IsNoMore};
 ghost use Rattle.ch_query.specs.Searching.{IsStepAt, IsOpenedBy, IsFollowed, AreFollowed, ArePassed, IsSearching, IsTurned};
 ghost use Rattle.ch_query.specs.Marks.{IsLatest};
 ghost use Rattle.ch_query.specs.Meeting.{IsBestSoFar, cost_of};
@@ -35,7 +35,6 @@ pub fn turn(
     requires followed { AreFollowed hierarchy.now climb.side (cost_of best.old) here.old }
     requires there_nodes { length there.now ≡ length hierarchy.now.ranks }
     requires there_fits { FitAll there.now }
-    requires there_near { AreNear there.now }
     requires best { IsBestSoFar hierarchy.now here.old there.now best.old }
     ensures nodes { length here.new ≡ length here.old }
     ensures searching { OnOk result (IsSearching hierarchy.now climb.side upward.now.links.items climb.start here.new) }

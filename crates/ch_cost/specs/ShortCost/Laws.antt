@@ -1,4 +1,4 @@
--- What a short cost keeps. Other crates use `kept` alone.
+-- What a short cost keeps. Other crates use `kept` and `kept_not` alone.
 use Rattle.std.specs.Prelude.{ℕ, ◌≡◌, ◌-◌, ◌^◌, min, true, false, Bool, ◌==◌, Option, Some, None, refl}
 use Rattle.std.proofs.Common.{arith, ap, sym, ◌∙◌}
 use Rattle.std.proofs.lemmas.Bool.Decides.{nat_tests}
@@ -6,7 +6,11 @@ use Rattle.ch_cost.specs.declared.cost.Cost.{Cost}
 use Rattle.ch_cost.specs.declared.short_cost.ShortCost.{ShortCost}
 use Rattle.ch_cost.specs.Cost.{length_of, of_length}
 use Rattle.ch_cost.specs.Cost.Lengths.{of_length-length_of}
-use Rattle.ch_cost.specs.ShortCost.{short_of, kept_in}
+use Rattle.ch_cost.specs.ShortCost.{no_short, short_of, kept_in}
+
+pub no_short-is : record { length = 2 ^ 32 - 1 } ≡ no_short
+unfolding no_short
+no_short-is = refl
 
 pub short_of-is : (c : Cost) → record { length = min (length_of c) (2 ^ 32 - 1) } ≡ short_of c
 unfolding short_of
@@ -34,6 +38,10 @@ read_back n false c d test cut is =
     let whole : n ≡ length_of c = grind (arith, nat_tests, test, cut) in
     let same : of_length n ≡ d = cc in
     sym same ∙ (ap of_length whole ∙ of_length-length_of c)
+
+-- the short form of no cost gives none back
+pub kept_not : kept_in no_short ≡ None
+kept_not = sym (kept-none no_short (ap (λ (t : ShortCost). t.length) (sym no_short-is)))
 
 -- what it gives back is the cost that it was made of
 pub kept : (c d : Cost) → kept_in (short_of c) ≡ Some d → d ≡ c

@@ -3,7 +3,7 @@ use Rattle.std.proofs.Common.{◌≡◌, ℕ, ◌+◌, refl, subst}
 use Rattle.ch_cost.specs.declared.cost.Cost.{Cost}
 use Rattle.ch_cost.specs.Cost.{◌≺◌}
 use Rattle.ch_cost.specs.Cost.Laws as laws
-use Rattle.ch_cost.specs.ShortCost.Laws.{kept}
+use Rattle.ch_cost.specs.ShortCost.Laws.{kept, kept_not}
 use Rattle.ch_cost.proofs.laws.cost_laws.Goals as goal
 
 ends : (f : ℕ → Cost) → ((n : ℕ) → f (n + 1) ≺ f n) → ⊥
@@ -37,5 +37,5 @@ returns c = record {
     no_longer = λ _ _ h. laws.no_longer-from_within h;
     summands = λ _ _ h k. laws.in_limit-from_arcs h k;
   };
-  shorts = kept;
+  shorts = record { kept = kept; none = kept_not };
 }

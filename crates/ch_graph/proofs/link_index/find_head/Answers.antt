@@ -1,15 +1,12 @@
-use Rattle.std.proofs.Common.{rules}
-use Rattle.std.proofs.lemmas.List.Sorted.{answers_always}
-use Rattle.ch_graph.proofs.HeadSearch.{head_at, heads_rise, no_head}
+use Rattle.std.proofs.Common.{arith}
+use Rattle.ch_graph.proofs.HeadSearch.{not_here}
 use Rattle.ch_graph.proofs.link_index.find_head.Goals as goal
 
--- the closure gives the node that a link comes to
-pub returns-in-Ok-clause-found : goal.returns-in-Ok-clause-found
-returns-in-Ok-clause-found c =
-    let found = c.in-Ok.ensures.position (λ link. link.to) (answers_always _ _ _ (λ f a r g called. search rules)) in
-    head_at c.args.links.now c.args.to c.in-Ok.place c.in-Ok.ensures.bound found
+pub links-init : goal.links-init
+links-init c = λ k before at. absurd (omega (arith, before, (c.near_head-near.ensures.holds k at).0))
 
-pub returns-in-Err-clause-none : goal.returns-in-Err-clause-none
-returns-in-Err-clause-none c =
-    let split = c.in-Err.ensures.position (λ link. link.to) (answers_always _ _ _ (λ f a r g called. search rules)) in
-    no_head c.args.links.now c.args.to c.in-Err.field-0 (split (heads_rise c.args.links.now c.args.to c.requires))
+pub links-preserved : goal.links-preserved
+links-preserved c = not_here c.args.links.now c.args.to c.links.place _ c.links.invariant c.if-links-place.false
+
+pub returns-clause-none : goal.returns-clause-none
+returns-clause-none c = λ k at. c.links.invariant k (omega (arith, (c.near_head-near.ensures.holds k at).1)) at

@@ -4,7 +4,7 @@ use Rattle.ch_query.specs.Marks.{IsStopped, settled_count}
 use Rattle.ch_query.specs.Meeting.{cost_of}
 use Rattle.ch_query.proofs.Marking.{count-most}
 use Rattle.ch_query.proofs.BestMeetings.{best-flip, best-stopped}
-use Rattle.ch_query.proofs.Turning.{labels_fit, labels_near}
+use Rattle.ch_query.proofs.Turning.{labels_fit}
 use Rattle.ch_query.proofs.Beginning.{searching-begun, followed-begun, followed-less, best-begun, turned-count, not-turned, both-stopped, neither, either-one, one_if}
 use Rattle.ch_query.proofs.meet.meet.Goals as goal
 
@@ -24,12 +24,6 @@ turn-requires-clause-there_fits c = labels_fit c.args.hierarchy.now c.requires.m
 
 pub turn-requires-in-turns-clause-there_fits : goal.turn-requires-in-turns-clause-there_fits
 turn-requires-in-turns-clause-there_fits c = labels_fit c.args.hierarchy.now c.requires.made c.in_ok-rose.ensures.searching
-
-pub turn-requires-clause-there_near : goal.turn-requires-clause-there_near
-turn-requires-clause-there_near c = labels_near c.args.hierarchy.now c.requires.made c.turns.invariant.falls
-
-pub turn-requires-in-turns-clause-there_near : goal.turn-requires-in-turns-clause-there_near
-turn-requires-in-turns-clause-there_near c = labels_near c.args.hierarchy.now c.requires.made c.in_ok-rose.ensures.searching
 
 pub turn-requires-in-turns-clause-best : goal.turn-requires-in-turns-clause-best
 turn-requires-in-turns-clause-best c = best-flip c.in_ok-rose.ensures.best

@@ -3,17 +3,17 @@ use Rattle.std.proofs.lemmas.Bool.{iff_false}
 use Rattle.ch_query.specs.declared.upward.Step.{Step}
 use Rattle.ch_query.specs.Upward.{step_along}
 use Rattle.ch_cost.specs.declared.cost.Cost.{Cost}
-use Rattle.ch_cost.specs.Cost.{◌⊕◌, ◌≼◌, ◌≺◌, IsInLimit, IsNoLonger}
+use Rattle.ch_cost.specs.Cost.{◌⊕◌, ◌≼◌, IsInLimit, IsNoLonger}
 use Rattle.ch_cost.specs.Cost.Laws.{in_limit-from_walks, at_most_trans, at_most_sum_left}
 use Rattle.ch_query.specs.declared.label.Label.{Label}
 use Rattle.ch_query.specs.declared.mark.Mark.{Mark}
 use Rattle.ch_query.specs.Labels.{CountsBelow}
 use Rattle.ch_query.specs.Climb.{foot_at, foot_rank, head_at, head_rank, cost_at}
-use Rattle.ch_query.specs.Marks.{mark_at, far_cost, IsLatest, Improves}
+use Rattle.ch_query.specs.Marks.{mark_at, IsLatest, Improves}
 use Rattle.ch_query.specs.Searching.{IsOpenedBy, IsFollowed, ClimbsTo}
 use Rattle.ch_query.proofs.Sides.{head_in}
 use Rattle.ch_query.proofs.Ranks.{rank_below}
-use Rattle.ch_query.proofs.Turning.{below_far, bound_in_limit, link_in_limit, rank_few}
+use Rattle.ch_query.proofs.Turning.{bound_in_limit, link_in_limit, rank_few}
 use Rattle.ch_query.proofs.Following.{opened-one, followed-put, followed-kept}
 use Rattle.ch_query.proofs.turn.follow.Goals as goal
 
@@ -55,8 +55,7 @@ returns-then-not-is_improved_by-clause-followed c counted =
     let is : step ≡ step_along h c.args.side k = c.index-step.ensures ∙ c.requires.step.along step in
     let head : step.head ≡ head_rank h c.args.side k = ap (λ (s : Step). s.head) is in
     let sum : c.plus-sum.result ≡ c.args.cost ⊕ cost_at h k = c.plus-sum.ensures ∙ ap (λ (d : Cost). c.args.cost ⊕ d) c.step_cost.ensures in
-    let low : c.plus-sum.result ≺ far_cost = below_far h c.requires.made c.plus-sum.result (subst (λ (d : Cost). IsNoLonger d h.bound) (sym sum) counted.short) in
-    let never : Improves c.plus-sum.result (mark_at c.args.here.now step.head) → ⊥ = λ improves. true_false (c.is_improved_by.ensures.each low improves) c.if-not-is_improved_by.true in
+    let never : Improves c.plus-sum.result (mark_at c.args.here.now step.head) → ⊥ = λ improves. true_false (c.is_improved_by.ensures.1 improves) c.if-not-is_improved_by.true in
     followed-kept h c.args.side c.args.cost c.args.limit c.args.here.now k step.head c.plus-sum.result never c.requires.latest head sum counted
 
 pub returns-clause-opened : goal.returns-clause-opened
@@ -70,7 +69,7 @@ returns-clause-opened c =
     let marks : List Mark = c.args.here.now in
     let sum : c.plus-sum.result ≡ c.args.cost ⊕ cost_at h k = c.plus-sum.ensures ∙ ap (λ (d : Cost). c.args.cost ⊕ d) c.step_cost.ensures in
     let short : IsNoLonger c.plus-sum.result h.bound = (c.counts.ensures.0 c.if-not-counts.false).short in
-    let improves : Improves c.plus-sum.result (mark_at marks step.head) = c.is_improved_by.ensures.better c.if-not-is_improved_by.false in
+    let improves : Improves c.plus-sum.result (mark_at marks step.head) = c.is_improved_by.ensures.0 c.if-not-is_improved_by.false in
     let within : step.head < length marks = omega (arith, c.requires.here_nodes, head, rank_below h c.requires.made (head_at h side k) (head_in h c.requires.made side k c.requires.step.climbs.within)) in
     let e : Label = record { cost = c.plus-sum.result; place = Some c.args.place } in
     let climbs : ClimbsTo h side c.args.upward.now.links.items (foot_rank h side k) c.args.cost step.head e = record { place = c.args.place; known = refl; within = c.requires.step.link_in; climbs = c.requires.step.climbs; foot = refl; head = sym head; sum = sum; short = short } in
@@ -86,7 +85,7 @@ returns-clause-followed c =
     let side = c.args.side in
     let marks : List Mark = c.args.here.now in
     let sum : c.plus-sum.result ≡ c.args.cost ⊕ cost_at h k = c.plus-sum.ensures ∙ ap (λ (d : Cost). c.args.cost ⊕ d) c.step_cost.ensures in
-    let improves : Improves c.plus-sum.result (mark_at marks step.head) = c.is_improved_by.ensures.better c.if-not-is_improved_by.false in
+    let improves : Improves c.plus-sum.result (mark_at marks step.head) = c.is_improved_by.ensures.0 c.if-not-is_improved_by.false in
     let within : step.head < length marks = omega (arith, c.requires.here_nodes, head, rank_below h c.requires.made (head_at h side k) (head_in h c.requires.made side k c.requires.step.climbs.within)) in
     let e : Label = record { cost = c.plus-sum.result; place = Some c.args.place } in
     subst (λ (ms : List Mark). IsFollowed h side c.args.cost c.args.limit ms k) (sym c.in_ok-open.ensures.opened) (followed-put h side c.args.cost c.args.limit marks k step.head e within improves head sum)

@@ -1,10 +1,10 @@
 use Rattle.std.proofs.Common.{◌≡◌, ◌<◌, List, Some, None, replicate, length, map, set, refl, sym, subst, arith}
 use Rattle.std.proofs.lemmas.List.Elements.{All-pop}
 use Rattle.std.specs.BinaryHeap.{heap_items}
-use Rattle.ch_cost.specs.declared.cost.Cost.{Cost}
+use Rattle.ch_cost.specs.declared.short_cost.ShortCost.{ShortCost}
 use Rattle.ch_query.specs.declared.mark.Mark.{Mark}
 use Rattle.ch_query.specs.declared.mark.Mark.TheVariants.{Unseen}
-use Rattle.ch_query.specs.Marks.{cost_or_far}
+use Rattle.ch_query.specs.Marks.{short_in}
 use Rattle.ch_query.proofs.Marking.{cost_written, as_many_costs}
 use Rattle.ch_query.proofs.Entries.{cleared, clearing-more, front-cleared}
 use Rattle.ch_query.proofs.frontier.Frontier.clear.Goals as goal
@@ -20,7 +20,7 @@ touched-init c = record {
 pub touched-preserved : goal.touched-preserved
 touched-preserved c = record {
   clearing = clearing-more _ c.touched.self-inside.marks.items c.touched.self-inside.touched.items c.pop.new.self.items c.in-Some.rank c.touched.invariant.clearing c.in-Some.ensures.items;
-  costs = subst (λ (d : Cost). set c.touched.self-inside.costs.items c.in-Some.rank d ≡ map cost_or_far (set c.touched.self-inside.marks.items c.in-Some.rank Unseen)) (sym c.far.ensures) (cost_written c.touched.self-inside.marks.items c.touched.self-inside.costs.items c.in-Some.rank Unseen c.touched.invariant.costs);
+  costs = subst (λ (d : ShortCost). set c.touched.self-inside.costs.items c.in-Some.rank d ≡ map short_in (set c.touched.self-inside.marks.items c.in-Some.rank Unseen)) (sym c.none.ensures) (cost_written c.touched.self-inside.marks.items c.touched.self-inside.costs.items c.in-Some.rank Unseen c.touched.invariant.costs);
   no_entry = c.touched.invariant.no_entry;
   heap = c.touched.invariant.heap;
 }

@@ -1,13 +1,13 @@
-use Rattle.std.proofs.Common.{◌≡◌, ◌<◌, ◌∙◌, List, length, ap, subst, sym, arith}
+use Rattle.std.proofs.Common.{◌≡◌, ◌<◌, ◌∙◌, List, length, set, ap, subst, sym, arith}
 use Rattle.std.proofs.lemmas.List.{get_or_read}
 use Rattle.std.specs.BinaryHeap.{heap_items}
-use Rattle.ch_cost.specs.declared.cost.Cost.{Cost}
+use Rattle.ch_cost.specs.declared.short_cost.ShortCost.{ShortCost}
 use Rattle.ch_graph.specs.Queue.{Entry}
 use Rattle.ch_query.specs.Front.{IsFront}
 use Rattle.ch_query.specs.declared.mark.Mark.{Mark}
-use Rattle.ch_query.specs.declared.mark.Mark.TheVariants.{Open}
-use Rattle.ch_query.specs.Marks.{mark_at, far_cost, cost_or_far, Improves}
-use Rattle.ch_query.proofs.Marking.{cost_read, cost_written, as_many_costs}
+use Rattle.ch_query.specs.declared.mark.Mark.TheVariants.{Unseen, Open}
+use Rattle.ch_query.specs.Marks.{mark_at, Improves}
+use Rattle.ch_query.proofs.Marking.{cost_written, as_many_costs}
 use Rattle.ch_query.proofs.Entries.{front-open, front-touched}
 use Rattle.ch_query.proofs.frontier.Frontier.open.Goals as goal
 
@@ -30,13 +30,11 @@ pub invariant_of-self-2 : goal.invariant_of-self-2
 invariant_of-self-2 c =
     let within : c.args.rank < length c.self.inside.marks.items = subst (λ (xs : List Mark). c.args.rank < length xs) (sym c.self.view_is) c.requires.rank_in in
     let marks : List Mark = c.self.inside.marks.items in
-    let costs : List Cost = c.self.inside.costs.items in
-    let place : c.args.rank < length costs = omega (arith, within, as_many_costs marks costs c.self.invariant.known) in
-    let read : c.index.result.now ≡ cost_or_far (mark_at marks c.args.rank) = get_or_read costs c.args.rank c.index.result.now place c.index.ensures far_cost ∙ cost_read marks costs c.args.rank far_cost c.self.invariant.known within in
+    let read : c.index.result.now ≡ mark_at marks c.args.rank = get_or_read marks c.args.rank c.index.result.now within c.index.ensures Unseen in
     let improves : Improves c.args.label.cost (mark_at marks c.args.rank) = subst (λ (xs : List Mark). Improves c.args.label.cost (mark_at xs c.args.rank)) (sym c.self.view_is) c.requires.improves in
     record {
-      front = front-open marks (heap_items c.self.inside.queue) (heap_items c.push.new.self) c.self.inside.touched.items c.touch.new.touched.items c.args.rank c.args.label c.self.invariant.front within improves c.in_ok-push.ensures.permutation (c.in_ok-push.ensures.heap_order c.self.invariant.front.heap) c.touch.ensures.kept (c.touch.ensures.within (length marks) within c.self.invariant.front.places) (λ unseen. c.in_ok-touch.ensures.put (read ∙ ap cost_or_far unseen));
-      known = cost_written marks c.self.inside.costs.items c.args.rank (Open c.args.label) c.self.invariant.known;
+      front = front-open marks (heap_items c.self.inside.queue) (heap_items c.push.new.self) c.self.inside.touched.items c.touch.new.touched.items c.args.rank c.args.label c.self.invariant.front within improves c.in_ok-push.ensures.permutation (c.in_ok-push.ensures.heap_order c.self.invariant.front.heap) c.touch.ensures.kept (c.touch.ensures.within (length marks) within c.self.invariant.front.places) (λ unseen. c.in_ok-touch.ensures.put (read ∙ unseen));
+      known = ap (λ (d : ShortCost). set c.self.inside.costs.items c.args.rank d) c.of.ensures ∙ cost_written marks c.self.inside.costs.items c.args.rank (Open c.args.label) c.self.invariant.known;
     }
 
 pub index_mut-requires-2 : goal.index_mut-requires-2

@@ -1,0 +1,5 @@
+use Rattle.ch_cost.specs.ShortCost.Laws.{no_short-is}
+use Rattle.ch_cost.proofs.short_cost.ShortCost.none.Goals as goal
+
+pub returns : goal.returns
+returns c = no_short-is
