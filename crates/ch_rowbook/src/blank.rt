@@ -16,6 +16,7 @@ pub(crate) type Words = Table<(), Known, usize, Versions, Global>;
 pub(crate) type Records = boxcar::Vec<Record, Global, SoundRows>;
 
 /// A book with no record, which no type names yet.
+#[derive(Drop)]
 pub struct Blank {
     pub(crate) list: Records,
     pub(crate) table: Words,
