@@ -7,3 +7,5 @@
 mod books;
 #[cfg(test)]
 mod kit;
+#[cfg(test)]
+mod races;

@@ -1,0 +1,213 @@
+ghost use Rattle.std.specs.Prelude.{◌≡◌};
+ghost use Rattle.ch_overlay.specs.Source.{IsBound};
+ghost use Rattle.ch_rowbook.specs.Blanks.{name_of};
+
+use crate::kit::{are, are_sound, bound, is_sound, row};
+use ch_cost::Cost;
+use ch_overlay::{Row, SeeError};
+use ch_rowbook::{Blank, Book, BookError, Pen, Reader, SeenRecord, open};
+use std::alloc::{AllocError, Global};
+use std::marker::Brand;
+use std::sync::atomic::{AtomicU64, Ordering};
+use std::sync::{Arc, Wait};
+use std::test::Fail;
+use std::thread;
+use std::thread::Threads;
+
+/// The nodes, each of which leads to the next, and the last to the first.
+const NODES: u32 = 3;
+
+/// The weights of the rows: those below [`NODES`] plus one stand in the opening rows.
+const WEIGHTS: u32 = 6_000;
+
+/// How often a reader reads all rows at most.
+const ROUNDS: u32 = 40_000;
+
+/// How often the pen looks at most whether the readers have begun.
+const LOOKS: u32 = 10_000_000;
+
+/// A row that became current, as its only entry tells it.
+#[derive(Clone, Copy)]
+struct Written {
+    node: u32,
+    version: u64,
+    weight: u32,
+}
+
+/// How many readers have begun, and whether the pen has ended.
+#[derive(Drop)]
+struct Signals {
+    begun: AtomicU64,
+    ended: AtomicU64,
+}
+
+/// The node that a node leads to.
+fn next(node: u32) -> u32 {
+    if node < NODES - 1 { node + 1 } else { 0 }
+}
+
+/// The row of a node, with one entry.
+fn weighted(alloc: Global, node: u32, weight: u32) -> Result<Arc<Row>, AllocError> {
+    row(alloc, &[(next(node), weight)], &[])
+}
+
+/// Waits until both readers have begun.
+fn wait_for_readers(signals: &Signals) {
+    for _ in 0..LOOKS {
+        if signals.begun.load(Ordering::SeqCst) == 2 {
+            return;
+        }
+        thread::yield_now();
+    }
+}
+
+/// Writes a row of each weight that isn't in the opening rows, to one node after the other.
+fn write_rows<B: Book, R: Wait>(
+    rt: &R,
+    alloc: Global,
+    pen: &mut Pen<B>,
+    limit: Cost,
+    signals: &Signals,
+) -> Result<Vec<Written>, BookError>
+    requires nodes { B.book.nodes ≡ 3 }
+    requires bound { B.book.bound ≡ limit }
+{
+    let mut log = Vec::new(alloc);
+    for node in 0..NODES {
+        let version = pen.version(node);
+        let weight = node + 1;
+        log.push(Written {
+            node,
+            version,
+            weight,
+        })?;
+    }
+    wait_for_readers(signals);
+    for weight in NODES + 1..WEIGHTS {
+        let node = weight % NODES;
+        let row = weighted(alloc, node, weight)?;
+        if !is_sound(node, &row, limit) {
+            break;
+        }
+        let version = pen.write(rt, node, row)?;
+        log.push(Written {
+            node,
+            version,
+            weight,
+        })?;
+    }
+    signals.ended.store(1, Ordering::SeqCst);
+    Ok(log)
+}
+
+/// Reads all rows again and again until the pen has ended; what was read.
+fn read_rows<B: Book>(
+    alloc: Global,
+    reader: &mut Reader<B>,
+    signals: &Signals,
+) -> Result<Vec<SeenRecord>, SeeError> {
+    let mut seen = Vec::new(alloc);
+    for round in 0..ROUNDS {
+        for node in 0..NODES {
+            seen.push(reader.read(node)?)?;
+        }
+        if round == 0 {
+            signals.begun.fetch_add(1, Ordering::SeqCst);
+        }
+        if signals.ended.load(Ordering::SeqCst) == 1 {
+            break;
+        }
+    }
+    Ok(seen)
+}
+
+/// Whether what was read is what was written at its version.
+fn was_written(log: &[Written], read: &SeenRecord) -> bool {
+    let version = read.seen.version;
+    let Ok(place) = log.binary_search_by_key(&version, |written| written.version) else {
+        return false;
+    };
+    let Written { node, weight, .. } = log[place];
+    (read.seen.node == node)
+        & are(&read.seen.row.out, &[(next(node), weight)])
+        & read.seen.row.inn.is_empty()
+}
+
+/// Whether all that was read was written.
+fn were_written(log: &[Written], read: &[SeenRecord]) -> bool {
+    read.iter().all(|read| was_written(log, read))
+}
+
+/// Whether all that was read are the rows that were written last.
+fn were_written_last(log: &[Written], read: &[SeenRecord]) -> bool {
+    if log.len() < 3 {
+        return false;
+    }
+    were_written(&log[log.len() - 3..], read)
+}
+
+/// Lets a pen write and two readers read at the same time. Whether each row that was read was written.
+fn race<B: Book + Send + Sync, R: Threads + Wait + Sync>(
+    rt: &R,
+    alloc: Global,
+    blank: Blank,
+    rows: &[Arc<Row>],
+    limit: Cost,
+) -> Result<bool, Fail>
+    requires named { B.book ≡ name_of blank }
+    requires nodes { blank.nodes ≡ 3 }
+    requires limit { blank.bound ≡ limit }
+    requires bound { IsBound limit }
+{
+    if rows.len() != 3 {
+        return Err(Fail::new("there are three opening rows"));
+    }
+    if !are_sound(rows, limit) {
+        return Err(Fail::new("the opening rows can be relied on"));
+    }
+    let (mut pen, mut first): (Pen<B>, Reader<B>) = open(rt, alloc, blank, rows)?;
+    let mut second = first.split()?;
+    let signals = Signals {
+        begun: AtomicU64::new(0),
+        ended: AtomicU64::new(0),
+    };
+    let (written, (by_first, by_second)) = thread::join(
+        rt,
+        || write_rows(rt, alloc, &mut pen, limit, &signals),
+        || {
+            thread::join(
+                rt,
+                || read_rows(alloc, &mut first, &signals),
+                || read_rows(alloc, &mut second, &signals),
+            )
+        },
+    );
+    let (log, by_first, by_second) = (written?, by_first?, by_second?);
+    first.join(second);
+    let last = read_rows(alloc, &mut first, &signals)?;
+    Ok(
+        (log.len() == WEIGHTS as usize - 1)
+            & were_written(log.as_slice(), by_first.as_slice())
+            & were_written(log.as_slice(), by_second.as_slice())
+            & were_written_last(log.as_slice(), last.as_slice()),
+    )
+}
+
+/// The opening rows, with the first weights.
+fn opening(alloc: Global) -> Result<Vec<Arc<Row>>, AllocError> {
+    let mut rows = Vec::new(alloc);
+    for node in 0..NODES {
+        rows.push(weighted(alloc, node, node + 1)?)?;
+    }
+    Ok(rows)
+}
+
+#[test]
+fn readers_find_what_the_pen_wrote(rt: HostRuntime) -> Result<(), Fail> {
+    let alloc = rt.alloc();
+    let rows = opening(alloc)?;
+    let limit = bound();
+    let blank = Blank::new(alloc, NODES, limit)?;
+    assert!(rt; race::<Brand, HostRuntime>(&rt, alloc, blank, rows.as_slice(), limit)?);
+    Ok(())
+}
