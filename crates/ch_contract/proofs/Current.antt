@@ -11,7 +11,7 @@ use Rattle.ch_overlay.specs.Source.{row_in}
 use Rattle.ch_contract.specs.declared.contraction.Receipt.{Receipt}
 use Rattle.ch_contract.specs.declared.error.CommitError.{CommitError}
 use Rattle.ch_contract.specs.declared.error.CommitError.TheVariants as commits
-use Rattle.ch_contract.specs.Board.{Board}
+use Rattle.ch_contract.specs.Ledger.{Ledger}
 use Rattle.ch_contract.specs.Proposal.{Proposal}
 use Rattle.ch_contract.specs.Commit.{IsContractedYet, IsOld, IsFirstOld, IsFirstChange, IsStale, IsBroken, IsShown}
 use Rattle.ch_contract.proofs.Sweeping.{waits-from_none, gone-from_some, none-from_alive}
@@ -35,7 +35,7 @@ contracted_by_rank o is x in_range r row_is b test =
       ],
     )
 
-module _ (b : Board) where
+module _ (b : Ledger) where
   -- two first changes in one list are the same
   same_first : (before : List Seen) (s : Seen) (after : List Seen) (other : List Seen) (t : Seen) (rest : List Seen) → before ++ s ∷ after ≡ other ++ t ∷ rest → All (λ (r : Seen). IsOld b r → ⊥) before → IsOld b s → All (λ (r : Seen). IsOld b r → ⊥) other → IsOld b t → s ≡ t
   same_first [] s after [] t rest e early old also_early also_old = ap (λ rs. get_or rs 0 s) e
@@ -115,7 +115,7 @@ unranked None e = refl
 unranked (Some x) e = absurd (false≢true e)
 
 -- a node that isn't contracted isn't shown with a rank
-pub alive-unranked : (b : Board) → IsOverlay b.overlay → (node : ℕ) → IsAlive (state_of b.overlay) node → (s : Seen) → s.node ≡ node → IsShown b s → (row_in s).rank ≢ None → ⊥
+pub alive-unranked : (b : Ledger) → IsOverlay b.overlay → (node : ℕ) → IsAlive (state_of b.overlay) node → (s : Seen) → s.node ≡ node → IsShown b s → (row_in s).rank ≢ None → ⊥
 alive-unranked b is node alive s node_is shown ranked =
     let none = unranked (row_at b.overlay.rows node).rank (none-from_alive b.overlay is node alive.in_range alive) in
     ranked (ap (λ (r : Row). r.rank) shown.row.same ∙ ap (λ x. (row_at b.overlay.rows x).rank) node_is ∙ none)

@@ -11,11 +11,11 @@ use Rattle.ch_overlay.specs.Answers.{row_among}
 use Rattle.ch_overlay.specs.declared.source.Seen.{Seen}
 use Rattle.ch_overlay.specs.Overlay.{state_of}
 use Rattle.ch_overlay.specs.Source.{row_in, row_of}
-use Rattle.ch_contract.specs.Board.{Board, IsBoard, AreLawful}
+use Rattle.ch_contract.specs.Ledger.{Ledger, IsLedger, AreLawful}
 use Rattle.ch_contract.specs.Proposal.{Proposal, IsProposal}
 use Rattle.ch_contract.specs.Commit.{IsRowOf, Agrees}
 
-module _ (verdicts_are_lawful : VerdictsAreLawful) (b : Board) (is : IsBoard b) where
+module _ (verdicts_are_lawful : VerdictsAreLawful) (b : Ledger) (is : IsLedger b) where
   -- a row that is the board's is the row of its node
   row_of_node : (s : Seen) → IsRowOf b s → IsRow (state_of b.overlay) s.node (row_in s)
   row_of_node s here = subst (λ (r : Row). IsRow (state_of b.overlay) s.node r) (sym here.same) (is.overlay.rows s.node here.in_range)

@@ -8,6 +8,7 @@ pub mod Gathering
 pub mod Judging
 pub mod Counting
 pub mod Contracting
+pub mod Numbering
 pub mod Sweeping
 pub mod NodesLeft
 pub mod Logs

@@ -4,7 +4,7 @@ use Rattle.std.specs.List.{slice_get}
 use Rattle.std.proofs.lemmas.List.{length_push}
 use Rattle.ch_cost.specs.declared.cost.Cost.{Cost}
 use Rattle.ch_laws.specs.Contraction.{State, Contraction, Run}
-use Rattle.ch_contract.specs.Board.{Board, IsBoard, IsLog}
+use Rattle.ch_contract.specs.Ledger.{Ledger, IsLedger, IsLog}
 use Rattle.ch_contract.proofs.NodesLeft.{distinct_below-few}
 
 -- what a run says of the entry of each place
@@ -33,7 +33,7 @@ run-entry {old = old} (suc k) e (Run.next {e = first} step run) is =
     let more = ap length step.puts.order ∙ length_push old.order first.node in
     record { rank = omega (arith, later.rank, more); rising = later.rising; node = subst (λ n. e.node < n) step.puts.nodes later.node }
 
-module _ (b : Board) (is : IsBoard b) where
+module _ (b : Ledger) (is : IsLedger b) where
   -- the log has an entry for each contracted node
   pub log_length : length b.log ≡ length b.overlay.order
   log_length =
@@ -48,8 +48,8 @@ module _ (b : Board) (is : IsBoard b) where
   entry k e here = run-entry k e is.reached.run here
 
   -- so the log of a board is in order
-  pub log_of_board : IsLog b.log
-  log_of_board =
+  pub log_of_ledger : IsLog b.log
+  log_of_ledger =
       let none = ap length is.reached.starts.order in
       let nodes = run-nodes is.reached.run in
       let few = is.overlay.few_nodes in

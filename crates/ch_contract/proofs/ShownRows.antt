@@ -7,7 +7,7 @@ use Rattle.ch_laws.specs.Rows.{Row, IsRow}
 use Rattle.ch_overlay.specs.declared.source.Seen.{Seen}
 use Rattle.ch_overlay.specs.Overlay.{Overlay, IsOverlay, IsEntry, AreEntries, row_at, state_of}
 use Rattle.ch_overlay.specs.Source.{row_in, IsBound, IsSeenRow, NamesAlone}
-use Rattle.ch_contract.specs.Board.{Board, IsBoard}
+use Rattle.ch_contract.specs.Ledger.{Ledger, IsLedger}
 
 module _ (o : Overlay) (is : IsOverlay o) (s : Seen) (inside : s.node < length o.rows) (row_is : row_in s ≡ row_at o.rows s.node) where
   wide : (es : List Entry) → All (IsEntry (length o.rows) o.bound s.node) es → All (IsEntry (2 ^ 25) o.bound s.node) es
@@ -31,5 +31,5 @@ module _ (o : Overlay) (is : IsOverlay o) (s : Seen) (inside : s.node < length o
       record { out = λ k d h. (entries.out k d h).in_range; inn = λ k d h. (entries.inn k d h).in_range }
 
 -- the bound of a board is one that sources have
-pub board_bound : BoundsFit → (b : Board) → IsBoard b → IsBound b.overlay.bound
-board_bound bounds_fit b is = subst (λ (c : Cost). IsBound c) (sym is.bound) (bounds_fit b.graph is.graph)
+pub ledger_bound : BoundsFit → (b : Ledger) → IsLedger b → IsBound b.overlay.bound
+ledger_bound bounds_fit b is = subst (λ (c : Cost). IsBound c) (sym is.bound) (bounds_fit b.graph is.graph)

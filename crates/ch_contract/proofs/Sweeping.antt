@@ -12,7 +12,7 @@ use Rattle.ch_laws.specs.Rows.{Row, IsRow}
 use Rattle.ch_laws.specs.Members.{contains_first, contains_later, contains_cases, contains_place, place_of}
 use Rattle.ch_overlay.specs.Overlay.{Overlay, IsOverlay, row_at, state_of}
 use Rattle.ch_contract.specs.declared.contraction.Receipt.{Receipt}
-use Rattle.ch_contract.specs.Board.{Board, receipt_of, alive_nodes}
+use Rattle.ch_contract.specs.Ledger.{Ledger, receipt_of, alive_nodes}
 use Rattle.ch_contract.specs.Sweep.{AreContracted, IsSwept, IsPartlySwept, IsTaken, IsVisited}
 use Rattle.ch_contract.proofs.Ranges.{contains-range, range_with_len-more, range_with_len-append}
 
@@ -51,11 +51,11 @@ run-more rest step = next step rest
 run-more (next first run) step = next first (run-more run step)
 
 -- the nodes below this one that weren't contracted before the sweep
-abbrev pub alive_below : Board → ℕ → List ℕ
+abbrev pub alive_below : Ledger → ℕ → List ℕ
 alive_below b i = filter (λ x. is_none (row_at b.overlay.rows x).rank) (range_with_len 0 i)
 
 -- the nodes below this one are all contracted
-pub record IsSweptTo (old : Board) (i : ℕ) (receipts : List Receipt) (now : Board) : Type 0 where
+pub record IsSweptTo (old : Ledger) (i : ℕ) (receipts : List Receipt) (now : Ledger) : Type 0 where
   pub entries : List Contraction
   pub contracted : AreContracted old (alive_below old i) entries now
   pub handed : receipts ≡ map receipt_of entries
@@ -63,7 +63,7 @@ pub record IsSweptTo (old : Board) (i : ℕ) (receipts : List Receipt) (now : Bo
   pub order : now.overlay.order ≡ old.overlay.order ++ alive_below old i
 
 -- none is at first
-pub swept-start : (b : Board) → IsSweptTo b 0 [] b
+pub swept-start : (b : Ledger) → IsSweptTo b 0 [] b
 swept-start b = record {
   entries = [];
   contracted = record { graph = refl; log = sym (append-nil b.log); of_nodes = refl; run = rest };
@@ -73,7 +73,7 @@ swept-start b = record {
 }
 
 -- nor where nothing is done
-pub unswept : (b : Board) → IsPartlySwept b b
+pub unswept : (b : Ledger) → IsPartlySwept b b
 unswept b = record {
   entries = [];
   nodes = [];
@@ -88,7 +88,7 @@ below-range i k d h =
     let low : k < i = omega arith in
     rw (get_or-range_with_len 0 i k d low) (omega arith)
 
-module _ (old now : Board) (i : ℕ) (receipts : List Receipt) (is : IsOverlay old.overlay) (inside : i < length old.overlay.rows) (so_far : IsSweptTo old i receipts now) where
+module _ (old now : Ledger) (i : ℕ) (receipts : List Receipt) (is : IsOverlay old.overlay) (inside : i < length old.overlay.rows) (so_far : IsSweptTo old i receipts now) where
   -- the next node isn't among those that were contracted
   apart : Contains (alive_below old i) i → ⊥
   apart among = absurd (omega (arith, All-contains (λ x. x < i) (alive_below old i) i (All-filter (λ x. is_none (row_at old.overlay.rows x).rank) (λ x. x < i) (range_with_len 0 i) (below-range i)) among))
@@ -122,7 +122,7 @@ module _ (old now : Board) (i : ℕ) (receipts : List Receipt) (is : IsOverlay o
   next_some : is_none (row_at old.overlay.rows i).rank ≡ false → alive_below old (i + 1) ≡ alive_below old i
   next_some some = more ∙ ap (λ b. alive_below old i ++ cond b (i ∷ []) []) some ∙ append-nil (alive_below old i)
 
-  taken : (new : Board) (after : List Receipt) → IsTaken now i receipts new after → IsSweptTo old (i + 1) after new
+  taken : (new : Ledger) (after : List Receipt) → IsTaken now i receipts new after → IsSweptTo old (i + 1) after new
   taken new after t =
       let e = t.contracted.entry in
       let nodes : alive_below old (i + 1) ≡ alive_below old i ++ i ∷ [] = next_none (none-from_alive old.overlay is i inside (was_alive t.alive)) in
@@ -155,9 +155,9 @@ module _ (old now : Board) (i : ℕ) (receipts : List Receipt) (is : IsOverlay o
       }
 
   -- and after it is visited it is contracted too
-  pub swept-more : (new : Board) (after : List Receipt) → IsVisited now i receipts new after → IsSweptTo old (i + 1) after new
+  pub swept-more : (new : Ledger) (after : List Receipt) → IsVisited now i receipts new after → IsSweptTo old (i + 1) after new
   swept-more new after (inl t) = taken new after t
-  swept-more new after (inr p) = subst (λ (b : Board). IsSweptTo old (i + 1) after b) (sym p.same) (passed after p.nothing p.gone)
+  swept-more new after (inr p) = subst (λ (b : Ledger). IsSweptTo old (i + 1) after b) (sym p.same) (passed after p.nothing p.gone)
 
 -- The end
 
@@ -174,7 +174,7 @@ contains-filter p (y ∷ ys) x passes among = elim (contains_cases y ys x among)
   ]
 ]
 
-module _ (old now : Board) (i : ℕ) (receipts : List Receipt) (is : IsOverlay old.overlay) (so_far : IsSweptTo old i receipts now) where
+module _ (old now : Ledger) (i : ℕ) (receipts : List Receipt) (is : IsOverlay old.overlay) (so_far : IsSweptTo old i receipts now) where
   -- once all nodes were visited, all are contracted
   pub swept-all : i ≡ length old.overlay.rows → IsSwept old receipts now
   swept-all all = record {

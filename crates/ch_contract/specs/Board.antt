@@ -1,60 +1,9 @@
--- A graph under contraction: its rows, and the log of what was done.
-use Rattle.std.specs.Prelude.{ℕ, ◌≡◌, ◌<◌, ◌≤◌, ◌^◌, Some, List, [], ◌∷◌, ◌++◌, length, filter, is_none, All, AllPairs}
-use Rattle.std.specs.List.{range_with_len, slice_get}
-use Rattle.ch_graph.specs.Graph.{Graph, IsGraph, bound_of}
-use Rattle.ch_laws.specs.declared.shortcut.Shortcut.{Shortcut}
-use Rattle.ch_laws.specs.Contraction.{Contraction, Step, IsReached, IsPlan, IsWitnessed, contracted}
-use Rattle.ch_overlay.specs.Overlay.{Overlay, IsOverlay, row_at, state_of}
-use Rattle.ch_contract.specs.declared.contraction.Receipt.{Receipt}
+-- How a board numbers the rows that change.
+use Rattle.std.specs.Prelude.{ℕ, ◌+◌, ◌*◌, ◌<◌, ◌≤◌, length, All}
+use Rattle.ch_contract.specs.Ledger.{Ledger}
 
--- the graph, the rows that its contractions so far lead to, the entries of these contractions, first to last, and the
--- version that the next changed row gets
-pub record Board : Type 0 where
-  pub graph : Graph
-  pub overlay : Overlay
-  pub log : List Contraction
-  pub next : ℕ
-
--- the entries of the log lead from the start of the graph to the rows
-pub record IsBoard (b : Board) : Type 0 where
-  pub graph : IsGraph b.graph
-  pub overlay : IsOverlay b.overlay
-  pub bound : b.overlay.bound ≡ bound_of b.graph
-  pub reached : IsReached b.graph b.log (state_of b.overlay)
-  pub versions : All (λ v. v < b.next) b.overlay.versions
-
--- the entry of rank k stands at k, and its neighbours rise
-pub record IsLog (log : List Contraction) : Type 0 where
-  pub few : length log ≤ 2 ^ 25
-  pub ranks : (k : ℕ) (e : Contraction) → slice_get log k ≡ Some e → e.rank ≡ k
-  pub rising : (k : ℕ) (e : Contraction) → slice_get log k ≡ Some e → AllPairs (λ x y. x < y) e.neighbours
-  pub nodes : (k : ℕ) (e : Contraction) → slice_get log k ≡ Some e → e.node < 2 ^ 25
-
--- Shortcuts that a board may put in when it contracts a node: they are a plan, and each other pair by way of the
--- node is heavy or has a witness.
-pub record AreLawful (b : Board) (node : ℕ) (put : List Shortcut) : Type 0 where
-  pub plan : IsPlan b.overlay.bound (state_of b.overlay) node put
-  pub witnessed : IsWitnessed b.overlay.bound (state_of b.overlay) node put
-
--- one lawful contraction of a board, by its entry in the log
-pub record Contracts (old : Board) (e : Contraction) (new : Board) : Type 0 where
-  pub graph : new.graph ≡ old.graph
-  pub log : new.log ≡ old.log ++ e ∷ []
-  pub step : Step (bound_of old.graph) (state_of old.overlay) e (state_of new.overlay)
-
--- what is handed out for an entry
-abbrev pub receipt_of : Contraction → Receipt
-receipt_of e = record { node = e.node; rank = e.rank }
-
--- the board contracted this node, put these shortcuts in, and handed this receipt out
-pub record IsContracted (old : Board) (node : ℕ) (put : List Shortcut) (receipt : Receipt) (new : Board) : Type 0 where
-  pub entry : Contraction
-  pub of_node : entry.node ≡ node
-  pub of_shortcuts : entry.shortcuts ≡ length put
-  pub handed : receipt ≡ receipt_of entry
-  pub contracts : Contracts old entry new
-  pub state : state_of new.overlay ≡ contracted (state_of old.overlay) node put
-
--- the nodes that aren't contracted, rising
-abbrev pub alive_nodes : Board → List ℕ
-alive_nodes b = filter (λ x. is_none (row_at b.overlay.rows x).rank) (range_with_len 0 (length b.overlay.rows))
+-- This number is above all versions, and small enough: none of the contractions so far took more numbers than there are
+-- nodes, and one more.
+pub record IsNextVersion (l : Ledger) (next : ℕ) : Type 0 where
+  pub above : All (λ v. v < next) l.overlay.versions
+  pub few : next ≤ (length l.overlay.rows + 1) * (length l.overlay.order + 1)

@@ -3,20 +3,20 @@ use Rattle.std.specs.Prelude.{ℕ, ◌≡◌, ◌≢◌, ◌<◌, List, ◌∷�
 use Rattle.ch_overlay.specs.declared.source.Seen.{Seen}
 use Rattle.ch_overlay.specs.Source.{row_in}
 use Rattle.ch_overlay.specs.Overlay.{row_at}
-use Rattle.ch_contract.specs.Board.{Board}
+use Rattle.ch_contract.specs.Ledger.{Ledger}
 use Rattle.ch_contract.specs.Proposal.{Proposal}
 
 -- the node is contracted already
-abbrev pub IsContractedYet : Board → Proposal → Type 0
+abbrev pub IsContractedYet : Ledger → Proposal → Type 0
 IsContractedYet b p = Contains b.overlay.order p.node
 
 -- the board has another version of the row
-pub record IsOld (b : Board) (s : Seen) : Type 0 where
+pub record IsOld (b : Ledger) (s : Seen) : Type 0 where
   pub in_range : s.node < length b.overlay.rows
   pub changed : s.version ≢ slice_index b.overlay.versions s.node
 
 -- this is the first row of the proposal of which the board has another version
-pub record IsFirstOld (b : Board) (p : Proposal) (s : Seen) : Type 0 where
+pub record IsFirstOld (b : Ledger) (p : Proposal) (s : Seen) : Type 0 where
   pub before : List Seen
   pub after : List Seen
   pub among : p.rests_on ≡ before ++ s ∷ after
@@ -25,7 +25,7 @@ pub record IsFirstOld (b : Board) (p : Proposal) (s : Seen) : Type 0 where
 
 -- the first row of the proposal of which the board has another version is this node's, seen in the one and now in the
 -- other
-pub record IsFirstChange (b : Board) (p : Proposal) (node seen now : ℕ) : Type 0 where
+pub record IsFirstChange (b : Ledger) (p : Proposal) (node seen now : ℕ) : Type 0 where
   pub row : Seen
   pub first : IsFirstOld b p row
   pub of_node : node ≡ row.node
@@ -33,7 +33,7 @@ pub record IsFirstChange (b : Board) (p : Proposal) (node seen now : ℕ) : Type
   pub current : now ≡ slice_index b.overlay.versions row.node
 
 -- the node isn't contracted, and a row isn't current, the first of them this node's, with this version and that one now
-pub record IsStale (b : Board) (p : Proposal) (node seen now front : ℕ) : Type 0 where
+pub record IsStale (b : Ledger) (p : Proposal) (node seen now front : ℕ) : Type 0 where
   pub waits : IsContractedYet b p → ⊥
   pub row : Seen
   pub first : IsFirstOld b p row
@@ -43,22 +43,22 @@ pub record IsStale (b : Board) (p : Proposal) (node seen now front : ℕ) : Type
   pub of_log : front ≡ length b.log
 
 -- the row is the board's row of its node
-pub record IsRowOf (b : Board) (s : Seen) : Type 0 where
+pub record IsRowOf (b : Ledger) (s : Seen) : Type 0 where
   pub in_range : s.node < length b.overlay.rows
   pub same : row_in s ≡ row_at b.overlay.rows s.node
 
 -- the proposal was made by rows that are the board's, under its bound
-pub record Agrees (b : Board) (p : Proposal) : Type 0 where
+pub record Agrees (b : Ledger) (p : Proposal) : Type 0 where
   pub bound : p.bound ≡ b.overlay.bound
   pub rows : All (IsRowOf b) p.rests_on
 
 -- the node isn't contracted, no version says that a row has changed, and yet the proposal isn't by the board's rows
-pub record IsBroken (b : Board) (p : Proposal) : Type 0 where
+pub record IsBroken (b : Ledger) (p : Proposal) : Type 0 where
   pub waits : IsContractedYet b p → ⊥
   pub current : All (λ s. IsOld b s → ⊥) p.rests_on
   pub differs : Agrees b p → ⊥
 
 -- the row is the board's, with its version
-pub record IsShown (b : Board) (s : Seen) : Type 0 where
+pub record IsShown (b : Ledger) (s : Seen) : Type 0 where
   pub row : IsRowOf b s
   pub version : s.version ≡ slice_index b.overlay.versions s.node

@@ -7,10 +7,10 @@ use Rattle.ch_laws.specs.declared.entry.Entry.{Entry}
 use Rattle.ch_laws.specs.Contraction.{IsAlive}
 use Rattle.ch_laws.specs.Rows.{Row}
 use Rattle.ch_overlay.specs.Overlay.{Overlay, row_at, state_of}
-use Rattle.ch_contract.specs.Board.{Board}
+use Rattle.ch_contract.specs.Ledger.{Ledger}
 
 -- some node of the board isn't contracted
-abbrev pub HasNodesLeft : Board → Type 0
+abbrev pub HasNodesLeft : Ledger → Type 0
 HasNodesLeft b = (x : ℕ) × IsAlive (state_of b.overlay) x
 
 -- the rank of each node, as its row has it

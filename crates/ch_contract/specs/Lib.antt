@@ -1,3 +1,4 @@
+pub mod Ledger
 pub mod Board
 pub mod Planned
 pub mod Sweep

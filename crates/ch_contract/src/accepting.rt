@@ -1,7 +1,7 @@
 ghost use Rattle.std.specs.Prelude.{◌≡◌, ◌↔◌, ◌<◌, ℕ, IsTrue, IfOk, IfNone, IfSome, SomeIff, All, Contains, length, slice_index};
 ghost use Rattle.ch_overlay.specs.declared.source.Seen.{Seen};
 ghost use Rattle.ch_contract.specs.declared.error.CommitError.TheVariants as commits;
-ghost use Rattle.ch_contract.specs.Board.{AreLawful};
+ghost use Rattle.ch_contract.specs.Ledger.{AreLawful};
 ghost use Rattle.ch_contract.specs.Proposal.{IsProposal};
 ghost use Rattle.ch_contract.specs.Commit.{IsContractedYet, IsOld, IsFirstChange, IsRowOf, Agrees, IsStale, IsBroken};
 

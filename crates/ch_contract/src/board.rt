@@ -1,9 +1,10 @@
 ghost use Rattle.std.specs.Prelude.{◌≡◌, ◌<◌, ◌≤◌, ◌↔◌, ℕ, [], IfOk, IfErr, IsErrOf, IsTrue, OnErr, All, length};
+ghost use Rattle.std.specs.List.{range_with_len};
 ghost use Rattle.ch_graph.specs.Hierarchy.{IsRight};
 ghost use Rattle.ch_laws.specs.Contraction.{IsStart, IsAlive, IsMade};
 ghost use Rattle.ch_overlay.specs.Overlay.{state_of};
 ghost use Rattle.ch_contract.specs.declared.error.CommitError.TheVariants as commits;
-ghost use Rattle.ch_contract.specs.Board.{IsBoard, IsLog, IsContracted};
+ghost use Rattle.ch_contract.specs.Ledger.{IsLedger, IsLog, AreLawful, IsContracted};
 ghost use Rattle.ch_contract.specs.Commit.{IsContractedYet, IsOld, Agrees, IsStale, IsBroken};
 ghost use Rattle.ch_contract.specs.Finish.{HasNodesLeft};
 ghost use Rattle.ch_contract.specs.Sweep.{IsSwept, IsPartlySwept, IsVisited};
@@ -12,7 +13,7 @@ use crate::accepting::accepted;
 use crate::contraction::{Contraction, Receipt};
 use crate::error::{CommitError, FinishError, ProposeError, SweepError};
 use crate::finish::{Finished, hierarchy_of};
-use crate::ledger::Ledger;
+use crate::ledger::{Ledger, versions_from};
 use crate::proposal::Proposal;
 use crate::proposing::{Scratch, propose_with};
 use crate::shown::shown;
@@ -20,29 +21,32 @@ use crate::site::Site;
 use ch_cost::Cost;
 use ch_graph::{Graph, Hierarchy};
 use ch_laws::bounds_fit;
-use ch_overlay::{Overlay, RowSource, SeeError, Seen};
+use ch_overlay::{Overlay, RowSource, SeeError, Seen, Shortcut};
 use std::alloc::{AllocError, Global};
 use std::marker::{Model, PhantomData};
 
 /// A graph whose nodes are contracted by proposals, and the log of their contractions.
 ///
 /// The type names the graph. Whatever happens to a board, its rows are those that its log leads to from that graph by
-/// lawful contractions.
+/// lawful contractions. It numbers the rows that change, one by one.
 #[derive(Drop)]
 pub struct Board<S: Site> {
     ledger: Ledger,
+    /// The version that the next row gets which changes.
+    next_version: u64,
     of: PhantomData<S>,
 }
 
 impl<S: Site> Model for Board<S> {
     ghost use Rattle.std.specs.Prelude.{◌≡◌};
-    ghost use Rattle.ch_contract.specs.Board as boards;
+    ghost use Rattle.ch_contract.specs.Ledger as ledgers;
+    ghost use Rattle.ch_contract.specs.Board.{IsNextVersion};
 
-    ghost Value = { boards.Board };
+    ghost Value = { ledgers.Ledger };
 
     ghost view = { λ b. b.ledger };
 
-    ghost invariant = { λ b. b.ledger.graph ≡ S.graph };
+    ghost invariant = { λ b. (b.ledger.graph ≡ S.graph) × IsNextVersion b.ledger b.next_version };
 }
 
 impl<S: Site> Board<S> {
@@ -53,10 +57,13 @@ impl<S: Site> Board<S> {
         requires named { S.graph ≡ graph }
         ensures log { IfOk result (λ board. board.log ≡ []) }
         ensures start { IfOk result (λ board. IsStart graph (state_of board.overlay)) }
+        ensures versions { IfOk result (λ board. board.overlay.versions ≡ range_with_len 0 graph.nodes) }
     {
+        let nodes = graph.nodes();
         let ledger = Ledger::new(alloc, graph)?;
         Ok(Board {
             ledger,
+            next_version: u64::from(nodes),
             of: PhantomData,
         })
     }
@@ -80,7 +87,7 @@ impl<S: Site> Board<S> {
     pub fn log(&self) -> &[Contraction]
         ensures entries { result.now ≡ self.now.log }
         ensures log { IsLog self.now.log }
-        ensures holds { IsBoard self.now }
+        ensures holds { IsLedger self.now }
         ensures named { self.now.graph ≡ S.graph }
     {
         self.ledger.log()
@@ -88,7 +95,7 @@ impl<S: Site> Board<S> {
 
     /// What always holds of a board. It does nothing when it runs.
     fn holds(&self)
-        ensures { IsBoard self.now }
+        ensures { IsLedger self.now }
     {
         self.ledger.holds()
     }
@@ -108,10 +115,25 @@ impl<S: Site> Board<S> {
         if let Err(refused) = accepted(&self.ledger, &proposal) {
             return Err(refused);
         }
-        let Ok(planned) = self.ledger.plan(proposal.node(), proposal.shortcuts()) else {
+        let Ok(receipt) = self.contract(proposal.node(), proposal.shortcuts()) else {
             return Err(CommitError::OutOfMemory);
         };
-        Ok(self.ledger.enter(planned))
+        Ok(receipt)
+    }
+
+    /// Contracts a node, puts these shortcuts in, and numbers the rows that change.
+    fn contract(&mut self, node: u32, shortcuts: &[Shortcut]) -> Result<Receipt, AllocError>
+        requires { AreLawful self.old node shortcuts.now }
+        ensures ok { IfOk result (λ receipt. IsContracted self.old node shortcuts.now receipt self.new) }
+        ensures err { OnErr result (self.new ≡ self.old) }
+    {
+        self.ledger.holds();
+        let planned = self.ledger.plan(node, shortcuts)?;
+        let alloc = self.ledger.allocator();
+        let versions = versions_from(alloc, self.next_version, planned.rows().len())?;
+        let receipt = self.ledger.enter(planned, versions.as_slice());
+        self.next_version += versions.len() as u64;
+        Ok(receipt)
     }
 
     /// Contracts each node that isn't contracted, by rising number, by proposals whose searches settle at most
@@ -254,7 +276,7 @@ impl<S: Site> RowSource for Board<S> {
     ghost use Rattle.ch_overlay.specs.declared.source.Seen.{Seen};
     ghost use Rattle.ch_overlay.specs.declared.source.SeeError.TheVariants as see;
     ghost use Rattle.ch_overlay.specs.Source.{row_in, IsBound, IsSeenRow, NamesAlone};
-    ghost use Rattle.ch_contract.specs.Board as boards;
+    ghost use Rattle.ch_contract.specs.Ledger as ledgers;
     ghost use Rattle.ch_contract.specs.Commit.{IsShown};
 
     ghost bears = { λ _. Unit {0} };
@@ -292,9 +314,9 @@ impl<S: Site> RowSource for Board<S> {
 
     ghost stays_more = { λ a b c e f. f ∙ e };
 
-    ghost still_shows = { λ a b s e h. subst (λ (b : boards.Board). IsShown b s) (sym e) h };
+    ghost still_shows = { λ a b s e h. subst (λ (b : ledgers.Ledger). IsShown b s) (sym e) h };
 
-    ghost still_whole = { λ a b x e h. subst (λ (b : boards.Board). x < length b.overlay.rows) (sym e) h };
+    ghost still_whole = { λ a b x e h. subst (λ (b : ledgers.Ledger). x < length b.overlay.rows) (sym e) h };
 
-    ghost same_bound = { λ a b e. ap (λ (b : boards.Board). b.overlay.bound) e };
+    ghost same_bound = { λ a b e. ap (λ (b : ledgers.Ledger). b.overlay.bound) e };
 }

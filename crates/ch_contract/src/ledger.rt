@@ -1,12 +1,14 @@
-ghost use Rattle.std.specs.Prelude.{◌≡◌, ◌+◌, ◌<◌, ◌^◌, ℕ, List, [], IfOk, length, map, drop};
+ghost use Rattle.std.specs.Prelude.{◌≡◌, ◌+◌, ◌<◌, ◌^◌, ℕ, List, [], IfOk, All, length, map, drop};
 ghost use Rattle.std.specs.List.{zip, range_with_len};
 ghost use Rattle.std.specs.Arc.{arc_value};
 ghost use Rattle.ch_laws.specs.declared.shortcut.Shortcut.{Shortcut};
 ghost use Rattle.ch_laws.specs.Contraction.{IsStart};
 ghost use Rattle.ch_overlay.specs.Overlay.{state_of};
 ghost use Rattle.ch_overlay.specs.Change.{puts, changed_nodes};
-ghost use Rattle.ch_contract.specs.Board.{IsBoard, IsLog, AreLawful, IsContracted};
-ghost use Rattle.ch_contract.specs.Planned.{IsPlanned, WasPlanned};
+ghost use Rattle.ch_contract.specs.Ledger.{IsLedger, IsLog, AreLawful, IsContracted};
+ghost use Rattle.ch_contract.specs.Ledger as ledgers;
+ghost use Rattle.ch_contract.specs.Planned.{IsPlanned, WasPlanned, AreNewVersions};
+ghost use Rattle.ch_contract.specs.Planned as plans;
 
 use crate::contraction::{Contraction, Receipt};
 use ch_graph::Graph;
@@ -19,32 +21,31 @@ use std::sync::Arc;
 /// A graph whose nodes are contracted one by one: its rows, and the log of the contractions that made them.
 ///
 /// Whatever happens to a ledger, its rows are those that its log leads to from its graph by lawful contractions: each
-/// pair of neighbours of a contracted node got a shortcut, was heavy, or had another walk as cheap.
+/// pair of neighbours of a contracted node got a shortcut, was heavy, or had another walk as cheap. The versions of its
+/// rows come from whoever keeps it.
 #[derive(Drop)]
 pub struct Ledger {
     alloc: Global,
     graph: Graph,
     overlay: Overlay,
     log: Vec<Contraction>,
-    next_version: u64,
 }
 
 impl Model for Ledger {
-    ghost use Rattle.std.specs.Prelude.{◌+◌, ◌*◌, ◌≤◌, length, vec_capacity};
-    ghost use Rattle.ch_contract.specs.Board as boards;
+    ghost use Rattle.std.specs.Prelude.{◌≤◌, length, vec_capacity};
+    ghost use Rattle.ch_contract.specs.Ledger as ledgers;
 
-    ghost Value = { boards.Board };
+    ghost Value = { ledgers.Ledger };
 
-    ghost view = { λ b. record { graph = b.graph; overlay = b.overlay; log = b.log.items; next = b.next_version } };
+    ghost view = { λ l. record { graph = l.graph; overlay = l.overlay; log = l.log.items } };
 
-    ghost invariant = { λ b. boards.IsBoard (record { graph = b.graph; overlay = b.overlay; log = b.log.items; next = b.next_version }) × (b.next_version ≤ (length b.overlay.rows + 1) * (length b.overlay.order + 1)) × (length b.overlay.rows ≤ vec_capacity b.log) };
+    ghost invariant = { λ l. ledgers.IsLedger (record { graph = l.graph; overlay = l.overlay; log = l.log.items }) × (length l.overlay.rows ≤ vec_capacity l.log) };
 }
 
 /// A contraction whose new rows are made and whose entry is written, and that isn't entered yet.
 #[derive(Drop)]
 pub struct Planned {
     change: Change,
-    versions: Vec<u64>,
     entry: Contraction,
 }
 
@@ -53,7 +54,7 @@ impl Model for Planned {
 
     ghost Value = { planned.Planned };
 
-    ghost view = { λ p. record { change = p.change; versions = p.versions.items; entry = p.entry } };
+    ghost view = { λ p. record { change = p.change; entry = p.entry } };
 }
 
 impl Planned {
@@ -63,13 +64,6 @@ impl Planned {
         ensures { map (λ a. (a.0, arc_value a.1)) result.now ≡ self.now.change.rows }
     {
         self.change.rows()
-    }
-
-    /// The versions that the new rows get, in the order of [`Planned::rows`].
-    pub fn versions(&self) -> &[u64]
-        ensures { result.now ≡ self.now.versions }
-    {
-        self.versions.as_slice()
     }
 }
 
@@ -82,7 +76,6 @@ impl Ledger {
         ensures log { IfOk result (λ l. l.log ≡ []) }
         ensures start { IfOk result (λ l. IsStart graph (state_of l.overlay)) }
         ensures versions { IfOk result (λ l. l.overlay.versions ≡ range_with_len 0 graph.nodes) }
-        ensures next { IfOk result (λ l. l.next ≡ graph.nodes) }
     {
         let overlay = Overlay::start(alloc, &graph)?;
         let nodes = overlay.nodes();
@@ -92,7 +85,6 @@ impl Ledger {
             graph,
             overlay,
             log,
-            next_version: u64::from(nodes),
         })
     }
 
@@ -114,14 +106,14 @@ impl Ledger {
     pub fn log(&self) -> &[Contraction]
         ensures entries { result.now ≡ self.now.log }
         ensures log { IsLog self.now.log }
-        ensures holds { IsBoard self.now }
+        ensures holds { IsLedger self.now }
     {
         self.log.as_slice()
     }
 
     /// What always holds of a ledger. It does nothing when it runs.
     pub fn holds(&self)
-        ensures { IsBoard self.now }
+        ensures { IsLedger self.now }
     {
         let _ = self.log.len();
     }
@@ -146,8 +138,6 @@ impl Ledger {
     {
         let rank = self.overlay.nodes() - self.overlay.alive();
         let change = self.overlay.plan(node, shortcuts)?;
-        let count = change.rows().len();
-        let versions = versions_from(self.alloc, self.next_version, count)?;
         let neighbours = neighbours_in(self.alloc, change.rows())?;
         let entry = Contraction {
             node,
@@ -155,44 +145,37 @@ impl Ledger {
             neighbours,
             shortcuts: shortcuts.len() as u64,
         };
-        Ok(Planned {
-            change,
-            versions,
-            entry,
-        })
+        Ok(Planned { change, entry })
     }
 
-    /// Contracts the node of what was planned: the new rows become current, with the versions that follow the last
-    /// one, and the entry stands at the end of the log. Takes no memory.
-    pub fn enter(&mut self, planned: Planned) -> Receipt
+    /// Contracts the node of what was planned: the new rows become current, with these versions, one for each in the
+    /// order of [`Planned::rows`], rising, and above all that were given so far; and the entry stands at the end of the
+    /// log. Takes no memory.
+    pub fn enter(&mut self, planned: Planned, versions: &[u64]) -> Receipt
         requires planned { WasPlanned self.old planned }
+        requires versions { AreNewVersions self.old planned versions.now }
         ensures contracted { (node : ℕ) (put : List Shortcut) → IsPlanned self.old node put planned → IsContracted self.old node put result self.new }
         ensures rows { self.new.overlay.rows ≡ puts self.old.overlay.rows planned.change.rows }
-        ensures versions { self.new.overlay.versions ≡ puts self.old.overlay.versions (zip (changed_nodes planned.change) planned.versions) }
-        ensures next { self.new.next ≡ self.old.next + length planned.change.rows }
+        ensures versions { self.new.overlay.versions ≡ puts self.old.overlay.versions (zip (changed_nodes planned.change) versions.now) }
     {
-        let Planned {
-            change,
-            versions,
-            entry,
-        } = planned;
+        let Planned { change, entry } = planned;
         let receipt = Receipt {
             node: entry.node,
             rank: entry.rank,
         };
         plan_is_lawful();
         reached_goes_on();
-        self.overlay.apply(change, versions.as_slice());
-        self.next_version += versions.len() as u64;
+        self.overlay.apply(change, versions);
         self.log.push_reserved(entry);
         receipt
     }
 }
 
-/// So many versions, from this one on.
-fn versions_from(alloc: Global, first: u64, count: usize) -> Result<Vec<u64>, AllocError>
+/// So many versions, from this one on. New rows may get them where all earlier ones are below.
+pub fn versions_from(alloc: Global, first: u64, count: usize) -> Result<Vec<u64>, AllocError>
     requires { first + count < 2 ^ 64 }
-    ensures { IfOk result (λ versions. versions.items ≡ range_with_len first count) }
+    ensures items { IfOk result (λ versions. versions.items ≡ range_with_len first count) }
+    ensures new { IfOk result (λ versions. (l : ledgers.Ledger) (p : plans.Planned) → count ≡ length p.change.rows → All (λ v. v < first) l.overlay.versions → AreNewVersions l p versions.items) }
 {
     let mut versions = Vec::with_capacity(alloc, count)?;
     for i in 0..count as u64 {

@@ -28,7 +28,7 @@ pub use contraction::{Contraction, Receipt};
 pub use error::{CommitError, FinishError, ProposeError, SweepError};
 pub use facts::Facts;
 pub use finish::Finished;
-pub use ledger::{Ledger, Planned};
+pub use ledger::{Ledger, Planned, versions_from};
 pub use proposal::Proposal;
 pub use proposing::{Scratch, propose, propose_with};
 pub use site::Site;

@@ -1,7 +1,7 @@
 -- What holds of a world holds after each event.
-use Rattle.std.proofs.Common.{ℕ, ◌≡◌, ◌+◌, ◌<◌, List, ◌++◌, length, map, get_or, slice_index, All, Contains, Some, arith, ap, sym, subst, ◌∙◌}
+use Rattle.std.proofs.Common.{ℕ, ◌≡◌, ◌<◌, List, ◌++◌, length, map, get_or, slice_index, All, Contains, Some, arith, ap, refl, sym, subst, ◌∙◌}
 use Rattle.std.specs.List.{zip, range_with_len}
-use Rattle.std.proofs.lemmas.List.{length-map, length-append}
+use Rattle.std.proofs.lemmas.List.{get_or_default}
 use Rattle.std.proofs.lemmas.List.Elements.{All-append, All-map, All-weaker, All-contains, Contains-get_or}
 use Rattle.ch_cost.specs.declared.cost.Cost.{Cost}
 use Rattle.ch_graph.specs.Graph.{bound_of}
@@ -10,7 +10,7 @@ use Rattle.ch_laws.specs.Rows.{Row}
 use Rattle.ch_overlay.specs.Source.{IsBound}
 use Rattle.ch_overlay.specs.Overlay.{Overlay, IsOverlay, row_at}
 use Rattle.ch_overlay.specs.Change.{Change, IsChange, puts, WritesItsRows, ChangesWriteTheirRows}
-use Rattle.ch_contract.specs.Board.{Board, IsBoard}
+use Rattle.ch_contract.specs.Ledger.{Ledger, IsLedger}
 use Rattle.ch_core.specs.World.{World, Version, View, Standing, IsIn, has, version_of}
 use Rattle.ch_core.specs.Keeping.{IsWorld, IsSound, IsSoundVersion}
 use Rattle.ch_core.proofs.Growing.{still_in, puts_in}
@@ -45,21 +45,19 @@ module _ (old : Overlay) (c : Change) (writes : WritesItsRows old c) (new : Over
       (subst (λ (b : Cost). IsSound (length old.rows) b v.node v.row) (sym bound_is) sound)
 
 -- the world after a contraction is one
-pub world_after : ChangesWriteTheirRows → (w : World) → IsWorld w → (put : List Shortcut) (c : Change) → IsChange w.ledger.overlay put c → (new : Board) → IsBoard new → new.graph ≡ w.ledger.graph
+pub world_after : ChangesWriteTheirRows → (w : World) → IsWorld w → (put : List Shortcut) (c : Change) → IsChange w.ledger.overlay put c → (new : Ledger) → IsLedger new → new.graph ≡ w.ledger.graph
     → new.overlay.rows ≡ puts w.ledger.overlay.rows c.rows
-    → new.overlay.versions ≡ puts w.ledger.overlay.versions (zip (map (λ a. a.0) c.rows) (range_with_len w.ledger.next (length c.rows)))
-    → new.next ≡ w.ledger.next + length c.rows
+    → new.overlay.versions ≡ puts w.ledger.overlay.versions (zip (map (λ a. a.0) c.rows) (range_with_len (length w.book) (length c.rows)))
     → IsWorld (record { ledger = new; book = w.book ++ map version_of c.rows; views = w.views })
-world_after changes_write w is put c change new goes graph rows_are versions_are next_is =
+world_after changes_write w is put c change new goes graph rows_are versions_are =
     let o : Overlay = w.ledger.overlay in
-    let bound_is : new.overlay.bound ≡ o.bound = goes.bound ∙ ap bound_of graph ∙ sym is.board.bound in
-    let writes : WritesItsRows o c = changes_write o c is.board.overlay (put, change) in
+    let bound_is : new.overlay.bound ≡ o.bound = goes.bound ∙ ap bound_of graph ∙ sym is.ledger.bound in
+    let writes : WritesItsRows o c = changes_write o c is.ledger.overlay (put, change) in
     let book : List Version = w.book ++ map version_of c.rows in
-    let in_book = puts_in c.rows w.book o.rows o.versions w.ledger.next is.board.overlay.versions is.next is.current in
+    let in_book = puts_in c.rows w.book o.rows o.versions (length w.book) is.ledger.overlay.versions refl is.current in
     record {
-      board = goes;
+      ledger = goes;
       bound = subst (λ (b : Cost). IsBound b) (sym bound_is) is.bound;
-      next = length-append w.book (map version_of c.rows) ∙ omega (arith, is.next, length-map c.rows version_of, next_is);
       few_workers = is.few_workers;
       current = λ x inside.
           subst (λ (rows : List Row). IsIn book x (slice_index new.overlay.versions x) (row_at rows x)) (sym rows_are)
@@ -71,12 +69,18 @@ world_after changes_write w is put c change new goes graph rows_are versions_are
           (all_new_sound o c writes new.overlay goes.overlay rows_are bound_is);
     }
 
+-- the versions are places of the book
+pub versions_below : (w : World) → IsWorld w → All (λ v. v < length w.book) w.ledger.overlay.versions
+versions_below w is k d h =
+    let many = is.ledger.overlay.versions in
+    let same : slice_index w.ledger.overlay.versions k ≡ get_or w.ledger.overlay.versions k d = get_or_default w.ledger.overlay.versions k 0 d h in
+    subst (λ v. v < length w.book) same (is.current k (omega (arith, h, many))).within
+
 -- what a world keeps where the views change
 pub world_with : (w : World) → IsWorld w → (views : List View) → length views ≡ length w.views → ((k x : ℕ) (s : Standing) → has (record { ledger = w.ledger; book = w.book; views = views }) k x ≡ Some s → IsIn w.book x s.version s.row) → IsWorld (record { ledger = w.ledger; book = w.book; views = views })
 world_with w is views many kept = record {
-  board = is.board;
+  ledger = is.ledger;
   bound = is.bound;
-  next = is.next;
   few_workers = omega (arith, is.few_workers, many);
   current = is.current;
   views = kept;

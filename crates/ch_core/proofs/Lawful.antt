@@ -11,7 +11,7 @@ use Rattle.ch_overlay.specs.Answers.{row_among}
 use Rattle.ch_overlay.specs.declared.source.Seen.{Seen}
 use Rattle.ch_overlay.specs.Source.{row_in, row_of}
 use Rattle.ch_overlay.specs.Overlay.{Overlay, IsOverlay, row_at, state_of, no_arcs}
-use Rattle.ch_contract.specs.Board.{Board, IsBoard, AreLawful}
+use Rattle.ch_contract.specs.Ledger.{Ledger, IsLedger, AreLawful}
 use Rattle.ch_contract.specs.Proposal.{Proposal, IsProposal}
 use Rattle.ch_core.specs.World.{World, Version, Standing, StandsIn, MayOffer, IsCurrent, IsIn, has, view_of}
 use Rattle.ch_core.specs.Keeping.{IsWorld, IsSoundVersion}
@@ -53,7 +53,7 @@ seen_row o holds rows all x r found =
     subst (λ y. IsRow (state_of o) y r) s.2 (subst (λ (q : Row). IsRow (state_of o) s.0.node q) (sym now.same ∙ s.3) (holds.rows s.0.node now.in_range))
 
 -- a proposal by rows that are all current is lawful
-pub lawful_by_rows : VerdictsAreLawful → (b : Board) → IsBoard b → (p : Proposal) → IsProposal p → p.bound ≡ bound_of b.graph → All (IsNow b.overlay) p.rests_on → AreLawful b p.node p.shortcuts
+pub lawful_by_rows : VerdictsAreLawful → (b : Ledger) → IsLedger b → (p : Proposal) → IsProposal p → p.bound ≡ bound_of b.graph → All (IsNow b.overlay) p.rests_on → AreLawful b p.node p.shortcuts
 lawful_by_rows verdicts_are_lawful b is p holds bound now =
     let first : IsNow b.overlay holds.first = All-head (IsNow b.overlay) holds.first holds.others (subst (λ (rows : List Seen). All (IsNow b.overlay) rows) holds.rests_on now) in
     let low : p.node < length b.overlay.rows = subst (λ n. n < length b.overlay.rows) holds.of_node first.in_range in
@@ -67,7 +67,7 @@ lawful_by_rows verdicts_are_lawful b is p holds bound now =
 -- so is an offer whose versions are all current
 pub lawful_offer : VerdictsAreLawful → (w : World) → IsWorld w → (worker : ℕ) (p : Proposal) → IsProposal p → MayOffer w worker p → All (IsCurrent w) p.rests_on → AreLawful w.ledger p.node p.shortcuts
 lawful_offer verdicts_are_lawful w is worker p holds may current =
-    lawful_by_rows verdicts_are_lawful w.ledger is.board p holds may.bound (λ k d h. standing_now w is worker (get_or p.rests_on k d) (may.rows k d h) (current k d h))
+    lawful_by_rows verdicts_are_lawful w.ledger is.ledger p holds may.bound (λ k d h. standing_now w is worker (get_or p.rests_on k d) (may.rows k d h) (current k d h))
 
 -- its rows are of nodes
 pub all_in_range : (w : World) → IsWorld w → (k : ℕ) (rows : List Seen) → All (StandsIn (view_of w k)) rows → All (λ (s : Seen). s.node < length w.ledger.overlay.rows) rows

@@ -7,7 +7,7 @@ use Rattle.ch_cost.specs.declared.cost.Cost.{Cost}
 use Rattle.ch_laws.specs.Theorems.{BoundsFit}
 use Rattle.ch_overlay.specs.Source.{IsBound}
 use Rattle.ch_overlay.specs.Overlay.{row_at, no_arcs}
-use Rattle.ch_contract.specs.Board.{IsBoard}
+use Rattle.ch_contract.specs.Ledger.{IsLedger}
 use Rattle.ch_core.specs.World.{World, Version, View, Standing, IsIn, has, stands_at}
 use Rattle.ch_core.specs.Keeping.{IsWorld, IsSoundVersion}
 use Rattle.ch_core.proofs.Kept.{row_sound}
@@ -24,7 +24,7 @@ no_view (suc n) (suc k) = no_view n k
 pub nothing_had : (w : World) (workers : ℕ) → w.views ≡ replicate workers [] → (k x : ℕ) → has w k x ≡ None
 nothing_had w workers is k x = ap (λ (views : List View). stands_at (get_or views k []) x) is ∙ ap (λ (view : View). stands_at view x) (no_view workers k)
 
-module _ (bounds_fit : BoundsFit) (w : World) (workers : ℕ) (board : IsBoard w.ledger) (versions : w.ledger.overlay.versions ≡ range_with_len 0 w.ledger.graph.nodes) (next : w.ledger.next ≡ w.ledger.graph.nodes) (nodes : length w.ledger.overlay.rows ≡ w.ledger.graph.nodes) where
+module _ (bounds_fit : BoundsFit) (w : World) (workers : ℕ) (ledger : IsLedger w.ledger) (versions : w.ledger.overlay.versions ≡ range_with_len 0 w.ledger.graph.nodes) (nodes : length w.ledger.overlay.rows ≡ w.ledger.graph.nodes) where
   version_is : (x : ℕ) → x < length w.ledger.overlay.rows → slice_index w.ledger.overlay.versions x ≡ x
   version_is x inside =
       let low : x < w.ledger.graph.nodes = omega (arith, inside, nodes) in
@@ -32,16 +32,15 @@ module _ (bounds_fit : BoundsFit) (w : World) (workers : ℕ) (board : IsBoard w
 
   pub world_opens : length w.book ≡ length w.ledger.overlay.rows → ((x : ℕ) → x < length w.ledger.overlay.rows → IsIn w.book x x (row_at w.ledger.overlay.rows x)) → w.views ≡ replicate workers [] → workers < 2 ^ 32 → IsWorld w
   world_opens many book views few = record {
-    board = board;
-    bound = subst (λ (b : Cost). IsBound b) (sym board.bound) (bounds_fit w.ledger.graph board.graph);
-    next = many ∙ nodes ∙ sym next;
+    ledger = ledger;
+    bound = subst (λ (b : Cost). IsBound b) (sym ledger.bound) (bounds_fit w.ledger.graph ledger.graph);
     few_workers = omega (arith, ap length views, length-replicate {A = View} workers [], few);
     current = λ x inside. subst (λ v. IsIn w.book x v (row_at w.ledger.overlay.rows x)) (sym (version_is x inside)) (book x inside);
     views = λ k x s there. absurd (none_some s (sym (nothing_had w workers views k x) ∙ there));
     sound = λ k d h.
         let inside : k < length w.ledger.overlay.rows = omega (arith, h, many) in
         let here = get_or_default w.book k d (record { node = 0; row = no_arcs }) h ∙ (book k inside).here in
-        subst (λ (v : Version). IsSoundVersion w.ledger.overlay v) (sym here) (row_sound w.ledger.overlay board.overlay k inside);
+        subst (λ (v : Version). IsSoundVersion w.ledger.overlay v) (sym here) (row_sound w.ledger.overlay ledger.overlay k inside);
   }
     where
       none_some : (s : Standing) → None ≡ Some s → ⊥

@@ -4,7 +4,7 @@ use Rattle.ch_cost.specs.declared.cost.Cost.{Cost}
 use Rattle.ch_laws.specs.Rows.{Row, Rises}
 use Rattle.ch_overlay.specs.Source.{IsBound}
 use Rattle.ch_overlay.specs.Overlay.{Overlay, AreEntries, row_at}
-use Rattle.ch_contract.specs.Board.{IsBoard}
+use Rattle.ch_contract.specs.Ledger.{IsLedger}
 use Rattle.ch_core.specs.World.{World, Version, View, Standing, stands_at, has, IsIn}
 
 -- a row that can be relied on, of a node among so many
@@ -20,9 +20,8 @@ IsSoundVersion o v = IsSound (length o.rows) o.bound v.node v.row
 -- The rows are those that the log leads to from the graph. The book has each current row at its current version, and
 -- what each worker read at the version that it read.
 pub record IsWorld (w : World) : Type 0 where
-  pub board : IsBoard w.ledger
+  pub ledger : IsLedger w.ledger
   pub bound : IsBound w.ledger.overlay.bound
-  pub next : length w.book ≡ w.ledger.next
   pub few_workers : length w.views < 2 ^ 32
   pub current : (x : ℕ) → x < length w.ledger.overlay.rows → IsIn w.book x (slice_index w.ledger.overlay.versions x) (row_at w.ledger.overlay.rows x)
   pub views : (k x : ℕ) (s : Standing) → has w k x ≡ Some s → IsIn w.book x s.version s.row

@@ -3,7 +3,7 @@ use Rattle.std.specs.Prelude.{ℕ, ◌≡◌, ◌<◌, List, [], ◌∷◌, leng
 use Rattle.ch_graph.specs.Graph.{Graph}
 use Rattle.ch_contract.specs.declared.error.CommitError.{CommitError}
 use Rattle.ch_contract.specs.declared.error.CommitError.TheVariants.{Contracted, Stale}
-use Rattle.ch_contract.specs.Board.{IsContracted}
+use Rattle.ch_contract.specs.Ledger.{IsContracted}
 use Rattle.ch_contract.specs.Proposal.{Proposal}
 use Rattle.ch_core.specs.declared.event.Event.{Event}
 use Rattle.ch_core.specs.declared.event.Event.TheVariants.{Read, Offer, Forget}

@@ -1,6 +1,6 @@
 -- Workers read rows of a graph under contraction, as old as they like, and offer contractions by what they read. One
 -- event comes after the other, in any order.
-use Rattle.std.specs.Prelude.{ℕ, ◌≡◌, ◌≢◌, ◌+◌, ◌<◌, ◌↔◌, nat_eq, List, [], ◌∷◌, ◌++◌, length, map, Option, Some, None, All, AllPairs, Contains, slice_index_or}
+use Rattle.std.specs.Prelude.{ℕ, ◌≡◌, ◌≢◌, ◌<◌, ◌↔◌, nat_eq, List, [], ◌∷◌, ◌++◌, length, map, Option, Some, None, All, AllPairs, Contains, slice_index_or}
 use Rattle.std.specs.List.{zip, range_with_len}
 use Rattle.std.specs.Map.{lookup}
 use Rattle.ch_graph.specs.Graph.{Graph, bound_of}
@@ -12,7 +12,7 @@ use Rattle.ch_overlay.specs.Source.{row_in}
 use Rattle.ch_overlay.specs.Overlay.{Overlay, no_arcs, row_at, state_of}
 use Rattle.ch_overlay.specs.Change.{puts}
 use Rattle.ch_contract.specs.declared.contraction.Receipt.{Receipt}
-use Rattle.ch_contract.specs.Board.{Board, receipt_of}
+use Rattle.ch_contract.specs.Ledger.{Ledger, receipt_of}
 use Rattle.ch_contract.specs.Proposal.{Proposal}
 use Rattle.ch_core.specs.Offering.{IsCurrentIn, IsFirstOld}
 
@@ -35,7 +35,7 @@ View = List (ℕ × Standing)
 -- The graph with its contractions so far, the book of all versions, where a version's number is its place, and a view
 -- for each worker.
 pub record World : Type 0 where
-  pub ledger : Board
+  pub ledger : Ledger
   pub book : List Version
   pub views : List View
 
@@ -61,7 +61,6 @@ pub record IsOpening (g : Graph) (workers : ℕ) (w : World) : Type 0 where
   pub log : w.ledger.log ≡ []
   pub start : IsStart g (state_of w.ledger.overlay)
   pub versions : w.ledger.overlay.versions ≡ range_with_len 0 g.nodes
-  pub next : w.ledger.next ≡ g.nodes
   pub many : length w.book ≡ g.nodes
   pub book : (x : ℕ) → x < g.nodes → IsIn w.book x x (row_at w.ledger.overlay.rows x)
   pub as_many : length w.views ≡ workers
@@ -138,18 +137,17 @@ pub record IsEntryOf (s : State) (node : ℕ) (put : List Shortcut) (e : Contrac
   pub neighbours : (x : ℕ) → Contains e.neighbours x ↔ IsNeighbour s node x
   pub shortcuts : e.shortcuts ≡ length put
 
--- the rows become current, each by the version that follows the last one, and the entry comes into the log
-abbrev pub entered : Board → ℕ → List (ℕ × Row) → Contraction → Board
-entered b node rows e = record {
-  graph = b.graph;
+-- the rows become current, by versions from the first one on, and the entry comes into the log
+abbrev pub entered : Ledger → ℕ → ℕ → List (ℕ × Row) → Contraction → Ledger
+entered l first node rows e = record {
+  graph = l.graph;
   overlay = record {
-    bound = b.overlay.bound;
-    rows = puts b.overlay.rows rows;
-    versions = puts b.overlay.versions (zip (map (λ a. a.0) rows) (range_with_len b.next (length rows)));
-    order = b.overlay.order ++ node ∷ [];
+    bound = l.overlay.bound;
+    rows = puts l.overlay.rows rows;
+    versions = puts l.overlay.versions (zip (map (λ a. a.0) rows) (range_with_len first (length rows)));
+    order = l.overlay.order ++ node ∷ [];
   };
-  log = b.log ++ e ∷ [];
-  next = b.next + length rows;
+  log = l.log ++ e ∷ [];
 }
 
 abbrev pub version_of : ℕ × Row → Version
@@ -165,6 +163,6 @@ pub record IsAccepted (old : World) (worker : ℕ) (p : Proposal) (receipt : Rec
   pub entry : Contraction
   pub is_entry : IsEntryOf (state_of old.ledger.overlay) p.node p.shortcuts entry
   pub handed : receipt ≡ receipt_of entry
-  pub ledger : new.ledger ≡ entered old.ledger p.node rows entry
+  pub ledger : new.ledger ≡ entered old.ledger (length old.book) p.node rows entry
   pub book : new.book ≡ old.book ++ map version_of rows
   pub views : new.views ≡ old.views

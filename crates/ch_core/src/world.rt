@@ -2,7 +2,7 @@ ghost use Rattle.std.specs.Prelude.{◌≡◌, ◌↔◌, ◌<◌, [], IfOk, OnE
 ghost use Rattle.ch_graph.specs.Graph.{bound_of};
 ghost use Rattle.ch_laws.specs.Contraction.{IsReached};
 ghost use Rattle.ch_overlay.specs.Overlay.{state_of};
-ghost use Rattle.ch_contract.specs.Board.{IsContracted, IsLog};
+ghost use Rattle.ch_contract.specs.Ledger.{IsContracted, IsLog};
 ghost use Rattle.ch_contract.specs.Proposal.{IsProposal};
 ghost use Rattle.ch_core.specs.declared.event.Event.TheVariants as events;
 ghost use Rattle.ch_core.specs.declared.event.Outcome.TheVariants as outcomes;
@@ -15,7 +15,7 @@ use crate::event::{Event, Outcome};
 use crate::offering::{all_stand, first_old, is_done};
 use crate::reads::Reads;
 use crate::view::View;
-use ch_contract::{CommitError, Contraction, Ledger, Proposal, Receipt};
+use ch_contract::{CommitError, Contraction, Ledger, Proposal, Receipt, versions_from};
 use ch_graph::Graph;
 use ch_laws::{bounds_fit, verdicts_are_lawful};
 use ch_overlay::{Overlay, changes_write_their_rows};
@@ -237,8 +237,11 @@ impl World {
         let alloc = *self.book.allocator();
         let planned = self.ledger.plan(proposal.node(), proposal.shortcuts())?;
         let fresh = versions_of(alloc, planned.rows())?;
-        self.book.reserve(fresh.len())?;
-        let receipt = self.ledger.enter(planned);
+        let count = fresh.len();
+        let first = self.book.len() as u64;
+        let versions = versions_from(alloc, first, count)?;
+        self.book.reserve(count)?;
+        let receipt = self.ledger.enter(planned, versions.as_slice());
         append(&mut self.book, fresh);
         self.ledger.holds();
         Ok(receipt)

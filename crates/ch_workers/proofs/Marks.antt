@@ -9,7 +9,7 @@ use Rattle.std.proofs.lemmas.Option.{slice_get-get_or, get_or_from_slice_get, sl
 use Rattle.std.proofs.lemmas.Bool.{cases_eq}
 use Rattle.ch_laws.specs.Contraction.{Contraction}
 use Rattle.ch_contract.specs.declared.contraction.Receipt.{Receipt}
-use Rattle.ch_contract.specs.Board.{IsLog, receipt_of}
+use Rattle.ch_contract.specs.Ledger.{IsLog, receipt_of}
 use Rattle.ch_workers.specs.Account.{all_of, IsOfLog, AreApart, AreMarked, IsAccount, Rises}
 
 -- what holds of all pairs of a list and what follows it holds of all pairs of the list

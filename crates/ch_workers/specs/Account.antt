@@ -2,7 +2,7 @@
 use Rattle.std.specs.Prelude.{ℕ, ◌≡◌, ◌≢◌, ◌<◌, List, Bool, true, false, flat_map, All, AllPairs, Contains, slice_index_or}
 use Rattle.ch_laws.specs.Contraction.{Contraction}
 use Rattle.ch_contract.specs.declared.contraction.Receipt.{Receipt}
-use Rattle.ch_contract.specs.Board.{receipt_of}
+use Rattle.ch_contract.specs.Ledger.{receipt_of}
 
 -- the receipts of all lists, one list behind the other
 abbrev pub all_of : List (List Receipt) → List Receipt

@@ -1,5 +1,5 @@
 ghost use Rattle.std.specs.Prelude.{◌≡◌, ◌++◌, ◌∷◌, [], ◌↔◌, ℕ, List, IfOk, IsTrue, IsFalse, ◌<◌, false, length, map, slice_index_or};
-ghost use Rattle.ch_contract.specs.Board.{IsLog};
+ghost use Rattle.ch_contract.specs.Ledger.{IsLog};
 ghost use Rattle.ch_contract.specs.declared.contraction.Receipt.{Receipt};
 ghost use Rattle.ch_workers.specs.Account.{IsAccount, Rises, AreApart, AreMarked};
 

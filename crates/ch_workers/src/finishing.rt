@@ -2,7 +2,7 @@ ghost use Rattle.std.specs.Prelude.{◌≡◌, ◌+◌, ◌<◌, ◌≤◌, IfOk
 ghost use Rattle.ch_graph.specs.Hierarchy.{IsRight};
 ghost use Rattle.ch_laws.specs.Contraction.{IsOver};
 ghost use Rattle.ch_overlay.specs.Overlay.{state_of};
-ghost use Rattle.ch_contract.specs.Board.{IsBoard};
+ghost use Rattle.ch_contract.specs.Ledger.{IsLedger};
 ghost use Rattle.ch_workers.specs.Account.{IsAccount};
 ghost use Rattle.ch_workers.specs.Built.{IsMadeBy};
 
@@ -56,7 +56,7 @@ fn sweep_rest<S: Site>(
 
 /// The hierarchy and the log of a board whose nodes are all contracted, beside the receipts that account for the log.
 fn built_of<S: Site>(board: Board<S>, receipts: Vec<Vec<Receipt>>) -> Result<Built, Trouble>
-    requires holds { IsBoard board }
+    requires holds { IsLedger board }
     requires named { board.graph ≡ S.graph }
     requires over { IsOver (state_of board.overlay) }
     requires account { IsAccount board.log (map (λ v. v.items) receipts.items) }

@@ -1,5 +1,5 @@
 ghost use Rattle.std.specs.Prelude.{◌≡◌, ◌≤◌, ◌^◌, IfOk};
-ghost use Rattle.ch_contract.specs.Board.{IsLog};
+ghost use Rattle.ch_contract.specs.Ledger.{IsLog};
 
 use ch_contract::{Contraction, Receipt};
 use ch_workers::is_account;

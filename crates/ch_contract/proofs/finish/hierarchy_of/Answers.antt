@@ -6,7 +6,7 @@ use Rattle.ch_graph.specs.Hierarchy.{Hierarchy, IsRight}
 use Rattle.ch_laws.specs.Contraction.{IsMade, IsOver}
 use Rattle.ch_laws.specs.Theorems.{AlwaysRight, AlwaysWellMade}
 use Rattle.ch_overlay.specs.Overlay.{Overlay, IsOverlay, state_of}
-use Rattle.ch_contract.specs.Board.{Board, IsBoard}
+use Rattle.ch_contract.specs.Ledger.{Ledger, IsLedger}
 use Rattle.ch_contract.specs.Finish.{AreRanks, AreLinks}
 use Rattle.ch_contract.proofs.NodesLeft.{over-from_count, left-from_count}
 use Rattle.ch_contract.proofs.Finishing.{IsFinished, finished, over-leaves_none}
@@ -35,7 +35,7 @@ returns-in_default-links_of-clause-left c =
     let all = over c.overlay-overlay.result.now _ c.overlay-overlay.ensures c.holds.ensures.overlay c.alive.result c.alive.ensures (omega arith) in
     (λ e. absurd (cc), λ left. absurd (over-leaves_none c.args.ledger.now all left))
 
-module _ (right : AlwaysRight) (well : AlwaysWellMade) (b : Board) (o : Overlay) (ranks : List ℕ) (links : List Link) (bound : Cost) (is : IsBoard b) (same : o ≡ b.overlay) (all : IsOver (state_of b.overlay)) where
+module _ (right : AlwaysRight) (well : AlwaysWellMade) (b : Ledger) (o : Overlay) (ranks : List ℕ) (links : List Link) (bound : Cost) (is : IsLedger b) (same : o ≡ b.overlay) (all : IsOver (state_of b.overlay)) where
   done : AreRanks o ranks → AreLinks o links → bound ≡ bound_of b.graph → IsFinished b (record { ranks = ranks; links = links; bound = bound })
   done are_ranks are_links bound_is = finished right well b ranks links bound is all (subst (λ (q : Overlay). AreRanks q ranks) same are_ranks) (subst (λ (q : Overlay). AreLinks q links) same are_links) bound_is
 

@@ -1,6 +1,6 @@
 use Rattle.std.proofs.Common.{◌<◌, length, arith, ap, slice_index, subst, ◌∙◌}
 use Rattle.ch_overlay.specs.Overlay.{Overlay, row_at}
-use Rattle.ch_contract.proofs.ShownRows.{seen_row, names_nodes, board_bound}
+use Rattle.ch_contract.proofs.ShownRows.{seen_row, names_nodes, ledger_bound}
 use Rattle.ch_contract.proofs.shown.shown.Goals as goal
 
 pub returns-clause-row : goal.returns-clause-row
@@ -18,13 +18,13 @@ returns-clause-names c =
     names_nodes o c.holds.ensures.overlay (record { node = c.args.node; version = c.version.result; row = c.in_ok-row.row }) inside row_is
 
 pub returns-then-node-nodes-clause-bound : goal.returns-then-node-nodes-clause-bound
-returns-then-node-nodes-clause-bound c = board_bound c.bounds_fit.ensures c.args.ledger.now c.holds.ensures
+returns-then-node-nodes-clause-bound c = ledger_bound c.bounds_fit.ensures c.args.ledger.now c.holds.ensures
 
 pub returns-in_err-row-clause-bound : goal.returns-in_err-row-clause-bound
-returns-in_err-row-clause-bound c = board_bound c.bounds_fit.ensures c.args.ledger.now c.holds.ensures
+returns-in_err-row-clause-bound c = ledger_bound c.bounds_fit.ensures c.args.ledger.now c.holds.ensures
 
 pub returns-clause-bound : goal.returns-clause-bound
-returns-clause-bound c = board_bound c.bounds_fit.ensures c.args.ledger.now c.holds.ensures
+returns-clause-bound c = ledger_bound c.bounds_fit.ensures c.args.ledger.now c.holds.ensures
 
 pub returns-clause-shows : goal.returns-clause-shows
 returns-clause-shows c =

@@ -48,4 +48,4 @@ pub returns-clause-graph : goal.returns-clause-graph
 returns-clause-graph c = c.events.invariant.graph
 
 pub returns-clause-reached : goal.returns-clause-reached
-returns-clause-reached c = subst (λ (g : Graph). IsReached g c.events.world.ledger.log (state_of c.events.world.ledger.overlay)) c.events.invariant.graph c.holds.ensures.board.reached
+returns-clause-reached c = subst (λ (g : Graph). IsReached g c.events.world.ledger.log (state_of c.events.world.ledger.overlay)) c.events.invariant.graph c.holds.ensures.ledger.reached

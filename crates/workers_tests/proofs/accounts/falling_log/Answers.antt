@@ -3,7 +3,7 @@ use Rattle.std.proofs.lemmas.List.{get_or_append_left, get_or_push, length_push}
 use Rattle.std.proofs.lemmas.Option.{slice_get-get_or, slice_get_within, get_or_from_slice_get}
 use Rattle.std.proofs.lemmas.Bool.{cases_eq}
 use Rattle.ch_laws.specs.Contraction.{Contraction}
-use Rattle.ch_contract.specs.Board.{IsLog}
+use Rattle.ch_contract.specs.Ledger.{IsLog}
 use Rattle.workers_tests.proofs.accounts.falling_log.Goals as goal
 
 -- an entry of a longer log is one of the log, or the last

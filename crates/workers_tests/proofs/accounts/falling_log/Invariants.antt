@@ -1,5 +1,5 @@
 use Rattle.std.proofs.Common.{◌≡◌, length}
-use Rattle.ch_contract.specs.Board.{IsLog}
+use Rattle.ch_contract.specs.Ledger.{IsLog}
 use Rattle.workers_tests.proofs.accounts.falling_log.Given as goal
 
 abbrev pub invariant-ranks : goal.invariant-ranks

@@ -2,7 +2,7 @@ use Rattle.std.proofs.Common.{List, length, arith, ap, subst, sym, ◌∙◌}
 use Rattle.std.proofs.lemmas.Result.{err_from_is_err_and}
 use Rattle.ch_overlay.specs.Overlay.{Overlay, IsOverlay}
 use Rattle.ch_contract.specs.declared.contraction.Receipt.{Receipt}
-use Rattle.ch_contract.specs.Board.{Board}
+use Rattle.ch_contract.specs.Ledger.{Ledger}
 use Rattle.ch_contract.specs.Sweep.{IsPartlySwept}
 use Rattle.ch_contract.proofs.Sweeping.{IsSweptTo, swept-start, unswept, swept-more, swept-all, swept-partly}
 use Rattle.ch_contract.proofs.board.Board.sweep.Goals as goal
@@ -23,7 +23,7 @@ pub returns-in_err-visit-clause-refused : goal.returns-in_err-visit-clause-refus
 returns-in_err-visit-clause-refused g c =
     let so_far = c.nodes.invariant in
     let exit = err_from_is_err_and c.from_residual-in_err-visit.result c.from_residual-in_err-visit.ensures.1 in
-    rw exit.1 (subst (λ (b : Board). IsPartlySwept c.args.self.now b) (sym c.in_err-visit.ensures.err) (swept-partly c.args.self.now c.nodes.self c.nodes.node c.nodes.receipts.items so_far.old so_far.swept (omega arith)))
+    rw exit.1 (subst (λ (b : Ledger). IsPartlySwept c.args.self.now b) (sym c.in_err-visit.ensures.err) (swept-partly c.args.self.now c.nodes.self c.nodes.node c.nodes.receipts.items so_far.old so_far.swept (omega arith)))
 
 pub nodes-preserved : goal.nodes-preserved
 nodes-preserved g c =

@@ -18,7 +18,7 @@ returns-then-eq c =
     get_or_read c.self.inside.views.items c.args.worker c.index-view.result.now inside c.index-view.ensures [] ∙ ap (λ (v : World). view_of v c.args.worker) c.self.view_is in
     let bounds = equal-from_same c.bound.result c.bound-2.result (sym c.eq.ensures ∙ c.if-eq.true) in
     let bound_is : c.args.proposal.now.bound ≡ bound_of w.ledger.graph =
-    sym c.bound.ensures ∙ bounds ∙ c.bound-2.ensures ∙ ap (λ (o : Overlay). o.bound) c.overlay.ensures ∙ c.self.invariant.board.bound ∙ ap (λ (v : World). bound_of v.ledger.graph) c.self.view_is in (
+    sym c.bound.ensures ∙ bounds ∙ c.bound-2.ensures ∙ ap (λ (o : Overlay). o.bound) c.overlay.ensures ∙ c.self.invariant.ledger.bound ∙ ap (λ (v : World). bound_of v.ledger.graph) c.self.view_is in (
       λ yes. record {
         in_range = subst (λ (v : World). c.args.worker < length v.views) c.self.view_is inside;
         bound = bound_is;
@@ -30,7 +30,7 @@ returns-then-eq c =
 pub returns-else-eq : goal.returns-else-eq
 returns-else-eq c =
     let bound_is : c.bound-2.result ≡ bound_of c.args.self.now.ledger.graph =
-    c.bound-2.ensures ∙ ap (λ (o : Overlay). o.bound) c.overlay.ensures ∙ c.self.invariant.board.bound ∙ ap (λ (v : World). bound_of v.ledger.graph) c.self.view_is in (
+    c.bound-2.ensures ∙ ap (λ (o : Overlay). o.bound) c.overlay.ensures ∙ c.self.invariant.ledger.bound ∙ ap (λ (v : World). bound_of v.ledger.graph) c.self.view_is in (
       λ yes. absurd (false≢true (sym c.if-eq.false ∙ yes)),
       λ may. c.eq.ensures ∙ same-from_equal c.bound.result c.bound-2.result (c.bound.ensures ∙ may.bound ∙ sym bound_is),
     )

@@ -13,7 +13,6 @@ invariant_of-result c =
     let nodes_are : w.ledger.graph.nodes ≡ c.args.graph.nodes = ap (λ (g : Graph). g.nodes) made.graph in
     world_opens c.bounds_fit.ensures w c.args.workers c.holds.ensures
     (made.versions ∙ ap (λ n. range_with_len 0 n) (sym nodes_are))
-    (made.next ∙ sym nodes_are)
     (made.start.nodes ∙ sym nodes_are)
     (c.in_ok-book.ensures.many ∙ ap (λ (o : Overlay). length o.rows) c.overlay.ensures)
     (subst (λ (o : Overlay). (x : ℕ) → x < length o.rows → IsIn w.book x x (row_at o.rows x)) c.overlay.ensures c.in_ok-book.ensures.rows)
