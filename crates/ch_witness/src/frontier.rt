@@ -17,7 +17,8 @@ pub struct Frontier {
     pub nodes: NodeIndex,
     /// What is known of each of them, in their order.
     pub labels: Vec<Label>,
-    pub queue: BinaryHeap<Reverse<(Cost, u32)>>,
+    /// Of each offer the cost, the node, and the place of that.
+    pub queue: BinaryHeap<Reverse<(Cost, u32, usize)>>,
     ghost paired: { length labels.items ≡ length nodes },
 }
 
@@ -89,7 +90,7 @@ impl Frontier {
         if !self.labels[at].is_improved_by(cost) {
             return Ok(());
         }
-        self.queue.push(Reverse((cost, node)))?;
+        self.queue.push(Reverse((cost, node, at)))?;
         self.labels[at] = opened(cost, place);
         Ok(())
     }
@@ -99,7 +100,8 @@ impl Frontier {
         requires { (k : ℕ) → k < length self.old.nodes → slice_index self.old.nodes k ≢ node }
         ensures { OnOk result (IsOffered (labels_of self.old) node cost place (labels_of self.new)) }
     {
-        self.queue.push(Reverse((cost, node)))?;
+        let at = self.labels.len();
+        self.queue.push(Reverse((cost, node, at)))?;
         self.labels.reserve(1)?;
         self.nodes.push(node)?;
         self.labels.push_reserved(opened(cost, place));
@@ -112,8 +114,8 @@ impl Frontier {
         ensures settled { IfSome result (λ r. IsSettledNow (labels_of self.old) r (labels_of self.new)) }
         ensures stays { IfNone result ((v : ℕ) → labels_of self.new v ≡ labels_of self.old v) }
     {
-        'entries: while let Some(Reverse((_, node))) = self.queue.pop() {
-            let reached = self.settle(node);
+        'entries: while let Some(Reverse((_, node, place))) = self.queue.pop() {
+            let reached = self.settle(node, place);
             if reached.is_some() {
                 return reached;
             }
@@ -121,13 +123,15 @@ impl Frontier {
         None
     }
 
-    /// Settles a node that is open, and does nothing to another one.
-    fn settle(&mut self, node: u32) -> Option<Reached>
+    /// Settles the node at a place where it is open, and does nothing to another one.
+    fn settle(&mut self, node: u32, place: usize) -> Option<Reached>
         ensures settled { IfSome result (λ r. IsSettledNow (labels_of self.old) r (labels_of self.new)) }
         ensures queue { heap_len self.new.queue ≡ heap_len self.old.queue }
         ensures stays { IfNone result ((v : ℕ) → labels_of self.new v ≡ labels_of self.old v) }
     {
-        let place = self.nodes.find(node)?;
+        if !self.nodes.is_at(node, place) {
+            return None;
+        }
         let label = self.labels[place];
         if label.settled {
             return None;

@@ -6,11 +6,11 @@ use Rattle.ch_witness.proofs.frontier.Frontier.settle.Goals as goal
 
 pub returns-clause-settled : goal.returns-clause-settled
 returns-clause-settled c =
-    let at = c.in_ok-place.ensures.found in
+    let at = c.is_at.ensures c.if-not-is_at.false in
     let l = c.index-label.result.now in
-    let known : labels_of c.args.self.now c.args.node ≡ Some l = value_found c.args.self.now.nodes c.args.self.now.labels.items c.args.node c.in_ok-place.place l c.args.self.now.paired at ∙ ap (λ (k : Label). Some k) (sym c.index-label.ensures) in
+    let known : labels_of c.args.self.now c.args.node ≡ Some l = value_found c.args.self.now.nodes c.args.self.now.labels.items c.args.node c.args.place l c.args.self.now.paired at ∙ ap (λ (k : Label). Some k) (sym c.index-label.ensures) in
     record {
-      others = λ u apart. value_elsewhere c.args.self.now.nodes c.args.self.now.labels.items u c.in_ok-place.place _ (λ e. apart (sym e ∙ at.here));
+      others = λ u apart. value_elsewhere c.args.self.now.nodes c.args.self.now.labels.items u c.args.place _ (λ e. apart (sym e ∙ at.here));
       was = known ∙ ap (λ (b : Bool). Some (record { cost = l.cost; before = l.before; settled = b })) c.if-label.false;
-      here = value_written c.args.self.now.nodes c.args.self.now.labels.items c.args.node c.in_ok-place.place _ c.args.self.now.paired at;
+      here = value_written c.args.self.now.nodes c.args.self.now.labels.items c.args.node c.args.place _ c.args.self.now.paired at;
     }
