@@ -21,7 +21,7 @@ pub(crate) fn options(workers: u32) -> Options
         seed: 1,
         settle: 64,
         defer: 16,
-        turns: 1000,
+        turns: 1 << 32,
     }
 }
 

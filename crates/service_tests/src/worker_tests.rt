@@ -260,7 +260,7 @@ const ONE: Options = Options {
     seed: 1,
     settle: 64,
     defer: 16,
-    turns: 1000,
+    turns: 1 << 32,
 };
 
 /// Options that are bad for the list of one worker.
