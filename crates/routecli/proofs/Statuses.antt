@@ -344,3 +344,14 @@ file_status (Prepare graph out workers seed order) n (inl is) = inr (inr (inl is
 file_status (Prepare graph out workers seed order) n (inr is) = inr (inr (inr (inl is)))
 file_status (Route hierarchy queries) n (inl is) = inr (inr (inr (inl is)))
 file_status (Route hierarchy queries) n (inr is) = inr (inr (inr (inr is)))
+
+-- a status of a job, by what the job is
+
+pub of_answer : (j : Job) (n : ℕ) (graph queries : _) → j ≡ Answer graph queries → IsAnsweringStatus n → IsStatusOf j n
+of_answer j n graph queries is status = rw is status
+
+pub of_preparation : (j : Job) (n : ℕ) (graph out workers seed order : _) → j ≡ Prepare graph out workers seed order → IsPreparingStatus n → IsStatusOf j n
+of_preparation j n graph out workers seed order is status = rw is status
+
+pub of_route : (j : Job) (n : ℕ) (hierarchy queries : _) → j ≡ Route hierarchy queries → IsRoutingStatus n → IsStatusOf j n
+of_route j n hierarchy queries is status = rw is status

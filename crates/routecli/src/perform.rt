@@ -10,8 +10,8 @@ use crate::preparing::{options, prepare_by};
 use ch_estimate::Leases;
 use ch_service::{ServiceError, answer, answer_joined, route};
 use ch_unpack::UnpackError;
-use ch_workers::{BuildError, OpenGate, Options};
-use command_line::{Job, Order, Workers};
+use ch_workers::{BuildError, OpenGate};
+use command_line::{Job, Workers};
 use grfile::GrErrorKind;
 use hierfile::HierError;
 use std::alloc::Global;
@@ -50,70 +50,21 @@ pub fn perform<A: Read, B: Read, W: Write, E: Write, R: Threads + Wait + Sync>(
     ensures quiet { result ≡ 0 → err.new ≡ err.old }
 {
     match job {
-        Job::Answer { .. } if job.is_joined() => perform_joined(rt, alloc, first, out, err),
-        Job::Answer { .. } => perform_two(rt, alloc, first, second, out, err),
+        Job::Answer { .. } if job.is_joined() => {
+            status_after(answer_joined(rt, alloc, first, out), err)
+        }
+        Job::Answer { .. } => status_after(answer_alone(rt, alloc, first, second, out), err),
         Job::Prepare {
             workers,
             seed,
             order,
             ..
-        } => perform_prepare(rt, alloc, first, out, err, *order, options(*workers, *seed)),
-        Job::Route { .. } => perform_route(alloc, first, second, out, err),
+        } => {
+            let options = options(*workers, *seed);
+            status_after(prepare_by(rt, alloc, first, out, *order, options), err)
+        }
+        Job::Route { .. } => status_after(route(alloc, first, second, out), err),
     }
-}
-
-// Prepares a hierarchy of a graph.
-fn perform_prepare<A: Read, W: Write, E: Write, R: Threads + Wait + Sync>(
-    rt: &R,
-    alloc: Global,
-    graph: &mut A,
-    out: &mut W,
-    err: &mut E,
-    order: Order,
-    options: Options,
-) -> u8
-    requires good { AreGood options options.workers }
-    ensures prepared { IfSome (A.remaining graph.old)
-        (λ text. TellsPrepared result text (W.contents out.old) (W.contents out.new)) }
-    ensures status { IsPreparingStatus result }
-    ensures mixed { result ≡ 8 → Keeps (W.contents out.old) (W.contents out.new) }
-    ensures quiet { result ≡ 0 → err.new ≡ err.old }
-{
-    status_after(prepare_by(rt, alloc, graph, out, order, options), err)
-}
-
-// Answers the pairs by a hierarchy.
-fn perform_route<A: Read, B: Read, W: Write, E: Write>(
-    alloc: Global,
-    hierarchy: &mut A,
-    queries: &mut B,
-    out: &mut W,
-    err: &mut E,
-) -> u8
-    ensures routed { IfTold (A.remaining hierarchy.old) (B.remaining queries.old)
-        (λ bytes pairs. TellsRouted result bytes pairs (W.contents out.old) (W.contents out.new)) }
-    ensures status { IsRoutingStatus result }
-    ensures quiet { result ≡ 0 → err.new ≡ err.old }
-{
-    status_after(route(alloc, hierarchy, queries, out), err)
-}
-
-// Answers the pairs of one text over the graph of another.
-fn perform_two<A: Read, B: Read, W: Write, E: Write, R: Threads + Wait + Sync>(
-    rt: &R,
-    alloc: Global,
-    graph: &mut A,
-    queries: &mut B,
-    out: &mut W,
-    err: &mut E,
-) -> u8
-    ensures answered { IfTold (A.remaining graph.old) (B.remaining queries.old)
-        (λ graph_text pairs_text. Tells result graph_text pairs_text (W.contents out.old) (W.contents out.new)) }
-    ensures status { IsAnsweringStatus result }
-    ensures mixed { result ≡ 8 → Keeps (W.contents out.old) (W.contents out.new) }
-    ensures quiet { result ≡ 0 → err.new ≡ err.old }
-{
-    status_after(answer_alone(rt, alloc, graph, queries, out), err)
 }
 
 // Answers the pairs of one text over the graph of another, by a hierarchy that the calling thread builds alone.
@@ -143,23 +94,6 @@ fn answer_alone<A: Read, B: Read, W: Write, R: Threads + Wait + Sync>(
         &mut leases,
         &OpenGate,
     )
-}
-
-// Answers the pairs of a joined input.
-fn perform_joined<A: Read, W: Write, E: Write, R: Threads + Wait + Sync>(
-    rt: &R,
-    alloc: Global,
-    input: &mut A,
-    out: &mut W,
-    err: &mut E,
-) -> u8
-    ensures answered { IfSome (A.remaining input.old)
-        (λ text. Tells result (graph_part text) (pairs_part text) (W.contents out.old) (W.contents out.new)) }
-    ensures status { IsAnsweringStatus result }
-    ensures mixed { result ≡ 8 → Keeps (W.contents out.old) (W.contents out.new) }
-    ensures quiet { result ≡ 0 → err.new ≡ err.old }
-{
-    status_after(answer_joined(rt, alloc, input, out), err)
 }
 
 // The status after a call, whose refusal is told in a line.
