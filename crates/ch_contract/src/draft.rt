@@ -14,7 +14,7 @@ use crate::error::ProposeError;
 use ch_cost::Cost;
 use ch_laws::Entry;
 use ch_overlay::{Row, RowSource, Shortcut};
-use ch_witness::{Frontier, Rows, Way, search_in};
+use ch_witness::{Rule, Searcher, Way};
 use std::alloc::{AllocError, Global};
 
 /// What the pairs of a proposal have in common.
@@ -94,13 +94,11 @@ impl Draft {
 
 /// Works out the pairs from one neighbour, which has this arc to the node, to the others that the node's row lists.
 ///
-/// Where there is another, the neighbour's row is read and listed; where a pair isn't heavy, a search is made, in the
-/// memory of the frontier.
+/// Where there is another, the neighbour's row is read and listed; where a pair isn't heavy, a search is made.
 pub fn draft_pairs<S: RowSource>(
     alloc: Global,
     source: &mut S,
-    rows: &mut Rows,
-    frontier: &mut Frontier,
+    searcher: &mut Searcher,
     task: Task,
     row: &Row,
     into: Entry,
@@ -114,19 +112,19 @@ pub fn draft_pairs<S: RowSource>(
     requires out_rises { Rises row.now.out }
     requires entries { AreEntries (2 ^ 25) task.bound task.node row.now }
     requires among { Contains row.now.inn into }
-    requires kept { AreKept S.bears (S.shows source.old) (S.bound_of source.old) (kept_of rows.old) }
-    ensures draft { OnOk result (IsDraftedFrom task.bound task.node row.now into (kept_of rows.new) draft.old draft.new) }
-    ensures kept { AreKept S.bears (S.shows source.new) (S.bound_of source.new) (kept_of rows.new) }
-    ensures more { IsMore (kept_of rows.old) (kept_of rows.new) }
+    requires kept { AreKept S.bears (S.shows source.old) (S.bound_of source.old) (kept_of searcher.old.rows) }
+    ensures draft { OnOk result (IsDraftedFrom task.bound task.node row.now into (kept_of searcher.new.rows) draft.old draft.new) }
+    ensures kept { AreKept S.bears (S.shows source.new) (S.bound_of source.new) (kept_of searcher.new.rows) }
+    ensures more { IsMore (kept_of searcher.old.rows) (kept_of searcher.new.rows) }
     ensures stays { S.stays source.old source.new }
-    ensures found { AllNamed (S.whole source.old) (kept_of rows.old) → NamesAlone (S.whole source.old) row.now → result ≡ Err Unseen → ⊥ }
+    ensures found { AllNamed (S.whole source.old) (kept_of searcher.old.rows) → NamesAlone (S.whole source.old) row.now → result ≡ Err Unseen → ⊥ }
     ensures never { result ≡ Err Contracted → ⊥ }
-    ensures names { AllNamed (S.whole source.old) (kept_of rows.old) → NamesAlone (S.whole source.old) row.now → OnOk result (AllNamed (S.whole source.new) (kept_of rows.new)) }
+    ensures names { AllNamed (S.whole source.old) (kept_of searcher.old.rows) → NamesAlone (S.whole source.old) row.now → OnOk result (AllNamed (S.whole source.new) (kept_of searcher.new.rows)) }
 {
     if !leads_on(&row.out, into.other) {
         return Ok(());
     }
-    rows.read(source, into.other)?;
+    searcher.rows.read(source, into.other)?;
     draft.listed.push(into.other)?;
     let pairs = light_pairs(alloc, task.bound, into, &row.out)?;
     if pairs.is_empty() {
@@ -134,17 +132,12 @@ pub fn draft_pairs<S: RowSource>(
     }
     let targets = ends_of(alloc, &pairs)?;
     let cutoff = greatest(&pairs);
-    let found = search_in(
-        alloc,
-        source,
-        rows,
-        frontier,
-        into.other,
-        task.node,
+    let rule = Rule {
+        from: into.other,
+        avoid: task.node,
         cutoff,
-        &targets,
-        task.settle,
-    )?;
+    };
+    let found = searcher.search(alloc, source, rule, &targets, task.settle)?;
     draft.judge(&pairs, &found.ways)?;
     Ok(())
 }

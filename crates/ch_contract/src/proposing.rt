@@ -11,7 +11,7 @@ use crate::draft::{Draft, Task, draft_pairs};
 use crate::error::ProposeError;
 use crate::proposal::Proposal;
 use ch_overlay::{Row, RowSource};
-use ch_witness::{Frontier, Rows};
+use ch_witness::Searcher;
 use std::alloc::Global;
 
 /// Works out the contraction of a node by the rows that a source answers, each node asked for at most once.
@@ -45,16 +45,14 @@ pub fn propose<S: RowSource>(
 /// What proposals are worked out in, one after the other. It keeps their memory.
 #[derive(Drop)]
 pub struct Scratch {
-    rows: Rows,
-    frontier: Frontier,
+    searcher: Searcher,
 }
 
 impl Scratch {
     /// It takes no memory yet.
     pub fn new(alloc: Global) -> Scratch {
         Scratch {
-            rows: Rows::new(alloc),
-            frontier: Frontier::new(alloc),
+            searcher: Searcher::new(alloc),
         }
     }
 }
@@ -80,27 +78,19 @@ pub fn propose_with<S: RowSource>(
     ensures stays { S.stays source.old source.new }
     ensures found { S.whole source.old node → result ≡ Err Unseen → ⊥ }
 {
-    scratch.rows.forget();
-    propose_in(
-        alloc,
-        source,
-        &mut scratch.rows,
-        &mut scratch.frontier,
-        node,
-        settle,
-    )
+    scratch.searcher.rows.forget();
+    propose_in(alloc, source, &mut scratch.searcher, node, settle)
 }
 
 /// The same, where no row is kept yet.
 fn propose_in<S: RowSource>(
     alloc: Global,
     source: &mut S,
-    rows: &mut Rows,
-    frontier: &mut Frontier,
+    searcher: &mut Searcher,
     node: u32,
     settle: u32,
 ) -> Result<Proposal, ProposeError>
-    requires none { (x : ℕ) → kept_of rows.old x ≡ None }
+    requires none { (x : ℕ) → kept_of searcher.old.rows x ≡ None }
     requires some { 1 ≤ settle }
     requires few { settle ≤ 65536 }
     ensures node { IfOk result (λ p. p.node ≡ node) }
@@ -117,17 +107,17 @@ fn propose_in<S: RowSource>(
         bound: source.bound(),
         settle,
     };
-    let own = rows.read(source, node)?;
+    let own = searcher.rows.read(source, node)?;
     if own.row.rank.is_some() {
         return Err(ProposeError::Contracted);
     }
     let mut draft = Draft::new(alloc, node)?;
-    draft_all(alloc, source, rows, frontier, task, &own.row, &mut draft)?;
+    draft_all(alloc, source, searcher, task, &own.row, &mut draft)?;
     let Draft { listed, shortcuts } = draft;
     Ok(Proposal {
         bound: task.bound,
         node,
-        rests_on: rows.hand_out(alloc, &listed)?,
+        rests_on: searcher.rows.hand_out(alloc, &listed)?,
         shortcuts,
     })
 }
@@ -136,8 +126,7 @@ fn propose_in<S: RowSource>(
 fn draft_all<S: RowSource>(
     alloc: Global,
     source: &mut S,
-    rows: &mut Rows,
-    frontier: &mut Frontier,
+    searcher: &mut Searcher,
     task: Task,
     row: &Row,
     draft: &mut Draft,
@@ -149,17 +138,17 @@ fn draft_all<S: RowSource>(
     requires inn_rises { Rises row.now.inn }
     requires out_rises { Rises row.now.out }
     requires entries { AreEntries (2 ^ 25) task.bound task.node row.now }
-    requires kept { AreKept S.bears (S.shows source.old) (S.bound_of source.old) (kept_of rows.old) }
+    requires kept { AreKept S.bears (S.shows source.old) (S.bound_of source.old) (kept_of searcher.old.rows) }
     requires begun { IsBegun task.node draft.old }
-    ensures draft { OnOk result (IsDrafted task.bound task.node row.now row.now.inn (kept_of rows.new) draft.new) }
-    ensures kept { AreKept S.bears (S.shows source.new) (S.bound_of source.new) (kept_of rows.new) }
-    ensures more { IsMore (kept_of rows.old) (kept_of rows.new) }
+    ensures draft { OnOk result (IsDrafted task.bound task.node row.now row.now.inn (kept_of searcher.new.rows) draft.new) }
+    ensures kept { AreKept S.bears (S.shows source.new) (S.bound_of source.new) (kept_of searcher.new.rows) }
+    ensures more { IsMore (kept_of searcher.old.rows) (kept_of searcher.new.rows) }
     ensures stays { S.stays source.old source.new }
     ensures never { result ≡ Err Contracted → ⊥ }
-    ensures found { AllNamed (S.whole source.old) (kept_of rows.old) → NamesAlone (S.whole source.old) row.now → result ≡ Err Unseen → ⊥ }
+    ensures found { AllNamed (S.whole source.old) (kept_of searcher.old.rows) → NamesAlone (S.whole source.old) row.now → result ≡ Err Unseen → ⊥ }
 {
     'inns: for into in &row.inn {
-        draft_pairs(alloc, source, rows, frontier, task, row, *into, draft)?;
+        draft_pairs(alloc, source, searcher, task, row, *into, draft)?;
     }
     Ok(())
 }

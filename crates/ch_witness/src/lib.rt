@@ -2,11 +2,11 @@
 //!
 //! Stands on `ch_overlay`, of which it uses what a [`ch_overlay::RowSource`] promises, on `ch_laws` for the words of
 //! rows and ways, and on `smallvec` for the nodes of a way. Its calls give a [`Found`]. [`search`] is for one search:
-//! it hands over the source's own answers. [`search_with`] is for several searches that are to rest on the same
-//! answers: it reads through [`Rows`], which asks the source for each row once and keeps the answer, and hands over
-//! copies; [`Rows::into_listed`] gives the answers at the end. [`search_in`] is the same in memory that is used again.
-//! Their contracts carry the promise of the layer: each way goes along rows that the source showed and that are handed
-//! over with it, avoids the node, and costs what its arcs do.
+//! it hands over the source's own answers. A [`Searcher`] is for several searches that are to rest on the same answers, in
+//! memory that is used again: it reads through its [`Rows`], which ask the source for each row once and keep the answer,
+//! and hands over copies; [`Rows::hand_out`] gives the answers at the end. Their contracts carry the promise of the layer:
+//! each way goes along rows that the source showed and that are handed over with it, avoids the node, and costs what its
+//! arcs do.
 #![tactic(auto)]
 
 mod copying;
@@ -17,13 +17,15 @@ mod label;
 mod node_index;
 mod rows;
 mod rule;
+mod searcher;
 mod searching;
 mod trace;
 mod tree;
 mod way;
 
 pub use error::SearchError;
-pub use frontier::Frontier;
 pub use rows::Rows;
-pub use searching::{search, search_in, search_with};
+pub use rule::Rule;
+pub use searcher::Searcher;
+pub use searching::search;
 pub use way::{Found, Way};

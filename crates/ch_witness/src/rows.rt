@@ -68,16 +68,8 @@ impl Rows {
         Ok(copy)
     }
 
-    /// The answers that are kept for these nodes, in this order, each node's once and at its first place.
-    pub fn into_listed(self, alloc: Global, nodes: &[u32]) -> Result<Vec<Seen>, AllocError>
-        requires nodes { OfTheirNodes (kept_of self) }
-        ensures { IfOk result (λ listed. AreListed (kept_of self) nodes.now listed.items) }
-    {
-        let mut rows = self;
-        rows.hand_out(alloc, nodes)
-    }
-
-    /// The same, from rows that are used again. Of those nodes no answer is kept any more.
+    /// The answers that are kept for these nodes, in this order, each node's once and at its first place. Of those nodes
+    /// no answer is kept any more.
     pub fn hand_out(&mut self, alloc: Global, nodes: &[u32]) -> Result<Vec<Seen>, AllocError>
         requires nodes { OfTheirNodes (kept_of self.old) }
         ensures { IfOk result (λ listed. AreListed (kept_of self.old) nodes.now listed.items) }

@@ -1,6 +1,6 @@
 use crate::shelf::{Arcs, Shelf};
 use ch_cost::Cost;
-use ch_witness::{Found, Rows, Way, search, search_with};
+use ch_witness::{Found, Rule, Searcher, Way, search};
 use std::test::Fail;
 
 /// Node 3 is reached from node 2 by way of 0 or of 1, at the same cost.
@@ -68,14 +68,20 @@ fn two_searches_ask_for_a_row_once(rt: HostRuntime) -> Result<(), Fail> {
     let mut shelf = Shelf::new(alloc, 4, &TIE, (3, 1), None)?;
     let cutoff = Cost::of_weight(2);
     assert!(rt; shelf.allows(cutoff));
-    let mut rows = Rows::new(alloc);
-    let first = search_with(alloc, &mut shelf, &mut rows, 2, 0, cutoff, &[3], 64)?;
+    let (from, avoid) = (2, 0);
+    let rule = Rule {
+        from,
+        avoid,
+        cutoff,
+    };
+    let mut searcher = Searcher::new(alloc);
+    let first = searcher.search(alloc, &mut shelf, rule, &[3], 64)?;
     assert!(rt; shelf.allows(cutoff));
-    let second = search_with(alloc, &mut shelf, &mut rows, 2, 0, cutoff, &[3], 64)?;
+    let second = searcher.search(alloc, &mut shelf, rule, &[3], 64)?;
     assert!(rt; is_one_way(&first.ways, &[2, 1, 3]) && is_one_way(&second.ways, &[2, 1, 3]));
     assert!(rt; shelf.asked.as_slice() == [2u32, 1].as_slice());
     // Node 3 wasn't read, and node 1 is named twice.
-    let listed = rows.into_listed(alloc, &[1, 2, 3, 1])?;
+    let listed = searcher.rows.hand_out(alloc, &[1, 2, 3, 1])?;
     assert!(rt; listed.len() == 2);
     assert!(rt; listed[0].node == 1 && listed[1].node == 2);
     Ok(())

@@ -28,7 +28,7 @@ no-items (x ∷ xs) e = absurd (omega (arith, e))
 pub returns-then-not-leads_on-clause-draft : goal.returns-then-not-leads_on-clause-draft
 returns-then-not-leads_on-clause-draft g c =
     let outs : c.deref.result.now ≡ c.args.row.now.out = c.deref.ensures.value ∙ ap (λ (r : Row). r.out) c.row.view_is in
-    idle_alone c.args.task.bound c.args.task.node c.args.row.now c.args.into (kept_of c.args.rows.now) c.args.draft.now (λ leads. not-true _ c.if-not-leads_on.true (c.leads_on.ensures.1 (subst (λ (es : List Entry). LeadsOn es c.args.into.other) (sym outs) leads)))
+    idle_alone c.args.task.bound c.args.task.node c.args.row.now c.args.into (kept_of c.args.searcher.now.rows) c.args.draft.now (λ leads. not-true _ c.if-not-leads_on.true (c.leads_on.ensures.1 (subst (λ (es : List Entry). LeadsOn es c.args.into.other) (sym outs) leads)))
 
 pub returns-then-is_empty-clause-draft : goal.returns-then-is_empty-clause-draft
 returns-then-is_empty-clause-draft g c =
@@ -41,13 +41,13 @@ returns-then-is_empty-clause-draft g c =
     (subst (λ (ps : List Shortcut). ArePairs c.args.task.bound c.args.into c.args.row.now.out ps) none (subst (λ (es : List Entry). ArePairs c.args.task.bound c.args.into es c.in_ok-pairs.pairs.items) (c.deref-2.ensures.value ∙ ap (λ (r : Row). r.out) c.row.view_is) c.in_ok-pairs.ensures))
     refl c.in_ok-push.ensures.items
 
-pub search_in-requires-clause-targets : goal.search_in-requires-clause-targets
-search_in-requires-clause-targets g c =
+pub search-requires-clause-targets : goal.search-requires-clause-targets
+search-requires-clause-targets g c =
     let targets : c.deref-5.result.now ≡ map (λ (p : Shortcut). p.to) c.in_ok-pairs.pairs.items = c.deref-5.ensures.value ∙ c.in_ok-targets.ensures ∙ ap (map (λ (p : Shortcut). p.to)) c.deref-3.ensures.value in
     λ among. no_target c.args.task.bound c.args.task.node c.args.row.now c.args.into c.in_ok-pairs.pairs.items (subst (λ (es : List Entry). ArePairs c.args.task.bound c.args.into es c.in_ok-pairs.pairs.items) (c.deref-2.ensures.value ∙ ap (λ (r : Row). r.out) c.row.view_is) c.in_ok-pairs.ensures) c.requires.entries (subst (λ (ts : List ℕ). Contains ts c.args.task.node) targets among)
 
-pub search_in-requires-clause-cutoff : goal.search_in-requires-clause-cutoff
-search_in-requires-clause-cutoff g c =
+pub search-requires-clause-cutoff : goal.search-requires-clause-cutoff
+search-requires-clause-cutoff g c =
     let bound : c.args.task.bound ≡ g.S.RowSource.bound_of c.read.new.source = c.requires.bound ∙ sym (g.met.S.RowSource.same_bound c.args.source.now c.read.new.source c.in_ok-read.ensures.stays) in
     subst (λ (b : Cost). IsWithin c.greatest-cutoff.result b) bound (c.greatest-cutoff.ensures.within c.args.task.bound (λ p among. (pair_through c.args.task.bound c.args.row.now c.args.into c.in_ok-pairs.pairs.items c.requires.among c.requires.inn_rises (subst (λ (es : List Entry). ArePairs c.args.task.bound c.args.into es c.in_ok-pairs.pairs.items) (c.deref-2.ensures.value ∙ ap (λ (r : Row). r.out) c.row.view_is) c.in_ok-pairs.ensures) p (subst (λ (ps : List Shortcut). Contains ps p) c.deref-4.ensures.value among)).1))
 
@@ -76,10 +76,10 @@ returns-clause-draft g c =
     let outs : c.deref.result.now ≡ c.args.row.now.out = c.deref.ensures.value ∙ ap (λ (r : Row). r.out) c.row.view_is in
     drafted_search c.args.task.bound c.args.task.node c.args.row.now c.args.into pairs c.requires.among c.requires.inn_rises (subst (λ (es : List Entry). ArePairs c.args.task.bound c.args.into es c.in_ok-pairs.pairs.items) (c.deref-2.ensures.value ∙ ap (λ (r : Row). r.out) c.row.view_is) c.in_ok-pairs.ensures)
     c.requires.out_rises (subst (λ (es : List Entry). LeadsOn es c.args.into.other) outs (c.leads_on.ensures.0 (is-true _ c.if-not-leads_on.false)))
-    (kept_of c.search_in.new.rows) first.original (c.in_ok-found.ensures.more c.args.into.other first.original (subst (λ (x : ℕ). kept_of c.read.new.self x ≡ Some first.original) c.in_ok-read.ensures.node first.here))
+    (kept_of c.search.new.self.rows) first.original (c.in_ok-found.ensures.more c.args.into.other first.original (subst (λ (x : ℕ). kept_of c.read.new.self x ≡ Some first.original) c.in_ok-read.ensures.node first.here))
     rows c.greatest-cutoff.result ways (subst (λ (ts : List ℕ). AreWays rows c.args.into.other c.args.task.node c.greatest-cutoff.result ts ways) targets c.in_ok-found.ensures.ways)
     (λ p among. c.greatest-cutoff.ensures.most p (subst (λ (ps : List Shortcut). Contains ps p) (sym c.deref-4.ensures.value) among))
-    (direct_for (kept_of c.search_in.new.rows) rows c.args.into.other c.greatest-cutoff.result ways _ (map (λ (p : Shortcut). p.to) pairs) targets c.in_ok-found.ensures.direct)
+    (direct_for (kept_of c.search.new.self.rows) rows c.args.into.other c.greatest-cutoff.result ways _ (map (λ (p : Shortcut). p.to) pairs) targets c.in_ok-found.ensures.direct)
     c.in_ok-found.ensures.copies
     c.args.draft.now _ c.judge.new.self
     (judged_for _ pairs _ ways _ c.judge.new.self c.deref-6.ensures.value c.deref-7.ensures.value c.in_ok-judge.ensures)

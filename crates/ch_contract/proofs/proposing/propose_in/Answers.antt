@@ -39,7 +39,7 @@ returns-then-is_some-clause-contracted g c = λ memory unseen.
 pub returns-in_err-draft_all-clause-found : goal.returns-in_err-draft_all-clause-found
 returns-in_err-draft_all-clause-found g c = λ whole e.
     let k = c.in_ok-own.ensures.copy in
-    let named = c.in_ok-own.ensures.names whole (none-kept (kept_of c.args.rows.now) c.requires.none (g.S.RowSource.whole c.args.source.now)) in
+    let named = c.in_ok-own.ensures.names whole (none-kept (kept_of c.args.searcher.now.rows) c.requires.none (g.S.RowSource.whole c.args.source.now)) in
     let own = named c.in_ok-own.own.node k.original k.here in
     let p = err_from_is_err_and c.from_residual-in_err-draft_all.result c.from_residual-in_err-draft_all.ensures.1 in
     let was = c.in_err-draft_all.was in
@@ -54,31 +54,31 @@ pub invariant_of-result : goal.invariant_of-result
 invariant_of-result g c =
     let k = c.in_ok-own.ensures.copy in
     let bound : g.S.RowSource.bound_of c.draft_all.new.source ≡ c.bound.result = g.met.S.RowSource.same_bound c.read.new.source c.draft_all.new.source c.in_ok-draft_all.ensures.stays ∙ g.met.S.RowSource.same_bound c.args.source.now c.read.new.source c.in_ok-own.ensures.stays ∙ sym c.bound.ensures.bound in
-    proposed g.S.RowSource.bears (g.S.RowSource.shows c.draft_all.new.source) c.bound.result c.args.node (row_in c.in_ok-own.own) (kept_of c.draft_all.new.rows) c.draft_all.new.draft c.in_ok-hand_out.field-0.items k.original c.bound.ensures.limit
-    (subst (λ (b : Cost). AreKept g.S.RowSource.bears (g.S.RowSource.shows c.draft_all.new.source) b (kept_of c.draft_all.new.rows)) bound c.in_ok-draft_all.ensures.kept)
-    (subst (λ (x : ℕ). kept_of c.draft_all.new.rows x ≡ Some k.original) c.in_ok-own.ensures.node (c.in_ok-draft_all.ensures.more c.in_ok-own.own.node k.original k.here))
+    proposed g.S.RowSource.bears (g.S.RowSource.shows c.draft_all.new.source) c.bound.result c.args.node (row_in c.in_ok-own.own) (kept_of c.draft_all.new.searcher.rows) c.draft_all.new.draft c.in_ok-hand_out.field-0.items k.original c.bound.ensures.limit
+    (subst (λ (b : Cost). AreKept g.S.RowSource.bears (g.S.RowSource.shows c.draft_all.new.source) b (kept_of c.draft_all.new.searcher.rows)) bound c.in_ok-draft_all.ensures.kept)
+    (subst (λ (x : ℕ). kept_of c.draft_all.new.searcher.rows x ≡ Some k.original) c.in_ok-own.ensures.node (c.in_ok-draft_all.ensures.more c.in_ok-own.own.node k.original k.here))
     k.same.row
     (ap (λ (r : Row). r.rank) (sym (c.behind-own.view_is ∙ c.deref.ensures)) ∙ nothing c.behind-own.inside.rank c.if-is_some.ensures)
-    (subst (λ (r : Row). IsDrafted c.bound.result c.args.node r r.inn (kept_of c.draft_all.new.rows) c.draft_all.new.draft) c.deref-2.ensures c.in_ok-draft_all.ensures.draft)
-    (subst (λ (ns : List ℕ). AreListed (kept_of c.draft_all.new.rows) ns c.in_ok-hand_out.field-0.items) c.deref-3.ensures.value c.in_ok-hand_out.ensures)
+    (subst (λ (r : Row). IsDrafted c.bound.result c.args.node r r.inn (kept_of c.draft_all.new.searcher.rows) c.draft_all.new.draft) c.deref-2.ensures c.in_ok-draft_all.ensures.draft)
+    (subst (λ (ns : List ℕ). AreListed (kept_of c.draft_all.new.searcher.rows) ns c.in_ok-hand_out.field-0.items) c.deref-3.ensures.value c.in_ok-hand_out.ensures)
 
 pub returns-clause-holds : goal.returns-clause-holds
 returns-clause-holds g c =
     let k = c.in_ok-own.ensures.copy in
     let bound : g.S.RowSource.bound_of c.draft_all.new.source ≡ c.bound.result = g.met.S.RowSource.same_bound c.read.new.source c.draft_all.new.source c.in_ok-draft_all.ensures.stays ∙ g.met.S.RowSource.same_bound c.args.source.now c.read.new.source c.in_ok-own.ensures.stays ∙ sym c.bound.ensures.bound in
-    proposed g.S.RowSource.bears (g.S.RowSource.shows c.draft_all.new.source) c.bound.result c.args.node (row_in c.in_ok-own.own) (kept_of c.draft_all.new.rows) c.draft_all.new.draft c.in_ok-hand_out.field-0.items k.original c.bound.ensures.limit
-    (subst (λ (b : Cost). AreKept g.S.RowSource.bears (g.S.RowSource.shows c.draft_all.new.source) b (kept_of c.draft_all.new.rows)) bound c.in_ok-draft_all.ensures.kept)
-    (subst (λ (x : ℕ). kept_of c.draft_all.new.rows x ≡ Some k.original) c.in_ok-own.ensures.node (c.in_ok-draft_all.ensures.more c.in_ok-own.own.node k.original k.here))
+    proposed g.S.RowSource.bears (g.S.RowSource.shows c.draft_all.new.source) c.bound.result c.args.node (row_in c.in_ok-own.own) (kept_of c.draft_all.new.searcher.rows) c.draft_all.new.draft c.in_ok-hand_out.field-0.items k.original c.bound.ensures.limit
+    (subst (λ (b : Cost). AreKept g.S.RowSource.bears (g.S.RowSource.shows c.draft_all.new.source) b (kept_of c.draft_all.new.searcher.rows)) bound c.in_ok-draft_all.ensures.kept)
+    (subst (λ (x : ℕ). kept_of c.draft_all.new.searcher.rows x ≡ Some k.original) c.in_ok-own.ensures.node (c.in_ok-draft_all.ensures.more c.in_ok-own.own.node k.original k.here))
     k.same.row
     (ap (λ (r : Row). r.rank) (sym (c.behind-own.view_is ∙ c.deref.ensures)) ∙ nothing c.behind-own.inside.rank c.if-is_some.ensures)
-    (subst (λ (r : Row). IsDrafted c.bound.result c.args.node r r.inn (kept_of c.draft_all.new.rows) c.draft_all.new.draft) c.deref-2.ensures c.in_ok-draft_all.ensures.draft)
-    (subst (λ (ns : List ℕ). AreListed (kept_of c.draft_all.new.rows) ns c.in_ok-hand_out.field-0.items) c.deref-3.ensures.value c.in_ok-hand_out.ensures)
+    (subst (λ (r : Row). IsDrafted c.bound.result c.args.node r r.inn (kept_of c.draft_all.new.searcher.rows) c.draft_all.new.draft) c.deref-2.ensures c.in_ok-draft_all.ensures.draft)
+    (subst (λ (ns : List ℕ). AreListed (kept_of c.draft_all.new.searcher.rows) ns c.in_ok-hand_out.field-0.items) c.deref-3.ensures.value c.in_ok-hand_out.ensures)
 
 pub returns-clause-bears : goal.returns-clause-bears
-returns-clause-bears g c = all_listed_are g.S.RowSource.bears (g.S.RowSource.shows c.draft_all.new.source) g.S.RowSource.bears (g.S.RowSource.bound_of c.draft_all.new.source) (kept_of c.draft_all.new.rows) c.deref-3.result.now c.in_ok-hand_out.field-0.items c.in_ok-draft_all.ensures.kept c.in_ok-hand_out.ensures (λ x s a. a.bears)
+returns-clause-bears g c = all_listed_are g.S.RowSource.bears (g.S.RowSource.shows c.draft_all.new.source) g.S.RowSource.bears (g.S.RowSource.bound_of c.draft_all.new.source) (kept_of c.draft_all.new.searcher.rows) c.deref-3.result.now c.in_ok-hand_out.field-0.items c.in_ok-draft_all.ensures.kept c.in_ok-hand_out.ensures (λ x s a. a.bears)
 
 pub returns-clause-shows : goal.returns-clause-shows
-returns-clause-shows g c = all_listed_are g.S.RowSource.bears (g.S.RowSource.shows c.draft_all.new.source) (g.S.RowSource.shows c.draft_all.new.source) (g.S.RowSource.bound_of c.draft_all.new.source) (kept_of c.draft_all.new.rows) c.deref-3.result.now c.in_ok-hand_out.field-0.items c.in_ok-draft_all.ensures.kept c.in_ok-hand_out.ensures (λ x s a. a.shows)
+returns-clause-shows g c = all_listed_are g.S.RowSource.bears (g.S.RowSource.shows c.draft_all.new.source) (g.S.RowSource.shows c.draft_all.new.source) (g.S.RowSource.bound_of c.draft_all.new.source) (kept_of c.draft_all.new.searcher.rows) c.deref-3.result.now c.in_ok-hand_out.field-0.items c.in_ok-draft_all.ensures.kept c.in_ok-hand_out.ensures (λ x s a. a.shows)
 
 pub returns-clause-contracted : goal.returns-clause-contracted
 returns-clause-contracted g c = λ memory unseen.

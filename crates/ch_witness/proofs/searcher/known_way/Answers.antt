@@ -3,7 +3,7 @@ use Rattle.ch_witness.specs.declared.label.Label.{Label}
 use Rattle.ch_witness.specs.declared.tree.Step.{Step}
 use Rattle.ch_witness.specs.Ways.{IsWay, IsWayOf}
 use Rattle.ch_witness.proofs.Tracing.{seen_of}
-use Rattle.ch_witness.proofs.searching.known_way.Goals as goal
+use Rattle.ch_witness.proofs.searcher.known_way.Goals as goal
 
 pub way_to-requires-clause-apart : goal.way_to-requires-clause-apart
 way_to-requires-clause-apart c = (c.requires.tree.reached c.args.target c.in-Some.label (sym c.label.ensures ∙ c.in-Some.is)).apart

@@ -1,7 +1,7 @@
 use Rattle.std.proofs.Common.{ℕ, ◌≡◌, ◌<◌, length, map, slice_index}
 use Rattle.ch_witness.specs.Tree.{labels_of}
 use Rattle.ch_witness.specs.Ways.{IsWayOf, way_at}
-use Rattle.ch_witness.proofs.searching.ways_to.Given as goal
+use Rattle.ch_witness.proofs.searcher.ways_to.Given as goal
 
 -- the targets so far have their ways
 abbrev pub invariant-targets : goal.invariant-targets

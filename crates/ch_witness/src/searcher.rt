@@ -1,0 +1,125 @@
+ghost use Rattle.std.specs.Prelude.{◌≡◌, ◌<◌, ℕ, IfOk, length, map, slice_index};
+ghost use Rattle.ch_witness.specs.Tree.{labels_of, IsTree};
+ghost use Rattle.ch_witness.specs.Ways.{IsWayOf, way_at};
+
+use crate::error::SearchError;
+use crate::frontier::Frontier;
+use crate::rows::Rows;
+use crate::rule::Rule;
+use crate::trace::way_to;
+use crate::tree::{Step, Tree};
+use crate::way::{Found, Way};
+use ch_overlay::{RowSource, Seen};
+use std::alloc::{AllocError, Global};
+use std::mem;
+
+/// What searches for ways are made in, one after the other: rows that are kept from one to the next, and memory that is
+/// used again.
+#[derive(Drop)]
+pub struct Searcher {
+    /// The rows that were read, by searches or by a caller.
+    pub rows: Rows,
+    frontier: Frontier,
+}
+
+impl Searcher {
+    ghost use Rattle.std.specs.Prelude.{◌≢◌, ◌^◌, ◌≤◌, All, Contains, OnOk, None};
+    ghost use Rattle.ch_cost.specs.Cost.{IsWithin};
+    ghost use Rattle.ch_overlay.specs.declared.source.Seen.{Seen};
+    ghost use Rattle.ch_witness.specs.declared.error.SearchError.TheVariants.{Unseen};
+    ghost use Rattle.ch_witness.specs.Kept.{kept_of, AllNamed, AreKept, IsKept, IsMore};
+    ghost use Rattle.ch_witness.specs.Ways.{AreRows, AreWays, IsStartRow};
+
+    /// No row was read yet. It takes no memory yet.
+    pub fn new(alloc: Global) -> Searcher
+        ensures { (x : ℕ) → kept_of result.rows x ≡ None }
+    {
+        Searcher {
+            rows: Rows::new(alloc),
+            frontier: Frontier::new(alloc),
+        }
+    }
+
+    /// The ways of [`search`](crate::search), along rows that are kept from one search to the next.
+    ///
+    /// The source is asked for a row only where none is kept for the node, and what it answers is kept, also where the
+    /// search fails. The rows that are handed over are copies of those that are kept, so that several searches may rest
+    /// on the same answers. The conditions and the errors are those of [`search`](crate::search); a search that fails
+    /// lets the memory go that it would have used again.
+    pub fn search<S: RowSource>(
+        &mut self,
+        alloc: Global,
+        source: &mut S,
+        rule: Rule,
+        targets: &[u32],
+        settle: u32,
+    ) -> Result<Found, SearchError>
+        requires start { rule.from ≢ rule.avoid }
+        requires targets { Contains targets.now rule.avoid → ⊥ }
+        requires cutoff { IsWithin rule.cutoff (S.bound_of source.old) }
+        requires kept { AreKept S.bears (S.shows source.old) (S.bound_of source.old) (kept_of self.old.rows) }
+        requires some { 1 ≤ settle }
+        requires few { settle ≤ 2 ^ 16 }
+        ensures ways { IfOk result (λ found. AreWays found.seen.items rule.from rule.avoid rule.cutoff targets.now found.ways.items) }
+        ensures direct { IfOk result (λ found. (k : ℕ) → k < length targets.now → slice_index targets.now k ≢ rule.from → (s : Seen) × IsKept (kept_of self.new.rows) s × IsStartRow found.seen.items rule.from rule.cutoff targets.now found.ways.items s) }
+        ensures rows { IfOk result (λ found. AreRows found.seen.items) }
+        ensures copies { IfOk result (λ found. All (IsKept (kept_of self.new.rows)) found.seen.items) }
+        ensures kept { AreKept S.bears (S.shows source.new) (S.bound_of source.new) (kept_of self.new.rows) }
+        ensures more { IsMore (kept_of self.old.rows) (kept_of self.new.rows) }
+        ensures stays { S.stays source.old source.new }
+        ensures found { AllNamed (S.whole source.old) (kept_of self.old.rows) → S.whole source.old rule.from → result ≡ Err Unseen → ⊥ }
+        ensures names { AllNamed (S.whole source.old) (kept_of self.old.rows) → S.whole source.old rule.from → OnOk result (AllNamed (S.whole source.new) (kept_of self.new.rows)) }
+    {
+        let earlier = mem::replace(&mut self.frontier, Frontier::new(alloc));
+        let tree = Tree::new(
+            alloc,
+            earlier,
+            source,
+            &mut self.rows,
+            rule,
+            targets,
+            settle,
+        )?;
+        let ways = ways_to(alloc, rule, &tree, targets)?;
+        let Tree { steps, frontier } = tree;
+        self.frontier = frontier;
+        let seen = rows_of(alloc, steps)?;
+        Ok(Found { ways, seen })
+    }
+}
+
+/// The way to each target, or none where the search hasn't come to it.
+fn ways_to(
+    alloc: Global,
+    rule: Rule,
+    tree: &Tree,
+    targets: &[u32],
+) -> Result<Vec<Option<Way>>, AllocError>
+    requires tree { IsTree rule tree.now.steps.items (labels_of tree.now.frontier) }
+    ensures many { IfOk result (λ ways. length ways.items ≡ length targets.now) }
+    ensures ways { IfOk result (λ ways. (k : ℕ) → k < length targets.now → IsWayOf (map (λ s. s.seen) tree.now.steps.items) rule.avoid rule.from (slice_index targets.now k) (labels_of tree.now.frontier (slice_index targets.now k)) (way_at ways.items k)) }
+{
+    let mut ways = Vec::with_capacity(alloc, targets.len())?;
+    'targets: for target in targets {
+        ways.push(known_way(alloc, rule, tree, *target)?)?;
+    }
+    Ok(ways)
+}
+
+/// The way to a node, or none where the search hasn't come to it.
+fn known_way(alloc: Global, rule: Rule, tree: &Tree, target: u32) -> Result<Option<Way>, AllocError>
+    requires tree { IsTree rule tree.now.steps.items (labels_of tree.now.frontier) }
+    ensures { IfOk result (IsWayOf (map (λ s. s.seen) tree.now.steps.items) rule.avoid rule.from target (labels_of tree.now.frontier target)) }
+{
+    let Some(label) = tree.frontier.label(target) else {
+        return Ok(None);
+    };
+    Ok(Some(way_to(alloc, rule, &tree.steps, target, label)?))
+}
+
+/// The rows of the steps, in order.
+fn rows_of(alloc: Global, steps: Vec<Step>) -> Result<Vec<Seen>, AllocError>
+    ensures { IfOk result (λ seen. seen.items ≡ map (λ s. s.seen) steps.items) }
+{
+    steps.into_iter().map(|step| step.seen).collect(alloc)
+}
