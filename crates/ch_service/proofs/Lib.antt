@@ -5,4 +5,5 @@ pub mod JoinedLines
 pub mod Naming
 pub mod Prepared
 pub mod Progress
+pub mod Refusals
 pub mod Unpacked

@@ -1,5 +1,6 @@
 pub mod Answer
+pub mod Cause
 pub mod Joined
 pub mod Outcome
-pub mod Shown
+pub mod Refusals
 pub mod Route

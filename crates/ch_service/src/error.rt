@@ -1,11 +1,11 @@
 ghost use Rattle.std.specs.Prelude.{◌≡◌, Some};
-ghost use Rattle.ch_service.specs.Shown.{shown, building_shown};
+ghost use Rattle.ch_service.specs.Cause.{cause_of, shown};
 ghost use Rattle.ch_service.specs.declared.error.ServiceError.TheVariants.{Build, OutOfMemory, Unpack, Write};
 
 use ch_unpack::UnpackError;
 use ch_workers::BuildError;
 use counted_io::WriteFault;
-use grfile::{GrError, GrErrorKind};
+use grfile::GrError;
 use hierfile::HierError;
 use std::alloc::AllocError;
 use std::error::Error;
@@ -13,8 +13,7 @@ use std::fmt;
 
 /// Why a call didn't do its work.
 ///
-/// What is shown of one is the line that the program prints: want of memory and failed reads are shown alike,
-/// whichever part of the work met them.
+/// What is shown of one is what is shown of its [`cause`](ServiceError::cause).
 #[derive(Clone, Copy, Debug, PartialEq, Eq)]
 pub enum ServiceError {
     /// The text of the graph was refused, or couldn't be read.
@@ -35,44 +34,11 @@ pub enum ServiceError {
 }
 
 impl fmt::Display for ServiceError {
-    ghost output = { λ e. Some (shown e) };
+    ghost output = { λ e. Some (shown (cause_of e)) };
 
     fn fmt<W: fmt::Write>(&self, f: &mut fmt::Formatter<W>) -> fmt::Result {
-        match self {
-            ServiceError::Graph(fault) => match fault.kind {
-                GrErrorKind::OutOfMemory => write!(f, "memory"),
-                GrErrorKind::Read => write!(f, "read"),
-                _ => write!(f, "graph: {fault}"),
-            },
-            ServiceError::Queries(fault) => match fault.kind {
-                GrErrorKind::OutOfMemory => write!(f, "memory"),
-                GrErrorKind::Read => write!(f, "read"),
-                _ => write!(f, "queries: {fault}"),
-            },
-            ServiceError::Hierarchy(fault) => match fault {
-                HierError::OutOfMemory => write!(f, "memory"),
-                HierError::Read => write!(f, "read"),
-                _ => write!(f, "hierarchy: {fault}"),
-            },
-            ServiceError::Build(fault) => write!(f, "{}", building_word(*fault)),
-            ServiceError::Unpack(fault) => match fault {
-                UnpackError::OutOfMemory => write!(f, "memory"),
-                _ => write!(f, "hierarchy: {fault}"),
-            },
-            ServiceError::Write(_) => write!(f, "write"),
-            ServiceError::OutOfMemory => write!(f, "memory"),
-        }
-    }
-}
-
-// What is shown where no hierarchy is built.
-fn building_word(fault: BuildError) -> &'static str
-    ensures { result.now ≡ building_shown fault }
-{
-    match fault {
-        BuildError::OutOfMemory => "memory",
-        BuildError::BadOptions => "options",
-        BuildError::Mixed => "mixed",
+        let cause = self.cause();
+        write!(f, "{cause}")
     }
 }
 

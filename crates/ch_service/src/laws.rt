@@ -1,3 +1,4 @@
+ghost use Rattle.ch_service.specs.Refusals.{AnswersTell, JoinedAnswersTell, PreparationsTell, RoutesTell};
 ghost use Rattle.ch_service.specs.Route.{RightRoutesAreLeast, RoutesAreExact, FirstRoutesAreExact};
 
 use ch_laws::least_route_is_a_least_walk;
@@ -33,3 +34,11 @@ pub fn first_routes_are_exact()
     spelled_pairs_are_in_range();
     least_route_is_a_least_walk();
 }
+
+/// By its cause alone a refusal tells which text is at fault, and what was written. It does nothing when it runs.
+pub fn causes_tell_refusals()
+    ensures answers { AnswersTell }
+    ensures joined { JoinedAnswersTell }
+    ensures prepared { PreparationsTell }
+    ensures routes { RoutesTell }
+{}

@@ -4,7 +4,8 @@
 //! and `ch_unpack` for routes, on `ch_laws` for why they are right, on `counted_io` for the
 //! calls of readers and writers, and on `itoa` for decimals. [`prepare`] writes a
 //! hierarchy of a graph, which workers build, and [`route`] answers pairs of nodes by it; [`answer`] and
-//! [`answer_joined`] build one for the call. [`ServiceError`] says why a call didn't do its work. The promise of the
+//! [`answer_joined`] build one for the call. [`ServiceError`] says why a call didn't do its work, and
+//! its [`Cause`] what that is to a user. The promise of the
 //! layer is the contract of these calls: what is written has one line for each pair, in order, with the least length
 //! over all walks of the text's graph and the nodes along a walk of exactly that length, or with none where there is no
 //! walk. For `prepare` and `route` together it is the one clause of [`routes_in_memory`], and the law [`routes_are_exact`]
@@ -16,6 +17,7 @@
 
 mod answering;
 mod building;
+mod cause;
 mod error;
 mod finding;
 mod in_memory;
@@ -29,9 +31,12 @@ mod preparing;
 mod routing;
 
 pub use answering::{answer, answer_joined};
+pub use cause::Cause;
 pub use counted_io::WriteFault;
 pub use error::ServiceError;
 pub use in_memory::routes_in_memory;
-pub use laws::{first_routes_are_exact, right_routes_are_least, routes_are_exact};
+pub use laws::{
+    causes_tell_refusals, first_routes_are_exact, right_routes_are_least, routes_are_exact,
+};
 pub use preparing::prepare;
 pub use routing::route;

@@ -1,11 +1,10 @@
-ghost use Rattle.std.specs.Prelude.{◌≡◌, [], IfOk, IfSome};
-ghost use Rattle.std.specs.Io.KnownBytes.{Keeps};
+ghost use Rattle.std.specs.Prelude.{◌≡◌, [], IfOk};
 ghost use Rattle.ch_workers.specs.Options.{AreGood};
-ghost use Rattle.routecli.specs.Status.{TellsPrepared, IsPreparingStatus, status_after};
+ghost use Rattle.routecli.specs.Status.{TellsPrepared, status_after};
 
 use crate::lists::a_list_each;
 use ch_estimate::{Depth, EdgeDifference, Estimator, Leases, Neighbours};
-use ch_service::{ServiceError, prepare};
+use ch_service::{ServiceError, causes_tell_refusals, prepare};
 use ch_workers::{OpenGate, Options};
 use command_line::{Order, Workers};
 use std::alloc::{AllocError, Global};
@@ -42,10 +41,7 @@ pub fn prepare_by<G: Read, W: Write, R: Threads + Wait + Sync>(
     options: Options,
 ) -> Result<(), ServiceError>
     requires good { AreGood options options.workers }
-    ensures prepared { IfSome (G.remaining graph.old)
-        (λ text. TellsPrepared (status_after result) text (W.contents out.old) (W.contents out.new)) }
-    ensures status { IsPreparingStatus (status_after result) }
-    ensures mixed { status_after result ≡ 8 → Keeps (W.contents out.old) (W.contents out.new) }
+    ensures { TellsPrepared (status_after result) (G.remaining graph.old) (W.contents out.old) (W.contents out.new) }
 {
     let mut leases = Leases::new(alloc)?;
     match order {
@@ -65,11 +61,9 @@ fn prepare_by_edges<G: Read, W: Write, R: Threads + Wait + Sync>(
     leases: &mut Leases,
 ) -> Result<(), ServiceError>
     requires good { AreGood options options.workers }
-    ensures prepared { IfSome (G.remaining graph.old)
-        (λ text. TellsPrepared (status_after result) text (W.contents out.old) (W.contents out.new)) }
-    ensures status { IsPreparingStatus (status_after result) }
-    ensures mixed { status_after result ≡ 8 → Keeps (W.contents out.old) (W.contents out.new) }
+    ensures { TellsPrepared (status_after result) (G.remaining graph.old) (W.contents out.old) (W.contents out.new) }
 {
+    causes_tell_refusals();
     let lists = a_list_each(
         alloc,
         leases,
@@ -91,11 +85,9 @@ fn prepare_by_neighbours<G: Read, W: Write, R: Threads + Wait + Sync>(
     leases: &mut Leases,
 ) -> Result<(), ServiceError>
     requires good { AreGood options options.workers }
-    ensures prepared { IfSome (G.remaining graph.old)
-        (λ text. TellsPrepared (status_after result) text (W.contents out.old) (W.contents out.new)) }
-    ensures status { IsPreparingStatus (status_after result) }
-    ensures mixed { status_after result ≡ 8 → Keeps (W.contents out.old) (W.contents out.new) }
+    ensures { TellsPrepared (status_after result) (G.remaining graph.old) (W.contents out.old) (W.contents out.new) }
 {
+    causes_tell_refusals();
     let lists = a_list_each(
         alloc,
         leases,
@@ -117,11 +109,9 @@ fn prepare_by_depth<G: Read, W: Write, R: Threads + Wait + Sync>(
     leases: &mut Leases,
 ) -> Result<(), ServiceError>
     requires good { AreGood options options.workers }
-    ensures prepared { IfSome (G.remaining graph.old)
-        (λ text. TellsPrepared (status_after result) text (W.contents out.old) (W.contents out.new)) }
-    ensures status { IsPreparingStatus (status_after result) }
-    ensures mixed { status_after result ≡ 8 → Keeps (W.contents out.old) (W.contents out.new) }
+    ensures { TellsPrepared (status_after result) (G.remaining graph.old) (W.contents out.old) (W.contents out.new) }
 {
+    causes_tell_refusals();
     let lists = a_list_each(
         alloc,
         leases,

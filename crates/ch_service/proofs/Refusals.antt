@@ -1,0 +1,147 @@
+-- Why a refusal tells by its cause what its call says of it.
+use Rattle.std.proofs.Common.{ℕ, ◌≡◌, List, length, Option, inl, inr, refl, ap}
+use Rattle.std.specs.Prelude.{⊤, Some, None, IfSome, Result, Ok, Err, option_map}
+use Rattle.grfile.specs.Outcome.{FromText}
+use Rattle.grfile.specs.Reading.{graph_of, pairs_of}
+use Rattle.grfile.specs.declared.error.GrErrorKind.{GrErrorKind}
+use Rattle.grfile.specs.declared.error.GrErrorKind.TheVariants as kinds
+use Rattle.hierfile.specs.Bytes.{OfBytes}
+use Rattle.hierfile.specs.Fault.{first_fault}
+use Rattle.hierfile.specs.declared.error.HierError.{HierError}
+use Rattle.hierfile.specs.declared.error.HierError.TheVariants as faults
+use Rattle.ch_workers.specs.declared.error.BuildError.TheVariants as building
+use Rattle.ch_unpack.specs.declared.error.UnpackError.TheVariants as unpacking
+use Rattle.ch_service.specs.declared.cause.Cause.{Cause}
+use Rattle.ch_service.specs.declared.cause.Cause.TheVariants as causes
+use Rattle.ch_service.specs.declared.error.ServiceError.{ServiceError}
+use Rattle.ch_service.specs.declared.error.ServiceError.TheVariants.{Graph, Queries, Hierarchy, Build, Unpack, Write, OutOfMemory}
+use Rattle.ch_service.specs.Answer.{AnswersFirst}
+use Rattle.ch_service.specs.Cause.{of_text, of_file, cause_of}
+use Rattle.ch_service.specs.Joined.{graph_part, pairs_part}
+use Rattle.ch_service.specs.Outcome.{IfTold, IsFaultOf, IsFaultOfJoined, IsPreparingFault, IsRoutingFault, KeepsAtFault, KeepsUnlessWriting, BreaksOff, StopsShort, ComesOfTexts, ComesOfPreparing, ComesOfRouting}
+use Rattle.ch_service.specs.Refusals.{RefusesAnswers, RefusesPreparing, RefusesRoutes, AnswersTell, JoinedAnswersTell, PreparationsTell, RoutesTell}
+use Rattle.ch_service.specs.Route.{Prepares, RoutesFirst, RoutesToTooLong}
+
+-- a fault of a text is one of its own, or want of memory or a failed read
+text_case : (kind : GrErrorKind) (own : Cause) (P : Cause → Type 0) → P causes.Memory → P causes.Read → (((F : Type 0) → FromText kind F → F) → P own) → P (of_text kind own)
+text_case kinds.OutOfMemory own P memory read other = memory
+text_case kinds.Read own P memory read other = read
+text_case kinds.UnknownLine own P memory read other = other (λ F f. f)
+text_case kinds.NoProblemLine own P memory read other = other (λ F f. f)
+text_case kinds.SecondProblemLine own P memory read other = other (λ F f. f)
+text_case kinds.FieldCount own P memory read other = other (λ F f. f)
+text_case kinds.NotANumber own P memory read other = other (λ F f. f)
+text_case kinds.NodeRange own P memory read other = other (λ F f. f)
+text_case kinds.ZeroWeight own P memory read other = other (λ F f. f)
+text_case kinds.WeightTooBig own P memory read other = other (λ F f. f)
+text_case kinds.TooManyNodes own P memory read other = other (λ F f. f)
+text_case kinds.TooManyArcs own P memory read other = other (λ F f. f)
+text_case kinds.ArcCount own P memory read other = other (λ F f. f)
+
+-- and so is one of a hierarchy's file
+file_case : (e : HierError) (P : Cause → Type 0) → P causes.Memory → P causes.Read → (((F : Type 0) → OfBytes e F → F) → P (causes.Hierarchy e)) → P (of_file e)
+file_case faults.OutOfMemory P memory read other = memory
+file_case faults.Read P memory read other = read
+file_case faults.BadMagic P memory read other = other (λ F f. f)
+file_case faults.Truncated P memory read other = other (λ F f. f)
+file_case faults.TooBig P memory read other = other (λ F f. f)
+file_case faults.BoundTooBig P memory read other = other (λ F f. f)
+file_case faults.RankRange P memory read other = other (λ F f. f)
+file_case faults.RankTwice P memory read other = other (λ F f. f)
+file_case faults.LinkEnds P memory read other = other (λ F f. f)
+file_case faults.LinkOrder P memory read other = other (λ F f. f)
+file_case faults.LinkWeight P memory read other = other (λ F f. f)
+file_case faults.MiddleRange P memory read other = other (λ F f. f)
+file_case faults.MiddleRank P memory read other = other (λ F f. f)
+file_case faults.HalfMissing P memory read other = other (λ F f. f)
+file_case faults.HalfSum P memory read other = other (λ F f. f)
+file_case faults.Trailing P memory read other = other (λ F f. f)
+
+-- what is so of all texts, and what follows of texts that are told
+
+of_all : (first second : Option (List ℕ)) (P : List ℕ → List ℕ → Type 0) → ((a b : List ℕ) → P a b) → IfTold first second P
+of_all None second P f = tt
+of_all (Some a) None P f = tt
+of_all (Some a) (Some b) P f = f a b
+
+of_told : (first second : Option (List ℕ)) (P Q : List ℕ → List ℕ → Type 0) → ((a b : List ℕ) → P a b → Q a b) → IfTold first second P → IfTold first second Q
+of_told None second P Q f told = tt
+of_told (Some a) None P Q f told = tt
+of_told (Some a) (Some b) P Q f told = f a b told
+
+of_some : (first : Option (List ℕ)) (P Q : List ℕ → Type 0) → ((a : List ℕ) → P a → Q a) → IfSome first P → IfSome first Q
+of_some None P Q f told = tt
+of_some (Some a) P Q f told = f a told
+
+-- where pairs are answered from two texts
+answers : (graph pairs old new : Option (List ℕ)) (e : ServiceError) → (e ≡ Build building.BadOptions → ⊥) → ComesOfTexts e → IfTold graph pairs (λ g p. IsFaultOf g p e) → KeepsAtFault old new e
+    → IfTold graph pairs (λ g p. StopsShort (AnswersFirst g p) (λ _. ⊥) old new e) → RefusesAnswers graph pairs old new (cause_of e)
+answers graph pairs old new (Graph fault) good c f k s =
+    text_case fault.kind (causes.Graph fault) (RefusesAnswers graph pairs old new) (of_all graph pairs _ (λ g p. inl k)) k (λ own. (of_told graph pairs _ _ (λ g p. own (graph_of g ≡ Err fault)) f, k))
+answers graph pairs old new (Queries fault) good c f k s =
+    text_case fault.kind (causes.Queries fault) (RefusesAnswers graph pairs old new) (of_all graph pairs _ (λ g p. inl k)) k
+    (λ own. (of_told graph pairs _ _ (λ g p h. (h.0, h.1, own (pairs_of h.0.nodes p ≡ Err fault) h.2)) f, k))
+answers graph pairs old new (Hierarchy fault) good c f k s = absurd c
+answers graph pairs old new (Build building.OutOfMemory) good c f k s = of_all graph pairs _ (λ g p. inl k)
+answers graph pairs old new (Build building.BadOptions) good c f k s = absurd (good refl)
+answers graph pairs old new (Build building.Mixed) good c f k s = (f, k)
+answers graph pairs old new (Unpack unpacking.OutOfMemory) good c f k s = of_told graph pairs _ _ (λ g p w. inr w) s
+answers graph pairs old new (Unpack unpacking.TooLong) good c f k s = absurd (cc)
+answers graph pairs old new (Write fault) good c f k s = s
+answers graph pairs old new OutOfMemory good c f k s = s
+
+pub answers-tell : AnswersTell
+answers-tell graph pairs old new (Ok x) good c f k s = tt
+answers-tell graph pairs old new (Err e) good c f k s = answers graph pairs old new e (λ is. good (ap Err is)) c f k s
+
+-- and where both stand in one input
+joined : (text : List ℕ) (old new : Option (List ℕ)) (e : ServiceError) → (e ≡ Build building.BadOptions → ⊥) → ComesOfTexts e → IsFaultOfJoined text e → KeepsAtFault old new e → StopsShort (AnswersFirst (graph_part text) (pairs_part text)) (λ _. ⊥) old new e
+    → RefusesAnswers (Some (graph_part text)) (Some (pairs_part text)) old new (cause_of e)
+joined text old new (Graph fault) good c f k s = answers (Some (graph_part text)) (Some (pairs_part text)) old new (Graph fault) good c f k s
+joined text old new (Queries fault) good c f k s = answers (Some (graph_part text)) (Some (pairs_part text)) old new (Queries fault) good c f k s
+joined text old new (Hierarchy fault) good c f k s = absurd c
+joined text old new (Build e) good c f k s = answers (Some (graph_part text)) (Some (pairs_part text)) old new (Build e) good c f k s
+joined text old new (Unpack e) good c f k s = answers (Some (graph_part text)) (Some (pairs_part text)) old new (Unpack e) good c f k s
+joined text old new (Write fault) good c f k s = s
+joined text old new OutOfMemory good c f k s = s
+
+pub joined-tell : JoinedAnswersTell
+joined-tell input old new (Ok x) good c f k s = tt
+joined-tell None old new (Err e) good c f k s = answers None None old new e (λ is. good (ap Err is)) c tt k tt
+joined-tell (Some text) old new (Err e) good c f k s = joined text old new e (λ is. good (ap Err is)) c f k s
+
+-- where a hierarchy is prepared
+preparing : (graph old new : Option (List ℕ)) (e : ServiceError) → (e ≡ Build building.BadOptions → ⊥) → ComesOfPreparing e → IfSome graph (λ g. IsPreparingFault g e) → KeepsUnlessWriting old new e → IfSome graph (λ g. BreaksOff (Prepares g) old new e)
+    → RefusesPreparing graph old new (cause_of e)
+preparing graph old new (Graph fault) good c f k b = text_case fault.kind (causes.Graph fault) (RefusesPreparing graph old new) k k (λ own. (of_some graph _ _ (λ g. own (graph_of g ≡ Err fault)) f, k))
+preparing graph old new (Queries fault) good c f k b = absurd c
+preparing graph old new (Hierarchy fault) good c f k b = absurd c
+preparing graph old new (Build building.OutOfMemory) good c f k b = k
+preparing graph old new (Build building.BadOptions) good c f k b = absurd (good refl)
+preparing graph old new (Build building.Mixed) good c f k b = (f, k)
+preparing graph old new (Unpack e) good c f k b = absurd c
+preparing graph old new (Write fault) good c f k b = b
+preparing graph old new OutOfMemory good c f k b = absurd c
+
+pub preparations-tell : PreparationsTell
+preparations-tell graph old new (Ok x) good c f k b = tt
+preparations-tell graph old new (Err e) good c f k b = preparing graph old new e (λ is. good (ap Err is)) c f k b
+
+-- and where pairs are answered by the file of one
+routes : (file pairs old new : Option (List ℕ)) (e : ServiceError) → ComesOfRouting e → IfTold file pairs (λ b p. IsRoutingFault b p e) → KeepsAtFault old new e → IfTold file pairs (λ b p. StopsShort (RoutesFirst b p) (RoutesToTooLong b p) old new e)
+    → RefusesRoutes file pairs old new (cause_of e)
+routes file pairs old new (Graph fault) c f k s = absurd c
+routes file pairs old new (Queries fault) c f k s =
+    text_case fault.kind (causes.Queries fault) (RefusesRoutes file pairs old new) (of_all file pairs _ (λ b p. inl k)) k
+    (λ own. (of_told file pairs _ _ (λ b p h. (h.0, h.1, own (pairs_of (length h.0.ranks) p ≡ Err fault) h.2)) f, k))
+routes file pairs old new (Hierarchy fault) c f k s =
+    file_case fault (RefusesRoutes file pairs old new) (of_all file pairs _ (λ b p. inl k)) k (λ own. (of_told file pairs _ _ (λ b p. own (first_fault b ≡ Some fault)) f, k))
+routes file pairs old new (Build e) c f k s = absurd c
+routes file pairs old new (Unpack unpacking.OutOfMemory) c f k s = of_told file pairs _ _ (λ b p w. inr w) s
+routes file pairs old new (Unpack unpacking.TooLong) c f k s = s
+routes file pairs old new (Write fault) c f k s = s
+routes file pairs old new OutOfMemory c f k s = s
+
+pub routes-tell : RoutesTell
+routes-tell file pairs old new (Ok x) c f k s = tt
+routes-tell file pairs old new (Err e) c f k s = routes file pairs old new e c f k s

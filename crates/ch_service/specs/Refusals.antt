@@ -1,0 +1,75 @@
+-- What each call tells where it refuses, by what the refusal comes of: which text is at fault, and what was written.
+use Rattle.std.specs.Prelude.{ℕ, ◌≡◌, ◌⊎◌, ⊤, List, length, Option, Some, option_map, IfSome, Result, Ok, Err, IfErr}
+use Rattle.std.specs.Io.KnownBytes.{Keeps}
+use Rattle.ch_graph.specs.Graph.{Graph}
+use Rattle.ch_graph.specs.Hierarchy.{Hierarchy}
+use Rattle.grfile.specs.Reading.{graph_of, pairs_of}
+use Rattle.hierfile.specs.Fault.{first_fault}
+use Rattle.ch_workers.specs.declared.error.BuildError.TheVariants.{BadOptions}
+use Rattle.ch_service.specs.declared.cause.Cause.{Cause}
+use Rattle.ch_service.specs.declared.cause.Cause.TheVariants.{Graph as GraphFault, Queries, Hierarchy as HierarchyFault, TooLong, Memory, Read, Write, Options, Mixed}
+use Rattle.ch_service.specs.declared.error.ServiceError.{ServiceError}
+use Rattle.ch_service.specs.declared.error.ServiceError.TheVariants.{Build}
+use Rattle.ch_service.specs.Answer.{AnswersFirst}
+use Rattle.ch_service.specs.Cause.{cause_of}
+use Rattle.ch_service.specs.Joined.{graph_part, pairs_part}
+use Rattle.ch_service.specs.Outcome.{IfTold, Writes, WritesFirst, IsGraphText, AreTexts, IsFaultOf, IsFaultOfJoined, IsPreparingFault, IsRoutingFault, KeepsAtFault, KeepsUnlessWriting, BreaksOff, StopsShort, ComesOfTexts, ComesOfPreparing, ComesOfRouting}
+use Rattle.ch_service.specs.Route.{Spells, Prepares, RoutesFirst, RoutesToTooLong}
+
+-- where pairs are answered from the texts of a graph and of pairs
+abbrev pub RefusesAnswers : Option (List ℕ) → Option (List ℕ) → Option (List ℕ) → Option (List ℕ) → Cause → Type 0
+RefusesAnswers graph pairs old new (GraphFault fault) = IfTold graph pairs (λ graph_text pairs_text. graph_of graph_text ≡ Err fault) × Keeps old new
+RefusesAnswers graph pairs old new (Queries fault) = IfTold graph pairs (λ graph_text pairs_text. (g : Graph) × (graph_of graph_text ≡ Ok g) × (pairs_of g.nodes pairs_text ≡ Err fault)) × Keeps old new
+RefusesAnswers graph pairs old new (HierarchyFault fault) = ⊥
+RefusesAnswers graph pairs old new TooLong = ⊥
+RefusesAnswers graph pairs old new Memory = IfTold graph pairs (λ graph_text pairs_text. Keeps old new ⊎ Writes (AnswersFirst graph_text pairs_text) old new)
+RefusesAnswers graph pairs old new Read = Keeps old new
+RefusesAnswers graph pairs old new (Write fault) = IfTold graph pairs (λ graph_text pairs_text. WritesFirst (AnswersFirst graph_text pairs_text) old new fault.written)
+RefusesAnswers graph pairs old new Options = ⊥
+RefusesAnswers graph pairs old new Mixed = IfTold graph pairs AreTexts × Keeps old new
+
+-- where a hierarchy is prepared from the text of a graph
+abbrev pub RefusesPreparing : Option (List ℕ) → Option (List ℕ) → Option (List ℕ) → Cause → Type 0
+RefusesPreparing graph old new (GraphFault fault) = IfSome graph (λ graph_text. graph_of graph_text ≡ Err fault) × Keeps old new
+RefusesPreparing graph old new (Queries fault) = ⊥
+RefusesPreparing graph old new (HierarchyFault fault) = ⊥
+RefusesPreparing graph old new TooLong = ⊥
+RefusesPreparing graph old new Memory = Keeps old new
+RefusesPreparing graph old new Read = Keeps old new
+RefusesPreparing graph old new (Write fault) = IfSome graph (λ graph_text. WritesFirst (Prepares graph_text) old new fault.written)
+RefusesPreparing graph old new Options = ⊥
+RefusesPreparing graph old new Mixed = IfSome graph IsGraphText × Keeps old new
+
+-- where pairs are answered by the file of a hierarchy
+abbrev pub RefusesRoutes : Option (List ℕ) → Option (List ℕ) → Option (List ℕ) → Option (List ℕ) → Cause → Type 0
+RefusesRoutes file pairs old new (GraphFault fault) = ⊥
+RefusesRoutes file pairs old new (Queries fault) = IfTold file pairs (λ bytes pairs_text. (h : Hierarchy) × Spells bytes h × (pairs_of (length h.ranks) pairs_text ≡ Err fault)) × Keeps old new
+RefusesRoutes file pairs old new (HierarchyFault fault) = IfTold file pairs (λ bytes pairs_text. first_fault bytes ≡ Some fault) × Keeps old new
+RefusesRoutes file pairs old new TooLong = IfTold file pairs (λ bytes pairs_text. Writes (RoutesToTooLong bytes pairs_text) old new)
+RefusesRoutes file pairs old new Memory = IfTold file pairs (λ bytes pairs_text. Keeps old new ⊎ Writes (RoutesFirst bytes pairs_text) old new)
+RefusesRoutes file pairs old new Read = Keeps old new
+RefusesRoutes file pairs old new (Write fault) = IfTold file pairs (λ bytes pairs_text. WritesFirst (RoutesFirst bytes pairs_text) old new fault.written)
+RefusesRoutes file pairs old new Options = ⊥
+RefusesRoutes file pairs old new Mixed = ⊥
+
+-- no refusal of a build is that of its options
+abbrev pub NotBad : Result ⊤ ServiceError → Type 0
+NotBad r = r ≡ Err (Build BadOptions) → ⊥
+
+-- Why what the contracts say of a refusal tells this of its cause.
+
+abbrev pub AnswersTell : Type 0
+AnswersTell = (graph pairs old new : Option (List ℕ)) (r : Result ⊤ ServiceError) → NotBad r → IfErr r ComesOfTexts → IfErr r (λ e. IfTold graph pairs (λ graph_text pairs_text. IsFaultOf graph_text pairs_text e)) → IfErr r (KeepsAtFault old new)
+    → IfErr r (λ e. IfTold graph pairs (λ graph_text pairs_text. StopsShort (AnswersFirst graph_text pairs_text) (λ _. ⊥) old new e)) → IfErr r (λ e. RefusesAnswers graph pairs old new (cause_of e))
+
+abbrev pub JoinedAnswersTell : Type 0
+JoinedAnswersTell = (input old new : Option (List ℕ)) (r : Result ⊤ ServiceError) → NotBad r → IfErr r ComesOfTexts → IfErr r (λ e. IfSome input (λ text. IsFaultOfJoined text e)) → IfErr r (KeepsAtFault old new)
+    → IfErr r (λ e. IfSome input (λ text. StopsShort (AnswersFirst (graph_part text) (pairs_part text)) (λ _. ⊥) old new e)) → IfErr r (λ e. RefusesAnswers (option_map graph_part input) (option_map pairs_part input) old new (cause_of e))
+
+abbrev pub PreparationsTell : Type 0
+PreparationsTell = (graph old new : Option (List ℕ)) (r : Result ⊤ ServiceError) → NotBad r → IfErr r ComesOfPreparing → IfErr r (λ e. IfSome graph (λ graph_text. IsPreparingFault graph_text e)) → IfErr r (KeepsUnlessWriting old new)
+    → IfErr r (λ e. IfSome graph (λ graph_text. BreaksOff (Prepares graph_text) old new e)) → IfErr r (λ e. RefusesPreparing graph old new (cause_of e))
+
+abbrev pub RoutesTell : Type 0
+RoutesTell = (file pairs old new : Option (List ℕ)) (r : Result ⊤ ServiceError) → IfErr r ComesOfRouting → IfErr r (λ e. IfTold file pairs (λ bytes pairs_text. IsRoutingFault bytes pairs_text e)) → IfErr r (KeepsAtFault old new)
+    → IfErr r (λ e. IfTold file pairs (λ bytes pairs_text. StopsShort (RoutesFirst bytes pairs_text) (RoutesToTooLong bytes pairs_text) old new e)) → IfErr r (λ e. RefusesRoutes file pairs old new (cause_of e))
