@@ -1,4 +1,4 @@
--- The hierarchy of a board whose nodes are all contracted.
+-- The hierarchy of a ledger whose nodes are all contracted.
 use Rattle.std.proofs.Common.{ℕ, ◌≡◌, List, Result, Ok, Err, ap}
 use Rattle.std.specs.Result.{IsErrOf}
 use Rattle.ch_cost.specs.declared.cost.Cost.{Cost}
@@ -15,29 +15,29 @@ use Rattle.ch_contract.specs.Finish.{AreRanks, AreLinks, HasNodesLeft}
 use Rattle.ch_contract.proofs.Links.{made_of_parts}
 
 -- the hierarchy is the made one, well made, and right
-pub record IsFinished (b : Ledger) (h : Hierarchy) : Type 0 where
-  pub made : IsMade b.graph (state_of b.overlay) h
+pub record IsFinished (l : Ledger) (h : Hierarchy) : Type 0 where
+  pub made : IsMade l.graph (state_of l.overlay) h
   pub well : IsWellMade h
-  pub right : IsRight b.graph h
+  pub right : IsRight l.graph h
 
-pub finished : AlwaysRight → AlwaysWellMade → (b : Ledger) (ranks : List ℕ) (links : List Link) (bound : Cost) → IsLedger b → IsOver (state_of b.overlay) → AreRanks b.overlay ranks → AreLinks b.overlay links → bound ≡ bound_of b.graph → IsFinished b (record { ranks = ranks; links = links; bound = bound })
-finished always_right always_well_made b ranks links bound is over ranked linked bound_is =
+pub finished : AlwaysRight → AlwaysWellMade → (l : Ledger) (ranks : List ℕ) (links : List Link) (bound : Cost) → IsLedger l → IsOver (state_of l.overlay) → AreRanks l.overlay ranks → AreLinks l.overlay links → bound ≡ bound_of l.graph → IsFinished l (record { ranks = ranks; links = links; bound = bound })
+finished always_right always_well_made l ranks links bound is over ranked linked bound_is =
     let h : Hierarchy = record { ranks = ranks; links = links; bound = bound } in
-    let made : IsMade b.graph (state_of b.overlay) h = made_of_parts b.overlay b.graph ranks links bound is.overlay over ranked linked bound_is in
+    let made : IsMade l.graph (state_of l.overlay) h = made_of_parts l.overlay l.graph ranks links bound is.overlay over ranked linked bound_is in
     record {
       made = made;
-      well = always_well_made b.graph b.log (state_of b.overlay) h is.graph is.reached over made;
-      right = always_right b.graph b.log (state_of b.overlay) h is.graph is.reached over made;
+      well = always_well_made l.graph l.log (state_of l.overlay) h is.graph is.reached over made;
+      right = always_right l.graph l.log (state_of l.overlay) h is.graph is.reached over made;
     }
 
 -- Refusals
 
-pub over-leaves_none : (b : Ledger) → IsOver (state_of b.overlay) → HasNodesLeft b → ⊥
-over-leaves_none b over left = left.1.waits (over left.0 left.1.in_range)
+pub over-leaves_none : (l : Ledger) → IsOver (state_of l.overlay) → HasNodesLeft l → ⊥
+over-leaves_none l over left = left.1.waits (over left.0 left.1.in_range)
 
 -- want of memory is another refusal than a node that is left
-pub memory-not_left : (b : Ledger) → IsErrOf {T = Hierarchy} {E = Ledger × FinishError} (Err (b, OutOfMemory)) (b, NodesLeft) → ⊥
-memory-not_left b e = error-apart (ap (λ (r : Result Hierarchy (Ledger × FinishError)). error_of r) e)
+pub memory-not_left : (l : Ledger) → IsErrOf {T = Hierarchy} {E = Ledger × FinishError} (Err (l, OutOfMemory)) (l, NodesLeft) → ⊥
+memory-not_left l e = error-apart (ap (λ (r : Result Hierarchy (Ledger × FinishError)). error_of r) e)
   where
     error_of : Result Hierarchy (Ledger × FinishError) → FinishError
     error_of (Ok h) = OutOfMemory

@@ -1,4 +1,4 @@
--- The log of a board: what its entries are, and how many.
+-- The log of a ledger: what its entries are, and how many.
 use Rattle.std.proofs.Common.{ℕ, zero, suc, ◌≡◌, ◌+◌, ◌<◌, ◌≤◌, List, Some, length, AllPairs, arith, ap, subst, refl, ◌∙◌}
 use Rattle.std.specs.List.{slice_get}
 use Rattle.std.proofs.lemmas.List.{length_push}
@@ -33,22 +33,22 @@ run-entry {old = old} (suc k) e (Run.next {e = first} step run) is =
     let more = ap length step.puts.order ∙ length_push old.order first.node in
     record { rank = omega (arith, later.rank, more); rising = later.rising; node = subst (λ n. e.node < n) step.puts.nodes later.node }
 
-module _ (b : Ledger) (is : IsLedger b) where
+module _ (l : Ledger) (is : IsLedger l) where
   -- the log has an entry for each contracted node
-  pub log_length : length b.log ≡ length b.overlay.order
+  pub log_length : length l.log ≡ length l.overlay.order
   log_length =
       let none = ap length is.reached.starts.order in
       omega (arith, none, run-order is.reached.run)
 
   -- and no more than there are nodes
-  pub log_fits : length b.log ≤ length b.overlay.rows
-  log_fits = omega (arith, log_length, distinct_below-few b.overlay.order (length b.overlay.rows) is.overlay.once is.overlay.plain.in_range)
+  pub log_fits : length l.log ≤ length l.overlay.rows
+  log_fits = omega (arith, log_length, distinct_below-few l.overlay.order (length l.overlay.rows) is.overlay.once is.overlay.plain.in_range)
 
-  entry : (k : ℕ) (e : Contraction) → slice_get b.log k ≡ Some e → IsEntryOf is.reached.start k e
+  entry : (k : ℕ) (e : Contraction) → slice_get l.log k ≡ Some e → IsEntryOf is.reached.start k e
   entry k e here = run-entry k e is.reached.run here
 
-  -- so the log of a board is in order
-  pub log_of_ledger : IsLog b.log
+  -- so the log of a ledger is in order
+  pub log_of_ledger : IsLog l.log
   log_of_ledger =
       let none = ap length is.reached.starts.order in
       let nodes = run-nodes is.reached.run in

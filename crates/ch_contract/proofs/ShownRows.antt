@@ -30,6 +30,6 @@ module _ (o : Overlay) (is : IsOverlay o) (s : Seen) (inside : s.node < length o
       let entries : AreEntries (length o.rows) o.bound s.node (row_in s) = subst (λ (r : Row). AreEntries (length o.rows) o.bound s.node r) (sym row_is) (is.entries s.node inside) in
       record { out = λ k d h. (entries.out k d h).in_range; inn = λ k d h. (entries.inn k d h).in_range }
 
--- the bound of a board is one that sources have
-pub ledger_bound : BoundsFit → (b : Ledger) → IsLedger b → IsBound b.overlay.bound
-ledger_bound bounds_fit b is = subst (λ (c : Cost). IsBound c) (sym is.bound) (bounds_fit b.graph is.graph)
+-- the bound of a ledger is one that sources have
+pub ledger_bound : BoundsFit → (l : Ledger) → IsLedger l → IsBound l.overlay.bound
+ledger_bound bounds_fit l is = subst (λ (c : Cost). IsBound c) (sym is.bound) (bounds_fit l.graph is.graph)

@@ -63,22 +63,22 @@ pub record IsSweptTo (old : Ledger) (i : ℕ) (receipts : List Receipt) (now : L
   pub order : now.overlay.order ≡ old.overlay.order ++ alive_below old i
 
 -- none is at first
-pub swept-start : (b : Ledger) → IsSweptTo b 0 [] b
-swept-start b = record {
+pub swept-start : (l : Ledger) → IsSweptTo l 0 [] l
+swept-start l = record {
   entries = [];
-  contracted = record { graph = refl; log = sym (append-nil b.log); of_nodes = refl; run = rest };
+  contracted = record { graph = refl; log = sym (append-nil l.log); of_nodes = refl; run = rest };
   handed = refl;
   count = refl;
-  order = sym (append-nil b.overlay.order);
+  order = sym (append-nil l.overlay.order);
 }
 
 -- nor where nothing is done
-pub unswept : (b : Ledger) → IsPartlySwept b b
-unswept b = record {
+pub unswept : (l : Ledger) → IsPartlySwept l l
+unswept l = record {
   entries = [];
   nodes = [];
-  left = alive_nodes b;
-  contracted = record { graph = refl; log = sym (append-nil b.log); of_nodes = refl; run = rest };
+  left = alive_nodes l;
+  contracted = record { graph = refl; log = sym (append-nil l.log); of_nodes = refl; run = rest };
   first = refl;
 }
 

@@ -1,64 +1,78 @@
--- When a board accepts a proposal.
-use Rattle.std.specs.Prelude.{ℕ, ◌≡◌, ◌≢◌, ◌<◌, List, ◌∷◌, ◌++◌, length, All, Contains, slice_index}
+-- When a ledger accepts a proposal: first by version numbers alone, and then by what the rows have.
+use Rattle.std.specs.Prelude.{ℕ, ◌≡◌, ◌≢◌, List, ◌∷◌, ◌++◌, length, All}
 use Rattle.ch_overlay.specs.declared.source.Seen.{Seen}
 use Rattle.ch_overlay.specs.Source.{row_in}
-use Rattle.ch_overlay.specs.Overlay.{row_at}
-use Rattle.ch_contract.specs.Ledger.{Ledger}
-use Rattle.ch_contract.specs.Proposal.{Proposal}
+use Rattle.ch_contract.specs.declared.error.CommitError.{CommitError}
+use Rattle.ch_contract.specs.declared.error.CommitError.TheVariants.{Contracted, Stale}
+use Rattle.ch_contract.specs.Ledger.{Ledger, IsLedger, IsNode, IsGone, AreLawful, row_now, version_now}
+use Rattle.ch_contract.specs.Proposal.{Proposal, IsProposal}
+
+-- By versions
 
 -- the node is contracted already
 abbrev pub IsContractedYet : Ledger → Proposal → Type 0
-IsContractedYet b p = Contains b.overlay.order p.node
+IsContractedYet l p = IsGone l p.node
 
--- the board has another version of the row
-pub record IsOld (b : Ledger) (s : Seen) : Type 0 where
-  pub in_range : s.node < length b.overlay.rows
-  pub changed : s.version ≢ slice_index b.overlay.versions s.node
+-- the row was seen in another version than its node has now
+pub record IsOld (l : Ledger) (s : Seen) : Type 0 where
+  pub in_range : IsNode l s.node
+  pub changed : s.version ≢ version_now l s.node
 
--- this is the first row of the proposal of which the board has another version
-pub record IsFirstOld (b : Ledger) (p : Proposal) (s : Seen) : Type 0 where
+-- none of these rows was
+abbrev pub NoneIsOld : Ledger → List Seen → Type 0
+NoneIsOld l rows = All (λ s. IsOld l s → ⊥) rows
+
+-- the first of these rows that was is this node's, seen in the one version and now in the other
+pub record IsFirstOld (l : Ledger) (rows : List Seen) (node seen now : ℕ) : Type 0 where
   pub before : List Seen
+  pub row : Seen
   pub after : List Seen
-  pub among : p.rests_on ≡ before ++ s ∷ after
-  pub old : IsOld b s
-  pub earlier : All (λ t. IsOld b t → ⊥) before
-
--- the first row of the proposal of which the board has another version is this node's, seen in the one and now in the
--- other
-pub record IsFirstChange (b : Ledger) (p : Proposal) (node seen now : ℕ) : Type 0 where
-  pub row : Seen
-  pub first : IsFirstOld b p row
+  pub among : rows ≡ before ++ row ∷ after
+  pub earlier : NoneIsOld l before
+  pub old : IsOld l row
   pub of_node : node ≡ row.node
   pub of_version : seen ≡ row.version
-  pub current : now ≡ slice_index b.overlay.versions row.node
+  pub current : now ≡ version_now l row.node
 
--- the node isn't contracted, and a row isn't current, the first of them this node's, with this version and that one now
-pub record IsStale (b : Ledger) (p : Proposal) (node seen now front : ℕ) : Type 0 where
-  pub waits : IsContractedYet b p → ⊥
-  pub row : Seen
-  pub first : IsFirstOld b p row
-  pub of_node : node ≡ row.node
-  pub of_version : seen ≡ row.version
-  pub current : now ≡ slice_index b.overlay.versions row.node
-  pub of_log : front ≡ length b.log
+-- the node isn't contracted, and no row is old
+pub record IsUpToDate (l : Ledger) (p : Proposal) : Type 0 where
+  pub waits : IsContractedYet l p → ⊥
+  pub current : NoneIsOld l p.rests_on
 
--- the row is the board's row of its node
-pub record IsRowOf (b : Ledger) (s : Seen) : Type 0 where
-  pub in_range : s.node < length b.overlay.rows
-  pub same : row_in s ≡ row_at b.overlay.rows s.node
+-- the node isn't contracted, and a row is old, the first of them this node's; so many contractions were made so far
+pub record IsStale (l : Ledger) (p : Proposal) (node seen now front : ℕ) : Type 0 where
+  pub waits : IsContractedYet l p → ⊥
+  pub first : IsFirstOld l p.rests_on node seen now
+  pub of_log : front ≡ length l.log
 
--- the proposal was made by rows that are the board's, under its bound
-pub record Agrees (b : Ledger) (p : Proposal) : Type 0 where
-  pub bound : p.bound ≡ b.overlay.bound
-  pub rows : All (IsRowOf b) p.rests_on
+-- why a proposal isn't up to date
+abbrev pub IsRefusal : Ledger → Proposal → CommitError → Type 0
+IsRefusal l p Contracted = IsContractedYet l p
+IsRefusal l p (Stale node seen now front) = IsStale l p node seen now front
+IsRefusal l p _ = ⊥
 
--- the node isn't contracted, no version says that a row has changed, and yet the proposal isn't by the board's rows
-pub record IsBroken (b : Ledger) (p : Proposal) : Type 0 where
-  pub waits : IsContractedYet b p → ⊥
-  pub current : All (λ s. IsOld b s → ⊥) p.rests_on
-  pub differs : Agrees b p → ⊥
+-- By what the rows have
 
--- the row is the board's, with its version
-pub record IsShown (b : Ledger) (s : Seen) : Type 0 where
-  pub row : IsRowOf b s
-  pub version : s.version ≡ slice_index b.overlay.versions s.node
+-- the row is the ledger's row of its node
+pub record IsRowOf (l : Ledger) (s : Seen) : Type 0 where
+  pub in_range : IsNode l s.node
+  pub same : row_in s ≡ row_now l s.node
+
+-- the proposal was made by rows that are the ledger's, under its bound
+pub record Agrees (l : Ledger) (p : Proposal) : Type 0 where
+  pub bound : p.bound ≡ l.overlay.bound
+  pub rows : All (IsRowOf l) p.rests_on
+
+-- what was proposed by a ledger's rows may be done to it
+abbrev pub AgreementIsLawful : Type 0
+AgreementIsLawful = (l : Ledger) (p : Proposal) → IsLedger l → IsProposal p → Agrees l p → AreLawful l p.node p.shortcuts
+
+-- no version says that a row has changed, and yet the proposal isn't by the ledger's rows
+pub record IsBroken (l : Ledger) (p : Proposal) : Type 0 where
+  pub up_to_date : IsUpToDate l p
+  pub differs : Agrees l p → ⊥
+
+-- the row is the ledger's, with its version
+pub record IsShown (l : Ledger) (s : Seen) : Type 0 where
+  pub row : IsRowOf l s
+  pub version : s.version ≡ version_now l s.node

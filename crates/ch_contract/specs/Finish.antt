@@ -1,4 +1,4 @@
--- The ranks and the links that the rows of a board come to.
+-- The ranks and the links that the rows of a ledger come to.
 use Rattle.std.specs.Prelude.{ℕ, ◌≡◌, ◌<◌, ◌≤◌, List, ◌++◌, length, map, Some, AllPairs, slice_index}
 use Rattle.std.specs.List.{flat_map, range_with_len}
 use Rattle.std.specs.List.Sorted.{IsPermutation}
@@ -9,7 +9,7 @@ use Rattle.ch_laws.specs.Rows.{Row}
 use Rattle.ch_overlay.specs.Overlay.{Overlay, row_at, state_of}
 use Rattle.ch_contract.specs.Ledger.{Ledger}
 
--- some node of the board isn't contracted
+-- some node of the ledger isn't contracted
 abbrev pub HasNodesLeft : Ledger → Type 0
 HasNodesLeft b = (x : ℕ) × IsAlive (state_of b.overlay) x
 

@@ -1,9 +1,10 @@
 -- A graph under contraction: its rows, and the log of what was done.
-use Rattle.std.specs.Prelude.{ℕ, ◌≡◌, ◌<◌, ◌≤◌, ◌^◌, Some, List, [], ◌∷◌, ◌++◌, length, filter, is_none, AllPairs}
+use Rattle.std.specs.Prelude.{ℕ, ◌≡◌, ◌<◌, ◌≤◌, ◌^◌, Some, List, [], ◌∷◌, ◌++◌, length, filter, is_none, AllPairs, Contains, slice_index}
 use Rattle.std.specs.List.{range_with_len, slice_get}
 use Rattle.ch_graph.specs.Graph.{Graph, IsGraph, bound_of}
 use Rattle.ch_laws.specs.declared.shortcut.Shortcut.{Shortcut}
 use Rattle.ch_laws.specs.Contraction.{Contraction, Step, IsReached, IsPlan, IsWitnessed, contracted}
+use Rattle.ch_laws.specs.Rows.{Row}
 use Rattle.ch_overlay.specs.Overlay.{Overlay, IsOverlay, row_at, state_of}
 use Rattle.ch_overlay.specs.Change.{AreRenewed}
 use Rattle.ch_contract.specs.declared.contraction.Receipt.{Receipt}
@@ -13,6 +14,25 @@ pub record Ledger : Type 0 where
   pub graph : Graph
   pub overlay : Overlay
   pub log : List Contraction
+
+-- x is one of its nodes
+abbrev pub IsNode : Ledger → ℕ → Type 0
+IsNode l x = x < length l.overlay.rows
+
+-- the row of a node now, and the version of that row
+abbrev pub row_now : Ledger → ℕ → Row
+row_now l x = row_at l.overlay.rows x
+
+abbrev pub version_now : Ledger → ℕ → ℕ
+version_now l x = slice_index l.overlay.versions x
+
+-- the versions of all nodes, by their numbers
+abbrev pub versions_now : Ledger → List ℕ
+versions_now l = l.overlay.versions
+
+-- the node is contracted
+abbrev pub IsGone : Ledger → ℕ → Type 0
+IsGone l x = Contains l.overlay.order x
 
 -- the entries of the log lead from the start of the graph to the rows
 pub record IsLedger (l : Ledger) : Type 0 where
@@ -53,8 +73,8 @@ pub record IsContracted (old : Ledger) (node : ℕ) (put : List Shortcut) (recei
   pub handed : receipt ≡ receipt_of entry
   pub contracts : Contracts old entry new
   pub state : state_of new.overlay ≡ contracted (state_of old.overlay) node put
-  pub versions : AreRenewed (node ∷ entry.neighbours) old.overlay.versions new.overlay.versions
+  pub versions : AreRenewed (node ∷ entry.neighbours) (versions_now old) (versions_now new)
 
 -- the nodes that aren't contracted, rising
 abbrev pub alive_nodes : Ledger → List ℕ
-alive_nodes l = filter (λ x. is_none (row_at l.overlay.rows x).rank) (range_with_len 0 (length l.overlay.rows))
+alive_nodes l = filter (λ x. is_none (row_now l x).rank) (range_with_len 0 (length l.overlay.rows))

@@ -4,7 +4,7 @@ use Rattle.ch_laws.specs.declared.shortcut.Shortcut.{Shortcut}
 use Rattle.ch_laws.specs.Contraction.{Contraction}
 use Rattle.ch_laws.specs.Rows.{Row}
 use Rattle.ch_overlay.specs.Change.{Change, IsChange}
-use Rattle.ch_contract.specs.Ledger.{Ledger, AreLawful}
+use Rattle.ch_contract.specs.Ledger.{Ledger, AreLawful, versions_now}
 
 -- the new rows, and the entry for the log
 pub record Planned : Type 0 where
@@ -29,4 +29,4 @@ WasPlanned l p = (node : ℕ) × (put : List Shortcut) × IsPlanned l node put p
 pub record AreNewVersions (l : Ledger) (p : Planned) (versions : List ℕ) : Type 0 where
   pub count : length versions ≡ length p.change.rows
   pub rising : AllPairs (λ a b. a < b) versions
-  pub above : All (λ a. All (λ b. a < b) versions) l.overlay.versions
+  pub above : All (λ a. All (λ b. a < b) versions) (versions_now l)

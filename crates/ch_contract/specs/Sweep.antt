@@ -1,4 +1,4 @@
--- The contraction of all nodes of a board, by rising number.
+-- The contraction of all nodes of a ledger, by rising number.
 use Rattle.std.specs.Prelude.{ℕ, ◌≡◌, List, ◌++◌, [], ◌∷◌, map, ◌⊎◌}
 use Rattle.ch_graph.specs.Graph.{bound_of}
 use Rattle.ch_laws.specs.declared.shortcut.Shortcut.{Shortcut}

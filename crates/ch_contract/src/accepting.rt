@@ -1,9 +1,9 @@
-ghost use Rattle.std.specs.Prelude.{◌≡◌, ◌↔◌, ◌<◌, ℕ, IsTrue, IfOk, IfNone, IfSome, SomeIff, All, Contains, length, slice_index};
+ghost use Rattle.std.specs.Prelude.{◌≡◌, ◌↔◌, ℕ, IsTrue, IfOk, IfNone, IfSome, SomeIff, All};
 ghost use Rattle.ch_overlay.specs.declared.source.Seen.{Seen};
 ghost use Rattle.ch_contract.specs.declared.error.CommitError.TheVariants as commits;
-ghost use Rattle.ch_contract.specs.Ledger.{AreLawful};
+ghost use Rattle.ch_contract.specs.Ledger.{IsLedger, AreLawful, IsGone, version_now};
 ghost use Rattle.ch_contract.specs.Proposal.{IsProposal};
-ghost use Rattle.ch_contract.specs.Commit.{IsContractedYet, IsOld, IsFirstChange, IsRowOf, Agrees, IsStale, IsBroken};
+ghost use Rattle.ch_contract.specs.Commit.{IsContractedYet, IsOld, NoneIsOld, IsFirstOld, IsUpToDate, IsRefusal, IsRowOf, Agrees, AgreementIsLawful, IsStale, IsBroken};
 
 use crate::error::CommitError;
 use crate::ledger::Ledger;
@@ -11,19 +11,8 @@ use crate::proposal::Proposal;
 use ch_laws::verdicts_are_lawful;
 use ch_overlay::Seen;
 
-/// A row that was seen in another version than the ledger has now.
-#[derive(Clone, Copy)]
-struct Changed {
-    /// The node, which is in range.
-    node: u32,
-    /// The version that was seen.
-    seen: u64,
-    /// The version now.
-    now: u64,
-}
-
-/// Whether a ledger can contract the node of a proposal by it, and if not, why: the node is contracted already, or
-/// else a row has another version now, the first of them, or else a row or the bound is another one.
+/// Whether a ledger can contract the node of a proposal by it, and if not, why: the proposal isn't up to date, or else
+/// a row or the bound is another one.
 ///
 /// Takes no memory. Looks once at the version of each row that the proposal rests on, and once at its entries.
 pub fn accepted(ledger: &Ledger, proposal: &Proposal) -> Result<(), CommitError>
@@ -32,18 +21,9 @@ pub fn accepted(ledger: &Ledger, proposal: &Proposal) -> Result<(), CommitError>
     ensures stale { (node seen now front : ℕ) → (result ≡ Err (commits.Stale node seen now front)) ↔ IsStale ledger.now proposal.now node seen now front }
     ensures broken { (result ≡ Err commits.Broken) ↔ IsBroken ledger.now proposal.now }
 {
-    verdicts_are_lawful();
-    if is_contracted(ledger, proposal.node()) {
-        return Err(CommitError::Contracted);
-    }
-    let front = ledger.log().len() as u64;
-    if let Some(changed) = first_old(ledger, proposal) {
-        return Err(CommitError::Stale {
-            node: changed.node,
-            seen: changed.seen,
-            now: changed.now,
-            front,
-        });
+    agreement_is_lawful();
+    if let Some(refused) = refusal(ledger, proposal) {
+        return Err(refused);
     }
     if !agrees(ledger, proposal) {
         return Err(CommitError::Broken);
@@ -51,9 +31,51 @@ pub fn accepted(ledger: &Ledger, proposal: &Proposal) -> Result<(), CommitError>
     Ok(())
 }
 
+/// A proposal that was made by rows of a ledger, under its bound, is a lawful contraction of it. It does nothing when it
+/// runs.
+pub fn agreement_is_lawful()
+    ensures { AgreementIsLawful }
+{
+    verdicts_are_lawful();
+}
+
+/// Why a proposal isn't up to date, by version numbers alone: its node is contracted already, or else a row has another
+/// version now, the first of them. None where it is.
+///
+/// Takes no memory. Looks once at the version of each row that the proposal rests on, and at no entry.
+pub fn refusal(ledger: &Ledger, proposal: &Proposal) -> Option<CommitError>
+    ensures up_to_date { IfNone result (IsUpToDate ledger.now proposal.now) }
+    ensures refused { IfSome result (λ error. IsRefusal ledger.now proposal.now error) }
+    ensures holds { IsProposal proposal.now }
+{
+    let rows = proposal.rests_on();
+    if is_contracted(ledger, proposal.node()) {
+        return Some(CommitError::Contracted);
+    }
+    let old = first_old(ledger, rows)?;
+    let front = ledger.log().len() as u64;
+    Some(CommitError::Stale {
+        node: old.node,
+        seen: old.seen,
+        now: old.now,
+        front,
+    })
+}
+
+/// A row that was seen in another version than its node has now.
+#[derive(Clone, Copy)]
+struct Old {
+    /// The node, which is in range.
+    node: u32,
+    /// The version that was seen.
+    seen: u64,
+    /// The version now.
+    now: u64,
+}
+
 /// Whether a node is in range and contracted.
 fn is_contracted(ledger: &Ledger, node: u32) -> bool
-    ensures { IsTrue result ↔ Contains ledger.now.overlay.order node }
+    ensures { IsTrue result ↔ IsGone ledger.now node }
 {
     let overlay = ledger.overlay();
     if node >= overlay.nodes() {
@@ -62,14 +84,14 @@ fn is_contracted(ledger: &Ledger, node: u32) -> bool
     overlay.row(node).rank.is_some()
 }
 
-/// The first of the rows that a proposal rests on of which the ledger has another version now.
-fn first_old(ledger: &Ledger, proposal: &Proposal) -> Option<Changed>
-    ensures none { IfNone result (All (λ s. IsOld ledger.now s → ⊥) proposal.now.rests_on) }
-    ensures some { IfSome result (λ changed. IsFirstChange ledger.now proposal.now changed.node changed.seen changed.now) }
+/// The first of these rows of which the ledger has another version now.
+fn first_old(ledger: &Ledger, rows: &[Seen]) -> Option<Old>
+    ensures none { IfNone result (NoneIsOld ledger.now rows.now) }
+    ensures some { IfSome result (λ old. IsFirstOld ledger.now rows.now old.node old.seen old.now) }
 {
-    'rows: for seen in proposal.rests_on() {
+    'rows: for seen in rows {
         if let Some(now) = newer(ledger, seen) {
-            return Some(Changed {
+            return Some(Old {
                 node: seen.node,
                 seen: seen.version,
                 now,
@@ -81,7 +103,7 @@ fn first_old(ledger: &Ledger, proposal: &Proposal) -> Option<Changed>
 
 /// The version that the ledger has now, where it is another than the one that was seen.
 fn newer(ledger: &Ledger, seen: &Seen) -> Option<u64>
-    ensures { SomeIff result (IsOld ledger.now seen.now) (slice_index ledger.now.overlay.versions seen.now.node) }
+    ensures { SomeIff result (IsOld ledger.now seen.now) (version_now ledger.now seen.now.node) }
 {
     let overlay = ledger.overlay();
     if seen.node >= overlay.nodes() {
@@ -98,8 +120,10 @@ fn newer(ledger: &Ledger, seen: &Seen) -> Option<u64>
 fn agrees(ledger: &Ledger, proposal: &Proposal) -> bool
     ensures agrees { IsTrue result ↔ Agrees ledger.now proposal.now }
     ensures holds { IsProposal proposal.now }
+    ensures ledger { IsLedger ledger.now }
 {
     let rows = proposal.rests_on();
+    ledger.holds();
     proposal.bound() == ledger.overlay().bound() && are_rows_of(ledger, rows)
 }
 

@@ -4,8 +4,8 @@ ghost use Rattle.ch_graph.specs.Hierarchy.{IsRight};
 ghost use Rattle.ch_laws.specs.Contraction.{IsStart, IsAlive, IsMade};
 ghost use Rattle.ch_overlay.specs.Overlay.{state_of};
 ghost use Rattle.ch_contract.specs.declared.error.CommitError.TheVariants as commits;
-ghost use Rattle.ch_contract.specs.Ledger.{IsLedger, IsLog, AreLawful, IsContracted};
-ghost use Rattle.ch_contract.specs.Commit.{IsContractedYet, IsOld, Agrees, IsStale, IsBroken};
+ghost use Rattle.ch_contract.specs.Ledger.{IsLedger, IsLog, IsNode, AreLawful, IsContracted, versions_now};
+ghost use Rattle.ch_contract.specs.Commit.{IsContractedYet, NoneIsOld, Agrees, IsStale, IsBroken};
 ghost use Rattle.ch_contract.specs.Finish.{HasNodesLeft};
 ghost use Rattle.ch_contract.specs.Sweep.{IsSwept, IsPartlySwept, IsVisited};
 
@@ -57,7 +57,7 @@ impl<S: Site> Board<S> {
         requires named { S.graph ≡ graph }
         ensures log { IfOk result (λ board. board.log ≡ []) }
         ensures start { IfOk result (λ board. IsStart graph (state_of board.overlay)) }
-        ensures versions { IfOk result (λ board. board.overlay.versions ≡ range_with_len 0 graph.nodes) }
+        ensures versions { IfOk result (λ board. versions_now board ≡ range_with_len 0 graph.nodes) }
     {
         let nodes = graph.nodes();
         let ledger = Ledger::new(alloc, graph)?;
@@ -201,7 +201,7 @@ impl<S: Site> Board<S> {
         scratch: &mut Scratch,
         receipts: &mut Vec<Receipt>,
     ) -> Result<(), AllocError>
-        requires in_range { node < length self.old.overlay.rows }
+        requires in_range { IsNode self.old node }
         requires low { 0 < settle }
         requires high { settle ≤ 65536 }
         ensures ok { IfOk result (λ _. IsVisited self.old node receipts.old.items self.new receipts.new.items) }
@@ -219,7 +219,7 @@ impl<S: Site> Board<S> {
 
     /// Whether a node isn't contracted.
     fn is_alive(&self, node: u32) -> bool
-        requires { node < length self.now.overlay.rows }
+        requires { IsNode self.now node }
         ensures { IsTrue result ↔ IsAlive (state_of self.now.overlay) node }
     {
         self.holds();
@@ -238,7 +238,7 @@ impl<S: Site> Board<S> {
         requires high { settle ≤ 65536 }
         ensures node { IfOk result (λ p. p.node ≡ node) }
         ensures agrees { IfOk result (λ p. Agrees self.old p) }
-        ensures current { IfOk result (λ p. All (λ s. IsOld self.old s → ⊥) p.rests_on) }
+        ensures current { IfOk result (λ p. NoneIsOld self.old p.rests_on) }
         ensures same { self.new ≡ self.old }
     {
         self.holds();
@@ -255,7 +255,7 @@ impl<S: Site> Board<S> {
     fn taken(&mut self, proposal: Proposal) -> Result<Receipt, AllocError>
         requires waits { IsContractedYet self.old proposal → ⊥ }
         requires agrees { Agrees self.old proposal }
-        requires current { All (λ s. IsOld self.old s → ⊥) proposal.rests_on }
+        requires current { NoneIsOld self.old proposal.rests_on }
         ensures ok { IfOk result (λ receipt. IsContracted self.old proposal.node proposal.shortcuts receipt self.new) }
         ensures err { OnErr result (self.new ≡ self.old) }
     {
@@ -277,6 +277,7 @@ impl<S: Site> RowSource for Board<S> {
     ghost use Rattle.ch_overlay.specs.declared.source.SeeError.TheVariants as see;
     ghost use Rattle.ch_overlay.specs.Source.{row_in, IsBound, IsSeenRow, NamesAlone};
     ghost use Rattle.ch_contract.specs.Ledger as ledgers;
+    ghost use Rattle.ch_contract.specs.Ledger.{IsNode};
     ghost use Rattle.ch_contract.specs.Commit.{IsShown};
 
     ghost bears = { λ _. Unit {0} };
@@ -285,7 +286,7 @@ impl<S: Site> RowSource for Board<S> {
 
     ghost stays = { λ a b. b ≡ a };
 
-    ghost whole = { λ b x. x < length b.overlay.rows };
+    ghost whole = { λ b x. IsNode b x };
 
     ghost bound_of = { λ b. b.overlay.bound };
 
@@ -296,10 +297,10 @@ impl<S: Site> RowSource for Board<S> {
         ensures bears { IfOk result (λ _. Unit {0}) }
         ensures shows { IfOk result (IsShown self.new) }
         ensures stays { self.new ≡ self.old }
-        ensures found { node < length self.old.overlay.rows → result ≡ Err see.Unseen → ⊥ }
-        ensures names { node < length self.old.overlay.rows → IfOk result (λ seen. NamesAlone (λ x. x < length self.new.overlay.rows) (row_in seen)) }
+        ensures found { IsNode self.old node → result ≡ Err see.Unseen → ⊥ }
+        ensures names { IsNode self.old node → IfOk result (λ seen. NamesAlone (IsNode self.new) (row_in seen)) }
         ensures kept { OnErr result (self.new ≡ self.old) }
-        ensures unseen { (result ≡ Err see.Unseen) ↔ ((node < length self.old.overlay.rows) → ⊥) }
+        ensures unseen { (result ≡ Err see.Unseen) ↔ (IsNode self.old node → ⊥) }
     {
         shown(&self.ledger, node)
     }
@@ -316,7 +317,7 @@ impl<S: Site> RowSource for Board<S> {
 
     ghost still_shows = { λ a b s e h. subst (λ (b : ledgers.Ledger). IsShown b s) (sym e) h };
 
-    ghost still_whole = { λ a b x e h. subst (λ (b : ledgers.Ledger). x < length b.overlay.rows) (sym e) h };
+    ghost still_whole = { λ a b x e h. subst (λ (b : ledgers.Ledger). IsNode b x) (sym e) h };
 
     ghost same_bound = { λ a b e. ap (λ (b : ledgers.Ledger). b.overlay.bound) e };
 }

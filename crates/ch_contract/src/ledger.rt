@@ -5,7 +5,7 @@ ghost use Rattle.ch_laws.specs.declared.shortcut.Shortcut.{Shortcut};
 ghost use Rattle.ch_laws.specs.Contraction.{IsStart};
 ghost use Rattle.ch_overlay.specs.Overlay.{state_of};
 ghost use Rattle.ch_overlay.specs.Change.{puts, changed_nodes};
-ghost use Rattle.ch_contract.specs.Ledger.{IsLedger, IsLog, AreLawful, IsContracted};
+ghost use Rattle.ch_contract.specs.Ledger.{IsLedger, IsLog, AreLawful, IsContracted, versions_now};
 ghost use Rattle.ch_contract.specs.Ledger as ledgers;
 ghost use Rattle.ch_contract.specs.Planned.{IsPlanned, WasPlanned, AreNewVersions};
 ghost use Rattle.ch_contract.specs.Planned as plans;
@@ -75,7 +75,7 @@ impl Ledger {
         ensures graph { IfOk result (λ l. l.graph ≡ graph) }
         ensures log { IfOk result (λ l. l.log ≡ []) }
         ensures start { IfOk result (λ l. IsStart graph (state_of l.overlay)) }
-        ensures versions { IfOk result (λ l. l.overlay.versions ≡ range_with_len 0 graph.nodes) }
+        ensures versions { IfOk result (λ l. versions_now l ≡ range_with_len 0 graph.nodes) }
     {
         let overlay = Overlay::start(alloc, &graph)?;
         let nodes = overlay.nodes();
@@ -156,7 +156,7 @@ impl Ledger {
         requires versions { AreNewVersions self.old planned versions.now }
         ensures contracted { (node : ℕ) (put : List Shortcut) → IsPlanned self.old node put planned → IsContracted self.old node put result self.new }
         ensures rows { self.new.overlay.rows ≡ puts self.old.overlay.rows planned.change.rows }
-        ensures versions { self.new.overlay.versions ≡ puts self.old.overlay.versions (zip (changed_nodes planned.change) versions.now) }
+        ensures versions { versions_now self.new ≡ puts (versions_now self.old) (zip (changed_nodes planned.change) versions.now) }
     {
         let Planned { change, entry } = planned;
         let receipt = Receipt {
@@ -175,7 +175,7 @@ impl Ledger {
 pub fn versions_from(alloc: Global, first: u64, count: usize) -> Result<Vec<u64>, AllocError>
     requires { first + count < 2 ^ 64 }
     ensures items { IfOk result (λ versions. versions.items ≡ range_with_len first count) }
-    ensures new { IfOk result (λ versions. (l : ledgers.Ledger) (p : plans.Planned) → count ≡ length p.change.rows → All (λ v. v < first) l.overlay.versions → AreNewVersions l p versions.items) }
+    ensures new { IfOk result (λ versions. (l : ledgers.Ledger) (p : plans.Planned) → count ≡ length p.change.rows → All (λ v. v < first) (versions_now l) → AreNewVersions l p versions.items) }
 {
     let mut versions = Vec::with_capacity(alloc, count)?;
     for i in 0..count as u64 {

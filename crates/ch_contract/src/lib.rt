@@ -23,6 +23,7 @@ mod shown;
 mod site;
 mod verdict;
 
+pub use accepting::{agreement_is_lawful, refusal};
 pub use board::Board;
 pub use contraction::{Contraction, Receipt};
 pub use error::{CommitError, FinishError, ProposeError, SweepError};

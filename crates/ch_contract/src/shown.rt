@@ -1,6 +1,7 @@
-ghost use Rattle.std.specs.Prelude.{◌≡◌, ◌↔◌, ◌<◌, IfOk, length};
+ghost use Rattle.std.specs.Prelude.{◌≡◌, ◌↔◌, IfOk};
 ghost use Rattle.ch_overlay.specs.declared.source.SeeError.TheVariants as see;
 ghost use Rattle.ch_overlay.specs.Source.{row_in, IsBound, IsSeenRow, NamesAlone};
+ghost use Rattle.ch_contract.specs.Ledger.{IsNode};
 ghost use Rattle.ch_contract.specs.Commit.{IsShown};
 
 use crate::ledger::Ledger;
@@ -15,8 +16,8 @@ pub fn shown(ledger: &Ledger, node: u32) -> Result<Seen, SeeError>
     ensures bound { IsBound ledger.now.overlay.bound }
     ensures row { IfOk result (IsSeenRow ledger.now.overlay.bound) }
     ensures shows { IfOk result (IsShown ledger.now) }
-    ensures names { IfOk result (λ seen. NamesAlone (λ x. x < length ledger.now.overlay.rows) (row_in seen)) }
-    ensures unseen { (result ≡ Err see.Unseen) ↔ ((node < length ledger.now.overlay.rows) → ⊥) }
+    ensures names { IfOk result (λ seen. NamesAlone (IsNode ledger.now) (row_in seen)) }
+    ensures unseen { (result ≡ Err see.Unseen) ↔ (IsNode ledger.now node → ⊥) }
 {
     ledger.holds();
     bounds_fit();

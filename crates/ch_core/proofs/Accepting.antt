@@ -10,9 +10,10 @@ use Rattle.ch_overlay.specs.Overlay.{Overlay, state_of}
 use Rattle.ch_overlay.specs.Change.{Change, IsChange, puts, ChangesWriteTheirRows}
 use Rattle.ch_contract.specs.declared.contraction.Receipt.{Receipt}
 use Rattle.ch_contract.specs.Ledger.{Ledger, IsLedger, IsContracted}
+use Rattle.ch_contract.specs.Commit.{IsContractedYet}
 use Rattle.ch_contract.specs.Planned.{Planned, IsPlanned}
 use Rattle.ch_contract.specs.Proposal.{Proposal}
-use Rattle.ch_core.specs.World.{World, MayOffer, IsDone, IsCurrent, AreNewRows, IsEntryOf, entered, version_of, IsAccepted}
+use Rattle.ch_core.specs.World.{World, MayOffer, IsCurrent, AreNewRows, IsEntryOf, entered, version_of, IsAccepted}
 use Rattle.ch_core.specs.Keeping.{IsWorld}
 use Rattle.ch_core.proofs.Kept.{world_after}
 
@@ -57,7 +58,7 @@ module _ (changes_write : ChangesWriteTheirRows) (w : World) (p : Proposal) (pla
     pub then_world : IsWorld world_then
     then_world = world_after changes_write w is p.shortcuts plan.change planned.change new goes contracted.contracts.graph rows versions_are
 
-    pub then_accepted : (worker : ℕ) → MayOffer w worker p → (IsDone w p → ⊥) → All (IsCurrent w) p.rests_on → IsAccepted w worker p receipt world_then
+    pub then_accepted : (worker : ℕ) → MayOffer w worker p → (IsContractedYet w.ledger p → ⊥) → All (IsCurrent w) p.rests_on → IsAccepted w worker p receipt world_then
     then_accepted worker may waits current = record {
       may = may;
       waits = waits;

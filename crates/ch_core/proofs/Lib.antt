@@ -1,4 +1,3 @@
-pub mod Ranked
 pub mod Lawful
 pub mod Growing
 pub mod Kept

@@ -1,10 +1,10 @@
 -- What holds of every world.
-use Rattle.std.specs.Prelude.{ℕ, ◌≡◌, ◌^◌, ◌<◌, Some, length, All, slice_index}
+use Rattle.std.specs.Prelude.{ℕ, ◌≡◌, ◌^◌, ◌<◌, Some, length, All}
 use Rattle.ch_cost.specs.declared.cost.Cost.{Cost}
 use Rattle.ch_laws.specs.Rows.{Row, Rises}
 use Rattle.ch_overlay.specs.Source.{IsBound}
-use Rattle.ch_overlay.specs.Overlay.{Overlay, AreEntries, row_at}
-use Rattle.ch_contract.specs.Ledger.{IsLedger}
+use Rattle.ch_overlay.specs.Overlay.{Overlay, AreEntries}
+use Rattle.ch_contract.specs.Ledger.{IsLedger, IsNode, row_now, version_now}
 use Rattle.ch_core.specs.World.{World, Version, View, Standing, stands_at, has, IsIn}
 
 -- a row that can be relied on, of a node among so many
@@ -23,7 +23,7 @@ pub record IsWorld (w : World) : Type 0 where
   pub ledger : IsLedger w.ledger
   pub bound : IsBound w.ledger.overlay.bound
   pub few_workers : length w.views < 2 ^ 32
-  pub current : (x : ℕ) → x < length w.ledger.overlay.rows → IsIn w.book x (slice_index w.ledger.overlay.versions x) (row_at w.ledger.overlay.rows x)
+  pub current : (x : ℕ) → IsNode w.ledger x → IsIn w.book x (version_now w.ledger x) (row_now w.ledger x)
   pub views : (k x : ℕ) (s : Standing) → has w k x ≡ Some s → IsIn w.book x s.version s.row
   pub sound : All (IsSoundVersion w.ledger.overlay) w.book
 

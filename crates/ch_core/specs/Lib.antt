@@ -1,4 +1,3 @@
-pub mod Offering
 pub mod World
 pub mod Steps
 pub mod Keeping

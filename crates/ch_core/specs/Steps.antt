@@ -1,28 +1,20 @@
 -- What each event does to a world, and what is answered.
 use Rattle.std.specs.Prelude.{ℕ, ◌≡◌, ◌<◌, List, [], ◌∷◌, length}
 use Rattle.ch_graph.specs.Graph.{Graph}
-use Rattle.ch_contract.specs.declared.error.CommitError.{CommitError}
-use Rattle.ch_contract.specs.declared.error.CommitError.TheVariants.{Contracted, Stale}
 use Rattle.ch_contract.specs.Ledger.{IsContracted}
-use Rattle.ch_contract.specs.Proposal.{Proposal}
+use Rattle.ch_contract.specs.Commit.{IsRefusal}
 use Rattle.ch_core.specs.declared.event.Event.{Event}
 use Rattle.ch_core.specs.declared.event.Event.TheVariants.{Read, Offer, Forget}
 use Rattle.ch_core.specs.declared.event.Outcome.{Outcome}
 use Rattle.ch_core.specs.declared.event.Outcome.TheVariants.{Shown, Committed, Refused, Forgotten, NoSuch}
-use Rattle.ch_core.specs.World.{World, IsOpening, IsRead, MayRead, IsForgotten, MayOffer, IsDone, IsOutdated, IsAccepted}
-
--- why an offer that a worker may make isn't accepted: its node is contracted, or else a row isn't current
-abbrev pub IsRefused : World → Proposal → CommitError → Type 0
-IsRefused w p Contracted = IsDone w p
-IsRefused w p (Stale node seen now front) = (IsDone w p → ⊥) × IsOutdated w p node seen now front
-IsRefused w p _ = ⊥
+use Rattle.ch_core.specs.World.{World, IsOpening, IsRead, MayRead, IsForgotten, MayOffer, IsAccepted}
 
 -- an event, its outcome, and the world afterwards
 abbrev pub IsStep : World → Event → Outcome → World → Type 0
 IsStep old (Read worker node version) Shown new = IsRead old worker node version new
 IsStep old (Read worker node version) NoSuch new = (MayRead old worker node version → ⊥) × (new ≡ old)
 IsStep old (Offer worker p) (Committed receipt) new = IsAccepted old worker p receipt new
-IsStep old (Offer worker p) (Refused error) new = MayOffer old worker p × IsRefused old p error × (new ≡ old)
+IsStep old (Offer worker p) (Refused error) new = MayOffer old worker p × IsRefusal old.ledger p error × (new ≡ old)
 IsStep old (Offer worker p) NoSuch new = (MayOffer old worker p → ⊥) × (new ≡ old)
 IsStep old (Forget worker) Forgotten new = IsForgotten old worker new
 IsStep old (Forget worker) NoSuch new = (worker < length old.views → ⊥) × (new ≡ old)

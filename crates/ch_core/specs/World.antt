@@ -12,9 +12,9 @@ use Rattle.ch_overlay.specs.Source.{row_in}
 use Rattle.ch_overlay.specs.Overlay.{Overlay, no_arcs, row_at, state_of}
 use Rattle.ch_overlay.specs.Change.{puts}
 use Rattle.ch_contract.specs.declared.contraction.Receipt.{Receipt}
-use Rattle.ch_contract.specs.Ledger.{Ledger, receipt_of}
+use Rattle.ch_contract.specs.Ledger.{Ledger, receipt_of, row_now, version_now, versions_now}
+use Rattle.ch_contract.specs.Commit.{IsContractedYet}
 use Rattle.ch_contract.specs.Proposal.{Proposal}
-use Rattle.ch_core.specs.Offering.{IsCurrentIn, IsFirstOld}
 
 -- Worlds
 
@@ -60,9 +60,9 @@ pub record IsOpening (g : Graph) (workers : ℕ) (w : World) : Type 0 where
   pub graph : w.ledger.graph ≡ g
   pub log : w.ledger.log ≡ []
   pub start : IsStart g (state_of w.ledger.overlay)
-  pub versions : w.ledger.overlay.versions ≡ range_with_len 0 g.nodes
+  pub versions : versions_now w.ledger ≡ range_with_len 0 g.nodes
   pub many : length w.book ≡ g.nodes
-  pub book : (x : ℕ) → x < g.nodes → IsIn w.book x x (row_at w.ledger.overlay.rows x)
+  pub book : (x : ℕ) → x < g.nodes → IsIn w.book x x (row_now w.ledger x)
   pub as_many : length w.views ≡ workers
   pub nothing : (k x : ℕ) → has w k x ≡ None
 
@@ -106,19 +106,9 @@ pub record MayOffer (w : World) (worker : ℕ) (p : Proposal) : Type 0 where
   pub bound : p.bound ≡ bound_of w.ledger.graph
   pub rows : All (StandsIn (view_of w worker)) p.rests_on
 
--- the node is contracted already
-abbrev pub IsDone : World → Proposal → Type 0
-IsDone w p = Contains w.ledger.overlay.order p.node
-
 -- the version of the row is its node's current one
 abbrev pub IsCurrent : World → Seen → Type 0
-IsCurrent w s = IsCurrentIn w.ledger.overlay s
-
--- A row isn't current. The first such row is this node's, with this version, while that one is current, and so many
--- nodes were contracted so far.
-pub record IsOutdated (w : World) (p : Proposal) (node seen now front : ℕ) : Type 0 where
-  pub first : IsFirstOld w.ledger.overlay p.rests_on node seen now
-  pub of_log : front ≡ length w.ledger.log
+IsCurrent w s = s.version ≡ version_now w.ledger s.node
 
 -- The new rows where a node is contracted and these shortcuts are put in: first the row of the node, which gets its
 -- rank and keeps its entries, and then the changed row of each neighbour, by rising number.
@@ -156,7 +146,7 @@ version_of a = record { node = a.0; row = a.1 }
 -- An offer is accepted: its node isn't contracted, and each version that it lists is current. Nothing else is asked.
 pub record IsAccepted (old : World) (worker : ℕ) (p : Proposal) (receipt : Receipt) (new : World) : Type 0 where
   pub may : MayOffer old worker p
-  pub waits : IsDone old p → ⊥
+  pub waits : IsContractedYet old.ledger p → ⊥
   pub current : All (IsCurrent old) p.rests_on
   pub rows : List (ℕ × Row)
   pub are_new : AreNewRows old.ledger.overlay p.node p.shortcuts rows

@@ -3,21 +3,25 @@ ghost use Rattle.ch_graph.specs.Graph.{bound_of};
 ghost use Rattle.ch_laws.specs.Contraction.{IsReached};
 ghost use Rattle.ch_overlay.specs.Overlay.{state_of};
 ghost use Rattle.ch_contract.specs.Ledger.{IsContracted, IsLog};
+ghost use Rattle.ch_contract.specs.Commit.{IsContractedYet, IsRefusal};
 ghost use Rattle.ch_contract.specs.Proposal.{IsProposal};
 ghost use Rattle.ch_core.specs.declared.event.Event.TheVariants as events;
 ghost use Rattle.ch_core.specs.declared.event.Outcome.TheVariants as outcomes;
-ghost use Rattle.ch_core.specs.World.{IsOpening, MayOffer, IsDone, IsCurrent, IsAccepted, view_of};
-ghost use Rattle.ch_core.specs.Steps.{IsStep, IsRefused, IsLawful};
+ghost use Rattle.ch_core.specs.World.{IsOpening, MayOffer, IsCurrent, IsAccepted, view_of};
+ghost use Rattle.ch_core.specs.Steps.{IsStep, IsLawful};
 ghost use Rattle.ch_core.specs.Keeping.{IsWorld};
 
 use crate::book::{Version, append, opening_book, standing, versions_of};
 use crate::event::{Event, Outcome};
-use crate::offering::{all_stand, first_old, is_done};
+use crate::offering::all_stand;
 use crate::reads::Reads;
 use crate::view::View;
-use ch_contract::{CommitError, Contraction, Ledger, Proposal, Receipt, versions_from};
+use ch_contract::{
+    CommitError, Contraction, Ledger, Proposal, Receipt, agreement_is_lawful, refusal,
+    versions_from,
+};
 use ch_graph::Graph;
-use ch_laws::{bounds_fit, verdicts_are_lawful};
+use ch_laws::bounds_fit;
 use ch_overlay::{Overlay, changes_write_their_rows};
 use std::alloc::{AllocError, Global};
 use std::marker::Model;
@@ -201,30 +205,18 @@ impl World {
     /// Why an offer that the worker may make isn't accepted, or none where it is.
     fn refusal(&self, worker: u32, proposal: &Proposal) -> Option<CommitError>
         requires { MayOffer self.now worker proposal.now }
-        ensures waits { IfNone result (IsDone self.now proposal.now → ⊥) }
+        ensures waits { IfNone result (IsContractedYet self.now.ledger proposal.now → ⊥) }
         ensures current { IfNone result (All (IsCurrent self.now) proposal.now.rests_on) }
-        ensures refused { IfSome result (λ error. IsRefused self.now proposal.now error) }
+        ensures refused { IfSome result (λ error. IsRefusal self.now.ledger proposal.now error) }
         ensures holds { IsProposal proposal.now }
     {
-        let overlay = self.ledger.overlay();
-        let rows = proposal.rests_on();
-        if is_done(overlay, proposal.node()) {
-            return Some(CommitError::Contracted);
-        }
-        let old = first_old(overlay, rows)?;
-        let front = self.ledger.log().len() as u64;
-        Some(CommitError::Stale {
-            node: old.node,
-            seen: old.seen,
-            now: old.now,
-            front,
-        })
+        refusal(&self.ledger, proposal)
     }
 
     /// Contracts the node of a proposal, all of whose rows are current. Takes memory for the new rows.
     fn accept(&mut self, worker: u32, proposal: &Proposal) -> Result<Receipt, AllocError>
         requires may { MayOffer self.old worker proposal.now }
-        requires waits { IsDone self.old proposal.now → ⊥ }
+        requires waits { IsContractedYet self.old.ledger proposal.now → ⊥ }
         requires current { All (IsCurrent self.old) proposal.now.rests_on }
         requires holds { IsProposal proposal.now }
         ensures accepted { IfOk result (λ receipt. IsAccepted self.old worker proposal.now receipt self.new) }
@@ -232,7 +224,7 @@ impl World {
         ensures graph { self.new.ledger.graph ≡ self.old.ledger.graph }
         ensures err { OnErr result (self.new ≡ self.old) }
     {
-        verdicts_are_lawful();
+        agreement_is_lawful();
         changes_write_their_rows();
         let alloc = *self.book.allocator();
         let planned = self.ledger.plan(proposal.node(), proposal.shortcuts())?;

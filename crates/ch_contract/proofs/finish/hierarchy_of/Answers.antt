@@ -35,9 +35,9 @@ returns-in_default-links_of-clause-left c =
     let all = over c.overlay-overlay.result.now _ c.overlay-overlay.ensures c.holds.ensures.overlay c.alive.result c.alive.ensures (omega arith) in
     (λ e. absurd (cc), λ left. absurd (over-leaves_none c.args.ledger.now all left))
 
-module _ (right : AlwaysRight) (well : AlwaysWellMade) (b : Ledger) (o : Overlay) (ranks : List ℕ) (links : List Link) (bound : Cost) (is : IsLedger b) (same : o ≡ b.overlay) (all : IsOver (state_of b.overlay)) where
-  done : AreRanks o ranks → AreLinks o links → bound ≡ bound_of b.graph → IsFinished b (record { ranks = ranks; links = links; bound = bound })
-  done are_ranks are_links bound_is = finished right well b ranks links bound is all (subst (λ (q : Overlay). AreRanks q ranks) same are_ranks) (subst (λ (q : Overlay). AreLinks q links) same are_links) bound_is
+module _ (right : AlwaysRight) (well : AlwaysWellMade) (l : Ledger) (o : Overlay) (ranks : List ℕ) (links : List Link) (bound : Cost) (is : IsLedger l) (same : o ≡ l.overlay) (all : IsOver (state_of l.overlay)) where
+  done : AreRanks o ranks → AreLinks o links → bound ≡ bound_of l.graph → IsFinished l (record { ranks = ranks; links = links; bound = bound })
+  done are_ranks are_links bound_is = finished right well l ranks links bound is all (subst (λ (q : Overlay). AreRanks q ranks) same are_ranks) (subst (λ (q : Overlay). AreLinks q links) same are_links) bound_is
 
 pub indexed-requires : goal.indexed-requires
 indexed-requires c =

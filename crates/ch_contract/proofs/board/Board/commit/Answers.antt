@@ -10,7 +10,7 @@ pub returns-in-Err-clause-stale : goal.returns-in-Err-clause-stale
 returns-in-Err-clause-stale g c node seen now front =
     let tested = c.in-Err.ensures.stale node seen now front in
     let same = same_refusal c.in-Err.refused (commits.Stale node seen now front) in
-    subst (λ (b : Ledger). (of_commit c.in-Err.refused ≡ of_commit (commits.Stale node seen now front)) ↔ IsStale b c.args.proposal node seen now front) c.self.view_is
+    subst (λ (l : Ledger). (of_commit c.in-Err.refused ≡ of_commit (commits.Stale node seen now front)) ↔ IsStale l c.args.proposal node seen now front) c.self.view_is
     (λ e. tested.0 (same.1 e), λ stale. same.0 (tested.1 stale))
 
 pub contract-requires : goal.contract-requires
@@ -22,11 +22,11 @@ contract-requires g c =
 pub returns-in_default-contract-clause-stale : goal.returns-in_default-contract-clause-stale
 returns-in_default-contract-clause-stale g c node seen now front = (
   λ e. absurd (cc),
-  λ stale. absurd (accepted-apart _ _ ((c.in_default.ensures.stale node seen now front).1 (subst (λ (b : Ledger). IsStale b c.args.proposal node seen now front) (sym c.self.view_is) stale))),
+  λ stale. absurd (accepted-apart _ _ ((c.in_default.ensures.stale node seen now front).1 (subst (λ (l : Ledger). IsStale l c.args.proposal node seen now front) (sym c.self.view_is) stale))),
 )
 
 pub returns-clause-stale : goal.returns-clause-stale
 returns-clause-stale g c node seen now front = (
   λ e. absurd (cc),
-  λ stale. absurd (accepted-apart _ _ ((c.in_default.ensures.stale node seen now front).1 (subst (λ (b : Ledger). IsStale b c.args.proposal node seen now front) (sym c.self.view_is) stale))),
+  λ stale. absurd (accepted-apart _ _ ((c.in_default.ensures.stale node seen now front).1 (subst (λ (l : Ledger). IsStale l c.args.proposal node seen now front) (sym c.self.view_is) stale))),
 )

@@ -23,7 +23,7 @@ pub returns-in_err-visit-clause-refused : goal.returns-in_err-visit-clause-refus
 returns-in_err-visit-clause-refused g c =
     let so_far = c.nodes.invariant in
     let exit = err_from_is_err_and c.from_residual-in_err-visit.result c.from_residual-in_err-visit.ensures.1 in
-    rw exit.1 (subst (λ (b : Ledger). IsPartlySwept c.args.self.now b) (sym c.in_err-visit.ensures.err) (swept-partly c.args.self.now c.nodes.self c.nodes.node c.nodes.receipts.items so_far.old so_far.swept (omega arith)))
+    rw exit.1 (subst (λ (l : Ledger). IsPartlySwept c.args.self.now l) (sym c.in_err-visit.ensures.err) (swept-partly c.args.self.now c.nodes.self c.nodes.node c.nodes.receipts.items so_far.old so_far.swept (omega arith)))
 
 pub nodes-preserved : goal.nodes-preserved
 nodes-preserved g c =

@@ -4,4 +4,4 @@ use Rattle.ch_contract.specs.Ledger.{Ledger}
 use Rattle.ch_contract.proofs.board.BoardRowSource.row_of.Goals as goal
 
 pub returns-clause-bound : goal.returns-clause-bound
-returns-clause-bound g c = subst (λ (b : Ledger). IsBound b.overlay.bound) c.self.view_is c.shown.ensures.bound
+returns-clause-bound g c = subst (λ (l : Ledger). IsBound l.overlay.bound) c.self.view_is c.shown.ensures.bound

@@ -4,4 +4,4 @@ use Rattle.ch_contract.proofs.Logs.{log_of_ledger}
 use Rattle.ch_contract.proofs.ledger.Ledger.log.Goals as goal
 
 pub returns-clause-log : goal.returns-clause-log
-returns-clause-log c = subst (λ (b : Ledger). IsLog b.log) c.self.view_is (log_of_ledger _ c.self.invariant.0)
+returns-clause-log c = subst (λ (l : Ledger). IsLog l.log) c.self.view_is (log_of_ledger _ c.self.invariant.0)

@@ -7,8 +7,9 @@ use Rattle.ch_laws.specs.declared.shortcut.Shortcut.{Shortcut}
 use Rattle.ch_laws.specs.Rows.{Row}
 use Rattle.ch_laws.specs.Members.{map-map}
 use Rattle.ch_contract.specs.Ledger.{IsLedger, AreLawful, IsContracted}
+use Rattle.ch_contract.specs.Commit.{IsContractedYet}
 use Rattle.ch_contract.specs.Planned.{IsPlanned, AreNewVersions}
-use Rattle.ch_core.specs.World.{World, Version, MayOffer, IsDone, IsCurrent, version_of, IsAccepted}
+use Rattle.ch_core.specs.World.{World, Version, MayOffer, IsCurrent, version_of, IsAccepted}
 use Rattle.ch_core.specs.Keeping.{IsWorld}
 use Rattle.ch_core.proofs.Kept.{versions_below}
 use Rattle.ch_core.proofs.Lawful.{lawful_offer}
@@ -20,7 +21,7 @@ plan-requires c =
     let w = c.args.self.now in
     let p = c.args.proposal.now in
     let is : IsWorld w = subst (λ (v : World). IsWorld v) c.self.view_is c.self.invariant in
-    let lawful : AreLawful w.ledger p.node p.shortcuts = lawful_offer c.verdicts_are_lawful.ensures w is c.args.worker p c.requires.holds c.requires.may c.requires.current in
+    let lawful : AreLawful w.ledger p.node p.shortcuts = lawful_offer c.agreement_is_lawful.ensures w is c.args.worker p c.requires.holds c.requires.may c.requires.current in
     subst (λ (put : List Shortcut). AreLawful c.self.inside.ledger c.node.result put) (sym c.shortcuts.ensures)
     (subst (λ n. AreLawful c.self.inside.ledger n p.shortcuts) (sym c.node.ensures)
     (subst (λ (v : World). AreLawful v.ledger p.node p.shortcuts) (sym c.self.view_is) lawful))
@@ -81,7 +82,7 @@ module _ (c : goal.After-drop-versions-2) (goes : IsLedger c.enter-receipt.new.s
   after_accepted =
       let p = c.args.proposal.now in
       let may : MayOffer (before c) c.args.worker p = subst (λ (v : World). MayOffer v c.args.worker p) (sym c.self.view_is) c.requires.may in
-      let waits : IsDone (before c) p → ⊥ = subst (λ (v : World). IsDone v p → ⊥) (sym c.self.view_is) c.requires.waits in
+      let waits : IsContractedYet c.self.inside.ledger p → ⊥ = subst (λ (v : World). IsContractedYet v.ledger p → ⊥) (sym c.self.view_is) c.requires.waits in
       let current : All (IsCurrent (before c)) p.rests_on = subst (λ (v : World). All (IsCurrent v) p.rests_on) (sym c.self.view_is) c.requires.current in
       subst (λ (v : World). IsAccepted v c.args.worker p c.enter-receipt.result after) c.self.view_is
       (subst (λ (book : List Version). IsAccepted (before c) c.args.worker p c.enter-receipt.result (record { ledger = c.enter-receipt.new.self; book = book; views = c.self.inside.views.items })) (sym (book_is c))

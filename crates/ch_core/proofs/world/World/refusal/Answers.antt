@@ -1,15 +1,23 @@
-use Rattle.std.proofs.Common.{◌≡◌, ◌<◌, List, All, length, ap, sym, subst, ◌∙◌}
-use Rattle.ch_overlay.specs.declared.source.Seen.{Seen}
-use Rattle.ch_overlay.specs.Overlay.{Overlay}
+use Rattle.std.proofs.Common.{Option, Some, None, IfNone, IfSome, subst}
+use Rattle.ch_contract.specs.Commit.{IsContractedYet, NoneIsOld, IsUpToDate, IsRefusal}
 use Rattle.ch_core.specs.World.{World}
 use Rattle.ch_core.specs.Keeping.{IsWorld}
-use Rattle.ch_core.proofs.Lawful.{all_in_range}
+use Rattle.ch_core.proofs.Lawful.{all_current}
 use Rattle.ch_core.proofs.world.World.refusal.Goals as goal
 
-pub first_old-requires : goal.first_old-requires
-first_old-requires c =
+-- what follows where there is none
+none_so : {A : Type 0} {P Q : Type 0} (o : Option A) → (P → Q) → IfNone o P → IfNone o Q
+none_so None so is = so is
+none_so (Some x) so is = tt
+
+pub returns-clause-waits : goal.returns-clause-waits
+returns-clause-waits c = none_so _ (λ (is : IsUpToDate c.self.inside.ledger c.args.proposal.now). subst (λ (w : World). IsContractedYet w.ledger c.args.proposal.now → ⊥) c.self.view_is is.waits) c.refusal.ensures.up_to_date
+
+pub returns-clause-current : goal.returns-clause-current
+returns-clause-current c =
     let w = c.args.self.now in
     let is : IsWorld w = subst (λ (v : World). IsWorld v) c.self.view_is c.self.invariant in
-    let overlay_is : c.overlay-overlay.result.now ≡ w.ledger.overlay = c.overlay-overlay.ensures ∙ ap (λ (v : World). v.ledger.overlay) c.self.view_is in
-    subst (λ (rows : List Seen). All (λ (s : Seen). s.node < length c.overlay-overlay.result.now.rows) rows) (sym c.rests_on-rows.ensures.rows)
-    (subst (λ (o : Overlay). All (λ (s : Seen). s.node < length o.rows) c.args.proposal.now.rests_on) (sym overlay_is) (all_in_range w is c.args.worker c.args.proposal.now.rests_on c.requires.rows))
+    none_so _ (λ (is_new : IsUpToDate c.self.inside.ledger c.args.proposal.now). all_current w is c.args.worker c.args.proposal.now.rests_on c.requires.rows (subst (λ (v : World). NoneIsOld v.ledger c.args.proposal.now.rests_on) c.self.view_is is_new.current)) c.refusal.ensures.up_to_date
+
+pub returns-clause-refused : goal.returns-clause-refused
+returns-clause-refused c = subst (λ (w : World). IfSome c.refusal.result (λ error. IsRefusal w.ledger c.args.proposal.now error)) c.self.view_is c.refusal.ensures.refused

@@ -1,0 +1,5 @@
+use Rattle.ch_contract.proofs.Lawful.{agrees-lawful}
+use Rattle.ch_contract.proofs.accepting.agreement_is_lawful.Goals as goal
+
+pub returns : goal.returns
+returns c l p is made agrees = agrees-lawful c.verdicts_are_lawful.ensures l is p made agrees
