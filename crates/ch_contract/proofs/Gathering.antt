@@ -17,7 +17,7 @@ use Rattle.ch_contract.proofs.PartByPart.{parts_map, parts_push}
 use Rattle.ch_contract.specs.Drafts.{Agrees, IsBegun, IsDrafted, IsDraftedFrom}
 use Rattle.ch_contract.specs.Proposal.{IsProposal, ShortcutBefore}
 use Rattle.ch_contract.proofs.Ranges.{AllPairs-append, AllPairs-take}
-use Rattle.ch_overlay.specs.Answers.{row_found}
+use Rattle.ch_overlay.specs.Finding.{row_found}
 use Rattle.ch_laws.specs.Members.{contains_cases, contains_first}
 use Rattle.std.proofs.lemmas.List.{take_more}
 use Rattle.ch_contract.proofs.Pairing.{last_is_past}

@@ -27,7 +27,7 @@ use Rattle.ch_contract.specs.Listed.{HasInner, IsInnerOf, IsNamedBy, LeadsOn, Ne
 use Rattle.ch_contract.specs.Drafts.{Agrees, AreJudged, ArePairs, IsDraftedFrom, IsInner, IsJoined, IsJudgedBy, IsPairOf, IsPairPart, Lengthens, over}
 use Rattle.ch_contract.proofs.Drafting.{inner_leaves, inner_moved}
 use Rattle.ch_contract.proofs.PartByPart.{parts_at, parts_compose, parts_first, parts_from, parts_map, parts_none}
-use Rattle.ch_overlay.specs.Answers.{row_among}
+use Rattle.ch_overlay.specs.Finding.{row_among}
 
 empty : (p : Shortcut) → Contains [] p → ⊥
 empty p among = omega (arith, among.1)

@@ -7,7 +7,7 @@ use Rattle.ch_laws.specs.Contraction.{IsPlan, IsWitnessed}
 use Rattle.ch_laws.specs.Rows.{Row, IsRow}
 use Rattle.ch_laws.specs.Verdicts.{AreRead, AreVerdicts}
 use Rattle.ch_laws.specs.Theorems.{VerdictsAreLawful}
-use Rattle.ch_overlay.specs.Answers.{row_among}
+use Rattle.ch_overlay.specs.Finding.{row_among}
 use Rattle.ch_overlay.specs.declared.source.Seen.{Seen}
 use Rattle.ch_overlay.specs.Overlay.{state_of}
 use Rattle.ch_overlay.specs.Source.{row_in, row_of}

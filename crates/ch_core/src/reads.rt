@@ -44,6 +44,7 @@ impl Standing {
             node,
             version: self.version,
             row,
+            token: None,
         })
     }
 }

@@ -8,6 +8,7 @@ pub mod Opened
 pub mod Sorting
 pub mod KeptArcs
 pub mod Started
+pub mod Sound
 pub mod Merged
 pub mod Placing
 pub mod Changed

@@ -4,4 +4,5 @@ pub mod Opening
 pub mod Placing
 pub mod Change
 pub mod Source
-pub mod Answers
+pub mod Finding
+pub mod Records

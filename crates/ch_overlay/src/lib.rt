@@ -3,9 +3,10 @@
 //!
 //! Stands on `ch_graph` for graphs and on `ch_laws` for what contraction is. Its main types are [`Row`], what one
 //! node has, [`Overlay`], the rows of all nodes with a version number each, and [`Change`], the new rows of one
-//! contraction. [`RowSource`] is what gives rows one by one. Rows are shared by `Arc` and never changed in place, so who has read a row keeps it. The promise of
-//! the layer stands on [`Overlay::start`], [`Overlay::plan`] and [`Overlay::apply`]: the rows are those of the state
-//! that the contractions so far lead to.
+//! contraction. [`RowSource`] is what gives rows one by one.
+//! Rows are shared by `Arc` and never changed in place, so who has read a row keeps it. The promise of the layer stands
+//! on [`Overlay::start`], [`Overlay::plan`] and [`Overlay::apply`]: the rows are those of the state that the
+//! contractions so far lead to. [`Record`] is what a book of rows keeps of one, and [`Token`] shows where.
 #![tactic(auto)]
 
 mod change;
@@ -15,11 +16,13 @@ mod opening;
 mod overlay;
 mod placed;
 mod planned;
+mod record;
 mod row;
 mod source;
 
 pub use ch_laws::{Entry, Shortcut};
 pub use change::{Change, changes_write_their_rows};
-pub use overlay::Overlay;
+pub use overlay::{Overlay, changes_are_sound};
+pub use record::{Record, SoundRows, Token};
 pub use row::Row;
 pub use source::{RowSource, SeeError, Seen};

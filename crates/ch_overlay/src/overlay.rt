@@ -5,6 +5,7 @@ ghost use Rattle.ch_graph.specs.Graph.{bound_of};
 ghost use Rattle.ch_laws.specs.declared.shortcut.Shortcut.{Shortcut};
 ghost use Rattle.ch_laws.specs.Contraction.{IsStart, IsPlan, contracted};
 ghost use Rattle.ch_overlay.specs.Overlay.{IsOverlay, row_at, state_of};
+ghost use Rattle.ch_overlay.specs.Records.{AreSoundRows, ChangesAreSound};
 ghost use Rattle.ch_overlay.specs.Change.{AreRenewed, IsChange, IsOf, changed_nodes, puts};
 
 use crate::change::{Change, put_rows, put_versions};
@@ -107,12 +108,28 @@ impl Overlay {
         &self.rows[node as usize]
     }
 
+    /// The rows of all nodes, by their numbers.
+    pub fn rows(&self) -> &[Arc<Row>]
+        ensures rows { map arc_value result.now ≡ self.now.rows }
+        ensures sound { AreSoundRows self.now.bound self.now.rows }
+    {
+        self.rows.as_slice()
+    }
+
     /// The version of a node's row. The node is in range.
     pub fn version(&self, node: u32) -> u64
         requires { node < length self.now.rows }
         ensures { result ≡ slice_index self.now.versions node }
     {
         self.versions[node as usize]
+    }
+
+    /// Gives each node's row a version anew: these are the versions so far. Nothing else changes. Takes no memory.
+    pub fn renumber(&mut self, versions: &[u64])
+        requires count { length versions.now ≡ length self.old.rows }
+        ensures { self.new ≡ record self.old { versions = versions.now } }
+    {
+        self.versions.as_mut_slice().copy_from_slice(versions);
     }
 
     /// The new rows of a contraction of `node` that puts these shortcuts in. Nothing changes yet.
@@ -171,4 +188,13 @@ impl Overlay {
         put_rows(self.rows.as_mut_slice(), rows);
         self.order.push_reserved(node);
     }
+}
+
+/// The rows of a change can be relied on, as those of the overlay that it was planned from. It does nothing when it
+/// runs.
+pub fn changes_are_sound()
+    ensures { ChangesAreSound }
+{
+    updated_rows_are_the_next();
+    rows_are_the_state();
 }

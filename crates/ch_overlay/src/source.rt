@@ -2,6 +2,7 @@ ghost use Rattle.std.specs.Prelude.{◌≡◌, ℕ, Some};
 ghost use Rattle.ch_overlay.specs.Source.{error_name};
 ghost use Rattle.ch_overlay.specs.declared.source.SeeError.TheVariants.{OutOfMemory};
 
+use crate::record::Token;
 use crate::row::Row;
 use ch_cost::Cost;
 use std::alloc::{AllocError, AllocFailed};
@@ -18,6 +19,8 @@ pub struct Seen {
     pub version: u64,
     /// The row of that version.
     pub row: Arc<Row>,
+    /// The token of the row's record, where it comes from a book of rows.
+    pub token: Option<Token>,
 }
 
 /// Why a row wasn't answered.

@@ -8,10 +8,10 @@ use Rattle.ch_cost.specs.declared.cost.Cost.{Cost}
 use Rattle.ch_laws.specs.Rows.{Row, no_arcs, row_at}
 use Rattle.boxcar.specs.Table.{Shelves, Where}
 use Rattle.atomic_table.specs.declared.shared.Seat.{Seat}
-use Rattle.ch_rowbook.specs.declared.record.Record.{Record}
+use Rattle.ch_overlay.specs.declared.record.Record.{Record}
 use Rattle.ch_rowbook.specs.declared.words.Known.{Known}
 use Rattle.ch_rowbook.specs.Books.{AreOf, BookName, IsOf, IsPenSeat, PenKeeps, versions_of}
-use Rattle.ch_rowbook.specs.Records.{AreSoundRows, IsSoundRow}
+use Rattle.ch_overlay.specs.Records.{AreSoundRows, IsSoundRow}
 
 pub map_set : {X Y : Type 0} (f : X → Y) (xs : List X) (i : ℕ) (y : X) → map f (set xs i y) ≡ set (map f xs) i (f y)
 map_set f [] i y = refl

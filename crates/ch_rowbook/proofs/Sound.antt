@@ -6,7 +6,7 @@ use Rattle.ch_cost.specs.Cost.Lengths.{of_length-length_of}
 use Rattle.ch_laws.specs.Rows.{Row}
 use Rattle.ch_overlay.specs.declared.source.Seen.{Seen}
 use Rattle.ch_overlay.specs.Source.{IsSeenRow, row_in}
-use Rattle.ch_rowbook.specs.Records.{IsSoundRow, mark_of, marked}
+use Rattle.ch_overlay.specs.Records.{IsSoundRow, mark_of, marked}
 
 -- the bound of a mark
 pub marked_is : (mark : List ℕ) (own bound : Cost) → mark ≡ mark_of own → own ≡ bound → marked mark ≡ bound

@@ -8,8 +8,9 @@ use Rattle.ch_cost.specs.Cost.{zero_cost}
 use Rattle.ch_laws.specs.Rows.{Row}
 use Rattle.ch_overlay.specs.Source.{IsBound}
 use Rattle.ch_rowbook.specs.declared.words.Known.{Known}
-use Rattle.ch_rowbook.specs.declared.record.Record.{Record}
-use Rattle.ch_rowbook.specs.Records.{row_of}
+use Rattle.ch_overlay.specs.declared.record.Record.{Record}
+use Rattle.ch_overlay.specs.declared.source.Seen.{Seen}
+use Rattle.ch_overlay.specs.Records.{Bears, row_of}
 use Rattle.ch_rowbook.specs.Words.{pen_with, reader_with, width}
 
 -- which book it is: its list of records and its words, the number of nodes, and the bound of the rows
@@ -18,6 +19,11 @@ pub record BookName : Type 0 where
   pub words : TableId
   pub nodes : ℕ
   pub bound : Cost
+
+-- the answer is the book's record at its version, of one of its nodes
+pub record IsOfBook (book : BookName) (s : Seen) : Type 0 where
+  pub record_is : Bears book.list s
+  pub within : s.node < book.nodes
 
 -- names nothing
 abbrev pub no_book : BookName

@@ -1,5 +1,4 @@
 pub mod Words
-pub mod Records
 pub mod Books
 pub mod Blanks
 pub mod Names

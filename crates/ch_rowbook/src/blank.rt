@@ -1,12 +1,13 @@
 ghost use Rattle.std.specs.Prelude.{◌≡◌, [], IfOk, max};
-ghost use Rattle.ch_rowbook.specs.Records.{mark_of};
+ghost use Rattle.ch_overlay.specs.Records.{mark_of};
 ghost use Rattle.ch_rowbook.specs.Words.{no_versions, pen_with, width};
 
-use crate::record::{Bounds, Record, SoundRows};
+use crate::marking::Bounds;
 use crate::words::{Known, Versions};
 use atomic_table::{Seat, Table};
 use boxcar::tag::Tag;
 use ch_cost::Cost;
+use ch_overlay::{Record, SoundRows};
 use std::alloc::{AllocError, Global};
 
 /// The words of a book, which no slot stands beside.

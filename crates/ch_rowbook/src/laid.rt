@@ -2,7 +2,7 @@ ghost use Rattle.std.specs.Prelude.{◌≡◌, ◌<◌};
 ghost use Rattle.boxcar.specs.Table.{Shows};
 
 use crate::book::Book;
-use crate::record::Token;
+use ch_overlay::Token;
 use std::marker::PhantomData;
 
 /// A record that was laid, and isn't shown yet: a row of a node, of which no reader knows.
@@ -19,6 +19,14 @@ pub struct Laid<B: Book> {
 }
 
 impl<B: Book> Laid<B> {
+    /// The node of the row.
+    pub fn node(&self) -> u32
+        ensures node { result ≡ self.now.node }
+        ensures within { result < B.book.nodes }
+    {
+        self.node
+    }
+
     /// The version that the row has where it is shown: the place of its record. Takes no memory.
     pub fn version(&self) -> u64
         ensures { result ≡ self.now.token.index }

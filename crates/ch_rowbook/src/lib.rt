@@ -18,7 +18,7 @@ mod many;
 mod opening;
 mod pen;
 mod reader;
-mod record;
+mod marking;
 mod shelf;
 mod words;
 
@@ -29,5 +29,4 @@ pub use laid::Laid;
 pub use opening::open;
 pub use pen::Pen;
 pub use reader::Reader;
-pub use record::{Record, SeenRecord, SoundRows, Token};
 pub use words::{Known, Versions};

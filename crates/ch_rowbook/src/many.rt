@@ -2,7 +2,7 @@
 ghost use Rattle.std.specs.Prelude.{◌≡◌, ◌<◌, All, IfOk, OnErr, length, map};
 ghost use Rattle.std.specs.Arc.{arc_value};
 ghost use Rattle.ch_overlay.specs.Change.{puts};
-ghost use Rattle.ch_rowbook.specs.Records.{IsSoundRow, row_of};
+ghost use Rattle.ch_overlay.specs.Records.{IsSoundRow, row_of};
 ghost use Rattle.ch_rowbook.specs.Showing.{IsShowable, of_node};
 
 use crate::book::Book;

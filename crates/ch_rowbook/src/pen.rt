@@ -3,18 +3,17 @@ ghost use Rattle.std.specs.Prelude.{◌≡◌, ◌+◌, ◌<◌, ◌≤◌, IfOk
 ghost use Rattle.std.specs.Arc.{arc_value};
 ghost use Rattle.ch_laws.specs.Rows.{row_at};
 ghost use Rattle.ch_overlay.specs.Source.{IsSeenRow, row_in};
-ghost use Rattle.ch_rowbook.specs.Books.{PenKeeps, pen_of};
-ghost use Rattle.ch_rowbook.specs.Records.{Bears, IsSoundRow, row_of};
+ghost use Rattle.ch_rowbook.specs.Books.{IsOfBook, PenKeeps, pen_of, versions_of};
+ghost use Rattle.ch_overlay.specs.Records.{IsSoundRow, row_of};
 
 use crate::book::Book;
 use crate::error::BookError;
 use crate::laid::Laid;
-use crate::record::{SeenRecord, Token};
 use crate::shelf::Shelf;
 use crate::words::Known;
 use atomic_table::Seat;
-use ch_overlay::Row;
-use std::alloc::AllocError;
+use ch_overlay::{Row, Seen, Token};
+use std::alloc::{AllocError, Global};
 use std::marker::{Model, PhantomData};
 use std::sync::{Arc, Wait};
 
@@ -128,27 +127,47 @@ impl<B: Book> Pen<B> {
         self.current[node as usize].index() as u64
     }
 
+    /// The versions of all nodes' current rows, by the nodes' numbers. Takes memory for them.
+    pub fn versions(&self, alloc: Global) -> Result<Vec<u64>, AllocError>
+        ensures { IfOk result (λ versions. versions.items ≡ self.now.versions) }
+    {
+        places_of(alloc, self.current.as_slice())
+    }
+
     /// The current row of a node, which is in range. Takes no memory: the row is shared.
-    pub fn see(&self, node: u32) -> Result<SeenRecord, AllocError>
+    pub fn see(&self, node: u32) -> Result<Seen, AllocError>
         requires { node < B.book.nodes }
-        ensures node { IfOk result (λ s. s.seen.node ≡ node) }
-        ensures version { IfOk result (λ s. s.seen.version ≡ slice_index self.now.versions node) }
-        ensures current { IfOk result (λ s. row_in s.seen ≡ row_at self.now.rows node) }
-        ensures record { IfOk result (λ s. Bears B.book.list s) }
-        ensures row { IfOk result (λ s. IsSeenRow B.book.bound s.seen) }
+        ensures node { IfOk result (λ s. s.node ≡ node) }
+        ensures version { IfOk result (λ s. s.version ≡ slice_index self.now.versions node) }
+        ensures current { IfOk result (λ s. row_in s ≡ row_at self.now.rows node) }
+        ensures record { IfOk result (IsOfBook B.book) }
+        ensures row { IfOk result (λ s. IsSeenRow B.book.bound s) }
     {
         self.shelf.seen(self.current[node as usize].again())
     }
 
     /// An answer of this book whose version is current has the current row. It does nothing when it runs but look at
     /// the node's record.
-    pub fn agrees(&self, seen: &SeenRecord)
-        requires record { Bears B.book.list seen.now }
-        requires within { seen.now.seen.node < B.book.nodes }
-        requires current { seen.now.seen.version ≡ slice_index self.now.versions seen.now.seen.node }
-        ensures { row_in seen.now.seen ≡ row_at self.now.rows seen.now.seen.node }
+    pub fn agrees(&self, seen: &Seen)
+        requires record { IsOfBook B.book seen.now }
+        requires current { seen.now.version ≡ slice_index self.now.versions seen.now.node }
+        ensures { row_in seen.now ≡ row_at self.now.rows seen.now.node }
     {
-        let node = seen.seen.node as usize;
-        self.shelf.list.agrees(&self.current[node], &seen.token);
+        let node = seen.node as usize;
+        let Some(token) = &seen.token else {
+            unreachable!()
+        };
+        self.shelf.list.agrees(&self.current[node], token);
     }
+}
+
+/// The places of these records, in order.
+fn places_of(alloc: Global, tokens: &[Token]) -> Result<Vec<u64>, AllocError>
+    ensures { IfOk result (λ places. places.items ≡ versions_of tokens.now) }
+{
+    let mut places = Vec::with_capacity(alloc, tokens.len())?;
+    'tokens: for at in 0..tokens.len() {
+        places.push(tokens[at].index() as u64)?;
+    }
+    Ok(places)
 }

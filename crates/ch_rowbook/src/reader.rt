@@ -1,11 +1,10 @@
 //! Readers of a book.
 ghost use Rattle.std.specs.Prelude.{◌≡◌, ◌<◌, ◌≤◌, ℕ, IfOk, OnErr, max, slice_index, slice_set};
 ghost use Rattle.ch_overlay.specs.Source.{IsSeenRow, row_in};
-ghost use Rattle.ch_rowbook.specs.Records.{Bears};
-ghost use Rattle.ch_rowbook.specs.Books.{IsReaderSeat};
+ghost use Rattle.ch_overlay.specs.Records.{Bears};
+ghost use Rattle.ch_rowbook.specs.Books.{IsOfBook, IsReaderSeat};
 
 use crate::book::Book;
-use crate::record::SeenRecord;
 use crate::shelf::Shelf;
 use crate::words::Known;
 use atomic_table::Seat;
@@ -48,14 +47,13 @@ impl<B: Book> Reader<B> {
     ///
     /// `Unseen` where the node is out of range. Its version isn't below the front there, and becomes the front there.
     /// A refusal leaves the front as it was. Takes no memory: the row is shared.
-    pub fn read(&mut self, node: u32) -> Result<SeenRecord, SeeError>
-        ensures node { IfOk result (λ s. s.seen.node ≡ node) }
-        ensures record { IfOk result (λ s. Bears B.book.list s) }
-        ensures row { IfOk result (λ s. IsSeenRow B.book.bound s.seen) }
-        ensures rises { IfOk result (λ s. slice_index self.old node ≤ s.seen.version) }
-        ensures front { IfOk result (λ s. self.new ≡ slice_set self.old node s.seen.version) }
-        ensures here { IfOk result (λ s. slice_index self.new node ≡ s.seen.version) }
-        ensures range { IfOk result (λ _. node < B.book.nodes) }
+    pub fn read(&mut self, node: u32) -> Result<Seen, SeeError>
+        ensures node { IfOk result (λ s. s.node ≡ node) }
+        ensures record { IfOk result (IsOfBook B.book) }
+        ensures row { IfOk result (λ s. IsSeenRow B.book.bound s) }
+        ensures rises { IfOk result (λ s. slice_index self.old node ≤ s.version) }
+        ensures front { IfOk result (λ s. self.new ≡ slice_set self.old node s.version) }
+        ensures here { IfOk result (λ s. slice_index self.new node ≡ s.version) }
         ensures err { OnErr result (self.new ≡ self.old) }
     {
         if node >= self.shelf.nodes {
@@ -99,14 +97,20 @@ impl<B: Book> Reader<B> {
     }
 
     /// One version of a book names one node and one row, for good. It does nothing when it runs.
-    pub fn same_record(&self, a: &SeenRecord, b: &SeenRecord)
+    pub fn same_record(&self, a: &Seen, b: &Seen)
         requires first { Bears B.book.list a.now }
         requires second { Bears B.book.list b.now }
-        requires versions { a.now.seen.version ≡ b.now.seen.version }
-        ensures node { a.now.seen.node ≡ b.now.seen.node }
-        ensures row { row_in a.now.seen ≡ row_in b.now.seen }
+        requires versions { a.now.version ≡ b.now.version }
+        ensures node { a.now.node ≡ b.now.node }
+        ensures row { row_in a.now ≡ row_in b.now }
     {
-        self.shelf.list.agrees(&a.token, &b.token);
+        let Some(first) = &a.token else {
+            unreachable!()
+        };
+        let Some(second) = &b.token else {
+            unreachable!()
+        };
+        self.shelf.list.agrees(first, second);
     }
 }
 
@@ -116,10 +120,11 @@ impl<B: Book> RowSource for Reader<B> {
     ghost use Rattle.ch_overlay.specs.declared.source.Seen.{Seen};
     ghost use Rattle.ch_overlay.specs.declared.source.SeeError.TheVariants.{Unseen};
     ghost use Rattle.ch_overlay.specs.Source.{row_in, IsBound, IsSeenRow, NamesAlone};
+    ghost use Rattle.ch_rowbook.specs.Books.{IsOfBook};
     ghost use Rattle.ch_rowbook.specs.Words.{IsBelow};
     ghost use Rattle.ch_rowbook.specs.Rising.{below_at, below_refl, below_trans};
 
-    ghost bears = { λ _. Unit {0} };
+    ghost bears = { λ s. IsOfBook B.book s };
 
     ghost shows = { λ front s. s.version ≤ slice_index front s.node };
 
@@ -133,7 +138,7 @@ impl<B: Book> RowSource for Reader<B> {
         ensures node { IfOk result (λ seen. seen.node ≡ node) }
         ensures row { IfOk result (IsSeenRow B.book.bound) }
         ensures bound { IsBound B.book.bound }
-        ensures bears { IfOk result (λ _. Unit {0}) }
+        ensures bears { IfOk result (IsOfBook B.book) }
         ensures shows { IfOk result (λ s. s.version ≤ slice_index self.new s.node) }
         ensures stays { IsBelow self.old self.new }
         ensures kept { OnErr result (self.new ≡ self.old) }
@@ -141,8 +146,7 @@ impl<B: Book> RowSource for Reader<B> {
         ensures names { ⊥ → IfOk result (λ seen. NamesAlone (λ _. ⊥) (row_in seen)) }
     {
         let _ = self.bound();
-        let SeenRecord { seen, token: _ } = self.read(node)?;
-        Ok(seen)
+        self.read(node)
     }
 
     fn bound(&self) -> Cost {

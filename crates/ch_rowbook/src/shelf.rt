@@ -1,20 +1,19 @@
 //! What the pen and the readers of a book share.
-ghost use Rattle.std.specs.Prelude.{◌≡◌, ◌+◌, ◌^◌, ◌<◌, ◌≤◌, IfOk, length, slice_index, slice_set, [], ◌∷◌};
+ghost use Rattle.std.specs.Prelude.{◌≡◌, ◌+◌, ◌^◌, ◌<◌, ◌≤◌, IfOk, Some, length, slice_index, slice_set, [], ◌∷◌};
 ghost use Rattle.std.specs.Arc.{arc_value};
 ghost use Rattle.boxcar.specs.Table.{Shows};
 ghost use Rattle.ch_overlay.specs.Source.{IsSeenRow};
-ghost use Rattle.ch_rowbook.specs.Records.{Bears, IsSoundRow, mark_of, row_of};
+ghost use Rattle.ch_overlay.specs.Records.{Bears, IsSoundRow, mark_of, row_of};
 ghost use Rattle.ch_rowbook.specs.Books.{IsPenSeat, IsReaderSeat};
 ghost use Rattle.ch_rowbook.specs.Words.{greater, width};
 
 use crate::blank::{Records, Words};
 use crate::book::Book;
 use crate::error::BookError;
-use crate::record::{Record, SeenRecord, Token};
 use crate::words::{Known, Loads, Meets, Parts, Stores};
 use atomic_table::Seat;
 use ch_cost::Cost;
-use ch_overlay::{Row, SeeError, Seen};
+use ch_overlay::{Record, Row, SeeError, Seen, Token};
 use std::alloc::AllocError;
 use std::marker::PhantomData;
 use std::sync::{Arc, Wait};
@@ -118,31 +117,33 @@ impl<B: Book> Shelf<B> {
     }
 
     /// The row of a token's record.
-    pub(crate) fn seen(&self, token: Token) -> Result<SeenRecord, AllocError>
+    pub(crate) fn seen(&self, token: Token) -> Result<Seen, AllocError>
         requires { Shows B.book.list token }
-        ensures record { IfOk result (λ s. s.token ≡ token) }
+        ensures token { IfOk result (λ s. s.token ≡ Some token) }
+        ensures node { IfOk result (λ s. s.node ≡ token.value.node) }
+        ensures version { IfOk result (λ s. s.version ≡ token.index) }
         ensures bears { IfOk result (λ s. Bears B.book.list s) }
-        ensures row { IfOk result (λ s. IsSeenRow B.book.bound s.seen) }
+        ensures row { IfOk result (λ s. IsSeenRow B.book.bound s) }
     {
         let place = token.index();
         let Some(record) = self.list.get_seen(place, &token) else {
             unreachable!()
         };
         let row = Arc::try_clone(&record.row)?;
-        let seen = Seen {
+        Ok(Seen {
             node: record.node,
             version: place as u64,
             row,
-        };
-        Ok(SeenRecord { seen, token })
+            token: Some(token),
+        })
     }
 
     /// The record at a version, if it is of this node.
-    pub(crate) fn record_at(&self, node: u32, version: u64) -> Result<SeenRecord, SeeError>
-        ensures node { IfOk result (λ s. s.seen.node ≡ node) }
-        ensures version { IfOk result (λ s. s.seen.version ≡ version) }
+    pub(crate) fn record_at(&self, node: u32, version: u64) -> Result<Seen, SeeError>
+        ensures node { IfOk result (λ s. s.node ≡ node) }
+        ensures version { IfOk result (λ s. s.version ≡ version) }
         ensures bears { IfOk result (λ s. Bears B.book.list s) }
-        ensures row { IfOk result (λ s. IsSeenRow B.book.bound s.seen) }
+        ensures row { IfOk result (λ s. IsSeenRow B.book.bound s) }
     {
         let Some(token) = self.list.witness(version as usize) else {
             return Err(SeeError::Unseen);

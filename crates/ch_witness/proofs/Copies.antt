@@ -11,7 +11,7 @@ use Rattle.ch_laws.specs.Rows.{Row, Lists}
 use Rattle.ch_laws.specs.Verdicts.{SeenArc}
 use Rattle.ch_overlay.specs.declared.source.Seen.{Seen}
 use Rattle.ch_overlay.specs.Source.{row_in, row_of}
-use Rattle.ch_overlay.specs.Answers.{row_among, row_found}
+use Rattle.ch_overlay.specs.Finding.{row_among, row_found}
 use Rattle.ch_witness.specs.declared.way.Way.{Way}
 use Rattle.ch_witness.specs.Kept.{Kept, AreListed, IsKept}
 use Rattle.ch_witness.specs.Ways.{AreRows, AreWays, IsFound, IsStartRow, IsWay, way_at}

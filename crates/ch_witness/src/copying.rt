@@ -6,7 +6,7 @@ use ch_overlay::Seen;
 use std::alloc::AllocError;
 use std::sync::Arc;
 
-/// The same answer again, by one more owner of its row.
+/// The same row again, by one more owner, without a token.
 pub fn copy_of(seen: &Seen) -> Result<Seen, AllocError>
     ensures node { IfOk result (λ copy. copy.node ≡ seen.now.node) }
     ensures version { IfOk result (λ copy. copy.version ≡ seen.now.version) }
@@ -16,6 +16,7 @@ pub fn copy_of(seen: &Seen) -> Result<Seen, AllocError>
         node: seen.node,
         version: seen.version,
         row: Arc::try_clone(&seen.row)?,
+        token: None,
     })
 }
 

@@ -61,5 +61,9 @@ pub fn search<S: RowSource>(
 fn nodes_of(alloc: Global, seen: &[Seen]) -> Result<Vec<u32>, AllocError>
     ensures { IfOk result (λ nodes. nodes.items ≡ map (λ s. s.node) seen.now) }
 {
-    seen.iter().map(|seen| seen.node).collect(alloc)
+    let mut nodes = Vec::with_capacity(alloc, seen.len())?;
+    'rows: for at in 0..seen.len() {
+        nodes.push(seen[at].node)?;
+    }
+    Ok(nodes)
 }

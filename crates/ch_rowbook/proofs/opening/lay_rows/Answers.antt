@@ -5,9 +5,9 @@ use Rattle.std.proofs.lemmas.Bool.Decides.{nat_tests}
 use Rattle.std.proofs.lemmas.List.{length-append, map-append, map_more}
 use Rattle.boxcar.specs.Table.{Where}
 use Rattle.ch_laws.specs.Rows.{Row}
-use Rattle.ch_rowbook.specs.declared.record.Record.{Record}
+use Rattle.ch_overlay.specs.declared.record.Record.{Record}
 use Rattle.ch_rowbook.specs.Books.{AreOf, IsOf, rows_of}
-use Rattle.ch_rowbook.specs.Records.{row_of}
+use Rattle.ch_overlay.specs.Records.{row_of}
 use Rattle.ch_rowbook.proofs.Pens.{sound_at, tokens_more}
 use Rattle.ch_rowbook.proofs.opening.lay_rows.Goals as goal
 

@@ -3,7 +3,7 @@ use Rattle.std.proofs.Common.{subst, sym}
 use Rattle.std.specs.Arc.{arc_value}
 use Rattle.ch_laws.specs.Rows.{row_at}
 use Rattle.ch_rowbook.specs.Books.{BookName}
-use Rattle.ch_rowbook.specs.Records.{IsSoundRow}
+use Rattle.ch_overlay.specs.Records.{IsSoundRow}
 use Rattle.ch_rowbook.proofs.opening.open.Goals as goal
 
 -- the book's bound is the blank's

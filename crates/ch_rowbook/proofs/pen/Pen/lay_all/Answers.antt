@@ -8,7 +8,7 @@ use Rattle.std.proofs.Common.{Global}
 use Rattle.ch_overlay.specs.declared.row.Row as shared
 use Rattle.ch_laws.specs.Rows.{Row}
 use Rattle.ch_rowbook.specs.Books.{PenView}
-use Rattle.ch_rowbook.specs.Records.{row_of}
+use Rattle.ch_overlay.specs.Records.{row_of}
 use Rattle.ch_rowbook.specs.Showing.{IsRising, of_node}
 use Rattle.ch_rowbook.proofs.Showings.{rising_more}
 use Rattle.ch_rowbook.proofs.pen.Pen.lay_all.Goals as goal

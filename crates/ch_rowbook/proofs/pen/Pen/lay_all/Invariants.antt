@@ -1,6 +1,6 @@
 use Rattle.std.proofs.Common.{◌≡◌, ◌<◌, All, map, take}
 use Rattle.std.specs.Arc.{arc_value}
-use Rattle.ch_rowbook.specs.Records.{row_of}
+use Rattle.ch_overlay.specs.Records.{row_of}
 use Rattle.ch_rowbook.specs.Showing.{IsRising, of_node}
 use Rattle.ch_rowbook.proofs.pen.Pen.lay_all.Given as goal
 

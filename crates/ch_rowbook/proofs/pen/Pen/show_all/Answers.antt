@@ -4,7 +4,7 @@ use Rattle.std.proofs.lemmas.Bool.Decides.{nat_tests}
 use Rattle.std.proofs.lemmas.List.{length-set}
 use Rattle.ch_laws.specs.Rows.{Row}
 use Rattle.ch_overlay.specs.Change.{puts}
-use Rattle.ch_rowbook.specs.Records.{row_of}
+use Rattle.ch_overlay.specs.Records.{row_of}
 use Rattle.ch_rowbook.specs.Showing.{IsShowable, of_node}
 use Rattle.ch_rowbook.proofs.Showings.{dropped, show_above, show_laid, show_rest}
 use Rattle.ch_rowbook.proofs.pen.Pen.show_all.Goals as goal

@@ -1,6 +1,6 @@
 use Rattle.std.proofs.Common.{◌≡◌, drop, length, map}
 use Rattle.ch_overlay.specs.Change.{puts}
-use Rattle.ch_rowbook.specs.Records.{row_of}
+use Rattle.ch_overlay.specs.Records.{row_of}
 use Rattle.ch_rowbook.specs.Showing.{IsShowable, of_node}
 use Rattle.ch_rowbook.proofs.pen.Pen.show_all.Given as goal
 

@@ -1,9 +1,9 @@
 use Rattle.std.specs.Prelude.{ℕ, ◌<◌, slice_set}
 use Rattle.std.proofs.Common.{sym, subst, ◌∙◌, ap}
 use Rattle.boxcar.specs.Table.{Where}
-use Rattle.ch_rowbook.specs.declared.record.Record.{Record}
+use Rattle.ch_overlay.specs.declared.record.Record.{Record}
 use Rattle.ch_rowbook.specs.Books.{PenKeeps, PenView, rows_of, versions_of}
-use Rattle.ch_rowbook.specs.Records.{row_of}
+use Rattle.ch_overlay.specs.Records.{row_of}
 use Rattle.ch_rowbook.proofs.Pens.{map_set, pen_shows}
 use Rattle.ch_rowbook.proofs.pen.Pen.show_one.Goals as goal
 

@@ -1,7 +1,7 @@
 use Rattle.std.proofs.Common.{subst, sym}
 use Rattle.std.specs.Arc.{arc_value}
 use Rattle.ch_cost.specs.declared.cost.Cost.{Cost}
-use Rattle.ch_rowbook.specs.Records.{IsSoundRow}
+use Rattle.ch_overlay.specs.Records.{IsSoundRow}
 use Rattle.ch_rowbook.proofs.Sound.{marked_is}
 use Rattle.ch_rowbook.proofs.shelf.Shelf.append.Goals as goal
 

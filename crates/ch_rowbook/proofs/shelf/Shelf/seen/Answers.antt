@@ -1,6 +1,6 @@
 use Rattle.std.proofs.Common.{subst}
 use Rattle.ch_cost.specs.declared.cost.Cost.{Cost}
-use Rattle.ch_rowbook.specs.Records.{IsSoundRow, row_of}
+use Rattle.ch_overlay.specs.Records.{IsSoundRow, row_of}
 use Rattle.ch_rowbook.proofs.Sound.{marked_is, seen_sound}
 use Rattle.ch_rowbook.proofs.shelf.Shelf.seen.Goals as goal
 

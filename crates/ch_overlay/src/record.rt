@@ -1,10 +1,8 @@
-//! The records of a book.
-ghost use Rattle.ch_rowbook.specs.Records.{IsSoundRecord, mark_of};
+//! Records of rows, as a book of rows keeps them.
+ghost use Rattle.ch_overlay.specs.Records.{IsSoundRecord};
 
-use boxcar::tag::Names;
+use crate::row::Row;
 use boxcar::{Keeps, Pushed};
-use ch_cost::Cost;
-use ch_overlay::{Row, Seen};
 use std::alloc::Global;
 use std::sync::Arc;
 
@@ -24,21 +22,5 @@ impl Keeps<Record> for SoundRows {
     ghost holds = { IsSoundRecord };
 }
 
-/// How a list is marked with the bound of its rows.
-pub(crate) struct Bounds;
-
-impl Names<Cost> for Bounds {
-    ghost numbers = { mark_of };
-}
-
 /// What shows that a list has a record at a place, for as long as the list lasts. A copy is free.
 pub type Token = Pushed<Record, Global, SoundRows>;
-
-/// A row as a reader saw it, with the token of its record.
-#[derive(Drop)]
-pub struct SeenRecord {
-    /// The row, its node and its version.
-    pub seen: Seen,
-    /// The token of the record at that version.
-    pub token: Token,
-}

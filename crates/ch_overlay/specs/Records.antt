@@ -1,14 +1,15 @@
 -- Records of rows, and what a token of one shows.
-use Rattle.std.specs.Prelude.{ℕ, ◌≡◌, ◌^◌, ◌<◌, List, [], ◌∷◌, length}
+use Rattle.std.specs.Prelude.{ℕ, ◌≡◌, ◌^◌, ◌<◌, List, [], ◌∷◌, All, IsSomeAnd, length}
 use Rattle.std.specs.Arc.{arc_value}
-use Rattle.boxcar.specs.Table.{Shelves, Shows}
+use Rattle.boxcar.specs.Table.{Shelves, Where, Shows}
 use Rattle.ch_cost.specs.declared.cost.Cost.{Cost}
 use Rattle.ch_cost.specs.Cost.{length_of, of_length}
-use Rattle.ch_laws.specs.Rows.{Row, Rises, row_at}
-use Rattle.ch_overlay.specs.Overlay.{AreEntries}
+use Rattle.ch_laws.specs.Rows.{Row, Rises}
+use Rattle.ch_overlay.specs.Overlay.{Overlay, IsOverlay, AreEntries, row_at}
+use Rattle.ch_overlay.specs.Change.{Change, IsOf}
 use Rattle.ch_overlay.specs.Source.{row_in}
-use Rattle.ch_rowbook.specs.declared.record.Record.{Record}
-use Rattle.ch_rowbook.specs.declared.record.SeenRecord.{SeenRecord}
+use Rattle.ch_overlay.specs.declared.record.Record.{Record}
+use Rattle.ch_overlay.specs.declared.source.Seen.{Seen}
 
 -- A row of a node that can be relied on: the numbers of nodes are small, each list rises, and each entry is of another
 -- node, not free and not heavy.
@@ -21,6 +22,10 @@ pub record IsSoundRow (bound : Cost) (node : ℕ) (row : Row) : Type 0 where
 -- each row can be relied on, as that of the node of its place
 abbrev pub AreSoundRows : Cost → List Row → Type 0
 AreSoundRows bound rows = (x : ℕ) → x < length rows → IsSoundRow bound x (row_at rows x)
+
+-- the rows of a change of an overlay can be relied on
+abbrev pub ChangesAreSound : Type 0
+ChangesAreSound = (o : Overlay) (c : Change) → IsOverlay o → IsOf o c → All (λ a. (a.0 < length o.rows) × IsSoundRow o.bound a.0 a.1) c.rows
 
 -- how a list of records is marked with the bound of its rows, and the bound of a mark
 abbrev pub mark_of : Cost → List ℕ
@@ -38,9 +43,13 @@ row_of r = arc_value r.row
 abbrev pub IsSoundRecord : List ℕ → ℕ → Record → Type 0
 IsSoundRecord mark place r = IsSoundRow (marked mark) r.node (row_of r)
 
--- The answer is the record of the list at its version.
-pub record Bears (list : Shelves) (s : SeenRecord) : Type 0 where
-  pub token : Shows list s.token
-  pub version : s.token.index ≡ s.seen.version
-  pub node : s.token.value.node ≡ s.seen.node
-  pub row : row_of s.token.value ≡ row_in s.seen
+-- the answer is what a record of the list says, which stands at the answer's version
+pub record IsRecorded (list : Shelves) (s : Seen) (token : Where Record) : Type 0 where
+  pub shown : Shows list token
+  pub version : token.index ≡ s.version
+  pub node : token.value.node ≡ s.node
+  pub row : row_of token.value ≡ row_in s
+
+-- The answer is the record of the list at its version, and it has the token of that record.
+abbrev pub Bears : Shelves → Seen → Type 0
+Bears list s = IsSomeAnd s.token (IsRecorded list s)
