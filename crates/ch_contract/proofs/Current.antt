@@ -13,7 +13,7 @@ use Rattle.ch_contract.specs.declared.error.CommitError.{CommitError}
 use Rattle.ch_contract.specs.declared.error.CommitError.TheVariants as commits
 use Rattle.ch_contract.specs.Ledger.{Ledger, version_now, row_now}
 use Rattle.ch_contract.specs.Proposal.{Proposal}
-use Rattle.ch_contract.specs.Commit.{IsContractedYet, IsOld, NoneIsOld, IsFirstOld, IsRefusal, IsStale, IsBroken, IsShown}
+use Rattle.ch_contract.specs.Commit.{IsContractedYet, IsOld, NoneIsOld, IsFirstOld, IsRefusal, IsStale, IsShown}
 use Rattle.ch_contract.proofs.Sweeping.{waits-from_none, gone-from_some, none-from_alive}
 
 some-none : (q : Option ℕ) → is_some q ≡ true → is_none q ≡ false
@@ -34,22 +34,6 @@ contracted_by_rank o is x in_range r row_is b test =
         | inr some ↦ test ∙ same ∙ none-some (row_at o.rows x).rank some
       ],
     )
-
--- the same refusal, of another call
-abbrev pub of_test : CommitError → Result (Unit {0}) CommitError
-of_test e = Err e
-
-abbrev pub of_commit : CommitError → Result Receipt CommitError
-of_commit e = Err e
-
-pub same_refusal : (e f : CommitError) → (of_test e ≡ of_test f → of_commit e ≡ of_commit f) × (of_commit e ≡ of_commit f → of_test e ≡ of_test f)
-same_refusal e f = (λ h. ap of_commit (first h), λ h. ap of_test (second h))
-  where
-    first : of_test e ≡ of_test f → e ≡ f
-    first h = cc
-
-    second : of_commit e ≡ of_commit f → e ≡ f
-    second h = cc
 
 module _ (l : Ledger) where
   -- two first old rows of one list are the same
@@ -75,21 +59,19 @@ module _ (l : Ledger) where
     pub current-not_stale : (node seen now front : ℕ) → NoneIsOld l p.rests_on → IsStale l p node seen now front → ⊥
     current-not_stale node seen now front current stale = none_first p.rests_on node seen now current stale.first
 
-    -- and what is refused is told apart
-    pub contracted_told : (e : CommitError) → IsRefusal l p e → of_test e ≡ of_test commits.Contracted ↔ IsContractedYet l p
+  -- what is refused is told apart
+  module _ (A : Type 0) (p : Proposal) where
+    abbrev refused_by : CommitError → Result A CommitError
+    refused_by e = Err e
+
+    pub contracted_told : (e : CommitError) → IsRefusal l p e → refused_by e ≡ refused_by commits.Contracted ↔ IsContractedYet l p
     contracted_told commits.Contracted is = (λ _. is, λ _. refl)
     contracted_told (commits.Stale node seen now front) is = (λ e. absurd (cc), λ gone. absurd (is.waits gone))
-    contracted_told commits.Broken is = absurd is
     contracted_told commits.OutOfMemory is = absurd is
+    contracted_told commits.Slot is = absurd is
 
-    pub broken_told : (e : CommitError) → IsRefusal l p e → of_test e ≡ of_test commits.Broken ↔ IsBroken l p
-    broken_told commits.Contracted is = (λ e. absurd (cc), λ broken. absurd (broken.up_to_date.waits is))
-    broken_told (commits.Stale node seen now front) is = (λ e. absurd (cc), λ broken. absurd (none_first p.rests_on node seen now broken.up_to_date.current is.first))
-    broken_told commits.Broken is = absurd is
-    broken_told commits.OutOfMemory is = absurd is
-
-    abbrev answer : ℕ → ℕ → ℕ → ℕ → Result (Unit {0}) CommitError
-    answer node seen now front = of_test (commits.Stale node seen now front)
+    abbrev answer : ℕ → ℕ → ℕ → ℕ → Result A CommitError
+    answer node seen now front = refused_by (commits.Stale node seen now front)
 
     stale_there : (n s w f : ℕ) → IsStale l p n s w f → (node seen now front : ℕ) → answer n s w f ≡ answer node seen now front → IsStale l p node seen now front
     stale_there n s w f is node seen now front e =
@@ -113,17 +95,11 @@ module _ (l : Ledger) where
         let fronts : f ≡ front = is.of_log ∙ sym stale.of_log in
         ap (λ x. answer x s w f) nodes ∙ ap (λ x. answer node x w f) versions ∙ ap (λ x. answer node seen x f) current ∙ ap (λ x. answer node seen now x) fronts
 
-    pub stale_told : (e : CommitError) → IsRefusal l p e → (node seen now front : ℕ) → of_test e ≡ of_test (commits.Stale node seen now front) ↔ IsStale l p node seen now front
+    pub stale_told : (e : CommitError) → IsRefusal l p e → (node seen now front : ℕ) → refused_by e ≡ refused_by (commits.Stale node seen now front) ↔ IsStale l p node seen now front
     stale_told commits.Contracted is node seen now front = (λ e. absurd (cc), λ stale. absurd (stale.waits is))
     stale_told (commits.Stale n s w f) is node seen now front = (stale_there n s w f is node seen now front, stale_back n s w f is node seen now front)
-    stale_told commits.Broken is node seen now front = absurd is
     stale_told commits.OutOfMemory is node seen now front = absurd is
-
-abbrev pub passes : Unit {0} → Result (Unit {0}) CommitError
-passes u = Ok u
-
-pub accepted-apart : (u : Unit {0}) (f : CommitError) → passes u ≡ of_test f → ⊥
-accepted-apart u f h = absurd (cc)
+    stale_told commits.Slot is node seen now front = absurd is
 
 unranked : (q : Option ℕ) → is_none q ≡ true → q ≡ None
 unranked None e = refl

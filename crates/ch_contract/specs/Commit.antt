@@ -67,11 +67,6 @@ pub record Agrees (l : Ledger) (p : Proposal) : Type 0 where
 abbrev pub AgreementIsLawful : Type 0
 AgreementIsLawful = (l : Ledger) (p : Proposal) → IsLedger l → IsProposal p → Agrees l p → AreLawful l p.node p.shortcuts
 
--- no version says that a row has changed, and yet the proposal isn't by the ledger's rows
-pub record IsBroken (l : Ledger) (p : Proposal) : Type 0 where
-  pub up_to_date : IsUpToDate l p
-  pub differs : Agrees l p → ⊥
-
 -- the row is the ledger's, with its version
 pub record IsShown (l : Ledger) (s : Seen) : Type 0 where
   pub row : IsRowOf l s

@@ -17,11 +17,12 @@ propose_error_name propose.Contracted = codes "Contracted"
 abbrev pub commit_error_name : CommitError → List ℕ
 commit_error_name commit.Contracted = codes "Contracted"
 commit_error_name (commit.Stale _ _ _ _) = codes "Stale"
-commit_error_name commit.Broken = codes "Broken"
 commit_error_name commit.OutOfMemory = codes "OutOfMemory"
+commit_error_name commit.Slot = codes "Slot"
 
 abbrev pub sweep_error_name : SweepError → List ℕ
 sweep_error_name sweep.OutOfMemory = codes "OutOfMemory"
+sweep_error_name sweep.Slot = codes "Slot"
 
 abbrev pub finish_error_name : FinishError → List ℕ
 finish_error_name finish.OutOfMemory = codes "OutOfMemory"

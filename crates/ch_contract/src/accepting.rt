@@ -1,35 +1,14 @@
-ghost use Rattle.std.specs.Prelude.{◌≡◌, ◌↔◌, ℕ, IsTrue, IfOk, IfNone, IfSome, SomeIff, All};
+ghost use Rattle.std.specs.Prelude.{◌≡◌, ◌↔◌, ℕ, IsTrue, IfNone, IfSome, SomeIff};
 ghost use Rattle.ch_overlay.specs.declared.source.Seen.{Seen};
-ghost use Rattle.ch_contract.specs.declared.error.CommitError.TheVariants as commits;
-ghost use Rattle.ch_contract.specs.Ledger.{IsLedger, AreLawful, IsGone, version_now};
+ghost use Rattle.ch_contract.specs.Ledger.{IsGone, version_now};
 ghost use Rattle.ch_contract.specs.Proposal.{IsProposal};
-ghost use Rattle.ch_contract.specs.Commit.{IsContractedYet, IsOld, NoneIsOld, IsFirstOld, IsUpToDate, IsRefusal, IsRowOf, Agrees, AgreementIsLawful, IsStale, IsBroken};
+ghost use Rattle.ch_contract.specs.Commit.{IsOld, NoneIsOld, IsFirstOld, IsUpToDate, IsRefusal, AgreementIsLawful};
 
 use crate::error::CommitError;
 use crate::ledger::Ledger;
 use crate::proposal::Proposal;
 use ch_laws::verdicts_are_lawful;
 use ch_overlay::Seen;
-
-/// Whether a ledger can contract the node of a proposal by it, and if not, why: the proposal isn't up to date, or else
-/// a row or the bound is another one.
-///
-/// Takes no memory. Looks once at the version of each row that the proposal rests on, and once at its entries.
-pub fn accepted(ledger: &Ledger, proposal: &Proposal) -> Result<(), CommitError>
-    ensures lawful { IfOk result (λ _. AreLawful ledger.now proposal.now.node proposal.now.shortcuts) }
-    ensures contracted { (result ≡ Err commits.Contracted) ↔ IsContractedYet ledger.now proposal.now }
-    ensures stale { (node seen now front : ℕ) → (result ≡ Err (commits.Stale node seen now front)) ↔ IsStale ledger.now proposal.now node seen now front }
-    ensures broken { (result ≡ Err commits.Broken) ↔ IsBroken ledger.now proposal.now }
-{
-    agreement_is_lawful();
-    if let Some(refused) = refusal(ledger, proposal) {
-        return Err(refused);
-    }
-    if !agrees(ledger, proposal) {
-        return Err(CommitError::Broken);
-    }
-    Ok(())
-}
 
 /// A proposal that was made by rows of a ledger, under its bound, is a lawful contraction of it. It does nothing when it
 /// runs.
@@ -114,38 +93,4 @@ fn newer(ledger: &Ledger, seen: &Seen) -> Option<u64>
         return None;
     }
     Some(now)
-}
-
-/// Whether all rows that a proposal rests on, and its bound, are the ledger's.
-fn agrees(ledger: &Ledger, proposal: &Proposal) -> bool
-    ensures agrees { IsTrue result ↔ Agrees ledger.now proposal.now }
-    ensures holds { IsProposal proposal.now }
-    ensures ledger { IsLedger ledger.now }
-{
-    let rows = proposal.rests_on();
-    ledger.holds();
-    proposal.bound() == ledger.overlay().bound() && are_rows_of(ledger, rows)
-}
-
-/// Whether all of these rows are the ledger's rows of their nodes.
-fn are_rows_of(ledger: &Ledger, rows: &[Seen]) -> bool
-    ensures { IsTrue result ↔ All (IsRowOf ledger.now) rows.now }
-{
-    'rows: for seen in rows {
-        if !is_row_of(ledger, seen) {
-            return false;
-        }
-    }
-    true
-}
-
-/// Whether a row is the ledger's row of its node.
-fn is_row_of(ledger: &Ledger, seen: &Seen) -> bool
-    ensures { IsTrue result ↔ IsRowOf ledger.now seen.now }
-{
-    let overlay = ledger.overlay();
-    if seen.node >= overlay.nodes() {
-        return false;
-    }
-    seen.row.is_same(overlay.row(seen.node))
 }

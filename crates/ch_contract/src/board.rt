@@ -1,19 +1,22 @@
-ghost use Rattle.std.specs.Prelude.{◌≡◌, ◌<◌, ◌≤◌, ◌↔◌, ℕ, [], IfOk, IfErr, IsErrOf, IsTrue, OnErr, All, length};
-ghost use Rattle.std.specs.List.{range_with_len};
+ghost use Rattle.std.specs.Prelude.{◌≡◌, ◌<◌, ◌≤◌, ◌↔◌, ℕ, [], IfOk, IfErr, IsErrOf, IsTrue, OnErr, All, length, map, slice_index};
+ghost use Rattle.ch_graph.specs.Graph.{bound_of};
 ghost use Rattle.ch_graph.specs.Hierarchy.{IsRight};
 ghost use Rattle.ch_laws.specs.Contraction.{IsStart, IsAlive, IsMade};
 ghost use Rattle.ch_overlay.specs.Overlay.{state_of};
+ghost use Rattle.ch_rowbook.specs.Blanks.{name_of};
+ghost use Rattle.ch_rowbook.specs.Books.{IsOfBook};
+ghost use Rattle.ch_rowbook.specs.Words.{IsBelow};
 ghost use Rattle.ch_contract.specs.declared.error.CommitError.TheVariants as commits;
-ghost use Rattle.ch_contract.specs.Ledger.{IsLedger, IsLog, IsNode, AreLawful, IsContracted, versions_now};
-ghost use Rattle.ch_contract.specs.Commit.{IsContractedYet, NoneIsOld, Agrees, IsStale, IsBroken};
+ghost use Rattle.ch_contract.specs.Ledger.{IsLedger, IsLog, IsNode, AreLawful, IsContracted, version_now};
+ghost use Rattle.ch_contract.specs.Commit.{IsContractedYet, NoneIsOld, Agrees, IsStale};
 ghost use Rattle.ch_contract.specs.Finish.{HasNodesLeft};
 ghost use Rattle.ch_contract.specs.Sweep.{IsSwept, IsPartlySwept, IsVisited};
 
-use crate::accepting::accepted;
+use crate::accepting::{agreement_is_lawful, refusal};
 use crate::contraction::{Contraction, Receipt};
 use crate::error::{CommitError, FinishError, ProposeError, SweepError};
 use crate::finish::{Finished, hierarchy_of};
-use crate::ledger::{Ledger, versions_from};
+use crate::ledger::Ledger;
 use crate::proposal::Proposal;
 use crate::proposing::{Scratch, propose_with};
 use crate::shown::shown;
@@ -21,51 +24,67 @@ use crate::site::Site;
 use ch_cost::Cost;
 use ch_graph::{Graph, Hierarchy};
 use ch_laws::bounds_fit;
-use ch_overlay::{Overlay, RowSource, SeeError, Seen, Shortcut};
+use ch_overlay::{Overlay, RowSource, SeeError, Seen, Shortcut, changes_are_sound};
+use ch_rowbook::{Blank, BookError, Laid, Pen, Reader, open};
 use std::alloc::{AllocError, Global};
-use std::marker::{Model, PhantomData};
+use std::marker::Model;
+use std::sync::Wait;
 
 /// A graph whose nodes are contracted by proposals, and the log of their contractions.
 ///
-/// The type names the graph. Whatever happens to a board, its rows are those that its log leads to from that graph by
-/// lawful contractions. It numbers the rows that change, one by one.
+/// The type names the graph, and the book in which the rows stand for readers. Whatever happens to a board, its rows are
+/// those that its log leads to from that graph by lawful contractions, and they are the current rows of the book.
 #[derive(Drop)]
 pub struct Board<S: Site> {
     ledger: Ledger,
-    /// The version that the next row gets which changes.
-    next_version: u64,
-    of: PhantomData<S>,
+    pen: Pen<S>,
 }
 
 impl<S: Site> Model for Board<S> {
-    ghost use Rattle.std.specs.Prelude.{◌≡◌};
     ghost use Rattle.ch_contract.specs.Ledger as ledgers;
-    ghost use Rattle.ch_contract.specs.Board.{IsNextVersion};
+    ghost use Rattle.ch_contract.specs.Board.{IsInBook};
 
     ghost Value = { ledgers.Ledger };
 
     ghost view = { λ b. b.ledger };
 
-    ghost invariant = { λ b. (b.ledger.graph ≡ S.graph) × IsNextVersion b.ledger b.next_version };
+    ghost invariant = { λ b. IsInBook S.graph S.book b.ledger b.pen };
+}
+
+/// A receipt, and the rows that were shown for it.
+#[derive(Drop)]
+struct Done<S: Site> {
+    receipt: Receipt,
+    laid: Vec<Laid<S>>,
 }
 
 impl<S: Site> Board<S> {
-    /// A board of this graph, with no node contracted. Node x has the version x.
+    /// A board of this graph, with no node contracted, whose rows stand in the book that the blank is opened as; and a
+    /// reader of that book.
     ///
-    /// Takes memory for the rows, an entry for each end of an arc, and for the log of all contractions.
-    pub fn new(alloc: Global, graph: Graph) -> Result<Board<S>, AllocError>
-        requires named { S.graph ≡ graph }
-        ensures log { IfOk result (λ board. board.log ≡ []) }
-        ensures start { IfOk result (λ board. IsStart graph (state_of board.overlay)) }
-        ensures versions { IfOk result (λ board. versions_now board ≡ range_with_len 0 graph.nodes) }
+    /// Takes memory for the rows, an entry for each end of an arc, for a record a row, and for the log of all
+    /// contractions. Waits while another thread makes room for records. On a refusal the blank is dropped.
+    pub fn new<R: Wait>(
+        rt: &R,
+        alloc: Global,
+        blank: Blank,
+        graph: Graph,
+    ) -> Result<(Board<S>, Reader<S>), BookError>
+        requires of_graph { S.graph ≡ graph }
+        requires of_book { S.book ≡ name_of blank }
+        requires nodes { blank.nodes ≡ graph.nodes }
+        requires bound { blank.bound ≡ bound_of graph }
+        ensures log { IfOk result (λ made. made.0.log ≡ []) }
+        ensures start { IfOk result (λ made. IsStart graph (state_of made.0.overlay)) }
+        ensures front { IfOk result (λ made. (x : ℕ) → x < graph.nodes → slice_index made.1 x ≡ version_now made.0 x) }
     {
-        let nodes = graph.nodes();
-        let ledger = Ledger::new(alloc, graph)?;
-        Ok(Board {
-            ledger,
-            next_version: u64::from(nodes),
-            of: PhantomData,
-        })
+        bounds_fit();
+        let mut ledger = Ledger::new(alloc, graph)?;
+        ledger.holds();
+        let (pen, reader) = open(rt, alloc, blank, ledger.overlay().rows())?;
+        let versions = pen.versions(alloc)?;
+        ledger.renumber(versions.as_slice());
+        Ok((Board { ledger, pen }, reader))
     }
 
     /// The graph that the board was made of.
@@ -94,46 +113,121 @@ impl<S: Site> Board<S> {
     }
 
     /// What always holds of a board. It does nothing when it runs.
-    fn holds(&self)
-        ensures { IsLedger self.now }
+    pub fn holds(&self)
+        ensures ledger { IsLedger self.now }
+        ensures bound { self.now.overlay.bound ≡ S.book.bound }
     {
         self.ledger.holds()
     }
 
     /// Contracts the node of a proposal, whose rows are still the board's, and answers a receipt.
     ///
-    /// Refused, in this order, where the node is contracted already, where a row that the proposal rests on has
-    /// another version now, where all versions agree and yet a row or the bound differs, and for want of memory. The
-    /// board is then as it was. Takes memory for the rows that change.
-    pub fn commit(&mut self, proposal: Proposal) -> Result<Receipt, CommitError>
+    /// The proposal was made by the board itself or by a reader of its book. Refused, in this order, where the node is
+    /// contracted already, where a row that the proposal rests on has another version now, for want of memory, and where
+    /// the book gives a place that isn't above the earlier ones (`Slot`). The board is then as it was. No row is
+    /// compared: an answer of the book whose version is current has the current row. The new rows are all laid, first
+    /// the node's and then those of its neighbours by rising number, before the first is shown, in that order. Takes
+    /// memory for the rows that change, and waits while another thread makes room for records.
+    pub fn commit<R: Wait>(
+        &mut self,
+        rt: &R,
+        proposal: Proposal,
+    ) -> Result<Receipt, CommitError>
+        requires of_book { All (IsOfBook S.book) proposal.rests_on }
+        requires bound { proposal.bound ≡ S.book.bound }
         ensures ok { IfOk result (λ receipt. IsContracted self.old proposal.node proposal.shortcuts receipt self.new) }
         ensures err { OnErr result (self.new ≡ self.old) }
         ensures contracted { (result ≡ Err commits.Contracted) ↔ IsContractedYet self.old proposal }
         ensures stale { (node seen now front : ℕ) → (result ≡ Err (commits.Stale node seen now front)) ↔ IsStale self.old proposal node seen now front }
-        ensures broken { (result ≡ Err commits.Broken) ↔ IsBroken self.old proposal }
     {
-        if let Err(refused) = accepted(&self.ledger, &proposal) {
-            return Err(refused);
+        match self.accept(rt, &proposal) {
+            Ok(done) => Ok(done.receipt),
+            Err(refused) => Err(refused),
         }
-        let Ok(receipt) = self.contract(proposal.node(), proposal.shortcuts()) else {
-            return Err(CommitError::OutOfMemory);
-        };
-        Ok(receipt)
     }
 
-    /// Contracts a node, puts these shortcuts in, and numbers the rows that change.
-    fn contract(&mut self, node: u32, shortcuts: &[Shortcut]) -> Result<Receipt, AllocError>
+    /// Commits a proposal, as [`Board::commit`] does, and lets a reader of the board's book glance at each row that
+    /// changed. On a refusal the reader is as it was, too.
+    pub fn commit_and_see<R: Wait>(
+        &mut self,
+        rt: &R,
+        proposal: Proposal,
+        reader: &mut Reader<S>,
+    ) -> Result<Receipt, CommitError>
+        requires of_book { All (IsOfBook S.book) proposal.rests_on }
+        requires bound { proposal.bound ≡ S.book.bound }
+        ensures ok { IfOk result (λ receipt. IsContracted self.old proposal.node proposal.shortcuts receipt self.new) }
+        ensures err { OnErr result (self.new ≡ self.old) }
+        ensures unseen { OnErr result (reader.new ≡ reader.old) }
+        ensures risen { IsBelow reader.old reader.new }
+        ensures contracted { (result ≡ Err commits.Contracted) ↔ IsContractedYet self.old proposal }
+        ensures stale { (node seen now front : ℕ) → (result ≡ Err (commits.Stale node seen now front)) ↔ IsStale self.old proposal node seen now front }
+    {
+        match self.accept(rt, &proposal) {
+            Ok(done) => {
+                reader.glance_all(done.laid.as_slice());
+                Ok(done.receipt)
+            }
+            Err(refused) => Err(refused),
+        }
+    }
+
+    /// Contracts the node of a proposal that isn't refused by version numbers.
+    fn accept<R: Wait>(&mut self, rt: &R, proposal: &Proposal) -> Result<Done<S>, CommitError>
+        requires of_book { All (IsOfBook S.book) proposal.now.rests_on }
+        requires bound { proposal.now.bound ≡ S.book.bound }
+        ensures ok { IfOk result (λ done. IsContracted self.old proposal.now.node proposal.now.shortcuts done.receipt self.new) }
+        ensures err { OnErr result (self.new ≡ self.old) }
+        ensures contracted { (result ≡ Err commits.Contracted) ↔ IsContractedYet self.old proposal.now }
+        ensures stale { (node seen now front : ℕ) → (result ≡ Err (commits.Stale node seen now front)) ↔ IsStale self.old proposal.now node seen now front }
+    {
+        agreement_is_lawful();
+        if let Some(refused) = refusal(&self.ledger, proposal) {
+            return Err(refused);
+        }
+        self.agree(proposal);
+        match self.contract(rt, proposal.node(), proposal.shortcuts()) {
+            Ok(done) => Ok(done),
+            Err(BookError::OutOfMemory) => Err(CommitError::OutOfMemory),
+            Err(BookError::Slot) => Err(CommitError::Slot),
+        }
+    }
+
+    /// Rows of the book whose versions are current are the board's. It does nothing when it runs but look at their
+    /// records.
+    fn agree(&self, proposal: &Proposal)
+        requires of_book { All (IsOfBook S.book) proposal.now.rests_on }
+        requires bound { proposal.now.bound ≡ S.book.bound }
+        requires current { NoneIsOld self.now proposal.now.rests_on }
+        ensures agrees { Agrees self.now proposal.now }
+        ensures holds { IsLedger self.now }
+    {
+        self.ledger.holds();
+        'rows: for seen in proposal.rests_on() {
+            self.pen.agrees(seen);
+        }
+    }
+
+    /// Contracts a node and puts these shortcuts in. The new rows are laid, and then shown.
+    fn contract<R: Wait>(
+        &mut self,
+        rt: &R,
+        node: u32,
+        shortcuts: &[Shortcut],
+    ) -> Result<Done<S>, BookError>
         requires { AreLawful self.old node shortcuts.now }
-        ensures ok { IfOk result (λ receipt. IsContracted self.old node shortcuts.now receipt self.new) }
+        ensures ok { IfOk result (λ done. IsContracted self.old node shortcuts.now done.receipt self.new) }
         ensures err { OnErr result (self.new ≡ self.old) }
     {
         self.ledger.holds();
-        let planned = self.ledger.plan(node, shortcuts)?;
+        changes_are_sound();
         let alloc = self.ledger.allocator();
-        let versions = versions_from(alloc, self.next_version, planned.rows().len())?;
+        let planned = self.ledger.plan(node, shortcuts)?;
+        let laid = self.pen.lay_all(rt, alloc, planned.rows())?;
+        let versions = versions_of(alloc, laid.as_slice())?;
+        self.pen.show_all(laid.as_slice());
         let receipt = self.ledger.enter(planned, versions.as_slice());
-        self.next_version += versions.len() as u64;
-        Ok(receipt)
+        Ok(Done { receipt, laid })
     }
 
     /// Contracts each node that isn't contracted, by rising number, by proposals whose searches settle at most
@@ -141,8 +235,8 @@ impl<S: Site> Board<S> {
     ///
     /// The more nodes a search settles, the fewer shortcuts are put in, and the longer the sweep takes. After a refusal
     /// the contractions that were made stand in the log. Takes memory for the receipts, for the searches, and for the
-    /// rows that change.
-    pub fn sweep(&mut self, settle: u32) -> Result<Vec<Receipt>, SweepError>
+    /// rows that change, and waits as [`Board::commit`] does.
+    pub fn sweep<R: Wait>(&mut self, rt: &R, settle: u32) -> Result<Vec<Receipt>, SweepError>
         requires low { 0 < settle }
         requires high { settle ≤ 65536 }
         ensures swept { IfOk result (λ receipts. IsSwept self.old receipts.items self.new) }
@@ -154,7 +248,7 @@ impl<S: Site> Board<S> {
         let mut scratch = Scratch::new(alloc);
         let mut receipts = Vec::with_capacity(alloc, self.overlay().alive() as usize)?;
         'nodes: for node in 0..nodes {
-            self.visit(node, settle, &mut scratch, &mut receipts)?;
+            self.visit(rt, node, settle, &mut scratch, &mut receipts)?;
         }
         Ok(receipts)
     }
@@ -194,13 +288,14 @@ impl<S: Site> Board<S> {
     }
 
     /// Contracts the node unless it is contracted already, and puts its receipt behind the others.
-    fn visit(
+    fn visit<R: Wait>(
         &mut self,
+        rt: &R,
         node: u32,
         settle: u32,
         scratch: &mut Scratch,
         receipts: &mut Vec<Receipt>,
-    ) -> Result<(), AllocError>
+    ) -> Result<(), SweepError>
         requires in_range { IsNode self.old node }
         requires low { 0 < settle }
         requires high { settle ≤ 65536 }
@@ -212,7 +307,7 @@ impl<S: Site> Board<S> {
         }
         receipts.reserve(1)?;
         let proposal = self.proposed(node, settle, scratch)?;
-        let receipt = self.taken(proposal)?;
+        let receipt = self.taken(rt, proposal)?;
         receipts.push_reserved(receipt);
         Ok(())
     }
@@ -237,7 +332,8 @@ impl<S: Site> Board<S> {
         requires low { 0 < settle }
         requires high { settle ≤ 65536 }
         ensures node { IfOk result (λ p. p.node ≡ node) }
-        ensures agrees { IfOk result (λ p. Agrees self.old p) }
+        ensures of_book { IfOk result (λ p. All (IsOfBook S.book) p.rests_on) }
+        ensures bound { IfOk result (λ p. p.bound ≡ S.book.bound) }
         ensures current { IfOk result (λ p. NoneIsOld self.old p.rests_on) }
         ensures same { self.new ≡ self.old }
     {
@@ -252,35 +348,48 @@ impl<S: Site> Board<S> {
     }
 
     /// Contracts the node of a proposal by rows that are all current.
-    fn taken(&mut self, proposal: Proposal) -> Result<Receipt, AllocError>
+    fn taken<R: Wait>(&mut self, rt: &R, proposal: Proposal) -> Result<Receipt, SweepError>
         requires waits { IsContractedYet self.old proposal → ⊥ }
-        requires agrees { Agrees self.old proposal }
+        requires of_book { All (IsOfBook S.book) proposal.rests_on }
+        requires bound { proposal.bound ≡ S.book.bound }
         requires current { NoneIsOld self.old proposal.rests_on }
         ensures ok { IfOk result (λ receipt. IsContracted self.old proposal.node proposal.shortcuts receipt self.new) }
         ensures err { OnErr result (self.new ≡ self.old) }
     {
-        match self.commit(proposal) {
+        match self.commit(rt, proposal) {
             Ok(receipt) => Ok(receipt),
-            Err(CommitError::OutOfMemory) => Err(AllocError),
+            Err(CommitError::OutOfMemory) => Err(SweepError::OutOfMemory),
+            Err(CommitError::Slot) => Err(SweepError::Slot),
             Err(CommitError::Contracted) => unreachable!(),
             Err(CommitError::Stale { .. }) => unreachable!(),
-            Err(CommitError::Broken) => unreachable!(),
         }
     }
+}
+
+/// The versions of these rows, in order.
+fn versions_of<S: Site>(alloc: Global, laid: &[Laid<S>]) -> Result<Vec<u64>, AllocError>
+    ensures { IfOk result (λ versions. versions.items ≡ map (λ l. l.token.index) laid.now) }
+{
+    let mut versions = Vec::with_capacity(alloc, laid.len())?;
+    'laid: for at in 0..laid.len() {
+        versions.push(laid[at].version())?;
+    }
+    Ok(versions)
 }
 
 /// A board shows its rows as they are, and is left as it is when they are read.
 impl<S: Site> RowSource for Board<S> {
     ghost use Rattle.std.specs.Prelude.{◌≡◌, ◌↔◌, ◌<◌, ℕ, IfOk, OnErr, length, refl};
-    ghost use Rattle.std.proofs.Common.{sym, subst, ap, ◌∙◌};
+    ghost use Rattle.std.proofs.Common.{sym, subst, ◌∙◌};
     ghost use Rattle.ch_overlay.specs.declared.source.Seen.{Seen};
     ghost use Rattle.ch_overlay.specs.declared.source.SeeError.TheVariants as see;
     ghost use Rattle.ch_overlay.specs.Source.{row_in, IsBound, IsSeenRow, NamesAlone};
+    ghost use Rattle.ch_rowbook.specs.Books.{IsOfBook};
     ghost use Rattle.ch_contract.specs.Ledger as ledgers;
     ghost use Rattle.ch_contract.specs.Ledger.{IsNode};
     ghost use Rattle.ch_contract.specs.Commit.{IsShown};
 
-    ghost bears = { λ _. Unit {0} };
+    ghost bears = { λ s. IsOfBook S.book s };
 
     ghost shows = { λ b s. IsShown b s };
 
@@ -288,13 +397,13 @@ impl<S: Site> RowSource for Board<S> {
 
     ghost whole = { λ b x. IsNode b x };
 
-    ghost bound_of = { λ b. b.overlay.bound };
+    ghost bound_of = { λ _. S.book.bound };
 
     fn row_of(&mut self, node: u32) -> Result<Seen, SeeError>
         ensures node { IfOk result (λ seen. seen.node ≡ node) }
-        ensures row { IfOk result (IsSeenRow self.old.overlay.bound) }
-        ensures bound { IsBound self.old.overlay.bound }
-        ensures bears { IfOk result (λ _. Unit {0}) }
+        ensures row { IfOk result (IsSeenRow S.book.bound) }
+        ensures bound { IsBound S.book.bound }
+        ensures bears { IfOk result (IsOfBook S.book) }
         ensures shows { IfOk result (IsShown self.new) }
         ensures stays { self.new ≡ self.old }
         ensures found { IsNode self.old node → result ≡ Err see.Unseen → ⊥ }
@@ -302,7 +411,7 @@ impl<S: Site> RowSource for Board<S> {
         ensures kept { OnErr result (self.new ≡ self.old) }
         ensures unseen { (result ≡ Err see.Unseen) ↔ (IsNode self.old node → ⊥) }
     {
-        shown(&self.ledger, node)
+        shown(&self.ledger, &self.pen, node)
     }
 
     fn bound(&self) -> Cost {
@@ -319,5 +428,5 @@ impl<S: Site> RowSource for Board<S> {
 
     ghost still_whole = { λ a b x e h. subst (λ (b : ledgers.Ledger). IsNode b x) (sym e) h };
 
-    ghost same_bound = { λ a b e. ap (λ (b : ledgers.Ledger). b.overlay.bound) e };
+    ghost same_bound = { λ a b e. refl };
 }

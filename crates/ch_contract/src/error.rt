@@ -38,10 +38,10 @@ pub enum CommitError {
         /// How many nodes were contracted so far.
         front: u64,
     },
-    /// The versions agree, and a row or the bound doesn't: the proposal is of another board.
-    Broken,
     /// A growth was refused.
     OutOfMemory,
+    /// The book gave a place to a row that isn't above the earlier ones.
+    Slot,
 }
 
 /// Why a sweep ended early.
@@ -49,6 +49,8 @@ pub enum CommitError {
 pub enum SweepError {
     /// A growth was refused.
     OutOfMemory = 1,
+    /// The book gave a place to a row that isn't above the earlier ones.
+    Slot,
 }
 
 /// Why a board wasn't made into a hierarchy.
@@ -66,6 +68,7 @@ impl fmt::Display for SweepError {
     fn fmt<W: fmt::Write>(&self, f: &mut fmt::Formatter<W>) -> fmt::Result {
         match self {
             SweepError::OutOfMemory => write!(f, "OutOfMemory"),
+            SweepError::Slot => write!(f, "Slot"),
         }
     }
 }
@@ -102,8 +105,8 @@ impl fmt::Display for CommitError {
         match self {
             CommitError::Contracted => write!(f, "Contracted"),
             CommitError::Stale { .. } => write!(f, "Stale"),
-            CommitError::Broken => write!(f, "Broken"),
             CommitError::OutOfMemory => write!(f, "OutOfMemory"),
+            CommitError::Slot => write!(f, "Slot"),
         }
     }
 }

@@ -130,6 +130,14 @@ impl Ledger {
         self.alloc
     }
 
+    /// Gives each node's row a version anew. Nothing else changes. Takes no memory.
+    pub fn renumber(&mut self, versions: &[u64])
+        requires { length versions.now ≡ length self.old.overlay.rows }
+        ensures { self.new ≡ record self.old { overlay = record self.old.overlay { versions = versions.now } } }
+    {
+        self.overlay.renumber(versions);
+    }
+
     /// The contraction of a node that puts these shortcuts in. Nothing changes yet, and nothing can be refused any
     /// more. Takes memory for the new rows and the entry.
     pub fn plan(&self, node: u32, shortcuts: &[Shortcut]) -> Result<Planned, AllocError>

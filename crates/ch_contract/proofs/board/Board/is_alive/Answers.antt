@@ -15,6 +15,6 @@ tested (Some x) false e = refl
 pub returns : goal.returns
 returns g c =
     let o = c.args.self.now.overlay in
-    let is = c.holds.ensures.overlay in
+    let is = c.holds.ensures.ledger.overlay in
     let rank_is = tested _ _ c.is_none.ensures ∙ ap (λ (r : Row). is_none r.rank) (c.behind-row.view_is ∙ c.deref.ensures ∙ c.row.ensures) ∙ ap (λ (q : Overlay). is_none (row_at q.rows c.args.node).rank) c.overlay.ensures in
     (λ yes. alive-from_none o is c.args.node c.requires (sym rank_is ∙ yes), λ alive. rank_is ∙ none-from_alive o is c.args.node c.requires alive)

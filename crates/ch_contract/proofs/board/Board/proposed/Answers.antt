@@ -14,4 +14,4 @@ unreachable-requires-in-Err-Contracted g c =
     let is = ap of_propose c.in-Err-Contracted.field-0-is in
     let found = c.in-Err-Contracted.ensures.contracted (λ other. cc) (λ other. cc) in
     let shown = subst (λ (l : Ledger). IsShown l found.row) c.propose_with.ensures.stays found.shows in
-    alive-unranked c.args.self.now c.holds.ensures.overlay c.args.node c.requires.alive found.row found.of_node shown (found.ranked.0 is)
+    alive-unranked c.args.self.now c.holds.ensures.ledger.overlay c.args.node c.requires.alive found.row found.of_node shown (found.ranked.0 is)

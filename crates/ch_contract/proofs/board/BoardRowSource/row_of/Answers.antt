@@ -1,7 +1,0 @@
-use Rattle.std.proofs.Common.{subst}
-use Rattle.ch_overlay.specs.Source.{IsBound}
-use Rattle.ch_contract.specs.Ledger.{Ledger}
-use Rattle.ch_contract.proofs.board.BoardRowSource.row_of.Goals as goal
-
-pub returns-clause-bound : goal.returns-clause-bound
-returns-clause-bound g c = subst (λ (l : Ledger). IsBound l.overlay.bound) c.self.view_is c.shown.ensures.bound
