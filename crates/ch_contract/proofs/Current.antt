@@ -101,6 +101,23 @@ module _ (l : Ledger) where
     stale_told commits.OutOfMemory is node seen now front = absurd is
     stale_told commits.Slot is node seen now front = absurd is
 
+-- what was done wasn't refused, and another call answers the same refusal
+module _ (A : Type 0) where
+  abbrev pub done_by : A → Result A CommitError
+  done_by a = Ok a
+
+  abbrev pub told_by : CommitError → Result A CommitError
+  told_by e = Err e
+
+  pub done-apart : (a : A) (e : CommitError) → done_by a ≡ told_by e → ⊥
+  done-apart a e h = absurd (cc)
+
+  pub told-same : (e f : CommitError) → told_by e ≡ told_by f → e ≡ f
+  told-same e f h = cc
+
+pub same_refusal : (A B : Type 0) (e f : CommitError) → (told_by A e ≡ told_by A f → told_by B e ≡ told_by B f) × (told_by B e ≡ told_by B f → told_by A e ≡ told_by A f)
+same_refusal A B e f = (λ h. ap (told_by B) (told-same A e f h), λ h. ap (told_by A) (told-same B e f h))
+
 unranked : (q : Option ℕ) → is_none q ≡ true → q ≡ None
 unranked None e = refl
 unranked (Some x) e = absurd (false≢true e)

@@ -18,3 +18,4 @@ pub mod Finishing
 pub mod Current
 pub mod ShownRows
 pub mod Lawful
+pub mod InBook

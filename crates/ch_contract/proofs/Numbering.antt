@@ -12,7 +12,6 @@ use Rattle.ch_overlay.specs.Overlay.{state_of}
 use Rattle.ch_overlay.specs.Change.{Change, IsChange, changed_nodes, puts}
 use Rattle.ch_contract.specs.declared.contraction.Receipt.{Receipt}
 use Rattle.ch_contract.specs.Ledger.{Ledger, IsLedger, IsContracted}
-use Rattle.ch_contract.specs.Board.{IsNextVersion}
 use Rattle.ch_contract.specs.Planned.{Planned, IsPlanned, AreNewVersions}
 use Rattle.ch_contract.proofs.Logs.{log_fits, log_length}
 use Rattle.ch_contract.proofs.Ranges.{pairs-map, range_with_len-rises, rising_below-short}

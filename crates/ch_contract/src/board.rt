@@ -203,7 +203,8 @@ impl<S: Site> Board<S> {
         ensures holds { IsLedger self.now }
     {
         self.ledger.holds();
-        'rows: for seen in proposal.rests_on() {
+        let rows = proposal.rests_on();
+        'rows: for seen in rows {
             self.pen.agrees(seen);
         }
     }
@@ -227,6 +228,7 @@ impl<S: Site> Board<S> {
         let versions = versions_of(alloc, laid.as_slice())?;
         self.pen.show_all(laid.as_slice());
         let receipt = self.ledger.enter(planned, versions.as_slice());
+        self.ledger.holds();
         Ok(Done { receipt, laid })
     }
 

@@ -1,0 +1,13 @@
+use Rattle.ch_contract.specs.declared.contraction.Receipt.{Receipt}
+use Rattle.ch_contract.specs.declared.error.CommitError.TheVariants as commits
+use Rattle.ch_contract.proofs.Current.{done-apart, same_refusal}
+use Rattle.ch_contract.proofs.board.Board.commit.Goals as goal
+
+pub returns-in-Ok-clause-stale : goal.returns-in-Ok-clause-stale
+returns-in-Ok-clause-stale g c node seen now front = (λ e. absurd (cc), λ stale. absurd (done-apart _ _ _ ((c.in-Ok.ensures.stale node seen now front).1 stale)))
+
+pub returns-clause-stale : goal.returns-clause-stale
+returns-clause-stale g c node seen now front =
+    let told = c.in-Err.ensures.stale node seen now front in
+    let same = same_refusal _ Receipt c.in-Err.refused (commits.Stale node seen now front) in
+    (λ e. told.0 (same.1 e), λ stale. same.0 (told.1 stale))
