@@ -1,0 +1,50 @@
+#!/usr/bin/env python3
+"""Counts how many proposals workers commit and how many are refused since a row has changed, on a square network whose
+node numbers follow the map, for 1, 2 and 4 workers and 2 and 4 heaps for each.
+
+    bench/refusals.py [SIDE ..]        sides of the square networks, by default 100 256
+
+The program (bench/refusals/main.rt) is proved and built beside the repository's crates in a folder of its own, with `rt`.
+"""
+import os
+import pathlib
+import subprocess
+import sys
+import tempfile
+
+ROOT = pathlib.Path(__file__).resolve().parent.parent
+
+
+def built(folder):
+    """The program, built in a copy of the repository whose crates are links to the real ones."""
+    (folder / "crates/refusals/src").mkdir(parents=True)
+    for crate in (ROOT / "crates").iterdir():
+        (folder / "crates" / crate.name).symlink_to(crate)
+    lines = (ROOT / "crates.txt").read_text()
+    (folder / "crates.txt").write_text(lines + "refusals may_wait=9: ch_estimate ch_workers grfile\n")
+    (folder / "HANDLES").write_text((ROOT / "HANDLES").read_text())
+    source = (ROOT / "bench/refusals/main.rt").read_text()
+    (folder / "crates/refusals/src/main.rt").write_text(source)
+    words = ["rt", "run", "--", "0"]
+    subprocess.run(words, cwd=folder / "crates/refusals", stdout=subprocess.DEVNULL, stderr=subprocess.DEVNULL)
+    return folder / "crates/refusals/out/refusals"
+
+
+def main():
+    with tempfile.TemporaryDirectory() as name:
+        folder = pathlib.Path(name)
+        program = built(folder)
+        for side in sys.argv[1:] or ["100", "256"]:
+            graph = folder / "network.gr"
+            words = [sys.executable, ROOT / "bench/make_network.py", side, "1", "1", graph, folder / "pairs"]
+            subprocess.run(words, check=True)
+            for workers in ["1", "2", "4"]:
+                for heaps in ["2", "4"]:
+                    with open(graph) as text:
+                        said = subprocess.run([program, workers, heaps], stdin=text, check=True, capture_output=True)
+                    committed, refused = map(int, said.stdout.split())
+                    share = refused / committed
+                    print(f"{side}^2 nodes, {workers} workers, {heaps} heaps each: {refused} refused, {share:.3f} a node")
+
+
+main()
