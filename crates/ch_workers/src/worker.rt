@@ -50,12 +50,7 @@ pub(crate) fn work<S: Site, E: Estimator, G: Gate, R: Wait>(
 
 impl<S: Site, E: Estimator> Worker<S, E> {
     /// Puts its nodes into the queue, and takes its turns.
-    fn run<G: Gate, R: Wait>(
-        &mut self,
-        rt: &R,
-        shared: &Shared<S>,
-        gate: &G,
-    ) -> Result<(), End> {
+    fn run<G: Gate, R: Wait>(&mut self, rt: &R, shared: &Shared<S>, gate: &G) -> Result<(), End> {
         self.put_all(rt, shared)?;
         'turns: for _ in 0..shared.options.turns {
             self.turn(rt, shared, gate)?;
@@ -84,12 +79,7 @@ impl<S: Site, E: Estimator> Worker<S, E> {
     }
 
     /// Takes an item, and commits the contraction of its node or puts it back.
-    fn turn<G: Gate, R: Wait>(
-        &mut self,
-        rt: &R,
-        shared: &Shared<S>,
-        gate: &G,
-    ) -> Result<(), End> {
+    fn turn<G: Gate, R: Wait>(&mut self, rt: &R, shared: &Shared<S>, gate: &G) -> Result<(), End> {
         let item = self.take(rt, shared)?;
         gate.pass(self.number, Point::Took);
         let Some(proposal) = self.propose(shared, item.node)? else {
@@ -113,12 +103,7 @@ impl<S: Site, E: Estimator> Worker<S, E> {
     }
 
     /// Puts an item into the queue. The worker ends where memory is refused.
-    fn push<R: Wait>(
-        &mut self,
-        rt: &R,
-        shared: &Shared<S>,
-        item: Item,
-    ) -> Result<(), End> {
+    fn push<R: Wait>(&mut self, rt: &R, shared: &Shared<S>, item: Item) -> Result<(), End> {
         match shared.queue.push(rt, &mut self.pass, item) {
             Ok(()) => Ok(()),
             Err(_item) => Err(End),
@@ -132,7 +117,13 @@ impl<S: Site, E: Estimator> Worker<S, E> {
         ensures bound { IfOk result (λ found. IfSome found (λ p. p.bound ≡ S.book.bound)) }
     {
         let settle = shared.options.settle;
-        match propose_with(shared.alloc, &mut self.reader, &mut self.scratch, node, settle) {
+        match propose_with(
+            shared.alloc,
+            &mut self.reader,
+            &mut self.scratch,
+            node,
+            settle,
+        ) {
             Ok(proposal) => Ok(Some(proposal)),
             Err(ProposeError::OutOfMemory) => Err(End),
             Err(ProposeError::Unseen | ProposeError::Contracted) => Ok(None),
