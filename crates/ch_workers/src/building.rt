@@ -1,5 +1,7 @@
 ghost use Rattle.std.specs.Prelude.{◌≡◌, ◌+◌, ◌↔◌, [], All, IfOk, map, vec_len};
+ghost use Rattle.ch_graph.specs.Graph.{bound_of};
 ghost use Rattle.ch_graph.specs.Hierarchy.{IsRight};
+ghost use Rattle.ch_rowbook.specs.Blanks.{name_of};
 ghost use Rattle.ch_workers.specs.Account.{IsAccount};
 ghost use Rattle.ch_workers.specs.Built.{IsMadeBy};
 ghost use Rattle.ch_workers.specs.Options.{AreBad, AreGood};
@@ -16,6 +18,7 @@ use crate::trouble::Trouble;
 use ch_contract::{Board, Site};
 use ch_estimate::{Estimator, Leases};
 use ch_graph::Graph;
+use ch_rowbook::Blank;
 use std::alloc::Global;
 use std::marker::Brand;
 use std::sync::Wait;
@@ -70,27 +73,47 @@ fn build_with_good<G: Gate, R: Threads + Wait + Sync>(
     if options.are_bad(estimators.len()) {
         return Err(BuildError::BadOptions);
     }
-    match box_lists(alloc, estimators) {
-        Ok(lists) => match build_named::<Brand, Boxed, G, R>(
-            rt, alloc, graph, options, lists, gate,
-        ) {
-            Ok(built) => Ok(built),
-            Err(trouble) => Err(trouble.error()),
-        },
-        Err(_refused) => Err(BuildError::OutOfMemory),
+    match build_in_book(rt, alloc, graph, options, estimators, gate) {
+        Ok(built) => Ok(built),
+        Err(trouble) => Err(trouble.error()),
     }
 }
 
-/// Builds by a board of a type that names the graph.
+/// Builds by a board of a type that names the graph, and the book that a new blank becomes.
+fn build_in_book<G: Gate, R: Threads + Wait + Sync>(
+    rt: &R,
+    alloc: Global,
+    graph: Graph,
+    options: Options,
+    estimators: Vec<Vec<Box<dyn Estimator + Send>>>,
+    gate: &G,
+) -> Result<Built, Trouble>
+    requires good { AreGood options (vec_len estimators) }
+    requires untold { All (λ list. All (λ estimator. heard estimator ≡ []) list.items) estimators.items }
+    ensures built { IfOk result (λ b. IsMadeBy graph b.log.items b.hierarchy) }
+    ensures right { IfOk result (λ b. IsRight graph b.hierarchy) }
+    ensures account { IfOk result (λ b. IsAccount b.log.items (map (λ v. v.items) b.receipts.items)) }
+    ensures lists { IfOk result (λ b. vec_len b.receipts ≡ options.workers + 1) }
+{
+    let lists = box_lists(alloc, estimators)?;
+    let blank = Blank::new(alloc, graph.nodes(), graph.bound())?;
+    build_named::<Brand, Boxed, G, R>(rt, alloc, blank, graph, options, lists, gate)
+}
+
+/// Builds by a board of a type that names the graph and the book.
 fn build_named<S: Site + Send + Sync, E: Estimator + Send, G: Gate, R: Threads + Wait + Sync>(
     rt: &R,
     alloc: Global,
+    blank: Blank,
     graph: Graph,
     options: Options,
     estimators: Vec<Vec<E>>,
     gate: &G,
 ) -> Result<Built, Trouble>
-    requires named { S.graph ≡ graph }
+    requires of_graph { S.graph ≡ graph }
+    requires of_book { S.book ≡ name_of blank }
+    requires nodes { blank.nodes ≡ graph.nodes }
+    requires bound { blank.bound ≡ bound_of graph }
     requires good { AreGood options (vec_len estimators) }
     requires untold { All (λ list. All (λ estimator. E.heard estimator ≡ []) list.items) estimators.items }
     ensures built { IfOk result (λ b. IsMadeBy graph b.log.items b.hierarchy) }
@@ -98,7 +121,7 @@ fn build_named<S: Site + Send + Sync, E: Estimator + Send, G: Gate, R: Threads +
     ensures account { IfOk result (λ b. IsAccount b.log.items (map (λ v. v.items) b.receipts.items)) }
     ensures lists { IfOk result (λ b. vec_len b.receipts ≡ options.workers + 1) }
 {
-    let board = Board::<S>::new(alloc, graph)?;
-    let worked = contract(rt, alloc, board, options, estimators, gate)?;
-    finish(alloc, worked, options.settle)
+    let (board, reader) = Board::<S>::new(rt, alloc, blank, graph)?;
+    let worked = contract(rt, alloc, board, reader, options, estimators, gate)?;
+    finish(rt, alloc, worked, options.settle)
 }

@@ -12,9 +12,11 @@ use crate::run::Worked;
 use crate::trouble::Trouble;
 use ch_contract::{Board, FinishError, Receipt, Site};
 use std::alloc::Global;
+use std::sync::Wait;
 
 /// Contracts what the workers left, and makes the hierarchy.
-pub(crate) fn finish<S: Site>(
+pub(crate) fn finish<S: Site, R: Wait>(
+    rt: &R,
     alloc: Global,
     worked: Worked<S>,
     settle: u32,
@@ -30,7 +32,7 @@ pub(crate) fn finish<S: Site>(
         mut board,
         mut receipts,
     } = worked;
-    sweep_rest(&mut board, &mut receipts, settle)?;
+    sweep_rest(rt, &mut board, &mut receipts, settle)?;
     if !is_account(alloc, board.log(), receipts.as_slice())? {
         return Err(Trouble::Mixed);
     }
@@ -38,7 +40,8 @@ pub(crate) fn finish<S: Site>(
 }
 
 /// Contracts what the workers left, and puts the receipts behind theirs.
-fn sweep_rest<S: Site>(
+fn sweep_rest<S: Site, R: Wait>(
+    rt: &R,
     board: &mut Board<S>,
     receipts: &mut Vec<Vec<Receipt>>,
     settle: u32,
@@ -48,7 +51,7 @@ fn sweep_rest<S: Site>(
     ensures over { IfOk result (λ _. IsOver (state_of board.new.overlay)) }
     ensures lists { IfOk result (λ _. vec_len receipts.new ≡ vec_len receipts.old + 1) }
 {
-    let swept = board.sweep(settle)?;
+    let swept = board.sweep(rt, settle)?;
     receipts.reserve(1)?;
     receipts.push_reserved(swept);
     Ok(())

@@ -10,6 +10,7 @@ use crate::worker::{Worker, work};
 use ch_contract::{Board, Receipt, Site};
 use ch_estimate::Estimator;
 use ch_multiqueue::{CloseError, MultiQueue, Pass};
+use ch_rowbook::Reader;
 use std::alloc::{AllocError, Global};
 use std::sync::Wait;
 use std::thread;
@@ -29,7 +30,8 @@ struct Left {
     receipts: Vec<Vec<Receipt>>,
 }
 
-/// Lets workers contract nodes of a board, as many as there are lists of estimators. The estimators are dropped.
+/// Lets workers contract nodes of a board, as many as there are lists of estimators, by rows that a reader of its book
+/// answers. The estimators are dropped.
 pub(crate) fn contract<
     S: Site + Send + Sync,
     E: Estimator + Send,
@@ -39,6 +41,7 @@ pub(crate) fn contract<
     rt: &R,
     alloc: Global,
     board: Board<S>,
+    reader: Reader<S>,
     options: Options,
     estimators: Vec<Vec<E>>,
     gate: &G,
@@ -51,17 +54,19 @@ pub(crate) fn contract<
         let receipts = Vec::new(alloc);
         return Ok(Worked { board, receipts });
     }
-    let crew = hire(alloc, options, estimators)?;
-    contract_by(rt, alloc, board, options, crew, gate)
+    let mut reader = reader;
+    let crew = hire(alloc, &mut reader, options, estimators)?;
+    contract_by(rt, alloc, board, &mut reader, options, crew, gate)
 }
 
-/// Lets these workers contract nodes of a board.
+/// Lets these workers contract nodes of a board. Their readers are joined into this one at the end.
 fn contract_by<S: Site + Send + Sync, E: Estimator + Send, G: Gate, R: Threads + Wait + Sync>(
     rt: &R,
     alloc: Global,
     board: Board<S>,
+    reader: &mut Reader<S>,
     options: Options,
-    crew: Crew<E>,
+    crew: Crew<S, E>,
     gate: &G,
 ) -> Result<Worked<S>, Trouble>
     requires workers { 0 < options.workers }
@@ -72,7 +77,7 @@ fn contract_by<S: Site + Send + Sync, E: Estimator + Send, G: Gate, R: Threads +
     let Crew { queue, mut workers } = crew;
     let shared = Shared::new(alloc, board, queue, options);
     run_all(rt, &shared, gate, workers.as_mut_slice());
-    let Left { passes, receipts } = take_apart(alloc, workers)?;
+    let Left { passes, receipts } = take_apart(alloc, reader, workers)?;
     let (board, queue) = shared.into_parts();
     close(queue, passes)?;
     Ok(Worked { board, receipts })
@@ -86,7 +91,7 @@ pub(crate) fn run_all<
     S: Site + Send + Sync,
     G: Gate,
     R: Threads + Wait + Sync,
->(rt: &'s R, shared: &'s Shared<S>, gate: &'s G, workers: &'w mut [Worker<E>]) {
+>(rt: &'s R, shared: &'s Shared<S>, gate: &'s G, workers: &'w mut [Worker<S, E>]) {
     thread::scope(thread::scope_env(), rt, |scope| {
         'workers: for worker in workers.iter_mut() {
             let _ = scope.spawn(move || work(rt, shared, gate, worker));
@@ -94,14 +99,24 @@ pub(crate) fn run_all<
     });
 }
 
-/// Takes the workers apart, and drops their estimators.
-fn take_apart<E: Estimator>(alloc: Global, workers: Vec<Worker<E>>) -> Result<Left, AllocError>
+/// Takes the workers apart, joins their readers into this one, and drops their estimators.
+fn take_apart<S: Site, E: Estimator>(
+    alloc: Global,
+    reader: &mut Reader<S>,
+    workers: Vec<Worker<S, E>>,
+) -> Result<Left, AllocError>
     ensures lists { IfOk result (λ left. vec_len left.receipts ≡ vec_len workers) }
 {
     let mut passes = Vec::new(alloc);
     let mut lists = Vec::new(alloc);
     'workers: for worker in workers {
-        let Worker { pass, receipts, .. } = worker;
+        let Worker {
+            pass,
+            reader: own,
+            receipts,
+            ..
+        } = worker;
+        reader.join(own);
         passes.push(pass)?;
         lists.push(receipts)?;
     }

@@ -1,13 +1,12 @@
-ghost use Rattle.std.specs.Prelude.{◌≡◌, ◌+◌, ◌≤◌, ◌<◌, ◌^◌, IfOk, IsTrue};
-ghost use Rattle.ch_contract.specs.Proposal.{AreFacts};
+ghost use Rattle.std.specs.Prelude.{◌≡◌, ◌+◌, ◌≤◌, ◌<◌, ◌^◌, All, AllPairs, IfOk, IsTrue};
+ghost use Rattle.ch_rowbook.specs.Books.{IsOfBook};
 
 use crate::listener::Listener;
 use crate::options::Options;
-use ch_contract::{
-    Board, CommitError, Proposal, ProposeError, Receipt, Scratch, Site, propose_with,
-};
+use ch_contract::{Board, CommitError, Contraction, Proposal, Receipt, Site};
 use ch_estimate::Estimator;
 use ch_multiqueue::MultiQueue;
+use ch_rowbook::Reader;
 use std::alloc::{AllocError, Global};
 use std::sync::{Mutex, Wait};
 
@@ -52,55 +51,81 @@ impl<S: Site> Shared<S> {
         (board.into_inner(), queue)
     }
 
-    /// Works out the contraction of a node by the board's rows, under one hold of its lock.
-    pub(crate) fn propose<R: Wait>(
-        &self,
-        rt: &R,
-        scratch: &mut Scratch,
-        node: u32,
-    ) -> Result<Proposal, ProposeError> {
-        let mut board = self.board.lock(rt);
-        propose_with(self.alloc, &mut *board, scratch, node, self.options.settle)
-    }
-
-    /// Commits a proposal, under one hold of the board's lock.
+    /// Commits a proposal that was made by a reader of the board's book, and lets this reader see what changed, under
+    /// one hold of the board's lock.
     pub(crate) fn commit<R: Wait>(
         &self,
         rt: &R,
         proposal: Proposal,
-    ) -> Result<Receipt, CommitError> {
-        self.board.lock(rt).commit(proposal)
+        reader: &mut Reader<S>,
+    ) -> Result<Receipt, CommitError>
+        requires of_book { All (IsOfBook S.book) proposal.rests_on }
+        requires bound { proposal.bound ≡ S.book.bound }
+    {
+        self.board.lock(rt).commit_and_see(rt, proposal, reader)
     }
 
-    /// Tells a listener the entry of this rank, which is its next, under one hold of the board's lock. False where it
-    /// was told all.
+    /// Tells a listener the entry of this rank, which is its next, by a copy. False where it was told all.
     pub(crate) fn tell_next<E: Estimator, R: Wait>(
         &self,
         rt: &R,
         rank: u32,
+        copy: &mut Contraction,
         listener: &mut Listener<E>,
     ) -> Result<bool, AllocError>
         requires next { rank ≡ listener.old.told }
         ensures told { IfOk result (λ more. IsTrue more → listener.new.told ≡ listener.old.told + 1) }
         ensures few { IfOk result (λ more. IsTrue more → listener.new.told ≤ 2 ^ 25) }
     {
+        if !self.copy_entry(rt, rank, copy)? {
+            return Ok(false);
+        }
+        listener.tell(copy)?;
+        Ok(true)
+    }
+
+    /// Copies the entry of this rank, under one hold of the board's lock. False where the log has none.
+    fn copy_entry<R: Wait>(
+        &self,
+        rt: &R,
+        rank: u32,
+        copy: &mut Contraction,
+    ) -> Result<bool, AllocError>
+        ensures rank { IfOk result (λ found. IsTrue found → copy.new.rank ≡ rank) }
+        ensures few { IfOk result (λ found. IsTrue found → copy.new.rank < 2 ^ 25) }
+        ensures rising { IfOk result (λ found. IsTrue found → AllPairs (λ x y. x < y) copy.new.neighbours) }
+    {
         let board = self.board.lock(rt);
         match board.log().get(rank as usize) {
             Some(entry) => {
-                listener.tell(entry)?;
+                copy_to(entry, copy)?;
                 Ok(true)
             }
             None => Ok(false),
         }
     }
 
-    /// Tells a listener each entry of the log that it wasn't told, in order, one hold of the board's lock each.
+    /// Tells a listener each entry of the log that it wasn't told, in order, by a copy, which takes one hold of the
+    /// board's lock each.
     pub(crate) fn tell_all<E: Estimator, R: Wait>(
         &self,
         rt: &R,
+        copy: &mut Contraction,
         listener: &mut Listener<E>,
     ) -> Result<(), AllocError> {
-        'entries: while self.tell_next(rt, listener.told(), listener)? {}
+        'entries: while self.tell_next(rt, listener.told(), copy, listener)? {}
         Ok(())
     }
+}
+
+/// Makes a copy the same as an entry of the log. It keeps its memory.
+fn copy_to(entry: &Contraction, copy: &mut Contraction) -> Result<(), AllocError>
+    ensures { IfOk result (λ _. copy.new ≡ entry.now) }
+{
+    copy.node = entry.node;
+    copy.rank = entry.rank;
+    copy.neighbours.clear();
+    copy.neighbours.extend_from_slice(&entry.neighbours)?;
+    copy.shortcuts = entry.shortcuts;
+    Ok(())
 }

@@ -1,11 +1,15 @@
-ghost use Rattle.std.specs.Prelude.{◌≡◌, ◌<◌};
+ghost use Rattle.std.specs.Prelude.{◌≡◌, ◌<◌, All, IfOk, IfSome};
+ghost use Rattle.ch_rowbook.specs.Books.{IsOfBook};
 
 use crate::gate::{Gate, Point};
 use crate::listener::Listener;
 use crate::shared::Shared;
-use ch_contract::{CommitError, Proposal, ProposeError, Receipt, Scratch, Site};
+use ch_contract::{
+    CommitError, Contraction, Proposal, ProposeError, Receipt, Scratch, Site, propose_with,
+};
 use ch_estimate::Estimator;
 use ch_multiqueue::{Item, Pass};
+use ch_rowbook::Reader;
 use std::alloc::AllocError;
 use std::sync::Wait;
 
@@ -21,35 +25,32 @@ impl From<AllocError> for End {
 
 /// What a worker has of its own, in the builder's list.
 #[derive(Drop)]
-pub(crate) struct Worker<E: Estimator> {
+pub(crate) struct Worker<S: Site, E: Estimator> {
     pub(crate) number: u32,
     pub(crate) pass: Pass,
+    pub(crate) reader: Reader<S>,
     pub(crate) listeners: Vec<Listener<E>>,
     pub(crate) scratch: Scratch,
+    pub(crate) entry: Contraction,
     pub(crate) deferred: u32,
     pub(crate) receipts: Vec<Receipt>,
 }
 
 /// Lets a worker do all its work, drops its estimators, and passes the gate at its end.
-pub(crate) fn work<E: Estimator, S: Site, G: Gate, R: Wait>(
+pub(crate) fn work<S: Site, E: Estimator, G: Gate, R: Wait>(
     rt: &R,
     shared: &Shared<S>,
     gate: &G,
-    worker: &mut Worker<E>,
+    worker: &mut Worker<S, E>,
 ) {
     let _ended = worker.run(rt, shared, gate);
     worker.listeners.clear();
     gate.pass(worker.number, Point::Done);
 }
 
-impl<E: Estimator> Worker<E> {
+impl<S: Site, E: Estimator> Worker<S, E> {
     /// Puts its nodes into the queue, and takes its turns.
-    fn run<S: Site, G: Gate, R: Wait>(
-        &mut self,
-        rt: &R,
-        shared: &Shared<S>,
-        gate: &G,
-    ) -> Result<(), End> {
+    fn run<G: Gate, R: Wait>(&mut self, rt: &R, shared: &Shared<S>, gate: &G) -> Result<(), End> {
         self.put_all(rt, shared)?;
         'turns: for _ in 0..shared.options.turns {
             self.turn(rt, shared, gate)?;
@@ -58,7 +59,7 @@ impl<E: Estimator> Worker<E> {
     }
 
     /// Puts each node that is its own, by the remainder of its number, into the queue.
-    fn put_all<S: Site, R: Wait>(&mut self, rt: &R, shared: &Shared<S>) -> Result<(), End> {
+    fn put_all<R: Wait>(&mut self, rt: &R, shared: &Shared<S>) -> Result<(), End> {
         let workers = shared.options.workers;
         'nodes: for node in 0..shared.nodes {
             if node % workers == self.number {
@@ -69,8 +70,8 @@ impl<E: Estimator> Worker<E> {
     }
 
     /// Puts a node into the queue, with the key that its estimator gives it. A contracted node is left out.
-    fn put<S: Site, R: Wait>(&mut self, rt: &R, shared: &Shared<S>, node: u32) -> Result<(), End> {
-        let Some(proposal) = self.propose(rt, shared, node)? else {
+    fn put<R: Wait>(&mut self, rt: &R, shared: &Shared<S>, node: u32) -> Result<(), End> {
+        let Some(proposal) = self.propose(shared, node)? else {
             return Ok(());
         };
         let key = self.key(&proposal);
@@ -78,15 +79,10 @@ impl<E: Estimator> Worker<E> {
     }
 
     /// Takes an item, and commits the contraction of its node or puts it back.
-    fn turn<S: Site, G: Gate, R: Wait>(
-        &mut self,
-        rt: &R,
-        shared: &Shared<S>,
-        gate: &G,
-    ) -> Result<(), End> {
+    fn turn<G: Gate, R: Wait>(&mut self, rt: &R, shared: &Shared<S>, gate: &G) -> Result<(), End> {
         let item = self.take(rt, shared)?;
         gate.pass(self.number, Point::Took);
-        let Some(proposal) = self.propose(rt, shared, item.node)? else {
+        let Some(proposal) = self.propose(shared, item.node)? else {
             return Ok(());
         };
         self.hear(rt, shared)?;
@@ -99,7 +95,7 @@ impl<E: Estimator> Worker<E> {
     }
 
     /// Takes an item from the queue. The worker ends where there is none.
-    fn take<S: Site, R: Wait>(&mut self, rt: &R, shared: &Shared<S>) -> Result<Item, End> {
+    fn take<R: Wait>(&mut self, rt: &R, shared: &Shared<S>) -> Result<Item, End> {
         match shared.queue.pop(rt, &mut self.pass)? {
             Some(item) => Ok(item),
             None => Err(End),
@@ -107,26 +103,27 @@ impl<E: Estimator> Worker<E> {
     }
 
     /// Puts an item into the queue. The worker ends where memory is refused.
-    fn push<S: Site, R: Wait>(
-        &mut self,
-        rt: &R,
-        shared: &Shared<S>,
-        item: Item,
-    ) -> Result<(), End> {
+    fn push<R: Wait>(&mut self, rt: &R, shared: &Shared<S>, item: Item) -> Result<(), End> {
         match shared.queue.push(rt, &mut self.pass, item) {
             Ok(()) => Ok(()),
             Err(_item) => Err(End),
         }
     }
 
-    /// Works out the contraction of a node, or answers none where it is contracted already.
-    fn propose<S: Site, R: Wait>(
-        &mut self,
-        rt: &R,
-        shared: &Shared<S>,
-        node: u32,
-    ) -> Result<Option<Proposal>, End> {
-        match shared.propose(rt, &mut self.scratch, node) {
+    /// Works out the contraction of a node by the rows that its reader answers, or answers none where it is contracted
+    /// already. It takes no lock.
+    fn propose(&mut self, shared: &Shared<S>, node: u32) -> Result<Option<Proposal>, End>
+        ensures of_book { IfOk result (λ found. IfSome found (λ p. All (IsOfBook S.book) p.rests_on)) }
+        ensures bound { IfOk result (λ found. IfSome found (λ p. p.bound ≡ S.book.bound)) }
+    {
+        let settle = shared.options.settle;
+        match propose_with(
+            shared.alloc,
+            &mut self.reader,
+            &mut self.scratch,
+            node,
+            settle,
+        ) {
             Ok(proposal) => Ok(Some(proposal)),
             Err(ProposeError::OutOfMemory) => Err(End),
             Err(ProposeError::Unseen | ProposeError::Contracted) => Ok(None),
@@ -134,9 +131,9 @@ impl<E: Estimator> Worker<E> {
     }
 
     /// Tells its current estimator, if it has one, what it wasn't told of the log.
-    fn hear<S: Site, R: Wait>(&mut self, rt: &R, shared: &Shared<S>) -> Result<(), End> {
+    fn hear<R: Wait>(&mut self, rt: &R, shared: &Shared<S>) -> Result<(), End> {
         if let Some(listener) = self.listeners.first_mut() {
-            shared.tell_all(rt, listener)?;
+            shared.tell_all(rt, &mut self.entry, listener)?;
         }
         Ok(())
     }
@@ -151,7 +148,7 @@ impl<E: Estimator> Worker<E> {
 
     /// Puts an item back with the key that its node has now, where that is greater and the worker hasn't put back as
     /// many items as it may since its last commit. Answers whether it did.
-    fn put_back<S: Site, R: Wait>(
+    fn put_back<R: Wait>(
         &mut self,
         rt: &R,
         shared: &Shared<S>,
@@ -168,16 +165,19 @@ impl<E: Estimator> Worker<E> {
     }
 
     /// Commits a proposal and keeps the receipt, or puts the item back where a row has changed.
-    fn commit<S: Site, G: Gate, R: Wait>(
+    fn commit<G: Gate, R: Wait>(
         &mut self,
         rt: &R,
         shared: &Shared<S>,
         gate: &G,
         item: Item,
         proposal: Proposal,
-    ) -> Result<(), End> {
+    ) -> Result<(), End>
+        requires of_book { All (IsOfBook S.book) proposal.rests_on }
+        requires bound { proposal.bound ≡ S.book.bound }
+    {
         self.receipts.reserve(1)?;
-        match shared.commit(rt, proposal) {
+        match shared.commit(rt, proposal, &mut self.reader) {
             Ok(receipt) => {
                 self.receipts.push_reserved(receipt);
                 self.deferred = 0;
@@ -190,7 +190,7 @@ impl<E: Estimator> Worker<E> {
                 Ok(())
             }
             Err(CommitError::Contracted) => Ok(()),
-            Err(CommitError::Broken | CommitError::OutOfMemory) => Err(End),
+            Err(CommitError::OutOfMemory | CommitError::Slot) => Err(End),
         }
     }
 }

@@ -4,4 +4,4 @@ use Rattle.ch_workers.specs.Built.{IsMadeBy}
 use Rattle.ch_workers.proofs.building.build_named.Goals as goal
 
 pub returns-clause-built : goal.returns-clause-built
-returns-clause-built g c = subst (λ (graph : Graph). IfOk c.finish.result (λ b. IsMadeBy graph b.log.items b.hierarchy)) c.requires.named c.finish.ensures.built
+returns-clause-built g c = subst (λ (graph : Graph). IfOk c.finish.result (λ b. IsMadeBy graph b.log.items b.hierarchy)) c.requires.of_graph c.finish.ensures.built
