@@ -5,6 +5,7 @@ use Rattle.std.specs.Prelude.{◌-◌, ◌^◌, min, ◌==◌, if◌then◌else�
 use Rattle.ch_cost.specs.declared.cost.Cost.{Cost}
 use Rattle.ch_cost.specs.declared.short_cost.ShortCost.{ShortCost}
 use Rattle.ch_cost.specs.Cost.{length_of, of_length}
+pub mod Fields
 pub mod Laws
 
 -- the short form that keeps no cost

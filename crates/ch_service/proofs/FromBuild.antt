@@ -1,23 +1,25 @@
--- What a build tells of its options, handed on with what it answers.
-use Rattle.std.proofs.Common.{ℕ, ◌≡◌}
-use Rattle.std.specs.Prelude.{◌↔◌, Result, Ok, Err, IsErrAnd}
-use Rattle.ch_workers.specs.Options.{AreBad}
+-- What a build tells of its options.
+use Rattle.std.proofs.Common.{rules, ℕ, ◌≡◌}
+use Rattle.std.specs.Prelude.{◌↔◌, ⊤, Result, Ok, Err, OnOk, IsErrAnd}
+use Rattle.ch_workers.specs.Options.{AreBad, AreGood}
 use Rattle.ch_workers.specs.declared.options.Options.{Options}
 use Rattle.ch_workers.specs.declared.error.BuildError.{BuildError}
 use Rattle.ch_workers.specs.declared.error.BuildError.TheVariants.{BadOptions}
+use Rattle.ch_service.specs.declared.error.ServiceError.{ServiceError}
+use Rattle.ch_service.specs.declared.error.ServiceError.TheVariants.{Build}
 
--- its refusal
-pub refused-bad : {T U : Type 0} (built : Result T BuildError) (e : BuildError) (r : Result U BuildError) (o : Options) (lists : ℕ) → built ≡ Err e → IsErrAnd r (λ x. x ≡ e) → (built ≡ Err BadOptions) ↔ AreBad o lists
-    → (r ≡ Err BadOptions) ↔ AreBad o lists
-refused-bad built e (Ok x) o lists was is bad = absurd is
-refused-bad built e (Err x) o lists was is bad = (
-  λ same. bad.0 (cc),
+-- where it answers they were good, whatever comes after it
+pub built-good : {T : Type 0} (built : Result T BuildError) (b : T) (o : Options) (lists : ℕ) (r : Result ⊤ ServiceError) → built ≡ Ok b → (built ≡ Err BadOptions) ↔ AreBad o lists → OnOk r (AreGood o lists)
+built-good built b o lists (Ok x) was bad =
+    let fine : AreBad o lists → ⊥ = λ worse. let refused : built ≡ Err BadOptions = bad.1 worse in absurd (cc) in
+    search rules
+built-good built b o lists (Err e) was bad = tt
+
+-- and its refusal is handed on
+pub refused-bad : {T : Type 0} (built : Result T BuildError) (x : BuildError) (o : Options) (lists : ℕ) (r : Result ⊤ ServiceError) → built ≡ Err x → IsErrAnd r (λ s. s ≡ Build x) → (built ≡ Err BadOptions) ↔ AreBad o lists
+    → (e : BuildError) → r ≡ Err (Build e) → (e ≡ BadOptions) ↔ AreBad o lists
+refused-bad built x o lists (Ok y) was is bad e same = absurd is
+refused-bad built x o lists (Err y) was is bad e same = (
+  λ worst. bad.0 (cc),
   λ worse. let refused : built ≡ Err BadOptions = bad.1 worse in cc,
-)
-
--- and what it built
-pub built-bad : {T U : Type 0} (built : Result T BuildError) (b : T) (h : U) (o : Options) (lists : ℕ) → built ≡ Ok b → (built ≡ Err BadOptions) ↔ AreBad o lists → (Ok h ≡ Err BadOptions) ↔ AreBad o lists
-built-bad built b h o lists was bad = (
-  λ same. absurd (cc),
-  λ worse. let refused : built ≡ Err BadOptions = bad.1 worse in absurd (cc),
 )

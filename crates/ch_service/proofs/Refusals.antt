@@ -1,6 +1,6 @@
 -- Why a refusal tells by its cause what its call says of it.
 use Rattle.std.proofs.Common.{ℕ, ◌≡◌, List, length, Option, inl, inr, refl, ap}
-use Rattle.std.specs.Prelude.{⊤, Some, None, IfSome, Result, Ok, Err, option_map}
+use Rattle.std.specs.Prelude.{Some, None, IfSome, Ok, Err}
 use Rattle.grfile.specs.Outcome.{FromText}
 use Rattle.grfile.specs.Reading.{graph_of, pairs_of}
 use Rattle.grfile.specs.declared.error.GrErrorKind.{GrErrorKind}

@@ -7,14 +7,14 @@ ghost use Rattle.ch_workers.specs.Options.{AreBad, AreGood};
 ghost use Rattle.ch_workers.specs.declared.error.BuildError.{BuildError};
 ghost use Rattle.ch_workers.specs.declared.error.BuildError.TheVariants.{BadOptions};
 
-use crate::building::{build_hierarchy, refuse};
 use crate::error::ServiceError;
 use crate::input::read_whole;
 use crate::joined::parts;
 use crate::pairs::answer_pairs;
+use crate::refusing::refuse;
 use ch_estimate::{Estimator, Leases};
 use ch_laws::{least_route_is_a_least_walk, least_route_is_never_too_long};
-use ch_workers::{Gate, OpenGate, Options};
+use ch_workers::{Built, Gate, OpenGate, Options, build};
 use grfile::{read_graph, read_queries};
 use std::alloc::Global;
 use std::io::{Read, Write};
@@ -64,7 +64,11 @@ pub fn answer<G: Read, Q: Read, W: Write, P: Gate, R: Threads + Wait + Sync>(
     };
     least_route_is_a_least_walk();
     least_route_is_never_too_long();
-    let hierarchy = build_hierarchy(rt, alloc, graph, options, lists, leases, gate)?;
+    let Built {
+        hierarchy,
+        receipts: _,
+        log: _,
+    } = build(rt, alloc, graph, options, lists, leases, gate)?;
     answer_pairs(alloc, &hierarchy, pairs.as_slice(), out)
 }
 

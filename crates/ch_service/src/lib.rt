@@ -16,7 +16,6 @@
 #![tactic(auto)]
 
 mod answering;
-mod building;
 mod cause;
 mod error;
 mod finding;
@@ -28,6 +27,7 @@ mod line;
 mod output;
 mod pairs;
 mod preparing;
+mod refusing;
 mod routing;
 
 pub use answering::{answer, answer_joined};

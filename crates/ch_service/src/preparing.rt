@@ -6,10 +6,10 @@ ghost use Rattle.ch_workers.specs.Options.{AreBad, AreGood};
 ghost use Rattle.ch_workers.specs.declared.error.BuildError.{BuildError};
 ghost use Rattle.ch_workers.specs.declared.error.BuildError.TheVariants.{BadOptions};
 
-use crate::building::{build_hierarchy, refuse};
 use crate::error::ServiceError;
+use crate::refusing::refuse;
 use ch_estimate::{Estimator, Leases};
-use ch_workers::{Gate, Options};
+use ch_workers::{Built, Gate, Options, build};
 use grfile::read_graph;
 use std::alloc::Global;
 use std::io::{Read, Write};
@@ -49,7 +49,11 @@ pub fn prepare<G: Read, W: Write, P: Gate, R: Threads + Wait + Sync>(
         Ok(graph) => graph,
         Err(fault) => return refuse(rt, ServiceError::Graph(fault), lists, leases),
     };
-    let hierarchy = build_hierarchy(rt, alloc, graph, options, lists, leases, gate)?;
+    let Built {
+        hierarchy,
+        receipts: _,
+        log: _,
+    } = build(rt, alloc, graph, options, lists, leases, gate)?;
     hierfile::write(&hierarchy, out)?;
     Ok(())
 }

@@ -31,14 +31,16 @@ pub struct Reached {
 }
 
 impl Frontier {
-    ghost use Rattle.std.specs.Prelude.{◌≡◌, ◌≢◌, ◌<◌, ℕ, OnOk, IfSome, IfNone, slice_index};
+    ghost use Rattle.std.specs.Prelude.{◌≡◌, ◌≢◌, ◌<◌, ℕ, None, OnOk, IfSome, IfNone, slice_index};
     ghost use Rattle.std.specs.BinaryHeap.{heap_len};
     ghost use Rattle.ch_witness.specs.Tree.{labels_of};
     ghost use Rattle.ch_witness.specs.Frontier.{IsStart, IsOffered, IsSettledNow};
     ghost use Rattle.ch_witness.specs.Places.{IsFirstAt};
 
     /// Labels no node. It takes no memory yet.
-    pub fn new(alloc: Global) -> Frontier {
+    pub fn new(alloc: Global) -> Frontier
+        ensures { (v : ℕ) → labels_of result v ≡ None }
+    {
         Frontier {
             nodes: NodeIndex::new(alloc),
             labels: Vec::new(alloc),

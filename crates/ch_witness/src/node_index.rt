@@ -1,4 +1,4 @@
-ghost use Rattle.std.specs.Prelude.{◌≡◌, ◌≢◌, ◌++◌, ◌∷◌, [], ℕ, ◌<◌, ◌≤◌, IfSome, IfNone, IsTrue, OnOk, OnErr, length, slice_index, slice_set};
+ghost use Rattle.std.specs.Prelude.{◌≡◌, ◌≢◌, ◌↔◌, ◌++◌, ◌∷◌, [], ℕ, ◌<◌, ◌≤◌, IfSome, IfNone, IsTrue, OnOk, OnErr, length, slice_index, slice_set};
 ghost use Rattle.ch_witness.specs.Places.{AreChained, IsFirstAt, IsHead, bucket};
 
 use std::alloc::{AllocError, Global};
@@ -71,7 +71,7 @@ impl NodeIndex {
 
     /// Whether a node stands at a place.
     pub fn is_at(&self, node: u32, place: usize) -> bool
-        ensures { IsTrue result → IsFirstAt self.now node place }
+        ensures { IsTrue result ↔ IsFirstAt self.now node place }
     {
         match self.nodes.get(place) {
             Some(there) => *there == node,

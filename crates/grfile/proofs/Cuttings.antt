@@ -9,7 +9,7 @@ use Rattle.grfile.specs.declared.error.GrError.{GrError}
 use Rattle.grfile.specs.declared.error.GrErrorKind.{GrErrorKind}
 use Rattle.grfile.specs.declared.error.GrErrorKind.TheVariants.{OutOfMemory, Read, UnknownLine, NoProblemLine, SecondProblemLine, FieldCount, NotANumber, NodeRange, ZeroWeight, WeightTooBig, TooManyNodes, TooManyArcs, ArcCount}
 use Rattle.grfile.specs.Lines.{lines_of}
-use Rattle.grfile.specs.Outcome.{◌>>=◌, Answers, FromText, IsOfLine, SaysNothing, Takes, capped, next_line}
+use Rattle.grfile.specs.Outcome.{◌>>=◌, IsReading, FromText, IsOfLine, SaysNothing, Takes, capped, next_line}
 use Rattle.grfile.specs.Grammar.{Grammar, Listing, listing_after}
 use Rattle.grfile.specs.Taken.{CountsLines, HasTaken, IsAtEndOf, IsReached, IsReachedAfter, StopsAtReached, Taken, line_feeds, told_with}
 use Rattle.grfile.proofs.LineCuts.{feeds_both, lines_first}
@@ -162,19 +162,19 @@ module _ {E : Type 0} (grammar : Grammar E) (first : Taken E) (begins : first �
   first_fault None e told = tt
   first_fault (Some text) e told = from_text_map e.kind (λ h. sym (told_first grammar first text begins) ∙ h) told
 
-  answers_all : {A : Type 0} (view : A → Listing E) (r : Result A GrError) (told : Result (Listing E) GrError) (text : List ℕ) → Answers view r told → told ≡ listing_after grammar 0 (lines_of text) → Answers view r (listing_after grammar 0 (lines_of text))
-  answers_all view r told text answers same = subst (λ (told : Result (Listing E) GrError). Answers view r told) same answers
+  reading_all : {A : Type 0} (view : A → Listing E) (r : Result A GrError) (told : Result (Listing E) GrError) (text : List ℕ) → IsReading view r told → told ≡ listing_after grammar 0 (lines_of text) → IsReading view r (listing_after grammar 0 (lines_of text))
+  reading_all view r told text reading same = subst (λ (told : Result (Listing E) GrError). IsReading view r told) same reading
 
-  pub told_all : {A : Type 0} (view : A → Listing E) (last : Taken E) (r : Result A GrError) (had left : Option (List ℕ)) → HasTaken (told_with grammar first) (told_with grammar last) last.line had left → IsAtEnd left → Answers view r (told_with grammar last []) → IfSome had (λ text. Answers view r (listing_after grammar 0 (lines_of text)))
-  told_all view last r None left taken ended answers = tt
-  told_all view last r (Some text) None taken ended answers = absurd taken.3
-  told_all view last r (Some text) (Some xs) taken ended answers =
+  pub told_all : {A : Type 0} (view : A → Listing E) (last : Taken E) (r : Result A GrError) (had left : Option (List ℕ)) → HasTaken (told_with grammar first) (told_with grammar last) last.line had left → IsAtEnd left → IsReading view r (told_with grammar last []) → IfSome had (λ text. IsReading view r (listing_after grammar 0 (lines_of text)))
+  told_all view last r None left taken ended reading = tt
+  told_all view last r (Some text) None taken ended reading = absurd taken.3
+  told_all view last r (Some text) (Some xs) taken ended reading =
       let whole : taken.0 ++ [] ≡ text = ap (λ (rest : List ℕ). taken.0 ++ rest) (sym ended) ∙ taken.3 in
-      answers_all view r (told_with grammar last []) text answers (taken.1 [] ∙ ap (λ (bytes : List ℕ). told_with grammar first bytes) whole ∙ told_first grammar first text begins)
+      reading_all view r (told_with grammar last []) text reading (taken.1 [] ∙ ap (λ (bytes : List ℕ). told_with grammar first bytes) whole ∙ told_first grammar first text begins)
 
-  told_by : {A : Type 0} (view : A → Listing E) (r : Result A GrError) (told : Result (Listing E) GrError) (text : List ℕ) → told ≡ listing_after grammar 0 (lines_of text) → Answers view r told → IfOk r (λ x. (text : List ℕ) × (listing_after grammar 0 (lines_of text) ≡ Ok (view x)))
-  told_by view (Ok x) told text same answers = (text, sym same ∙ answers)
-  told_by view (Err e) told text same answers = tt
+  told_by : {A : Type 0} (view : A → Listing E) (r : Result A GrError) (told : Result (Listing E) GrError) (text : List ℕ) → told ≡ listing_after grammar 0 (lines_of text) → IsReading view r told → IfOk r (λ x. (text : List ℕ) × (listing_after grammar 0 (lines_of text) ≡ Ok (view x)))
+  told_by view (Ok x) told text same reading = (text, sym same ∙ reading)
+  told_by view (Err e) told text same reading = tt
 
-  pub told_some : {A : Type 0} (view : A → Listing E) (last : Taken E) (r : Result A GrError) (had left : Option (List ℕ)) → HasTaken (told_with grammar first) (told_with grammar last) last.line had left → Answers view r (told_with grammar last []) → IfOk r (λ x. (text : List ℕ) × (listing_after grammar 0 (lines_of text) ≡ Ok (view x)))
-  told_some view last r had left taken answers = told_by view r (told_with grammar last []) (taken.0 ++ []) (taken.1 [] ∙ told_first grammar first (taken.0 ++ []) begins) answers
+  pub told_some : {A : Type 0} (view : A → Listing E) (last : Taken E) (r : Result A GrError) (had left : Option (List ℕ)) → HasTaken (told_with grammar first) (told_with grammar last) last.line had left → IsReading view r (told_with grammar last []) → IfOk r (λ x. (text : List ℕ) × (listing_after grammar 0 (lines_of text) ≡ Ok (view x)))
+  told_some view last r had left taken reading = told_by view r (told_with grammar last []) (taken.0 ++ []) (taken.1 [] ∙ told_first grammar first (taken.0 ++ []) begins) reading

@@ -31,10 +31,10 @@ FromText kind P = P
 abbrev pub SaysNothing : GrError → Type 0
 SaysNothing e = FromText e.kind ⊥
 
--- The answer, seen by view, is what was told of the text: the same value, or the same fault of the same line.
-abbrev pub Answers : {A B : Type 0} → (A → B) → Result A GrError → Result B GrError → Type 0
-Answers view (Ok x) told = told ≡ Ok (view x)
-Answers view (Err e) told = FromText e.kind (told ≡ Err e)
+-- The answer, seen by view, is the reading that was told of a text: the same value, or the same fault of the same line.
+abbrev pub IsReading : {A B : Type 0} → (A → B) → Result A GrError → Result B GrError → Type 0
+IsReading view (Ok x) told = told ≡ Ok (view x)
+IsReading view (Err e) told = FromText e.kind (told ≡ Err e)
 
 -- A call that took a part of a text: what was told of the text with that part, whatever follows, is told of what
 -- follows, now that the part is taken. A fault is the text's, whatever follows.

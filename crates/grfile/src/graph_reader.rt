@@ -1,7 +1,7 @@
 ghost use Rattle.std.specs.Prelude.{◌≡◌, ◌++◌, [], None, Some, IfErr, OnOk, IfSome, Err, List, ℕ};
 ghost use Rattle.std.specs.Io.KnownBytes.{IsAtEnd};
 ghost use Rattle.counted_io.specs.Handing.{IsGivenBy};
-ghost use Rattle.grfile.specs.Outcome.{Answers, Takes};
+ghost use Rattle.grfile.specs.Outcome.{IsReading, Takes};
 ghost use Rattle.grfile.specs.Reading.{graph_of};
 ghost use Rattle.grfile.specs.Taken.{CountsLines, IsAtEndOf, StopsAtReached, graph_with, line_feeds};
 
@@ -64,7 +64,7 @@ impl GrReader {
 
     /// The graph that the whole text spells, or the text's first fault.
     pub fn finish(self) -> Result<Graph, GrError>
-        ensures reading { Answers (λ g. g) result (graph_with self []) }
+        ensures reading { IsReading (λ g. g) result (graph_with self []) }
         ensures refused { self.failed ≡ None → IfErr result (IsAtEndOf self.line) }
         ensures again { IfSome self.failed (λ e. result ≡ Err e) }
     {
@@ -80,7 +80,7 @@ impl GrReader {
 /// a growth is refused, both at the line that was reached. What is kept is the arcs so far, one line and 64 KiB:
 /// memory grows with what the text has spelled, never with what a line announces.
 pub fn read_graph<R: Read>(alloc: Global, reader: &mut R) -> Result<Graph, GrError>
-    ensures reading { IfSome (R.remaining reader.old) (λ text. Answers (λ g. g) result (graph_of text)) }
+    ensures reading { IfSome (R.remaining reader.old) (λ text. IsReading (λ g. g) result (graph_of text)) }
     ensures ended { OnOk result (IsAtEnd (R.remaining reader.new)) }
     ensures reached { IfErr result (StopsAtReached (R.remaining reader.old) (R.remaining reader.new)) }
 {
@@ -94,7 +94,7 @@ pub fn read_graph_within<R: Read>(
     reader: &mut R,
     calls: u64,
 ) -> Result<Graph, GrError>
-    ensures reading { IfSome (R.remaining reader.old) (λ text. Answers (λ g. g) result (graph_of text)) }
+    ensures reading { IfSome (R.remaining reader.old) (λ text. IsReading (λ g. g) result (graph_of text)) }
     ensures ended { OnOk result (IsAtEnd (R.remaining reader.new)) }
     ensures few { OnOk result (IsGivenBy calls (R.remaining reader.old)) }
     ensures reached { IfErr result (StopsAtReached (R.remaining reader.old) (R.remaining reader.new)) }

@@ -1,6 +1,6 @@
 ghost use Rattle.std.specs.Prelude.{◌≡◌, ◌≢◌, ◌∷◌, [], ℕ, Some, IfErr, IfOk, MatchOption, MatchResult};
 ghost use Rattle.std.specs.Option.{option_map};
-ghost use Rattle.grfile.specs.Outcome.{Answers, Takes, IsOfLine, next_line};
+ghost use Rattle.grfile.specs.Outcome.{IsReading, Takes, IsOfLine, next_line};
 ghost use Rattle.grfile.specs.Progress.{listing_of, listing_from, entry_then, told_from};
 ghost use Rattle.grfile.specs.Grammar.{Grammar};
 ghost use Rattle.grfile.specs.Taken.{TakesLine};
@@ -140,7 +140,7 @@ fn take_plain_entry<'a, F: Form>(
 
 /// What a text says that ends with this line.
 pub(crate) fn end<E: Drop>(progress: Progress<E>) -> Result<Listed<E>, GrError>
-    ensures told { (grammar : Grammar E) → Answers listing_of result (told_from grammar progress []) }
+    ensures told { (grammar : Grammar E) → IsReading listing_of result (told_from grammar progress []) }
     ensures refused { IfErr result (λ e. (e.kind ≢ Read) × (e.kind ≢ OutOfMemory)) }
 {
     let line = progress.line;
@@ -150,7 +150,7 @@ pub(crate) fn end<E: Drop>(progress: Progress<E>) -> Result<Listed<E>, GrError>
 
 /// What was listed, where all of its entries have come by the end of the text.
 fn whole<E: Drop>(listed: Listed<E>, line: u64) -> Result<Listed<E>, GrError>
-    ensures told { (grammar : Grammar E) → Answers listing_of result (listing_from grammar line (Some (listing_of listed)) []) }
+    ensures told { (grammar : Grammar E) → IsReading listing_of result (listing_from grammar line (Some (listing_of listed)) []) }
     ensures refused { IfErr result (λ e. (e.kind ≢ Read) × (e.kind ≢ OutOfMemory)) }
 {
     if listed.entries.len() < listed.size.entries as usize {

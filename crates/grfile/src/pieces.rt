@@ -4,7 +4,7 @@ ghost use Rattle.std.specs.Option.{option_map};
 ghost use Rattle.std.specs.Str.Lines.{strip_carriage_return};
 ghost use Rattle.counted_io.specs.Handing.{IsGivenBy};
 ghost use Rattle.grfile.specs.Lines.{lines_of};
-ghost use Rattle.grfile.specs.Outcome.{Answers, FromText, IsOfLine, Takes, capped, next_line};
+ghost use Rattle.grfile.specs.Outcome.{IsReading, FromText, IsOfLine, Takes, capped, next_line};
 ghost use Rattle.grfile.specs.Grammar.{listing_after};
 ghost use Rattle.grfile.specs.Progress.{listing_of, listing_from, told_from};
 ghost use Rattle.grfile.specs.Taken.{CountsLines, HasTaken, IsAtEndOf, IsReached, StopsAtReached, TakesLine, line_feeds, lines_after, taken_of, told_with};
@@ -164,7 +164,7 @@ pub(crate) fn finish<F: Form>(
     pieces: Pieces<F::Entry>,
     form: F,
 ) -> Result<Listed<F::Entry>, GrError>
-    ensures told { Answers listing_of result (told_with (F.grammar form) (taken_of pieces) []) }
+    ensures told { IsReading listing_of result (told_with (F.grammar form) (taken_of pieces) []) }
     ensures again { IfSome pieces.failed (λ e. result ≡ Err e) }
     ensures refused { pieces.failed ≡ None → IfErr result (IsAtEndOf pieces.progress.line) }
 {
@@ -191,7 +191,7 @@ pub(crate) fn read_listing<F: Form, R: Read>(
     reader: &mut R,
     calls: u64,
 ) -> Result<Listed<F::Entry>, GrError>
-    ensures told { IfSome (R.remaining reader.old) (λ text. Answers listing_of result (listing_after (F.grammar form) 0 (lines_of text))) }
+    ensures told { IfSome (R.remaining reader.old) (λ text. IsReading listing_of result (listing_after (F.grammar form) 0 (lines_of text))) }
     ensures listed { IfOk result (λ listed. (text : List ℕ) × (listing_after (F.grammar form) 0 (lines_of text) ≡ Ok (listing_of listed))) }
     ensures ended { OnOk result (IsAtEnd (R.remaining reader.new)) }
     ensures few { OnOk result (IsGivenBy calls (R.remaining reader.old)) }

@@ -1,7 +1,7 @@
 ghost use Rattle.std.specs.Prelude.{◌≡◌, ◌++◌, [], None, Some, IfOk, IfErr, OnOk, IfSome, Err, All, List, ℕ};
 ghost use Rattle.std.specs.Io.KnownBytes.{IsAtEnd};
 ghost use Rattle.counted_io.specs.Handing.{IsGivenBy};
-ghost use Rattle.grfile.specs.Outcome.{Answers, Takes};
+ghost use Rattle.grfile.specs.Outcome.{IsReading, Takes};
 ghost use Rattle.grfile.specs.Reading.{pairs_of, IsPair};
 ghost use Rattle.grfile.specs.Taken.{CountsLines, IsAtEndOf, StopsAtReached, line_feeds, pairs_with};
 
@@ -67,7 +67,7 @@ impl QueryReader {
     /// The pairs that the whole text spells, in the order of their lines, or the text's first fault. Nodes are
     /// numbered from 0.
     pub fn finish(self) -> Result<Vec<(u32, u32)>, GrError>
-        ensures reading { Answers (λ v. v.items) result (pairs_with self []) }
+        ensures reading { IsReading (λ v. v.items) result (pairs_with self []) }
         ensures in_range { IfOk result (λ pairs. All (IsPair self.nodes) pairs.items) }
         ensures refused { self.taken.failed ≡ None → IfErr result (IsAtEndOf self.taken.line) }
         ensures again { IfSome self.taken.failed (λ e. result ≡ Err e) }
@@ -88,7 +88,7 @@ pub fn read_queries<R: Read>(
     reader: &mut R,
     nodes: u32,
 ) -> Result<Vec<(u32, u32)>, GrError>
-    ensures reading { IfSome (R.remaining reader.old) (λ text. Answers (λ v. v.items) result (pairs_of nodes text)) }
+    ensures reading { IfSome (R.remaining reader.old) (λ text. IsReading (λ v. v.items) result (pairs_of nodes text)) }
     ensures in_range { IfOk result (λ pairs. All (IsPair nodes) pairs.items) }
     ensures ended { OnOk result (IsAtEnd (R.remaining reader.new)) }
     ensures reached { IfErr result (StopsAtReached (R.remaining reader.old) (R.remaining reader.new)) }
@@ -104,7 +104,7 @@ pub fn read_queries_within<R: Read>(
     nodes: u32,
     calls: u64,
 ) -> Result<Vec<(u32, u32)>, GrError>
-    ensures reading { IfSome (R.remaining reader.old) (λ text. Answers (λ v. v.items) result (pairs_of nodes text)) }
+    ensures reading { IfSome (R.remaining reader.old) (λ text. IsReading (λ v. v.items) result (pairs_of nodes text)) }
     ensures in_range { IfOk result (λ pairs. All (IsPair nodes) pairs.items) }
     ensures ended { OnOk result (IsAtEnd (R.remaining reader.new)) }
     ensures few { OnOk result (IsGivenBy calls (R.remaining reader.old)) }

@@ -1,14 +1,9 @@
 -- The definitions of costs by the numbers in a cost, for the proofs of this crate alone.
-use Rattle.std.specs.Prelude.{IsTrue, nat_le, nat_lt, ℕ, ◌≡◌, ◌+◌, ◌*◌, ◌^◌, ◌<◌, ◌≤◌, ◌↔◌, ◌==◌, refl}
+use Rattle.std.specs.Prelude.{IsTrue, nat_le, nat_lt, ℕ, ◌≡◌, ◌+◌, ◌*◌, ◌^◌, ◌↔◌, ◌==◌, refl}
 use Rattle.std.specs.Ordering.{nat_cmp}
-use Rattle.std.proofs.Common.{arith}
 use Rattle.std.proofs.lemmas.Bool.{leb-true, le-leb, ltb-true, lt-ltb}
 use Rattle.ch_cost.specs.declared.cost.Cost.{Cost}
-use Rattle.ch_cost.specs.Cost.{zero_cost, ◌⊕◌, of_weight, cost_of_arcs, length_of, of_length, ◌≼◌, ◌≺◌, compare, same, IsWithin, IsNoLonger, IsInLimit}
-
-pub zero_cost-is : record { weight = 0 } ≡ zero_cost
-unfolding zero_cost
-zero_cost-is = refl
+use Rattle.ch_cost.specs.Cost.{◌⊕◌, of_weight, cost_of_arcs, length_of, of_length, ◌≼◌, ◌≺◌, compare, same, IsWithin, IsNoLonger, IsInLimit}
 
 pub sum-is : (a b : Cost) → record { weight = a.weight + b.weight } ≡ a ⊕ b
 unfolding ◌⊕◌
@@ -55,16 +50,3 @@ no_longer-test c bound = (λ e. record { weight = leb-true c.weight bound.weight
 
 pub in_limit-test : (c : Cost) → IsTrue (nat_le c.weight (2 ^ 57)) ↔ IsInLimit c
 in_limit-test c = (λ e. record { weight = leb-true c.weight (2 ^ 57) e }, λ h. le-leb c.weight (2 ^ 57) h.weight)
-
--- two summands fit
-pub sum_fits : (a b : Cost) → IsInLimit a → IsInLimit b → a.weight + b.weight < 2 ^ 64
-sum_fits a b h k = omega (arith, h.weight, k.weight)
-
--- a sum within a bound, by the numbers
-pub within-sum : (a b bound : Cost) → a.weight + b.weight ≤ bound.weight → IsWithin (a ⊕ b) bound
-unfolding ◌⊕◌
-within-sum a b bound h = record { weight = h }
-
-pub sum-within : (a b bound : Cost) → IsWithin (a ⊕ b) bound → a.weight + b.weight ≤ bound.weight
-unfolding ◌⊕◌
-sum-within a b bound h = h.weight

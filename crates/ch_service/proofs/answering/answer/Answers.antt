@@ -1,22 +1,23 @@
 use Rattle.std.proofs.Common.{rules, subst}
 use Rattle.ch_graph.specs.Graph.{Graph, IsGraph}
 use Rattle.ch_service.proofs.ByWalks.{answers-told, stops-answered, fault-answering, texts-kinds, fault-answered, pairs_refused}
+use Rattle.ch_service.proofs.FromBuild.{built-good}
 use Rattle.ch_service.proofs.answering.answer.Goals as goal
 
 pub returns-clause-answers : goal.returns-clause-answers
 returns-clause-answers g c =
-    answers-told c.least_route_is_a_least_walk.ensures c.in-Ok.graph c.in_ok-hierarchy.hierarchy c.as_slice.result.now _ _ _ _ c.answer_pairs.result (search rules) (search rules)
+    answers-told c.least_route_is_a_least_walk.ensures c.in-Ok.graph c.in_ok-hierarchy.field-0.hierarchy c.as_slice.result.now _ _ _ _ c.answer_pairs.result (search rules) (search rules)
     (subst (λ (g : Graph). IsGraph g) c.graph.view_is c.graph.invariant.0) c.in_ok-hierarchy.ensures.right (search rules) c.answer_pairs.ensures.routed
 
 pub returns-clause-stops : goal.returns-clause-stops
 returns-clause-stops g c =
-    stops-answered c.least_route_is_a_least_walk.ensures c.least_route_is_never_too_long.ensures c.in-Ok.graph c.in_ok-hierarchy.hierarchy c.as_slice.result.now _ _ _ _ c.answer_pairs.result (search rules) (search rules)
+    stops-answered c.least_route_is_a_least_walk.ensures c.least_route_is_never_too_long.ensures c.in-Ok.graph c.in_ok-hierarchy.field-0.hierarchy c.as_slice.result.now _ _ _ _ c.answer_pairs.result (search rules) (search rules)
     (subst (λ (g : Graph). IsGraph g) c.graph.view_is c.graph.invariant.0) c.in_ok-hierarchy.ensures.right (search rules) c.answer_pairs.ensures.stops
 
 pub returns-clause-fault : goal.returns-clause-fault
 returns-clause-fault g c =
     fault-answering c.in-Ok.graph c.as_slice.result.now _ _ _ _ c.answer_pairs.result (search rules) (search rules) c.answer_pairs.ensures.fault
-    (stops-answered c.least_route_is_a_least_walk.ensures c.least_route_is_never_too_long.ensures c.in-Ok.graph c.in_ok-hierarchy.hierarchy c.as_slice.result.now _ _ _ _ c.answer_pairs.result (search rules) (search rules)
+    (stops-answered c.least_route_is_a_least_walk.ensures c.least_route_is_never_too_long.ensures c.in-Ok.graph c.in_ok-hierarchy.field-0.hierarchy c.as_slice.result.now _ _ _ _ c.answer_pairs.result (search rules) (search rules)
     (subst (λ (g : Graph). IsGraph g) c.graph.view_is c.graph.invariant.0) c.in_ok-hierarchy.ensures.right (search rules) c.answer_pairs.ensures.stops)
 
 pub returns-in-Err-read_queries-clause-fault : goal.returns-in-Err-read_queries-clause-fault
@@ -31,5 +32,8 @@ returns-in-Err-read_queries-clause-untouched g c = rw c.refuse-in-Err-read_queri
 
 pub returns-clause-kinds : goal.returns-clause-kinds
 returns-clause-kinds g c =
-    texts-kinds c.least_route_is_never_too_long.ensures c.in-Ok.graph c.in_ok-hierarchy.hierarchy c.as_slice.result.now _ _ c.answer_pairs.result
+    texts-kinds c.least_route_is_never_too_long.ensures c.in-Ok.graph c.in_ok-hierarchy.field-0.hierarchy c.as_slice.result.now _ _ c.answer_pairs.result
     (subst (λ (g : Graph). IsGraph g) c.graph.view_is c.graph.invariant.0) c.in_ok-hierarchy.ensures.right (search rules) c.answer_pairs.ensures.fault c.answer_pairs.ensures.stops
+
+pub returns-clause-good : goal.returns-clause-good
+returns-clause-good g c = built-good c.build.result _ _ _ c.answer_pairs.result c.in_ok-hierarchy.was c.build.ensures.bad

@@ -1,14 +1,16 @@
 use Rattle.std.proofs.Common.{rules}
 use Rattle.ch_service.proofs.ByWalks.{graph_refused}
+use Rattle.std.specs.Prelude.{Ok}
+use Rattle.ch_service.proofs.FromBuild.{built-good, refused-bad}
 use Rattle.ch_service.proofs.Prepared.{writes-prepared, breaks-prepared, fault-prepared}
 use Rattle.ch_service.proofs.preparing.prepare.Goals as goal
 
 pub returns-clause-prepares : goal.returns-clause-prepares
-returns-clause-prepares g c = writes-prepared c.in-Ok.graph c.in_ok-hierarchy.hierarchy _ _ _ (search rules) c.in_ok-hierarchy.ensures.right (search rules) c.in_ok-write.ensures.ok
+returns-clause-prepares g c = writes-prepared c.in-Ok.graph c.in_ok-hierarchy.field-0.hierarchy _ _ _ (search rules) c.in_ok-hierarchy.ensures.right (search rules) c.in_ok-write.ensures.ok
 
 pub returns-in_err-write-clause-broken : goal.returns-in_err-write-clause-broken
 returns-in_err-write-clause-broken g c =
-    breaks-prepared c.in-Ok.graph c.in_ok-hierarchy.hierarchy _ _ _ c.in_err-write.field-0.0 c.from_residual-in_err-write.result (search rules) c.in_ok-hierarchy.ensures.right (search rules)
+    breaks-prepared c.in-Ok.graph c.in_ok-hierarchy.field-0.hierarchy _ _ _ c.in_err-write.field-0.0 c.from_residual-in_err-write.result (search rules) c.in_ok-hierarchy.ensures.right (search rules)
     c.from_residual-in_err-write.ensures.1 c.in_err-write.ensures.err
 
 pub returns-in-Err-clause-fault : goal.returns-in-Err-clause-fault
@@ -19,3 +21,9 @@ returns-in-Err-clause-bad g c e is = absurd (graph_refused c.refuse.result c.in-
 
 pub returns-in-Err-clause-untouched : goal.returns-in-Err-clause-untouched
 returns-in-Err-clause-untouched g c = rw c.refuse.ensures (search rules)
+
+pub returns-in_err-hierarchy-clause-bad : goal.returns-in_err-hierarchy-clause-bad
+returns-in_err-hierarchy-clause-bad g c = refused-bad c.build.result c.in_err-hierarchy.field-0.0 _ _ c.from_residual.result c.in_err-hierarchy.was c.from_residual.ensures.1 c.build.ensures.bad
+
+pub returns-clause-good : goal.returns-clause-good
+returns-clause-good g c = built-good c.build.result _ _ _ (Ok tt) c.in_ok-hierarchy.was c.build.ensures.bad

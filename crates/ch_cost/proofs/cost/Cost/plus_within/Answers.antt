@@ -1,6 +1,18 @@
-use Rattle.std.proofs.Common.{arith}
-use Rattle.ch_cost.specs.Cost.Fields.{sum-is, within-sum, sum-within}
+use Rattle.std.specs.Prelude.{◌+◌, ◌≤◌}
+use Rattle.std.proofs.Common.{arith, leb-true, le-leb, sym, subst}
+use Rattle.ch_cost.specs.declared.cost.Cost.{Cost}
+use Rattle.ch_cost.specs.Cost.{◌⊕◌, IsWithin}
+use Rattle.ch_cost.specs.Cost.Fields.{sum-is, within-test}
 use Rattle.ch_cost.proofs.cost.Cost.plus_within.Goals as goal
+
+-- a sum within a bound, by the numbers
+within-sum : (a b bound : Cost) → a.weight + b.weight ≤ bound.weight → IsWithin (a ⊕ b) bound
+within-sum a b bound h =
+    subst (λ (sum : Cost). IsWithin sum bound) (sum-is a b) ((within-test (record { weight = a.weight + b.weight }) bound).0 (le-leb (a.weight + b.weight) bound.weight h))
+
+sum-within : (a b bound : Cost) → IsWithin (a ⊕ b) bound → a.weight + b.weight ≤ bound.weight
+sum-within a b bound h =
+    leb-true (a.weight + b.weight) bound.weight ((within-test (record { weight = a.weight + b.weight }) bound).1 (subst (λ (sum : Cost). IsWithin sum bound) (sym (sum-is a b)) h))
 
 pub returns-in_err-weight : goal.returns-in_err-weight
 returns-in_err-weight c =

@@ -1,4 +1,4 @@
-use Rattle.ch_cost.specs.ShortCost.Laws.{kept-none, kept-some}
+use Rattle.ch_cost.specs.ShortCost.Fields.{kept-none, kept-some}
 use Rattle.ch_cost.proofs.short_cost.ShortCost.cost.Goals as goal
 
 pub returns-then-self-eq4294967295 : goal.returns-then-self-eq4294967295

@@ -1,4 +1,4 @@
-use Rattle.ch_cost.specs.ShortCost.Laws.{short_of-is}
+use Rattle.ch_cost.specs.ShortCost.Fields.{short_of-is}
 use Rattle.ch_cost.proofs.short_cost.ShortCost.of.Goals as goal
 
 pub returns : goal.returns

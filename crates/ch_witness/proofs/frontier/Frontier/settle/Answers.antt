@@ -6,7 +6,7 @@ use Rattle.ch_witness.proofs.frontier.Frontier.settle.Goals as goal
 
 pub returns-clause-settled : goal.returns-clause-settled
 returns-clause-settled c =
-    let at = c.is_at.ensures c.if-not-is_at.false in
+    let at = c.is_at.ensures.0 c.if-not-is_at.false in
     let l = c.index-label.result.now in
     let known : labels_of c.args.self.now c.args.node ≡ Some l = value_found c.args.self.now.nodes c.args.self.now.labels.items c.args.node c.args.place l c.args.self.now.paired at ∙ ap (λ (k : Label). Some k) (sym c.index-label.ensures) in
     record {
