@@ -58,12 +58,14 @@ fn add_arc(rows: &mut [Row], arc: Road) -> Result<(), AllocError>
     Ok(())
 }
 
-/// The same rows, to be shared.
+/// The same rows, to be shared, in no more memory than they need.
 pub fn shared(alloc: Global, rows: Vec<Row>) -> Result<Vec<Arc<Row>>, AllocError>
     ensures { IfOk result (λ all. map arc_value all.items ≡ rows.items) }
 {
     let mut all = Vec::with_capacity(alloc, rows.len())?;
     for row in rows {
+        let mut row = row;
+        row.shrink();
         all.push(Arc::new(alloc, row)?)?;
     }
     Ok(all)

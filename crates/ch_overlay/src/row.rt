@@ -55,6 +55,14 @@ impl Row {
         Ok(())
     }
 
+    /// Gives back the memory that its entries don't need.
+    pub(crate) fn shrink(&mut self)
+        ensures { self.new ≡ self.old }
+    {
+        self.out.shrink_to_fit();
+        self.inn.shrink_to_fit();
+    }
+
     /// Whether it has the same entries and the same rank as another row. Looks once at each entry.
     pub fn is_same(&self, other: &Row) -> bool
         ensures { IsTrue result ↔ (self.now ≡ other.now) }
@@ -68,8 +76,10 @@ impl Row {
     pub(crate) fn ranked(&self, alloc: Global, rank: u32) -> Result<Row, AllocError>
         ensures { IfOk result (λ row. row ≡ record self.now { rank = Some rank }) }
     {
-        let out = self.out.iter().copied().collect(alloc)?;
-        let inn = self.inn.iter().copied().collect(alloc)?;
+        let mut out: Vec<Entry> = self.out.iter().copied().collect(alloc)?;
+        out.shrink_to_fit();
+        let mut inn: Vec<Entry> = self.inn.iter().copied().collect(alloc)?;
+        inn.shrink_to_fit();
         Ok(Row {
             out,
             inn,
@@ -118,5 +128,7 @@ fn replaced(
     ensures { IfOk result (λ es. es.items ≡ filter (λ e. not (nat_eq e.other gone)) (merged old.now new.now)) }
 {
     let both = Merge::new(old, new);
-    both.filter(|e| e.other != gone).collect(alloc)
+    let mut entries: Vec<Entry> = both.filter(|e| e.other != gone).collect(alloc)?;
+    entries.shrink_to_fit();
+    Ok(entries)
 }

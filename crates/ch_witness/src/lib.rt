@@ -26,6 +26,7 @@ mod way;
 pub use error::SearchError;
 pub use rows::Rows;
 pub use rule::Rule;
-pub use searcher::Searcher;
+pub use searcher::{Searcher, Traced};
 pub use searching::search;
+pub use tree::Step;
 pub use way::{Found, Way};

@@ -8,10 +8,19 @@ use crate::rows::Rows;
 use crate::rule::Rule;
 use crate::trace::way_to;
 use crate::tree::{Step, Tree};
-use crate::way::{Found, Way};
-use ch_overlay::{RowSource, Seen};
+use crate::way::Way;
+use ch_overlay::RowSource;
 use std::alloc::{AllocError, Global};
 use std::mem;
+
+/// What a searcher found.
+#[derive(Drop)]
+pub struct Traced {
+    /// For each target, in their order, the best way that the search has reached, or none.
+    pub ways: Vec<Option<Way>>,
+    /// What the search went on by, in its order: the steps of each node of a way but the last are among them.
+    pub steps: Vec<Step>,
+}
 
 /// What searches for ways are made in, one after the other: rows that are kept from one to the next, and memory that is
 /// used again.
@@ -43,7 +52,7 @@ impl Searcher {
     /// The ways of [`search`](crate::search), along rows that are kept from one search to the next.
     ///
     /// The source is asked for a row only where none is kept for the node, and what it answers is kept, also where the
-    /// search fails. The rows that are handed over are copies of those that are kept, so that several searches may rest
+    /// search fails. The rows of the steps are copies of those that are kept, so that several searches may rest
     /// on the same answers. The conditions and the errors are those of [`search`](crate::search); a search that fails
     /// lets the memory go that it would have used again.
     pub fn search<S: RowSource>(
@@ -53,17 +62,17 @@ impl Searcher {
         rule: Rule,
         targets: &[u32],
         settle: u32,
-    ) -> Result<Found, SearchError>
+    ) -> Result<Traced, SearchError>
         requires start { rule.from ≢ rule.avoid }
         requires targets { Contains targets.now rule.avoid → ⊥ }
         requires cutoff { IsWithin rule.cutoff (S.bound_of source.old) }
         requires kept { AreKept S.bears (S.shows source.old) (S.bound_of source.old) (kept_of self.old.rows) }
         requires some { 1 ≤ settle }
         requires few { settle ≤ 2 ^ 16 }
-        ensures ways { IfOk result (λ found. AreWays found.seen.items rule.from rule.avoid rule.cutoff targets.now found.ways.items) }
-        ensures direct { IfOk result (λ found. (k : ℕ) → k < length targets.now → slice_index targets.now k ≢ rule.from → (s : Seen) × IsKept (kept_of self.new.rows) s × IsStartRow found.seen.items rule.from rule.cutoff targets.now found.ways.items s) }
-        ensures rows { IfOk result (λ found. AreRows found.seen.items) }
-        ensures copies { IfOk result (λ found. All (IsKept (kept_of self.new.rows)) found.seen.items) }
+        ensures ways { IfOk result (λ found. AreWays (map (λ s. s.seen) found.steps.items) rule.from rule.avoid rule.cutoff targets.now found.ways.items) }
+        ensures direct { IfOk result (λ found. (k : ℕ) → k < length targets.now → slice_index targets.now k ≢ rule.from → (s : Seen) × IsKept (kept_of self.new.rows) s × IsStartRow (map (λ s. s.seen) found.steps.items) rule.from rule.cutoff targets.now found.ways.items s) }
+        ensures rows { IfOk result (λ found. AreRows (map (λ s. s.seen) found.steps.items)) }
+        ensures copies { IfOk result (λ found. All (IsKept (kept_of self.new.rows)) (map (λ s. s.seen) found.steps.items)) }
         ensures kept { AreKept S.bears (S.shows source.new) (S.bound_of source.new) (kept_of self.new.rows) }
         ensures more { IsMore (kept_of self.old.rows) (kept_of self.new.rows) }
         ensures stays { S.stays source.old source.new }
@@ -83,8 +92,7 @@ impl Searcher {
         let ways = ways_to(alloc, rule, &tree, targets)?;
         let Tree { steps, frontier } = tree;
         self.frontier = frontier;
-        let seen = rows_of(alloc, steps)?;
-        Ok(Found { ways, seen })
+        Ok(Traced { ways, steps })
     }
 }
 
@@ -115,11 +123,4 @@ fn known_way(alloc: Global, rule: Rule, tree: &Tree, target: u32) -> Result<Opti
         return Ok(None);
     };
     Ok(Some(way_to(alloc, rule, &tree.steps, target, label)?))
-}
-
-/// The rows of the steps, in order.
-fn rows_of(alloc: Global, steps: Vec<Step>) -> Result<Vec<Seen>, AllocError>
-    ensures { IfOk result (λ seen. seen.items ≡ map (λ s. s.seen) steps.items) }
-{
-    steps.into_iter().map(|step| step.seen).collect(alloc)
 }

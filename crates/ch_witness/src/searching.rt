@@ -7,9 +7,10 @@ ghost use Rattle.ch_witness.specs.Ways.{AreRows, AreWays, IsStartRow};
 use crate::error::SearchError;
 use crate::rule::Rule;
 use crate::searcher::Searcher;
+use crate::tree::Step;
 use crate::way::Found;
 use ch_cost::Cost;
-use ch_overlay::{RowSource, Seen};
+use ch_overlay::RowSource;
 use std::alloc::{AllocError, Global};
 
 /// Ways from one node to others that don't enter the node `avoid`, along the arcs of the rows that a source shows.
@@ -50,20 +51,20 @@ pub fn search<S: RowSource>(
         avoid,
         cutoff,
     };
-    let copies = searcher.search(alloc, source, rule, targets, settle)?;
-    let nodes = nodes_of(alloc, &copies.seen)?;
+    let traced = searcher.search(alloc, source, rule, targets, settle)?;
+    let nodes = nodes_of(alloc, &traced.steps)?;
     let seen = searcher.rows.hand_out(alloc, &nodes)?;
-    let ways = copies.ways;
+    let ways = traced.ways;
     Ok(Found { ways, seen })
 }
 
-/// The nodes of the rows, in order.
-fn nodes_of(alloc: Global, seen: &[Seen]) -> Result<Vec<u32>, AllocError>
-    ensures { IfOk result (λ nodes. nodes.items ≡ map (λ s. s.node) seen.now) }
+/// The nodes of the steps, in order.
+fn nodes_of(alloc: Global, steps: &[Step]) -> Result<Vec<u32>, AllocError>
+    ensures { IfOk result (λ nodes. nodes.items ≡ map (λ s. s.node) (map (λ s. s.seen) steps.now)) }
 {
-    let mut nodes = Vec::with_capacity(alloc, seen.len())?;
-    'rows: for at in 0..seen.len() {
-        nodes.push(seen[at].node)?;
+    let mut nodes = Vec::with_capacity(alloc, steps.len())?;
+    'steps: for at in 0..steps.len() {
+        nodes.push(steps[at].seen.node)?;
     }
     Ok(nodes)
 }

@@ -72,7 +72,7 @@ returns-clause-draft g c =
     let targets : c.deref-5.result.now ≡ map (λ (p : Shortcut). p.to) pairs = c.deref-5.ensures.value ∙ c.in_ok-targets.ensures ∙ ap (map (λ (p : Shortcut). p.to)) c.deref-3.ensures.value in
     let first = c.in_ok-read.ensures.copy in
     let ways = c.in_ok-found.found.ways.items in
-    let rows = c.in_ok-found.found.seen.items in
+    let rows = map (λ s. s.seen) c.in_ok-found.found.steps.items in
     let outs : c.deref.result.now ≡ c.args.row.now.out = c.deref.ensures.value ∙ ap (λ (r : Row). r.out) c.row.view_is in
     drafted_search c.args.task.bound c.args.task.node c.args.row.now c.args.into pairs c.requires.among c.requires.inn_rises (subst (λ (es : List Entry). ArePairs c.args.task.bound c.args.into es c.in_ok-pairs.pairs.items) (c.deref-2.ensures.value ∙ ap (λ (r : Row). r.out) c.row.view_is) c.in_ok-pairs.ensures)
     c.requires.out_rises (subst (λ (es : List Entry). LeadsOn es c.args.into.other) outs (c.leads_on.ensures.0 (is-true _ c.if-not-leads_on.false)))

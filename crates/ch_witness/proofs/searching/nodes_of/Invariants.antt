@@ -1,6 +1,6 @@
 use Rattle.std.proofs.Common.{◌≡◌, map, take}
 use Rattle.ch_witness.proofs.searching.nodes_of.Given as goal
 
--- the nodes of the first rows
-abbrev pub invariant-rows : goal.invariant-rows
-invariant-rows l = l.nodes.items ≡ map (λ s. s.node) (take l.at l.seen)
+-- the nodes of the first steps
+abbrev pub invariant-steps : goal.invariant-steps
+invariant-steps l = l.nodes.items ≡ map (λ s. s.node) (map (λ s. s.seen) (take l.at l.steps))

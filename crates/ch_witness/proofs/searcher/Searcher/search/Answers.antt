@@ -1,25 +1,21 @@
-use Rattle.std.proofs.Common.{List, sym, subst}
-use Rattle.std.specs.List.{All}
-use Rattle.ch_overlay.specs.declared.source.Seen.{Seen}
 use Rattle.ch_witness.specs.Kept.{kept_of, IsKept}
 use Rattle.ch_witness.specs.Tree.{labels_of}
-use Rattle.ch_witness.specs.Ways.{AreWays, AreRows, IsStartRow}
 use Rattle.ch_witness.proofs.Giving.{all_seen, rows, ways_given, start_given}
 use Rattle.ch_witness.proofs.searcher.Searcher.search.Goals as goal
 
 pub returns-clause-ways : goal.returns-clause-ways
-returns-clause-ways g c = subst (λ (ss : List Seen). AreWays ss c.args.rule.from c.args.rule.avoid c.args.rule.cutoff c.args.targets.now c.in_ok-ways.ways.items) (sym c.in_ok-seen.ensures) (ways_given _ c.in_ok-tree.tree.steps.items (labels_of c.in_ok-tree.tree.frontier) c.args.targets.now c.in_ok-ways.ways.items c.in_ok-tree.ensures.tree c.in_ok-ways.ensures.many c.in_ok-ways.ensures.ways)
+returns-clause-ways g c = ways_given _ c.in_ok-tree.tree.steps.items (labels_of c.in_ok-tree.tree.frontier) c.args.targets.now c.in_ok-ways.ways.items c.in_ok-tree.ensures.tree c.in_ok-ways.ensures.many c.in_ok-ways.ensures.ways
 
 pub returns-clause-direct : goal.returns-clause-direct
 returns-clause-direct g c = λ k h other.
     let start = c.in_ok-tree.ensures.start k h other in (
       start.0,
       start.1,
-      subst (λ (ss : List Seen). IsStartRow ss c.args.rule.from c.args.rule.cutoff c.args.targets.now c.in_ok-ways.ways.items start.0) (sym c.in_ok-seen.ensures) (start_given _ c.in_ok-tree.tree.steps.items (labels_of c.in_ok-tree.tree.frontier) c.args.targets.now c.in_ok-ways.ways.items start.0 c.requires.targets c.in_ok-ways.ensures.ways start.2),
+      start_given _ c.in_ok-tree.tree.steps.items (labels_of c.in_ok-tree.tree.frontier) c.args.targets.now c.in_ok-ways.ways.items start.0 c.requires.targets c.in_ok-ways.ensures.ways start.2,
     )
 
 pub returns-clause-rows : goal.returns-clause-rows
-returns-clause-rows g c = subst AreRows (sym c.in_ok-seen.ensures) (rows _ c.in_ok-tree.tree.steps.items c.in_ok-tree.ensures.tree.grown)
+returns-clause-rows g c = rows _ c.in_ok-tree.tree.steps.items c.in_ok-tree.ensures.tree.grown
 
 pub returns-clause-copies : goal.returns-clause-copies
-returns-clause-copies g c = subst (All (IsKept (kept_of c.new-2.new.rows))) (sym c.in_ok-seen.ensures) (all_seen (IsKept (kept_of c.new-2.new.rows)) c.in_ok-tree.tree.steps.items c.in_ok-tree.ensures.copies)
+returns-clause-copies g c = all_seen (IsKept (kept_of c.new-2.new.rows)) c.in_ok-tree.tree.steps.items c.in_ok-tree.ensures.copies
