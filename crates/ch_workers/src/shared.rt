@@ -8,7 +8,12 @@ use ch_estimate::Estimator;
 use ch_multiqueue::MultiQueue;
 use ch_rowbook::Reader;
 use std::alloc::{AllocError, Global};
-use std::sync::{Mutex, Wait};
+use std::hint;
+use std::sync::{Mutex, MutexGuard, Wait};
+
+/// How often a thread tries a lock that another one holds, before it sleeps until the lock is free. A commit takes less
+/// time than to sleep and to be woken does.
+const TRIES: u32 = 1000;
 
 /// What the workers of a build share: the board behind its lock, the queue of the nodes that wait, and the options.
 #[derive(Drop)]
@@ -51,6 +56,17 @@ impl<S: Site> Shared<S> {
         (board.into_inner(), queue)
     }
 
+    /// The board behind its lock, which is tried for a while and then waited for.
+    fn hold<R: Wait>(&self, rt: &R) -> MutexGuard<'_, Board<S>> {
+        'tries: for _ in 0..TRIES {
+            if let Some(board) = self.board.try_lock() {
+                return board;
+            }
+            hint::spin_loop();
+        }
+        self.board.lock(rt)
+    }
+
     /// Commits a proposal that was made by a reader of the board's book, and lets this reader see what changed, under
     /// one hold of the board's lock.
     pub(crate) fn commit<R: Wait>(
@@ -62,7 +78,7 @@ impl<S: Site> Shared<S> {
         requires of_book { All (IsOfBook S.book) proposal.rests_on }
         requires bound { proposal.bound ≡ S.book.bound }
     {
-        self.board.lock(rt).commit_and_see(rt, proposal, reader)
+        self.hold(rt).commit_and_see(rt, proposal, reader)
     }
 
     /// Tells a listener the entry of this rank, which is its next, by a copy. False where it was told all.
@@ -95,7 +111,7 @@ impl<S: Site> Shared<S> {
         ensures few { IfOk result (λ found. IsTrue found → copy.new.rank < 2 ^ 25) }
         ensures rising { IfOk result (λ found. IsTrue found → AllPairs (λ x y. x < y) copy.new.neighbours) }
     {
-        let board = self.board.lock(rt);
+        let board = self.hold(rt);
         match board.log().get(rank as usize) {
             Some(entry) => {
                 copy_to(entry, copy)?;
