@@ -10,7 +10,7 @@ use Rattle.grfile.specs.Outcome.{FromText}
 use Rattle.grfile.specs.declared.error.GrError.{GrError}
 use Rattle.grfile.specs.Reading.{IsPair, graph_of, pairs_of}
 use Rattle.ch_service.specs.Answer.{Route, IsAnswer, AreAnswers, nothing, one_more, IsLeastWalk, Answered, Answers, AnswersFirst}
-use Rattle.ch_service.specs.Outcome.{IfTold, Writes, IsFaultOf, IsRoutingFault, StopsShort, ComesOfTexts, ComesOfRouting, ComesOfAnswering}
+use Rattle.ch_service.specs.Outcome.{IfTold, IfTextFault, Writes, IsFaultOf, IsRoutingFault, StopsShort, ComesOfTexts, ComesOfRouting, ComesOfAnswering}
 use Rattle.ch_unpack.specs.declared.error.UnpackError.TheVariants as unpacking
 use Rattle.ch_service.specs.Route.{Spells, IsRouteBy, Routed, StopsAtTooLong, Routes, RoutesFirst, RoutesToTooLong, RightRoutesAreLeast}
 use Rattle.ch_workers.specs.declared.error.BuildError.{BuildError}
@@ -137,6 +137,17 @@ routing-kind OutOfMemory f = tt
 pub routing-kinds : (r : Result ⊤ ServiceError) → IfErr r ComesOfAnswering → IfErr r ComesOfRouting
 routing-kinds (Ok x) f = tt
 routing-kinds (Err e) f = routing-kind e f
+
+-- nor is it a fault of a text
+pub no_text_fault : (P Q : GrError → Type 0) (r : Result ⊤ ServiceError) → IfErr r ComesOfAnswering → IfErr r (IfTextFault P Q)
+no_text_fault P Q (Ok x) f = tt
+no_text_fault P Q (Err (GraphFault fault)) f = absurd f
+no_text_fault P Q (Err (Queries fault)) f = absurd f
+no_text_fault P Q (Err (HierarchyFault e)) f = tt
+no_text_fault P Q (Err (Build e)) f = tt
+no_text_fault P Q (Err (Unpack e)) f = tt
+no_text_fault P Q (Err (Write fault)) f = tt
+no_text_fault P Q (Err OutOfMemory) f = tt
 
 -- answers by a hierarchy that is right for the graph that the reader told
 pub answers-told : RouteIsLeast → (g : Graph) (h : Hierarchy) (pairs : List (ℕ × ℕ)) (gr queries old new : Option (List ℕ)) (r : Result ⊤ ServiceError) → IfSome gr (λ text. graph_of text ≡ Ok g) → IfSome queries (λ text. pairs_of g.nodes text ≡ Ok pairs)

@@ -5,6 +5,7 @@ use Rattle.ch_graph.specs.Graph.{Graph}
 use Rattle.ch_graph.specs.Hierarchy.{Hierarchy}
 use Rattle.grfile.specs.Outcome.{FromText}
 use Rattle.grfile.specs.Reading.{graph_of, pairs_of}
+use Rattle.grfile.specs.declared.error.GrError.{GrError}
 use Rattle.grfile.specs.declared.error.GrErrorKind.TheVariants.{Read}
 use Rattle.hierfile.specs.Bytes.{OfBytes}
 use Rattle.hierfile.specs.Fault.{first_fault}
@@ -93,6 +94,12 @@ abbrev pub ComesOfRouting : ServiceError → Type 0
 ComesOfRouting (GraphFault fault) = ⊥
 ComesOfRouting (Build e) = ⊥
 ComesOfRouting e = ⊤
+
+-- these facts of a fault, where a refusal is one of the graph's text or one of the pairs'
+abbrev pub IfTextFault : (GrError → Type 0) → (GrError → Type 0) → ServiceError → Type 0
+IfTextFault P Q (GraphFault fault) = P fault
+IfTextFault P Q (Queries fault) = Q fault
+IfTextFault P Q e = ⊤
 
 -- where what is read is at fault, or nothing is built, nothing is written
 abbrev pub KeepsAtFault : Option (List ℕ) → Option (List ℕ) → ServiceError → Type 0

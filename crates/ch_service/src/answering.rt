@@ -1,7 +1,8 @@
 ghost use Rattle.std.specs.Prelude.{◌≡◌, ◌↔◌, [], All, OnOk, IfErr, IfSome, vec_len};
+ghost use Rattle.grfile.specs.Taken.{StopsAtReached};
 ghost use Rattle.ch_service.specs.Answer.{Answers, AnswersFirst};
 ghost use Rattle.ch_service.specs.Joined.{graph_part, pairs_part};
-ghost use Rattle.ch_service.specs.Outcome.{IfTold, Writes, ComesOfTexts, IsFaultOf, IsFaultOfJoined, KeepsAtFault, StopsShort};
+ghost use Rattle.ch_service.specs.Outcome.{IfTold, IfTextFault, Writes, ComesOfTexts, IsFaultOf, IsFaultOfJoined, KeepsAtFault, StopsShort};
 ghost use Rattle.ch_service.specs.declared.error.ServiceError.TheVariants.{Build};
 ghost use Rattle.ch_workers.specs.Options.{AreBad, AreGood};
 ghost use Rattle.ch_workers.specs.declared.error.BuildError.{BuildError};
@@ -50,6 +51,8 @@ pub fn answer<G: Read, Q: Read, W: Write, P: Gate, R: Threads + Wait + Sync>(
     ensures kinds { IfErr result ComesOfTexts }
     ensures fault { IfErr result (λ e. IfTold (G.remaining gr.old) (Q.remaining queries.old)
         (λ graph pairs. IsFaultOf graph pairs e)) }
+    ensures reached { IfErr result (IfTextFault (StopsAtReached (G.remaining gr.old) (G.remaining gr.new))
+        (StopsAtReached (Q.remaining queries.old) (Q.remaining queries.new))) }
     ensures untouched { IfErr result (KeepsAtFault (W.contents out.old) (W.contents out.new)) }
     ensures stops { IfErr result (λ e. IfTold (G.remaining gr.old) (Q.remaining queries.old)
         (λ graph pairs. StopsShort (AnswersFirst graph pairs) (λ _. ⊥) (W.contents out.old) (W.contents out.new) e)) }

@@ -1,4 +1,4 @@
-ghost use Rattle.std.specs.Prelude.{◌≡◌, ℕ, [], List, OnOk, IfErr};
+ghost use Rattle.std.specs.Prelude.{◌≡◌, ◌<◌, ◌^◌, ℕ, [], List, OnOk, IfErr, length};
 ghost use Rattle.counted_io.specs.Handing.{HandsOn};
 
 use counted_io::{MOST_CALLS, WriteCalls, WriteFault};
@@ -32,6 +32,7 @@ impl Output {
     /// Hands the lines to the writer where there are many of them.
     pub fn hand_over_if_many<W: Write>(&mut self, out: &mut W) -> Result<(), WriteFault>
         ensures ok { OnOk result (HandsOn (W.contents out.old) (W.contents out.new) self.old.lines.items self.new.lines.items self.old.calls.written self.new.calls.written) }
+        ensures few { OnOk result (length self.new.lines.items < 2 ^ 16) }
         ensures err { IfErr result (λ fault. (rest : List ℕ) × HandsOn (W.contents out.old) (W.contents out.new) self.old.lines.items rest self.old.calls.written fault.written) }
     {
         if self.lines.len() < PIECE {

@@ -76,7 +76,8 @@ fn perform_files<R: Files + AllocGlobal + Threads + Wait + Sync, W: io::Write, E
     out: &mut W,
     err: &mut E,
 ) -> u8
-    ensures { IsStatusOf job.now result }
+    ensures status { IsStatusOf job.now result }
+    ensures quiet { result ≡ 0 → err.new ≡ err.old }
 {
     match (fs::open(rt, first), fs::open(rt, second)) {
         (Ok(mut first), Ok(mut second)) => {
@@ -95,7 +96,8 @@ fn prepare_file<R: Files + AllocGlobal + Threads + Wait + Sync, W: io::Write, E:
     out: &mut W,
     err: &mut E,
 ) -> u8
-    ensures { IsStatusOf job.now result }
+    ensures status { IsStatusOf job.now result }
+    ensures quiet { result ≡ 0 → err.new ≡ err.old }
 {
     let mut nothing: &[u8] = b"";
     match fs::open(rt, graph) {
@@ -110,7 +112,9 @@ fn words<R: Env + AllocGlobal>(rt: &R) -> io::Result<Vec<String>> {
 }
 
 // The status where the words can't be taken.
-fn refuse_words<E: io::Write>(error: &io::Error, err: &mut E) -> u8 {
+fn refuse_words<E: io::Write>(error: &io::Error, err: &mut E) -> u8
+    ensures { (result ≡ 2) ⊎ (result ≡ 6) }
+{
     if error.kind() == ErrorKind::OutOfMemory {
         return end(6, "memory", err);
     }

@@ -1,6 +1,6 @@
 use Rattle.std.proofs.Common.{rules, subst}
 use Rattle.ch_graph.specs.Graph.{Graph, IsGraph}
-use Rattle.ch_service.proofs.ByWalks.{answers-told, stops-answered, fault-answering, texts-kinds, fault-answered, pairs_refused}
+use Rattle.ch_service.proofs.ByWalks.{answers-told, stops-answered, fault-answering, texts-kinds, fault-answered, no_text_fault, pairs_refused}
 use Rattle.ch_service.proofs.FromBuild.{built-good}
 use Rattle.ch_service.proofs.answering.answer.Goals as goal
 
@@ -37,3 +37,6 @@ returns-clause-kinds g c =
 
 pub returns-clause-good : goal.returns-clause-good
 returns-clause-good g c = built-good c.build.result _ _ _ c.answer_pairs.result c.in_ok-hierarchy.was c.build.ensures.bad
+
+pub returns-clause-reached : goal.returns-clause-reached
+returns-clause-reached g c = no_text_fault _ _ c.answer_pairs.result c.answer_pairs.ensures.fault

@@ -16,6 +16,9 @@ returns-in_err-write-clause-broken g c =
 pub returns-in-Err-clause-fault : goal.returns-in-Err-clause-fault
 returns-in-Err-clause-fault g c = fault-prepared _ c.in-Err.fault c.refuse.result (search rules) c.refuse.ensures
 
+pub returns-in-Err-clause-reached : goal.returns-in-Err-clause-reached
+returns-in-Err-clause-reached g c = rw c.refuse.ensures c.in-Err.ensures.reached
+
 pub returns-in-Err-clause-bad : goal.returns-in-Err-clause-bad
 returns-in-Err-clause-bad g c e is = absurd (graph_refused c.refuse.result c.in-Err.fault e c.refuse.ensures is)
 

@@ -1,5 +1,5 @@
 use Rattle.std.proofs.Common.{rules}
-use Rattle.ch_service.proofs.ByWalks.{routes-told, stops-told, fault-told, fault-routed, routing-kinds}
+use Rattle.ch_service.proofs.ByWalks.{routes-told, stops-told, fault-told, fault-routed, no_text_fault, routing-kinds}
 use Rattle.ch_service.proofs.Exact.{exact-told, never_long-told}
 use Rattle.ch_service.proofs.routing.route.Goals as goal
 
@@ -31,3 +31,6 @@ pub returns-in_err-pairs-clause-fault : goal.returns-in_err-pairs-clause-fault
 returns-in_err-pairs-clause-fault g c =
     fault-routed c.in_ok-hierarchy.hierarchy _ _ c.read_queries.result c.map_err-2.result c.in_err-pairs.field-0.0 c.from_residual-in_err-pairs.result (search rules) (search rules) c.map_err-2.ensures.cases c.in_err-pairs.was
     c.from_residual-in_err-pairs.ensures.1
+
+pub returns-clause-reached : goal.returns-clause-reached
+returns-clause-reached g c = no_text_fault _ _ c.answer_pairs.result c.answer_pairs.ensures.fault
