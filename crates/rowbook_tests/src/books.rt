@@ -1,12 +1,12 @@
 ghost use Rattle.std.specs.Prelude.{◌≡◌, length, map};
 ghost use Rattle.std.specs.Arc.{arc_value};
 ghost use Rattle.ch_overlay.specs.Source.{IsBound};
+ghost use Rattle.ch_overlay.specs.Records.{AreSoundRows};
 ghost use Rattle.ch_rowbook.specs.Blanks.{name_of};
-ghost use Rattle.ch_rowbook.specs.Records.{AreSoundRows};
 
 use crate::kit::{Entries, are, are_sound, bound, is_sound, row};
-use ch_overlay::{Row, RowSource, SeeError};
-use ch_rowbook::{Blank, Book, Pen, Reader, SeenRecord, open};
+use ch_overlay::{Row, RowSource, SeeError, Seen};
+use ch_rowbook::{Blank, Book, Pen, Reader, open};
 use std::alloc::Global;
 use std::marker::Brand;
 use std::sync::{Arc, Wait};
@@ -23,8 +23,8 @@ const ROWS: [(Entries<'static>, Entries<'static>); 3] = [
 const LATER: Entries<'static> = &[(2, 5)];
 
 /// Whether an answer is of this node and has these entries.
-fn shows(seen: &SeenRecord, node: u32, out: Entries<'_>, inn: Entries<'_>) -> bool {
-    seen.seen.node == node && are(&seen.seen.row.out, out) && are(&seen.seen.row.inn, inn)
+fn shows(seen: &Seen, node: u32, out: Entries<'_>, inn: Entries<'_>) -> bool {
+    seen.node == node && are(&seen.row.out, out) && are(&seen.row.inn, inn)
 }
 
 /// A row, which has to be one that can be relied on, is read back where it was written, and only once it is shown.
@@ -54,10 +54,10 @@ fn is_read_back<B: Book, R: Wait>(
     Ok(
         shows(&opening, 1, ROWS[1].0, &[])
             && shows(&before, 1, ROWS[1].0, &[])
-            && before.seen.version == opening.seen.version
-            && version > opening.seen.version
+            && before.version == opening.version
+            && version > opening.version
             && shows(&after, 1, LATER, &[])
-            && after.seen.version == version
+            && after.version == version
             && again == version
             && pen.version(1) == version
             && shows(&own, 1, LATER, &[]),

@@ -3,7 +3,7 @@ ghost use Rattle.std.specs.Arc.{arc_value};
 ghost use Rattle.ch_laws.specs.Rows.{Rises};
 ghost use Rattle.ch_overlay.specs.Overlay.{IsEntry};
 ghost use Rattle.ch_overlay.specs.Source.{IsBound};
-ghost use Rattle.ch_rowbook.specs.Records.{AreSoundRows, IsSoundRow};
+ghost use Rattle.ch_overlay.specs.Records.{AreSoundRows, IsSoundRow};
 
 use ch_cost::Cost;
 use ch_overlay::{Entry, Row};

@@ -4,8 +4,8 @@ ghost use Rattle.ch_rowbook.specs.Blanks.{name_of};
 
 use crate::kit::{are, are_sound, bound, is_sound, row};
 use ch_cost::Cost;
-use ch_overlay::{Row, SeeError};
-use ch_rowbook::{Blank, Book, BookError, Pen, Reader, SeenRecord, open};
+use ch_overlay::{Row, SeeError, Seen};
+use ch_rowbook::{Blank, Book, BookError, Pen, Reader, open};
 use std::alloc::{AllocError, Global};
 use std::marker::Brand;
 use std::sync::atomic::{AtomicU64, Ordering};
@@ -105,7 +105,7 @@ fn read_rows<B: Book>(
     alloc: Global,
     reader: &mut Reader<B>,
     signals: &Signals,
-) -> Result<Vec<SeenRecord>, SeeError> {
+) -> Result<Vec<Seen>, SeeError> {
     let mut seen = Vec::new(alloc);
     for round in 0..ROUNDS {
         for node in 0..NODES {
@@ -122,24 +122,22 @@ fn read_rows<B: Book>(
 }
 
 /// Whether what was read is what was written at its version.
-fn was_written(log: &[Written], read: &SeenRecord) -> bool {
-    let version = read.seen.version;
+fn was_written(log: &[Written], read: &Seen) -> bool {
+    let version = read.version;
     let Ok(place) = log.binary_search_by_key(&version, |written| written.version) else {
         return false;
     };
     let Written { node, weight, .. } = log[place];
-    (read.seen.node == node)
-        & are(&read.seen.row.out, &[(next(node), weight)])
-        & read.seen.row.inn.is_empty()
+    (read.node == node) & are(&read.row.out, &[(next(node), weight)]) & read.row.inn.is_empty()
 }
 
 /// Whether all that was read was written.
-fn were_written(log: &[Written], read: &[SeenRecord]) -> bool {
+fn were_written(log: &[Written], read: &[Seen]) -> bool {
     read.iter().all(|read| was_written(log, read))
 }
 
 /// Whether all that was read are the rows that were written last.
-fn were_written_last(log: &[Written], read: &[SeenRecord]) -> bool {
+fn were_written_last(log: &[Written], read: &[Seen]) -> bool {
     if log.len() < 3 {
         return false;
     }

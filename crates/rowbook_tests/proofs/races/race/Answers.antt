@@ -2,7 +2,7 @@ use Rattle.std.specs.Prelude.{map}
 use Rattle.std.proofs.Common.{subst, sym}
 use Rattle.std.specs.Arc.{arc_value}
 use Rattle.ch_cost.specs.declared.cost.Cost.{Cost}
-use Rattle.ch_rowbook.specs.Records.{AreSoundRows}
+use Rattle.ch_overlay.specs.Records.{AreSoundRows}
 use Rattle.rowbook_tests.proofs.races.race.Goals as goal
 
 -- the blank's bound is the one that the rows were looked at with
