@@ -1,15 +1,19 @@
 ghost use Rattle.std.specs.Prelude.{◌≡◌};
+ghost use Rattle.ch_graph.specs.Graph.{bound_of};
+ghost use Rattle.ch_rowbook.specs.Blanks.{name_of};
 
-use crate::networks::{HEAVY, Line, MOST, PARALLEL, ROW, TIE, graph_of};
+use crate::networks::{HEAVY, Line, MOST, PARALLEL, ROW, TIE, blank_of, graph_of};
 use crate::proposals::{are_of, are_shortcuts};
 use crate::shelf::Arcs;
 use ch_contract::{
-    Board, CommitError, Contraction, FinishError, Proposal, ProposeError, Receipt, Site, propose,
+    Board, CommitError, Contraction, FinishError, ProposeError, Receipt, Site, propose,
 };
 use ch_cost::Cost;
 use ch_graph::{Graph, Hierarchy, Link, Road};
+use ch_rowbook::{Blank, Reader};
 use std::alloc::Global;
 use std::marker::Brand;
+use std::sync::Wait;
 use std::test::Fail;
 
 /// How many nodes each search settles at most.
@@ -178,20 +182,29 @@ const CASES: [Case; 8] = [
 ];
 
 /// Whether a board of the graph answers the offers, and the sweep and the hierarchy are those of the case.
-fn comes_to<S: Site>(alloc: Global, graph: Graph, case: Case) -> Result<bool, Fail>
-    requires named { S.graph ≡ graph }
+fn comes_to<S: Site, R: Wait>(
+    rt: &R,
+    alloc: Global,
+    blank: Blank,
+    graph: Graph,
+    case: Case,
+) -> Result<bool, Fail>
+    requires of_graph { S.graph ≡ graph }
+    requires of_book { S.book ≡ name_of blank }
+    requires nodes { blank.nodes ≡ graph.nodes }
+    requires bound { blank.bound ≡ bound_of graph }
 {
-    let mut board: Board<S> = Board::new(alloc, graph)?;
+    let (mut board, _): (Board<S>, Reader<S>) = Board::new(rt, alloc, blank, graph)?;
     let mut holds = true;
     for offers in case.turns {
-        holds &= answers(alloc, &mut board, offers)?;
+        holds &= answers(rt, alloc, &mut board, offers)?;
     }
     let contracted = board.log().len() as u32;
     for node in 0..contracted {
         holds &= refuses(alloc, &mut board, node, ProposeError::Contracted);
     }
     holds &= refuses(alloc, &mut board, case.nodes, ProposeError::Unseen);
-    let receipts = board.sweep(SETTLE)?;
+    let receipts = board.sweep(rt, SETTLE)?;
     holds &= in_order(&receipts, contracted) & is_log(board.log(), case);
     match board.into_hierarchy() {
         Ok(hierarchy) => Ok(holds & is_hierarchy(&hierarchy, case)),
@@ -200,17 +213,22 @@ fn comes_to<S: Site>(alloc: Global, graph: Graph, case: Case) -> Result<bool, Fa
 }
 
 /// Whether the proposals by the rows as they are, and then the board's answers to them, are as expected.
-fn answers<S: Site>(alloc: Global, board: &mut Board<S>, offers: &[Offer]) -> Result<bool, Fail> {
-    let mut proposals = Vec::new(alloc);
-    for (node, ..) in offers {
-        proposals.push(propose(alloc, board, *node, SETTLE)?)?;
-    }
-    let mut holds = true;
-    for (proposal, (_, rows, shortcuts, answer)) in proposals.into_iter().zip(offers) {
-        holds &= are_of(proposal.rests_on(), rows);
-        holds &= are_shortcuts(proposal.shortcuts(), shortcuts);
-        holds &= board.commit(proposal) == *answer;
-    }
+///
+/// An offer is worked out before those in front of it are, and committed after them.
+fn answers<S: Site, R: Wait>(
+    rt: &R,
+    alloc: Global,
+    board: &mut Board<S>,
+    offers: &[Offer],
+) -> Result<bool, Fail> {
+    let Some(((node, rows, shortcuts, answer), before)) = offers.split_last() else {
+        return Ok(true);
+    };
+    let proposal = propose(alloc, board, *node, SETTLE)?;
+    let mut holds = answers(rt, alloc, board, before)?;
+    holds &= are_of(proposal.rests_on(), rows);
+    holds &= are_shortcuts(proposal.shortcuts(), shortcuts);
+    holds &= board.commit(rt, proposal) == *answer;
     Ok(holds)
 }
 
@@ -263,56 +281,25 @@ fn boards_come_to_their_hierarchies(rt: HostRuntime) -> Result<(), Fail> {
     let alloc = rt.alloc();
     for case in CASES {
         let graph = graph_of(alloc, case.nodes, case.lines)?;
-        assert!(rt; comes_to::<Brand>(alloc, graph, case)?);
-    }
-    Ok(())
-}
-
-/// The row of three nodes with another weight, which leaves the bound as it is.
-const OTHER_ROW: [Line; 2] = [(1, 0, 3), (0, 2, 3)];
-
-/// A proposal of node 0 by the opening rows.
-fn opening_proposal<S: Site>(alloc: Global, graph: Graph) -> Result<Proposal, Fail>
-    requires named { S.graph ≡ graph }
-{
-    let mut board: Board<S> = Board::new(alloc, graph)?;
-    Ok(propose(alloc, &mut board, 0, SETTLE)?)
-}
-
-/// What a board of the graph answers to a proposal, and how many entries its log has then.
-fn answer_to<S: Site>(
-    alloc: Global,
-    graph: Graph,
-    proposal: Proposal,
-) -> Result<(Result<Receipt, CommitError>, usize), Fail>
-    requires named { S.graph ≡ graph }
-{
-    let mut board: Board<S> = Board::new(alloc, graph)?;
-    let answer = board.commit(proposal);
-    Ok((answer, board.log().len()))
-}
-
-/// A proposal by the rows of one board, for a board of another graph of the same bound, and of the same graph.
-#[test]
-fn another_board(rt: HostRuntime) -> Result<(), Fail> {
-    let alloc = rt.alloc();
-    for (lines, answer, entries) in [
-        (OTHER_ROW, Err(CommitError::Broken), 0usize),
-        (ROW, Ok(Receipt { node: 0, rank: 0 }), 1),
-    ] {
-        let proposal = opening_proposal::<Brand>(alloc, graph_of(alloc, 3, &ROW)?)?;
-        assert!(rt; are_of(proposal.rests_on(), &[0, 1]));
-        let found = answer_to::<Brand>(alloc, graph_of(alloc, 3, &lines)?, proposal)?;
-        assert!(rt; found.0 == answer && found.1 == entries);
+        let blank = blank_of(alloc, &graph)?;
+        assert!(rt; comes_to::<Brand, HostRuntime>(&rt, alloc, blank, graph, case)?);
     }
     Ok(())
 }
 
 /// Whether a fresh board of the row of three nodes is handed back, as it was, in place of a hierarchy.
-fn has_nodes_left<S: Site>(alloc: Global, graph: Graph) -> Result<bool, Fail>
-    requires named { S.graph ≡ graph }
+fn has_nodes_left<S: Site, R: Wait>(
+    rt: &R,
+    alloc: Global,
+    blank: Blank,
+    graph: Graph,
+) -> Result<bool, Fail>
+    requires of_graph { S.graph ≡ graph }
+    requires of_book { S.book ≡ name_of blank }
+    requires nodes { blank.nodes ≡ graph.nodes }
+    requires bound { blank.bound ≡ bound_of graph }
 {
-    let board: Board<S> = Board::new(alloc, graph)?;
+    let (board, _): (Board<S>, Reader<S>) = Board::new(rt, alloc, blank, graph)?;
     match board.into_hierarchy() {
         Ok(_) => Ok(false),
         Err((back, error)) => Ok((error == FinishError::NodesLeft) & is_fresh(&back)),
@@ -330,6 +317,8 @@ fn is_fresh<S: Site>(board: &Board<S>) -> bool {
 #[test]
 fn nodes_left(rt: HostRuntime) -> Result<(), Fail> {
     let alloc = rt.alloc();
-    assert!(rt; has_nodes_left::<Brand>(alloc, graph_of(alloc, 3, &ROW)?)?);
+    let graph = graph_of(alloc, 3, &ROW)?;
+    let blank = blank_of(alloc, &graph)?;
+    assert!(rt; has_nodes_left::<Brand, HostRuntime>(&rt, alloc, blank, graph)?);
     Ok(())
 }

@@ -1,5 +1,9 @@
+ghost use Rattle.std.specs.Prelude.{◌≡◌, IfOk};
+ghost use Rattle.ch_graph.specs.Graph.{bound_of};
+
 use ch_graph::{Graph, Road};
-use std::alloc::Global;
+use ch_rowbook::Blank;
+use std::alloc::{AllocError, Global};
 use std::test::Fail;
 
 /// An arc: its two nodes, and its weight.
@@ -32,4 +36,12 @@ pub fn graph_of(alloc: Global, nodes: u32, lines: &[Line]) -> Result<Graph, Fail
     }
     let graph = Graph::checked(nodes, roads)?;
     Ok(graph)
+}
+
+/// A blank book for the rows of this graph.
+pub fn blank_of(alloc: Global, graph: &Graph) -> Result<Blank, AllocError>
+    ensures nodes { IfOk result (λ blank. blank.nodes ≡ graph.now.nodes) }
+    ensures bound { IfOk result (λ blank. blank.bound ≡ bound_of graph.now) }
+{
+    Blank::new(alloc, graph.nodes(), graph.bound())
 }

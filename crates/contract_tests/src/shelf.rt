@@ -133,6 +133,7 @@ impl Shelf {
             node,
             version: u64::from(node),
             row: Arc::try_clone(row)?,
+            token: None,
         })
     }
 }

@@ -1,4 +1,9 @@
+use Rattle.ch_rowbook.specs.Blanks.{name_of}
 use Rattle.contract_tests.proofs.boards.boards_come_to_their_hierarchies.Given as goal
 
-abbrev pub ghosts-comes_to : goal.ghosts-comes_to
-ghosts-comes_to g a = record { graph = a.graph }
+-- the book is the blank's, and the graph the one that is handed over
+abbrev pub ghosts-comes_to-S-Book : goal.ghosts-comes_to-S-Book
+ghosts-comes_to-S-Book g a = record { book = name_of a.blank }
+
+abbrev pub ghosts-comes_to-S-Site : goal.ghosts-comes_to-S-Site
+ghosts-comes_to-S-Site g a = record { graph = a.graph }

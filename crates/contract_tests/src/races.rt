@@ -1,0 +1,231 @@
+//! Threads that read the rows of a board's book, while another contracts its nodes.
+ghost use Rattle.std.specs.Prelude.{◌≡◌};
+ghost use Rattle.ch_graph.specs.Graph.{bound_of};
+ghost use Rattle.ch_rowbook.specs.Blanks.{name_of};
+
+use crate::networks::blank_of;
+use ch_contract::{Board, Scratch, Site, propose_with};
+use ch_graph::{Graph, Road};
+use ch_overlay::{Row, SeeError, Seen};
+use ch_rowbook::{Blank, Reader};
+use std::alloc::{AllocError, Global};
+use std::marker::Brand;
+use std::sync::atomic::{AtomicU64, Ordering};
+use std::sync::{Arc, Wait};
+use std::test::Fail;
+use std::thread;
+use std::thread::Threads;
+
+/// The nodes of a row of the grid.
+const WIDTH: u32 = 4;
+
+/// The nodes of the grid, row by row.
+const NODES: u32 = 3_000;
+
+/// How many nodes each search settles at most.
+const SETTLE: u32 = 16;
+
+/// How often a reader reads all rows at most.
+const ROUNDS: u32 = 1_000_000;
+
+/// How often it is looked at most whether the readers have begun.
+const LOOKS: u32 = 10_000_000;
+
+/// A row that became current.
+#[derive(Drop)]
+struct Written {
+    node: u32,
+    version: u64,
+    row: Arc<Row>,
+}
+
+/// How many readers have begun, and whether all nodes are contracted.
+#[derive(Drop)]
+struct Signals {
+    begun: AtomicU64,
+    ended: AtomicU64,
+}
+
+/// Roads both ways between nodes that are next to one another.
+fn grid(alloc: Global) -> Result<Vec<Road>, AllocError> {
+    let mut roads = Vec::new(alloc);
+    for from in 0..NODES {
+        for to in [from + 1, from + WIDTH] {
+            let wraps = (to == from + 1) & (to % WIDTH == 0);
+            if (to < NODES) & !wraps {
+                let weight = 1 + from % 7;
+                roads.push(Road { from, to, weight })?;
+                let (from, to) = (to, from);
+                roads.push(Road { from, to, weight })?;
+            }
+        }
+    }
+    Ok(roads)
+}
+
+/// Waits until both readers have begun.
+fn wait_for_readers(signals: &Signals) {
+    for _ in 0..LOOKS {
+        if signals.begun.load(Ordering::SeqCst) == 2 {
+            return;
+        }
+        thread::yield_now();
+    }
+}
+
+/// Puts the row that the board has of a node behind the others.
+fn note<S: Site>(log: &mut Vec<Written>, board: &Board<S>, node: u32) -> Option<()> {
+    let overlay = board.overlay();
+    if node >= overlay.nodes() {
+        return None;
+    }
+    let row = Arc::try_clone(overlay.row(node)).ok()?;
+    let version = overlay.version(node);
+    log.push(Written { node, version, row }).ok()
+}
+
+/// Contracts a node by what a reader finds, and puts the rows that changed behind the others.
+fn contract<S: Site, R: Wait>(
+    rt: &R,
+    alloc: Global,
+    board: &mut Board<S>,
+    reader: &mut Reader<S>,
+    scratch: &mut Scratch,
+    node: u32,
+    log: &mut Vec<Written>,
+) -> Option<()> {
+    let proposal = propose_with(alloc, reader, scratch, node, SETTLE).ok()?;
+    board.commit_and_see(rt, proposal, reader).ok()?;
+    note(log, board, node)?;
+    let last = board.log().last()?;
+    for neighbour in &last.neighbours {
+        note(log, board, *neighbour)?;
+    }
+    Some(())
+}
+
+/// Contracts all nodes, once the readers have begun. The rows that were ever current, by their versions.
+fn contract_all<S: Site, R: Wait>(
+    rt: &R,
+    alloc: Global,
+    board: &mut Board<S>,
+    reader: &mut Reader<S>,
+    signals: &Signals,
+) -> Option<Vec<Written>> {
+    let mut scratch = Scratch::new(alloc);
+    let mut log = Vec::new(alloc);
+    for node in 0..NODES {
+        note(&mut log, board, node)?;
+    }
+    wait_for_readers(signals);
+    for node in 0..NODES {
+        contract(rt, alloc, board, reader, &mut scratch, node, &mut log)?;
+    }
+    Some(log)
+}
+
+/// Reads all rows. Keeps those whose version isn't the one that was last found.
+fn read_once<S: Site>(
+    reader: &mut Reader<S>,
+    found: &mut [u64],
+    kept: &mut Vec<Seen>,
+) -> Result<(), SeeError> {
+    for (node, last) in (0u32..).zip(found) {
+        let seen = reader.read(node)?;
+        if seen.version != *last {
+            *last = seen.version;
+            kept.push(seen)?;
+        }
+    }
+    Ok(())
+}
+
+/// Reads all rows again and again until all nodes are contracted; what was read, but for what was read just before.
+fn read_rows<S: Site>(
+    alloc: Global,
+    reader: &mut Reader<S>,
+    signals: &Signals,
+) -> Result<Vec<Seen>, SeeError> {
+    let mut kept = Vec::new(alloc);
+    let mut found = vec![in alloc; u64::MAX; NODES as usize]?;
+    for round in 0..ROUNDS {
+        read_once(reader, found.as_mut_slice(), &mut kept)?;
+        if round == 0 {
+            signals.begun.fetch_add(1, Ordering::SeqCst);
+        }
+        if signals.ended.load(Ordering::SeqCst) == 1 {
+            break;
+        }
+    }
+    Ok(kept)
+}
+
+/// Whether what was read is the row of that node at that version.
+fn was_written(log: &[Written], seen: &Seen) -> bool {
+    let Some(written) = log.get(seen.version as usize) else {
+        return false;
+    };
+    (written.version == seen.version) & (written.node == seen.node) & written.row.is_same(&seen.row)
+}
+
+fn were_written(log: &[Written], seen: &[Seen]) -> bool {
+    seen.iter().all(|seen| was_written(log, seen))
+}
+
+/// Contracts all nodes of a grid while two threads read. Whether each row that was read is the one that was written
+/// at its version.
+fn race<S: Site + Send + Sync, R: Threads + Wait + Sync>(
+    rt: &R,
+    alloc: Global,
+    blank: Blank,
+    graph: Graph,
+) -> Result<bool, Fail>
+    requires of_graph { S.graph ≡ graph }
+    requires of_book { S.book ≡ name_of blank }
+    requires nodes { blank.nodes ≡ graph.nodes }
+    requires bound { blank.bound ≡ bound_of graph }
+{
+    let (mut board, mut own): (Board<S>, Reader<S>) = Board::new(rt, alloc, blank, graph)?;
+    let (mut first, mut second) = (own.split()?, own.split()?);
+    let signals = Signals {
+        begun: AtomicU64::new(0),
+        ended: AtomicU64::new(0),
+    };
+    let (log, (by_first, by_second)) = thread::join(
+        rt,
+        || {
+            let log = contract_all(rt, alloc, &mut board, &mut own, &signals);
+            signals.ended.store(1, Ordering::SeqCst);
+            log
+        },
+        || {
+            thread::join(
+                rt,
+                || read_rows(alloc, &mut first, &signals),
+                || read_rows(alloc, &mut second, &signals),
+            )
+        },
+    );
+    let (by_first, by_second) = (by_first?, by_second?);
+    let Some(log) = log else {
+        return Ok(false);
+    };
+    first.join(second);
+    let last = read_rows(alloc, &mut first, &signals)?;
+    let done = last.iter().all(|seen| seen.row.rank == Some(seen.node));
+    Ok(
+        done & (last.len() == NODES as usize)
+            & were_written(&log, &by_first)
+            & were_written(&log, &by_second)
+            & were_written(&log, &last),
+    )
+}
+
+#[test]
+fn readers_find_what_was_committed(rt: HostRuntime) -> Result<(), Fail> {
+    let alloc = rt.alloc();
+    let graph = Graph::checked(NODES, grid(alloc)?)?;
+    let blank = blank_of(alloc, &graph)?;
+    assert!(rt; race::<Brand, HostRuntime>(&rt, alloc, blank, graph)?);
+    Ok(())
+}

@@ -1,0 +1,96 @@
+//! What the readers of a board's book find.
+ghost use Rattle.std.specs.Prelude.{◌≡◌};
+ghost use Rattle.ch_graph.specs.Graph.{bound_of};
+ghost use Rattle.ch_rowbook.specs.Blanks.{name_of};
+
+use crate::networks::{ROW, blank_of, graph_of};
+use ch_contract::{Board, CommitError, Receipt, Site, propose};
+use ch_cost::Cost;
+use ch_graph::Graph;
+use ch_overlay::{Entry, SeeError, Seen};
+use ch_rowbook::{Blank, Reader};
+use std::alloc::Global;
+use std::marker::Brand;
+use std::sync::Wait;
+use std::test::Fail;
+
+/// Entries of a row: the other node, the weight and the middle of each.
+type Entries = &'static [(u32, u32, Option<u32>)];
+
+/// A row of the book: its version, its arcs out of the node and into it, and the node's rank.
+type Version = (u64, Entries, Entries, Option<u32>);
+
+/// The rows of the row of three nodes, by their nodes.
+const OPENING: [Version; 3] = [
+    (0, &[(2, 3, None)], &[(1, 2, None)], None),
+    (1, &[(0, 2, None)], &[], None),
+    (2, &[], &[(0, 3, None)], None),
+];
+
+/// Its rows once node 0 is contracted, which were laid behind the others.
+const LATER: [Version; 3] = [
+    (3, &[(2, 3, None)], &[(1, 2, None)], Some(0)),
+    (4, &[(2, 5, Some(0))], &[], None),
+    (5, &[], &[(1, 5, Some(0))], None),
+];
+
+fn are(entries: &[Entry], expected: Entries) -> bool {
+    entries.len() == expected.len()
+        && entries.iter().zip(expected).all(|(entry, (other, weight, middle))| {
+            (entry.other == *other)
+                & (entry.cost == Cost::of_weight(*weight))
+                & (entry.middle == *middle)
+        })
+}
+
+/// Whether an answer is of this node, and has this version and its row.
+fn is_of(seen: &Seen, node: u32, (version, out, inn, rank): Version) -> bool {
+    (seen.node == node)
+        & (seen.version == version)
+        & are(&seen.row.out, out)
+        & are(&seen.row.inn, inn)
+        & (seen.row.rank == rank)
+}
+
+/// Whether a reader finds these rows, and none besides.
+fn finds<S: Site>(reader: &mut Reader<S>, rows: [Version; 3]) -> Result<bool, SeeError> {
+    let mut holds = true;
+    for (node, row) in (0u32..).zip(rows) {
+        holds &= is_of(&reader.read(node)?, node, row);
+    }
+    Ok(holds & matches!(reader.read(3), Err(SeeError::Unseen)))
+}
+
+/// Proposes node 0 twice by what a reader of the board's book finds, and offers both. Whether the first proposal alone
+/// changes the rows that this reader finds, and another that was split off before.
+fn follows<S: Site, R: Wait>(
+    rt: &R,
+    alloc: Global,
+    blank: Blank,
+    graph: Graph,
+) -> Result<bool, Fail>
+    requires of_graph { S.graph ≡ graph }
+    requires of_book { S.book ≡ name_of blank }
+    requires nodes { blank.nodes ≡ graph.nodes }
+    requires bound { blank.bound ≡ bound_of graph }
+{
+    let (mut board, mut reader): (Board<S>, Reader<S>) = Board::new(rt, alloc, blank, graph)?;
+    let mut early = reader.split()?;
+    let mut holds = finds(&mut reader, OPENING)? & finds(&mut early, OPENING)?;
+    let first = propose(alloc, &mut reader, 0, 64)?;
+    let second = propose(alloc, &mut reader, 0, 64)?;
+    let taken = board.commit_and_see(rt, first, &mut reader);
+    holds &= taken == Ok(Receipt { node: 0, rank: 0 });
+    let again = board.commit_and_see(rt, second, &mut reader);
+    holds &= again == Err(CommitError::Contracted);
+    Ok(holds & finds(&mut reader, LATER)? & finds(&mut early, LATER)?)
+}
+
+#[test]
+fn readers_find_the_rows_of_a_board(rt: HostRuntime) -> Result<(), Fail> {
+    let alloc = rt.alloc();
+    let graph = graph_of(alloc, 3, &ROW)?;
+    let blank = blank_of(alloc, &graph)?;
+    assert!(rt; follows::<Brand, HostRuntime>(&rt, alloc, blank, graph)?);
+    Ok(())
+}
