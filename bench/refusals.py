@@ -4,9 +4,9 @@ node numbers follow the map, for 1, 2 and 4 workers and 2 and 4 heaps for each.
 
     bench/refusals.py [SIDE ..]        sides of the square networks, by default 100 256
 
-The program (bench/refusals/main.rt) is proved and built beside the repository's crates in a folder of its own, with `rt`.
+The program (bench/refusals) is proved and built with `rt` in a folder beside the repository, among links to its crates,
+which have to be proved already (`rt all check`).
 """
-import os
 import pathlib
 import subprocess
 import sys
@@ -16,22 +16,19 @@ ROOT = pathlib.Path(__file__).resolve().parent.parent
 
 
 def built(folder):
-    """The program, built in a copy of the repository whose crates are links to the real ones."""
-    (folder / "crates/refusals/src").mkdir(parents=True)
-    for crate in (ROOT / "crates").iterdir():
-        (folder / "crates" / crate.name).symlink_to(crate)
+    """The program, built among hard links to the repository's crates."""
+    subprocess.run(["cp", "-al", ROOT / "crates", folder], check=True)
+    subprocess.run(["cp", "-r", ROOT / "bench/refusals", folder / "crates"], check=True)
     lines = (ROOT / "crates.txt").read_text()
-    (folder / "crates.txt").write_text(lines + "refusals may_wait=9: ch_estimate ch_workers grfile\n")
+    (folder / "crates.txt").write_text(lines + "refusals may_wait=2: ch_estimate ch_workers grfile\n")
     (folder / "HANDLES").write_text((ROOT / "HANDLES").read_text())
-    source = (ROOT / "bench/refusals/main.rt").read_text()
-    (folder / "crates/refusals/src/main.rt").write_text(source)
     words = ["rt", "run", "--", "0"]
-    subprocess.run(words, cwd=folder / "crates/refusals", stdout=subprocess.DEVNULL, stderr=subprocess.DEVNULL)
+    subprocess.run(words, cwd=folder / "crates/refusals", stdout=subprocess.DEVNULL)
     return folder / "crates/refusals/out/refusals"
 
 
 def main():
-    with tempfile.TemporaryDirectory() as name:
+    with tempfile.TemporaryDirectory(dir=ROOT.parent) as name:
         folder = pathlib.Path(name)
         program = built(folder)
         for side in sys.argv[1:] or ["100", "256"]:

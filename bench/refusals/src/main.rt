@@ -1,11 +1,11 @@
 //! Contracts the nodes of a graph by workers and prints how often proposals were committed and refused:
-//! `refusals WORKERS HEAPS < GRAPH`. refusals.py builds and runs
-//! it.
+//! `refusals WORKERS HEAPS < GRAPH`. `bench/refusals.py` builds and runs it.
 #![tactic(auto)]
 
-ghost use Rattle.std.specs.Prelude.{◌≡◌, [], All, IfOk};
+ghost use Rattle.std.specs.Prelude.{◌≡◌, ◌∷◌, [], All, IfOk};
+ghost use Rattle.ch_estimate.specs.declared.lease.Lease.{Lease};
 
-use ch_estimate::{EdgeDifference, Estimator, Leases};
+use ch_estimate::{EdgeDifference, Estimator, Lease, Leases};
 use ch_workers::{Gate, Options, Point, build};
 use grfile::read_graph;
 use std::alloc::{AllocError, Global};
@@ -38,30 +38,30 @@ impl Gate for Counts {
     }
 }
 
-/// So many lists of one estimator, which prefers nodes whose contraction leaves the fewest arcs.
-fn lists_of(
+/// As many lists as are wanted, each of one thing that is made for a lease.
+fn a_list_each<T: Drop, F: Fn(Lease) -> Result<T, AllocError>>(
     alloc: Global,
     leases: &mut Leases,
     count: u32,
-) -> Result<Vec<Vec<Box<dyn Estimator + Send>>>, AllocError>
-    ensures { IfOk result (λ lists. All (λ list. All (λ estimator. heard estimator ≡ []) list.items) lists.items) }
+    make: F,
+) -> Result<Vec<Vec<T>>, AllocError>
+    requires callable { F.IsAlwaysCallable make }
+    ensures made { IfOk result (λ lists. All (λ list. All (λ thing. (lease : Lease) × F.post make lease (Ok thing)) list.items) lists.items) }
 {
     let mut lists = Vec::new(alloc);
     'lists: for _ in 0..count {
-        lists.push(list_of(alloc, leases)?)?;
+        let lease = leases.lease()?;
+        lists.push(list_of(alloc, make(lease)?)?)?;
     }
     Ok(lists)
 }
 
-fn list_of(
-    alloc: Global,
-    leases: &mut Leases,
-) -> Result<Vec<Box<dyn Estimator + Send>>, AllocError>
-    ensures { IfOk result (λ list. All (λ estimator. heard estimator ≡ []) list.items) }
+/// A list of one thing.
+fn list_of<T: Drop>(alloc: Global, thing: T) -> Result<Vec<T>, AllocError>
+    ensures { IfOk result (λ list. list.items ≡ thing ∷ []) }
 {
-    let mut list: Vec<Box<dyn Estimator + Send>> = Vec::new(alloc);
-    let lease = leases.lease()?;
-    list.push(Box::new(alloc, EdgeDifference::new(alloc, lease))?)?;
+    let mut list = Vec::new(alloc);
+    list.push(thing)?;
     Ok(list)
 }
 
@@ -89,7 +89,14 @@ fn count<R: Threads + Wait + Sync, F: io::Read>(
         refused: AtomicU64::new(0),
     };
     let mut leases = Leases::new(alloc)?;
-    let lists = lists_of(alloc, &mut leases, workers)?;
+    let lists = a_list_each(
+        alloc,
+        &mut leases,
+        workers,
+        |lease| -> Result<Box<dyn Estimator + Send>, AllocError>
+            ensures { IfOk result (λ estimator. heard estimator ≡ []) }
+        { Ok(Box::new(alloc, EdgeDifference::new(alloc, lease))?) },
+    )?;
     if build(rt, alloc, graph, options, lists, &mut leases, &counts).is_err() {
         return Err(AllocError);
     }
