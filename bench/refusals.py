@@ -4,7 +4,7 @@ node numbers follow the map, for 1, 2 and 4 workers and 2 and 4 heaps for each.
 
     bench/refusals.py [SIDE ..]        sides of the square networks, by default 100 256
 
-The program (bench/refusals) is proved and built with `rt` in a folder beside the repository, among links to its crates,
+The program (bench/refusals, whose files end in .in since no check of the repository reads them) is proved and built with `rt` in a folder beside the repository, among links to its crates,
 which have to be proved already (`rt all check`).
 """
 import pathlib
@@ -18,7 +18,10 @@ ROOT = pathlib.Path(__file__).resolve().parent.parent
 def built(folder):
     """The program, built among hard links to the repository's crates."""
     subprocess.run(["cp", "-al", ROOT / "crates", folder], check=True)
-    subprocess.run(["cp", "-r", ROOT / "bench/refusals", folder / "crates"], check=True)
+    for source in (ROOT / "bench/refusals").rglob("*.in"):
+        target = folder / "crates/refusals" / source.relative_to(ROOT / "bench/refusals").with_suffix("")
+        target.parent.mkdir(parents=True, exist_ok=True)
+        target.write_text(source.read_text())
     lines = (ROOT / "crates.txt").read_text()
     (folder / "crates.txt").write_text(lines + "refusals may_wait=2: ch_estimate ch_workers grfile\n")
     (folder / "HANDLES").write_text((ROOT / "HANDLES").read_text())
