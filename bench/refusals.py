@@ -4,8 +4,8 @@ node numbers follow the map, for 1, 2 and 4 workers and 2 and 4 heaps for each.
 
     bench/refusals.py [SIDE ..]        sides of the square networks, by default 100 256
 
-The program (bench/refusals, whose files end in .in since no check of the repository reads them) is proved and built with `rt` in a folder beside the repository, among links to its crates,
-which have to be proved already (`rt all check`).
+The program stands in bench/refusals, in files that end in .in since no check of the repository reads them. It is proved
+and built with `rt` in a folder beside the repository, among links to its crates, which have to be proved already.
 """
 import pathlib
 import subprocess
