@@ -2,25 +2,30 @@
 """Times `routecli prepare` by workers and orders on the same networks, beside the sweep and a textbook hierarchy in
 C++ (hierarchy.cpp), one after the other on this machine, and then `routecli route`.
 
-    bench/prepare.py [SIDE ..]        sides of the square networks, by default 100 316
+    bench/prepare.py [SIDE ..]        sides of the square networks, by default 100 256 514
 
-For each number of workers and each order: seconds of the whole run, reading included, the best of three; links for
-each arc of the network; and the greatest resident size, of which up to 15 MB may be this script's own. The sweep
-(`--workers 0`) contracts in the order of the node numbers and is left out above a side of 128. Then 10,000 pairs are
+For each number of workers and each order, and for the textbook: seconds of the whole run, reading included, the best of
+three, and the processor seconds of that run; for the textbook also those of its preparation alone; links for each arc of
+the network; and the greatest resident size, of which up to 15 MB may be this script's own. The sweep (`--workers 0`)
+contracts in the order of the node numbers and is left out above a side of 128. How many proposals were refused is told by
+refusals.py. Then 10,000 pairs are
 routed once by the hierarchy of one worker and the first order, and every length is compared with the textbook's; all
 other hierarchies of the network answer 100 pairs, which are compared too. It needs g++ and the proved program
 crates/routecli/out/routecli (README.md says how to build it).
 """
+import os
 import pathlib
 import subprocess
 import sys
 import tempfile
+import time
 
 from run import PROGRAM, ROOT, arcs_in, links_in, run
 
 PAIRS = 10_000
 FEW = 100
 MOST_SWEPT = 128
+ROUNDS = 3
 ORDERS = ["edges", "neighbours", "depth"]
 WORKERS = [1, 2, 4]
 
@@ -38,6 +43,21 @@ def network(side, pairs, folder):
     return graph, queries
 
 
+def measured(words):
+    """The seconds of the best of three runs, its processor seconds, and the greatest resident size in MB."""
+    best, memory = None, 0
+    for _ in range(ROUNDS):
+        start = time.perf_counter()
+        child = subprocess.Popen(words, stdout=subprocess.DEVNULL, stderr=subprocess.DEVNULL)
+        _, status, usage = os.wait4(child.pid, 0)
+        seconds = time.perf_counter() - start
+        if os.waitstatus_to_exitcode(status) != 0:
+            sys.exit(f"{words[0]} ended with {status}")
+        best = min(best or (seconds, 0), (seconds, usage.ru_utime + usage.ru_stime))
+        memory = max(memory, usage.ru_maxrss / 1024)
+    return *best, memory
+
+
 def textbook(program, graph, queries, answers):
     with open(answers, "wb") as sink:
         said = subprocess.run([program, graph, queries], check=True, stdout=sink, stderr=subprocess.PIPE).stderr.split()
@@ -45,8 +65,7 @@ def textbook(program, graph, queries, answers):
 
 
 def prepared(graph, file, workers, order):
-    words = [PROGRAM, "prepare", "--workers", str(workers), "--order", order, graph, file]
-    return run(words, "/dev/null")
+    return measured([PROGRAM, "prepare", "--workers", str(workers), "--order", order, graph, file])
 
 
 def check(file, queries, wanted, folder):
@@ -56,9 +75,9 @@ def check(file, queries, wanted, folder):
     return seconds, memory
 
 
-def row(name, measured, links, arcs):
-    seconds, memory = measured
-    print(f"| {name} | {seconds:.3f} s | {links / arcs:.2f} | {memory:.0f} MB |", flush=True)
+def row(name, times, links):
+    seconds, processor, memory = times
+    print(f"| {name} | {seconds:.2f} s | {processor:.2f} s | {links:.2f} | {memory:.0f} MB |", flush=True)
 
 
 def times_of(side, program, folder):
@@ -66,26 +85,28 @@ def times_of(side, program, folder):
     graph, many = network(side, PAIRS, folder)
     arcs = arcs_in(graph)
     textbook(program, graph, few, folder / "few.wanted")
+    (folder / "none.pairs").write_text("p aux sp p2p 0\n")
     seconds, links, answered = textbook(program, graph, many, folder / "many.wanted")
     print(f"\n{side * side:,} nodes, {arcs:,} arcs\n")
-    print("| workers, order | prepare | links per arc | memory |")
-    print("|---" * 4 + "|")
+    print("| workers, order | prepare | processor | links per arc | memory |")
+    print("|---" * 5 + "|")
     if side <= MOST_SWEPT:
         file = folder / "sweep.rch"
-        row("0 (the sweep)", prepared(graph, file, 0, "edges"), links_in(file), arcs)
+        row("0 (the sweep)", prepared(graph, file, 0, "edges"), links_in(file) / arcs)
         check(file, few, folder / "few.wanted", folder)
     for order in ORDERS:
         for workers in WORKERS:
             file = folder / f"{order}{workers}.rch"
-            row(f"{workers}, {order}", prepared(graph, file, workers, order), links_in(file), arcs)
+            row(f"{workers}, {order}", prepared(graph, file, workers, order), links_in(file) / arcs)
             check(file, few, folder / "few.wanted", folder)
-    print(f"| textbook in C++, preparation alone | {seconds:.3f} s | {links:.2f} | |")
+    row("textbook in C++", measured([program, graph, folder / "none.pairs"]), links)
+    print(f"\ntextbook in C++, preparation alone: {seconds:.2f} s")
     seconds, memory = check(folder / "edges1.rch", many, folder / "many.wanted", folder)
     print(f"\n{PAIRS:,} pairs: route {seconds:.2f} s, {memory:.0f} MB; textbook in C++, lengths alone {answered:.2f} s")
 
 
 def main():
-    sides = [int(word) for word in sys.argv[1:]] or [100, 316]
+    sides = [int(word) for word in sys.argv[1:]] or [100, 256, 514]
     if not PROGRAM.exists():
         sys.exit(f"{PROGRAM} isn't built: README.md says how")
     with tempfile.TemporaryDirectory() as folder:
