@@ -8,7 +8,6 @@ use Rattle.ch_laws.specs.Members.{contains_first}
 use Rattle.ch_overlay.specs.declared.source.Seen.{Seen}
 use Rattle.ch_overlay.specs.Overlay.{Overlay, IsOverlay, row_at, state_of}
 use Rattle.ch_overlay.specs.Source.{row_in}
-use Rattle.ch_contract.specs.declared.contraction.Receipt.{Receipt}
 use Rattle.ch_contract.specs.declared.error.CommitError.{CommitError}
 use Rattle.ch_contract.specs.declared.error.CommitError.TheVariants as commits
 use Rattle.ch_contract.specs.Ledger.{Ledger, version_now, row_now}

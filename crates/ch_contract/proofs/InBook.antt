@@ -1,5 +1,5 @@
 -- A ledger whose rows stand in a book.
-use Rattle.std.proofs.Common.{ℕ, ◌≡◌, ◌≢◌, ◌+◌, ◌<◌, ◌≤◌, List, [], ◌∷◌, All, AllPairs, length, map, get_or, arith, ap, sym, subst, refl, ◌∙◌, inl, inr}
+use Rattle.std.proofs.Common.{ℕ, ◌≡◌, ◌+◌, ◌<◌, ◌≤◌, List, [], ◌∷◌, All, AllPairs, length, map, get_or, arith, ap, sym, subst, refl, ◌∙◌, inl, inr}
 use Rattle.std.specs.List.{zip}
 use Rattle.std.specs.Prelude.{slice_index}
 use Rattle.std.proofs.lemmas.Bool.{cases_eq}
@@ -11,7 +11,6 @@ use Rattle.ch_laws.specs.Members.{map-map}
 use Rattle.ch_laws.specs.Rows.{Row, row_at}
 use Rattle.ch_overlay.specs.declared.source.Seen.{Seen}
 use Rattle.ch_overlay.specs.Source.{row_in}
-use Rattle.ch_overlay.specs.Change.{puts}
 use Rattle.ch_rowbook.specs.Books.{BookName, PenView, IsOfBook}
 use Rattle.ch_rowbook.specs.Showing.{IsRising, IsShowable}
 use Rattle.ch_contract.specs.Ledger.{Ledger, IsLedger, versions_now}

@@ -1,20 +1,12 @@
 -- New versions, numbered one by one: they are above all earlier ones, and there are numbers for all.
-use Rattle.std.proofs.Common.{ℕ, ◌≡◌, ◌+◌, ◌*◌, ◌^◌, ◌<◌, ◌≤◌, List, [], ◌∷◌, AllPairs, All, Contains, length, map, get_or, slice_set, mul-le-mul, arith, ap, sym, subst, ◌∙◌}
+use Rattle.std.proofs.Common.{ℕ, ◌≡◌, ◌+◌, ◌<◌, ◌≤◌, List, [], ◌∷◌, AllPairs, All, length, get_or, slice_set, arith, ap, sym, subst, ◌∙◌}
 use Rattle.std.specs.List.{range_with_len, zip}
-use Rattle.std.proofs.lemmas.List.{length-map, length_push}
-use Rattle.std.proofs.lemmas.List.Elements.{Contains-get_or, All-cons, All-head, All-tail, All-set}
+use Rattle.std.proofs.lemmas.List.Elements.{All-cons, All-head, All-tail, All-set}
 use Rattle.std.proofs.lemmas.List.FromFn.{get_or-range_with_len, length-range_with_len}
-use Rattle.ch_graph.specs.Graph.{Graph}
-use Rattle.ch_laws.specs.declared.shortcut.Shortcut.{Shortcut}
-use Rattle.ch_laws.specs.Contraction.{State, IsStart}
-use Rattle.ch_laws.specs.Rows.{Row}
-use Rattle.ch_overlay.specs.Overlay.{state_of}
-use Rattle.ch_overlay.specs.Change.{Change, IsChange, changed_nodes, puts}
-use Rattle.ch_contract.specs.declared.contraction.Receipt.{Receipt}
-use Rattle.ch_contract.specs.Ledger.{Ledger, IsLedger, IsContracted}
-use Rattle.ch_contract.specs.Planned.{Planned, IsPlanned, AreNewVersions}
-use Rattle.ch_contract.proofs.Logs.{log_fits, log_length}
-use Rattle.ch_contract.proofs.Ranges.{pairs-map, range_with_len-rises, rising_below-short}
+use Rattle.ch_overlay.specs.Change.{puts}
+use Rattle.ch_contract.specs.Ledger.{Ledger}
+use Rattle.ch_contract.specs.Planned.{Planned, AreNewVersions}
+use Rattle.ch_contract.proofs.Ranges.{range_with_len-rises}
 
 -- what holds of each element and of each that is put holds afterwards
 puts-all : {A : Type 0} (P : A → Type 0) (xs : List A) (ps : List (ℕ × A)) → All P xs → All (λ (p : ℕ × A). P p.1) ps → All P (puts xs ps)

@@ -1,5 +1,5 @@
 -- What a board keeps: a ledger, and a book of its rows.
-use Rattle.std.specs.Prelude.{ℕ, ◌≡◌, List, length}
+use Rattle.std.specs.Prelude.{◌≡◌, length}
 use Rattle.ch_graph.specs.Graph.{Graph}
 use Rattle.ch_rowbook.specs.Books.{BookName, PenView}
 use Rattle.ch_contract.specs.Ledger.{Ledger, versions_now}

@@ -128,11 +128,7 @@ impl<S: Site> Board<S> {
     /// compared: an answer of the book whose version is current has the current row. The new rows are all laid, first
     /// the node's and then those of its neighbours by rising number, before the first is shown, in that order. Takes
     /// memory for the rows that change, and waits while another thread makes room for records.
-    pub fn commit<R: Wait>(
-        &mut self,
-        rt: &R,
-        proposal: Proposal,
-    ) -> Result<Receipt, CommitError>
+    pub fn commit<R: Wait>(&mut self, rt: &R, proposal: Proposal) -> Result<Receipt, CommitError>
         requires of_book { All (IsOfBook S.book) proposal.rests_on }
         requires bound { proposal.bound ≡ S.book.bound }
         ensures ok { IfOk result (λ receipt. IsContracted self.old proposal.node proposal.shortcuts receipt self.new) }

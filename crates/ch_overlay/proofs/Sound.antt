@@ -1,11 +1,11 @@
 -- The rows of an overlay, and of its changes, can be relied on.
-use Rattle.std.proofs.Common.{ℕ, ◌≡◌, ◌<◌, ◌^◌, List, All, length, get_or, arith, refl, sym, subst}
+use Rattle.std.proofs.Common.{ℕ, ◌≡◌, ◌<◌, ◌^◌, List, All, length, get_or, arith, refl, subst}
 use Rattle.std.proofs.lemmas.List.Elements.{Contains-get_or}
 use Rattle.ch_laws.specs.declared.entry.Entry.{Entry}
 use Rattle.ch_laws.specs.Rows.{Row}
 use Rattle.ch_laws.specs.Theorems.{RowsGoOn, RowsAreState}
 use Rattle.ch_overlay.specs.Overlay.{Overlay, IsOverlay, IsEntry, row_at}
-use Rattle.ch_overlay.specs.Change.{Change, IsOf, puts}
+use Rattle.ch_overlay.specs.Change.{puts}
 use Rattle.ch_overlay.specs.Records.{AreSoundRows, IsSoundRow, ChangesAreSound}
 use Rattle.ch_overlay.proofs.Applied.{overlay-applied, changes_write}
 

@@ -15,10 +15,10 @@ mod book;
 mod error;
 mod laid;
 mod many;
+mod marking;
 mod opening;
 mod pen;
 mod reader;
-mod marking;
 mod shelf;
 mod words;
 

@@ -1,12 +1,10 @@
 use Rattle.std.proofs.Common.{ℕ, ◌≡◌, ◌<◌, All, List, length, get_or, ap, sym, subst, ◌∙◌}
-use Rattle.std.specs.Prelude.{slice_index}
 use Rattle.std.proofs.lemmas.List.{take_all}
 use Rattle.std.proofs.lemmas.List.Elements.{All-more, All-get_or}
 use Rattle.ch_overlay.specs.declared.source.Seen.{Seen}
-use Rattle.ch_overlay.specs.Overlay.{Overlay}
 use Rattle.ch_rowbook.specs.Books.{IsOfBook}
 use Rattle.ch_contract.specs.Ledger.{Ledger}
-use Rattle.ch_contract.specs.Commit.{IsOld, IsRowOf, Agrees}
+use Rattle.ch_contract.specs.Commit.{IsOld, IsRowOf}
 use Rattle.ch_contract.proofs.InBook.{row_from_book, version_from_book}
 use Rattle.ch_contract.proofs.board.Board.agree.Goals as goal
 

@@ -1,4 +1,4 @@
-use Rattle.std.proofs.Common.{ℕ, ◌≡◌, ◌<◌, All, AllPairs, List, length, map, sym, subst, ap, ◌∙◌, arith}
+use Rattle.std.proofs.Common.{ℕ, ◌≡◌, ◌<◌, All, List, length, map, sym, subst, ap, ◌∙◌, arith}
 use Rattle.std.specs.Prelude.{slice_index_or}
 use Rattle.std.specs.List.{zip}
 use Rattle.std.specs.Arc.{arc_value}
@@ -7,9 +7,8 @@ use Rattle.ch_laws.specs.Contraction.{State}
 use Rattle.ch_laws.specs.Rows.{Row}
 use Rattle.ch_overlay.specs.Change.{puts, changed_nodes}
 use Rattle.ch_overlay.specs.Records.{IsSoundRow, row_of}
-use Rattle.ch_rowbook.specs.Books.{PenView}
 use Rattle.ch_rowbook.specs.Showing.{IsShowable}
-use Rattle.ch_contract.specs.Ledger.{Ledger, versions_now}
+use Rattle.ch_contract.specs.Ledger.{versions_now}
 use Rattle.ch_contract.specs.Planned.{AreNewVersions}
 use Rattle.ch_contract.proofs.InBook.{from_map, laid_count, laid_versions, rising_pairs, showable_above, still_in_book}
 use Rattle.ch_contract.proofs.board.Board.contract.Goals as goal

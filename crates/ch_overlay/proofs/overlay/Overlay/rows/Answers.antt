@@ -1,6 +1,4 @@
-use Rattle.std.proofs.Common.{ap, subst, ◌∙◌}
-use Rattle.std.specs.Arc.{arc_value}
-use Rattle.std.specs.Prelude.{map}
+use Rattle.std.proofs.Common.{subst}
 use Rattle.ch_overlay.specs.Overlay.{Overlay, IsOverlay}
 use Rattle.ch_overlay.proofs.Sound.{sound_rows}
 use Rattle.ch_overlay.proofs.overlay.Overlay.rows.Goals as goal
