@@ -5,7 +5,7 @@ C++ (hierarchy.cpp), one after the other on this machine, and then `routecli rou
     bench/prepare.py [SIDE ..]        sides of the square networks, by default 100 256 514
 
 For each number of workers and each order, and for the textbook: seconds of the whole run, reading included, the best of
-three, and the processor seconds of that run; for the textbook also those of its preparation alone; links for each arc of
+three, and the most processor seconds; for the textbook also those of its preparation alone; links for each arc of
 the network; and the greatest resident size, of which up to 15 MB may be this script's own. The sweep (`--workers 0`)
 contracts in the order of the node numbers and is left out above a side of 128. How many proposals were refused is told by
 refusals.py. Then 10,000 pairs are
@@ -44,8 +44,8 @@ def network(side, pairs, folder):
 
 
 def measured(words):
-    """The seconds of the best of three runs, its processor seconds, and the greatest resident size in MB."""
-    best, memory = None, 0
+    """The seconds of the best of three runs, the most processor seconds, and the greatest resident size in MB."""
+    best, processor, memory = None, 0, 0
     for _ in range(ROUNDS):
         start = time.perf_counter()
         child = subprocess.Popen(words, stdout=subprocess.DEVNULL, stderr=subprocess.DEVNULL)
@@ -53,9 +53,10 @@ def measured(words):
         seconds = time.perf_counter() - start
         if os.waitstatus_to_exitcode(status) != 0:
             sys.exit(f"{words[0]} ended with {status}")
-        best = min(best or (seconds, 0), (seconds, usage.ru_utime + usage.ru_stime))
+        best = seconds if best is None else min(best, seconds)
+        processor = max(processor, usage.ru_utime + usage.ru_stime)
         memory = max(memory, usage.ru_maxrss / 1024)
-    return *best, memory
+    return best, processor, memory
 
 
 def textbook(program, graph, queries, answers):
