@@ -1,0 +1,46 @@
+use crate::draft::Draft;
+use crate::place::Place;
+use std::io;
+use std::rt::Files;
+
+/// The place at a path of the file system.
+///
+/// Where nothing stands there, or a regular file, or a link to one, the draft is a file beside it, in the same folder,
+/// under a name that nobody has; it is synced, and takes the file's name in one step. A file that is replaced has to be
+/// one that may be written; its permissions are kept, and its owner where the system lets it. What else stands there, as a
+/// pipe, a terminal or a device, and the program's own standard output, is written straight, and may be left with a part.
+/// A program that is killed may leave the file beside; no later draft takes it.
+#[derive(Drop)]
+pub struct OutFile<'a, R: Files> {
+    files: &'a R,
+    path: &'a str,
+}
+
+impl<'a, R: Files> OutFile<'a, R> {
+    /// The place at this path. Nothing is looked at or made yet.
+    pub fn new(files: &'a R, path: &'a str) -> OutFile<'a, R> {
+        OutFile { files, path }
+    }
+}
+
+impl<'a, R: Files + AllocGlobal> Place for OutFile<'a, R> {
+    type Draft = Draft<'a, R>;
+
+    fn draft(&self) -> io::Result<Draft<'a, R>> {
+        Draft::new(self.files, self.path)
+    }
+
+    fn put(&mut self, mut draft: Draft<'a, R>) -> io::Result<()> {
+        match draft.keep() {
+            Ok(()) => Ok(()),
+            Err(error) => {
+                draft.remove();
+                Err(error)
+            }
+        }
+    }
+
+    fn throw_away(&mut self, mut draft: Draft<'a, R>) {
+        draft.remove();
+    }
+}

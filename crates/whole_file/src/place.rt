@@ -1,0 +1,30 @@
+use std::io::{self, Write};
+
+/// Where bytes come to stand all at once, or not at all.
+///
+/// They are gathered in a draft, which is put there once it is whole. Each draft that a place gives is put there or
+/// thrown away.
+pub trait Place {
+    ghost use Rattle.std.specs.Prelude.{◌≡◌, ℕ, List, [], Option, Some, None, option_map, IfOk, OnOk, OnErr};
+
+    /// What gathers the bytes.
+    type Draft: Write + Drop;
+
+    /// What stands there, where the place tells it: nothing, or these bytes.
+    ghost stands: { Self → Option (Option (List ℕ)) } = { λ _. None };
+
+    /// A draft without bytes. It tells its bytes where the place tells what stands there.
+    ///
+    /// Refused where memory is.
+    fn draft(&self) -> io::Result<Self::Draft>
+        ensures { IfOk result (λ draft. Self.Draft.contents draft ≡ option_map (λ _. []) (stands self.now)) };
+
+    /// Lets the bytes of the draft stand there. Where that fails, the draft is thrown away, and what stood there stays.
+    fn put(&mut self, draft: Self::Draft) -> io::Result<()>
+        ensures put { OnOk result (stands self.new ≡ option_map Some (Self.Draft.contents draft)) }
+        ensures kept { OnErr result (stands self.new ≡ stands self.old) };
+
+    /// Throws the draft away. What stands there stays.
+    fn throw_away(&mut self, draft: Self::Draft)
+        ensures { stands self.new ≡ stands self.old };
+}
