@@ -10,6 +10,12 @@ is_joined (Answer graph queries) = bytes_eq graph.now (codes "-") && bytes_eq qu
 is_joined (Prepare graph out workers seed order) = false
 is_joined (Route hierarchy queries) = false
 
+-- the file of a hierarchy is to be made under the name of the graph
+abbrev pub names_one_file : Job → Bool
+names_one_file (Answer graph queries) = false
+names_one_file (Prepare graph out workers seed order) = bytes_eq graph.now out.now
+names_one_file (Route hierarchy queries) = false
+
 -- pairs are to be answered over a graph
 abbrev pub IsAnswering : Job → Type 0
 IsAnswering (Answer graph queries) = ⊤

@@ -52,12 +52,14 @@ pub enum Stop {
     Help(String),
     /// The words were refused.
     Refused(String),
+    /// The graph and the file that is made for its hierarchy are one file.
+    OneFile,
     /// Memory was refused.
     OutOfMemory,
 }
 
 impl Job<'_> {
-    ghost use Rattle.command_line.specs.Job.{is_joined};
+    ghost use Rattle.command_line.specs.Job.{is_joined, names_one_file};
 
     /// Whether a graph's text and that of the pairs stand in one input, which is standard input: both files of
     /// `answer` are named `-`.
@@ -67,6 +69,16 @@ impl Job<'_> {
         match self {
             Job::Answer { graph, queries } => *graph == "-" && *queries == "-",
             Job::Prepare { .. } | Job::Route { .. } => false,
+        }
+    }
+
+    /// Whether `prepare` would make its file under the graph's own name.
+    pub fn names_one_file(&self) -> bool
+        ensures { result ≡ names_one_file self.now }
+    {
+        match self {
+            Job::Prepare { graph, out, .. } => *graph == *out,
+            Job::Answer { .. } | Job::Route { .. } => false,
         }
     }
 }

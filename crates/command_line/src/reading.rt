@@ -1,5 +1,6 @@
 ghost use Rattle.std.specs.Prelude.{◌≡◌, true, false, IfOk};
 ghost use Rattle.clap.specs.declared.builder.command.Command.TheViews.{out-Command};
+ghost use Rattle.command_line.specs.Job.{names_one_file};
 
 use crate::job::{Job, Order, Stop};
 use crate::workers::Workers;
@@ -9,9 +10,13 @@ use std::alloc::{AllocError, Global};
 
 /// What the words of a command line ask for. The first word is the program's name.
 ///
-/// Words that ask for help, and words that are refused, stop with the text for the user.
-pub fn command(alloc: Global, words: &[String]) -> Result<Job<'_>, Stop> {
+/// Words that ask for help, and words that are refused, stop with the text for the user. One word for both files of
+/// `prepare` is refused: the hierarchy would take the place of the graph.
+pub fn command(alloc: Global, words: &[String]) -> Result<Job<'_>, Stop>
+    ensures { IfOk result (λ job. names_one_file job ≡ false) }
+{
     match read_words(alloc, words) {
+        Ok(job) if job.names_one_file() => Err(Stop::OneFile),
         Ok(job) => Ok(job),
         Err(error) => Err(stop_of(alloc, &error)),
     }

@@ -18,6 +18,7 @@ pub fn show_stop<W: Write, E: Write>(stop: &Stop, out: &mut W, err: &mut E) -> u
             let _ = err.write_all(text.as_bytes());
             2
         }
+        Stop::OneFile => end(2, "GRAPH and OUT are one file", err),
         Stop::OutOfMemory => end(6, "memory", err),
     }
 }

@@ -284,6 +284,29 @@ fn words_that_are_refused(rt: HostRuntime) -> Result<(), Fail> {
     Ok(())
 }
 
+/// One word for both files, with and without options.
+const ONE_FILE: [&[&str]; 3] = [
+    &["routecli", "prepare", "a.gr", "a.gr"],
+    &["routecli", "prepare", "--workers", "0", "-", "-"],
+    &["routecli", "prepare", "../a", "--order=depth", "../a"],
+];
+
+#[test]
+fn one_word_for_both_files(rt: HostRuntime) -> Result<(), Fail> {
+    for texts in ONE_FILE {
+        let words = words(rt.alloc(), texts)?;
+        let why = command(rt.alloc(), words.as_slice())
+            .err()
+            .ok_or("refused")?;
+        let mut out = Vec::new(rt.alloc());
+        let mut err = Vec::new(rt.alloc());
+        assert_eq!(rt; show_stop(&why, &mut out, &mut err), 2, "{texts:?}");
+        assert!(rt; out.is_empty(), "{texts:?}");
+        assert!(rt; err.as_slice() == b"routecli: GRAPH and OUT are one file\n".as_slice());
+    }
+    Ok(())
+}
+
 /// Words that ask for help, and what the help tells.
 const HELP: [(&[&str], &[&str]); 6] = [
     (&["routecli", "--help"], &[]),

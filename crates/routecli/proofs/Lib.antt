@@ -1,2 +1,3 @@
 mod OfOneThing
+mod Putting
 mod Statuses

@@ -2,26 +2,29 @@
 //!
 //! Stands on `command_line`, which turns the words of a command line into a [`Job`], on `ch_service`, which does the
 //! work, and on `ch_workers` and `ch_estimate` for the workers that prepare a hierarchy and the orders in which they
-//! contract nodes. [`perform`] does a job over readers and writers and answers the exit status, and `main` opens the
-//! files for it. The promise is in the contract of [`perform`]: a status of 0 means that what was written answers all
-//! pairs, or is a hierarchy that is right for the graph.
+//! contract nodes. The file of a hierarchy comes to stand whole by `whole_file`. [`perform`] does a job over readers and
+//! writers and answers the exit status, and `main` opens the files for it. The promise is in the contracts of [`perform`]
+//! and [`prepare_whole`]: a status of 0 means that what was written answers all pairs, or that what stands in its place
+//! is a hierarchy that is right for the graph; with any other status there stands what stood there before.
 #![tactic(auto)]
 
 ghost use Rattle.std.specs.Prelude.{◌≡◌, ◌⊎◌};
 ghost use Rattle.routecli.specs.Status.{IsStatusOf};
 
 mod lists;
-mod new_file;
 mod perform;
 #[cfg(test)]
+mod place_tests;
+#[cfg(test)]
 mod prepare_tests;
+mod prepare_whole;
 mod preparing;
 #[cfg(test)]
 mod tests;
 
-use command_line::{Job, command, end, show_stop};
-use new_file::NewFile;
+use command_line::{Job, Stop, command, end, show_stop};
 use perform::perform;
+use prepare_whole::prepare_whole;
 use std::env::Env;
 use std::io::ErrorKind;
 use std::process::ExitCode;
@@ -29,6 +32,7 @@ use std::rt::Files;
 use std::sync::Wait;
 use std::thread::Threads;
 use std::{env, fs, io};
+use whole_file::{OutFile, is_one_file};
 
 fn main(rt: HostRuntime) -> ExitCode {
     let mut out = rt.stdout();
@@ -60,9 +64,12 @@ fn main(rt: HostRuntime) -> ExitCode {
             hierarchy: first,
             queries: second,
         } => perform_files(&rt, &job, first, second, &mut out, &mut err),
-        Job::Prepare { graph, out, .. } => {
-            prepare_file(&rt, &job, graph, &mut NewFile::new(&rt, out), &mut err)
-        }
+        Job::Prepare {
+            graph: first,
+            out: second,
+            ..
+        } if is_one_file(&rt, first, second) => { show_stop(&Stop::OneFile, &mut out, &mut err) }
+        Job::Prepare { graph, out, .. } => prepare_file(&rt, &job, graph, out, &mut err),
     };
     ExitCode::from(status)
 }
@@ -88,20 +95,20 @@ fn perform_files<R: Files + AllocGlobal + Threads + Wait + Sync, W: io::Write, E
     }
 }
 
-// Does a job that reads one file.
-fn prepare_file<R: Files + AllocGlobal + Threads + Wait + Sync, W: io::Write, E: io::Write>(
+// Does a job that reads one file and makes another.
+fn prepare_file<R: Files + AllocGlobal + Threads + Wait + Sync, E: io::Write>(
     rt: &R,
     job: &Job<'_>,
     graph: &str,
-    out: &mut W,
+    out: &str,
     err: &mut E,
 ) -> u8
     ensures status { IsStatusOf job.now result }
     ensures quiet { result ≡ 0 → err.new ≡ err.old }
 {
-    let mut nothing: &[u8] = b"";
+    let mut place = OutFile::new(rt, out);
     match fs::open(rt, graph) {
-        Ok(mut graph) => perform(rt, rt.alloc(), job, &mut graph, &mut nothing, out, err),
+        Ok(mut graph) => prepare_whole(rt, rt.alloc(), job, &mut graph, &mut place, err),
         Err(error) => refuse_file(&error, err),
     }
 }

@@ -1,5 +1,6 @@
 use crate::beside::Beside;
 use crate::one_file::is_one_file;
+use std::alloc::AllocError;
 use std::fs::{self, Metadata, OpenFile, OpenOptions};
 use std::io::{self, ErrorKind, Write};
 use std::os::unix::fs::MetadataExt;
@@ -27,7 +28,7 @@ pub struct Draft<'a, R: Files> {
 
 impl<'a, R: Files + AllocGlobal> Draft<'a, R> {
     /// A draft of what comes to stand at this path.
-    pub(crate) fn new(files: &'a R, path: &str) -> io::Result<Draft<'a, R>> {
+    pub(crate) fn new(files: &'a R, path: &str) -> Result<Draft<'a, R>, AllocError> {
         let target = target_of(files, path)?;
         let beside = Beside::new(files.alloc(), target.as_path())?;
         Ok(Draft {
@@ -117,12 +118,12 @@ impl<R: Files> Write for Draft<'_, R> {
 }
 
 // Where a file stands that is opened by this path: what the links at its end lead to.
-fn target_of<R: Files + AllocGlobal>(rt: &R, path: &str) -> io::Result<PathBuf> {
+fn target_of<R: Files + AllocGlobal>(rt: &R, path: &str) -> Result<PathBuf, AllocError> {
     let mut target = PathBuf::from_str(rt.alloc(), path)?;
     for _ in 0..MOST_LINKS {
         match target.read_link(rt) {
             Ok(link) => target = target.with_file_name(rt.alloc(), link.as_str())?,
-            Err(error) if error.kind() == ErrorKind::OutOfMemory => return Err(error),
+            Err(error) if error.kind() == ErrorKind::OutOfMemory => return Err(AllocError),
             Err(_) => return Ok(target),
         }
     }

@@ -1,5 +1,6 @@
 use crate::draft::Draft;
 use crate::place::Place;
+use std::alloc::AllocError;
 use std::io;
 use std::rt::Files;
 
@@ -26,7 +27,7 @@ impl<'a, R: Files> OutFile<'a, R> {
 impl<'a, R: Files + AllocGlobal> Place for OutFile<'a, R> {
     type Draft = Draft<'a, R>;
 
-    fn draft(&self) -> io::Result<Draft<'a, R>> {
+    fn draft(&self) -> Result<Draft<'a, R>, AllocError> {
         Draft::new(self.files, self.path)
     }
 

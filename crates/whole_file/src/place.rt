@@ -1,3 +1,4 @@
+use std::alloc::AllocError;
 use std::io::{self, Write};
 
 /// Where bytes come to stand all at once, or not at all.
@@ -14,9 +15,7 @@ pub trait Place {
     ghost stands: { Self → Option (Option (List ℕ)) } = { λ _. None };
 
     /// A draft without bytes. It tells its bytes where the place tells what stands there.
-    ///
-    /// Refused where memory is.
-    fn draft(&self) -> io::Result<Self::Draft>
+    fn draft(&self) -> Result<Self::Draft, AllocError>
         ensures { IfOk result (λ draft. Self.Draft.contents draft ≡ option_map (λ _. []) (stands self.now)) };
 
     /// Lets the bytes of the draft stand there. Where that fails, the draft is thrown away, and what stood there stays.

@@ -1,0 +1,56 @@
+ghost use Rattle.std.specs.Prelude.{◌≡◌, ◌≢◌, ◌⊎◌, Some, None, option_map};
+ghost use Rattle.command_line.specs.Job.{IsPreparing};
+ghost use Rattle.routecli.specs.Place.{HasPrepared};
+ghost use Rattle.routecli.specs.Status.{IsStatusOf, TellsPrepared};
+
+use crate::perform::perform;
+use command_line::{Job, end};
+use std::alloc::Global;
+use std::io::{Read, Write};
+use std::sync::Wait;
+use std::thread::Threads;
+use whole_file::Place;
+
+/// Prepares a hierarchy and lets it stand in its place, whole, and answers the program's exit status.
+///
+/// `graph` gives the graph's text. With a status of 0 the file of the hierarchy stands in the place, and with any other
+/// what stood there before. What the status tells of the text is what it tells in [`perform`]. Of a refusal one line
+/// goes to `err`.
+pub fn prepare_whole<G: Read, P: Place, E: Write, R: Threads + Wait + Sync>(
+    rt: &R,
+    alloc: Global,
+    job: &Job<'_>,
+    graph: &mut G,
+    place: &mut P,
+    err: &mut E,
+) -> u8
+    ensures done { IsPreparing job.now → result ≡ 0 → HasPrepared (G.remaining graph.old) (P.stands place.old) (P.stands place.new) }
+    ensures kept { result ≢ 0 → P.stands place.new ≡ P.stands place.old }
+    ensures told { IsPreparing job.now → TellsPrepared result (G.remaining graph.old) None None }
+    ensures status { IsStatusOf job.now result }
+    ensures quiet { result ≡ 0 → err.new ≡ err.old }
+{
+    let mut nothing: &[u8] = b"";
+    let Ok(mut draft) = place.draft() else {
+        return end(6, "memory", err);
+    };
+    let status = perform(rt, alloc, job, graph, &mut nothing, &mut draft, err);
+    finish(place, draft, status, err)
+}
+
+// Lets the draft of a job that is done stand in its place, and throws any other away.
+fn finish<P: Place, E: Write>(place: &mut P, draft: P::Draft, status: u8, err: &mut E) -> u8
+    ensures done { result ≡ 0 → P.stands place.new ≡ option_map Some (P.Draft.contents draft) }
+    ensures kept { result ≢ 0 → P.stands place.new ≡ P.stands place.old }
+    ensures status { (result ≡ status) ⊎ ((status ≡ 0) × (result ≡ 7)) }
+    ensures quiet { result ≡ 0 → err.new ≡ err.old }
+{
+    if status != 0 {
+        place.throw_away(draft);
+        return status;
+    }
+    match place.put(draft) {
+        Ok(()) => 0,
+        Err(_) => end(7, "write", err),
+    }
+}
