@@ -1,6 +1,6 @@
 -- What the status of a preparation tells where its bytes come to stand in a place.
-use Rattle.std.proofs.Common.{ℕ, ◌≡◌, List, [], Option, refl, subst, omega, arith, ap, ◌∙◌}
-use Rattle.std.specs.Prelude.{◌≢◌, Some, None, option_map, IfSome}
+use Rattle.std.proofs.Common.{ℕ, ◌≡◌, List, [], Option, refl, sym, subst, inl, inr, arith, ap, ◌∙◌}
+use Rattle.std.specs.Prelude.{◌≢◌, ◌⊎◌, Some, None, option_map, IfSome}
 use Rattle.ch_service.specs.declared.cause.Cause.{Cause}
 use Rattle.ch_service.specs.declared.cause.Cause.TheVariants as causes
 use Rattle.ch_service.specs.Outcome.{Writes}
@@ -27,11 +27,15 @@ untold_refusal graph old new causes.Options f = absurd f
 untold_refusal graph old new causes.Mixed f = (f.0, tt)
 
 -- what a status tells of the text alone
-pub untold : (graph old new : Option (List ℕ)) (status : ℕ) → TellsPrepared status graph old new → TellsPrepared status graph None None
+untold : (graph old new : Option (List ℕ)) (status : ℕ) → TellsPrepared status graph old new → TellsPrepared status graph None None
 untold graph old new status ends = record {
   done = λ is. untold_file graph old new (ends.done is);
   refused = λ other. let why = ends.refused other in (why.0, why.1, untold_refusal graph old new why.0 why.2);
 }
+
+-- where memory was refused before the text was read
+pub no_memory : (graph : Option (List ℕ)) (status : ℕ) → status ≡ 6 → TellsPrepared status graph None None
+no_memory graph status is = record { done = λ zero. absurd (cc); refused = λ other. (causes.Memory, is, tt) }
 
 -- no byte stands where a file wasn't put
 unput : (graph old new : Option (List ℕ)) → IfSome graph (λ text. Writes (Prepares text) old new) → RefusesPreparing graph None None (causes.Write (record { written = 0 }))
@@ -39,11 +43,21 @@ unput None old new file = tt
 unput (Some text) old new file = (file.0, file.1, omega arith, tt)
 
 -- a file that is prepared and can't be put is one that can't be written
-pub refused_place : (graph old new : Option (List ℕ)) (status : ℕ) → status ≡ 0 → TellsPrepared status graph old new → TellsPrepared 7 graph None None
+refused_place : (graph old new : Option (List ℕ)) (status : ℕ) → status ≡ 0 → TellsPrepared status graph old new → TellsPrepared 7 graph None None
 refused_place graph old new status is ends = record {
   done = λ seven. absurd (cc);
   refused = λ other. (causes.Write (record { written = 0 }), refl, unput graph old new (ends.done is));
 }
+
+-- what the status tells of the text once the draft was put or thrown away
+pub finished : (graph old new : Option (List ℕ)) (status result : ℕ) → (result ≡ status) ⊎ ((status ≡ 0) × (result ≡ 7)) → TellsPrepared status graph old new → TellsPrepared result graph None None
+finished graph old new status result (inl is) ends = subst (λ n. TellsPrepared n graph None None) (sym is) (untold graph old new status ends)
+finished graph old new status result (inr failed) ends = subst (λ n. TellsPrepared n graph None None) (sym failed.1) (refused_place graph old new status failed.0 ends)
+
+-- where it is 0, so was that of the work
+pub was_done : (status result : ℕ) → (result ≡ status) ⊎ ((status ≡ 0) × (result ≡ 7)) → result ≡ 0 → status ≡ 0
+was_done status result (inl is) zero = sym is ∙ zero
+was_done status result (inr failed) zero = failed.0
 
 -- all bytes of a draft that was empty
 whole : (graph : List ℕ) (new : Option (List ℕ)) (stands : Option (Option (List ℕ))) → stands ≡ option_map Some new → Writes (Prepares graph) (Some []) new → (bytes : List ℕ) × Prepares graph bytes × (stands ≡ Some (Some bytes))
