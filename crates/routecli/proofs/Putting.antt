@@ -1,4 +1,4 @@
--- What the status of a preparation tells where its bytes come to stand in a place.
+-- What the status of a preparation tells where its bytes come to stand at a destination.
 use Rattle.std.proofs.Common.{ℕ, ◌≡◌, List, [], Option, refl, sym, subst, inl, inr, arith, ap, ◌∙◌}
 use Rattle.std.specs.Prelude.{◌≢◌, ◌⊎◌, Some, None, option_map, IfSome}
 use Rattle.ch_service.specs.declared.cause.Cause.{Cause}
@@ -6,7 +6,7 @@ use Rattle.ch_service.specs.declared.cause.Cause.TheVariants as causes
 use Rattle.ch_service.specs.Outcome.{Writes}
 use Rattle.ch_service.specs.Refusals.{RefusesPreparing}
 use Rattle.ch_service.specs.Route.{Prepares}
-use Rattle.routecli.specs.Place.{HasPrepared}
+use Rattle.routecli.specs.Destination.{HasPrepared}
 use Rattle.routecli.specs.Status.{status_of, TellsPrepared}
 
 -- what was written, where nobody tells the bytes
@@ -43,8 +43,8 @@ unput None old new file = tt
 unput (Some text) old new file = (file.0, file.1, omega arith, tt)
 
 -- a file that is prepared and can't be put is one that can't be written
-refused_place : (graph old new : Option (List ℕ)) (status : ℕ) → status ≡ 0 → TellsPrepared status graph old new → TellsPrepared 7 graph None None
-refused_place graph old new status is ends = record {
+refused_destination : (graph old new : Option (List ℕ)) (status : ℕ) → status ≡ 0 → TellsPrepared status graph old new → TellsPrepared 7 graph None None
+refused_destination graph old new status is ends = record {
   done = λ seven. absurd (cc);
   refused = λ other. (causes.Write (record { written = 0 }), refl, unput graph old new (ends.done is));
 }
@@ -52,7 +52,7 @@ refused_place graph old new status is ends = record {
 -- what the status tells of the text once the draft was put or thrown away
 pub finished : (graph old new : Option (List ℕ)) (status result : ℕ) → (result ≡ status) ⊎ ((status ≡ 0) × (result ≡ 7)) → TellsPrepared status graph old new → TellsPrepared result graph None None
 finished graph old new status result (inl is) ends = subst (λ n. TellsPrepared n graph None None) (sym is) (untold graph old new status ends)
-finished graph old new status result (inr failed) ends = subst (λ n. TellsPrepared n graph None None) (sym failed.1) (refused_place graph old new status failed.0 ends)
+finished graph old new status result (inr failed) ends = subst (λ n. TellsPrepared n graph None None) (sym failed.1) (refused_destination graph old new status failed.0 ends)
 
 -- where it is 0, so was that of the work
 pub was_done : (status result : ℕ) → (result ≡ status) ⊎ ((status ≡ 0) × (result ≡ 7)) → result ≡ 0 → status ≡ 0

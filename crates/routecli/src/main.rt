@@ -4,17 +4,17 @@
 //! work, and on `ch_workers` and `ch_estimate` for the workers that prepare a hierarchy and the orders in which they
 //! contract nodes. The file of a hierarchy comes to stand whole by `whole_file`. [`perform`] does a job over readers and
 //! writers and answers the exit status, and `main` opens the files for it. The promise is in the contracts of [`perform`]
-//! and [`prepare_whole`]: a status of 0 means that what was written answers all pairs, or that what stands in its place
-//! is a hierarchy that is right for the graph; with any other status there stands what stood there before.
+//! and [`prepare_whole`]: a status of 0 means that what was written answers all pairs, or that what stands at its
+//! destination is a hierarchy that is right for the graph; with any other status there stands what stood there before.
 #![tactic(auto)]
 
 ghost use Rattle.std.specs.Prelude.{◌≡◌, ◌⊎◌};
 ghost use Rattle.routecli.specs.Status.{IsStatusOf};
 
+#[cfg(test)]
+mod destination_tests;
 mod lists;
 mod perform;
-#[cfg(test)]
-mod place_tests;
 #[cfg(test)]
 mod prepare_tests;
 mod prepare_whole;
@@ -106,9 +106,9 @@ fn prepare_file<R: Files + AllocGlobal + Threads + Wait + Sync, E: io::Write>(
     ensures status { IsStatusOf job.now result }
     ensures quiet { result ≡ 0 → err.new ≡ err.old }
 {
-    let mut place = OutFile::new(rt, out);
+    let mut destination = OutFile::new(rt, out);
     match fs::open(rt, graph) {
-        Ok(mut graph) => prepare_whole(rt, rt.alloc(), job, &mut graph, &mut place, err),
+        Ok(mut graph) => prepare_whole(rt, rt.alloc(), job, &mut graph, &mut destination, err),
         Err(error) => refuse_file(&error, err),
     }
 }

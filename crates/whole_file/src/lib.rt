@@ -1,20 +1,20 @@
 //! Files that are whole or not there.
 //!
 //! Whoever writes a file where it stands leaves a cut one where a write fails, and what stood there is lost. So bytes are
-//! gathered in a draft, beside their [`Place`], and put there once the draft is whole; a draft that isn't is thrown away.
-//! Stands on std alone. [`OutFile`] is a place in the file system, and [`is_one_file`] tells whether two names are of one
-//! file. The promise is in the contract of [`Place`]: what stands there changes by [`Place::put`] alone, and then it is
-//! the draft whole. A place that tells what stands there can be held to it; a file tells no contract what it keeps, so
-//! of [`OutFile`] that is tested.
+//! gathered in a draft, beside their [`Destination`], and put there once the draft is whole; a draft that isn't is thrown
+//! away. Stands on std alone. [`OutFile`] is a destination in the file system, and [`is_one_file`] tells whether two names
+//! are of one file. The promise is in the contract of [`Destination`]: what stands there changes by [`Destination::put`]
+//! alone, and then it is the draft whole. One that tells what stands there is held to it; a file tells no contract what it
+//! keeps, so of [`OutFile`] that is tested.
 #![tactic(auto)]
 
 mod beside;
+mod destination;
 mod draft;
 mod one_file;
 mod out_file;
-mod place;
 
+pub use destination::Destination;
 pub use draft::Draft;
 pub use one_file::is_one_file;
 pub use out_file::OutFile;
-pub use place::Place;

@@ -1,10 +1,10 @@
+use crate::destination::Destination;
 use crate::draft::Draft;
-use crate::place::Place;
 use std::alloc::AllocError;
 use std::io;
 use std::rt::Files;
 
-/// The place at a path of the file system.
+/// The destination at a path of the file system.
 ///
 /// Where nothing stands there, or a regular file, or a link to one, the draft is a file beside it, in the same folder,
 /// under a name that nobody has; it is synced, and takes the file's name in one step. A file that is replaced has to be
@@ -18,13 +18,13 @@ pub struct OutFile<'a, R: Files> {
 }
 
 impl<'a, R: Files> OutFile<'a, R> {
-    /// The place at this path. Nothing is looked at or made yet.
+    /// The destination at this path. Nothing is looked at or made yet.
     pub fn new(files: &'a R, path: &'a str) -> OutFile<'a, R> {
         OutFile { files, path }
     }
 }
 
-impl<'a, R: Files + AllocGlobal> Place for OutFile<'a, R> {
+impl<'a, R: Files + AllocGlobal> Destination for OutFile<'a, R> {
     type Draft = Draft<'a, R>;
 
     fn draft(&self) -> Result<Draft<'a, R>, AllocError> {

@@ -12,7 +12,7 @@ returns-in_default-clause-told g c preparing = no_memory _ c.end.result c.end.en
 
 pub returns-clause-done : goal.returns-clause-done
 returns-clause-done g c preparing zero =
-    let starts : g.P.Draft.Write.contents c.in-Ok.draft ≡ option_map (λ _. []) (g.P.Place.stands c.args.place.now) = search rules in
+    let starts : g.D.Draft.Write.contents c.in-Ok.draft ≡ option_map (λ _. []) (g.D.Destination.stands c.args.destination.now) = search rules in
     has_prepared _ _ _ _ _ starts (c.finish.ensures.done zero) ((c.perform-status.ensures.prepared preparing).done (was_done _ _ c.finish.ensures.status zero))
 
 pub returns-clause-kept : goal.returns-clause-kept

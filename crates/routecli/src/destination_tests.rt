@@ -8,9 +8,9 @@ use std::io::{self, ErrorKind, Read, Write};
 use std::sync::Wait;
 use std::test::Fail;
 use std::thread::Threads;
-use whole_file::Place;
+use whole_file::Destination;
 
-/// A place in memory, which may refuse what is put there.
+/// A destination in memory, which may refuse what is put there.
 #[derive(Drop)]
 struct Shelf {
     alloc: Global,
@@ -18,7 +18,7 @@ struct Shelf {
     refuses: bool,
 }
 
-impl Place for Shelf {
+impl Destination for Shelf {
     type Draft = Vec<u8>;
 
     ghost stands = { λ shelf. Some (option_map (λ bytes. bytes.items) shelf.stands) };
@@ -59,7 +59,7 @@ impl Write for Narrow {
     }
 }
 
-/// A place whose drafts take so many bytes, and what became of them.
+/// A destination whose drafts take so many bytes, and what became of them.
 #[derive(Drop)]
 struct Bench {
     room: usize,
@@ -67,7 +67,7 @@ struct Bench {
     thrown_away: bool,
 }
 
-impl Place for Bench {
+impl Destination for Bench {
     type Draft = Narrow;
 
     fn draft(&self) -> Result<Narrow, AllocError> {
@@ -95,21 +95,21 @@ fn preparing() -> Job<'static> {
     }
 }
 
-/// Whether a preparation for this place ends with this status and this line on standard error.
-fn is_ended<G: Read, P: Place, R: Threads + Wait + Sync>(
+/// Whether a preparation for this destination ends with this status and this line on standard error.
+fn is_ended<G: Read, D: Destination, R: Threads + Wait + Sync>(
     rt: &R,
     alloc: Global,
     graph: &mut G,
-    place: &mut P,
+    destination: &mut D,
     status: u8,
     line: &[u8],
 ) -> bool {
     let mut err = Vec::new(alloc);
-    let ended = prepare_whole(rt, alloc, &preparing(), graph, place, &mut err);
+    let ended = prepare_whole(rt, alloc, &preparing(), graph, destination, &mut err);
     (ended == status) & (err.as_slice() == line)
 }
 
-/// The graph's text, whether the place refuses it, the status, what stands there then, and the line on standard error.
+/// The graph's text, whether the destination refuses it, the status, what stands there then, and the line on standard error.
 const PUT: [(&[u8], bool, u8, &[u8], &[u8]); 3] = [
     (GRAPH, false, 0, ONE_ARC, b""),
     (GRAPH, true, 7, b"old", b"routecli: write\n"),

@@ -3,18 +3,18 @@ use std::io::{self, Write};
 
 /// Where bytes come to stand all at once, or not at all.
 ///
-/// They are gathered in a draft, which is put there once it is whole. Each draft that a place gives is put there or
-/// thrown away.
-pub trait Place {
+/// They are gathered in a draft, which is put there once it is whole. Each draft that a destination gives is put there
+/// or thrown away.
+pub trait Destination {
     ghost use Rattle.std.specs.Prelude.{◌≡◌, ℕ, List, [], Option, Some, None, option_map, IfOk, OnOk, OnErr};
 
     /// What gathers the bytes.
     type Draft: Write + Drop;
 
-    /// What stands there, where the place tells it: nothing, or these bytes.
+    /// What stands there, where the destination tells it: nothing, or these bytes.
     ghost stands: { Self → Option (Option (List ℕ)) } = { λ _. None };
 
-    /// A draft without bytes. It tells its bytes where the place tells what stands there.
+    /// A draft without bytes. It tells its bytes where the destination tells what stands there.
     fn draft(&self) -> Result<Self::Draft, AllocError>
         ensures { IfOk result (λ draft. Self.Draft.contents draft ≡ option_map (λ _. []) (stands self.now)) };
 
