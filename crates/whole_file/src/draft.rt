@@ -18,9 +18,9 @@ const MOST_LINKS: u32 = 40;
 #[derive(Drop)]
 pub struct Draft<'a, R: Files> {
     files: &'a R,
-    // where the bytes come to stand, where all links are followed
+    // where the bytes come to stand: the path as it was given, or what its links lead to
     target: PathBuf,
-    // they are written there, since no file is kept there
+    // they are written there at once, by the path as it was given
     is_straight: bool,
     beside: Beside,
     file: Option<R::File>,
@@ -29,13 +29,18 @@ pub struct Draft<'a, R: Files> {
 impl<'a, R: Files + AllocGlobal> Draft<'a, R> {
     /// A draft of what comes to stand at this path.
     pub(crate) fn new(files: &'a R, path: &str) -> Result<Draft<'a, R>, AllocError> {
-        let target = target_of(files, path)?;
-        let beside = Beside::new(files.alloc(), target.as_path())?;
+        let followed = target_of(files, path)?;
+        let is_straight = is_straight(files, path, followed.as_str());
+        let target = if is_straight {
+            PathBuf::from_str(files.alloc(), path)?
+        } else {
+            followed
+        };
         Ok(Draft {
             files,
-            is_straight: is_straight(files, path, target.as_str()),
+            is_straight,
+            beside: Beside::new(files.alloc(), target.as_path())?,
             target,
-            beside,
             file: None,
         })
     }
