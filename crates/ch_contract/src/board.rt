@@ -174,7 +174,7 @@ impl<S: Site> Board<S> {
         }
         self.agree(proposal);
         match self.contract(rt, proposal.node(), proposal.shortcuts()) {
-            Ok(receipt) => Ok(receipt),
+            Ok(handed) => Ok(handed),
             Err(BookError::OutOfMemory) => Err(CommitError::OutOfMemory),
             Err(BookError::Slot) => Err(CommitError::Slot),
         }
