@@ -1,20 +1,15 @@
 -- Answers that are kept: what the source stands by, as it moves and answers more.
-use Rattle.std.proofs.Common.{ℕ, ◌≡◌, ◌≢◌, ◌<◌, ◌^◌, Option, Some, None, refl, sym, subst, ◌∙◌, inl, inr}
+use Rattle.std.proofs.Common.{ℕ, ◌≡◌, ◌≢◌, ◌<◌, ◌^◌, Some, sym, subst, ◌∙◌, inl, inr}
 use Rattle.std.proofs.lemmas.Bool.{cases_eq}
 use Rattle.ch_cost.specs.declared.cost.Cost.{Cost}
 use Rattle.ch_overlay.specs.declared.source.Seen.{Seen}
 use Rattle.ch_overlay.specs.Source.{row_in, IsBound, IsSeenRow}
 use Rattle.ch_laws.specs.Rows.{Row, Rises}
 use Rattle.ch_overlay.specs.Overlay.{AreEntries}
-use Rattle.ch_witness.specs.Kept.{Kept, AreKept, IsAnswer, IsCopy, IsKept, IsMore, IsSame}
+use Rattle.ch_witness.specs.Kept.{Kept, AreKept, IsAnswer, IsKept, IsMore, IsSame}
 
 some-same : (a b : Seen) → Some a ≡ Some b → a ≡ b
 some-same a b e = cc
-
--- a copy of the answer for a node is of an answer that is kept for it
-pub copy_known : (o : Option Seen) (c : Seen) → IsCopy o (Some c) → (s : Seen) × (o ≡ Some s) × IsSame s c
-copy_known None c h = absurd h
-copy_known (Some s) c h = (s, refl, h)
 
 module _ (Bears Shows Now : Seen → Type 0) (bound now : Cost) (kept : Kept) (same : now ≡ bound) (still : (s : Seen) → Shows s → Now s) (are : AreKept Bears Shows bound kept) where
   -- the source moves

@@ -26,13 +26,6 @@ pub record IsSame (s c : Seen) : Type 0 where
   pub version : c.version ≡ s.version
   pub row : row_in c ≡ row_in s
 
--- the second is the same answer as the first, or neither is there
-abbrev pub IsCopy : Option Seen → Option Seen → Type 0
-IsCopy None None = Unit {0}
-IsCopy (Some s) (Some c) = IsSame s c
-IsCopy None (Some c) = ⊥
-IsCopy (Some s) None = ⊥
-
 -- the answer is the same as the one that is kept for its node
 pub record IsKept (kept : Kept) (c : Seen) : Type 0 where
   pub original : Seen

@@ -1,6 +1,5 @@
 ghost use Rattle.std.specs.Prelude.{◌≡◌, IfOk};
 ghost use Rattle.ch_overlay.specs.Source.{row_in};
-ghost use Rattle.ch_witness.specs.Kept.{IsCopy};
 
 use ch_overlay::Seen;
 use std::alloc::AllocError;
@@ -18,14 +17,4 @@ pub fn copy_of(seen: &Seen) -> Result<Seen, AllocError>
         row: Arc::try_clone(&seen.row)?,
         token: None,
     })
-}
-
-/// The same of an answer that may be there.
-pub fn copy_of_some(known: &Option<Seen>) -> Result<Option<Seen>, AllocError>
-    ensures { IfOk result (IsCopy known.now) }
-{
-    match known {
-        Some(seen) => Ok(Some(copy_of(seen)?)),
-        None => Ok(None),
-    }
 }

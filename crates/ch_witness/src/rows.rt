@@ -1,6 +1,6 @@
 ghost use Rattle.std.specs.Prelude.{◌≡◌, length};
 
-use crate::copying::{copy_of, copy_of_some};
+use crate::copying::copy_of;
 use crate::node_index::NodeIndex;
 use ch_overlay::{RowSource, SeeError, Seen};
 use std::alloc::{AllocError, Global};
@@ -19,9 +19,10 @@ pub struct Rows {
 
 impl Rows {
     ghost use Rattle.std.specs.Prelude.{◌≡◌, ◌≢◌, ◌<◌, ℕ, IfOk, OnOk, OnErr, None, Some, slice_index};
+    ghost use Rattle.std.specs.Option.{option_copied};
     ghost use Rattle.ch_overlay.specs.declared.source.SeeError.TheVariants.{Unseen};
     ghost use Rattle.ch_overlay.specs.Source.{IsBound, IsSeenRow};
-    ghost use Rattle.ch_witness.specs.Kept.{kept_of, AllNamed, AreKept, AreListed, IsCopy, IsKept, IsListed, IsMore, OfTheirNodes};
+    ghost use Rattle.ch_witness.specs.Kept.{kept_of, AllNamed, AreKept, AreListed, IsKept, IsListed, IsMore, OfTheirNodes};
 
     /// No answers. It takes no memory yet.
     pub fn new(alloc: Global) -> Rows
@@ -58,9 +59,8 @@ impl Rows {
         ensures found { S.whole source.old node → result ≡ Err Unseen → ⊥ }
         ensures names { S.whole source.old node → AllNamed (S.whole source.old) (kept_of self.old) → AllNamed (S.whole source.new) (kept_of self.new) }
     {
-        let known = self.known(node)?;
-        if let Some(copy) = known {
-            return Ok(copy);
+        if let Some(seen) = self.known(node) {
+            return Ok(copy_of(seen)?);
         }
         let seen = source.row_of(node)?;
         let copy = copy_of(&seen)?;
@@ -129,13 +129,11 @@ impl Rows {
         Ok(())
     }
 
-    /// A copy of the answer that is kept for a node, or none where none is.
-    fn known(&self, node: u32) -> Result<Option<Seen>, AllocError>
-        ensures { IfOk result (IsCopy (kept_of self.now node)) }
+    /// The answer that is kept for a node, or none where none is.
+    fn known(&self, node: u32) -> Option<&Seen>
+        ensures { option_copied result ≡ kept_of self.now node }
     {
-        let Some(place) = self.nodes.find(node) else {
-            return Ok(None);
-        };
-        copy_of_some(&self.kept[place])
+        let place = self.nodes.find(node)?;
+        self.kept[place].as_ref()
     }
 }

@@ -1,15 +1,13 @@
-use Rattle.std.proofs.Common.{◌≡◌, None, sym, subst, ap, ◌∙◌}
-use Rattle.std.specs.Result.{IfOk}
-use Rattle.ch_witness.specs.Kept.{kept_of, joined, IsCopy}
+use Rattle.std.proofs.Common.{sym, ap, ◌∙◌}
+use Rattle.std.specs.Option.{option_copied}
+use Rattle.ch_witness.specs.Kept.{joined}
 use Rattle.ch_witness.proofs.Valued.{value_absent, value_found}
 use Rattle.ch_witness.proofs.rows.Rows.known.Goals as goal
 
-pub returns-in_default : goal.returns-in_default
-returns-in_default c =
-    let none : kept_of c.args.self.now c.args.node ≡ None = ap joined (value_absent c.args.self.now.nodes c.args.self.now.kept.items c.args.node c.in_default.ensures.absent) in
-    subst (λ o. IsCopy o None) (sym none) tt
+pub returns-in_err-place : goal.returns-in_err-place
+returns-in_err-place c =
+    ap option_copied c.from_residual.ensures ∙ sym (ap joined (value_absent c.args.self.now.nodes c.args.self.now.kept.items c.args.node (c.in_err-place.ensures.absent)))
 
 pub returns : goal.returns
 returns c =
-    let known : kept_of c.args.self.now c.args.node ≡ c.index.result.now = ap joined (value_found c.args.self.now.nodes c.args.self.now.kept.items c.args.node c.in-Some.place c.index.result.now c.args.self.now.paired c.in-Some.ensures.found) ∙ sym c.index.ensures in
-    subst (λ o. IfOk c.copy_of_some.result (IsCopy o)) (sym known) c.copy_of_some.ensures
+    c.as_ref.ensures.value ∙ c.index.ensures ∙ sym (ap joined (value_found c.args.self.now.nodes c.args.self.now.kept.items c.args.node c.in_ok-place.place c.index.result.now c.args.self.now.paired c.in_ok-place.ensures.found))

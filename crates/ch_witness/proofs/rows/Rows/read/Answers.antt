@@ -1,19 +1,10 @@
-use Rattle.std.proofs.Common.{ℕ, ◌≡◌, Some, sym, subst, ◌∙◌}
+use Rattle.std.proofs.Common.{ℕ, ◌≡◌, Some, sym, subst, ap, ◌∙◌}
+use Rattle.std.specs.Option.{option_copied}
 use Rattle.ch_overlay.specs.Source.{IsBound, IsSeenRow}
 use Rattle.ch_cost.specs.declared.cost.Cost.{Cost}
-use Rattle.ch_witness.specs.Kept.{kept_of, IsCopy}
-use Rattle.ch_witness.proofs.Keeping.{copy_known, copy_row, kept_moved, kept_put}
+use Rattle.ch_witness.specs.Kept.{kept_of}
+use Rattle.ch_witness.proofs.Keeping.{copy_row, kept_moved, kept_put}
 use Rattle.ch_witness.proofs.rows.Rows.read.Goals as goal
-
-pub returns-in-Some-clause-node : goal.returns-in-Some-clause-node
-returns-in-Some-clause-node g c =
-    let known = copy_known (kept_of c.args.self.now c.args.node) c.in-Some.copy (subst (IsCopy (kept_of c.args.self.now c.args.node)) c.in-Some.is c.in_ok-known.ensures) in
-    known.2.node ∙ (c.requires.kept c.args.node known.0 known.1).node
-
-pub returns-in-Some-clause-copy : goal.returns-in-Some-clause-copy
-returns-in-Some-clause-copy g c =
-    let known = copy_known (kept_of c.args.self.now c.args.node) c.in-Some.copy (subst (IsCopy (kept_of c.args.self.now c.args.node)) c.in-Some.is c.in_ok-known.ensures) in
-    record { original = known.0; here = subst (λ (x : ℕ). kept_of c.args.self.now x ≡ Some known.0) (sym (known.2.node ∙ (c.requires.kept c.args.node known.0 known.1).node)) known.1; same = known.2 }
 
 pub returns-in_err-seen-clause-kept : goal.returns-in_err-seen-clause-kept
 returns-in_err-seen-clause-kept g c = kept_moved g.S.RowSource.bears (g.S.RowSource.shows c.args.source.now) (g.S.RowSource.shows c.row_of.new.self) (g.S.RowSource.bound_of c.args.source.now) (g.S.RowSource.bound_of c.row_of.new.self) (kept_of c.args.self.now) (g.met.S.RowSource.same_bound c.args.source.now c.row_of.new.self c.in_err-seen.ensures.stays) (λ s h. g.met.S.RowSource.still_shows c.args.source.now c.row_of.new.self s c.in_err-seen.ensures.stays h) c.requires.kept
@@ -33,15 +24,33 @@ returns-clause-kept g c = kept_put g.S.RowSource.bears (g.S.RowSource.shows c.ar
   limit = subst IsBound (sym (g.met.S.RowSource.same_bound c.args.source.now c.row_of.new.self c.in_ok-seen.ensures.stays)) c.in_ok-seen.ensures.bound;
 }) c.in_ok-put.ensures.here c.put.ensures.others
 
+pub returns-clause-row : goal.returns-clause-row
+returns-clause-row g c = copy_row (g.S.RowSource.bound_of c.args.source.now) c.in_ok-seen.seen c.in_ok-copy.copy (record { node = c.in_ok-copy.ensures.node; version = c.in_ok-copy.ensures.version; row = c.in_ok-copy.ensures.row }) c.in_ok-seen.ensures.row
+
+pub returns-in-Some-clause-node : goal.returns-in-Some-clause-node
+returns-in-Some-clause-node g c =
+    let kept : kept_of c.args.self.now c.args.node ≡ Some c.in-Some.seen.now = sym c.known.ensures ∙ ap option_copied c.in-Some.is in
+    let answer = c.requires.kept c.args.node c.in-Some.seen.now kept in
+    c.in_ok-copy_of.ensures.node ∙ answer.node
+
+pub returns-in-Some-clause-copy : goal.returns-in-Some-clause-copy
+returns-in-Some-clause-copy g c =
+    let kept : kept_of c.args.self.now c.args.node ≡ Some c.in-Some.seen.now = sym c.known.ensures ∙ ap option_copied c.in-Some.is in
+    let answer = c.requires.kept c.args.node c.in-Some.seen.now kept in
+    record {
+      original = c.in-Some.seen.now;
+      here = subst (λ (x : ℕ). kept_of c.args.self.now x ≡ Some c.in-Some.seen.now) (sym (c.in_ok-copy_of.ensures.node ∙ answer.node)) kept;
+      same = record { node = c.in_ok-copy_of.ensures.node; version = c.in_ok-copy_of.ensures.version; row = c.in_ok-copy_of.ensures.row };
+    }
+
 pub returns-in-Some-clause-row : goal.returns-in-Some-clause-row
 returns-in-Some-clause-row g c =
-    let known = copy_known (kept_of c.args.self.now c.args.node) c.in-Some.copy (subst (IsCopy (kept_of c.args.self.now c.args.node)) c.in-Some.is c.in_ok-known.ensures) in
-    copy_row (g.S.RowSource.bound_of c.args.source.now) known.0 c.in-Some.copy known.2 (c.requires.kept c.args.node known.0 known.1).row
+    let kept : kept_of c.args.self.now c.args.node ≡ Some c.in-Some.seen.now = sym c.known.ensures ∙ ap option_copied c.in-Some.is in
+    let answer = c.requires.kept c.args.node c.in-Some.seen.now kept in
+    copy_row (g.S.RowSource.bound_of c.args.source.now) c.in-Some.seen.now c.in_ok-copy_of.field-0 (record { node = c.in_ok-copy_of.ensures.node; version = c.in_ok-copy_of.ensures.version; row = c.in_ok-copy_of.ensures.row }) answer.row
 
 pub returns-in-Some-clause-bound : goal.returns-in-Some-clause-bound
 returns-in-Some-clause-bound g c =
-    let known = copy_known (kept_of c.args.self.now c.args.node) c.in-Some.copy (subst (IsCopy (kept_of c.args.self.now c.args.node)) c.in-Some.is c.in_ok-known.ensures) in
-    (c.requires.kept c.args.node known.0 known.1).limit
-
-pub returns-clause-row : goal.returns-clause-row
-returns-clause-row g c = copy_row (g.S.RowSource.bound_of c.args.source.now) c.in_ok-seen.seen c.in_ok-copy.copy (record { node = c.in_ok-copy.ensures.node; version = c.in_ok-copy.ensures.version; row = c.in_ok-copy.ensures.row }) c.in_ok-seen.ensures.row
+    let kept : kept_of c.args.self.now c.args.node ≡ Some c.in-Some.seen.now = sym c.known.ensures ∙ ap option_copied c.in-Some.is in
+    let answer = c.requires.kept c.args.node c.in-Some.seen.now kept in
+    answer.limit
