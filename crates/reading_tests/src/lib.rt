@@ -8,6 +8,10 @@
 #[cfg(test)]
 mod calls;
 #[cfg(test)]
+mod changes;
+#[cfg(test)]
 mod files;
+#[cfg(test)]
+mod plain;
 #[cfg(test)]
 mod texts;
