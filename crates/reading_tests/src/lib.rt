@@ -10,4 +10,6 @@ mod calls;
 #[cfg(test)]
 mod files;
 #[cfg(test)]
+mod refused;
+#[cfg(test)]
 mod texts;
