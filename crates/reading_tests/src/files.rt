@@ -201,7 +201,7 @@ fn refuses_files(rt: HostRuntime) -> Result<(), AllocError> {
 }
 
 // Of 38 nodes each two are linked, by way of the node below the lower one.
-fn cascade(alloc: Global) -> Result<Vec<u32>, AllocError> {
+pub(crate) fn cascade(alloc: Global) -> Result<Vec<u32>, AllocError> {
     let mut words = Vec::new(alloc);
     words.extend_from_slice(&[MAGIC, 38, 0, 1406, 36, 0xffff_ffdb])?;
     for rank in 0..38u32 {

@@ -14,4 +14,6 @@ mod files;
 #[cfg(test)]
 mod plain;
 #[cfg(test)]
+mod refused;
+#[cfg(test)]
 mod texts;
