@@ -51,13 +51,6 @@ impl<S: Site> Model for Board<S> {
     ghost invariant = { λ b. IsInBook S.graph S.book b.ledger b.pen };
 }
 
-/// A receipt, and the rows that were shown for it.
-#[derive(Drop)]
-struct Done<S: Site> {
-    receipt: Receipt,
-    laid: Vec<Laid<S>>,
-}
-
 impl<S: Site> Board<S> {
     /// A board of this graph, with no node contracted, whose rows stand in the book that the blank is opened as; and a
     /// reader of that book.
@@ -136,14 +129,11 @@ impl<S: Site> Board<S> {
         ensures contracted { (result ≡ Err commits.Contracted) ↔ IsContractedYet self.old proposal }
         ensures stale { (node seen now front : ℕ) → (result ≡ Err (commits.Stale node seen now front)) ↔ IsStale self.old proposal node seen now front }
     {
-        match self.accept(rt, &proposal) {
-            Ok(done) => Ok(done.receipt),
-            Err(refused) => Err(refused),
-        }
+        self.accept(rt, &proposal)
     }
 
-    /// Commits a proposal, as [`Board::commit`] does, and lets a reader of the board's book glance at each row that
-    /// changed. On a refusal the reader is as it was, too.
+    /// Commits a proposal, as [`Board::commit`] does, and tells a reader of the board's book the versions as they are
+    /// then, so that it reads no older row from there on. On a refusal the reader is as it was, too.
     pub fn commit_and_see<R: Wait>(
         &mut self,
         rt: &R,
@@ -154,25 +144,26 @@ impl<S: Site> Board<S> {
         requires bound { proposal.bound ≡ S.book.bound }
         ensures ok { IfOk result (λ receipt. IsContracted self.old proposal.node proposal.shortcuts receipt self.new) }
         ensures err { OnErr result (self.new ≡ self.old) }
+        ensures seen { IfOk result (λ _. (x : ℕ) → IsNode self.new x → slice_index reader.new x ≡ version_now self.new x) }
         ensures unseen { OnErr result (reader.new ≡ reader.old) }
         ensures risen { IsBelow reader.old reader.new }
         ensures contracted { (result ≡ Err commits.Contracted) ↔ IsContractedYet self.old proposal }
         ensures stale { (node seen now front : ℕ) → (result ≡ Err (commits.Stale node seen now front)) ↔ IsStale self.old proposal node seen now front }
     {
         match self.accept(rt, &proposal) {
-            Ok(done) => {
-                reader.glance_all(done.laid.as_slice());
-                Ok(done.receipt)
+            Ok(receipt) => {
+                self.pen.tell(reader);
+                Ok(receipt)
             }
             Err(refused) => Err(refused),
         }
     }
 
     /// Contracts the node of a proposal that isn't refused by version numbers.
-    fn accept<R: Wait>(&mut self, rt: &R, proposal: &Proposal) -> Result<Done<S>, CommitError>
+    fn accept<R: Wait>(&mut self, rt: &R, proposal: &Proposal) -> Result<Receipt, CommitError>
         requires of_book { All (IsOfBook S.book) proposal.now.rests_on }
         requires bound { proposal.now.bound ≡ S.book.bound }
-        ensures ok { IfOk result (λ done. IsContracted self.old proposal.now.node proposal.now.shortcuts done.receipt self.new) }
+        ensures ok { IfOk result (λ receipt. IsContracted self.old proposal.now.node proposal.now.shortcuts receipt self.new) }
         ensures err { OnErr result (self.new ≡ self.old) }
         ensures contracted { (result ≡ Err commits.Contracted) ↔ IsContractedYet self.old proposal.now }
         ensures stale { (node seen now front : ℕ) → (result ≡ Err (commits.Stale node seen now front)) ↔ IsStale self.old proposal.now node seen now front }
@@ -183,7 +174,7 @@ impl<S: Site> Board<S> {
         }
         self.agree(proposal);
         match self.contract(rt, proposal.node(), proposal.shortcuts()) {
-            Ok(done) => Ok(done),
+            Ok(handed) => Ok(handed),
             Err(BookError::OutOfMemory) => Err(CommitError::OutOfMemory),
             Err(BookError::Slot) => Err(CommitError::Slot),
         }
@@ -211,9 +202,9 @@ impl<S: Site> Board<S> {
         rt: &R,
         node: u32,
         shortcuts: &[Shortcut],
-    ) -> Result<Done<S>, BookError>
+    ) -> Result<Receipt, BookError>
         requires { AreLawful self.old node shortcuts.now }
-        ensures ok { IfOk result (λ done. IsContracted self.old node shortcuts.now done.receipt self.new) }
+        ensures ok { IfOk result (λ receipt. IsContracted self.old node shortcuts.now receipt self.new) }
         ensures err { OnErr result (self.new ≡ self.old) }
     {
         self.ledger.holds();
@@ -225,7 +216,7 @@ impl<S: Site> Board<S> {
         self.pen.show_all(laid.as_slice());
         let receipt = self.ledger.enter(planned, versions.as_slice());
         self.ledger.holds();
-        Ok(Done { receipt, laid })
+        Ok(receipt)
     }
 
     /// Contracts each node that isn't contracted, by rising number, by proposals whose searches settle at most

@@ -71,3 +71,13 @@ here old new x v words nodes is count wide h =
 -- a front that rises in one place is nowhere below
 pub rises_to : (old new : List ℕ) (x v : ℕ) → new ≡ set old x v → get_or old x 0 ≤ v → IsBelow old new
 rises_to old new x v is h j = subst (λ (l : List ℕ). get_or old j 0 ≤ get_or l j 0) (sym is) (below_set old x v j h)
+
+-- a front joined with the words, which it is nowhere above
+pub caught_up : (old kept part words current new : List ℕ) (x : ℕ) → kept ≡ old → part ≡ old → current ≡ words → new ≡ greater kept current → IsBelow part words → get_or new x 0 ≡ get_or words x 0
+caught_up old kept part words current new x same parted now joined below =
+    let mine : get_or kept x 0 ≡ get_or old x 0 = ap (λ (l : List ℕ). get_or l x 0) same in
+    let theirs : get_or part x 0 ≡ get_or old x 0 = ap (λ (l : List ℕ). get_or l x 0) parted in
+    let words_are : get_or current x 0 ≡ get_or words x 0 = ap (λ (l : List ℕ). get_or l x 0) now in
+    let both : get_or new x 0 ≡ max (get_or kept x 0) (get_or current x 0) = ap (λ (l : List ℕ). get_or l x 0) joined ∙ greater_at kept current x in
+    let under : get_or part x 0 ≤ get_or words x 0 = below x in
+    both ∙ max-eq_right (omega (arith, mine, theirs, words_are, under)) ∙ words_are

@@ -4,13 +4,11 @@ ghost use Rattle.std.specs.Arc.{arc_value};
 ghost use Rattle.ch_overlay.specs.Change.{puts};
 ghost use Rattle.ch_overlay.specs.Records.{IsSoundRow, row_of};
 ghost use Rattle.ch_rowbook.specs.Showing.{IsShowable, of_node};
-ghost use Rattle.ch_rowbook.specs.Words.{IsBelow};
 
 use crate::book::Book;
 use crate::error::BookError;
 use crate::laid::Laid;
 use crate::pen::Pen;
-use crate::reader::Reader;
 use ch_overlay::Row;
 use std::alloc::Global;
 use std::sync::{Arc, Wait};
@@ -83,16 +81,5 @@ impl<B: Book> Pen<B> {
         let all = self.lay_all(rt, alloc, rows)?;
         self.show_all(all.as_slice());
         Ok(all)
-    }
-}
-
-impl<B: Book> Reader<B> {
-    /// Glances at the nodes of these records, first to last. No version of its front falls. Takes no memory.
-    pub fn glance_all(&mut self, laid: &[Laid<B>])
-        ensures { IsBelow self.old self.new }
-    {
-        'laid: for at in 0..laid.len() {
-            self.glance(laid[at].node());
-        }
     }
 }

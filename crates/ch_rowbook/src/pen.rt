@@ -1,14 +1,16 @@
 //! The pen of a book.
-ghost use Rattle.std.specs.Prelude.{◌≡◌, ◌+◌, ◌<◌, ◌≤◌, IfOk, OnErr, slice_index, slice_set};
+ghost use Rattle.std.specs.Prelude.{◌≡◌, ◌+◌, ◌<◌, ◌≤◌, ℕ, IfOk, OnErr, slice_index, slice_set};
 ghost use Rattle.std.specs.Arc.{arc_value};
 ghost use Rattle.ch_laws.specs.Rows.{row_at};
 ghost use Rattle.ch_overlay.specs.Source.{IsSeenRow, row_in};
 ghost use Rattle.ch_rowbook.specs.Books.{IsOfBook, PenKeeps, pen_of, versions_of};
+ghost use Rattle.ch_rowbook.specs.Words.{IsBelow};
 ghost use Rattle.ch_overlay.specs.Records.{IsSoundRow, row_of};
 
 use crate::book::Book;
 use crate::error::BookError;
 use crate::laid::Laid;
+use crate::reader::Reader;
 use crate::shelf::Shelf;
 use crate::words::Known;
 use atomic_table::Seat;
@@ -144,6 +146,20 @@ impl<B: Book> Pen<B> {
         ensures row { IfOk result (λ s. IsSeenRow B.book.bound s) }
     {
         self.shelf.seen(self.current[node as usize].again())
+    }
+
+    /// Tells a reader of the book all current versions, which become its front: what it reads next isn't older.
+    ///
+    /// Takes no memory, and doesn't wait.
+    pub fn tell(&mut self, reader: &mut Reader<B>)
+        ensures same { self.new ≡ self.old }
+        ensures front { (x : ℕ) → x < B.book.nodes → slice_index reader.new x ≡ slice_index self.old.versions x }
+        ensures risen { IsBelow reader.old reader.new }
+    {
+        let front = self.shelf.part(&mut reader.seat);
+        self.shelf.hear(&mut self.seat, front);
+        let current = self.shelf.part_of_pen(&mut self.seat);
+        self.shelf.meet(&mut reader.seat, current);
     }
 
     /// An answer of this book whose version is current has the current row. It does nothing when it runs but look at

@@ -20,7 +20,7 @@ use std::sync::Arc;
 #[derive(Drop)]
 pub struct Reader<B: Book> {
     shelf: Arc<Shelf<B>>,
-    seat: Seat<(), Known>,
+    pub(crate) seat: Seat<(), Known>,
 }
 
 impl<B: Book> Model for Reader<B> {

@@ -5,12 +5,12 @@ ghost use Rattle.boxcar.specs.Table.{Shows};
 ghost use Rattle.ch_overlay.specs.Source.{IsSeenRow};
 ghost use Rattle.ch_overlay.specs.Records.{Bears, IsSoundRow, mark_of, row_of};
 ghost use Rattle.ch_rowbook.specs.Books.{IsPenSeat, IsReaderSeat};
-ghost use Rattle.ch_rowbook.specs.Words.{greater, width};
+ghost use Rattle.ch_rowbook.specs.Words.{IsBelow, greater, width};
 
 use crate::blank::{Records, Words};
 use crate::book::Book;
 use crate::error::BookError;
-use crate::words::{Known, Loads, Meets, Parts, Stores};
+use crate::words::{Compares, Hears, Known, Loads, Meets, Parts, Stores};
 use atomic_table::Seat;
 use ch_cost::Cost;
 use ch_overlay::{Record, Row, SeeError, Seen, Token};
@@ -89,6 +89,18 @@ impl<B: Book> Shelf<B> {
         ensures front { seat.new.me.0.versions ≡ greater seat.old.me.0.versions other.me.0.versions }
     {
         self.table.shared.join_seat::<Meets>(seat, other);
+    }
+
+    /// Joins a reader's seat into the pen's: its front is nowhere above the words, as a load shows the pen.
+    pub(crate) fn hear(&self, seat: &mut Seat<(), Known>, other: Seat<(), Known>)
+        requires seat { IsPenSeat B.book seat.old }
+        requires other { IsReaderSeat B.book other }
+        ensures seat { IsPenSeat B.book seat.new }
+        ensures same { seat.new.me.0.versions ≡ seat.old.me.0.versions }
+        ensures below { IsBelow other.me.0.versions seat.old.me.0.versions }
+    {
+        self.table.shared.join_seat::<Hears>(seat, other);
+        self.table.shared.load::<Compares>(seat, 0);
     }
 
     /// Appends a record, whose place isn't below `next`, and answers its token.

@@ -1,5 +1,5 @@
 //! The words of a book: the rule that they keep, and what each step on them tells.
-ghost use Rattle.ch_rowbook.specs.Words.{Keeps, IsLoad, IsStore, greater, no_versions, pen_with, reader_with};
+ghost use Rattle.ch_rowbook.specs.Words.{Keeps, IsCompare, IsLoad, IsStore, greater, hearing, no_versions, pen_with, reader_with};
 
 use atomic_table::{Join, Play, Split, TableRule};
 use std::collections::LinkedList;
@@ -10,6 +10,8 @@ pub struct Known {
     pub is_pen: bool,
     /// The pen: each node's word. A reader: its front.
     pub versions: LinkedList<u64>,
+    /// The pen: a front that it was told, until it compares it with the words.
+    pub heard: LinkedList<u64>,
 }
 
 /// The rule of the words, of which there are so many.
@@ -35,6 +37,13 @@ impl Play<(), Known> for Stores {
     ghost then = { IsStore };
 }
 
+/// The pen's load of a word, by which it compares the front that it was told with the words.
+pub struct Compares;
+
+impl Play<(), Known> for Compares {
+    ghost then = { IsCompare };
+}
+
 /// A reader is split off, with the same front.
 pub struct Parts;
 
@@ -51,6 +60,17 @@ impl Join<Known> for Meets {
     ghost use Rattle.std.specs.Prelude.{[]};
 
     ghost both = { λ v w. reader_with (greater v.versions w.versions) };
+
+    ghost spent = { reader_with [] };
+}
+
+/// A reader is joined into the pen, which is told its front.
+pub struct Hears;
+
+impl Join<Known> for Hears {
+    ghost use Rattle.std.specs.Prelude.{[]};
+
+    ghost both = { λ v w. hearing v.versions w.versions };
 
     ghost spent = { reader_with [] };
 }
