@@ -1,6 +1,7 @@
 pub mod ByWalks
 pub mod Exact
 pub mod FromBuild
+pub mod JoinedFaults
 pub mod JoinedLines
 pub mod LineFeeds
 pub mod Naming
