@@ -1,102 +1,168 @@
-// Refuses or slows down the calls of the system that whole_files.py names in the environment variable REFUSED. It is
-// loaded before the C library.
-#define _GNU_SOURCE
-#include <dlfcn.h>
-#include <errno.h>
-#include <fcntl.h>
-#include <stdarg.h>
-#include <stdio.h>
-#include <stdlib.h>
-#include <string.h>
-#include <sys/stat.h>
-#include <unistd.h>
+// Loaded before a program, this refuses one of its growths, or one of its reads, writes and syncs, and keeps an account
+// of it in a file. Built with the toolchain's clang, which has no header files, so what is used of the C library is
+// declared here.
+//
+// REFUSE       growth, call, short, interrupt or bytes: what happens to the growth or call of the number REFUSE_AT, as
+//              the program makes them, counted from 1. A growth and a call are refused, a read or write of several bytes
+//              moves one (short), is interrupted, or each of them moves one (bytes, which takes no number).
+// REFUSE_FILE  the file of the account, which is there and as long as one.
 
-static int is_refused(const char *call) {
-  const char *refused = getenv("REFUSED");
-  return refused != NULL && strcmp(refused, call) == 0;
+typedef unsigned long word;
+
+struct header { unsigned type, flags; word offset, at, physical, held, size, align; };
+struct object { word base; const char *name; const struct header *headers; unsigned short count; };
+struct part { void *start; word length; };
+
+extern void *__libc_malloc(word);
+extern void *__libc_realloc(void *, word);
+extern int dl_iterate_phdr(int (*)(struct object *, word, void *), void *);
+extern char *getenv(const char *);
+extern int open(const char *, int, ...);
+extern void *mmap(void *, word, int, int, int, long);
+extern long syscall(long, ...);
+extern int *__errno_location(void);
+
+enum { READ = 0, WRITE = 1, WRITE_PARTS = 20, PROCESS = 39, SYNC = 74, SYNC_DATA = 75, READ_MEMORY = 310 };
+enum { INTERRUPTED = 4, NO_MEMORY = 12, INPUT_OUTPUT = 5 };
+enum { DEPTH = 1020, PAGE = 4096, PAGES = 8 };
+
+// How many growths and calls there were; whether one was refused, and then the words of the stack that are places of the
+// program, from the inside: where the calls that led to the growth go on, among others.
+static struct account { word growths, calls, refused, depth, places[DEPTH]; } *account;
+
+static enum { NOTHING, GROWTH, CALL, SHORT, INTERRUPT, BYTES } what;
+static word which, low, high, base;
+
+static int main_program(struct object *object, word size, void *unused)
+{
+    base = object->base;
+    low = ~0ul;
+    for (unsigned short i = 0; i < object->count; i++) {
+        const struct header *part = object->headers + i;
+        if (part->type == 1 && part->at + base < low)
+            low = part->at + base;
+        if (part->type == 1 && part->at + part->size + base > high)
+            high = part->at + part->size + base;
+    }
+    return 1;
 }
 
-// The writes into files so far.
-static int writes;
-
-ssize_t write(int fd, const void *bytes, size_t count) {
-  ssize_t (*next)(int, const void *, size_t) = dlsym(RTLD_NEXT, "write");
-  if (fd <= 2) {
-    return next(fd, bytes, count);
-  }
-  char call[32];
-  snprintf(call, sizeof call, "write %d", ++writes);
-  if (is_refused(call)) {
-    errno = ENOSPC;
-    return -1;
-  }
-  if (is_refused("interrupted") && writes % 2 == 1) {
-    errno = EINTR;
-    return -1;
-  }
-  if (is_refused("slow")) {
-    usleep(2000);
-  }
-  return next(fd, bytes, is_refused("short") && count > 7 ? 7 : count);
+static int is(const char *a, const char *b)
+{
+    while (*a && *a == *b)
+        a++, b++;
+    return *a == *b;
 }
 
-int fsync(int fd) {
-  if (is_refused("fsync")) {
-    errno = EIO;
-    return -1;
-  }
-  return ((int (*)(int))dlsym(RTLD_NEXT, "fsync"))(fd);
+__attribute__((constructor)) static void begin(void)
+{
+    const char *kind = getenv("REFUSE"), *number = getenv("REFUSE_AT"), *file = getenv("REFUSE_FILE");
+    int opened = file ? open(file, 2) : -1;
+    if (!kind || opened < 0)
+        return;
+    for (; number && *number; number++)
+        which = which * 10 + (word)(*number - '0');
+    what = is(kind, "growth") ? GROWTH : is(kind, "call") ? CALL : is(kind, "short") ? SHORT
+         : is(kind, "interrupt") ? INTERRUPT : is(kind, "bytes") ? BYTES : NOTHING;
+    account = mmap(0, sizeof *account, 3, 1, opened, 0);
+    if ((long)account == -1)
+        account = 0;
+    dl_iterate_phdr(main_program, 0);
 }
 
-int rename(const char *from, const char *to) {
-  if (is_refused("rename")) {
-    errno = EIO;
-    return -1;
-  }
-  if (is_refused("slow")) {
-    usleep(20000);
-  }
-  return ((int (*)(const char *, const char *))dlsym(RTLD_NEXT, "rename"))(from, to);
+// Puts in the words of the stack from here on, a page at a time, since it isn't known where it ends.
+static void keep_stack(word from)
+{
+    static word words[PAGE / sizeof(word)];
+    for (int page = 0; page < PAGES; page++) {
+        word end = (from | (PAGE - 1)) + 1;
+        struct part to = { words, end - from }, source = { (void *)from, end - from };
+        long moved = syscall(READ_MEMORY, syscall(PROCESS), &to, 1ul, &source, 1ul, 0ul);
+        for (long i = 0; i < moved / (long)sizeof(word); i++)
+            if (words[i] >= low && words[i] < high && account->depth < DEPTH)
+                account->places[account->depth++] = words[i] - base;
+        if (moved <= 0)
+            return;
+        from = end;
+    }
 }
 
-int fchmod(int fd, mode_t mode) {
-  if (is_refused("fchmod")) {
-    errno = EPERM;
-    return -1;
-  }
-  return ((int (*)(int, mode_t))dlsym(RTLD_NEXT, "fchmod"))(fd, mode);
+// Whether the program itself calls, and no library for it.
+static int is_own(void *caller)
+{
+    return account && (word)caller >= low && (word)caller < high;
 }
 
-int chown(const char *path, uid_t user, gid_t group) {
-  if (is_refused("chown")) {
-    errno = EPERM;
-    return -1;
-  }
-  return ((int (*)(const char *, uid_t, gid_t))dlsym(RTLD_NEXT, "chown"))(path, user, group);
+static int is_refused_growth(void *caller)
+{
+    if (!is_own(caller) || __atomic_add_fetch(&account->growths, 1, 5) != which || what != GROWTH)
+        return 0;
+    account->refused = 1;
+    keep_stack((word)__builtin_frame_address(0) & ~7ul);
+    *__errno_location() = NO_MEMORY;
+    return 1;
 }
 
-static int opened(const char *name, const char *path, int flags, mode_t mode) {
-  if ((flags & O_EXCL) != 0 && is_refused("open new")) {
-    errno = ENOSPC;
-    return -1;
-  }
-  return ((int (*)(const char *, int, ...))dlsym(RTLD_NEXT, name))(path, flags, mode);
+void *malloc(word size)
+{
+    return is_refused_growth(__builtin_return_address(0)) ? 0 : __libc_malloc(size);
 }
 
-static mode_t mode_of(int flags, va_list rest) { return (flags & O_CREAT) != 0 ? va_arg(rest, mode_t) : 0; }
-
-int open(const char *path, int flags, ...) {
-  va_list rest;
-  va_start(rest, flags);
-  mode_t mode = mode_of(flags, rest);
-  va_end(rest);
-  return opened("open", path, flags, mode);
+void *realloc(void *old, word size)
+{
+    return is_refused_growth(__builtin_return_address(0)) ? 0 : __libc_realloc(old, size);
 }
 
-int open64(const char *path, int flags, ...) {
-  va_list rest;
-  va_start(rest, flags);
-  mode_t mode = mode_of(flags, rest);
-  va_end(rest);
-  return opened("open64", path, flags, mode);
+// Whether the call ends here with an error. Else a length of several bytes may become one.
+static int is_refused_call(void *caller, word *length)
+{
+    if (!is_own(caller))
+        return 0;
+    int is_one = __atomic_add_fetch(&account->calls, 1, 5) == which;
+    if (*length > 1 && (what == BYTES || (what == SHORT && is_one))) {
+        *length = 1;
+        account->refused = 1;
+    }
+    if (!is_one || (what != CALL && what != INTERRUPT))
+        return 0;
+    account->refused = 1;
+    *__errno_location() = what == CALL ? INPUT_OUTPUT : INTERRUPTED;
+    return 1;
+}
+
+long read(int file, void *bytes, word length)
+{
+    return is_refused_call(__builtin_return_address(0), &length) ? -1 : syscall(READ, file, bytes, length);
+}
+
+long write(int file, const void *bytes, word length)
+{
+    return is_refused_call(__builtin_return_address(0), &length) ? -1 : syscall(WRITE, file, bytes, length);
+}
+
+long writev(int file, const struct part *parts, int count)
+{
+    struct part first = { 0, 0 };
+    word length = 0;
+    for (int i = 0; i < count; i++) {
+        if (!first.length)
+            first = parts[i];
+        length += parts[i].length;
+    }
+    word whole = length;
+    if (is_refused_call(__builtin_return_address(0), &length))
+        return -1;
+    return length < whole ? syscall(WRITE, file, first.start, length) : syscall(WRITE_PARTS, file, parts, count);
+}
+
+int fsync(int file)
+{
+    word none = 0;
+    return is_refused_call(__builtin_return_address(0), &none) ? -1 : (int)syscall(SYNC, file);
+}
+
+int fdatasync(int file)
+{
+    word none = 0;
+    return is_refused_call(__builtin_return_address(0), &none) ? -1 : (int)syscall(SYNC_DATA, file);
 }

@@ -8,7 +8,7 @@ new one, whatever happens; nothing is left beside it, but where the program is k
 docs/FORMATS.md. Each case is a line, and the last line counts them; the exit status is 1 if one has failed.
 
 It needs the proved program, which is crates/routecli/out/routecli (README.md says how to build it) or the path in the
-environment variable ROUTECLI. With a C compiler as `cc` single calls of the system are refused too, by refuse.c; as
+environment variable ROUTECLI. With a C compiler as `cc` single calls of the system are refused too, by refuse_call.c; as
 root, the folders and files that may not be written are tried as another user.
 """
 import os
@@ -465,7 +465,7 @@ def refuse_library(top):
     library = top / "refuse.so"
     if shutil.which("cc") is None:
         return None
-    subprocess.run(["cc", "-shared", "-fPIC", "-O1", "-o", library, HERE / "refuse.c", "-ldl"], check=True)
+    subprocess.run(["cc", "-shared", "-fPIC", "-O1", "-o", library, HERE / "refuse_call.c", "-ldl"], check=True)
     return str(library)
 
 

@@ -1,4 +1,4 @@
-ghost use Rattle.std.specs.Prelude.{◌≡◌, ◌<◌, IfOk, length, reverse};
+ghost use Rattle.std.specs.Prelude.{◌≡◌, ◌+◌, ◌^◌, ◌++◌, [], ◌∷◌, ◌<◌, ◌≤◌, IfOk, OnOk, length, reverse};
 ghost use Rattle.ch_graph.specs.Unfolding.{Joined};
 ghost use Rattle.ch_unpack.specs.Unpacking.{IsUnpacked, IsTooLong};
 
@@ -14,7 +14,8 @@ use std::alloc::{AllocError, Global};
 /// the arcs are not fewer than the nodes of the hierarchy, since then the route repeats a node.
 ///
 /// It keeps the nodes that it came to and the places of the links that still lie ahead, together at most as many as the
-/// hierarchy has nodes, and asks for the parts of each of these once, however many arcs the links stand for.
+/// hierarchy has nodes, and asks for the parts of each of these once, however many arcs the links stand for: as soon as
+/// they would be more it ends, and it never calls itself.
 pub fn unpack(
     alloc: Global,
     hierarchy: &Hierarchy,
@@ -37,16 +38,36 @@ pub fn unpack(
     'route: while let Some(next) = ahead.pop() {
         match hierarchy.parts(next) {
             Parts::Shortcut(first, second) => {
-                if nodes.len() + ahead.len() + 2 > room {
-                    return Err(UnpackError::TooLong);
-                }
-                ahead.push(second)?;
-                ahead.push(first)?;
+                turn_off(&mut ahead, nodes.len(), room, first, second)?;
             }
             Parts::Arc(to) => nodes.push(to)?,
         }
     }
     Ok(nodes)
+}
+
+// Puts the halves of a shortcut ahead, the first of them last, where that leaves the nodes that the route came to and
+// the links ahead together at most as many as there is room for. Else it goes no further: each link ahead stands for one
+// arc or more, so the route has more than it may have.
+fn turn_off(
+    ahead: &mut SmallVec<LinkId, 32>,
+    nodes: usize,
+    room: usize,
+    first: LinkId,
+    second: LinkId,
+) -> Result<(), UnpackError>
+    requires so_far { nodes + length ahead.old.items < room }
+    requires few { room < 2 ^ 32 }
+    ensures halves { OnOk result (ahead.new.items ≡ (ahead.old.items ++ second ∷ []) ++ first ∷ []) }
+    ensures in_room { OnOk result (nodes + length ahead.new.items ≤ room) }
+    ensures too_long { result ≡ Err UnpackError.TooLong → room < nodes + length ahead.old.items + 2 }
+{
+    if nodes + ahead.len() + 2 > room {
+        return Err(UnpackError::TooLong);
+    }
+    ahead.push(second)?;
+    ahead.push(first)?;
+    Ok(())
 }
 
 /// The same places, the last first.

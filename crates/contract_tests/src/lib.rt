@@ -18,6 +18,8 @@ mod races;
 #[cfg(test)]
 mod readers;
 #[cfg(test)]
+mod refused;
+#[cfg(test)]
 mod searches;
 #[cfg(test)]
 mod shelf;

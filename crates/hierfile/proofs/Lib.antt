@@ -3,6 +3,7 @@ pub mod Faults
 pub mod Spelled
 pub mod Heads
 pub mod RankFaults
+pub mod RankMarks
 pub mod LinkFaults
 pub mod Halves
 pub mod WellMade

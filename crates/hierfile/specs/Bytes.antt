@@ -1,6 +1,5 @@
 -- What is known of the bytes of a reader and of a writer on the way.
-use Rattle.std.specs.Prelude.{ℕ, ◌≡◌, ◌+◌, ◌-◌, ◌≤◌, take, ◌^◌, ◌<◌, List, ◌++◌, length, Option, Some, None, IfSome, IfOk, IfErr, Result, Ok, Err, ⊤, Bool, false, ◌==◌, slice_index_or}
-use Rattle.std.specs.List.{list_any}
+use Rattle.std.specs.Prelude.{ℕ, ◌≡◌, ◌-◌, ◌≤◌, take, ◌^◌, ◌<◌, List, ◌++◌, length, Option, Some, None, IfSome, IfOk, IfErr, Result, Ok, Err, ⊤}
 use Rattle.std.specs.Io.KnownBytes.{Appends, prepend_known}
 use Rattle.counted_io.specs.Handing.{HandsOn}
 use Rattle.ch_cost.specs.Cost.{length_of}
@@ -40,10 +39,6 @@ Tells (Err e) fault = fault ≡ Some e
 -- no fault at the places below n
 abbrev pub NoneBelow : ℕ → (ℕ → Option HierError) → Type 0
 NoneBelow n fault_at = (k : ℕ) → k < n → fault_at k ≡ None
-
--- the marks say of each number whether it is one of these
-abbrev pub IsSeen : List Bool → List ℕ → Type 0
-IsSeen marks numbers = (n : ℕ) → slice_index_or marks n false ≡ list_any (λ m. m == n) numbers
 
 -- a link whose numbers fit their bytes
 pub record IsWritable (l : Link) : Type 0 where

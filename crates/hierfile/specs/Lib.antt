@@ -1,5 +1,6 @@
 pub mod Names
 pub mod Spelling
+pub mod Taken
 pub mod Fault
 pub mod Bytes
 pub mod Laws

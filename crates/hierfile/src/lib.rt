@@ -18,6 +18,7 @@ mod links;
 mod output;
 mod ranks;
 mod reading;
+mod taken;
 mod writing;
 
 pub use counted_io::WriteFault;

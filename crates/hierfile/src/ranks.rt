@@ -3,11 +3,14 @@ ghost use Rattle.std.specs.List.{flat_map};
 ghost use Rattle.std.specs.Io.KnownBytes.{Consumes};
 ghost use Rattle.hierfile.specs.Spelling.{word};
 ghost use Rattle.hierfile.specs.Fault.{rank_test, rank_fault, ranks_fault};
-ghost use Rattle.hierfile.specs.Bytes.{coming, IsFaultOf, OfBytes, NoneBelow, IsSeen};
+ghost use Rattle.hierfile.specs.Bytes.{coming, IsFaultOf, OfBytes, NoneBelow};
+ghost use Rattle.hierfile.specs.Taken.{AreTaken};
 
 use crate::error::HierError;
 use crate::input::Input;
+use crate::taken::Taken;
 use std::alloc::Global;
+use std::collections::BTreeSet;
 use std::io::Read;
 
 /// Reads the ranks of so many nodes.
@@ -23,40 +26,36 @@ pub fn read_ranks<R: Read>(
     ensures err { IfErr result (IsFaultOf (ranks_fault nodes) (coming input.old (R.remaining reader.old))) }
 {
     let mut ranks = Vec::new(alloc);
-    let mut seen = Vec::new(alloc);
+    let mut taken = Taken::Few(BTreeSet::new(alloc));
     'nodes: for _ in 0..nodes {
         let rank = input.word(reader)?;
-        take_rank(&mut ranks, &mut seen, nodes, rank)?;
+        taken.mark_if_many(alloc, nodes, ranks.as_slice())?;
+        take_rank(&mut ranks, &mut taken, nodes, rank)?;
     }
     Ok(ranks)
 }
 
-// Puts a rank behind those before it. `seen` says of each number up to the greatest rank whether it is one of them,
-// so it grows with the ranks that have come and not with the number of nodes.
+// Puts a rank behind those before it, which are taken.
 #[tactic(auto, unfolding(crate::specs::Fault::rank_test))]
 fn take_rank(
     ranks: &mut Vec<u32>,
-    seen: &mut Vec<bool>,
+    taken: &mut Taken,
     nodes: u32,
     rank: u32,
 ) -> Result<(), HierError>
-    requires { IsSeen seen.old.items ranks.old.items }
+    requires { AreTaken nodes taken.old ranks.old.items }
     ensures ok { OnOk result (ranks.new.items ≡ ranks.old.items ++ rank ∷ []) }
-    ensures seen { OnOk result (IsSeen seen.new.items ranks.new.items) }
+    ensures taken { OnOk result (AreTaken nodes taken.new ranks.new.items) }
     ensures faultless { OnOk result (rank_test nodes ranks.old.items rank ≡ None) }
     ensures err { IfErr result (λ e. OfBytes e (rank_test nodes ranks.old.items rank ≡ Some e)) }
 {
     if rank >= nodes {
         return Err(HierError::RankRange);
     }
-    let place = rank as usize;
-    if seen.get(place).copied().unwrap_or(false) {
+    if taken.has(rank) {
         return Err(HierError::RankTwice);
     }
-    if place >= seen.len() {
-        seen.resize(place + 1, false)?;
-    }
     ranks.push(rank)?;
-    seen[place] = true;
+    taken.add(rank)?;
     Ok(())
 }

@@ -39,9 +39,11 @@ struct Head {
 /// On Ok the bytes were its spelling, and on an error this was their first fault: which bytes spell a hierarchy and
 /// how faults are ordered is told in `docs/FORMATS.md`. A spelling has no fault, so only `Read` and `OutOfMemory`
 /// refuse one. `Read` stands where the reader fails, also after 2^40 calls; an interrupted call is tried again.
-/// `OutOfMemory` stands where a growth is refused. Memory is taken as bytes come in, beside a buffer of 64 KiB:
-/// 4 bytes and one for each node, and about 32 for each link, and then 8 bytes for each node and for each link. Linear in
-/// the bytes, but for two binary searches for each link with a middle, among the links that leave one node.
+/// `OutOfMemory` stands where a growth is refused. Memory is taken as bytes come in, beside a buffer of 64 KiB: 4 bytes
+/// for each rank, and one for each node when a sixteenth of the ranks has come, about 32 for each link, and then, when all
+/// links have come, 8 bytes for each node and for each link. What the file announces takes none. Linear in the bytes, but
+/// for two binary searches for each link with a middle, among the links that leave one node, and one for each of the first
+/// ranks, among those before it.
 pub fn read<R: Read>(alloc: Global, reader: &mut R) -> Result<Hierarchy, HierError>
     ensures ok { IfOk result (λ hierarchy. IfSome (R.remaining reader.old) (λ bytes. bytes ≡ bytes_of hierarchy)) }
     ensures made { IfOk result IsWellMade }

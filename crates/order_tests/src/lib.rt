@@ -8,3 +8,5 @@
 mod estimators;
 #[cfg(test)]
 mod queues;
+#[cfg(test)]
+mod refused;

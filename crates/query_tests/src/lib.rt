@@ -12,6 +12,8 @@ mod graphs;
 #[cfg(test)]
 mod links;
 #[cfg(test)]
+mod refused;
+#[cfg(test)]
 mod routes;
 #[cfg(test)]
 mod searches;

@@ -4,7 +4,7 @@ use hierfile::{HierError, WriteFault, read, read_within, write, write_within};
 use std::alloc::{AllocError, Global};
 use std::io::{self, ErrorKind, Read, Write};
 
-const MAGIC: u32 = 0x5243_4831;
+pub(crate) const MAGIC: u32 = 0x5243_4831;
 
 const NONE: u32 = u32::MAX;
 
@@ -18,7 +18,7 @@ const NO_NODE: [u32; 6] = [MAGIC, 0, 0, 0, 0, 0];
 const ONE_ARC: [u32; 13] = [MAGIC, 2, 0, 1, 0, 7, 0, 1, 0, 1, 0, 7, NONE];
 
 /// A row of three nodes, with a shortcut by way of the first.
-const ROW: [u32; 24] = [
+pub(crate) const ROW: [u32; 24] = [
     MAGIC, 3, 0, 3, 0, 6, 0, 1, 2, 0, 2, 0, 3, NONE, 1, 0, 0, 2, NONE, 1, 2, 0, 5, 0,
 ];
 
@@ -33,7 +33,7 @@ const WITHOUT_HALF: [u32; 19] = [
 ];
 
 /// Four nodes, with arcs of the greatest weight.
-const HEAVY: [u32; 45] = [
+pub(crate) const HEAVY: [u32; 45] = [
     MAGIC,
     4,
     0,
@@ -84,7 +84,7 @@ const HEAVY: [u32; 45] = [
 /// The greatest numbers that a head may have.
 const GREATEST: [u32; 6] = [MAGIC, 0x0200_0000, 0x0003_ffff, 0xfe00_0000, 0, 0];
 
-fn bytes(alloc: Global, words: &[u32]) -> Result<Vec<u8>, AllocError> {
+pub(crate) fn bytes(alloc: Global, words: &[u32]) -> Result<Vec<u8>, AllocError> {
     let mut bytes = Vec::new(alloc);
     for word in words {
         bytes.extend_from_slice(&word.to_be_bytes())?;
@@ -93,7 +93,7 @@ fn bytes(alloc: Global, words: &[u32]) -> Result<Vec<u8>, AllocError> {
 }
 
 // Why bytes are refused, or none.
-fn refusal(alloc: Global, mut bytes: &[u8]) -> Option<HierError> {
+pub(crate) fn refusal(alloc: Global, mut bytes: &[u8]) -> Option<HierError> {
     read(alloc, &mut bytes).err()
 }
 
@@ -201,7 +201,7 @@ fn refuses_files(rt: HostRuntime) -> Result<(), AllocError> {
 }
 
 // Of 38 nodes each two are linked, by way of the node below the lower one.
-fn cascade(alloc: Global) -> Result<Vec<u32>, AllocError> {
+pub(crate) fn cascade(alloc: Global) -> Result<Vec<u32>, AllocError> {
     let mut words = Vec::new(alloc);
     words.extend_from_slice(&[MAGIC, 38, 0, 1406, 36, 0xffff_ffdb])?;
     for rank in 0..38u32 {

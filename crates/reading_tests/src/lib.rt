@@ -8,6 +8,12 @@
 #[cfg(test)]
 mod calls;
 #[cfg(test)]
+mod changes;
+#[cfg(test)]
 mod files;
+#[cfg(test)]
+mod plain;
+#[cfg(test)]
+mod refused;
 #[cfg(test)]
 mod texts;

@@ -9,3 +9,5 @@ mod books;
 mod kit;
 #[cfg(test)]
 mod races;
+#[cfg(test)]
+mod refused;

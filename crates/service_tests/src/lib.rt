@@ -13,6 +13,8 @@ mod kit;
 #[cfg(test)]
 mod prepare_tests;
 #[cfg(test)]
+mod refused;
+#[cfg(test)]
 mod route_tests;
 #[cfg(test)]
 mod worker_tests;

@@ -23,6 +23,8 @@ mod orders;
 #[cfg(test)]
 mod refusals;
 #[cfg(test)]
+mod refused;
+#[cfg(test)]
 mod stations;
 #[cfg(test)]
 mod throngs;

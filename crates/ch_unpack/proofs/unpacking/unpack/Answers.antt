@@ -1,5 +1,8 @@
-use Rattle.std.proofs.Common.{rules, ℕ, ◌≡◌, ◌≤◌, List, [], ◌∷◌, ◌++◌, length, arith, ap, subst, sym, ◌∙◌}
-use Rattle.std.proofs.lemmas.List.{length-reverse, length-append}
+use Rattle.std.proofs.Common.{rules, ℕ, ◌≡◌, ◌≤◌, List, [], ◌∷◌, ◌++◌, length, arith, ap, subst, sym, ◌∙◌, Result, Err}
+use Rattle.std.proofs.lemmas.Result.{err_from_is_err_and}
+use Rattle.ch_unpack.specs.declared.error.UnpackError.{UnpackError}
+use Rattle.ch_unpack.specs.declared.error.UnpackError.TheVariants.{TooLong}
+use Rattle.std.proofs.lemmas.List.{length-reverse}
 use Rattle.ch_graph.specs.declared.hierarchy.LinkId.{LinkId}
 use Rattle.ch_unpack.proofs.UnderWay.{IsUnderWay, set_out, next_within, pass_on, turn_off, arrive, too_many_links, no_room}
 use Rattle.ch_unpack.proofs.unpacking.unpack.Goals as goal
@@ -19,22 +22,28 @@ route-init c =
 pub parts-requires : goal.parts-requires
 parts-requires c = next_within c.in-Some.next c.pop.new.self.items c.route.invariant.under_way c.in-Some.ensures.items
 
-pub returns-then-len-room-clause-too_long : goal.returns-then-len-room-clause-too_long
-returns-then-len-room-clause-too_long c =
-    λ e. no_room c.in-Some.next c.in-Shortcut.first c.in-Shortcut.second c.pop.new.self.items c.links_unfold.ensures c.nodes-room.ensures.made c.route.invariant.under_way c.in-Some.ensures.items c.in-Shortcut.ensures c.requires.source_in
-    (omega (arith, c.route.nodes.ok))
+same_error : {T : Type 0} (d e : UnpackError) (r : Result T UnpackError) → r ≡ Err d → r ≡ Err e → d ≡ e
+same_error d e r a b = cc
 
-pub route-preserved-in-Continue-branch-4 : goal.route-preserved-in-Continue-branch-4
-route-preserved-in-Continue-branch-4 c =
+pub returns-in_err-turn_off-in-Shortcut-clause-too_long : goal.returns-in_err-turn_off-in-Shortcut-clause-too_long
+returns-in_err-turn_off-in-Shortcut-clause-too_long c =
+    let told = err_from_is_err_and c.from_residual-in_err-turn_off-in-Shortcut.result c.from_residual-in_err-turn_off-in-Shortcut.ensures.1 in
+    λ e.
+    let named : told.0 ≡ TooLong = same_error told.0 TooLong _ told.1 e in
+    let far = c.in_err-turn_off-in-Shortcut.ensures.too_long (ap (λ (x : UnpackError). Err x) (sym told.2 ∙ named)) in
+    no_room c.in-Some.next c.in-Shortcut.first c.in-Shortcut.second c.pop.new.self.items c.links_unfold.ensures c.nodes-room.ensures.made c.route.invariant.under_way c.in-Some.ensures.items c.in-Shortcut.ensures c.requires.source_in
+    (omega (arith, c.route.nodes.ok, far))
+
+pub route-preserved-in-Continue-branch-3 : goal.route-preserved-in-Continue-branch-3
+route-preserved-in-Continue-branch-3 c =
     let left = c.pop.new.self.items in
     let one = c.in-Shortcut.first in
     let two = c.in-Shortcut.second in
-    let ahead_is : c.push-in-Shortcut-2.new.self.items ≡ (left ++ two ∷ []) ++ one ∷ [] = c.in_ok-push-in-Shortcut-2.ensures.ok ∙ ap (λ (xs : List LinkId). xs ++ one ∷ []) c.in_ok-push-in-Shortcut.ensures.ok in
     record {
       under_way =
-          subst (λ (xs : List LinkId). IsUnderWay c.args.hierarchy.now c.args.source c.args.links.now c.route.nodes.items xs) (sym ahead_is)
+          subst (λ (xs : List LinkId). IsUnderWay c.args.hierarchy.now c.args.source c.args.links.now c.route.nodes.items xs) (sym c.in_ok-turn_off-in-Shortcut.ensures.halves)
           (turn_off c.in-Some.next one two left c.links_unfold.ensures c.nodes-room.ensures.made c.route.invariant.under_way c.in-Some.ensures.items c.in-Shortcut.ensures);
-      in_room = omega (arith, ap (λ (xs : List LinkId). length xs) ahead_is, length-append (left ++ two ∷ []) (one ∷ []), length-append left (two ∷ []));
+      in_room = omega (arith, c.in_ok-turn_off-in-Shortcut.ensures.in_room, c.route.nodes.ok);
     }
 
 pub route-preserved : goal.route-preserved

@@ -45,7 +45,7 @@ nodes-preserved g c =
     let spelled : flat_map word ranks ++ word rank ≡ flat_map word new = flat_map_more word [] ranks rank ∙ ap (flat_map word) (sym pushed) in
     record {
       count = omega (arith, c.nodes.invariant.count, ap length pushed, length-append ranks (rank ∷ []));
-      seen = c.in_ok-take_rank.ensures.seen;
+      came = c.in_ok-take_rank.ensures.taken;
       faultless = subst (λ l. NoneBelow (c.nodes.counter + 1) (rank_fault n l)) (sym pushed) (none-push n rank c.nodes.counter ranks c.nodes.invariant.count c.nodes.invariant.faultless c.in_ok-take_rank.ensures.faultless);
       taken = subst (λ l. Consumes (coming c.args.input.now (remaining c.args.reader.now)) (coming c.word.new.self (remaining c.word.new.reader)) l) spelled so_far;
     }

@@ -3,7 +3,8 @@ use Rattle.std.specs.List.{flat_map}
 use Rattle.std.specs.Io.KnownBytes.{Consumes}
 use Rattle.hierfile.specs.Spelling.{word}
 use Rattle.hierfile.specs.Fault.{rank_fault}
-use Rattle.hierfile.specs.Bytes.{coming, NoneBelow, IsSeen}
+use Rattle.hierfile.specs.Bytes.{coming, NoneBelow}
+use Rattle.hierfile.specs.Taken.{AreTaken}
 use Rattle.hierfile.proofs.ranks.read_ranks.Given as goal
 
 abbrev pub invariant-nodes : goal.invariant-nodes
@@ -12,7 +13,7 @@ invariant-nodes g l =
     let ranks = l.ranks.items in
     record {
       count : length ranks ≡ l.counter;
-      seen : IsSeen l.seen.items ranks;
+      came : AreTaken l.nodes l.taken ranks;
       faultless : NoneBelow l.counter (rank_fault l.nodes ranks);
       taken : Consumes (coming l.fn.input (remaining l.fn.reader)) (coming l.input (remaining l.reader)) (flat_map word ranks);
     }

@@ -1,0 +1,313 @@
+//! What rows, searches, proposals, boards and worlds answer where one growth is refused: `tests/refusals` runs each test
+//! once for each of its growths.
+//!
+//! A call that is refused memory leaves its value as it was, is made again, and has to give what it gives with ample
+//! memory. What is used up by a refused call, as a graph, ends the test with that error, and so does a growth of what the
+//! test sets up.
+ghost use Rattle.std.specs.Prelude.{◌≡◌, [], IfOk};
+ghost use Rattle.ch_graph.specs.Graph.{bound_of};
+ghost use Rattle.ch_rowbook.specs.Blanks.{name_of};
+
+use crate::networks::{ROW, TIE, blank_of, graph_of};
+use crate::shelf::{Arcs, Shelf};
+use ch_contract::{
+    Board, CommitError, FinishError, Proposal, ProposeError, Receipt, Site, SweepError, propose,
+};
+use ch_core::{Event, Outcome, World, run};
+use ch_cost::Cost;
+use ch_graph::{Graph, Hierarchy};
+use ch_overlay::{Overlay, RowSource, SeeError, Seen};
+use ch_rowbook::{Blank, Reader};
+use ch_witness::{SearchError, search};
+use std::alloc::{AllocError, Global};
+use std::marker::Brand;
+use std::sync::Wait;
+use std::test::Fail;
+
+/// How many nodes each search settles at most.
+const SETTLE: u32 = 64;
+
+/// The overlay of a graph.
+fn started(alloc: Global, graph: &Graph) -> Result<Overlay, AllocError>
+    ensures { IfOk result (λ o. o.order ≡ []) }
+{
+    match Overlay::start(alloc, graph) {
+        Ok(overlay) => Ok(overlay),
+        Err(AllocError) => Overlay::start(alloc, graph),
+    }
+}
+
+#[test]
+fn start_and_plan(rt: HostRuntime) -> Result<(), Fail> {
+    let alloc = rt.alloc();
+    let graph = graph_of(alloc, 3, &[(1, 0, 2), (0, 2, 3), (1, 2, 4)])?;
+    let overlay = started(alloc, &graph)?;
+    assert!(rt; overlay.nodes() == 3);
+    let change = match overlay.plan(0, &[]) {
+        Ok(change) => change,
+        Err(AllocError) => overlay.plan(0, &[])?,
+    };
+    assert!(rt; change.rows().iter().map(|(node, _)| *node).eq([0, 1, 2]));
+    Ok(())
+}
+
+/// Node 3 is reached from node 2 by way of 0 or of 1, at the same cost.
+const TIED: [Arcs; 4] = [(2, 0, 1, 1), (0, 3, 1, 1), (2, 1, 1, 1), (1, 3, 1, 1)];
+
+#[test]
+fn search_round_a_node(rt: HostRuntime) -> Result<(), Fail> {
+    let alloc = rt.alloc();
+    let mut shelf = Shelf::new(alloc, 4, &TIED, (3, 1), None)?;
+    let cutoff = Cost::of_weight(2);
+    assert!(rt; shelf.allows(cutoff));
+    let found = match search(alloc, &mut shelf, 2, 0, cutoff, &[3], SETTLE) {
+        Err(SearchError::OutOfMemory) => {
+            assert!(rt; shelf.allows(cutoff));
+            search(alloc, &mut shelf, 2, 0, cutoff, &[3], SETTLE)?
+        }
+        answer => answer?,
+    };
+    let ways = found.ways.as_slice();
+    assert!(rt; matches!(ways, [Some(way)] if way.nodes.as_slice() == [2, 1, 3].as_slice()));
+    Ok(())
+}
+
+fn proposed<S: RowSource>(
+    alloc: Global,
+    source: &mut S,
+    node: u32,
+) -> Result<Proposal, ProposeError> {
+    match propose(alloc, source, node, SETTLE) {
+        Err(ProposeError::OutOfMemory) => propose(alloc, source, node, SETTLE),
+        answer => answer,
+    }
+}
+
+fn row_of<S: RowSource>(source: &mut S, node: u32) -> Result<Seen, SeeError> {
+    match source.row_of(node) {
+        Err(SeeError::OutOfMemory) => source.row_of(node),
+        answer => answer,
+    }
+}
+
+#[test]
+fn propose_by_a_shelf(rt: HostRuntime) -> Result<(), Fail> {
+    let alloc = rt.alloc();
+    let mut shelf = Shelf::new(alloc, 4, &TIED, (3, 1), None)?;
+    let proposal = proposed(alloc, &mut shelf, 0)?;
+    let nodes = proposal.rests_on().iter().map(|seen| seen.node);
+    assert!(rt; nodes.eq([0, 2, 1]) && proposal.shortcuts().is_empty());
+    Ok(())
+}
+
+/// Commits a node of a board. A refused call leaves the log.
+fn committed<S: Site, R: Wait>(
+    rt: &R,
+    alloc: Global,
+    board: &mut Board<S>,
+    node: u32,
+) -> Result<Receipt, Fail> {
+    let before = board.log().len();
+    let proposal = propose(alloc, board, node, SETTLE)?;
+    match board.commit(rt, proposal) {
+        Err(CommitError::OutOfMemory) if board.log().len() == before => {
+            let again = propose(alloc, board, node, SETTLE)?;
+            Ok(board.commit(rt, again)?)
+        }
+        Err(CommitError::OutOfMemory) => Err(Fail::new("a refused contraction is in the log")),
+        answer => Ok(answer?),
+    }
+}
+
+/// Commits a node as [`committed`] does, and has the reader take a glance at what changed.
+fn committed_and_seen<S: Site, R: Wait>(
+    rt: &R,
+    alloc: Global,
+    board: &mut Board<S>,
+    reader: &mut Reader<S>,
+    node: u32,
+) -> Result<Receipt, Fail> {
+    let before = board.log().len();
+    let proposal = propose(alloc, reader, node, SETTLE)?;
+    match board.commit_and_see(rt, proposal, reader) {
+        Err(CommitError::OutOfMemory) if board.log().len() == before => {
+            let again = propose(alloc, reader, node, SETTLE)?;
+            Ok(board.commit_and_see(rt, again, reader)?)
+        }
+        Err(CommitError::OutOfMemory) => Err(Fail::new("a refused contraction is in the log")),
+        answer => Ok(answer?),
+    }
+}
+
+/// Contracts the nodes that are left, and then those that a refused sweep left.
+fn swept<S: Site, R: Wait>(rt: &R, board: &mut Board<S>) -> Result<usize, SweepError> {
+    match board.sweep(rt, SETTLE) {
+        Err(SweepError::OutOfMemory) => Ok(board.sweep(rt, SETTLE)?.len()),
+        answer => Ok(answer?.len()),
+    }
+}
+
+/// The hierarchy of a board, by what is handed back where memory is refused.
+fn hierarchy_of<S: Site>(board: Board<S>) -> Result<Hierarchy, FinishError> {
+    match board.into_hierarchy() {
+        Ok(hierarchy) => Ok(hierarchy),
+        Err((back, FinishError::OutOfMemory)) => back.into_hierarchy().map_err(|refused| refused.1),
+        Err((_, error)) => Err(error),
+    }
+}
+
+/// Whether the links have these ends, lengths and middles.
+fn are_links(hierarchy: &Hierarchy, expected: &[(u32, u32, u64, Option<u32>)]) -> bool {
+    hierarchy
+        .links()
+        .iter()
+        .map(|link| (link.from, link.to, link.cost.length(), link.middle))
+        .eq(expected.iter().copied())
+}
+
+/// Whether a board of the row of three nodes comes to its hierarchy, with node 0 contracted by a commit.
+fn comes_to<S: Site, R: Wait>(
+    rt: &R,
+    alloc: Global,
+    blank: Blank,
+    graph: Graph,
+) -> Result<bool, Fail>
+    requires of_graph { S.graph ≡ graph }
+    requires of_book { S.book ≡ name_of blank }
+    requires nodes { blank.nodes ≡ graph.nodes }
+    requires bound { blank.bound ≡ bound_of graph }
+{
+    let (mut board, _): (Board<S>, Reader<S>) = Board::new(rt, alloc, blank, graph)?;
+    let mut holds = row_of(&mut board, 1)?.version == 1;
+    let receipt = committed(rt, alloc, &mut board, 0)?;
+    holds &= receipt == Receipt { node: 0, rank: 0 };
+    let swept = swept(rt, &mut board)?;
+    holds &= swept <= 2 && board.log().len() == 3;
+    let hierarchy = hierarchy_of(board)?;
+    Ok(
+        holds
+            & are_links(
+                &hierarchy,
+                &[(0, 2, 3, None), (1, 0, 2, None), (1, 2, 5, Some(0))],
+            ),
+    )
+}
+
+#[test]
+fn board(rt: HostRuntime) -> Result<(), Fail> {
+    let alloc = rt.alloc();
+    let graph = graph_of(alloc, 3, &ROW)?;
+    let blank = blank_of(alloc, &graph)?;
+    assert!(rt; comes_to::<Brand, HostRuntime>(&rt, alloc, blank, graph)?);
+    Ok(())
+}
+
+/// Whether both middle nodes of the tie are contracted, the first by what a reader of the board's book finds.
+fn is_seen<S: Site, R: Wait>(
+    rt: &R,
+    alloc: Global,
+    blank: Blank,
+    graph: Graph,
+) -> Result<bool, Fail>
+    requires of_graph { S.graph ≡ graph }
+    requires of_book { S.book ≡ name_of blank }
+    requires nodes { blank.nodes ≡ graph.nodes }
+    requires bound { blank.bound ≡ bound_of graph }
+{
+    let (mut board, mut reader): (Board<S>, Reader<S>) = Board::new(rt, alloc, blank, graph)?;
+    let first = committed_and_seen(rt, alloc, &mut board, &mut reader, 0)?;
+    let proposal = proposed(alloc, &mut reader, 1)?;
+    let has_shortcut = proposal.shortcuts().len() == 1;
+    let second = committed(rt, alloc, &mut board, 1)?;
+    Ok(has_shortcut & ((first.rank, second.rank) == (0, 1)))
+}
+
+#[test]
+fn board_and_reader(rt: HostRuntime) -> Result<(), Fail> {
+    let alloc = rt.alloc();
+    let graph = graph_of(alloc, 4, &TIE)?;
+    let blank = blank_of(alloc, &graph)?;
+    assert!(rt; is_seen::<Brand, HostRuntime>(&rt, alloc, blank, graph)?);
+    Ok(())
+}
+
+/// Shows a worker the opening row of a node.
+fn show(world: &mut World, worker: u32, node: u32) -> Result<Outcome, AllocError> {
+    let version = u64::from(node);
+    let read = || Event::Read {
+        worker,
+        node,
+        version,
+    };
+    match world.step(read()) {
+        Ok(outcome) => Ok(outcome),
+        Err(AllocError) => world.step(read()),
+    }
+}
+
+/// Shows both workers all opening rows of four nodes.
+fn shown(world: &mut World) -> Result<bool, AllocError> {
+    let mut all = true;
+    for worker in 0..2 {
+        for node in 0..4u32 {
+            all &= show(world, worker, node)? == Outcome::Shown;
+        }
+    }
+    Ok(all)
+}
+
+/// What a worker proposes by what it read.
+fn proposal(alloc: Global, world: &World, worker: u32, node: u32) -> Result<Proposal, Fail> {
+    if worker >= world.workers() {
+        return Err(Fail::new("no such worker"));
+    }
+    let mut view = world.view(worker);
+    row_of(&mut view, node)?;
+    Ok(proposed(alloc, &mut view, node)?)
+}
+
+/// What is answered to a worker's offer of a node. A refused call leaves the log.
+fn offered(alloc: Global, world: &mut World, worker: u32, node: u32) -> Result<Outcome, Fail> {
+    let before = world.log().len();
+    let proposal = proposal(alloc, world, worker, node)?;
+    match world.step(Event::Offer { worker, proposal }) {
+        Ok(outcome) => Ok(outcome),
+        Err(AllocError) if world.log().len() == before => {
+            let proposal = self::proposal(alloc, world, worker, node)?;
+            Ok(world.step(Event::Offer { worker, proposal })?)
+        }
+        Err(AllocError) => Err(Fail::new("a refused contraction is in the log")),
+    }
+}
+
+#[test]
+fn world(rt: HostRuntime) -> Result<(), Fail> {
+    let alloc = rt.alloc();
+    let mut world = World::new(alloc, graph_of(alloc, 4, &TIE)?, 2)?;
+    assert!(rt; shown(&mut world)?);
+    let first = offered(alloc, &mut world, 0, 0)?;
+    let second = offered(alloc, &mut world, 1, 1)?;
+    let stale = CommitError::Stale {
+        node: 2,
+        seen: 2,
+        now: 5,
+        front: 1,
+    };
+    let receipt = Receipt { node: 0, rank: 0 };
+    assert!(rt; (first, second) == (Outcome::Committed(receipt), Outcome::Refused(stale)));
+    Ok(())
+}
+
+#[test]
+fn run_of_reads(rt: HostRuntime) -> Result<(), Fail> {
+    let alloc = rt.alloc();
+    let read = Event::Read {
+        worker: 0,
+        node: 0,
+        version: 0,
+    };
+    let events = vec![in alloc; read, Event::Forget { worker: 0 }]?;
+    let (_, outcomes) = run(alloc, graph_of(alloc, 4, &TIE)?, 1, events)?;
+    assert!(rt; outcomes.as_slice() == [Outcome::Shown, Outcome::Forgotten].as_slice());
+    Ok(())
+}

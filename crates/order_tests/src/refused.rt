@@ -1,0 +1,145 @@
+//! What leases, estimators and queues answer where one growth is refused: `tests/refusals` runs each test once for each
+//! of its growths.
+//!
+//! A call that is refused memory leaves its value as it was, is made again, and has to give what it gives with ample
+//! memory. A growth of what a test sets up ends the test with that error.
+ghost use Rattle.std.specs.Prelude.{◌≡◌, [], ◌∷◌, length, IfOk};
+
+use ch_contract::Contraction;
+use ch_estimate::{Depth, EdgeDifference, Estimator, Lease, Leases, Neighbours, Note};
+use ch_multiqueue::{CloseError, Item, MultiQueue, Pass};
+use std::alloc::{AllocError, Global};
+use std::sync::Wait;
+use std::test::Fail;
+
+/// The contraction of node 0, whose neighbours are 1 and 2.
+fn first_entry(alloc: Global) -> Result<Contraction, AllocError>
+    ensures rank { IfOk result (λ entry. entry.rank ≡ 0) }
+    ensures neighbours { IfOk result (λ entry. entry.neighbours ≡ 1 ∷ 2 ∷ []) }
+{
+    let neighbours = vec![in alloc; 1, 2]?;
+    Ok(Contraction {
+        node: 0,
+        rank: 0,
+        neighbours,
+        shortcuts: 1,
+    })
+}
+
+fn lease(leases: &mut Leases) -> Result<Lease, AllocError> {
+    match leases.lease() {
+        Ok(lease) => Ok(lease),
+        Err(AllocError) => leases.lease(),
+    }
+}
+
+#[test]
+fn leases(rt: HostRuntime) -> Result<(), Fail> {
+    let alloc = rt.alloc();
+    let mut leases = match Leases::new(alloc) {
+        Ok(leases) => leases,
+        Err(AllocError) => Leases::new(alloc)?,
+    };
+    let first = lease(&mut leases)?;
+    drop(lease(&mut leases)?);
+    drop(first);
+    leases.wait(&rt);
+    drop(lease(&mut leases)?);
+    leases.wait(&rt);
+    Ok(())
+}
+
+/// The notes of the nodes 0, 1 and 2.
+fn notes<E: Estimator>(estimator: &E) -> [Note; 3] {
+    [0, 1, 2].map(|node| estimator.note(node))
+}
+
+const NONE: [Note; 3] = [Note { depth: 0, gone: 0 }; 3];
+
+const AFTER: [Note; 3] = [
+    Note { depth: 0, gone: 0 },
+    Note { depth: 1, gone: 1 },
+    Note { depth: 1, gone: 1 },
+];
+
+/// Whether an estimator that is told the entry has the notes that follow from it; while it is refused, the first ones.
+fn hears<E: Estimator>(mut estimator: E, entry: &Contraction) -> bool
+    requires fresh { E.heard estimator ≡ [] }
+    requires rank { entry.now.rank ≡ 0 }
+    requires neighbours { entry.now.neighbours ≡ 1 ∷ 2 ∷ [] }
+{
+    if let Err(AllocError) = estimator.told(entry) {
+        if notes(&estimator) != NONE || estimator.told(entry).is_err() {
+            return false;
+        }
+    }
+    notes(&estimator) == AFTER
+}
+
+#[test]
+fn told(rt: HostRuntime) -> Result<(), Fail> {
+    let alloc = rt.alloc();
+    let mut leases = Leases::new(alloc)?;
+    let entry = first_entry(alloc)?;
+    assert!(rt; hears(EdgeDifference::new(alloc, leases.lease()?), &entry));
+    assert!(rt; hears(Neighbours::new(alloc, leases.lease()?), &entry));
+    assert!(rt; hears(Depth::new(alloc, leases.lease()?), &entry));
+    Ok(())
+}
+
+/// Pushes an item, and once more where it is handed back.
+fn put<R: Wait>(rt: &R, queue: &MultiQueue, pass: &mut Pass, item: Item) -> Result<(), AllocError> {
+    match queue.push(rt, pass, item) {
+        Ok(()) => Ok(()),
+        Err(back) if back == item => queue.push(rt, pass, item).map_err(|_| AllocError),
+        Err(_) => Err(AllocError),
+    }
+}
+
+/// What is left in a queue, which is closed with what it hands back where memory is refused.
+fn left(queue: MultiQueue, passes: Vec<Pass>) -> Result<Vec<Item>, Fail> {
+    match queue.close(passes) {
+        Ok(items) => Ok(items),
+        Err((CloseError::OutOfMemory, queue, passes)) => match queue.close(passes) {
+            Ok(items) => Ok(items),
+            Err((error, _, _)) => Err(Fail::from(error)),
+        },
+        Err((error, _, _)) => Err(Fail::from(error)),
+    }
+}
+
+fn item(key: u64, node: u32) -> Item {
+    Item { key, node }
+}
+
+#[test]
+fn queue(rt: HostRuntime) -> Result<(), Fail> {
+    let alloc = rt.alloc();
+    let (mut queue, mut first) = match MultiQueue::new(alloc, 2, 1) {
+        Ok(made) => made,
+        Err(AllocError) => MultiQueue::new(alloc, 2, 1)?,
+    };
+    let mut second = queue.pass()?;
+    for node in 0..6u32 {
+        put(&rt, &queue, &mut first, item(5, node))?;
+        put(&rt, &queue, &mut second, item(4, node))?;
+    }
+    let taken = match queue.pop(&rt, &mut first) {
+        Ok(taken) => taken,
+        Err(AllocError) => queue.pop(&rt, &mut first)?,
+    };
+    let mut items = left(queue, vec![in alloc; first, second]?)?;
+    assert!(rt; items.len() == 11);
+    if let Some(taken) = taken {
+        items.push(taken)?;
+    }
+    items.as_mut_slice().sort_unstable();
+    let mut put = Vec::new(alloc);
+    for key in [4, 5] {
+        for node in 0..6u32 {
+            put.push(item(key, node))?;
+        }
+    }
+    assert!(rt; items.as_slice() == put.as_slice());
+    Ok(())
+}

@@ -1,0 +1,202 @@
+use hierfile::HierError;
+
+/// The number that stands for no middle.
+const NONE: u64 = 0xffff_ffff;
+
+/// The bytes of a hierarchy file, and the numbers behind the magic: a slow and plain reader, written from the list of
+/// faults in `docs/FORMATS.md` and from nothing else. It keeps nothing but the bytes, and looks at them again for all.
+#[derive(Clone, Copy)]
+struct File<'a> {
+    bytes: &'a [u8],
+    nodes: u64,
+    links: u64,
+    bound: u64,
+}
+
+/// A link as the bytes tell it.
+#[derive(Clone, Copy)]
+struct Told {
+    from: u64,
+    to: u64,
+    weight: u64,
+    middle: u64,
+}
+
+/// The first fault of the bytes, or none where they spell a hierarchy.
+pub(crate) fn first_fault(bytes: &[u8]) -> Option<HierError> {
+    if let Some(fault) = magic_fault(bytes) {
+        return Some(fault);
+    }
+    let Some(file) = file_of(bytes) else {
+        return Some(HierError::Truncated);
+    };
+    if let Some(fault) = file.size_fault() {
+        return Some(fault);
+    }
+    if let Some(fault) = file.ranks_fault() {
+        return Some(fault);
+    }
+    if let Some(fault) = file.links_fault() {
+        return Some(fault);
+    }
+    if let Some(fault) = file.halves_fault() {
+        return Some(fault);
+    }
+    if bytes.len() as u64 > place_of(file.links_begin(), file.links, 20) {
+        return Some(HierError::Trailing);
+    }
+    None
+}
+
+fn magic_fault(bytes: &[u8]) -> Option<HierError> {
+    for (place, wanted) in b"RCH1".iter().enumerate() {
+        match bytes.get(place) {
+            None => return Some(HierError::Truncated),
+            Some(byte) => {
+                if byte != wanted {
+                    return Some(HierError::BadMagic);
+                }
+            }
+        }
+    }
+    None
+}
+
+fn file_of(bytes: &[u8]) -> Option<File<'_>> {
+    Some(File {
+        bytes,
+        nodes: number(bytes, 4, 4)?,
+        links: number(bytes, 8, 8)?,
+        bound: number(bytes, 16, 8)?,
+    })
+}
+
+// Where the part of this number begins, of parts of one size behind a place.
+fn place_of(start: u64, number: u64, size: u64) -> u64 {
+    start.saturating_add(number.saturating_mul(size))
+}
+
+// The number of so many bytes from a place on, or none where they end before.
+fn number(bytes: &[u8], at: u64, count: u64) -> Option<u64> {
+    let mut number = 0u64;
+    for place in at..at.saturating_add(count) {
+        let byte = bytes.get(place as usize)?;
+        number = number.wrapping_mul(256).wrapping_add(u64::from(*byte));
+    }
+    Some(number)
+}
+
+impl File<'_> {
+    fn size_fault(&self) -> Option<HierError> {
+        let others = self.nodes.saturating_sub(1);
+        if self.nodes > 33_554_432 || self.links > self.nodes.saturating_mul(others) {
+            return Some(HierError::TooBig);
+        }
+        if self.bound > others.saturating_mul(4_294_967_295) {
+            return Some(HierError::BoundTooBig);
+        }
+        None
+    }
+
+    fn rank(&self, node: u64) -> Option<u64> {
+        number(self.bytes, place_of(24, node, 4), 4)
+    }
+
+    fn ranks_fault(&self) -> Option<HierError> {
+        for node in 0..self.nodes {
+            let Some(rank) = self.rank(node) else {
+                return Some(HierError::Truncated);
+            };
+            if rank >= self.nodes {
+                return Some(HierError::RankRange);
+            }
+            if (0..node).any(|earlier| self.rank(earlier) == Some(rank)) {
+                return Some(HierError::RankTwice);
+            }
+        }
+        None
+    }
+
+    fn links_begin(&self) -> u64 {
+        place_of(24, self.nodes, 4)
+    }
+
+    fn link(&self, place: u64) -> Option<Told> {
+        let at = place_of(self.links_begin(), place, 20);
+        Some(Told {
+            from: number(self.bytes, at, 4)?,
+            to: number(self.bytes, at.saturating_add(4), 4)?,
+            weight: number(self.bytes, at.saturating_add(8), 8)?,
+            middle: number(self.bytes, at.saturating_add(16), 4)?,
+        })
+    }
+
+    fn links_fault(&self) -> Option<HierError> {
+        let mut before = None;
+        for place in 0..self.links {
+            let Some(link) = self.link(place) else {
+                return Some(HierError::Truncated);
+            };
+            if let Some(fault) = self.link_fault(before, link) {
+                return Some(fault);
+            }
+            before = Some(link);
+        }
+        None
+    }
+
+    fn link_fault(&self, before: Option<Told>, link: Told) -> Option<HierError> {
+        if link.from >= self.nodes || link.to >= self.nodes || link.from == link.to {
+            return Some(HierError::LinkEnds);
+        }
+        if let Some(before) = before {
+            if (link.from, link.to) <= (before.from, before.to) {
+                return Some(HierError::LinkOrder);
+            }
+        }
+        if link.weight == 0 || link.weight > self.bound {
+            return Some(HierError::LinkWeight);
+        }
+        if link.middle == NONE {
+            return None;
+        }
+        if link.middle >= self.nodes {
+            return Some(HierError::MiddleRange);
+        }
+        let rank = self.rank(link.middle);
+        if rank >= self.rank(link.from) || rank >= self.rank(link.to) {
+            return Some(HierError::MiddleRank);
+        }
+        None
+    }
+
+    // The weight of the link from one node to another, if there is one.
+    fn weight(&self, from: u64, to: u64) -> Option<u64> {
+        for place in 0..self.links {
+            let link = self.link(place)?;
+            if link.from == from && link.to == to {
+                return Some(link.weight);
+            }
+        }
+        None
+    }
+
+    fn halves_fault(&self) -> Option<HierError> {
+        for place in 0..self.links {
+            let link = self.link(place)?;
+            if link.middle == NONE {
+                continue;
+            }
+            let Some(first) = self.weight(link.from, link.middle) else {
+                return Some(HierError::HalfMissing);
+            };
+            let Some(second) = self.weight(link.middle, link.to) else {
+                return Some(HierError::HalfMissing);
+            };
+            if first.checked_add(second) != Some(link.weight) {
+                return Some(HierError::HalfSum);
+            }
+        }
+        None
+    }
+}

@@ -1,0 +1,141 @@
+//! What a book answers where one growth is refused: `tests/refusals` runs the test once for each of its growths.
+//!
+//! A call that is refused memory leaves pen and reader as they were, is made again, and has to give what it gives with
+//! ample memory. What is used up by a refused call, as a blank, ends the test with that error, and so does a growth of
+//! what the test sets up.
+ghost use Rattle.std.specs.Prelude.{◌≡◌, IfOk, length, map};
+ghost use Rattle.std.specs.Arc.{arc_value};
+ghost use Rattle.ch_overlay.specs.Source.{IsBound};
+ghost use Rattle.ch_overlay.specs.Records.{AreSoundRows, IsSoundRow};
+ghost use Rattle.ch_rowbook.specs.Blanks.{name_of};
+
+use crate::kit::{are, are_sound, bound, is_sound, row};
+use ch_cost::Cost;
+use ch_overlay::{Row, SeeError, Seen};
+use ch_rowbook::{Blank, Book, BookError, Laid, Pen, Reader, open};
+use std::alloc::{AllocError, Global};
+use std::marker::Brand;
+use std::sync::{Arc, Wait};
+use std::test::Fail;
+
+/// The row of node 1 once node 0 is contracted.
+fn later(alloc: Global, limit: Cost) -> Result<Arc<Row>, Fail>
+    ensures { IfOk result (λ row. IsSoundRow limit 1 (arc_value row)) }
+{
+    let row = row(alloc, &[(2, 5)], &[])?;
+    if !is_sound(1, &row, limit) {
+        return Err(Fail::new("the row can be relied on"));
+    }
+    Ok(row)
+}
+
+fn read<B: Book>(reader: &mut Reader<B>) -> Result<Seen, SeeError> {
+    match reader.read(1) {
+        Err(SeeError::OutOfMemory) => reader.read(1),
+        answer => answer,
+    }
+}
+
+/// Lays the later row. A refused call leaves the current one.
+fn laid<B: Book, R: Wait>(
+    rt: &R,
+    alloc: Global,
+    pen: &mut Pen<B>,
+    limit: Cost,
+) -> Result<Laid<B>, Fail>
+    requires nodes { B.book.nodes ≡ 3 }
+    requires limit { B.book.bound ≡ limit }
+{
+    let before = pen.version(1);
+    match pen.lay(rt, 1, later(alloc, limit)?) {
+        Err(BookError::OutOfMemory) if pen.version(1) == before => {
+            Ok(pen.lay(rt, 1, later(alloc, limit)?)?)
+        }
+        Err(BookError::OutOfMemory) => Err(Fail::new("a refused row is current")),
+        answer => Ok(answer?),
+    }
+}
+
+/// Writes the later row. A refused call leaves the current one.
+fn written<B: Book, R: Wait>(
+    rt: &R,
+    alloc: Global,
+    pen: &mut Pen<B>,
+    limit: Cost,
+) -> Result<u64, Fail>
+    requires nodes { B.book.nodes ≡ 3 }
+    requires limit { B.book.bound ≡ limit }
+{
+    let before = pen.version(1);
+    match pen.write(rt, 1, later(alloc, limit)?) {
+        Err(BookError::OutOfMemory) if pen.version(1) == before => {
+            Ok(pen.write(rt, 1, later(alloc, limit)?)?)
+        }
+        Err(BookError::OutOfMemory) => Err(Fail::new("a refused row is current")),
+        answer => Ok(answer?),
+    }
+}
+
+/// Whether a book of three nodes is read and written.
+fn is_kept<B: Book, R: Wait>(
+    rt: &R,
+    alloc: Global,
+    blank: Blank,
+    rows: &[Arc<Row>],
+    limit: Cost,
+) -> Result<bool, Fail>
+    requires named { B.book ≡ name_of blank }
+    requires nodes { blank.nodes ≡ 3 }
+    requires limit { blank.bound ≡ limit }
+    requires count { length rows.now ≡ 3 }
+    requires sound { AreSoundRows blank.bound (map arc_value rows.now) }
+    requires bound { IsBound limit }
+{
+    let (mut pen, mut reader): (Pen<B>, Reader<B>) = open(rt, alloc, blank, rows)?;
+    let mut other = match reader.split() {
+        Ok(other) => other,
+        Err(AllocError) => reader.split()?,
+    };
+    let opening = read(&mut reader)?;
+    let version = laid(rt, alloc, &mut pen, limit)?.version();
+    let before = read(&mut reader)?;
+    let mut last = version;
+    'rows: for _ in 0..40 {
+        last = written(rt, alloc, &mut pen, limit)?;
+    }
+    let after = read(&mut other)?;
+    Ok(
+        are(&opening.row.out, &[(0, 2)])
+            & (before.version == opening.version)
+            & are(&after.row.out, &[(2, 5)])
+            & (after.version == last)
+            & (opening.version < version)
+            & (version < last),
+    )
+}
+
+/// The opening rows of three nodes: 1 leads to 0, and 0 to 2.
+fn opening(alloc: Global) -> Result<Vec<Arc<Row>>, AllocError> {
+    let rows = vec![in alloc;
+        row(alloc, &[(2, 3)], &[(1, 2)])?,
+        row(alloc, &[(0, 2)], &[])?,
+        row(alloc, &[], &[(0, 3)])?,
+    ]?;
+    Ok(rows)
+}
+
+#[test]
+fn book(rt: HostRuntime) -> Result<(), Fail> {
+    let alloc = rt.alloc();
+    let rows = opening(alloc)?;
+    let (all, limit) = (rows.as_slice(), bound());
+    if all.len() != 3 {
+        return Err(Fail::new("there are three opening rows"));
+    }
+    if !are_sound(all, limit) {
+        return Err(Fail::new("the opening rows can be relied on"));
+    }
+    let blank = Blank::new(alloc, 3, limit)?;
+    assert!(rt; is_kept::<Brand, HostRuntime>(&rt, alloc, blank, all, limit)?);
+    Ok(())
+}

@@ -1,0 +1,61 @@
+//! What builds answer where one growth is refused: `tests/refusals` runs each test once for each of its growths.
+//!
+//! A build that is refused memory is made again. The lengths of what is built are those of the plain search, whichever
+//! growth was refused: a worker that is refused memory leaves its work to the others and to the sweep. A growth of what a
+//! test sets up ends the test with that error.
+use crate::kit::{Keys, ONE, TWO, built_by, grid, tie};
+use crate::lengths::are_least;
+use ch_graph::Graph;
+use ch_workers::{Built, OpenGate, Options};
+use std::alloc::Global;
+use std::sync::Wait;
+use std::test::Fail;
+use std::thread::Threads;
+
+/// The grid of 25 nodes, or the tie of four.
+fn network(alloc: Global, is_grid: bool) -> Result<Graph, Fail> {
+    if is_grid { grid(alloc) } else { tie(alloc) }
+}
+
+/// Whether what is built by these options has the lengths of the plain search.
+fn is_least<R: Threads + Wait + Sync>(
+    rt: &R,
+    alloc: Global,
+    is_grid: bool,
+    options: Options,
+) -> Result<bool, Fail> {
+    let built = built_by(
+        rt,
+        alloc,
+        network(alloc, is_grid)?,
+        options,
+        Keys::Differences,
+        &OpenGate,
+    )?;
+    let right = are_least(alloc, &network(alloc, is_grid)?, &built.hierarchy)?;
+    Ok(right)
+}
+
+#[test]
+fn build_without_workers(rt: HostRuntime) -> Result<(), Fail> {
+    assert!(rt; is_least(&rt, rt.alloc(), false, Options { workers: 0, ..ONE })?);
+    Ok(())
+}
+
+#[test]
+fn build_by_one_worker(rt: HostRuntime) -> Result<(), Fail> {
+    assert!(rt; is_least(&rt, rt.alloc(), false, ONE)?);
+    Ok(())
+}
+
+#[test]
+fn build_by_two_workers(rt: HostRuntime) -> Result<(), Fail> {
+    assert!(rt; is_least(&rt, rt.alloc(), false, TWO)?);
+    Ok(())
+}
+
+#[test]
+fn build_of_a_grid(rt: HostRuntime) -> Result<(), Fail> {
+    assert!(rt; is_least(&rt, rt.alloc(), true, TWO)?);
+    Ok(())
+}

@@ -1,0 +1,393 @@
+#!/usr/bin/env python3
+"""Runs `routecli route` and `routecli answer` on changed hierarchy files and texts, and compares every status, line and
+refusal with slow and plain readers (plain.py).
+
+    tests/fuzz.py [--seconds SECONDS] [--jobs JOBS] [--seed SEED]       by default an hour, 2 jobs and seed 1
+
+Files and texts are drawn, from small networks that `prepare` made hierarchies of, and from well made hierarchies that
+stand for no graph; then bytes, numbers, links and lines of most are changed, exchanged, repeated, cut off or left out. The
+output has the number of runs, how they ended, crashes, hangs (no end within 30 seconds), answers that differ, and the
+greatest resident size, also for each byte of the longest input. Each finding is kept in out/fuzz, and the exit status is 1.
+A graph of more than 2,000 nodes with pairs to answer is left out, since its memory is by its nodes.
+
+It needs g++ and the proved program, which is crates/routecli/out/routecli (README.md says how to build it) or the path in
+the environment variable ROUTECLI.
+"""
+import argparse
+import collections
+import multiprocessing
+import os
+import pathlib
+import random
+import signal
+import struct
+import subprocess
+import sys
+import tempfile
+import time
+
+import plain
+
+ROOT = pathlib.Path(__file__).resolve().parent.parent
+PROGRAM = pathlib.Path(os.environ.get("ROUTECLI", ROOT / "crates/routecli/out/routecli"))
+KEPT = ROOT / "out/fuzz"
+SECONDS = 30
+MOST_NODES = 2000
+NUMBERS = [0, 1, 2, 3, 7, 37, 38, 255, 256, 1 << 25, (1 << 25) + 1, (1 << 31) - 1, 1 << 31, (1 << 32) - 2, (1 << 32) - 1]
+DIGITS = [b"0", b"00", b"1", b"2", b"3", b"4294967295", b"4294967296", b"33554432", b"33554433", b"134217728"]
+DIGITS += [b"134217729", b"18446744073709551616", b"9" * 5000, b"-1", b"x", b"1.0", b"p", b"q", b"a", b"sp", b"p2p", b"c"]
+
+
+# Well made hierarchies
+
+
+def spelled(ranks, links, bound):
+    words = b"".join(struct.pack(">I", rank) for rank in ranks)
+    return b"RCH1" + struct.pack(">IQQ", len(ranks), len(links), bound) + words + b"".join(map(link_bytes, links))
+
+
+def link_bytes(link):
+    return struct.pack(">IIQI", *link)
+
+
+def cascade():
+    links = [(i, j, 1 << min(i, j), min(i, j) - 1 if min(i, j) else plain.NONE) for i in range(38) for j in range(38)]
+    return spelled(range(38), [link for link in links if link[0] != link[1]], 158913789915)
+
+
+def drawn_hierarchy(draw):
+    """A well made hierarchy, most likely right for no graph."""
+    nodes = draw.choice([0, 1, 2, 3, 4, 6, 10])
+    ranks = draw.sample(range(nodes), nodes)
+    bound = max(nodes - 1, 0) * draw.choice([1, 7, 40, plain.HEAVIEST])
+    ends = [(start, end) for start in range(nodes) for end in range(nodes) if start != end and draw.random() < 0.6]
+    weights, links = {}, []
+    for start, end in sorted(ends, key=lambda pair: min(ranks[pair[0]], ranks[pair[1]])):
+        lower = min(ranks[start], ranks[end])
+        middles = [m for m in range(nodes) if ranks[m] < lower and (start, m) in weights and (m, end) in weights]
+        middles = [m for m in middles if weights[start, m] + weights[m, end] <= bound]
+        if middles and draw.random() < 0.8:
+            middle = draw.choice(middles)
+            weight = weights[start, middle] + weights[middle, end]
+        else:
+            middle, weight = plain.NONE, draw.randint(1, draw.choice([1, 3, max(bound, 1)]))
+        if weight <= bound:
+            weights[start, end] = weight
+            links.append((start, end, weight, middle))
+    return spelled(ranks, sorted(links), bound)
+
+
+# Changes
+
+
+def changed_bytes(draw, data):
+    data = bytearray(data)
+    for _ in range(draw.choice([0, 1, 1, 1, 2, 4, 8])):
+        at = draw.randrange(len(data) + 1)
+        kind = draw.randrange(7)
+        if kind == 0:
+            data[at : at + 1] = bytes([draw.randrange(256)])
+        elif kind == 1 and data:
+            data[at % len(data)] ^= 1 << draw.randrange(8)
+        elif kind == 2:
+            del data[at : at + draw.choice([1, 4, 20])]
+        elif kind == 3:
+            data[at:at] = data[at : at + draw.choice([1, 4, 20])]
+        elif kind == 4:
+            del data[at:]
+        elif kind == 5:
+            data += bytes(draw.randrange(256) for _ in range(draw.choice([1, 4, 20])))
+        else:
+            other = draw.randrange(len(data) + 1)
+            data[at : at + 1], data[other : other + 1] = data[other : other + 1], data[at : at + 1]
+    return bytes(data)
+
+
+def changed_numbers(draw, data):
+    """Numbers of four bytes at their places in a hierarchy file, and whole links."""
+    data = bytearray(data)
+    for _ in range(draw.choice([1, 1, 1, 2, 3])):
+        if len(data) < 8:
+            break
+        at = 4 * draw.randrange(1, len(data) // 4)
+        other = 4 * draw.randrange(len(data) // 4)
+        kind = draw.randrange(5)
+        if kind == 0:
+            data[at : at + 4] = struct.pack(">I", draw.choice(NUMBERS))
+        elif kind == 1:
+            near = (int.from_bytes(data[at : at + 4], "big") + draw.choice([-1, 1])) % (1 << 32)
+            data[at : at + 4] = struct.pack(">I", near)
+        elif kind == 2:
+            data[at : at + 4] = data[other : other + 4]
+        elif len(data) >= 24:
+            begin = 24 + 4 * int.from_bytes(data[4:8], "big")
+            count = max((len(data) - begin) // 20, 0)
+            if count:
+                one, two = (begin + 20 * draw.randrange(count) for _ in range(2))
+                if kind == 3:
+                    data[one : one + 20], data[two : two + 20] = data[two : two + 20], data[one : one + 20]
+                else:
+                    del data[one : one + 20]
+                    data[8:16] = struct.pack(">Q", count - 1)
+    return bytes(data)
+
+
+def changed_text(draw, text):
+    lines = text.split(b"\n")
+    for _ in range(draw.choice([0, 0, 1, 1, 2])):
+        at, other = draw.randrange(len(lines)), draw.randrange(len(lines))
+        kind = draw.randrange(8)
+        if kind == 0:
+            fields = lines[at].split(b" ")
+            fields[draw.randrange(len(fields))] = draw.choice(DIGITS)
+            lines[at] = b" ".join(fields)
+        elif kind == 1:
+            lines[at], lines[other] = lines[other], lines[at]
+        elif kind == 2:
+            lines.insert(other, lines[at])
+        elif kind == 3:
+            lines.pop(at)
+            lines = lines or [b""]
+        elif kind == 4:
+            lines.insert(at, draw.choice([b"c x", b"", b" \t", b"\r", b"%", b"\0", b"cx"]))
+        elif kind == 5:
+            lines[at] = draw.choice([b" ", b"\t"]) + lines[at].replace(b" ", b"\t ") + draw.choice([b"\r", b" ", b"\r\r"])
+        elif kind == 6:
+            lines[at] += b" " + draw.choice(DIGITS)
+        else:
+            lines[at] = changed_bytes(draw, lines[at])
+    return b"\n".join(lines)
+
+
+def drawn_graph(draw):
+    nodes = draw.choice([0, 1, 2, 3, 5, 8])
+    most = draw.choice([1, 9, plain.HEAVIEST])
+    count = draw.randrange(3 * nodes + 1)
+    arcs = [(draw.randint(1, nodes), draw.randint(1, nodes), draw.randint(1, most)) for _ in range(count)]
+    return (f"p sp {nodes} {count}\n" + "".join("a %d %d %d\n" % arc for arc in arcs)).encode()
+
+
+def drawn_pairs(draw, nodes):
+    pairs = [(draw.randint(1, nodes), draw.randint(1, nodes)) for _ in range(draw.randrange(8))] if nodes else []
+    return (f"p aux sp p2p {len(pairs)}\n" + "".join("q %d %d\n" % pair for pair in pairs)).encode()
+
+
+# Runs
+
+
+class Runner:
+    """Runs the program on two inputs, in a folder of its own."""
+
+    def __init__(self, folder):
+        self.folder = folder
+        self.inputs = [folder / "first", folder / "second"]
+
+    def run(self, command, inputs):
+        """The status (`crash` or `hang` in its place), what was written and told, and the greatest resident size."""
+        for path, data in zip(self.inputs, inputs):
+            path.write_bytes(data)
+        words = [self.folder.parent / "resident", self.folder / "figures", PROGRAM, command, *self.inputs]
+        pipes = {"stdin": subprocess.DEVNULL, "stdout": subprocess.PIPE, "stderr": subprocess.PIPE}
+        child = subprocess.Popen(words, start_new_session=True, **pipes)
+        try:
+            written, told = child.communicate(timeout=SECONDS)
+        except subprocess.TimeoutExpired:
+            os.killpg(child.pid, signal.SIGKILL)
+            child.communicate()
+            return "hang", b"", b"", 0
+        status, size = map(int, (self.folder / "figures").read_text().split())
+        return "crash" if status < 0 else status, written, told, size
+
+
+def refusal_of(status, part, refused):
+    return status, b"", f"routecli: {part}: {refused}\n".encode()
+
+
+def least_arcs(arcs):
+    least = {}
+    for start, end, weight in arcs:
+        least[start, end] = min(weight, least.get((start, end), weight))
+    return least
+
+
+def is_line(line, source, target, length, is_walk):
+    """Whether an answer line is right where the least length is this one, or none."""
+    if length is None:
+        return line == b"n %d %d" % (source, target)
+    fields = line.split(b" ")
+    if fields[:4] != [b"r", b"%d" % source, b"%d" % target, b"%d" % length]:
+        return False
+    nodes = [int(field) for field in fields[5:]]
+    ends_fit = len(nodes) == int(fields[4]) + 1 and (nodes[0], nodes[-1]) == (source, target)
+    return ends_fit and b"%d" % (len(nodes) - 1) == fields[4] and is_walk(nodes, length)
+
+
+def is_routed(hierarchy, pairs, status, written, told):
+    """Whether what `route` wrote and told is right for these pairs."""
+    routes = plain.Routes(hierarchy)
+    lines = written.split(b"\n")
+    if lines.pop() != b"" or len(lines) > len(pairs):
+        return False
+
+    def is_walk(nodes, length):
+        return len(nodes) <= routes.nodes and routes.is_route([node - 1 for node in nodes], length)
+
+    for line, (source, target) in zip(lines, pairs):
+        value = routes.value(source - 1, target - 1)
+        if not is_line(line, source, target, value and value[0], is_walk):
+            return False
+    if len(lines) == len(pairs):
+        return (status, told) == (0, b"")
+    source, target = pairs[len(lines)]
+    value = routes.value(source - 1, target - 1)
+    is_long = value is not None and value[1] >= routes.nodes
+    return is_long and (status, told) == (4, b"routecli: hierarchy: TooLong\n")
+
+
+def is_right_route(first, second, status, written, told):
+    try:
+        hierarchy = plain.hierarchy_of(first)
+    except plain.Refused as refused:
+        return (status, written, told) == refusal_of(4, "hierarchy", refused)
+    try:
+        pairs = plain.pairs_of(second, len(hierarchy.ranks))
+    except plain.Refused as refused:
+        return (status, written, told) == refusal_of(5, "queries", refused)
+    return is_routed(hierarchy, pairs, status, written, told)
+
+
+def wanted_answer(first, second):
+    """The graph and the pairs of two texts, or how the program has to end in their place."""
+    try:
+        nodes, arcs = plain.graph_of(first)
+    except plain.Refused as refused:
+        return None, refusal_of(3, "graph", refused)
+    try:
+        return (nodes, arcs, plain.pairs_of(second, nodes)), None
+    except plain.Refused as refused:
+        return None, refusal_of(5, "queries", refused)
+
+
+def is_right_answer(asked, status, written, told):
+    nodes, arcs, pairs = asked
+    least = least_arcs(arcs)
+    lines = written.split(b"\n")
+
+    def is_walk(found, length):
+        steps = list(zip(found, found[1:]))
+        return all(step in least for step in steps) and sum(least[step] for step in steps) == length
+
+    if (status, told, lines.pop(), len(lines)) != (0, b"", b"", len(pairs)):
+        return False
+    for line, (source, target) in zip(lines, pairs):
+        length = plain.lengths_from(nodes, arcs, source).get(target)
+        if not is_line(line, source, target, length, is_walk):
+            return False
+    return True
+
+
+def drawn_case(draw, corpus):
+    """A command, and two inputs for it."""
+    if draw.random() < 0.3:
+        graph = drawn_graph(draw)
+        pairs = drawn_pairs(draw, int(graph.split()[2]))
+        return "answer", [changed_text(draw, graph), changed_text(draw, pairs)]
+    data = draw.choice(corpus) if draw.random() < 0.4 else drawn_hierarchy(draw)
+    nodes = int.from_bytes(data[4:8], "big")
+    pairs = drawn_pairs(draw, nodes)
+    if draw.random() < 0.3:
+        return "route", [data, changed_text(draw, pairs)]
+    change = draw.choice([changed_bytes, changed_numbers])
+    return "route", [change(draw, data), pairs]
+
+
+def is_right(command, inputs, ended):
+    """Whether a run ended rightly; none where the case is left out, which `ended` isn't asked for."""
+    if command == "route":
+        return is_right_route(*inputs, *ended())
+    asked, refusal = wanted_answer(*inputs)
+    if refusal is not None:
+        return ended() == refusal
+    if asked[0] > MOST_NODES:
+        return None
+    return is_right_answer(asked, *ended())
+
+
+def work(task):
+    """Runs drawn cases for some seconds, and counts."""
+    folder, seconds, seed, corpus = task
+    folder.mkdir()
+    sys.set_int_max_str_digits(0)
+    draw, runner, counts = random.Random(seed), Runner(folder), collections.Counter()
+    greatest = each = 0
+    end = time.monotonic() + seconds
+    while time.monotonic() < end:
+        command, inputs = drawn_case(draw, corpus)
+        seen = []
+
+        def ended():
+            seen.append(runner.run(command, inputs))
+            return seen[-1][:3]
+
+        right = is_right(command, inputs, ended)
+        if not seen:
+            counts["left out"] += 1
+            continue
+        status, _, told, size = seen[-1]
+        counts["runs"] += 1
+        counts[f"{command} {told.decode(errors='replace').split(' line')[0].strip() or status}"] += 1
+        if size > greatest:
+            greatest, each = size, max(map(len, inputs))
+        if not right:
+            counts[status if status in ("crash", "hang") else "differs"] += 1
+            keep(command, inputs, seen[-1])
+    return counts, greatest, each
+
+
+def keep(command, inputs, ended):
+    KEPT.mkdir(parents=True, exist_ok=True)
+    name = f"{command}-{time.time_ns()}"
+    for place, data in zip(["first", "second"], inputs):
+        (KEPT / f"{name}.{place}").write_bytes(data)
+    (KEPT / f"{name}.ended").write_text(repr(ended))
+    print(f"found: {KEPT / name}: {ended[0]}, {ended[2]!r}", flush=True)
+
+
+def corpus_in(folder):
+    """Hierarchy files: the cascade, two nodes that are linked both ways, and some that `prepare` made."""
+    files = [cascade(), spelled([0, 1], [(0, 1, 7, plain.NONE), (1, 0, 7, plain.NONE)], 7)]
+    draw = random.Random(0)
+    for _ in range(30):
+        (folder / "graph").write_bytes(drawn_graph(draw))
+        words = [PROGRAM, "prepare", "--workers", "0", folder / "graph", folder / "made"]
+        subprocess.run(words, check=True, stderr=subprocess.DEVNULL)
+        files.append((folder / "made").read_bytes())
+    return files
+
+
+def main():
+    words = argparse.ArgumentParser(description=__doc__, formatter_class=argparse.RawDescriptionHelpFormatter)
+    words.add_argument("--seconds", type=float, default=3600)
+    words.add_argument("--jobs", type=int, default=2)
+    words.add_argument("--seed", type=int, default=1)
+    options = words.parse_args()
+    if not PROGRAM.exists():
+        sys.exit(f"{PROGRAM} isn't built: README.md says how")
+    with tempfile.TemporaryDirectory() as name:
+        folder = pathlib.Path(name)
+        source = ROOT / "bench/resident.cpp"
+        subprocess.run(["g++", "-O2", "-std=c++17", "-o", folder / "resident", source], check=True)
+        corpus = corpus_in(folder)
+        tasks = [(folder / str(job), options.seconds, options.seed + job, corpus) for job in range(options.jobs)]
+        with multiprocessing.Pool(options.jobs) as pool:
+            done = pool.map(work, tasks)
+    counts = sum((counts for counts, _, _ in done), collections.Counter())
+    greatest, longest = max((greatest, each) for _, greatest, each in done)
+    for name in sorted(set(counts) - {"runs", "crash", "hang", "differs", "left out"}):
+        print(f"{counts[name]:9,} {name}")
+    print(f"{counts['runs']:,} runs, {counts['left out']:,} left out: {counts['crash']} crashes, {counts['hang']} hangs,", end=" ")
+    print(f"{counts['differs']} answers that differ; at most {greatest:,} kB, for an input of {longest:,} bytes")
+    sys.exit(1 if counts["crash"] + counts["hang"] + counts["differs"] else 0)
+
+
+main()
