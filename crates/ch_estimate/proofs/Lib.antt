@@ -1,2 +1,3 @@
 mod Among
 mod Told
+mod Counting

@@ -1,3 +1,4 @@
 pub mod Notes
 pub mod Heard
 pub mod Keys
+pub mod Leases

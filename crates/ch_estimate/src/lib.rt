@@ -1,13 +1,15 @@
 //! Estimators: what an order of contraction is chosen by.
 //!
-//! Stands on `ch_contract`, of which it uses the counts of a proposal and the entries of the log, and on
-//! `crossbeam_utils`, for the leases. Its main item is the trait [`Estimator`]: it is told of each contraction in turn,
-//! and gives keys, smaller ones first. Three kinds are here: [`EdgeDifference`], [`Neighbours`] and [`Depth`]. What
-//! they know of the nodes stands in a [`WorkSpace`], and each works under a [`Lease`]. The promise of the layer is the
-//! contract of `note`, that a note is what the told entries tell, and that of each kind's `key`, which says which
-//! number it is. No promise on answers rests on either.
+//! Stands on `ch_contract`, of which it uses the counts of a proposal and the entries of the log, and for the leases on
+//! `atomic_table`, which counts them, and `crossbeam_utils`, by which they are waited for. Its main item is the trait
+//! [`Estimator`]: it is told of each contraction in turn, and gives keys, smaller ones first. Three kinds are here:
+//! [`EdgeDifference`], [`Neighbours`] and [`Depth`]. What they know of the nodes stands in a [`WorkSpace`], and each
+//! works under a [`Lease`]. The promise of the layer is the contract of `note`, that a note is what the told entries
+//! tell, that of each kind's `key`, which says which number it is, and that of [`Leases::wait`], that no lease is out;
+//! [`Leases::none_is_left`] says what that means. No promise on answers rests on any of these.
 #![tactic(auto)]
 
+mod counted;
 mod depth;
 mod edge_difference;
 mod estimator;

@@ -1,4 +1,5 @@
 pub mod Items
 pub mod Entries
 pub mod Passes
+pub mod Accounts
 pub mod Closing

@@ -11,7 +11,7 @@ pub enum CloseError {
     OutOfMemory = 1,
     /// A pass that was made isn't among those that were handed in.
     PassMissing,
-    /// The accounts of passes and heaps don't agree. No accounts are kept yet, so this is never answered.
+    /// The accounts of the passes don't agree with what is left.
     Mixed,
 }
 

@@ -7,12 +7,14 @@
 //! the [`Pass`] of the thread, so that a run by one pass can be told word by word.
 //!
 //! Stands on no other crate of the workspace, on `rand_pcg` for the random words, and on std's heaps and locks. Its
-//! main types are [`MultiQueue`], [`Pass`] and [`Item`]. What is behind a lock is a [`Heap`](heap::Heap), whose
-//! contracts say that each item comes out as it was put in; no contract follows an item through a lock. The promise
-//! of the layer stands on [`MultiQueue::close`]: it refuses exactly where a pass is missing or memory ran out, hands
-//! everything back then, and otherwise answers what is left in order.
+//! main types are [`MultiQueue`], [`Pass`] and [`Item`]. What is behind a lock is a [`Heap`](heap::Heap). No contract
+//! follows an item through a lock; so each pass keeps the account of what was put and taken through it, and the queue
+//! compares the accounts with what is left when it ends. The promise of the layer stands on [`MultiQueue::close`]: where
+//! it answers, each item was put exactly as often as it was taken or is left, and what is left is in order. It hands
+//! everything back where it refuses, where a pass is missing above all.
 #![tactic(auto)]
 
+mod account;
 mod better;
 mod error;
 mod heap;

@@ -1,8 +1,10 @@
-ghost use Rattle.std.specs.Prelude.{◌≡◌, ◌≢◌, ◌+◌, ◌<◌, ◌≤◌, ◌↔◌, ◌⊎◌, AllPairs, IfErr, IfOk, IfSome, IsErrAnd, IsPermutation, IsTrue, OnErr, OnOk};
+ghost use Rattle.std.specs.Prelude.{◌≡◌, ◌≢◌, ◌+◌, ◌<◌, ◌≤◌, ◌↔◌, ◌⊎◌, AllPairs, IfErr, IfOk, IfSome, IsErrAnd, IsTrue, OnErr, OnOk};
+ghost use Rattle.ch_multiqueue.specs.Accounts.{AreBalanced};
 ghost use Rattle.ch_multiqueue.specs.Closing.{IsAmong, IsLacking};
 ghost use Rattle.ch_multiqueue.specs.Items.{IsNotAfter};
-ghost use Rattle.ch_multiqueue.specs.Passes.{pass_of, moved_on};
+ghost use Rattle.ch_multiqueue.specs.Passes.{pass_of, moved_on, having_put, having_taken};
 
+use crate::account::{are_balanced, in_order};
 use crate::better::{Better, better_of};
 use crate::error::CloseError;
 use crate::heap::Heap;
@@ -15,7 +17,7 @@ use std::sync::{Mutex, Wait};
 /// A relaxed priority queue, which threads share by reference, each with a [`Pass`] of its own.
 ///
 /// It has 1 to 256 heaps, and at most 256 passes are made. Each heap keeps the room that its items once took, and
-/// nothing else grows. A `pop` takes the top of one heap as it is when that heap is locked; nothing is said of the order
+/// beside the heaps the accounts of the passes alone grow. A `pop` takes the top of one heap as it is when that heap is locked; nothing is said of the order
 /// of the items that it gives, nor of how long a call waits for a lock.
 #[derive(Drop)]
 pub struct MultiQueue {
@@ -54,7 +56,7 @@ impl MultiQueue {
             seed,
             passes: 1,
         };
-        Ok((queue, Pass::new(seed, 0)))
+        Ok((queue, Pass::new(alloc, seed, 0)))
     }
 
     /// The next pass. Passes are numbered from 0, in the order that they are made.
@@ -67,7 +69,7 @@ impl MultiQueue {
         ensures made { OnOk result (self.new ≡ record self.old { passes = self.old.passes + 1 }) }
         ensures refused { OnErr result (self.new ≡ self.old) }
     {
-        let pass = Pass::new(self.seed, self.passes);
+        let pass = Pass::new(*self.heaps.allocator(), self.seed, self.passes);
         self.passes += 1;
         Ok(pass)
     }
@@ -81,16 +83,22 @@ impl MultiQueue {
         self.heaps.len()
     }
 
-    /// Puts an item into a heap that the pass draws.
+    /// Puts an item into a heap that the pass draws, and into the account of the pass.
     ///
     /// Draws one word, also where it is refused. Refused only for memory: the item is handed back then, and the queue
-    /// is unchanged. It may wait for the heap's lock, and takes time by the logarithm of the number of items there.
+    /// and the account are unchanged. It may wait for the heap's lock, and takes time by the logarithm of the number of
+    /// items there. Under the lock it takes memory for the heap alone.
     pub fn push<R: Wait>(&self, rt: &R, pass: &mut Pass, item: Item) -> Result<(), Item>
-        ensures pass { pass.new ≡ moved_on pass.old }
+        ensures put { OnOk result (pass.new ≡ having_put item (moved_on pass.old)) }
+        ensures refused { OnErr result (pass.new ≡ moved_on pass.old) }
         ensures back { IfErr result (λ refused. refused ≡ item) }
     {
         let place = pass.draw(self.heaps());
-        self.heaps[place].lock(rt).put(item)
+        if let Err(_refused) = pass.reserve_put() {
+            return Err(item);
+        }
+        let mut heap = self.heaps[place].lock(rt);
+        pass.put_into(&mut *heap, item)
     }
 
     /// Takes an item out: the better top of two heaps that the pass draws, or any top where those have none. None
@@ -99,29 +107,34 @@ impl MultiQueue {
     /// Draws two words, always. The tops are looked at one after the other, each under its heap's lock, and the better
     /// heap gives its top as it is when it is locked again; of two equal tops the first drawn counts. Where both
     /// heaps were empty, or the better one has become empty since, the heaps are gone through once from the first, and
-    /// the first top found is taken. Takes no memory today; where memory is refused, the queue is unchanged.
+    /// the first top found is taken. Takes memory for the account of the pass, before any lock; where it is refused, the
+    /// queue and the account are unchanged.
     pub fn pop<R: Wait>(&self, rt: &R, pass: &mut Pass) -> Result<Option<Item>, AllocError>
-        ensures { pass.new ≡ moved_on (moved_on pass.old) }
+        ensures taken { IfOk result (λ answer. pass.new ≡ having_taken answer (moved_on (moved_on pass.old))) }
+        ensures refused { OnErr result (pass.new ≡ moved_on (moved_on pass.old)) }
     {
         let first = pass.draw(self.heaps());
         let second = pass.draw(self.heaps());
+        pass.reserve_taken()?;
         if let Some(place) = self.choose(rt, first, second) {
-            if let Some(item) = self.take_from(rt, place) {
+            if let Some(item) = self.take_from(rt, pass, place)? {
                 return Ok(Some(item));
             }
         }
-        Ok(self.take_first_found(rt))
+        self.take_first_found(rt, pass)
     }
 
-    /// Ends the queue, and answers what is left in it, in order.
+    /// Ends the queue, and answers what is left in it, in order: each item was put through one of the passes exactly as
+    /// often as it was taken through one or is left.
     ///
-    /// All passes that were made are to be handed in, in any order. Refused where one is missing, and then where memory
-    /// is refused for the list; queue and passes are handed back as they were. Takes memory for the list alone, and
-    /// time by the number of items times its logarithm.
+    /// All passes that were made are to be handed in, in any order. Refused where one is missing, then where memory is
+    /// refused, and then where the accounts of the passes don't agree with what is left, as with a pass of another
+    /// queue; queue and passes are handed back as they were. Takes memory for a copy of the accounts and twice the list,
+    /// and the time to sort these.
     pub fn close(self, passes: Vec<Pass>) -> Result<Vec<Item>, (CloseError, MultiQueue, Vec<Pass>)>
         ensures missing { IsErrAnd result (λ refused. refused.0 ≡ CloseError.PassMissing) ↔ IsLacking self.passes passes.items }
         ensures sorted { IfOk result (λ items. AllPairs IsNotAfter items.items) }
-        ensures never_mixed { IfErr result (λ refused. refused.0 ≢ CloseError.Mixed) }
+        ensures balanced { IfOk result (λ items. AreBalanced passes.items items.items) }
         ensures queue { IfErr result (λ refused. refused.1 ≡ self) }
         ensures passes { IfErr result (λ refused. refused.2 ≡ passes) }
     {
@@ -129,9 +142,9 @@ impl MultiQueue {
         if is_lacking(passes.as_slice(), queue.passes) {
             return Err((CloseError::PassMissing, queue, passes));
         }
-        match queue.left() {
+        match queue.settle(passes.as_slice()) {
             Ok(items) => Ok(items),
-            Err(_refused) => Err((CloseError::OutOfMemory, queue, passes)),
+            Err(error) => Err((error, queue, passes)),
         }
     }
 
@@ -157,22 +170,51 @@ impl MultiQueue {
         self.heaps[place].lock(rt).top()
     }
 
-    /// Takes the top of a heap, under its lock.
-    fn take_from<R: Wait>(&self, rt: &R, place: usize) -> Option<Item>
+    /// Takes the top of a heap, under its lock, and into the account of a pass.
+    fn take_from<R: Wait>(
+        &self,
+        rt: &R,
+        pass: &mut Pass,
+        place: usize,
+    ) -> Result<Option<Item>, AllocError>
         requires { place < self.now.heaps }
+        ensures taken { IfOk result (λ answer. pass.new ≡ having_taken answer pass.old) }
+        ensures refused { OnErr result (pass.new ≡ pass.old) }
     {
-        self.heaps[place].lock(rt).take()
+        let mut heap = self.heaps[place].lock(rt);
+        pass.take_from(&mut *heap)
     }
 
     /// Goes through the heaps once, from the first, and takes the first top that is found. None where each heap was
     /// found empty.
-    fn take_first_found<R: Wait>(&self, rt: &R) -> Option<Item> {
-        'heaps: for heap in &self.heaps {
-            if let Some(item) = heap.lock(rt).take() {
-                return Some(item);
+    fn take_first_found<R: Wait>(&self, rt: &R, pass: &mut Pass) -> Result<Option<Item>, AllocError>
+        ensures taken { IfOk result (λ answer. pass.new ≡ having_taken answer pass.old) }
+        ensures refused { OnErr result (pass.new ≡ pass.old) }
+    {
+        'heaps: for place in 0..self.heaps() {
+            if let Some(item) = self.take_from(rt, pass, place)? {
+                return Ok(Some(item));
             }
         }
-        None
+        Ok(None)
+    }
+
+    /// A list of what is left, in order, where the accounts of these passes agree with it. The queue stays as it is.
+    fn settle(&mut self, passes: &[Pass]) -> Result<Vec<Item>, CloseError>
+        ensures queue { self.new ≡ self.old }
+        ensures sorted { IfOk result (λ items. AllPairs IsNotAfter items.items) }
+        ensures balanced { IfOk result (λ items. AreBalanced passes.now items.items) }
+        ensures found { IfErr result (λ error. error ≢ CloseError.PassMissing) }
+    {
+        let alloc = *self.heaps.allocator();
+        let Ok(items) = self.left() else {
+            return Err(CloseError::OutOfMemory);
+        };
+        match are_balanced(alloc, passes, items.as_slice()) {
+            Ok(true) => Ok(items),
+            Ok(false) => Err(CloseError::Mixed),
+            Err(_refused) => Err(CloseError::OutOfMemory),
+        }
     }
 
     /// A list of what is left, in order. The queue stays as it is.
@@ -186,15 +228,6 @@ impl MultiQueue {
         }
         Ok(in_order(items))
     }
-}
-
-/// The same items, in order.
-fn in_order(mut items: Vec<Item>) -> Vec<Item>
-    ensures same { IsPermutation items.items result.items }
-    ensures sorted { AllPairs IsNotAfter result.items }
-{
-    items.as_mut_slice().sort_unstable();
-    items
 }
 
 /// Whether one of the first `made` passes isn't among these.

@@ -1,18 +1,26 @@
-ghost use Rattle.std.specs.Prelude.{◌≡◌, ◌%◌, ◌<◌, ◌≤◌};
-ghost use Rattle.ch_multiqueue.specs.Passes.{pass_of, word, moved_on};
+ghost use Rattle.std.specs.Prelude.{◌≡◌, ◌%◌, ◌<◌, ◌≤◌, [], ◌∷◌, IfErr, IfNone, IfOk, IfSome, IsPermutation, OnErr, OnOk};
+ghost use Rattle.ch_multiqueue.specs.Items.{IsLeastOf};
+ghost use Rattle.ch_multiqueue.specs.Passes.{pass_of, word, moved_on, having_put, having_taken};
 
+use crate::heap::Heap;
+use crate::item::Item;
 use rand_core::utils::NextWord;
 use rand_pcg::Pcg32;
+use std::alloc::{AllocError, Global};
 use std::marker::Model;
 
-/// What a thread needs to push into a queue and to pop from it: a number of its own, and a generator of random words.
+/// What a thread needs to push into a queue and to pop from it: a number of its own, a generator of random words, and
+/// the account of what went through it.
 ///
 /// The words are those of `Pcg32::new(seed, number)`, with the seed of the queue that made the pass. A `push` takes one
-/// word, a `pop` two. As long as one pass alone is used, what is popped is told by its words.
+/// word, a `pop` two. As long as one pass alone is used, what is popped is told by its words. The account keeps each
+/// item that was put and each that was taken, 16 bytes each in lists that double, until the queue is closed.
 #[derive(Drop)]
 pub struct Pass {
     number: u32,
     generator: Pcg32,
+    put: Vec<Item>,
+    taken: Vec<Item>,
 }
 
 impl Model for Pass {
@@ -20,17 +28,19 @@ impl Model for Pass {
 
     ghost Value = { Passes.Pass };
 
-    ghost view = { λ p. record { number = p.number; generator = p.generator } };
+    ghost view = { λ p. record { number = p.number; generator = p.generator; put = p.put.items; taken = p.taken.items } };
 }
 
 impl Pass {
-    /// The pass of this number, of a queue with this seed, before any word is drawn.
-    pub(crate) fn new(seed: u64, number: u32) -> Pass
+    /// The pass of this number, of a queue with this seed, before any word is drawn. Takes no memory.
+    pub(crate) fn new(alloc: Global, seed: u64, number: u32) -> Pass
         ensures { result ≡ pass_of seed number }
     {
         Pass {
             number,
             generator: Pcg32::new(seed, u64::from(number)),
+            put: Vec::new(alloc),
+            taken: Vec::new(alloc),
         }
     }
 
@@ -39,6 +49,20 @@ impl Pass {
         ensures { result ≡ self.now.number }
     {
         self.number
+    }
+
+    /// The items that were put through it, in the order of the calls.
+    pub fn put(&self) -> &[Item]
+        ensures { result.now ≡ self.now.put }
+    {
+        self.put.as_slice()
+    }
+
+    /// The items that were taken through it, in the order of the calls.
+    pub fn taken(&self) -> &[Item]
+        ensures { result.now ≡ self.now.taken }
+    {
+        self.taken.as_slice()
     }
 
     /// Draws one of so many heaps, by the next word.
@@ -50,5 +74,55 @@ impl Pass {
         ensures moved { self.new ≡ moved_on self.old }
     {
         self.generator.next_word() as usize % heaps
+    }
+
+    /// Makes room in the account for one more item that is put, so that `put_into` takes no memory for it.
+    pub(crate) fn reserve_put(&mut self) -> Result<(), AllocError>
+        ensures { self.new ≡ self.old }
+    {
+        self.put.reserve(1)
+    }
+
+    /// Makes room in the account for one more item that is taken, so that `take_from` takes no memory.
+    pub(crate) fn reserve_taken(&mut self) -> Result<(), AllocError>
+        ensures { self.new ≡ self.old }
+    {
+        self.taken.reserve(1)
+    }
+
+    /// Puts an item into a heap, and into the account. Refused only for memory: the item is handed back then, and heap
+    /// and pass stay as they were.
+    pub(crate) fn put_into(&mut self, heap: &mut Heap, item: Item) -> Result<(), Item>
+        ensures heap { OnOk result (IsPermutation (item ∷ heap.old) heap.new) }
+        ensures account { OnOk result (self.new ≡ having_put item self.old) }
+        ensures back { IfErr result (λ refused. refused ≡ item) }
+        ensures heap_stays { OnErr result (heap.new ≡ heap.old) }
+        ensures stays { OnErr result (self.new ≡ self.old) }
+    {
+        if let Err(_refused) = self.put.reserve(1) {
+            return Err(item);
+        }
+        heap.put(item)?;
+        self.put.push_reserved(item);
+        Ok(())
+    }
+
+    /// Takes the least item out of a heap, and into the account; nothing where the heap is empty. Where memory is
+    /// refused, heap and pass stay as they were.
+    pub(crate) fn take_from(&mut self, heap: &mut Heap) -> Result<Option<Item>, AllocError>
+        ensures some { IfOk result (λ answer. IfSome answer (λ item. IsPermutation heap.old (item ∷ heap.new))) }
+        ensures least { IfOk result (λ answer. IfSome answer (λ item. IsLeastOf heap.old item)) }
+        ensures none { IfOk result (λ answer. IfNone answer (heap.old ≡ [])) }
+        ensures empty { IfOk result (λ answer. IfNone answer (heap.new ≡ [])) }
+        ensures account { IfOk result (λ answer. self.new ≡ having_taken answer self.old) }
+        ensures heap_stays { OnErr result (heap.new ≡ heap.old) }
+        ensures stays { OnErr result (self.new ≡ self.old) }
+    {
+        self.taken.reserve(1)?;
+        let Some(item) = heap.take() else {
+            return Ok(None);
+        };
+        self.taken.push_reserved(item);
+        Ok(Some(item))
     }
 }

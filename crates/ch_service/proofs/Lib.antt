@@ -2,6 +2,7 @@ pub mod ByWalks
 pub mod Exact
 pub mod FromBuild
 pub mod JoinedLines
+pub mod LineFeeds
 pub mod Naming
 pub mod Prepared
 pub mod Progress

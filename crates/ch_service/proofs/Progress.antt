@@ -4,7 +4,7 @@ use Rattle.std.specs.Io.KnownBytes.{Appends}
 use Rattle.std.proofs.KnownBytes.{Appends-trans, Appends-nil}
 use Rattle.std.proofs.Math.Seq.{take-append_seam}
 use Rattle.ch_service.specs.Answer.{Route, IsAnswer, AreAnswers, nothing, one_more}
-use Rattle.counted_io.specs.Handing.{HandsOn}
+use Rattle.counted_io.specs.Handing.{HandsOn, HandsOnPart}
 use Rattle.ch_service.specs.Outcome.{Writes, StopsShort, IsSearchFault, ComesOfAnswering}
 use Rattle.ch_service.specs.Route.{Routed, StopsAtTooLong}
 use Rattle.ch_graph.specs.Hierarchy.{Hierarchy}
@@ -67,19 +67,21 @@ gathered-same {Is} {pairs} {old} {new} {written = written} h e = subst (λ l. Is
 
 -- the bytes that the writer took, of the answers to the first pairs
 AreTaken : Told → List (ℕ × ℕ) → Option (List ℕ) → Option (List ℕ) → ℕ → Type 0
-AreTaken Is pairs old new written = (text : List ℕ) × ((count : ℕ) × AreAnswers Is (take count pairs) text) × (written ≤ length text) × Appends old new (take written text)
+AreTaken Is pairs old new written = (text : List ℕ) × ((count : ℕ) × AreAnswers Is (take count pairs) text) × (written < length text) × Appends old new (take written text)
 
-gathered-taken : {Is : Told} (pairs : List (ℕ × ℕ)) (count : ℕ) {old mid new : Option (List ℕ)} {lines rest : List ℕ} {before after : ℕ} → IsGathered Is (take count pairs) old mid lines before
-    → HandsOn mid new lines rest before after → AreTaken Is pairs old new after
+gathered-taken : {Is : Told} (pairs : List (ℕ × ℕ)) (count : ℕ) {old mid new : Option (List ℕ)} {lines : List ℕ} {before after : ℕ} → IsGathered Is (take count pairs) old mid lines before
+    → HandsOnPart mid new lines before after → AreTaken Is pairs old new after
 unfolding AreTaken
-gathered-taken {Is} pairs count {old} {mid} {new} {lines} {rest} {before} {after} h k =
+gathered-taken {Is} pairs count {old} {mid} {new} {lines} {before} {after} h part =
+    let rest : List ℕ = part.rest in
+    let k = part.first in
     let given : List ℕ = h.given ++ k.taken in
     let counted : after ≡ length given = omega (arith, h.counted, k.counted, length-append h.given k.taken) in
     let whole : h.given ++ lines ≡ given ++ rest = ap (λ l. h.given ++ l) k.parts ∙ sym (append_assoc h.given k.taken rest) in
     let first : take after (h.given ++ lines) ≡ given = ap (take after) whole ∙ ap (λ n. take n (given ++ rest)) counted ∙ take-append_seam given rest in (
       h.given ++ lines,
       (count, h.answered),
-      omega (arith, counted, ap length whole, length-append given rest),
+      omega (arith, part.some, counted, ap length whole, length-append given rest),
       subst (Appends old new) (sym first) (Appends-trans old mid new h.given k.taken h.taken k.given),
     )
 
@@ -91,9 +93,9 @@ stops-from_taken Is pairs Q old new fault (Err e) is h = subst (StopsShort (λ t
 
 -- where the writer failed
 pub stops-from_gathered : {Is : Told} (pairs : List (ℕ × ℕ)) (count : ℕ) (Q : List ℕ → Type 0) {old mid new : Option (List ℕ)} {lines : List ℕ} {before : ℕ} (fault : WriteFault) (r : Result ⊤ ServiceError) → IsErrAnd r (λ e. e ≡ Write fault)
-    → IsGathered Is (take count pairs) old mid lines before → (rest : List ℕ) × HandsOn mid new lines rest before fault.written
+    → IsGathered Is (take count pairs) old mid lines before → HandsOnPart mid new lines before fault.written
     → IfErr r (StopsShort (λ text. (count : ℕ) × AreAnswers Is (take count pairs) text) Q old new)
-stops-from_gathered {Is} pairs count Q {old} {new = new} fault r is h k = stops-from_taken Is pairs Q old new fault r is (gathered-taken pairs count h k.1)
+stops-from_gathered {Is} pairs count Q {old} {new = new} fault r is h k = stops-from_taken Is pairs Q old new fault r is (gathered-taken pairs count h k)
 
 -- where the next of the pairs was refused, once the lines of those before it are written
 

@@ -1,10 +1,11 @@
 -- What an answering call has done where it refuses.
-use Rattle.std.specs.Prelude.{ℕ, ◌≡◌, ◌≤◌, ◌⊎◌, ⊤, List, take, length, Option, Some, IfSome, Ok, Err}
+use Rattle.std.specs.Prelude.{ℕ, ◌≡◌, ◌<◌, ◌⊎◌, ⊤, List, take, length, Option, Some, IfSome, Ok, Err}
 use Rattle.std.specs.Io.KnownBytes.{Appends, Keeps}
 use Rattle.ch_graph.specs.Graph.{Graph}
 use Rattle.ch_graph.specs.Hierarchy.{Hierarchy}
-use Rattle.grfile.specs.Outcome.{FromText}
+use Rattle.grfile.specs.Outcome.{FromText, next_line}
 use Rattle.grfile.specs.Reading.{graph_of, pairs_of}
+use Rattle.grfile.specs.Taken.{StopsAtReached, line_feeds}
 use Rattle.grfile.specs.declared.error.GrError.{GrError}
 use Rattle.grfile.specs.declared.error.GrErrorKind.TheVariants.{Read}
 use Rattle.hierfile.specs.Bytes.{OfBytes}
@@ -23,9 +24,9 @@ IfTold graph pairs P = IfSome graph (λ graph_text. IfSome pairs (λ pairs_text.
 abbrev pub Writes : (List ℕ → Type 0) → Option (List ℕ) → Option (List ℕ) → Type 0
 Writes P old new = (text : List ℕ) × P text × Appends old new text
 
--- the writer took so many bytes of a text of this kind, from the first on
+-- the writer took so many bytes of a text of this kind, from the first on, but not all
 abbrev pub WritesFirst : (List ℕ → Type 0) → Option (List ℕ) → Option (List ℕ) → ℕ → Type 0
-WritesFirst P old new written = (text : List ℕ) × P text × (written ≤ length text) × Appends old new (take written text)
+WritesFirst P old new written = (text : List ℕ) × P text × (written < length text) × Appends old new (take written text)
 
 -- the text spells a graph
 abbrev pub IsGraphText : List ℕ → Type 0
@@ -100,6 +101,19 @@ abbrev pub IfTextFault : (GrError → Type 0) → (GrError → Type 0) → Servi
 IfTextFault P Q (GraphFault fault) = P fault
 IfTextFault P Q (Queries fault) = Q fault
 IfTextFault P Q e = ⊤
+
+-- a read that failed behind these bytes, at one more than their line feeds
+abbrev pub IsReadFault : List ℕ → GrError → Type 0
+IsReadFault bytes fault = fault ≡ record { kind = Read; line = next_line (line_feeds bytes) }
+
+-- a line of this text was reached, where a refusal to read it says nothing of it
+abbrev pub StopsWithin : List ℕ → GrError → Type 0
+StopsWithin text fault = (left : Option (List ℕ)) × StopsAtReached (Some text) left fault
+
+-- The same where both texts stand in one input, which is read first: the line is one of the input that was reached, where
+-- that can't be read, and else one of the text's own.
+abbrev pub StopsInJoined : Option (List ℕ) → Option (List ℕ) → ServiceError → Type 0
+StopsInJoined had left = IfTextFault (λ fault. StopsAtReached had left fault ⊎ IfSome had (λ input. StopsWithin (graph_part input) fault)) (λ fault. IfSome had (λ input. StopsWithin (pairs_part input) fault))
 
 -- where what is read is at fault, or nothing is built, nothing is written
 abbrev pub KeepsAtFault : Option (List ℕ) → Option (List ℕ) → ServiceError → Type 0

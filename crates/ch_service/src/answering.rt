@@ -2,7 +2,7 @@ ghost use Rattle.std.specs.Prelude.{◌≡◌, ◌↔◌, [], All, OnOk, IfErr, 
 ghost use Rattle.grfile.specs.Taken.{StopsAtReached};
 ghost use Rattle.ch_service.specs.Answer.{Answers, AnswersFirst};
 ghost use Rattle.ch_service.specs.Joined.{graph_part, pairs_part};
-ghost use Rattle.ch_service.specs.Outcome.{IfTold, IfTextFault, Writes, ComesOfTexts, IsFaultOf, IsFaultOfJoined, KeepsAtFault, StopsShort};
+ghost use Rattle.ch_service.specs.Outcome.{IfTold, IfTextFault, Writes, ComesOfTexts, IsFaultOf, IsFaultOfJoined, KeepsAtFault, StopsInJoined, StopsShort};
 ghost use Rattle.ch_service.specs.declared.error.ServiceError.TheVariants.{Build};
 ghost use Rattle.ch_workers.specs.Options.{AreBad, AreGood};
 ghost use Rattle.ch_workers.specs.declared.error.BuildError.{BuildError};
@@ -104,6 +104,7 @@ pub fn answer_joined<I: Read, W: Write, R: Threads + Wait + Sync>(
     ensures kinds { IfErr result ComesOfTexts }
     ensures fault { IfErr result (λ e. IfSome (I.remaining input.old)
         (λ text. IsFaultOfJoined text e)) }
+    ensures reached { IfErr result (StopsInJoined (I.remaining input.old) (I.remaining input.new)) }
     ensures untouched { IfErr result (KeepsAtFault (W.contents out.old) (W.contents out.new)) }
     ensures stops { IfErr result (λ e. IfSome (I.remaining input.old)
         (λ text. StopsShort (AnswersFirst (graph_part text) (pairs_part text)) (λ _. ⊥) (W.contents out.old) (W.contents out.new) e)) }

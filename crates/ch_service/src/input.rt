@@ -1,6 +1,7 @@
 ghost use Rattle.std.specs.Prelude.{◌≡◌, ◌<◌, ◌++◌, ℕ, List, false, length, IfOk, IfErr, IfSome, OnOk};
-ghost use Rattle.std.specs.Io.KnownBytes.{Consumes, IsAtEnd};
-ghost use Rattle.ch_service.specs.Outcome.{ComesOfReading};
+ghost use Rattle.std.specs.Io.KnownBytes.{Consumes, IsAtEnd, Keeps};
+ghost use Rattle.grfile.specs.Taken.{StopsAtReached, line_feeds};
+ghost use Rattle.ch_service.specs.Outcome.{ComesOfReading, IfTextFault, IsReadFault};
 
 use crate::error::ServiceError;
 use counted_io::{MOST_CALLS, ReadCalls};
@@ -15,6 +16,7 @@ const PIECE: usize = 1 << 16;
 pub fn read_whole<R: Read>(alloc: Global, input: &mut R) -> Result<Vec<u8>, ServiceError>
     ensures whole { IfOk result (λ text. IfSome (R.remaining input.old) (λ bytes. text.items ≡ bytes)) }
     ensures kinds { IfErr result ComesOfReading }
+    ensures reached { IfErr result (IfTextFault (StopsAtReached (R.remaining input.old) (R.remaining input.new)) (λ _. ⊥)) }
 {
     let mut text = Vec::new(alloc);
     let mut piece = new_piece(alloc)?;
@@ -38,6 +40,7 @@ fn read_pieces<R: Read>(
     requires { 0 < length piece.old }
     ensures ok { OnOk result (IfSome (R.remaining input.old) (λ bytes. text.new.items ≡ text.old.items ++ bytes)) }
     ensures kinds { IfErr result ComesOfReading }
+    ensures failed { IfErr result (IfTextFault (λ fault. (bytes : List ℕ) × Consumes (R.remaining input.old) (R.remaining input.new) bytes × IsReadFault (text.old.items ++ bytes) fault) (λ _. ⊥)) }
 {
     let mut calls = ReadCalls::new(MOST_CALLS);
     'pieces: while read_piece(&mut calls, input, piece, text)? {}
@@ -56,6 +59,7 @@ fn read_piece<R: Read>(
         × Consumes (R.remaining input.old) (R.remaining input.new) bytes × (more ≡ false → IsAtEnd (R.remaining input.new))) }
     ensures counted { OnOk result (calls.new.left < calls.old.left) }
     ensures kinds { IfErr result ComesOfReading }
+    ensures failed { IfErr result (IfTextFault (λ fault. IsReadFault text.old.items fault × Keeps (R.remaining input.old) (R.remaining input.new)) (λ _. ⊥)) }
 {
     match calls.read(input, piece) {
         Ok(0) => Ok(false),
@@ -63,17 +67,23 @@ fn read_piece<R: Read>(
             text.extend_from_slice(&piece[..count])?;
             Ok(true)
         }
-        Err(_) => Err(read_fault(text)),
+        Err(_) => Err(ServiceError::Graph(read_fault(text))),
     }
 }
 
 // The fault of a read that failed behind this text.
-fn read_fault(text: &[u8]) -> ServiceError
-    ensures { ComesOfReading result }
+fn read_fault(text: &[u8]) -> GrError
+    ensures { IsReadFault text.now result }
 {
-    let line = text.iter().filter(|byte| **byte == b'\n').count() as u64 + 1;
-    ServiceError::Graph(GrError {
+    GrError {
         kind: GrErrorKind::Read,
-        line,
-    })
+        line: line_feeds(text).saturating_add(1),
+    }
+}
+
+// How many line feeds there are.
+fn line_feeds(text: &[u8]) -> u64
+    ensures { result ≡ line_feeds text.now }
+{
+    text.iter().filter(|byte| **byte == b'\n').count() as u64
 }

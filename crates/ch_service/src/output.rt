@@ -1,5 +1,5 @@
-ghost use Rattle.std.specs.Prelude.{◌≡◌, ◌<◌, ◌^◌, ℕ, [], List, OnOk, IfErr, length};
-ghost use Rattle.counted_io.specs.Handing.{HandsOn};
+ghost use Rattle.std.specs.Prelude.{◌≡◌, ◌<◌, ◌^◌, [], OnOk, IfErr, length};
+ghost use Rattle.counted_io.specs.Handing.{HandsOn, HandsOnPart};
 
 use counted_io::{MOST_CALLS, WriteCalls, WriteFault};
 use std::alloc::Global;
@@ -33,7 +33,7 @@ impl Output {
     pub fn hand_over_if_many<W: Write>(&mut self, out: &mut W) -> Result<(), WriteFault>
         ensures ok { OnOk result (HandsOn (W.contents out.old) (W.contents out.new) self.old.lines.items self.new.lines.items self.old.calls.written self.new.calls.written) }
         ensures few { OnOk result (length self.new.lines.items < 2 ^ 16) }
-        ensures err { IfErr result (λ fault. (rest : List ℕ) × HandsOn (W.contents out.old) (W.contents out.new) self.old.lines.items rest self.old.calls.written fault.written) }
+        ensures err { IfErr result (λ fault. HandsOnPart (W.contents out.old) (W.contents out.new) self.old.lines.items self.old.calls.written fault.written) }
     {
         if self.lines.len() < PIECE {
             return Ok(());
@@ -45,7 +45,7 @@ impl Output {
     pub fn hand_over<W: Write>(&mut self, out: &mut W) -> Result<(), WriteFault>
         ensures ok { OnOk result (HandsOn (W.contents out.old) (W.contents out.new) self.old.lines.items self.new.lines.items self.old.calls.written self.new.calls.written) }
         ensures all { OnOk result (self.new.lines.items ≡ []) }
-        ensures err { IfErr result (λ fault. (rest : List ℕ) × HandsOn (W.contents out.old) (W.contents out.new) self.old.lines.items rest self.old.calls.written fault.written) }
+        ensures err { IfErr result (λ fault. HandsOnPart (W.contents out.old) (W.contents out.new) self.old.lines.items self.old.calls.written fault.written) }
     {
         self.calls.write(out, self.lines.as_slice())?;
         self.lines.clear();

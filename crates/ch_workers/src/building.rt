@@ -30,8 +30,8 @@ use std::thread::Threads;
 /// worker whose thread can't be started, or who is refused memory, is done without; a sweep contracts what they leave.
 /// `BadOptions`, which is tested first, where a number of the options is outside its range or there isn't one list for
 /// each worker; `OutOfMemory` where a growth was refused; `Mixed` where the receipts and the log, or the accounts of
-/// the queue, don't agree. On every answer the estimators were dropped, and `leases` was waited for: so it doesn't
-/// answer as long as a lease is out elsewhere. Takes memory for the rows of the nodes, shortcuts included, for the log,
+/// the queue, don't agree. On every answer the estimators were dropped and no lease of `leases` is out: so it doesn't
+/// answer as long as one is out elsewhere. Takes memory for the rows of the nodes, shortcuts included, for the log,
 /// the receipts and the queue.
 pub fn build<G: Gate, R: Threads + Wait + Sync>(
     rt: &R,
@@ -48,6 +48,7 @@ pub fn build<G: Gate, R: Threads + Wait + Sync>(
     ensures right { IfOk result (λ b. IsRight graph b.hierarchy) }
     ensures account { IfOk result (λ b. IsAccount b.log.items (map (λ v. v.items) b.receipts.items)) }
     ensures lists { IfOk result (λ b. vec_len b.receipts ≡ options.workers + 1) }
+    ensures leases { leases.new ≡ record leases.old { out = 0 } }
 {
     let built = build_with_good(rt, alloc, graph, options, estimators, gate);
     leases.wait(rt);

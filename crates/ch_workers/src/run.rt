@@ -1,4 +1,5 @@
 ghost use Rattle.std.specs.Prelude.{◌≡◌, ◌<◌, ◌≤◌, [], All, IfOk, vec_len};
+ghost use Rattle.ch_multiqueue.specs.Accounts.{AreBalanced};
 ghost use Rattle.ch_workers.specs.Options.{AreGood};
 
 use crate::gate::Gate;
@@ -9,7 +10,7 @@ use crate::trouble::Trouble;
 use crate::worker::{Worker, work};
 use ch_contract::{Board, Receipt, Site};
 use ch_estimate::Estimator;
-use ch_multiqueue::{CloseError, MultiQueue, Pass};
+use ch_multiqueue::{CloseError, Item, MultiQueue, Pass};
 use ch_rowbook::Reader;
 use std::alloc::{AllocError, Global};
 use std::sync::Wait;
@@ -79,7 +80,7 @@ fn contract_by<S: Site + Send + Sync, E: Estimator + Send, G: Gate, R: Threads +
     run_all(rt, &shared, gate, workers.as_mut_slice());
     let Left { passes, receipts } = take_apart(alloc, reader, workers)?;
     let (board, queue) = shared.into_parts();
-    close(queue, passes)?;
+    let _left = close(queue, passes)?;
     Ok(Worked { board, receipts })
 }
 
@@ -126,10 +127,13 @@ fn take_apart<S: Site, E: Estimator>(
     })
 }
 
-/// Ends the queue. The items that are left in it are dropped.
-fn close(queue: MultiQueue, passes: Vec<Pass>) -> Result<(), Trouble> {
+/// Ends the queue, by the passes of all workers, and answers what is left in it. `Mixed` where a pass is missing, or
+/// where an item was lost, doubled or altered between a push and a pop.
+fn close(queue: MultiQueue, passes: Vec<Pass>) -> Result<Vec<Item>, Trouble>
+    ensures { IfOk result (λ left. AreBalanced passes.items left.items) }
+{
     match queue.close(passes) {
-        Ok(_items) => Ok(()),
+        Ok(items) => Ok(items),
         Err((CloseError::OutOfMemory, _, _)) => Err(Trouble::OutOfMemory),
         Err((CloseError::PassMissing | CloseError::Mixed, _, _)) => Err(Trouble::Mixed),
     }

@@ -1,1 +1,2 @@
+mod Calling
 mod Taking

@@ -1,10 +1,10 @@
 -- What a writer took of some bytes.
-use Rattle.std.proofs.Common.{ℕ, ◌+◌, ◌-◌, ◌≤◌, List, length, take, drop, Option, sym, subst, arith}
+use Rattle.std.proofs.Common.{ℕ, ◌+◌, ◌-◌, ◌<◌, ◌≤◌, List, length, take, drop, Option, sym, subst, arith}
 use Rattle.std.specs.Io.KnownBytes.{Appends}
 use Rattle.std.proofs.KnownBytes.{Appends-trans}
 use Rattle.std.proofs.Math.Seq.{take-add}
-use Rattle.std.proofs.lemmas.List.{take-append-drop, length-take-le, take_rest}
-use Rattle.counted_io.specs.Handing.{HandsOn}
+use Rattle.std.proofs.lemmas.List.{take-append-drop, length-take-le, length-drop, take_rest}
+use Rattle.counted_io.specs.Handing.{HandsOn, HandsOnPart}
 
 -- the first bytes, and then the first of the rest
 pub appends-take_more : (old mid new : Option (List ℕ)) (n m : ℕ) (bytes : List ℕ) → Appends old mid (take n bytes) → Appends mid new (take m (take (length bytes - n) (drop n bytes)))
@@ -19,4 +19,12 @@ hands_on_first old new bytes n before within given = record {
   parts = sym (take-append-drop n bytes);
   given = given;
   counted = let count = length-take-le n bytes within in omega arith;
+}
+
+-- but not all
+pub hands_on_part : (old new : Option (List ℕ)) (bytes : List ℕ) (n before : ℕ) → n < length bytes → Appends old new (take n bytes) → HandsOnPart old new bytes before (before + n)
+hands_on_part old new bytes n before within given = record {
+  rest = drop n bytes;
+  some = let left = length-drop n bytes in omega arith;
+  first = hands_on_first old new bytes n before (omega arith) given;
 }

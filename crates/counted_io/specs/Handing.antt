@@ -1,5 +1,5 @@
 -- Bytes that come from a reader and go to a writer by so many calls.
-use Rattle.std.specs.Prelude.{ℕ, ◌≡◌, ◌+◌, ◌*◌, ◌≤◌, List, ◌++◌, length, Option, IfSome}
+use Rattle.std.specs.Prelude.{ℕ, ◌≡◌, ◌+◌, ◌*◌, ◌<◌, ◌≤◌, List, ◌++◌, length, Option, IfSome}
 use Rattle.std.specs.Io.KnownBytes.{Appends}
 
 -- The writer took the first of these bytes, the rest is what follows them, and the count of written bytes grew by as
@@ -9,6 +9,12 @@ pub record HandsOn (old new : Option (List ℕ)) (bytes rest : List ℕ) (before
   pub parts : bytes ≡ taken ++ rest
   pub given : Appends old new taken
   pub counted : after ≡ before + length taken
+
+-- The writer took the first of these bytes, but not all of them, and the count of written bytes grew by as many.
+pub record HandsOnPart (old new : Option (List ℕ)) (bytes : List ℕ) (before after : ℕ) : Type 0 where
+  pub rest : List ℕ
+  pub some : 0 < length rest
+  pub first : HandsOn old new bytes rest before after
 
 -- So many calls give all that a reader has, where that is known: 65,536 bytes at most in each but the last, which finds
 -- the end.

@@ -4,17 +4,31 @@
 //! writes in a loop counts the calls, and ends where no more may be made. Stands on std alone. [`ReadCalls`] has the
 //! one loop over readers, and [`WriteCalls`] the one over writers. An interrupted call is made again, and counts; a
 //! write that takes no byte is a failure. The promise is in the contracts of [`ReadCalls::read`] and
-//! [`WriteCalls::write`]: which bytes the reader gave or the writer took, to the byte, also at a failure.
+//! [`WriteCalls::write`]: which bytes the reader gave or the writer took, to the byte, also at a failure; and which calls
+//! were made of it and what they answered, by its steps ([`StepRead`], [`StepWrite`]).
 #![tactic(auto)]
+
+ghost use Rattle.std.specs.Prelude.{◌≡◌, ◌↔◌, IsTrue};
+ghost use Rattle.std.specs.IoError.{error_kind};
+ghost use Rattle.std.specs.declared.io.ErrorKind.TheVariants.{Interrupted};
+
+use std::io::{Error, ErrorKind};
 
 mod reading;
 mod writing;
 
-pub use reading::{ReadCalls, ReadFault};
-pub use writing::{WriteCalls, WriteFault};
+pub use reading::{ReadCalls, ReadFault, StepRead};
+pub use writing::{StepWrite, WriteCalls, WriteFault};
 
 /// How often a reader or a writer is called at most.
 pub const MOST_CALLS: u64 = 1 << 40;
 
 /// How many bytes a writer gets at most in a call.
 const PIECE: usize = 1 << 16;
+
+// Whether the call was interrupted, and did nothing.
+fn is_interrupted(error: &Error) -> bool
+    ensures { IsTrue result ↔ (error_kind error.now ≡ Interrupted) }
+{
+    error.kind() == ErrorKind::Interrupted
+}

@@ -1,13 +1,43 @@
-ghost use Rattle.std.specs.Prelude.{◌≡◌, ◌+◌, ◌*◌, ◌≤◌, ℕ, [], List, Some, take, length, min, OnOk, IfErr, MatchOption};
+ghost use Rattle.std.specs.Prelude.{◌≡◌, ◌+◌, ◌*◌, ◌<◌, ◌≤◌, ℕ, [], Some, Result, take, length, min, OnOk, IfErr, MatchOption};
 ghost use Rattle.std.specs.Io.KnownBytes.{Appends, Keeps};
-ghost use Rattle.counted_io.specs.Handing.{HandsOn};
+ghost use Rattle.std.specs.declared.io.Error.{Error as IoError};
+ghost use Rattle.counted_io.specs.Calls.{IsCalled, IsRefusal, StopsBy, TakesBy, Takings};
+ghost use Rattle.counted_io.specs.Handing.{HandsOn, HandsOnPart};
 ghost use Rattle.counted_io.specs.Names.{fault_text};
 ghost use Rattle.counted_io.specs.declared.TheConstants.{MOST_CALLS, PIECE};
 
-use crate::{MOST_CALLS, PIECE};
+use crate::{MOST_CALLS, PIECE, is_interrupted};
 use std::error::Error;
 use std::fmt;
-use std::io::{ErrorKind, Write};
+use std::io::{self, Write};
+
+/// A writer whose calls can be told one by one. Every writer is one.
+pub trait StepWrite: Write {
+    ghost use Rattle.std.specs.Prelude.{ℕ, Result};
+    ghost use Rattle.std.specs.Io.{WritesAtMost};
+    ghost use Rattle.std.specs.Io.KnownBytes.{WriteAppends};
+    ghost use Rattle.std.specs.declared.io.Error.{Error};
+
+    /// How one call leads from what the writer was to what it is, by the call's answer. What it is for a writer is open,
+    /// so only who has made the call has its step.
+    ghost step: { Self → Self → Result ℕ Error → Type 0 };
+
+    /// One call of the writer.
+    fn write_once(&mut self, bytes: &[u8]) -> io::Result<usize>
+        ensures within { WritesAtMost result bytes.now }
+        ensures bytes { WriteAppends (Self.contents self.old) (Self.contents self.new) result bytes.now }
+        ensures step { step self.old self.new result };
+}
+
+impl<W: Write> StepWrite for W {
+    ghost use Rattle.std.specs.Prelude.{⊤};
+
+    ghost step = { λ _ _ _. ⊤ };
+
+    fn write_once(&mut self, bytes: &[u8]) -> io::Result<usize> {
+        self.write(bytes)
+    }
+}
 
 /// The calls that a writer may still get, and what it has taken so far.
 #[derive(Drop)]
@@ -35,11 +65,17 @@ impl WriteCalls {
     ///
     /// The writer is called again where it took a part or was interrupted. It is refused where the writer fails or takes
     /// no byte, or where no more calls may be made. Takes no memory.
-    pub fn write<W: Write>(&mut self, writer: &mut W, bytes: &[u8]) -> Result<(), WriteFault>
+    pub fn write<W: StepWrite>(&mut self, writer: &mut W, bytes: &[u8]) -> Result<(), WriteFault>
         ensures ok { OnOk result (HandsOn (W.contents writer.old) (W.contents writer.new) bytes.now [] self.old.written self.new.written) }
-        ensures err { IfErr result (λ fault. (rest : List ℕ) × HandsOn (W.contents writer.old) (W.contents writer.new) bytes.now rest self.old.written fault.written) }
+        ensures err { IfErr result (λ fault. HandsOnPart (W.contents writer.old) (W.contents writer.new) bytes.now self.old.written fault.written) }
         ensures told { IfErr result (λ fault. fault.written ≡ self.new.written) }
         ensures counted { self.new.written + self.new.left * PIECE ≤ self.old.written + self.old.left * PIECE }
+
+        // Which calls were made.
+        ensures calls { IsCalled W.step self.old.left self.new.left writer.old writer.new }
+        ensures taken { OnOk result ((calls : ℕ) × (self.old.left ≡ self.new.left + calls) × Takings W.step calls (length bytes.now) writer.old writer.new) }
+        ensures stopped { IfErr result (λ fault. (calls : ℕ) × (taken : ℕ) × (self.old.left ≡ self.new.left + calls) × (fault.written ≡ self.old.written + taken)
+            × StopsBy W.step calls self.new.left taken writer.old writer.new) }
     {
         let mut left = self.left;
         let taken = write_bytes(bytes, writer, &mut left);
@@ -53,10 +89,12 @@ impl WriteCalls {
 }
 
 // Writes the bytes, and answers how many of them the writer took: all, or fewer where it failed.
-fn write_bytes<W: Write>(bytes: &[u8], writer: &mut W, left: &mut u64) -> usize
+fn write_bytes<W: StepWrite>(bytes: &[u8], writer: &mut W, left: &mut u64) -> usize
     ensures within { result ≤ length bytes.now }
     ensures given { Appends (W.contents writer.old) (W.contents writer.new) (take result bytes.now) }
     ensures counted { result + left.new * PIECE ≤ left.old * PIECE }
+    ensures all { result ≡ length bytes.now → (calls : ℕ) × (left.old ≡ left.new + calls) × Takings W.step calls result writer.old writer.new }
+    ensures part { result < length bytes.now → (calls : ℕ) × (left.old ≡ left.new + calls) × StopsBy W.step calls left.new result writer.old writer.new }
 {
     let mut taken = 0;
     while taken < bytes.len() && *left > 0 {
@@ -70,15 +108,16 @@ fn write_bytes<W: Write>(bytes: &[u8], writer: &mut W, left: &mut u64) -> usize
 }
 
 // One call of the writer: how many bytes it took, 0 where it was interrupted, or none where it failed.
-fn write_piece<W: Write>(bytes: &[u8], writer: &mut W) -> Option<usize>
-    ensures { MatchOption result (Keeps (W.contents writer.old) (W.contents writer.new))
+fn write_piece<W: StepWrite>(bytes: &[u8], writer: &mut W) -> Option<usize>
+    ensures bytes { MatchOption result (Keeps (W.contents writer.old) (W.contents writer.new))
         (λ n. (n ≤ length bytes.now) × (n ≤ PIECE) × Appends (W.contents writer.old) (W.contents writer.new) (take n bytes.now)) }
+    ensures step { MatchOption result ((answer : Result ℕ IoError) × IsRefusal answer × W.step writer.old writer.new answer) (λ n. TakesBy W.step n writer.old writer.new) }
 {
     let piece = &bytes[..bytes.len().min(PIECE)];
-    match writer.write(piece) {
+    match writer.write_once(piece) {
         Ok(0) => None,
         Ok(n) => Some(n),
-        Err(error) if error.kind() == ErrorKind::Interrupted => Some(0),
+        Err(error) if is_interrupted(&error) => Some(0),
         Err(_) => None,
     }
 }

@@ -7,7 +7,7 @@ use Rattle.std.proofs.lemmas.List.{take-append-drop, take_more, flat_map_more}
 use Rattle.std.proofs.lemmas.List.Concat.{flat_map-append}
 use Rattle.std.specs.List.{flat_map}
 use Rattle.hierfile.specs.Spelling.{word, long}
-use Rattle.counted_io.specs.Handing.{HandsOn}
+use Rattle.counted_io.specs.Handing.{HandsOn, HandsOnPart}
 use Rattle.hierfile.specs.Bytes.{Gathered, IsPartOf, Took}
 use Rattle.byteorder.specs.Endian.{big_bytes}
 
@@ -64,11 +64,12 @@ part_then a b c x y first second back whole written h k e =
       rest,
       parts,
       subst (λ l. HandsOn a c l rest x.written written) (append_assoc x.waiting first front) (hands_on_then a b c (x.waiting ++ first) y.waiting front rest x.written y.written written h k.4),
+      k.5,
     )
 
 -- it failed before any of them was gathered
-pub part_none : (a b : Option (List ℕ)) (g : Gathered) (bytes : List ℕ) (written : ℕ) → (rest : List ℕ) × HandsOn a b g.waiting rest g.written written → IsPartOf a b g bytes written
-part_none a b g bytes written h = ([], bytes, h.0, refl, subst (λ l. HandsOn a b l h.0 g.written written) (sym (append-nil g.waiting)) h.1)
+pub part_none : (a b : Option (List ℕ)) (g : Gathered) (bytes : List ℕ) (written : ℕ) → HandsOnPart a b g.waiting g.written written → IsPartOf a b g bytes written
+part_none a b g bytes written h = ([], bytes, h.rest, refl, subst (λ l. HandsOn a b l h.rest g.written written) (sym (append-nil g.waiting)) h.first, h.some)
 
 -- one more of a list
 pub spelled-more : {X : Type 0} (f : X → List ℕ) (xs : List X) (i : ℕ) (d : X) → i < length xs → flat_map f (take i xs) ++ f (get_or xs i d) ≡ flat_map f (take (i + 1) xs)
@@ -90,7 +91,7 @@ took_part a b g whole written e k =
     let parts : whole ≡ taken ++ (rest ++ k.1) = k.3 ∙ ap (λ l. l ++ k.1) front ∙ append_assoc taken rest k.1 in
     let count : written ≡ length taken = omega (arith, k.4.counted) in
     let first : take written whole ≡ taken = ap (take written) parts ∙ ap (λ n. take n (taken ++ (rest ++ k.1))) count ∙ take-append_seam taken (rest ++ k.1) in
-    (omega (arith, ap length parts, length-append taken (rest ++ k.1)), subst (Appends a b) (sym first) k.4.given)
+    (omega (arith, k.5, count, ap length parts, length-append taken (rest ++ k.1), length-append rest k.1), subst (Appends a b) (sym first) k.4.given)
 
 -- and where all was handed to it
 pub took_all : (a b c : Option (List ℕ)) (x y z : Gathered) (whole : List ℕ) → x ≡ record { waiting = []; written = 0 } → Handed a b x y whole → HandsOn b c y.waiting z.waiting y.written z.written → z.waiting ≡ [] → Appends a c whole

@@ -58,10 +58,10 @@ pub record Gathered : Type 0 where
   pub waiting : List ℕ
   pub written : ℕ
 
--- The writer took a first part of what was gathered and of these bytes.
+-- The writer took a first part of what was gathered and of these bytes, but not all of it.
 abbrev pub IsPartOf : Option (List ℕ) → Option (List ℕ) → Gathered → List ℕ → ℕ → Type 0
-IsPartOf old new gathered bytes written = (front : List ℕ) × (back : List ℕ) × (rest : List ℕ) × (bytes ≡ front ++ back) × HandsOn old new (gathered.waiting ++ front) rest gathered.written written
+IsPartOf old new gathered bytes written = (front : List ℕ) × (back : List ℕ) × (rest : List ℕ) × (bytes ≡ front ++ back) × HandsOn old new (gathered.waiting ++ front) rest gathered.written written × (0 < length rest)
 
--- the writer took so many of the bytes, from the first on
+-- the writer took so many of the bytes, from the first on, but not all
 abbrev pub Took : Option (List ℕ) → Option (List ℕ) → ℕ → List ℕ → Type 0
-Took old new written bytes = (written ≤ length bytes) × Appends old new (take written bytes)
+Took old new written bytes = (written < length bytes) × Appends old new (take written bytes)

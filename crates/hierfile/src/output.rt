@@ -1,5 +1,5 @@
-ghost use Rattle.std.specs.Prelude.{◌≡◌, ◌+◌, ◌≤◌, ℕ, [], ◌++◌, List, length, OnOk, IfErr};
-ghost use Rattle.counted_io.specs.Handing.{HandsOn};
+ghost use Rattle.std.specs.Prelude.{◌≡◌, ◌+◌, ◌≤◌, [], ◌++◌, length, OnOk, IfErr};
+ghost use Rattle.counted_io.specs.Handing.{HandsOn, HandsOnPart};
 ghost use Rattle.hierfile.specs.Spelling.{word, long};
 
 use byteorder::{BigEndian, ByteOrder};
@@ -47,7 +47,7 @@ impl Output {
     /// Gathers a number of four bytes.
     pub fn word<W: Write>(&mut self, writer: &mut W, number: u32) -> Result<(), WriteFault>
         ensures ok { OnOk result (HandsOn (W.contents writer.old) (W.contents writer.new) (self.old.waiting ++ word number) self.new.waiting self.old.written self.new.written) }
-        ensures err { IfErr result (λ fault. (rest : List ℕ) × HandsOn (W.contents writer.old) (W.contents writer.new) self.old.waiting rest self.old.written fault.written) }
+        ensures err { IfErr result (λ fault. HandsOnPart (W.contents writer.old) (W.contents writer.new) self.old.waiting self.old.written fault.written) }
     {
         self.make_room(writer)?;
         BigEndian::write_u32(&mut self.buffer[self.end..], number);
@@ -58,7 +58,7 @@ impl Output {
     /// Gathers a number of eight bytes.
     pub fn long<W: Write>(&mut self, writer: &mut W, number: u64) -> Result<(), WriteFault>
         ensures ok { OnOk result (HandsOn (W.contents writer.old) (W.contents writer.new) (self.old.waiting ++ long number) self.new.waiting self.old.written self.new.written) }
-        ensures err { IfErr result (λ fault. (rest : List ℕ) × HandsOn (W.contents writer.old) (W.contents writer.new) self.old.waiting rest self.old.written fault.written) }
+        ensures err { IfErr result (λ fault. HandsOnPart (W.contents writer.old) (W.contents writer.new) self.old.waiting self.old.written fault.written) }
     {
         self.make_room(writer)?;
         BigEndian::write_u64(&mut self.buffer[self.end..], number);
@@ -70,7 +70,7 @@ impl Output {
     fn make_room<W: Write>(&mut self, writer: &mut W) -> Result<(), WriteFault>
         ensures ok { OnOk result (HandsOn (W.contents writer.old) (W.contents writer.new) self.old.waiting self.new.waiting self.old.written self.new.written) }
         ensures room { OnOk result (length self.new.waiting + 8 ≤ 8192) }
-        ensures err { IfErr result (λ fault. (rest : List ℕ) × HandsOn (W.contents writer.old) (W.contents writer.new) self.old.waiting rest self.old.written fault.written) }
+        ensures err { IfErr result (λ fault. HandsOnPart (W.contents writer.old) (W.contents writer.new) self.old.waiting self.old.written fault.written) }
     {
         if SIZE - self.end >= 8 {
             return Ok(());
@@ -82,7 +82,7 @@ impl Output {
     pub fn hand_over<W: Write>(&mut self, writer: &mut W) -> Result<(), WriteFault>
         ensures ok { OnOk result (HandsOn (W.contents writer.old) (W.contents writer.new) self.old.waiting self.new.waiting self.old.written self.new.written) }
         ensures all { OnOk result (self.new.waiting ≡ []) }
-        ensures err { IfErr result (λ fault. (rest : List ℕ) × HandsOn (W.contents writer.old) (W.contents writer.new) self.old.waiting rest self.old.written fault.written) }
+        ensures err { IfErr result (λ fault. HandsOnPart (W.contents writer.old) (W.contents writer.new) self.old.waiting self.old.written fault.written) }
     {
         self.calls.write(writer, &self.buffer[..self.end])?;
         self.end = 0;

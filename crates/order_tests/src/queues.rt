@@ -207,7 +207,7 @@ fn what_is_left_is_in_order(rt: HostRuntime) -> Result<(), Fail> {
     Ok(())
 }
 
-/// Pushes 500 items of a node and pops 300 times between; what was popped.
+/// Pushes 1,000 items of a node and pops 500 times between; what was popped.
 fn push_and_pop<R: Wait>(
     rt: &R,
     alloc: Global,
@@ -216,11 +216,11 @@ fn push_and_pop<R: Wait>(
     node: u32,
 ) -> Result<Vec<Item>, AllocError> {
     let mut popped = Vec::new(alloc);
-    for key in 0..500u64 {
+    for key in 0..1000u64 {
         if queue.push(rt, pass, item(key, node)).is_err() {
             return Err(AllocError);
         }
-        if key % 5 < 3 {
+        if key % 2 == 1 {
             if let Some(item) = queue.pop(rt, pass)? {
                 popped.push(item)?;
             }
@@ -240,16 +240,55 @@ fn two_threads_lose_nothing(rt: HostRuntime) -> Result<(), Fail> {
         || push_and_pop(&rt, alloc, &queue, &mut second, 1),
     );
     let mut all = by_first?;
+    assert_eq!(rt; first.taken(), all.as_slice());
     all.extend_from_slice(by_second?.as_slice())?;
+    assert_eq!(rt; (first.put().len(), second.put().len()), (1000, 1000));
     let items = closed(queue, vec![in alloc; second, first]?)?;
     all.extend_from_slice(items.as_slice())?;
     all.as_mut_slice().sort_unstable();
     let mut put = Vec::new(alloc);
-    for key in 0..500u64 {
+    for key in 0..1000u64 {
         put.push(item(key, 0))?;
         put.push(item(key, 1))?;
     }
     assert_eq!(rt; all.as_slice(), put.as_slice());
+    Ok(())
+}
+
+/// What is handed back where the accounts don't agree with what is left. Fails where the queue is closed, or isn't for
+/// another reason.
+fn mixed(queue: MultiQueue, passes: Vec<Pass>) -> Result<(MultiQueue, Vec<Pass>), Fail> {
+    match queue.close(passes) {
+        Ok(_items) => Err(Fail::from("closed by accounts that don't agree")),
+        Err((CloseError::Mixed, queue, passes)) => Ok((queue, passes)),
+        Err((error, _queue, _passes)) => Err(Fail::from(error)),
+    }
+}
+
+#[test]
+fn accounts_of_another_queue_are_mixed(rt: HostRuntime) -> Result<(), Fail> {
+    let alloc = rt.alloc();
+    let (queue, mut pass) = MultiQueue::new(alloc, 2, 1)?;
+    let (_other, stranger) = MultiQueue::new(alloc, 2, 1)?;
+    assert_eq!(rt; refused(queue.push(&rt, &mut pass, item(5, 7))), None);
+    let (queue, _passes) = mixed(queue, vec![in alloc; stranger]?)?;
+    let items = closed(queue, vec![in alloc; pass]?)?;
+    assert_eq!(rt; items.as_slice(), [item(5, 7)].as_slice());
+    Ok(())
+}
+
+#[test]
+fn accounts_count_how_often(rt: HostRuntime) -> Result<(), Fail> {
+    let alloc = rt.alloc();
+    let (queue, mut pass) = MultiQueue::new(alloc, 1, 1)?;
+    let (other, mut stranger) = MultiQueue::new(alloc, 1, 1)?;
+    for _ in 0..2 {
+        assert_eq!(rt; refused(queue.push(&rt, &mut pass, item(5, 7))), None);
+    }
+    assert_eq!(rt; refused(other.push(&rt, &mut stranger, item(5, 7))), None);
+    let (_queue, passes) = mixed(queue, vec![in alloc; stranger]?)?;
+    let (_other, _passes) = mixed(other, vec![in alloc; pass]?)?;
+    assert_eq!(rt; passes[0].put(), [item(5, 7)].as_slice());
     Ok(())
 }
 

@@ -1,5 +1,5 @@
 ghost use Rattle.std.specs.Prelude.{◌≡◌, ◌∷◌, [], All, IfOk, Ok, vec_len};
-ghost use Rattle.ch_estimate.specs.declared.lease.Lease.{Lease};
+ghost use Rattle.ch_estimate.specs.Leases.{CountId};
 
 use ch_estimate::{Lease, Leases};
 use std::alloc::{AllocError, Global};
@@ -13,7 +13,7 @@ pub fn a_list_each<T: Drop, F: Fn(Lease) -> Result<T, AllocError>>(
 ) -> Result<Vec<Vec<T>>, AllocError>
     requires callable { F.IsAlwaysCallable make }
     ensures count { IfOk result (λ lists. vec_len lists ≡ count) }
-    ensures made { IfOk result (λ lists. All (λ list. All (λ thing. (lease : Lease) × F.post make lease (Ok thing)) list.items) lists.items) }
+    ensures made { IfOk result (λ lists. All (λ list. All (λ thing. (lease : CountId) × F.post make lease (Ok thing)) list.items) lists.items) }
 {
     let mut lists = Vec::new(alloc);
     'lists: for _ in 0..count {

@@ -129,11 +129,11 @@ fn the_cascade_of_shortcuts(rt: HostRuntime) -> Result<(), Fail> {
 
 #[test]
 fn a_write_of_routes_that_fails(rt: HostRuntime) {
-    let mut room = [0u8; 16];
+    let mut room = [0u8; 18];
     let mut out = room.as_mut_slice();
     let (mut hier, mut pairs) = (ONE_ARC, b"p aux sp p2p 2\nq 1 2\nq 2 1\n".as_slice());
     let result = route(rt.alloc(), &mut hier, &mut pairs, &mut out);
-    let written = 16;
+    let written = 18;
     assert!(rt; result == Err(ServiceError::Write(WriteFault { written })));
-    assert!(rt; room.as_slice() == b"r 1 2 7 1 1 2\nn ".as_slice());
+    assert!(rt; room.as_slice() == b"r 1 2 7 1 1 2\nn 2 ".as_slice());
 }

@@ -258,19 +258,89 @@ fn five_workers_hear_of_the_log(rt: HostRuntime) -> Result<(), Fail> {
     Ok(())
 }
 
+/// Two lists of estimators.
+fn two_lists(
+    alloc: Global,
+    first: Vec<Box<dyn Estimator + Send>>,
+    second: Vec<Box<dyn Estimator + Send>>,
+) -> Result<Lists, AllocError>
+    requires first { All (λ estimator. heard estimator ≡ []) first.items }
+    requires second { All (λ estimator. heard estimator ≡ []) second.items }
+    ensures untold { IfOk result (λ lists. All (λ list. All (λ estimator. heard estimator ≡ []) list.items) lists.items) }
+{
+    let mut lists = Vec::new(alloc);
+    lists.push(first)?;
+    lists.push(second)?;
+    Ok(lists)
+}
+
+/// A list of three estimators.
+fn list_of_three(
+    alloc: Global,
+    first: Box<dyn Estimator + Send>,
+    second: Box<dyn Estimator + Send>,
+    third: Box<dyn Estimator + Send>,
+) -> Result<Vec<Box<dyn Estimator + Send>>, AllocError>
+    requires first { heard first ≡ [] }
+    requires second { heard second ≡ [] }
+    requires third { heard third ≡ [] }
+    ensures untold { IfOk result (λ list. All (λ estimator. heard estimator ≡ []) list.items) }
+{
+    let mut list = Vec::new(alloc);
+    list.push(first)?;
+    list.push(second)?;
+    list.push(third)?;
+    Ok(list)
+}
+
+/// Builds the tie by two workers, who have three estimators each that leave traces.
+fn built_with_six<R: Threads + Wait + Sync>(
+    rt: &R,
+    alloc: Global,
+    options: Options,
+    traces: &Arc<Traces>,
+) -> Result<Result<Built, BuildError>, Fail> {
+    let mut leases = Leases::new(alloc)?;
+    let boxed = |lease| -> Result<Box<dyn Estimator + Send>, AllocError>
+        ensures { IfOk result (λ estimator. heard estimator ≡ []) }
+    { Ok(Box::new(alloc, make_stubborn(alloc, lease, traces)?)?) };
+    let first = list_of_three(
+        alloc,
+        boxed(leases.lease()?)?,
+        boxed(leases.lease()?)?,
+        boxed(leases.lease()?)?,
+    )?;
+    let second = list_of_three(
+        alloc,
+        boxed(leases.lease()?)?,
+        boxed(leases.lease()?)?,
+        boxed(leases.lease()?)?,
+    )?;
+    let lists = two_lists(alloc, first, second)?;
+    let graph = tie(alloc)?;
+    Ok(build(rt, alloc, graph, options, lists, &mut leases, &OpenGate))
+}
+
 #[test]
 fn estimators_are_dropped(rt: HostRuntime) -> Result<(), Fail> {
     let alloc = rt.alloc();
-    for (heaps, want) in [(1, None), (0, Some(BuildError::BadOptions))] {
+    for (settle, want) in [(64, None), (0, Some(BuildError::BadOptions))] {
         let traces = Traces::new(alloc)?;
-        let options = Options {
-            workers: 3,
-            heaps,
-            ..ONE
-        };
-        let built = built_by(&rt, alloc, tie(alloc)?, options, &traces, &OpenGate)?;
+        let options = Options { settle, ..TWO };
+        let built = built_with_six(&rt, alloc, options, &traces)?;
         assert_eq!(rt; built.err(), want);
-        assert_eq!(rt; traces.dropped.load(Ordering::SeqCst), 3);
+        assert_eq!(rt; traces.dropped.load(Ordering::SeqCst), 6);
     }
+    Ok(())
+}
+
+// Where an allocation is refused, the answer may be OutOfMemory.
+#[test]
+fn estimators_are_dropped_on_any_answer(rt: HostRuntime) -> Result<(), Fail> {
+    let alloc = rt.alloc();
+    let traces = Traces::new(alloc)?;
+    let built = built_with_six(&rt, alloc, TWO, &traces)?;
+    assert!(rt; matches!(built, Ok(_) | Err(BuildError::OutOfMemory)));
+    assert_eq!(rt; traces.dropped.load(Ordering::SeqCst), 6);
     Ok(())
 }

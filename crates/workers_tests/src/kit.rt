@@ -1,5 +1,5 @@
 ghost use Rattle.std.specs.Prelude.{◌≡◌, ◌∷◌, [], All, IfOk, Ok};
-ghost use Rattle.ch_estimate.specs.declared.lease.Lease.{Lease};
+ghost use Rattle.ch_estimate.specs.Leases.{CountId};
 
 use ch_contract::{Contraction, Facts};
 use ch_estimate::{EdgeDifference, Estimator, Lease, Leases, Note};
@@ -144,7 +144,7 @@ pub(crate) fn a_list_each<T: Drop, F: Fn(Lease) -> Result<T, AllocError>>(
     make: F,
 ) -> Result<Vec<Vec<T>>, AllocError>
     requires callable { F.IsAlwaysCallable make }
-    ensures made { IfOk result (λ lists. All (λ list. All (λ thing. (lease : Lease) × F.post make lease (Ok thing)) list.items) lists.items) }
+    ensures made { IfOk result (λ lists. All (λ list. All (λ thing. (lease : CountId) × F.post make lease (Ok thing)) list.items) lists.items) }
 {
     let mut lists = Vec::new(alloc);
     'lists: for _ in 0..count {

@@ -7,6 +7,8 @@
 #[cfg(test)]
 mod accounts;
 #[cfg(test)]
+mod collisions;
+#[cfg(test)]
 mod drops;
 #[cfg(test)]
 mod gates;

@@ -1,5 +1,6 @@
-use Rattle.std.proofs.Common.{◌+◌, ◌*◌, ◌≤◌, length, take}
+use Rattle.std.proofs.Common.{ℕ, ◌≡◌, ◌+◌, ◌*◌, ◌≤◌, length, take}
 use Rattle.std.specs.Io.KnownBytes.{Appends}
+use Rattle.counted_io.specs.Calls.{Takings}
 use Rattle.counted_io.specs.declared.TheConstants.{PIECE}
 use Rattle.counted_io.proofs.writing.write_bytes.Given as goal
 
@@ -10,6 +11,7 @@ invariant-loop-taken g l =
       within : l.taken ≤ length l.bytes;
       given : Appends (contents l.fn.writer) (contents l.writer) (take l.taken l.bytes);
       counted : l.taken + l.left * PIECE ≤ l.fn.left * PIECE;
+      takes : (calls : ℕ) × (l.fn.left ≡ l.left + calls) × Takings g.W.StepWrite.step calls l.taken l.fn.writer l.writer;
     }
 
 abbrev pub decreases-loop-taken : goal.decreases-loop-taken

@@ -4,7 +4,7 @@ use Rattle.std.specs.List.{AllPairs}
 use Rattle.ch_multiqueue.specs.declared.item.Item.{Item}
 use Rattle.ch_multiqueue.specs.Items.{IsNotAfter}
 use Rattle.ch_multiqueue.proofs.Orders.{pairs-from_sorted}
-use Rattle.ch_multiqueue.proofs.multi_queue.in_order.Goals as goal
+use Rattle.ch_multiqueue.proofs.account.in_order.Goals as goal
 
 pub returns-clause-sorted : goal.returns-clause-sorted
 returns-clause-sorted c =

@@ -1,0 +1,69 @@
+//! The count of leases that are out: the rule that it keeps, and what each step on it tells.
+ghost use Rattle.ch_estimate.specs.Leases.{Keeps, adds, finds, gives, known};
+
+use atomic_table::{Join, Play, Split, TableRule};
+
+/// What the holder of a seat knows of the count. No value of it is made.
+pub struct Known {
+    /// Of the first seat: at most so many are out.
+    pub bound: u64,
+    /// How much of the count is its own: one for a lease that is out.
+    pub out: u64,
+}
+
+/// The rule of the count.
+pub struct Counted;
+
+impl TableRule<(), Known, ()> for Counted {
+    ghost holds = { λ _. Keeps };
+
+    ghost first = { λ _. known 0 0 };
+}
+
+/// One more is counted.
+pub struct Adds;
+
+impl Play<(), Known> for Adds {
+    ghost then = { adds };
+}
+
+/// One is given back.
+pub struct Gives;
+
+impl Play<(), Known> for Gives {
+    ghost then = { gives };
+}
+
+/// A look at the count, which tells something where it is zero.
+pub struct Finds;
+
+impl Play<(), Known> for Finds {
+    ghost then = { finds };
+}
+
+/// A look that can't be taken.
+pub struct Never;
+
+impl Play<(), Known> for Never {
+    ghost then = { λ _ _ _ _. ⊥ };
+}
+
+/// The one that was counted is handed to a lease.
+pub struct Hands;
+
+impl Split<Known> for Hands {
+    ghost use Rattle.std.specs.Prelude.{◌-◌};
+
+    ghost left = { λ v. known v.bound (v.out - 1) };
+
+    ghost right = { λ _. known 0 1 };
+}
+
+/// A lease's part comes back to the first seat.
+pub struct Meets;
+
+impl Join<Known> for Meets {
+    ghost both = { λ v w. known v.bound w.out };
+
+    ghost spent = { known 0 0 };
+}
