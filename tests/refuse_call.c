@@ -1,4 +1,5 @@
-// Refuses a call of the system that whole_files.py names in the environment variable REFUSED: loaded before the C library.
+// Refuses or slows down the calls of the system that whole_files.py names in the environment variable REFUSED. It is
+// loaded before the C library.
 #define _GNU_SOURCE
 #include <dlfcn.h>
 #include <errno.h>
@@ -33,6 +34,9 @@ ssize_t write(int fd, const void *bytes, size_t count) {
     errno = EINTR;
     return -1;
   }
+  if (is_refused("slow")) {
+    usleep(2000);
+  }
   return next(fd, bytes, is_refused("short") && count > 7 ? 7 : count);
 }
 
@@ -48,6 +52,9 @@ int rename(const char *from, const char *to) {
   if (is_refused("rename")) {
     errno = EIO;
     return -1;
+  }
+  if (is_refused("slow")) {
+    usleep(20000);
   }
   return ((int (*)(const char *, const char *))dlsym(RTLD_NEXT, "rename"))(from, to);
 }

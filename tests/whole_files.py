@@ -105,6 +105,11 @@ class Shared:
         self.small = b"p sp 2 1\na 1 2 7\n"
         self.old = Run([*PREPARE, "/dev/stdin", "/dev/stdout"], top, input=self.small).ends(0).out
         self.answers = Run(["route", self.file, self.pairs], top).ends(0).out
+        self.refuse = refuse_library(top)
+
+    def environment(self, call):
+        """In which the call is refused, or all are as slow as can be seen."""
+        return {**os.environ, "LD_PRELOAD": self.refuse, "REFUSED": call} if self.refuse else None
 
 
 CASES = []
@@ -397,14 +402,17 @@ def size_of_the_answers(bench, limit):
 # Killed
 
 
-def killed(bench, wait):
+def killed(bench, wait, **how):
     """Kills a preparation once the wait is over. What stands in OUT is whole, and a file may be left beside it."""
-    with subprocess.Popen([PROGRAM, *PREPARE, "x.gr", "x.rch"], cwd=bench.folder) as run:
+    with subprocess.Popen([PROGRAM, *PREPARE, "x.gr", "x.rch"], cwd=bench.folder, **how) as run:
         wait(run)
         run.kill()
-    expect(bench.out.read_bytes() in (bench.shared.old, bench.shared.new), "neither the old file nor the new one is whole")
+    found = bench.out.read_bytes()
+    expect(found in (bench.shared.old, bench.shared.new), "neither the old file nor the new one is whole")
     if run.returncode == 0:
         bench.holds_new()
+    left = sum(file.stat().st_size for file in bench.folder.glob("routecli-new-*"))
+    told = f"{'the old file' if found == bench.shared.old else 'the new file'}, {left} bytes beside"
     for file in bench.folder.glob("routecli-new-*"):
         bench.left.add(file.name)
         file.write_bytes(b"left")
@@ -412,25 +420,26 @@ def killed(bench, wait):
     bench.holds_new()
     for file in bench.folder.glob("routecli-new-*"):
         expect(file.read_bytes() == b"left", "a file that was left was taken")
+    return told
 
 
 @case(*(f"{percent} percent of its time" for percent in range(5, 105, 10)))
 def killed_after(bench, how):
     bench.put()
-    killed(bench, lambda run: time.sleep(bench.shared.seconds * int(how.split()[0]) / 100))
+    return killed(bench, lambda run: time.sleep(bench.shared.seconds * int(how.split()[0]) / 100))
 
 
-@case(*(f"{count} ms" for count in (0, 0.2, 0.5, 1, 1.5, 2, 3, 4, 6, 10)))
-def killed_after_the_first_byte(bench, how):
+@case(*(f"{count} ms after its first byte" for count in range(0, 300, 30)))
+def killed_while_it_writes(bench, how):
     bench.put()
-    beside = bench.folder / "routecli-new-0"
+    beside, size = bench.folder / "routecli-new-0", bench.out.stat().st_size
 
     def wait(run):
-        while not beside.exists() and run.poll() is None:
+        while not beside.exists() and bench.out.stat().st_size == size and run.poll() is None:
             pass
-        time.sleep(float(how.split()[0]) / 1000)
+        time.sleep(int(how.split()[0]) / 1000)
 
-    killed(bench, wait)
+    return killed(bench, wait, env=bench.shared.environment("slow"))
 
 
 # Calls of the system that are refused, one at a time
@@ -440,16 +449,14 @@ def killed_after_the_first_byte(bench, how):
 def refused(bench, call):
     bench.put()
     last = -(-len(bench.shared.new) // 8192)
-    environment = {**os.environ, "LD_PRELOAD": bench.shared.refuse, "REFUSED": call.replace("last", str(last))}
-    bench.prepare(env=environment).ends(7, WRITE)
+    bench.prepare(env=bench.shared.environment(call.replace("last", str(last)))).ends(7, WRITE)
     bench.holds_old()
 
 
 @case("interrupted", "short", "chown")
 def borne(bench, call):
     bench.put()
-    environment = {**os.environ, "LD_PRELOAD": bench.shared.refuse, "REFUSED": call}
-    bench.prepare(env=environment).ends(0)
+    bench.prepare(env=bench.shared.environment(call)).ends(0)
     bench.holds_new()
 
 
@@ -471,7 +478,6 @@ def main():
         top = pathlib.Path(top)
         top.chmod(0o755)
         shared = Shared(top, 64)
-        shared.refuse = refuse_library(top)
         for name, test in CASES:
             if word not in name:
                 continue
@@ -481,9 +487,9 @@ def main():
             bench = Bench(shared)
             ran += 1
             try:
-                test(bench)
+                told = test(bench)
                 bench.has_no_more()
-                print(f"ok: {name}")
+                print(f"ok: {name}" + (f": {told}" if told else ""))
             except (Failed, OSError, subprocess.SubprocessError) as why:
                 failed += 1
                 print(f"FAILED: {name}: {why}")

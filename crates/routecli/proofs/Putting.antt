@@ -1,13 +1,13 @@
 -- What the status of a preparation tells where its bytes come to stand at a destination.
-use Rattle.std.proofs.Common.{ℕ, ◌≡◌, List, [], Option, refl, sym, subst, inl, inr, arith, ap, ◌∙◌}
-use Rattle.std.specs.Prelude.{◌≢◌, ◌⊎◌, Some, None, option_map, IfSome}
+use Rattle.std.proofs.Common.{ℕ, ◌≡◌, List, [], Option, refl, sym, subst, inl, inr, ap, ◌∙◌}
+use Rattle.std.specs.Prelude.{◌⊎◌, Some, None, option_map, IfSome}
 use Rattle.ch_service.specs.declared.cause.Cause.{Cause}
 use Rattle.ch_service.specs.declared.cause.Cause.TheVariants as causes
 use Rattle.ch_service.specs.Outcome.{Writes}
 use Rattle.ch_service.specs.Refusals.{RefusesPreparing}
 use Rattle.ch_service.specs.Route.{Prepares}
 use Rattle.routecli.specs.Destination.{HasPrepared}
-use Rattle.routecli.specs.Status.{status_of, TellsPrepared}
+use Rattle.routecli.specs.Status.{TellsPrepared}
 
 -- what was written, where nobody tells the bytes
 untold_file : (graph old new : Option (List ℕ)) → IfSome graph (λ text. Writes (Prepares text) old new) → IfSome graph (λ text. Writes (Prepares text) None None)
@@ -37,22 +37,14 @@ untold graph old new status ends = record {
 pub no_memory : (graph : Option (List ℕ)) (status : ℕ) → status ≡ 6 → TellsPrepared status graph None None
 no_memory graph status is = record { done = λ zero. absurd (cc); refused = λ other. (causes.Memory, is, tt) }
 
--- no byte stands where a file wasn't put
-unput : (graph old new : Option (List ℕ)) → IfSome graph (λ text. Writes (Prepares text) old new) → RefusesPreparing graph None None (causes.Write (record { written = 0 }))
-unput None old new file = tt
-unput (Some text) old new file = (file.0, file.1, omega arith, tt)
-
--- a file that is prepared and can't be put is one that can't be written
-refused_destination : (graph old new : Option (List ℕ)) (status : ℕ) → status ≡ 0 → TellsPrepared status graph old new → TellsPrepared 7 graph None None
-refused_destination graph old new status is ends = record {
-  done = λ seven. absurd (cc);
-  refused = λ other. (causes.Write (record { written = 0 }), refl, unput graph old new (ends.done is));
-}
+-- where a file can't be put: 7 tells nothing of the text, since a read may have failed
+refused_destination : (graph : Option (List ℕ)) → TellsPrepared 7 graph None None
+refused_destination graph = record { done = λ seven. absurd (cc); refused = λ other. (causes.Read, refl, tt) }
 
 -- what the status tells of the text once the draft was put or thrown away
 pub finished : (graph old new : Option (List ℕ)) (status result : ℕ) → (result ≡ status) ⊎ ((status ≡ 0) × (result ≡ 7)) → TellsPrepared status graph old new → TellsPrepared result graph None None
 finished graph old new status result (inl is) ends = subst (λ n. TellsPrepared n graph None None) (sym is) (untold graph old new status ends)
-finished graph old new status result (inr failed) ends = subst (λ n. TellsPrepared n graph None None) (sym failed.1) (refused_destination graph old new status failed.0 ends)
+finished graph old new status result (inr failed) ends = subst (λ n. TellsPrepared n graph None None) (sym failed.1) (refused_destination graph)
 
 -- where it is 0, so was that of the work
 pub was_done : (status result : ℕ) → (result ≡ status) ⊎ ((status ≡ 0) × (result ≡ 7)) → result ≡ 0 → status ≡ 0

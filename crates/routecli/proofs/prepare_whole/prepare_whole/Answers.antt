@@ -1,4 +1,4 @@
-use Rattle.std.proofs.Common.{◌≡◌, List, [], ℕ, rules}
+use Rattle.std.proofs.Common.{◌≡◌, [], rules}
 use Rattle.std.specs.Prelude.{option_map}
 use Rattle.routecli.proofs.Putting.{no_memory, finished, was_done, has_prepared}
 use Rattle.routecli.proofs.prepare_whole.prepare_whole.Goals as goal
