@@ -288,7 +288,8 @@ fn accounts_count_how_often(rt: HostRuntime) -> Result<(), Fail> {
     assert_eq!(rt; refused(other.push(&rt, &mut stranger, item(5, 7))), None);
     let (_queue, passes) = mixed(queue, vec![in alloc; stranger]?)?;
     let (_other, _passes) = mixed(other, vec![in alloc; pass]?)?;
-    assert_eq!(rt; passes[0].put(), [item(5, 7)].as_slice());
+    let back = passes.first().ok_or("a pass that is handed back")?;
+    assert_eq!(rt; back.put(), [item(5, 7)].as_slice());
     Ok(())
 }
 
