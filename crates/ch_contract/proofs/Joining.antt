@@ -200,7 +200,7 @@ module _ (bound : Cost) (v : ℕ) (row : Row) (into : Entry) (pairs : List Short
     (rows : List Seen) (cutoff : Cost) (ways : List (Option Way)) (found : AreWays rows into.other v cutoff (map (λ (q : Shortcut). q.to) pairs) ways)
     (most : (p : Shortcut) → Contains pairs p → p.cost ≼ cutoff)
     (direct : (k : ℕ) → k < length (map (λ (q : Shortcut). q.to) pairs) → slice_index (map (λ (q : Shortcut). q.to) pairs) k ≢ into.other → (s : Seen) × IsKept kept s × IsStartRow rows into.other cutoff (map (λ (q : Shortcut). q.to) pairs) ways s)
-    (copies : All (IsKept kept) rows)
+    (rows_kept : All (IsKept kept) rows)
     (old mid new : Draft) (judged : AreJudged pairs ways (length pairs) mid new) (same : mid.shortcuts.items ≡ old.shortcuts.items) (longer : mid.listed.items ≡ old.listed.items ++ into.other ∷ []) where
   among_pairs : (k : ℕ) (p : Shortcut) → slice_get pairs k ≡ Some p → Contains pairs p
   among_pairs k p is = (k, slice_get_within pairs k p is, get_or_from_slice_get pairs k p p is)
@@ -255,8 +255,8 @@ module _ (bound : Cost) (v : ℕ) (row : Row) (into : Entry) (pairs : List Short
           let apart : slice_index (map (λ (q : Shortcut). q.to) pairs) was.0 ≢ into.other = λ e. through.0.apart (through.2 ∙ sym e ∙ at.1) in
           let start = direct was.0 at.0 apart in
           let s = start.0 in
-          let it : start.1.original ≡ first = same-some start.1.original first (sym start.1.here ∙ ap (λ (x : ℕ). kept x) start.2.node ∙ first_kept) in
-          let row_is : row_in s ≡ row_in first = start.1.same.row ∙ ap (λ (t : Seen). row_in t) it in
+          let it : s ≡ first = same-some s first (sym start.1 ∙ ap (λ (x : ℕ). kept x) start.2.node ∙ first_kept) in
+          let row_is : row_in s ≡ row_in first = ap (λ (t : Seen). row_in t) it in
           let here : Lists (row_in s).out (slice_index (map (λ (q : Shortcut). q.to) pairs) was.0) c = subst (λ (t : ℕ). Lists (row_in s).out t c) (sym at.1) (subst (λ (r : Row). Lists r.out p.to c) (sym row_is) listed) in
           absurd (was.3 (found_more (way_at ways was.0) c p.cost (start.2.direct (ap (λ (r : Row). r.rank) row_is ∙ unranked) was.0 c at.0 here (at_most_trans low (most p (is_pair p h)))) low))
     ]
@@ -265,12 +265,12 @@ module _ (bound : Cost) (v : ℕ) (row : Row) (into : Entry) (pairs : List Short
     arc_moved : (inner : List ℕ) → ((x : ℕ) → Contains inner x → Contains judged.more x) → (y t : ℕ) (d : Cost) → Contains (into.other ∷ inner) y → SeenArc (row_of rows) v y t d → SeenArc seen v y t d
     arc_moved inner inside y t d h arc =
         let at = row_among rows y arc.row arc.read in
-        let k = All-contains (IsKept kept) rows at.0 copies at.1 in
+        let k = All-contains (IsKept kept) rows at.0 rows_kept at.1 in
         let there : Contains new.listed.items at.0.node = subst (λ (ns : List ℕ). Contains ns at.0.node) (sym all_listed) (subst (λ (n : ℕ). Contains ((old.listed.items ++ into.other ∷ []) ++ judged.more) n) (sym at.2) (listed_here y h)) in
-        let read : seen at.0.node ≡ Some (row_in k.original) = agrees at.0.node k.original there k.here in
+        let read : seen at.0.node ≡ Some (row_in at.0) = agrees at.0.node at.0 there k in
         record {
           row = arc.row;
-          read = subst (λ (x : ℕ). seen x ≡ Some arc.row) at.2 (read ∙ ap (λ (r : Row). Some r) (sym k.same.row ∙ at.3));
+          read = subst (λ (x : ℕ). seen x ≡ Some arc.row) at.2 (read ∙ ap (λ (r : Row). Some r) at.3);
           unranked = arc.unranked;
           listed = arc.listed;
           from_other = arc.from_other;
@@ -343,8 +343,8 @@ module _ (bound : Cost) (v : ℕ) (row : Row) (into : Entry) (pairs : List Short
       | inr way ↦
           let arc = inner_leaves (SeenArc (row_of rows) v) way.0.nodes.items into.other p.to way.0.cost inner (leads_to p by.0 by.1 way.0 way.1) way.3 x inside in
           let at = row_among rows x arc.2.row arc.2.read in
-          let k = All-contains (IsKept kept) rows at.0 copies at.1 in
-          (k.original, ap kept (sym at.2) ∙ k.here)
+          let k = All-contains (IsKept kept) rows at.0 rows_kept at.1 in
+          (at.0, ap kept (sym at.2) ∙ k)
     ]
 
   pub drafted_search : IsDraftedFrom bound v row into kept old new

@@ -13,6 +13,7 @@ use crate::proposal::Proposal;
 use ch_overlay::{Row, RowSource};
 use ch_witness::Searcher;
 use std::alloc::Global;
+use std::sync::Arc;
 
 /// Works out the contraction of a node by the rows that a source answers, each node asked for at most once.
 ///
@@ -107,12 +108,14 @@ fn propose_in<S: RowSource>(
         bound: source.bound(),
         settle,
     };
-    let own = searcher.rows.read(source, node)?;
+    let place = searcher.rows.read(source, node)?;
+    let own = searcher.rows.at(place);
     if own.row.rank.is_some() {
         return Err(ProposeError::Contracted);
     }
+    let row = Arc::try_clone(&own.row)?;
     let mut draft = Draft::new(alloc, node)?;
-    draft_all(alloc, source, searcher, task, &own.row, &mut draft)?;
+    draft_all(alloc, source, searcher, task, &row, &mut draft)?;
     let Draft { listed, shortcuts } = draft;
     Ok(Proposal {
         bound: task.bound,

@@ -10,25 +10,25 @@ use Rattle.ch_overlay.specs.declared.source.Seen.{Seen}
 use Rattle.ch_overlay.specs.Source.{row_in}
 use Rattle.ch_witness.specs.declared.label.Label.{Label}
 use Rattle.ch_witness.specs.declared.rule.Rule.{Rule}
-use Rattle.ch_witness.specs.declared.tree.Step.{Step}
+use Rattle.ch_witness.specs.declared.step.Step.{Step}
 use Rattle.ch_witness.specs.declared.way.Way.{Way}
 use Rattle.ch_witness.specs.Tree.{Labels, AreSteps, IsTree, IsAtMost, IsStartSeen, AllSeen}
 use Rattle.ch_witness.specs.Ways.{IsWay, IsWayOf, AreWays, AreRows, IsFound, IsStartRow, way_at}
-use Rattle.ch_witness.proofs.Tracing.{seen_of}
+use Rattle.ch_witness.specs.Tree.{seen_of}
 
 some-same : {A : Type 0} (a b : A) → Some a ≡ Some b → a ≡ b
 some-same a b e = cc
 
 -- a row that was seen is that of a step
-step_of : (steps : List Step) (k : ℕ) (a : Seen) → slice_get (seen_of steps) k ≡ Some a → (s : Step) × (slice_get steps k ≡ Some s) × (s.seen ≡ a)
+step_of : (steps : List Step) (k : ℕ) (a : Seen) → slice_get (seen_of steps) k ≡ Some a → (s : Step) × (slice_get steps k ≡ Some s) × (s.seen.value ≡ a)
 step_of [] k a is = absurd (cc)
-step_of (t ∷ ts) zero a is = (t, refl, some-same t.seen a is)
+step_of (t ∷ ts) zero a is = (t, refl, some-same t.seen.value a is)
 step_of (t ∷ ts) (suc k) a is = step_of ts k a is
 
 -- the row of a step was seen
-seen_at : (steps : List Step) (k : ℕ) (s : Step) → slice_get steps k ≡ Some s → slice_get (seen_of steps) k ≡ Some s.seen
+seen_at : (steps : List Step) (k : ℕ) (s : Step) → slice_get steps k ≡ Some s → slice_get (seen_of steps) k ≡ Some s.seen.value
 seen_at [] k s is = absurd (cc)
-seen_at (t ∷ ts) zero s is = ap (λ (u : Step). Some u.seen) (some-same t s is)
+seen_at (t ∷ ts) zero s is = ap (λ (u : Step). Some u.seen.value) (some-same t s is)
 seen_at (t ∷ ts) (suc k) s is = seen_at ts k s is
 
 pub all_seen : (IsKind : Seen → Type 0) (steps : List Step) → AllSeen IsKind steps → All IsKind (seen_of steps)

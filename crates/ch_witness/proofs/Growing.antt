@@ -13,9 +13,9 @@ use Rattle.ch_overlay.specs.Source.{row_in, NamesAlone}
 use Rattle.ch_witness.specs.declared.frontier.Reached.{Reached}
 use Rattle.ch_witness.specs.declared.label.Label.{Label}
 use Rattle.ch_witness.specs.declared.rule.Rule.{Rule}
-use Rattle.ch_witness.specs.declared.tree.Step.{Step}
+use Rattle.ch_witness.specs.declared.step.Step.{Step}
 use Rattle.ch_witness.specs.Frontier.{IsStart, IsSettledNow, IsOpened, AreFollowed}
-use Rattle.ch_witness.specs.Tree.{Labels, node_of, row_at, IsReached, IsStep, IsLabel, IsSettled, IsAtMost, IsTree, IsNew, IsGoneOn, IsLater, AllAre, AllSeen, IsStartSeen, step_from}
+use Rattle.ch_witness.specs.Tree.{Labels, node_of, row_at, IsReached, IsStep, IsLabel, IsSettled, IsAtMost, IsTree, IsNew, IsGoneOn, IsLater, AllAre, AllSeen, IsStartSeen}
 use Rattle.ch_witness.proofs.Tracing.{reached_more}
 
 some-same : {A : Type 0} (a b : A) → Some a ≡ Some b → a ≡ b
@@ -231,9 +231,9 @@ later_same steps labels new same = record { steps = λ k s is. is; kept = λ v d
 -- each row that was seen is of the kind, the new one too
 pub seen_gone : (IsKind : Seen → Type 0) (r : Rule) (at : Reached) (seen : Seen) (old new : List Step) (known labels : Labels) → IsKind seen → AllSeen IsKind old → IsGoneOn r at seen old new known labels → AllSeen IsKind new
 seen_gone IsKind r at seen old new known labels this all gone k s is = elim gone.steps [
-  | inl more ↦ elim (step_cases old (step_from at seen) k s (subst (λ (ss : List Step). slice_get ss k ≡ Some s) more.1 is)) [
+  | inl more ↦ elim (step_cases old more.1.0 k s (subst (λ (ss : List Step). slice_get ss k ≡ Some s) more.1.2 is)) [
     | inl h ↦ all k s h
-    | inr h ↦ subst (λ (t : Step). IsKind t.seen) h.1 this
+    | inr h ↦ subst (λ (t : Step). IsKind t.seen.value) h.1 (subst IsKind (sym more.1.1.seen_is) this)
   ]
   | inr same ↦ all k s (subst (λ (ss : List Step). slice_get ss k ≡ Some s) same.1 is)
 ]
@@ -241,12 +241,9 @@ seen_gone IsKind r at seen old new known labels this all gone k s is = elim gone
 -- The start's row is the first that is read, so what it shows is told, and stays so.
 pub start_seen : (r : Rule) (z : Cost) → z ≡ zero_cost → (seen : Seen) (mid steps : List Step) (labels between new : Labels) → IsStart r.from labels → IsLater [] mid labels between → IsGoneOn r (record { node = r.from; cost = z; before = None }) seen [] mid labels between → IsLater mid steps between new → IsStartSeen r seen steps new
 start_seen r z zero_is seen mid steps labels between new start begun gone later = record { node = gone.node; step = step; direct = direct } where
-  first : Step
-  first = step_from (record { node = r.from; cost = z; before = None }) seen
-
-  step : (row_in seen).rank ≡ None → (k : ℕ) × ((s : Step) × (slice_get steps k ≡ Some s) × (s.seen ≡ seen))
+  step : (row_in seen).rank ≡ None → (k : ℕ) × ((s : Step) × (slice_get steps k ≡ Some s) × (s.seen.value ≡ seen))
   step unranked = elim gone.steps [
-    | inl more ↦ (0, (first, later.steps 0 first (subst (λ (ss : List Step). slice_get ss 0 ≡ Some first) (sym more.1) refl), refl))
+    | inl more ↦ (0, (more.1.0, later.steps 0 more.1.0 (subst (λ (ss : List Step). slice_get ss 0 ≡ Some more.1.0) (sym more.1.2) refl), more.1.1.seen_is))
     | inr ranked ↦ absurd (ranked.0 unranked)
   ]
 

@@ -1,12 +1,16 @@
 -- Answers that are kept: what the source stands by, as it moves and answers more.
-use Rattle.std.proofs.Common.{ℕ, ◌≡◌, ◌≢◌, ◌<◌, ◌^◌, Some, sym, subst, ◌∙◌, inl, inr}
+use Rattle.std.proofs.Common.{ℕ, ◌≡◌, ◌≢◌, get_or, length, Option, Some, None, true, false, refl, ap, sym, subst, ◌∙◌, arith, inl, inr}
+use Rattle.std.specs.List.{slice_get}
+use Rattle.std.specs.Option.{is_some}
+use Rattle.std.proofs.lemmas.Option.{slice_get-get_or}
 use Rattle.std.proofs.lemmas.Bool.{cases_eq}
 use Rattle.ch_cost.specs.declared.cost.Cost.{Cost}
 use Rattle.ch_overlay.specs.declared.source.Seen.{Seen}
-use Rattle.ch_overlay.specs.Source.{row_in, IsBound, IsSeenRow}
-use Rattle.ch_laws.specs.Rows.{Row, Rises}
-use Rattle.ch_overlay.specs.Overlay.{AreEntries}
-use Rattle.ch_witness.specs.Kept.{Kept, AreKept, IsAnswer, IsKept, IsMore, IsSame}
+use Rattle.ch_overlay.specs.Source.{IsBound, IsSeenRow}
+use Rattle.ch_witness.specs.Kept.{Kept, joined, kept_of, AreKept, IsAnswer, IsKept, IsMore}
+use Rattle.ch_witness.specs.Places.{IsFirstAt}
+use Rattle.ch_witness.specs.declared.rows.Rows.{Rows}
+use Rattle.ch_witness.proofs.Valued.{value_found}
 
 some-same : (a b : Seen) → Some a ≡ Some b → a ≡ b
 some-same a b e = cc
@@ -33,9 +37,9 @@ module _ (Bears Shows Now : Seen → Type 0) (bound now : Cost) (kept : Kept) (s
     | inr other ↦ kept_moved x s (sym (others x other) ∙ is)
   ]
 
--- a copy of what is kept stays one
-pub kept_still : (old new : Kept) (c : Seen) → IsMore old new → IsKept old c → IsKept new c
-kept_still old new c more is = record { original = is.original; here = more c.node is.original is.here; same = is.same }
+-- what is kept stays so
+pub kept_still : (old new : Kept) (s : Seen) → IsMore old new → IsKept old s → IsKept new s
+kept_still old new s more is = more s.node s is
 
 pub more_refl : (kept : Kept) → IsMore kept kept
 more_refl kept x s is = is
@@ -43,11 +47,17 @@ more_refl kept x s is = is
 pub more_trans : (a b c : Kept) → IsMore a b → IsMore b c → IsMore a c
 more_trans a b c h k x s is = k x s (h x s is)
 
--- a copy is a row that can be relied on
-pub copy_row : (bound : Cost) (s c : Seen) → IsSame s c → IsSeenRow bound s → IsSeenRow bound c
-copy_row bound s c same row = record {
-  in_range = subst (λ (n : ℕ). n < 2 ^ 25) (sym same.node) row.in_range;
-  out_rises = subst (λ (r : Row). Rises r.out) (sym same.row) row.out_rises;
-  inn_rises = subst (λ (r : Row). Rises r.inn) (sym same.row) row.inn_rises;
-  entries = subst (λ (r : Row). AreEntries (2 ^ 25) bound c.node r) (sym same.row) (subst (λ (n : ℕ). AreEntries (2 ^ 25) bound n (row_in s)) (sym same.node) row.entries);
-}
+-- what stands at the place of a node is what is kept for it, if anything is
+pub stands : (r : Rows) (v k : ℕ) (o : Option Seen) → length r.kept.items ≡ length r.nodes → IsFirstAt r.nodes v k → o ≡ get_or r.kept.items k o → (slice_get r.kept.items k ≡ Some o) × (kept_of r v ≡ o)
+stands r v k o paired at is = (
+  slice_get-get_or r.kept.items k o (omega (arith, paired, at.within)) ∙ ap (λ (p : Option Seen). Some p) (sym is),
+  ap joined (value_found r.nodes r.kept.items v k o paired at) ∙ sym is,
+)
+
+pub some_there : (o : Option Seen) → true ≡ is_some o → (s : Seen) × (o ≡ Some s)
+some_there None e = absurd (cc)
+some_there (Some s) e = (s, refl)
+
+pub none_there : (o : Option Seen) → false ≡ is_some o → o ≡ None
+none_there None e = refl
+none_there (Some s) e = absurd (cc)

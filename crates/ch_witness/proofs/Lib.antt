@@ -1,5 +1,5 @@
 pub mod FirstPlaces
-pub mod Copies
+pub mod HandedOut
 pub mod Following
 pub mod Giving
 pub mod Growing

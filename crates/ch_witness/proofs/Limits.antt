@@ -9,7 +9,7 @@ use Rattle.ch_overlay.specs.declared.source.Seen.{Seen}
 use Rattle.ch_overlay.specs.Source.{row_in, IsBound, IsSeenRow}
 use Rattle.ch_witness.specs.declared.label.Label.{Label}
 use Rattle.ch_witness.specs.declared.rule.Rule.{Rule}
-use Rattle.ch_witness.specs.declared.tree.Step.{Step}
+use Rattle.ch_witness.specs.declared.step.Step.{Step}
 use Rattle.ch_witness.specs.Tree.{IsLabel}
 
 bound_fits : (bound : Cost) → IsBound bound → IsInLimit bound

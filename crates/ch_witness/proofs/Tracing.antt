@@ -1,5 +1,5 @@
 -- The way to a node, as it is traced back from its end.
-use Rattle.std.proofs.Common.{ℕ, Bool, false, ◌≡◌, ◌≢◌, ◌+◌, ◌<◌, ◌≤◌, true, List, [], ◌∷◌, ◌++◌, length, map, reverse, Option, Some, None, zero, suc, refl, ap, sym, subst, ◌∙◌, arith, nat_eq, cond}
+use Rattle.std.proofs.Common.{ℕ, Bool, false, ◌≡◌, ◌≢◌, ◌+◌, ◌<◌, ◌≤◌, true, List, [], ◌∷◌, ◌++◌, length, reverse, Option, Some, None, zero, suc, refl, ap, sym, subst, ◌∙◌, arith, nat_eq, cond}
 use Rattle.std.specs.List.{slice_get}
 use Rattle.std.proofs.lemmas.List.{reverse-append}
 use Rattle.std.proofs.lemmas.Bool.Decides.{nat_tests}
@@ -10,15 +10,10 @@ use Rattle.ch_cost.specs.Cost.Laws.{sum_assoc, sum-zero_cost, zero_cost-sum}
 use Rattle.ch_graph.specs.Walk.{Along}
 use Rattle.ch_graph.specs.Walk.Walk.{stay, go}
 use Rattle.ch_laws.specs.Verdicts.{SeenArc}
-use Rattle.ch_overlay.specs.declared.source.Seen.{Seen}
 use Rattle.ch_overlay.specs.Source.{row_of}
 use Rattle.ch_witness.specs.declared.rule.Rule.{Rule}
-use Rattle.ch_witness.specs.declared.tree.Step.{Step}
-use Rattle.ch_witness.specs.Tree.{node_of, row_at, LeadsTo, IsReached, IsStep, AreSteps}
-
--- the rows of the steps
-abbrev pub seen_of : List Step → List Seen
-seen_of steps = map (λ s. s.seen) steps
+use Rattle.ch_witness.specs.declared.step.Step.{Step}
+use Rattle.ch_witness.specs.Tree.{node_of, row_at, seen_of, LeadsTo, IsReached, IsStep, AreSteps}
 
 -- how many steps a way may still go back over
 abbrev pub places_to : Option ℕ → ℕ
@@ -56,7 +51,7 @@ some-same s t e = cc
 row_at_place : (steps : List Step) (k : ℕ) (s : Step) → slice_get steps k ≡ Some s → ((j : ℕ) (t : Step) → j < k → slice_get steps j ≡ Some t → node_of t ≢ node_of s) → row_of (seen_of steps) (node_of s) ≡ Some (row_at s)
 row_at_place [] k s is first = absurd (cc)
 row_at_place (t ∷ ts) zero s is first =
-    subst (λ (u : Step). row_of (u.seen ∷ seen_of ts) (node_of s) ≡ Some (row_at s)) (sym (some-same t s is)) (true-case (nat_eq (node_of s) (node_of s)) (Some (row_at s)) (row_of (seen_of ts) (node_of s)) (equal (node_of s) (node_of s) refl))
+    subst (λ (u : Step). row_of (u.seen.value ∷ seen_of ts) (node_of s) ≡ Some (row_at s)) (sym (some-same t s is)) (true-case (nat_eq (node_of s) (node_of s)) (Some (row_at s)) (row_of (seen_of ts) (node_of s)) (equal (node_of s) (node_of s) refl))
 row_at_place (t ∷ ts) (suc k) s is first =
     false-case (nat_eq (node_of t) (node_of s)) (Some (row_at t)) (row_of (seen_of ts) (node_of s)) (unlike (node_of t) (node_of s) (first 0 t (omega arith) refl))
     ∙ row_at_place ts k s is (λ j u h at. first (suc j) u (omega (arith, h)) at)

@@ -1,7 +1,9 @@
 -- Values that stand where their nodes do.
 use Rattle.std.proofs.Common.{ℕ, ◌≡◌, ◌≢◌, ◌<◌, List, [], ◌∷◌, ◌++◌, get_or, length, set, slice_index, Option, Some, None, zero, suc, true, false, Bool, cond, refl, ap, sym, subst, ◌∙◌, arith, nat_eq, get_or-set_same}
 use Rattle.std.proofs.lemmas.Bool.Decides.{nat_tests}
-use Rattle.std.proofs.lemmas.List.{length-set}
+use Rattle.std.specs.List.{slice_get}
+use Rattle.std.proofs.lemmas.List.{get_or_push, length-set, length_push}
+use Rattle.std.proofs.lemmas.Option.{slice_get-get_or}
 use Rattle.ch_witness.specs.Places.{IsFirstAt, value_in}
 
 same : (x y : ℕ) → x ≡ y → nat_eq x y ≡ true
@@ -42,6 +44,18 @@ module _ {X : Type 0} where
   value_written nodes values v k y as_many at =
       value_found nodes (set values k y) v k y (length-set values k y ∙ as_many) at
       ∙ ap (λ (z : X). Some z) (get_or-set_same values k y y (omega (arith, as_many, at.within)))
+
+  -- it stands at its place
+  pub read_written : (values : List X) (k : ℕ) (y : X) → k < length values → slice_get (set values k y) k ≡ Some y
+  read_written values k y within =
+      slice_get-get_or (set values k y) k y (omega (arith, within, length-set values k y))
+      ∙ ap (λ (z : X). Some z) (get_or-set_same values k y y within)
+
+  -- and the last one behind the others
+  pub read_put : (values : List X) (k : ℕ) (y : X) → length values ≡ k → slice_get (values ++ y ∷ []) k ≡ Some y
+  read_put values k y last =
+      slice_get-get_or (values ++ y ∷ []) k y (omega (arith, last, length_push values y))
+      ∙ ap (λ (z : X). Some z) (get_or_push values y y k last)
 
   -- those of the other nodes stay
   pub value_elsewhere : (nodes : List ℕ) (values : List X) (u k : ℕ) (y : X) → slice_index nodes k ≢ u → value_in nodes (set values k y) u ≡ value_in nodes values u

@@ -1,6 +1,8 @@
 -- The answers of a source that are kept.
 use Rattle.std.specs.Prelude.{ℕ, ◌≡◌, ◌≢◌, List, [], ◌∷◌, ◌++◌, Option, Some, None, map, All, AllPairs, Contains, slice_index_or}
 use Rattle.std.proofs.lemmas.List.Elements.{Contains-get_or}
+use Rattle.std.proofs.Common.{sym, subst, ap, ◌∙◌}
+use Rattle.std.specs.List.{slice_get}
 use Rattle.ch_cost.specs.declared.cost.Cost.{Cost}
 use Rattle.ch_overlay.specs.declared.source.Seen.{Seen}
 use Rattle.ch_overlay.specs.Source.{row_in, IsBound, IsSeenRow, NamesAlone}
@@ -20,17 +22,13 @@ joined (Some o) = o
 abbrev pub kept_of : Rows → Kept
 kept_of r x = joined (value_in r.nodes r.kept.items x)
 
--- one answer is that of another: the same row of the same node, in the same version
-pub record IsSame (s c : Seen) : Type 0 where
-  pub node : c.node ≡ s.node
-  pub version : c.version ≡ s.version
-  pub row : row_in c ≡ row_in s
+-- the answer stands at this place
+abbrev pub StandsAt : Rows → ℕ → Seen → Type 0
+StandsAt r place s = slice_get r.kept.items place ≡ Some (Some s)
 
--- the answer is the same as the one that is kept for its node
-pub record IsKept (kept : Kept) (c : Seen) : Type 0 where
-  pub original : Seen
-  pub here : kept c.node ≡ Some original
-  pub same : IsSame original c
+-- the answer is the one that is kept for its node
+abbrev pub IsKept : Kept → Seen → Type 0
+IsKept kept s = kept s.node ≡ Some s
 
 -- an answer for x that the source has given and stands by
 pub record IsAnswer (Bears Shows : Seen → Type 0) (bound : Cost) (x : ℕ) (s : Seen) : Type 0 where
@@ -39,6 +37,13 @@ pub record IsAnswer (Bears Shows : Seen → Type 0) (bound : Cost) (x : ℕ) (s 
   pub shows : Shows s
   pub row : IsSeenRow bound s
   pub limit : IsBound bound
+
+-- an answer for x that the source has given and stands by is kept, and stands at this place
+pub record IsReadAt (Bears Shows : Seen → Type 0) (bound : Cost) (x : ℕ) (r : Rows) (place : ℕ) : Type 0 where
+  pub seen : Seen
+  pub there : StandsAt r place seen
+  pub kept : kept_of r x ≡ Some seen
+  pub answer : IsAnswer Bears Shows bound x seen
 
 -- each answer that is kept is of its node, and the source stands by it
 abbrev pub AreKept : (Seen → Type 0) → (Seen → Type 0) → Cost → Kept → Type 0
@@ -83,3 +88,12 @@ pub all_listed_are : (Bears Shows IsKind : Seen → Type 0) (bound : Cost) (kept
 all_listed_are Bears Shows IsKind bound kept nodes listed answers listing to k d h =
     let s = slice_index_or listed k d in
     to s.node s (answers s.node s (listing.from_kept s (Contains-get_or listed k d h)))
+
+-- what stands where a node was read is the answer that is kept for it
+pub read_there : (Bears Shows : Seen → Type 0) (bound : Cost) (x : ℕ) (r : Rows) (place : ℕ) (s : Seen) → IsReadAt Bears Shows bound x r place → StandsAt r place s → IsKept (kept_of r) s × IsAnswer Bears Shows bound x s
+read_there Bears Shows bound x r place s read here =
+    let it : read.seen ≡ s = same (slice_get r.kept.items place) read.seen s read.there here in
+    let answer : IsAnswer Bears Shows bound x s = subst (IsAnswer Bears Shows bound x) it read.answer in
+    (subst (λ (y : ℕ). kept_of r y ≡ Some s) (sym answer.node) (read.kept ∙ ap (λ (t : Seen). Some t) it), answer) where
+      same : (o : Option (Option Seen)) (a b : Seen) → o ≡ Some (Some a) → o ≡ Some (Some b) → a ≡ b
+      same o a b e f = cc

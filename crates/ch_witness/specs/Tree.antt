@@ -1,5 +1,5 @@
 -- What a search has gone on from, and what it knows of the nodes that it has come to.
-use Rattle.std.specs.Prelude.{ℕ, ◌≡◌, ◌≢◌, ◌<◌, ◌⊎◌, true, List, [], ◌∷◌, ◌++◌, length, Option, Some, None}
+use Rattle.std.specs.Prelude.{ℕ, ◌≡◌, ◌≢◌, ◌<◌, ◌⊎◌, true, List, [], ◌∷◌, ◌++◌, length, map, Option, Some, None}
 use Rattle.std.specs.List.{slice_get}
 use Rattle.ch_witness.specs.Places.{value_in}
 use Rattle.ch_cost.specs.declared.cost.Cost.{Cost}
@@ -11,7 +11,7 @@ use Rattle.ch_witness.specs.declared.frontier.Frontier.{Frontier}
 use Rattle.ch_witness.specs.declared.frontier.Reached.{Reached}
 use Rattle.ch_witness.specs.declared.label.Label.{Label}
 use Rattle.ch_witness.specs.declared.rule.Rule.{Rule}
-use Rattle.ch_witness.specs.declared.tree.Step.{Step}
+use Rattle.ch_witness.specs.declared.step.Step.{Step}
 
 -- what is known of each node that the search has come to
 abbrev pub Labels : Type 0
@@ -22,10 +22,14 @@ labels_of f v = value_in f.nodes f.labels.items v
 
 -- the node of a step, and its row
 abbrev pub node_of : Step → ℕ
-node_of s = s.seen.node
+node_of s = s.seen.value.node
 
 abbrev pub row_at : Step → Row
-row_at s = row_in s.seen
+row_at s = row_in s.seen.value
+
+-- the answers that the steps went by
+abbrev pub seen_of : List Step → List Seen
+seen_of steps = map (λ s. s.seen.value) steps
 
 -- the step at this place goes on to v by an arc of its row, which makes the cost c
 pub record LeadsTo (s : Step) (v : ℕ) (c : Cost) : Type 0 where
@@ -79,17 +83,19 @@ AllAre IsKind labels = (v : ℕ) (l : Label) → labels v ≡ Some l → IsKind 
 
 -- each row that a step went on from is of this kind
 abbrev pub AllSeen : (Seen → Type 0) → List Step → Type 0
-AllSeen IsKind steps = (k : ℕ) (s : Step) → slice_get steps k ≡ Some s → IsKind s.seen
+AllSeen IsKind steps = (k : ℕ) (s : Step) → slice_get steps k ≡ Some s → IsKind s.seen.value
 
--- the step that goes on from a node that was reached
-abbrev pub step_from : Reached → Seen → Step
-step_from r seen = record { seen = seen; cost = r.cost; before = r.before }
+-- the step goes on by this answer from a node that was reached
+pub record IsStepFrom (r : Reached) (seen : Seen) (s : Step) : Type 0 where
+  pub seen_is : s.seen.value ≡ seen
+  pub cost : s.cost ≡ r.cost
+  pub before : s.before ≡ r.before
 
 -- The row of a node that was reached was read: where it has no rank, it became a step, and each of its arcs out was
 -- told.
 pub record IsGoneOn (r : Rule) (at : Reached) (seen : Seen) (old new : List Step) (known labels : Labels) : Type 0 where
   pub node : seen.node ≡ at.node
-  pub steps : (((row_in seen).rank ≡ None) × (new ≡ old ++ step_from at seen ∷ [])) ⊎ (((row_in seen).rank ≡ None → ⊥) × (new ≡ old))
+  pub steps : (((row_in seen).rank ≡ None) × ((s : Step) × IsStepFrom at seen s × (new ≡ old ++ s ∷ []))) ⊎ (((row_in seen).rank ≡ None → ⊥) × (new ≡ old))
   pub told : (row_in seen).rank ≡ None → (v : ℕ) (d : Cost) → Lists (row_in seen).out v d → v ≢ r.avoid → at.cost ⊕ d ≼ r.cutoff → IsSettled (known v) ⊎ IsAtMost (labels v) (at.cost ⊕ d)
 
 -- What a search keeps as it goes on: its steps, and that a node is reached at a cost of at most this.
@@ -105,5 +111,5 @@ IsNew v steps = (k : ℕ) (s : Step) → slice_get steps k ≡ Some s → node_o
 -- to is reached at a cost of at most that arc's, unless that is above the cutoff or the node is to be avoided.
 pub record IsStartSeen (r : Rule) (seen : Seen) (steps : List Step) (labels : Labels) : Type 0 where
   pub node : seen.node ≡ r.from
-  pub step : (row_in seen).rank ≡ None → (k : ℕ) × ((s : Step) × (slice_get steps k ≡ Some s) × (s.seen ≡ seen))
+  pub step : (row_in seen).rank ≡ None → (k : ℕ) × ((s : Step) × (slice_get steps k ≡ Some s) × (s.seen.value ≡ seen))
   pub direct : (row_in seen).rank ≡ None → (v : ℕ) (d : Cost) → Lists (row_in seen).out v d → v ≢ r.avoid → d ≼ r.cutoff → IsAtMost (labels v) d

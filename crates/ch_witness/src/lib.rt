@@ -4,12 +4,11 @@
 //! rows and ways, and on `smallvec` for the nodes of a way. Its calls give a [`Found`]. [`search`] is for one search:
 //! it hands over the source's own answers. A [`Searcher`] is for several searches that are to rest on the same answers, in
 //! memory that is used again: it reads through its [`Rows`], which ask the source for each row once and keep the answer,
-//! and hands over copies; [`Rows::hand_out`] gives the answers at the end. Their contracts carry the promise of the layer:
+//! and its steps say by which they went; [`Rows::hand_out`] gives the answers at the end. Their contracts carry the promise of the layer:
 //! each way goes along rows that the source showed and that are handed over with it, avoids the node, and costs what its
 //! arcs do.
 #![tactic(auto)]
 
-mod copying;
 mod error;
 mod follow;
 mod frontier;
@@ -19,6 +18,7 @@ mod rows;
 mod rule;
 mod searcher;
 mod searching;
+mod step;
 mod trace;
 mod tree;
 mod way;
@@ -28,5 +28,5 @@ pub use rows::Rows;
 pub use rule::Rule;
 pub use searcher::{Searcher, Traced};
 pub use searching::search;
-pub use tree::Step;
+pub use step::Step;
 pub use way::{Found, Way};

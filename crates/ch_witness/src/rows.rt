@@ -1,6 +1,5 @@
 ghost use Rattle.std.specs.Prelude.{◌≡◌, length};
 
-use crate::copying::copy_of;
 use crate::node_index::NodeIndex;
 use ch_overlay::{RowSource, SeeError, Seen};
 use std::alloc::{AllocError, Global};
@@ -18,11 +17,11 @@ pub struct Rows {
 }
 
 impl Rows {
-    ghost use Rattle.std.specs.Prelude.{◌≡◌, ◌≢◌, ◌<◌, ℕ, IfOk, OnOk, OnErr, None, Some, slice_index};
-    ghost use Rattle.std.specs.Option.{option_copied};
+    ghost use Rattle.std.specs.Prelude.{◌≡◌, ◌≢◌, ◌<◌, ℕ, IfOk, IfSome, IfNone, OnOk, OnErr, None, Some, slice_index};
+    ghost use Rattle.ch_overlay.specs.declared.source.Seen.{Seen};
     ghost use Rattle.ch_overlay.specs.declared.source.SeeError.TheVariants.{Unseen};
-    ghost use Rattle.ch_overlay.specs.Source.{IsBound, IsSeenRow};
-    ghost use Rattle.ch_witness.specs.Kept.{kept_of, AllNamed, AreKept, AreListed, IsKept, IsListed, IsMore, OfTheirNodes};
+    ghost use Rattle.ch_witness.specs.Kept.{kept_of, AllNamed, AreKept, AreListed, IsListed, IsMore, IsReadAt, OfTheirNodes, StandsAt};
+    ghost use Rattle.ch_witness.specs.Places.{IsFirstAt};
 
     /// No answers. It takes no memory yet.
     pub fn new(alloc: Global) -> Rows
@@ -42,30 +41,34 @@ impl Rows {
         self.nodes.clear();
     }
 
-    /// A copy of the answer for a node: of the one that is kept, or of what the source answers now, which is then
-    /// kept.
+    /// The place of the answer for a node: of the one that is kept, or of what the source answers now, which is then
+    /// kept. [`Rows::at`] shows it.
     ///
     /// `OutOfMemory` where a growth was refused, `Unseen` where the source has no row of the node. What was kept
     /// before is kept on.
-    pub fn read<S: RowSource>(&mut self, source: &mut S, node: u32) -> Result<Seen, SeeError>
+    pub fn read<S: RowSource>(&mut self, source: &mut S, node: u32) -> Result<usize, SeeError>
         requires kept { AreKept S.bears (S.shows source.old) (S.bound_of source.old) (kept_of self.old) }
-        ensures node { IfOk result (λ seen. seen.node ≡ node) }
-        ensures row { IfOk result (IsSeenRow (S.bound_of source.old)) }
-        ensures bound { IfOk result (λ _. IsBound (S.bound_of source.old)) }
-        ensures copy { IfOk result (IsKept (kept_of self.new)) }
+        ensures here { IfOk result (IsReadAt S.bears (S.shows source.new) (S.bound_of source.old) node self.new) }
         ensures kept { AreKept S.bears (S.shows source.new) (S.bound_of source.new) (kept_of self.new) }
         ensures more { IsMore (kept_of self.old) (kept_of self.new) }
         ensures stays { S.stays source.old source.new }
         ensures found { S.whole source.old node → result ≡ Err Unseen → ⊥ }
         ensures names { S.whole source.old node → AllNamed (S.whole source.old) (kept_of self.old) → AllNamed (S.whole source.new) (kept_of self.new) }
     {
-        if let Some(seen) = self.known(node) {
-            return Ok(copy_of(seen)?);
+        let found = self.nodes.find(node);
+        if let Some(place) = self.known(node, found) {
+            return Ok(place);
         }
         let seen = source.row_of(node)?;
-        let copy = copy_of(&seen)?;
-        self.put(node, seen)?;
-        Ok(copy)
+        Ok(self.put(node, found, seen)?)
+    }
+
+    /// The answer that stands at a place.
+    pub fn at(&self, place: usize) -> &Seen
+        requires there { (seen : Seen) × StandsAt self.now place seen }
+        ensures { StandsAt self.now place result.now }
+    {
+        self.kept[place].as_ref().unwrap()
     }
 
     /// The answers that are kept for these nodes, in this order, each node's once and at its first place. Of those nodes
@@ -101,39 +104,51 @@ impl Rows {
         self.kept[place].take()
     }
 
-    /// Keeps the answer for a node. Refused for want of memory; what is kept is then what it was.
-    fn put(&mut self, node: u32, seen: Seen) -> Result<(), AllocError>
+    /// The place of the answer that is kept for a node, or none where none is. The node was looked for.
+    fn known(&self, node: u32, found: Option<usize>) -> Option<usize>
+        requires found { IfSome found (IsFirstAt self.now.nodes node) }
+        requires absent { IfNone found ((k : ℕ) → k < length self.now.nodes → slice_index self.now.nodes k ≢ node) }
+        ensures here { IfSome result (λ place. (seen : Seen) × StandsAt self.now place seen × (kept_of self.now node ≡ Some seen)) }
+        ensures none { IfNone result (kept_of self.now node ≡ None) }
+    {
+        let place = found?;
+        if self.kept[place].is_some() {
+            return Some(place);
+        }
+        None
+    }
+
+    /// Keeps the answer for a node that was looked for and for which none is kept, and gives its place. Refused for want
+    /// of memory; what is kept is then what it was.
+    fn put(&mut self, node: u32, found: Option<usize>, seen: Seen) -> Result<usize, AllocError>
+        requires found { IfSome found (IsFirstAt self.old.nodes node) }
+        requires absent { IfNone found ((k : ℕ) → k < length self.old.nodes → slice_index self.old.nodes k ≢ node) }
+        ensures there { IfOk result (λ place. StandsAt self.new place seen) }
         ensures here { OnOk result (kept_of self.new node ≡ Some seen) }
         ensures others { (x : ℕ) → x ≢ node → kept_of self.new x ≡ kept_of self.old x }
         ensures stays { OnErr result ((x : ℕ) → kept_of self.new x ≡ kept_of self.old x) }
     {
-        match self.nodes.find(node) {
+        match found {
             Some(place) => {
                 self.kept[place] = Some(seen);
-                Ok(())
+                Ok(place)
             }
             None => self.push(node, seen),
         }
     }
 
     /// The same for a node that wasn't read.
-    fn push(&mut self, node: u32, seen: Seen) -> Result<(), AllocError>
+    fn push(&mut self, node: u32, seen: Seen) -> Result<usize, AllocError>
         requires absent { (k : ℕ) → k < length self.old.nodes → slice_index self.old.nodes k ≢ node }
+        ensures there { IfOk result (λ place. StandsAt self.new place seen) }
         ensures here { OnOk result (kept_of self.new node ≡ Some seen) }
         ensures others { (x : ℕ) → x ≢ node → kept_of self.new x ≡ kept_of self.old x }
         ensures stays { OnErr result ((x : ℕ) → kept_of self.new x ≡ kept_of self.old x) }
     {
+        let place = self.kept.len();
         self.kept.reserve(1)?;
         self.nodes.push(node)?;
         self.kept.push_reserved(Some(seen));
-        Ok(())
-    }
-
-    /// The answer that is kept for a node, or none where none is.
-    fn known(&self, node: u32) -> Option<&Seen>
-        ensures { option_copied result ≡ kept_of self.now node }
-    {
-        let place = self.nodes.find(node)?;
-        self.kept[place].as_ref()
+        Ok(place)
     }
 }

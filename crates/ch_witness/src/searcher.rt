@@ -1,13 +1,14 @@
-ghost use Rattle.std.specs.Prelude.{◌≡◌, ◌<◌, ℕ, IfOk, length, map, slice_index};
-ghost use Rattle.ch_witness.specs.Tree.{labels_of, IsTree};
+ghost use Rattle.std.specs.Prelude.{◌≡◌, ◌<◌, ℕ, IfOk, length, slice_index};
+ghost use Rattle.ch_witness.specs.Tree.{labels_of, seen_of, IsTree};
 ghost use Rattle.ch_witness.specs.Ways.{IsWayOf, way_at};
 
 use crate::error::SearchError;
 use crate::frontier::Frontier;
 use crate::rows::Rows;
 use crate::rule::Rule;
+use crate::step::Step;
 use crate::trace::way_to;
-use crate::tree::{Step, Tree};
+use crate::tree::Tree;
 use crate::way::Way;
 use ch_overlay::RowSource;
 use std::alloc::{AllocError, Global};
@@ -52,8 +53,8 @@ impl Searcher {
     /// The ways of [`search`](crate::search), along rows that are kept from one search to the next.
     ///
     /// The source is asked for a row only where none is kept for the node, and what it answers is kept, also where the
-    /// search fails. The rows of the steps are copies of those that are kept, so that several searches may rest
-    /// on the same answers. The conditions and the errors are those of [`search`](crate::search); a search that fails
+    /// search fails. The rows of the steps are those that are kept, so that several searches may rest on the same
+    /// answers. The conditions and the errors are those of [`search`](crate::search); a search that fails
     /// lets the memory go that it would have used again.
     pub fn search<S: RowSource>(
         &mut self,
@@ -69,10 +70,10 @@ impl Searcher {
         requires kept { AreKept S.bears (S.shows source.old) (S.bound_of source.old) (kept_of self.old.rows) }
         requires some { 1 ≤ settle }
         requires few { settle ≤ 2 ^ 16 }
-        ensures ways { IfOk result (λ found. AreWays (map (λ s. s.seen) found.steps.items) rule.from rule.avoid rule.cutoff targets.now found.ways.items) }
-        ensures direct { IfOk result (λ found. (k : ℕ) → k < length targets.now → slice_index targets.now k ≢ rule.from → (s : Seen) × IsKept (kept_of self.new.rows) s × IsStartRow (map (λ s. s.seen) found.steps.items) rule.from rule.cutoff targets.now found.ways.items s) }
-        ensures rows { IfOk result (λ found. AreRows (map (λ s. s.seen) found.steps.items)) }
-        ensures copies { IfOk result (λ found. All (IsKept (kept_of self.new.rows)) (map (λ s. s.seen) found.steps.items)) }
+        ensures ways { IfOk result (λ found. AreWays (seen_of found.steps.items) rule.from rule.avoid rule.cutoff targets.now found.ways.items) }
+        ensures direct { IfOk result (λ found. (k : ℕ) → k < length targets.now → slice_index targets.now k ≢ rule.from → (s : Seen) × IsKept (kept_of self.new.rows) s × IsStartRow (seen_of found.steps.items) rule.from rule.cutoff targets.now found.ways.items s) }
+        ensures rows { IfOk result (λ found. AreRows (seen_of found.steps.items)) }
+        ensures kept_rows { IfOk result (λ found. All (IsKept (kept_of self.new.rows)) (seen_of found.steps.items)) }
         ensures kept { AreKept S.bears (S.shows source.new) (S.bound_of source.new) (kept_of self.new.rows) }
         ensures more { IsMore (kept_of self.old.rows) (kept_of self.new.rows) }
         ensures stays { S.stays source.old source.new }
@@ -105,7 +106,7 @@ fn ways_to(
 ) -> Result<Vec<Option<Way>>, AllocError>
     requires tree { IsTree rule tree.now.steps.items (labels_of tree.now.frontier) }
     ensures many { IfOk result (λ ways. length ways.items ≡ length targets.now) }
-    ensures ways { IfOk result (λ ways. (k : ℕ) → k < length targets.now → IsWayOf (map (λ s. s.seen) tree.now.steps.items) rule.avoid rule.from (slice_index targets.now k) (labels_of tree.now.frontier (slice_index targets.now k)) (way_at ways.items k)) }
+    ensures ways { IfOk result (λ ways. (k : ℕ) → k < length targets.now → IsWayOf (seen_of tree.now.steps.items) rule.avoid rule.from (slice_index targets.now k) (labels_of tree.now.frontier (slice_index targets.now k)) (way_at ways.items k)) }
 {
     let mut ways = Vec::with_capacity(alloc, targets.len())?;
     'targets: for target in targets {
@@ -117,7 +118,7 @@ fn ways_to(
 /// The way to a node, or none where the search hasn't come to it.
 fn known_way(alloc: Global, rule: Rule, tree: &Tree, target: u32) -> Result<Option<Way>, AllocError>
     requires tree { IsTree rule tree.now.steps.items (labels_of tree.now.frontier) }
-    ensures { IfOk result (IsWayOf (map (λ s. s.seen) tree.now.steps.items) rule.avoid rule.from target (labels_of tree.now.frontier target)) }
+    ensures { IfOk result (IsWayOf (seen_of tree.now.steps.items) rule.avoid rule.from target (labels_of tree.now.frontier target)) }
 {
     let Some(label) = tree.frontier.label(target) else {
         return Ok(None);

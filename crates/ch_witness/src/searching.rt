@@ -2,12 +2,13 @@ ghost use Rattle.std.specs.Prelude.{◌≡◌, ◌≢◌, ◌^◌, ◌<◌, ◌�
 ghost use Rattle.ch_cost.specs.Cost.{IsWithin};
 ghost use Rattle.ch_overlay.specs.declared.source.Seen.{Seen};
 ghost use Rattle.ch_witness.specs.declared.error.SearchError.TheVariants.{Unseen};
+ghost use Rattle.ch_witness.specs.Tree.{seen_of};
 ghost use Rattle.ch_witness.specs.Ways.{AreRows, AreWays, IsStartRow};
 
 use crate::error::SearchError;
 use crate::rule::Rule;
 use crate::searcher::Searcher;
-use crate::tree::Step;
+use crate::step::Step;
 use crate::way::Found;
 use ch_cost::Cost;
 use ch_overlay::RowSource;
@@ -60,11 +61,11 @@ pub fn search<S: RowSource>(
 
 /// The nodes of the steps, in order.
 fn nodes_of(alloc: Global, steps: &[Step]) -> Result<Vec<u32>, AllocError>
-    ensures { IfOk result (λ nodes. nodes.items ≡ map (λ s. s.node) (map (λ s. s.seen) steps.now)) }
+    ensures { IfOk result (λ nodes. nodes.items ≡ map (λ s. s.node) (seen_of steps.now)) }
 {
     let mut nodes = Vec::with_capacity(alloc, steps.len())?;
     'steps: for at in 0..steps.len() {
-        nodes.push(steps[at].seen.node)?;
+        nodes.push(steps[at].node)?;
     }
     Ok(nodes)
 }

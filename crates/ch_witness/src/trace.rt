@@ -1,10 +1,10 @@
-ghost use Rattle.std.specs.Prelude.{◌≡◌, ◌≢◌, IfOk, length, map, reverse};
-ghost use Rattle.ch_witness.specs.Tree.{AreSteps, IsReached};
+ghost use Rattle.std.specs.Prelude.{◌≡◌, ◌≢◌, IfOk, length, reverse};
+ghost use Rattle.ch_witness.specs.Tree.{AreSteps, IsReached, seen_of};
 ghost use Rattle.ch_witness.specs.Ways.{IsWay};
 
 use crate::label::Label;
 use crate::rule::Rule;
-use crate::tree::Step;
+use crate::step::Step;
 use crate::way::Way;
 use smallvec::SmallVec;
 use std::alloc::{AllocError, Global};
@@ -20,7 +20,7 @@ pub fn way_to(
     requires steps { AreSteps rule steps.now }
     requires reached { IsReached rule.from steps.now (length steps.now) label.before target label.cost }
     requires apart { target ≢ rule.avoid }
-    ensures leads { IfOk result (IsWay (map (λ s. s.seen) steps.now) rule.avoid rule.from target) }
+    ensures leads { IfOk result (IsWay (seen_of steps.now) rule.avoid rule.from target) }
     ensures costs { IfOk result (λ way. way.cost ≡ label.cost) }
 {
     let mut backward: SmallVec<u32, 8> = SmallVec::new(alloc);
@@ -28,7 +28,7 @@ pub fn way_to(
     let mut before = label.before;
     'steps: while let Some(place) = before {
         let step = &steps[place];
-        backward.push(step.seen.node)?;
+        backward.push(step.node)?;
         before = step.before;
     }
     Ok(Way {

@@ -10,17 +10,11 @@ use crate::follow::follow;
 use crate::frontier::{Frontier, Reached};
 use crate::rows::Rows;
 use crate::rule::Rule;
+use crate::step::Step;
 use ch_cost::Cost;
-use ch_overlay::{RowSource, Seen};
+use ch_overlay::RowSource;
 use std::alloc::Global;
-
-/// A node that a search went on from: its row, what the way to it costs, and the place of the step before it.
-#[derive(Drop)]
-pub struct Step {
-    pub seen: Seen,
-    pub cost: Cost,
-    pub before: Option<usize>,
-}
+use std::snapshot::Snapshot;
 
 /// The steps of a search, in its order, and what it knows of the nodes that it has come to.
 #[derive(Drop)]
@@ -49,7 +43,7 @@ impl Tree {
         requires some { 1 ≤ settle }
         requires few { settle ≤ 2 ^ 16 }
         ensures tree { IfOk result (λ tree. IsTree rule tree.steps.items (labels_of tree.frontier)) }
-        ensures copies { IfOk result (λ tree. AllSeen (IsKept (kept_of rows.new)) tree.steps.items) }
+        ensures kept_rows { IfOk result (λ tree. AllSeen (IsKept (kept_of rows.new)) tree.steps.items) }
         ensures start { IfOk result (λ tree. (k : ℕ) → k < length targets.now → slice_index targets.now k ≢ rule.from → (seen : Seen) × IsKept (kept_of rows.new) seen × IsStartSeen rule seen tree.steps.items (labels_of tree.frontier)) }
         ensures kept { AreKept S.bears (S.shows source.new) (S.bound_of source.new) (kept_of rows.new) }
         ensures more { IsMore (kept_of rows.old) (kept_of rows.new) }
@@ -90,7 +84,7 @@ impl Tree {
         requires kept { AreKept S.bears (S.shows source.old) (S.bound_of source.old) (kept_of rows.old) }
         ensures tree { OnOk result (IsTree rule self.new.steps.items (labels_of self.new.frontier)) }
         ensures later { OnOk result (IsLater self.old.steps.items self.new.steps.items (labels_of self.old.frontier) (labels_of self.new.frontier)) }
-        ensures copies { AllSeen (IsKept (kept_of rows.old)) self.old.steps.items → OnOk result (AllSeen (IsKept (kept_of rows.new)) self.new.steps.items) }
+        ensures kept_rows { AllSeen (IsKept (kept_of rows.old)) self.old.steps.items → OnOk result (AllSeen (IsKept (kept_of rows.new)) self.new.steps.items) }
         ensures kept { AreKept S.bears (S.shows source.new) (S.bound_of source.new) (kept_of rows.new) }
         ensures more { IsMore (kept_of rows.old) (kept_of rows.new) }
         ensures stays { S.stays source.old source.new }
@@ -162,16 +156,18 @@ impl Tree {
         ensures names { AllNamed (S.whole source.old) (kept_of rows.old) → AllAre (S.whole source.old) (labels_of self.old.frontier) → OnOk result (AllNamed (S.whole source.new) (kept_of rows.new)) }
         ensures whole { AllNamed (S.whole source.old) (kept_of rows.old) → AllAre (S.whole source.old) (labels_of self.old.frontier) → OnOk result (AllAre (S.whole source.new) (labels_of self.new.frontier)) }
     {
-        let seen = rows.read(source, reached.node)?;
+        let kept_at = rows.read(source, reached.node)?;
+        let seen = rows.at(kept_at);
         if seen.row.rank.is_some() {
             return Ok(());
         }
         let place = self.steps.len();
         follow(rule, &seen.row.out, reached.cost, place, &mut self.frontier)?;
         self.steps.push(Step {
-            seen,
+            node: reached.node,
             cost: reached.cost,
             before: reached.before,
+            seen: Snapshot::of(seen),
         })?;
         Ok(())
     }

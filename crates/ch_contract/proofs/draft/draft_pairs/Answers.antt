@@ -1,4 +1,4 @@
-use Rattle.std.proofs.Common.{ℕ, Bool, ◌≡◌, List, [], ◌∷◌, length, map, Contains, Some, true, false, refl, ap, sym, subst, ◌∙◌, arith}
+use Rattle.std.proofs.Common.{ℕ, Bool, ◌≡◌, List, [], ◌∷◌, length, map, Contains, true, false, refl, ap, sym, subst, ◌∙◌, arith}
 use Rattle.std.proofs.lemmas.Bool.Decides.{nat_tests}
 use Rattle.std.proofs.lemmas.Result.{err_from_is_err_and}
 use Rattle.std.proofs.lemmas.List.Elements.{All-contains}
@@ -8,6 +8,7 @@ use Rattle.ch_laws.specs.declared.entry.Entry.{Entry}
 use Rattle.ch_laws.specs.declared.shortcut.Shortcut.{Shortcut}
 use Rattle.ch_laws.specs.Rows.{Row}
 use Rattle.ch_witness.specs.Kept.{kept_of}
+use Rattle.ch_witness.specs.Tree.{seen_of}
 use Rattle.ch_witness.specs.Ways.{AreWays}
 use Rattle.ch_contract.specs.declared.error.ProposeError.TheVariants.{Unseen}
 use Rattle.ch_contract.specs.Listed.{LeadsOn}
@@ -34,9 +35,9 @@ pub returns-then-is_empty-clause-draft : goal.returns-then-is_empty-clause-draft
 returns-then-is_empty-clause-draft g c =
     let long : length c.in_ok-pairs.pairs.items ≡ 0 = grind (arith, nat_tests, c.is_empty.ensures, c.if-is_empty.true, c.in_ok-pairs.pairs.ok) in
     let none = no-items c.in_ok-pairs.pairs.items long in
-    let first = c.in_ok-read.ensures.copy in
+    let first = c.in_ok-read.ensures.here in
     let outs : c.deref.result.now ≡ c.args.row.now.out = c.deref.ensures.value ∙ ap (λ (r : Row). r.out) c.row.view_is in
-    idle_read c.args.task.bound c.args.task.node c.args.row.now c.args.into (kept_of c.read.new.self) first.original (subst (λ (x : ℕ). kept_of c.read.new.self x ≡ Some first.original) c.in_ok-read.ensures.node first.here) c.args.draft.now _ c.requires.among c.requires.inn_rises c.requires.out_rises
+    idle_read c.args.task.bound c.args.task.node c.args.row.now c.args.into (kept_of c.read.new.self) first.seen first.kept c.args.draft.now _ c.requires.among c.requires.inn_rises c.requires.out_rises
     (subst (λ (es : List Entry). LeadsOn es c.args.into.other) outs (c.leads_on.ensures.0 (is-true _ c.if-not-leads_on.false)))
     (subst (λ (ps : List Shortcut). ArePairs c.args.task.bound c.args.into c.args.row.now.out ps) none (subst (λ (es : List Entry). ArePairs c.args.task.bound c.args.into es c.in_ok-pairs.pairs.items) (c.deref-2.ensures.value ∙ ap (λ (r : Row). r.out) c.row.view_is) c.in_ok-pairs.ensures))
     refl c.in_ok-push.ensures.items
@@ -70,17 +71,17 @@ pub returns-clause-draft : goal.returns-clause-draft
 returns-clause-draft g c =
     let pairs = c.in_ok-pairs.pairs.items in
     let targets : c.deref-5.result.now ≡ map (λ (p : Shortcut). p.to) pairs = c.deref-5.ensures.value ∙ c.in_ok-targets.ensures ∙ ap (map (λ (p : Shortcut). p.to)) c.deref-3.ensures.value in
-    let first = c.in_ok-read.ensures.copy in
+    let first = c.in_ok-read.ensures.here in
     let ways = c.in_ok-found.found.ways.items in
-    let rows = map (λ s. s.seen) c.in_ok-found.found.steps.items in
+    let rows = seen_of c.in_ok-found.found.steps.items in
     let outs : c.deref.result.now ≡ c.args.row.now.out = c.deref.ensures.value ∙ ap (λ (r : Row). r.out) c.row.view_is in
     drafted_search c.args.task.bound c.args.task.node c.args.row.now c.args.into pairs c.requires.among c.requires.inn_rises (subst (λ (es : List Entry). ArePairs c.args.task.bound c.args.into es c.in_ok-pairs.pairs.items) (c.deref-2.ensures.value ∙ ap (λ (r : Row). r.out) c.row.view_is) c.in_ok-pairs.ensures)
     c.requires.out_rises (subst (λ (es : List Entry). LeadsOn es c.args.into.other) outs (c.leads_on.ensures.0 (is-true _ c.if-not-leads_on.false)))
-    (kept_of c.search.new.self.rows) first.original (c.in_ok-found.ensures.more c.args.into.other first.original (subst (λ (x : ℕ). kept_of c.read.new.self x ≡ Some first.original) c.in_ok-read.ensures.node first.here))
+    (kept_of c.search.new.self.rows) first.seen (c.in_ok-found.ensures.more c.args.into.other first.seen first.kept)
     rows c.greatest-cutoff.result ways (subst (λ (ts : List ℕ). AreWays rows c.args.into.other c.args.task.node c.greatest-cutoff.result ts ways) targets c.in_ok-found.ensures.ways)
     (λ p among. c.greatest-cutoff.ensures.most p (subst (λ (ps : List Shortcut). Contains ps p) (sym c.deref-4.ensures.value) among))
     (direct_for (kept_of c.search.new.self.rows) rows c.args.into.other c.greatest-cutoff.result ways _ (map (λ (p : Shortcut). p.to) pairs) targets c.in_ok-found.ensures.direct)
-    c.in_ok-found.ensures.copies
+    c.in_ok-found.ensures.kept_rows
     c.args.draft.now _ c.judge.new.self
     (judged_for _ pairs _ ways _ c.judge.new.self c.deref-6.ensures.value c.deref-7.ensures.value c.in_ok-judge.ensures)
     refl c.in_ok-push.ensures.items

@@ -5,7 +5,7 @@ use Rattle.ch_cost.specs.declared.cost.Cost.{Cost}
 use Rattle.ch_laws.specs.Rows.{Row}
 use Rattle.ch_overlay.specs.declared.source.Seen.{Seen}
 use Rattle.ch_overlay.specs.Source.{row_in, NamesAlone}
-use Rattle.ch_witness.specs.Kept.{kept_of, AllNamed, AreKept, AreListed, Kept}
+use Rattle.ch_witness.specs.Kept.{kept_of, AllNamed, AreKept, AreListed, Kept, read_there}
 use Rattle.ch_contract.specs.Drafts.{IsDrafted}
 use Rattle.ch_contract.proofs.Gathering.{proposed}
 use Rattle.ch_witness.specs.Kept.{all_listed_are}
@@ -26,52 +26,54 @@ none-kept kept empty IsKind x s is = absurd (apart (kept x) is (empty x)) where
 
 pub returns-then-is_some-clause-contracted : goal.returns-then-is_some-clause-contracted
 returns-then-is_some-clause-contracted g c = λ memory unseen.
-    let k = c.in_ok-own.ensures.copy in
-    let a = c.in_ok-own.ensures.kept c.in_ok-own.own.node k.original k.here in
+    let own = c.at-own.result.now in
+    let a = (read_there g.S.RowSource.bears (g.S.RowSource.shows c.read.new.source) (g.S.RowSource.bound_of c.args.source.now) c.args.node c.read.new.self c.in_ok-place.place c.at-own.result.now c.in_ok-place.ensures.here c.at-own.ensures).1 in
     record {
-      row = k.original;
-      of_node = a.node ∙ c.in_ok-own.ensures.node;
+      row = own;
+      of_node = a.node;
       bears = a.bears;
       shows = a.shows;
-      ranked = (λ e none. ranked c.behind-own.inside.rank c.if-is_some.ensures (ap (λ (r : Row). r.rank) (c.behind-own.view_is ∙ c.deref.ensures ∙ k.same.row) ∙ none), λ some. refl);
+      ranked = (λ e none. ranked c.behind-own.inside.rank c.if-is_some.ensures (ap (λ (r : Row). r.rank) (c.behind-own.view_is ∙ c.deref.ensures) ∙ none), λ some. refl);
     }
 
 pub returns-in_err-draft_all-clause-found : goal.returns-in_err-draft_all-clause-found
 returns-in_err-draft_all-clause-found g c = λ whole e.
-    let k = c.in_ok-own.ensures.copy in
-    let named = c.in_ok-own.ensures.names whole (none-kept (kept_of c.args.searcher.now.rows) c.requires.none (g.S.RowSource.whole c.args.source.now)) in
-    let own = named c.in_ok-own.own.node k.original k.here in
+    let kept = (read_there g.S.RowSource.bears (g.S.RowSource.shows c.read.new.source) (g.S.RowSource.bound_of c.args.source.now) c.args.node c.read.new.self c.in_ok-place.place c.at-own.result.now c.in_ok-place.ensures.here c.at-own.ensures).0 in
+    let named = c.in_ok-place.ensures.names whole (none-kept (kept_of c.args.searcher.now.rows) c.requires.none (g.S.RowSource.whole c.args.source.now)) in
+    let own = named c.at-own.result.now.node c.at-own.result.now kept in
     let p = err_from_is_err_and c.from_residual-in_err-draft_all.result c.from_residual-in_err-draft_all.ensures.1 in
     let was = c.in_err-draft_all.was in
     let one = p.1 in
     let two = p.2 in
-    c.in_err-draft_all.ensures.found named (subst (NamesAlone (g.S.RowSource.whole c.read.new.source)) (sym (c.deref-2.ensures ∙ k.same.row)) own) (cc (was, one, two, e))
+    c.in_err-draft_all.ensures.found named (subst (NamesAlone (g.S.RowSource.whole c.read.new.source)) (sym (c.deref-2.ensures ∙ c.in_ok-row.ensures)) own) (cc (was, one, two, e))
 
 pub hand_out-requires : goal.hand_out-requires
 hand_out-requires g c = record { nodes = λ x s is. (c.in_ok-draft_all.ensures.kept x s is).node }
 
 pub invariant_of-result : goal.invariant_of-result
 invariant_of-result g c =
-    let k = c.in_ok-own.ensures.copy in
-    let bound : g.S.RowSource.bound_of c.draft_all.new.source ≡ c.bound.result = g.met.S.RowSource.same_bound c.read.new.source c.draft_all.new.source c.in_ok-draft_all.ensures.stays ∙ g.met.S.RowSource.same_bound c.args.source.now c.read.new.source c.in_ok-own.ensures.stays ∙ sym c.bound.ensures.bound in
-    proposed g.S.RowSource.bears (g.S.RowSource.shows c.draft_all.new.source) c.bound.result c.args.node (row_in c.in_ok-own.own) (kept_of c.draft_all.new.searcher.rows) c.draft_all.new.draft c.in_ok-hand_out.field-0.items k.original c.bound.ensures.limit
+    let there = (read_there g.S.RowSource.bears (g.S.RowSource.shows c.read.new.source) (g.S.RowSource.bound_of c.args.source.now) c.args.node c.read.new.self c.in_ok-place.place c.at-own.result.now c.in_ok-place.ensures.here c.at-own.ensures) in
+    let own = c.at-own.result.now in
+    let bound : g.S.RowSource.bound_of c.draft_all.new.source ≡ c.bound.result = g.met.S.RowSource.same_bound c.read.new.source c.draft_all.new.source c.in_ok-draft_all.ensures.stays ∙ g.met.S.RowSource.same_bound c.args.source.now c.read.new.source c.in_ok-place.ensures.stays ∙ sym c.bound.ensures.bound in
+    proposed g.S.RowSource.bears (g.S.RowSource.shows c.draft_all.new.source) c.bound.result c.args.node (row_in own) (kept_of c.draft_all.new.searcher.rows) c.draft_all.new.draft c.in_ok-hand_out.field-0.items own c.bound.ensures.limit
     (subst (λ (b : Cost). AreKept g.S.RowSource.bears (g.S.RowSource.shows c.draft_all.new.source) b (kept_of c.draft_all.new.searcher.rows)) bound c.in_ok-draft_all.ensures.kept)
-    (subst (λ (x : ℕ). kept_of c.draft_all.new.searcher.rows x ≡ Some k.original) c.in_ok-own.ensures.node (c.in_ok-draft_all.ensures.more c.in_ok-own.own.node k.original k.here))
-    k.same.row
+    (subst (λ (x : ℕ). kept_of c.draft_all.new.searcher.rows x ≡ Some own) there.1.node (c.in_ok-draft_all.ensures.more own.node own there.0))
+    refl
     (ap (λ (r : Row). r.rank) (sym (c.behind-own.view_is ∙ c.deref.ensures)) ∙ nothing c.behind-own.inside.rank c.if-is_some.ensures)
-    (subst (λ (r : Row). IsDrafted c.bound.result c.args.node r r.inn (kept_of c.draft_all.new.searcher.rows) c.draft_all.new.draft) c.deref-2.ensures c.in_ok-draft_all.ensures.draft)
+    (subst (λ (r : Row). IsDrafted c.bound.result c.args.node r r.inn (kept_of c.draft_all.new.searcher.rows) c.draft_all.new.draft) (c.deref-2.ensures ∙ c.in_ok-row.ensures) c.in_ok-draft_all.ensures.draft)
     (subst (λ (ns : List ℕ). AreListed (kept_of c.draft_all.new.searcher.rows) ns c.in_ok-hand_out.field-0.items) c.deref-3.ensures.value c.in_ok-hand_out.ensures)
 
 pub returns-clause-holds : goal.returns-clause-holds
 returns-clause-holds g c =
-    let k = c.in_ok-own.ensures.copy in
-    let bound : g.S.RowSource.bound_of c.draft_all.new.source ≡ c.bound.result = g.met.S.RowSource.same_bound c.read.new.source c.draft_all.new.source c.in_ok-draft_all.ensures.stays ∙ g.met.S.RowSource.same_bound c.args.source.now c.read.new.source c.in_ok-own.ensures.stays ∙ sym c.bound.ensures.bound in
-    proposed g.S.RowSource.bears (g.S.RowSource.shows c.draft_all.new.source) c.bound.result c.args.node (row_in c.in_ok-own.own) (kept_of c.draft_all.new.searcher.rows) c.draft_all.new.draft c.in_ok-hand_out.field-0.items k.original c.bound.ensures.limit
+    let there = (read_there g.S.RowSource.bears (g.S.RowSource.shows c.read.new.source) (g.S.RowSource.bound_of c.args.source.now) c.args.node c.read.new.self c.in_ok-place.place c.at-own.result.now c.in_ok-place.ensures.here c.at-own.ensures) in
+    let own = c.at-own.result.now in
+    let bound : g.S.RowSource.bound_of c.draft_all.new.source ≡ c.bound.result = g.met.S.RowSource.same_bound c.read.new.source c.draft_all.new.source c.in_ok-draft_all.ensures.stays ∙ g.met.S.RowSource.same_bound c.args.source.now c.read.new.source c.in_ok-place.ensures.stays ∙ sym c.bound.ensures.bound in
+    proposed g.S.RowSource.bears (g.S.RowSource.shows c.draft_all.new.source) c.bound.result c.args.node (row_in own) (kept_of c.draft_all.new.searcher.rows) c.draft_all.new.draft c.in_ok-hand_out.field-0.items own c.bound.ensures.limit
     (subst (λ (b : Cost). AreKept g.S.RowSource.bears (g.S.RowSource.shows c.draft_all.new.source) b (kept_of c.draft_all.new.searcher.rows)) bound c.in_ok-draft_all.ensures.kept)
-    (subst (λ (x : ℕ). kept_of c.draft_all.new.searcher.rows x ≡ Some k.original) c.in_ok-own.ensures.node (c.in_ok-draft_all.ensures.more c.in_ok-own.own.node k.original k.here))
-    k.same.row
+    (subst (λ (x : ℕ). kept_of c.draft_all.new.searcher.rows x ≡ Some own) there.1.node (c.in_ok-draft_all.ensures.more own.node own there.0))
+    refl
     (ap (λ (r : Row). r.rank) (sym (c.behind-own.view_is ∙ c.deref.ensures)) ∙ nothing c.behind-own.inside.rank c.if-is_some.ensures)
-    (subst (λ (r : Row). IsDrafted c.bound.result c.args.node r r.inn (kept_of c.draft_all.new.searcher.rows) c.draft_all.new.draft) c.deref-2.ensures c.in_ok-draft_all.ensures.draft)
+    (subst (λ (r : Row). IsDrafted c.bound.result c.args.node r r.inn (kept_of c.draft_all.new.searcher.rows) c.draft_all.new.draft) (c.deref-2.ensures ∙ c.in_ok-row.ensures) c.in_ok-draft_all.ensures.draft)
     (subst (λ (ns : List ℕ). AreListed (kept_of c.draft_all.new.searcher.rows) ns c.in_ok-hand_out.field-0.items) c.deref-3.ensures.value c.in_ok-hand_out.ensures)
 
 pub returns-clause-bears : goal.returns-clause-bears
@@ -82,12 +84,13 @@ returns-clause-shows g c = all_listed_are g.S.RowSource.bears (g.S.RowSource.sho
 
 pub returns-clause-contracted : goal.returns-clause-contracted
 returns-clause-contracted g c = λ memory unseen.
-    let k = c.in_ok-own.ensures.copy in
-    let a = c.in_ok-draft_all.ensures.kept c.in_ok-own.own.node k.original (c.in_ok-draft_all.ensures.more c.in_ok-own.own.node k.original k.here) in
-    let unranked = ap (λ (r : Row). r.rank) (sym (c.behind-own.view_is ∙ c.deref.ensures ∙ k.same.row)) ∙ nothing c.behind-own.inside.rank c.if-is_some.ensures in
+    let there = (read_there g.S.RowSource.bears (g.S.RowSource.shows c.read.new.source) (g.S.RowSource.bound_of c.args.source.now) c.args.node c.read.new.self c.in_ok-place.place c.at-own.result.now c.in_ok-place.ensures.here c.at-own.ensures) in
+    let own = c.at-own.result.now in
+    let a = c.in_ok-draft_all.ensures.kept own.node own (c.in_ok-draft_all.ensures.more own.node own there.0) in
+    let unranked = ap (λ (r : Row). r.rank) (sym (c.behind-own.view_is ∙ c.deref.ensures)) ∙ nothing c.behind-own.inside.rank c.if-is_some.ensures in
     record {
-      row = k.original;
-      of_node = a.node ∙ c.in_ok-own.ensures.node;
+      row = own;
+      of_node = there.1.node;
       bears = a.bears;
       shows = a.shows;
       ranked = (λ done. absurd (cc), λ some. absurd (some unranked));

@@ -1,8 +1,8 @@
 use Rattle.std.proofs.Common.{List, Option, Some, sym, subst, ◌∙◌}
 use Rattle.ch_witness.specs.declared.label.Label.{Label}
-use Rattle.ch_witness.specs.declared.tree.Step.{Step}
+use Rattle.ch_witness.specs.declared.step.Step.{Step}
 use Rattle.ch_witness.specs.Ways.{IsWay, IsWayOf}
-use Rattle.ch_witness.proofs.Tracing.{seen_of}
+use Rattle.ch_witness.specs.Tree.{seen_of}
 use Rattle.ch_witness.proofs.searcher.known_way.Goals as goal
 
 pub way_to-requires-clause-apart : goal.way_to-requires-clause-apart

@@ -4,7 +4,8 @@ use Rattle.std.specs.List.{slice_get}
 use Rattle.ch_graph.specs.Walk.{Along}
 use Rattle.ch_laws.specs.Verdicts.{SeenArc}
 use Rattle.ch_overlay.specs.Source.{row_of}
-use Rattle.ch_witness.proofs.Tracing.{IsTraced, seen_of, places_to, traced_start, traced_place, traced_earlier, traced_more, traced_whole}
+use Rattle.ch_witness.specs.Tree.{seen_of}
+use Rattle.ch_witness.proofs.Tracing.{IsTraced, places_to, traced_start, traced_place, traced_earlier, traced_more, traced_whole}
 use Rattle.ch_witness.proofs.trace.way_to.Goals as goal
 
 pub steps-init : goal.steps-init
@@ -28,7 +29,8 @@ pub steps-preserved : goal.steps-preserved
 steps-preserved c =
     let traced : IsTraced c.args.rule c.args.steps.now c.args.target c.args.label.cost c.steps.backward.items (Some c.in-Some.place) = subst (IsTraced c.args.rule c.args.steps.now c.args.target c.args.label.cost c.steps.backward.items) c.in-Some.is c.steps.invariant in
     subst (λ (xs : List ℕ). IsTraced c.args.rule c.args.steps.now c.args.target c.args.label.cost xs c.index-steps-place.result.before) (sym c.in_ok-push-2.ensures.ok)
-    (traced_more c.args.rule c.args.steps.now c.requires.steps c.args.target c.args.label.cost c.steps.backward.items c.in-Some.place c.index-steps-place.result (at_place c) traced)
+    (subst (λ (x : ℕ). IsTraced c.args.rule c.args.steps.now c.args.target c.args.label.cost (c.steps.backward.items ++ x ∷ []) c.index-steps-place.result.before) (sym c.index-steps-place.result.of_node)
+    (traced_more c.args.rule c.args.steps.now c.requires.steps c.args.target c.args.label.cost c.steps.backward.items c.in-Some.place c.index-steps-place.result (at_place c) traced))
 
 -- what is left when there is no step before
 done : {r : _} {steps : _} {target : _} {cost : _} {nodes : _} (before : Option ℕ) → ((k : ℕ) → before ≡ Some k → ⊥) → IsTraced r steps target cost nodes before → IsTraced r steps target cost nodes None

@@ -17,5 +17,5 @@ returns-clause-direct g c = λ k h other.
 pub returns-clause-rows : goal.returns-clause-rows
 returns-clause-rows g c = rows _ c.in_ok-tree.tree.steps.items c.in_ok-tree.ensures.tree.grown
 
-pub returns-clause-copies : goal.returns-clause-copies
-returns-clause-copies g c = all_seen (IsKept (kept_of c.new-2.new.rows)) c.in_ok-tree.tree.steps.items c.in_ok-tree.ensures.copies
+pub returns-clause-kept_rows : goal.returns-clause-kept_rows
+returns-clause-kept_rows g c = all_seen (IsKept (kept_of c.new-2.new.rows)) c.in_ok-tree.tree.steps.items c.in_ok-tree.ensures.kept_rows

@@ -1,64 +1,78 @@
 use Rattle.std.proofs.Common.{ℕ, ◌≡◌, ◌<◌, List, length, Option, None, Some, false, slice_index_or, refl, sym, inl, subst, ap, ◌∙◌, arith}
 use Rattle.std.specs.Option.{is_some}
-use Rattle.ch_cost.specs.Cost.{IsInLimit}
+use Rattle.ch_cost.specs.declared.cost.Cost.{Cost}
+use Rattle.ch_cost.specs.Cost.{IsInLimit, IsOfWalks}
 use Rattle.ch_laws.specs.declared.entry.Entry.{Entry}
-use Rattle.ch_laws.specs.Rows.{Row}
-use Rattle.ch_overlay.specs.Source.{row_in, NamesAlone}
-use Rattle.ch_witness.specs.declared.tree.Step.{Step}
+use Rattle.ch_laws.specs.Rows.{Row, Lists}
+use Rattle.ch_overlay.specs.declared.source.Seen.{Seen}
+use Rattle.ch_overlay.specs.Source.{row_in}
+use Rattle.ch_witness.specs.declared.step.Step.{Step}
 use Rattle.ch_witness.specs.Frontier.{AreFollowed}
-use Rattle.ch_witness.specs.Tree.{labels_of, IsTree, IsLater, step_from}
+use Rattle.ch_witness.specs.Kept.{kept_of, read_there, IsAnswer, IsKept}
+use Rattle.ch_witness.specs.Tree.{labels_of, IsTree, IsLater}
 use Rattle.ch_witness.proofs.Growing.{tree_grown, step_later, names_kept}
 use Rattle.ch_witness.proofs.Limits.{reached_fits, entries_fit, entries_light}
 use Rattle.ch_witness.proofs.tree.Tree.go_on_from.Given as given
 use Rattle.ch_witness.proofs.tree.Tree.go_on_from.Goals as goal
 
-pub follow-requires-clause-fits : goal.follow-requires-clause-fits
-follow-requires-clause-fits g c = reached_fits c.args.rule c.args.self.now.steps.items _ c.args.reached.node _ (omega (arith, c.requires.few)) c.requires.cutoff c.in_ok-seen.ensures.bound (c.requires.tree.reached c.args.reached.node _ c.requires.label)
-
-pub follow-requires-clause-entries : goal.follow-requires-clause-entries
-follow-requires-clause-entries g c =
-    let out : c.deref-3.result.now ≡ (row_in c.in_ok-seen.seen).out = c.deref-3.ensures.value ∙ ap (λ (r : Row). r.out) (c.behind-seen-2.view_is ∙ c.deref-2.ensures) in
-    subst (λ (es : List Entry). (k : ℕ) (d : Entry) → k < length es → IsInLimit (slice_index_or es k d).cost) (sym out) (entries_fit _ c.in_ok-seen.seen c.in_ok-seen.ensures.bound c.in_ok-seen.ensures.row)
-
 nothing : (o : Option ℕ) → false ≡ is_some o → o ≡ None
 nothing None e = refl
 nothing (Some k) e = absurd (cc)
 
-unranked : (g : given.Over) (c : goal.In_ok-push g) → (row_in c.in_ok-seen.seen).rank ≡ None
+pub follow-requires-clause-fits : goal.follow-requires-clause-fits
+follow-requires-clause-fits g c =
+    let answer = c.in_ok-kept_at.ensures.here.answer in
+    reached_fits c.args.rule c.args.self.now.steps.items _ c.args.reached.node _ (omega (arith, c.requires.few)) c.requires.cutoff answer.limit (c.requires.tree.reached c.args.reached.node _ c.requires.label)
+
+pub follow-requires-clause-entries : goal.follow-requires-clause-entries
+follow-requires-clause-entries g c =
+    let answer = (read_there g.S.RowSource.bears (g.S.RowSource.shows c.read.new.source) (g.S.RowSource.bound_of c.args.source.now) c.args.reached.node c.read.new.self c.in_ok-kept_at.kept_at c.at-seen.result.now c.in_ok-kept_at.ensures.here c.at-seen.ensures).1 in
+    let out : c.deref-3.result.now ≡ (row_in c.at-seen.result.now).out = c.deref-3.ensures.value ∙ ap (λ (r : Row). r.out) (c.behind-seen-2.view_is ∙ c.deref-2.ensures) in
+    subst (λ (es : List Entry). (k : ℕ) (d : Entry) → k < length es → IsInLimit (slice_index_or es k d).cost) (sym out) (entries_fit _ c.at-seen.result.now answer.limit answer.row)
+
+-- the answer that was read is kept, and the source stands by it
+there : (g : given.Over) (c : goal.In_ok-push g) → IsKept (kept_of c.read.new.self) c.at-seen.result.now × IsAnswer g.S.RowSource.bears (g.S.RowSource.shows c.read.new.source) (g.S.RowSource.bound_of c.args.source.now) c.args.reached.node c.at-seen.result.now
+there g c = read_there g.S.RowSource.bears (g.S.RowSource.shows c.read.new.source) (g.S.RowSource.bound_of c.args.source.now) c.args.reached.node c.read.new.self c.in_ok-kept_at.kept_at c.at-seen.result.now c.in_ok-kept_at.ensures.here c.at-seen.ensures
+
+unranked : (g : given.Over) (c : goal.In_ok-push g) → (row_in c.at-seen.result.now).rank ≡ None
 unranked g c = ap (λ (r : Row). r.rank) (sym (c.behind-seen.view_is ∙ c.deref.ensures)) ∙ nothing c.behind-seen.inside.rank c.if-is_some.ensures
 
-followed : (g : given.Over) (c : goal.In_ok-push g) → AreFollowed c.args.rule (row_in c.in_ok-seen.seen).out c.args.reached.cost (length c.args.self.now.steps.items) (labels_of c.args.self.now.frontier) (labels_of c.follow.new.frontier)
+followed : (g : given.Over) (c : goal.In_ok-push g) → AreFollowed c.args.rule (row_in c.at-seen.result.now).out c.args.reached.cost (length c.args.self.now.steps.items) (labels_of c.args.self.now.frontier) (labels_of c.follow.new.frontier)
 followed g c =
-    let out : c.deref-3.result.now ≡ (row_in c.in_ok-seen.seen).out = c.deref-3.ensures.value ∙ ap (λ (r : Row). r.out) (c.behind-seen-2.view_is ∙ c.deref-2.ensures) in
+    let out : c.deref-3.result.now ≡ (row_in c.at-seen.result.now).out = c.deref-3.ensures.value ∙ ap (λ (r : Row). r.out) (c.behind-seen-2.view_is ∙ c.deref-2.ensures) in
     let place : c.len-place.result ≡ length c.args.self.now.steps.items = omega (arith, c.len-place.ensures, c.args.self.now.steps.ok) in
-    subst (λ (n : ℕ). AreFollowed c.args.rule (row_in c.in_ok-seen.seen).out c.args.reached.cost n (labels_of c.args.self.now.frontier) (labels_of c.follow.new.frontier)) place
+    subst (λ (n : ℕ). AreFollowed c.args.rule (row_in c.at-seen.result.now).out c.args.reached.cost n (labels_of c.args.self.now.frontier) (labels_of c.follow.new.frontier)) place
     (subst (λ (es : List Entry). AreFollowed c.args.rule es c.args.reached.cost c.len-place.result (labels_of c.args.self.now.frontier) (labels_of c.follow.new.frontier)) out c.in_ok-follow.ensures)
 
 pub returns-clause-tree : goal.returns-clause-tree
 returns-clause-tree g c =
-    let s : Step = step_from c.args.reached c.in_ok-seen.seen in
+    let answer = (there g c).1 in
     subst (λ (ss : List Step). IsTree c.args.rule ss (labels_of c.follow.new.frontier)) (sym c.in_ok-push.ensures.items)
-    (tree_grown c.args.rule c.args.self.now.steps.items (labels_of c.args.self.now.frontier) (labels_of c.follow.new.frontier) s c.requires.tree (ap (λ (v : ℕ). labels_of c.args.self.now.frontier v) c.in_ok-seen.ensures.node ∙ c.requires.label) (λ k t is e. c.requires.new k t is (e ∙ c.in_ok-seen.ensures.node)) (unranked g c) (entries_light _ c.in_ok-seen.seen c.in_ok-seen.ensures.bound c.in_ok-seen.ensures.row) (followed g c))
+    (tree_grown c.args.rule c.args.self.now.steps.items (labels_of c.args.self.now.frontier) (labels_of c.follow.new.frontier) _ c.requires.tree
+    (ap (λ (s : Seen). labels_of c.args.self.now.frontier s.node) c.of.ensures ∙ ap (λ (v : ℕ). labels_of c.args.self.now.frontier v) answer.node ∙ c.requires.label)
+    (λ k t is e. c.requires.new k t is (e ∙ ap (λ (s : Seen). s.node) c.of.ensures ∙ answer.node))
+    (ap (λ (s : Seen). (row_in s).rank) c.of.ensures ∙ unranked g c)
+    (subst (λ (s : Seen). (v : ℕ) (d : Cost) → Lists (row_in s).out v d → IsOfWalks 1 d) (sym c.of.ensures) (entries_light _ c.at-seen.result.now answer.limit answer.row))
+    (subst (λ (s : Seen). AreFollowed c.args.rule (row_in s).out c.args.reached.cost (length c.args.self.now.steps.items) (labels_of c.args.self.now.frontier) (labels_of c.follow.new.frontier)) (sym c.of.ensures) (followed g c)))
 
 pub returns-clause-later : goal.returns-clause-later
 returns-clause-later g c =
     subst (λ (ss : List Step). IsLater c.args.self.now.steps.items ss (labels_of c.args.self.now.frontier) (labels_of c.follow.new.frontier)) (sym c.in_ok-push.ensures.items)
-    (step_later c.args.self.now.steps.items (step_from c.args.reached c.in_ok-seen.seen) (labels_of c.args.self.now.frontier) (labels_of c.follow.new.frontier) (followed g c).kept)
+    (step_later c.args.self.now.steps.items _ (labels_of c.args.self.now.frontier) (labels_of c.follow.new.frontier) (followed g c).kept)
 
 pub returns-clause-whole : goal.returns-clause-whole
 returns-clause-whole g c = λ named all.
-    let seen = c.in_ok-seen.seen in
-    let kept = c.in_ok-seen.ensures.copy in
-    let now = c.in_ok-seen.ensures.names (all c.args.reached.node _ c.requires.label) named seen.node kept.original kept.here in
-    names_kept c.args.rule (g.S.RowSource.whole c.args.source.now) (g.S.RowSource.whole c.read.new.source) (λ v h. g.met.S.RowSource.still_whole c.args.source.now c.read.new.source v c.in_ok-seen.ensures.stays h) (row_in seen) c.args.reached.cost (length c.args.self.now.steps.items) (labels_of c.args.self.now.frontier) (labels_of c.follow.new.frontier) (subst (NamesAlone (g.S.RowSource.whole c.read.new.source)) (sym kept.same.row) now) all (followed g c)
+    let seen = c.at-seen.result.now in
+    let now = c.in_ok-kept_at.ensures.names (all c.args.reached.node _ c.requires.label) named seen.node seen (there g c).0 in
+    names_kept c.args.rule (g.S.RowSource.whole c.args.source.now) (g.S.RowSource.whole c.read.new.source) (λ v h. g.met.S.RowSource.still_whole c.args.source.now c.read.new.source v c.in_ok-kept_at.ensures.stays h) (row_in seen) c.args.reached.cost (length c.args.self.now.steps.items) (labels_of c.args.self.now.frontier) (labels_of c.follow.new.frontier) now all (followed g c)
 
 pub returns-clause-gone : goal.returns-clause-gone
 returns-clause-gone g c = (
-  c.in_ok-seen.seen,
-  c.in_ok-seen.ensures.copy,
+  c.at-seen.result.now,
+  (there g c).0,
   record {
-    node = c.in_ok-seen.ensures.node;
-    steps = inl (unranked g c, c.in_ok-push.ensures.items);
+    node = (there g c).1.node;
+    steps = inl (unranked g c, (_, record { seen_is = c.of.ensures; cost = refl; before = refl }, c.in_ok-push.ensures.items));
     told = λ _. (followed g c).told;
   },
 )

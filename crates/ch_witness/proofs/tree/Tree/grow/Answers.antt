@@ -16,7 +16,7 @@ turns-init g c = record {
   stays = g.met.S.RowSource.stays_self c.args.source.now;
   kept = c.requires.kept;
   more = more_refl (kept_of c.args.rows.now);
-  copies = λ h. h;
+  kept_rows = λ h. h;
   names = λ h k. h;
   whole = λ h k. k;
 }
@@ -56,7 +56,7 @@ turns-preserved g c =
       stays = g.met.S.RowSource.stays_more c.args.source.now c.turns.source c.go_on_from.new.source inv.stays c.in_ok-go_on_from.ensures.stays;
       kept = c.in_ok-go_on_from.ensures.kept;
       more = more_trans _ _ _ inv.more c.in_ok-go_on_from.ensures.more;
-      copies = λ h. seen_gone (IsKept (kept_of c.go_on_from.new.rows)) c.args.rule c.in-Some.reached gone.0 _ _ _ _ gone.1 (λ k s is. kept_still (kept_of c.turns.rows) (kept_of c.go_on_from.new.rows) s.seen c.in_ok-go_on_from.ensures.more (inv.copies h k s is)) gone.2;
+      kept_rows = λ h. seen_gone (IsKept (kept_of c.go_on_from.new.rows)) c.args.rule c.in-Some.reached gone.0 _ _ _ _ gone.1 (λ k s is. kept_still (kept_of c.turns.rows) (kept_of c.go_on_from.new.rows) s.seen.value c.in_ok-go_on_from.ensures.more (inv.kept_rows h k s is)) gone.2;
       names = λ h k. c.in_ok-go_on_from.ensures.names (inv.names h k) (all_settled (g.S.RowSource.whole c.turns.source) _ _ c.in-Some.reached now (inv.whole h k));
       whole = λ h k. c.in_ok-go_on_from.ensures.whole (inv.names h k) (all_settled (g.S.RowSource.whole c.turns.source) _ _ c.in-Some.reached now (inv.whole h k));
     }
@@ -67,8 +67,8 @@ returns-after-turns-clause-tree g c = c.turns.invariant.tree
 pub returns-after-turns-clause-later : goal.returns-after-turns-clause-later
 returns-after-turns-clause-later g c = c.turns.invariant.later
 
-pub returns-after-turns-clause-copies : goal.returns-after-turns-clause-copies
-returns-after-turns-clause-copies g c = c.turns.invariant.copies
+pub returns-after-turns-clause-kept_rows : goal.returns-after-turns-clause-kept_rows
+returns-after-turns-clause-kept_rows g c = c.turns.invariant.kept_rows
 
 pub returns-after-turns-clause-kept : goal.returns-after-turns-clause-kept
 returns-after-turns-clause-kept g c = c.turns.invariant.kept
@@ -88,8 +88,8 @@ returns-in_default-clause-tree g c = tree_same c.args.rule c.turns.self.steps.it
 pub returns-in_default-clause-later : goal.returns-in_default-clause-later
 returns-in_default-clause-later g c = later_more _ _ _ _ _ _ c.turns.invariant.later (later_same c.turns.self.steps.items _ _ c.in_default.ensures.stays)
 
-pub returns-in_default-clause-copies : goal.returns-in_default-clause-copies
-returns-in_default-clause-copies g c = c.turns.invariant.copies
+pub returns-in_default-clause-kept_rows : goal.returns-in_default-clause-kept_rows
+returns-in_default-clause-kept_rows g c = c.turns.invariant.kept_rows
 
 pub returns-in_default-clause-kept : goal.returns-in_default-clause-kept
 returns-in_default-clause-kept g c = c.turns.invariant.kept
@@ -109,8 +109,8 @@ returns-then-done-targets-clause-tree g c = tree_settled c.args.rule c.turns.sel
 pub returns-then-done-targets-clause-later : goal.returns-then-done-targets-clause-later
 returns-then-done-targets-clause-later g c = later_more _ _ _ _ _ _ c.turns.invariant.later (later_settled c.turns.self.steps.items _ _ c.in-Some.reached c.in-Some.ensures.settled)
 
-pub returns-then-done-targets-clause-copies : goal.returns-then-done-targets-clause-copies
-returns-then-done-targets-clause-copies g c = c.turns.invariant.copies
+pub returns-then-done-targets-clause-kept_rows : goal.returns-then-done-targets-clause-kept_rows
+returns-then-done-targets-clause-kept_rows g c = c.turns.invariant.kept_rows
 
 pub returns-then-done-targets-clause-kept : goal.returns-then-done-targets-clause-kept
 returns-then-done-targets-clause-kept g c = c.turns.invariant.kept

@@ -11,7 +11,7 @@ invariant-turns g l = record {
   stays : g.S.RowSource.stays l.initial.source l.source;
   kept : AreKept g.S.RowSource.bears (g.S.RowSource.shows l.source) (g.S.RowSource.bound_of l.source) (kept_of l.rows);
   more : IsMore (kept_of l.initial.rows) (kept_of l.rows);
-  copies : AllSeen (IsKept (kept_of l.initial.rows)) l.initial.self.steps.items → AllSeen (IsKept (kept_of l.rows)) l.self.steps.items;
+  kept_rows : AllSeen (IsKept (kept_of l.initial.rows)) l.initial.self.steps.items → AllSeen (IsKept (kept_of l.rows)) l.self.steps.items;
   names : AllNamed (g.S.RowSource.whole l.initial.source) (kept_of l.initial.rows) → AllAre (g.S.RowSource.whole l.initial.source) (labels_of l.initial.self.frontier) → AllNamed (g.S.RowSource.whole l.source) (kept_of l.rows);
   whole : AllNamed (g.S.RowSource.whole l.initial.source) (kept_of l.initial.rows) → AllAre (g.S.RowSource.whole l.initial.source) (labels_of l.initial.self.frontier) → AllAre (g.S.RowSource.whole l.source) (labels_of l.self.frontier);
 }

@@ -2,7 +2,7 @@ use Rattle.std.proofs.Common.{List, None, refl, sym, subst, ap, ◌∙◌}
 use Rattle.ch_cost.specs.declared.cost.Cost.{Cost}
 use Rattle.ch_cost.specs.Cost.{IsWithin}
 use Rattle.ch_cost.specs.Cost.Laws.{ZERO-is}
-use Rattle.ch_witness.specs.declared.tree.Step.{Step}
+use Rattle.ch_witness.specs.declared.step.Step.{Step}
 use Rattle.ch_witness.specs.Kept.{kept_of, IsKept}
 use Rattle.ch_witness.proofs.Keeping.{kept_still}
 use Rattle.ch_witness.specs.Tree.{labels_of, IsTree, IsGoneOn, IsLater}
@@ -22,10 +22,10 @@ go_on_from-requires-clause-label g c = c.in_ok-start.ensures.here ∙ ap begun (
 pub grow-requires-clause-cutoff : goal.grow-requires-clause-cutoff
 grow-requires-clause-cutoff g c = subst (λ (b : Cost). IsWithin c.args.rule.cutoff b) (sym (g.met.S.RowSource.same_bound c.args.source.now c.go_on_from.new.source c.in_ok-go_on_from.ensures.stays)) c.requires.cutoff
 
-pub returns-clause-copies : goal.returns-clause-copies
-returns-clause-copies g c =
+pub returns-clause-kept_rows : goal.returns-clause-kept_rows
+returns-clause-kept_rows g c =
     let gone = c.in_ok-go_on_from.ensures.gone in
-    c.in_ok-grow.ensures.copies (seen_gone (IsKept (kept_of c.go_on_from.new.rows)) c.args.rule _ gone.0 c.in_ok-steps.steps.items _ _ _ gone.1 (seen_none (IsKept (kept_of c.go_on_from.new.rows)) c.in_ok-steps.steps.items c.in_ok-steps.ensures.items) gone.2)
+    c.in_ok-grow.ensures.kept_rows (seen_gone (IsKept (kept_of c.go_on_from.new.rows)) c.args.rule _ gone.0 c.in_ok-steps.steps.items _ _ _ gone.1 (seen_none (IsKept (kept_of c.go_on_from.new.rows)) c.in_ok-steps.steps.items c.in_ok-steps.ensures.items) gone.2)
 
 pub returns-clause-start : goal.returns-clause-start
 returns-clause-start g c = λ k h other.
