@@ -4,9 +4,9 @@
 //! rows and ways, and on `smallvec` for the nodes of a way. Its calls give a [`Found`]. [`search`] is for one search:
 //! it hands over the source's own answers. A [`Searcher`] is for several searches that are to rest on the same answers, in
 //! memory that is used again: it reads through its [`Rows`], which ask the source for each row once and keep the answer,
-//! and its steps say by which they went; [`Rows::hand_out`] gives the answers at the end. Their contracts carry the promise of the layer:
-//! each way goes along rows that the source showed and that are handed over with it, avoids the node, and costs what its
-//! arcs do.
+//! and its steps say which they went by; [`Rows::hand_out`] gives the answers at the end. Their contracts carry the promise
+//! of the layer: each way goes along rows that the source showed and that are handed over with it, avoids the node, and
+//! costs what its arcs do.
 #![tactic(auto)]
 
 mod error;
