@@ -14,3 +14,6 @@ pub mod LeastArc
 pub mod OneUnfolding
 pub mod Places
 pub mod LinkPlaces
+pub mod TakenRanks
+pub mod LinkTests
+pub mod Refusals

@@ -11,7 +11,7 @@ use Rattle.ch_graph.specs.LinkHalves.{ArePartsOf, AreHalvesOf, parts_in}
 
 -- A link with a middle has halves
 
-place_of : (h : Hierarchy) (x y : ℕ) (l : Link) (is : IsLink h x y l) → IsLinkAt h.links x y is.among.0
+pub place_of : (h : Hierarchy) (x y : ℕ) (l : Link) (is : IsLink h x y l) → IsLinkAt h.links x y is.among.0
 place_of h x y l is =
     let same : (d : Link) → get_or h.links is.among.0 d ≡ l = λ (d : Link). get_or_default h.links is.among.0 d l is.among.1 ∙ is.among.2 in
     record {

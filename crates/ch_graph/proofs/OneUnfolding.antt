@@ -9,7 +9,7 @@ use Rattle.ch_graph.proofs.Unfolding.{HasUnfolding, link-unfolds}
 
 -- A pair of nodes has one link
 
-not_before : (x y : ℕ) (a b : Link) → a.from ≡ x → a.to ≡ y → b.from ≡ x → b.to ≡ y → ComesBefore a b → ⊥
+pub not_before : (x y : ℕ) (a b : Link) → a.from ≡ x → a.to ≡ y → b.from ≡ x → b.to ≡ y → ComesBefore a b → ⊥
 not_before x y a b a_from a_to b_from b_to before = elim before [
   | inl less ↦ omega (arith, less)
   | inr same ↦ omega (arith, same.0, same.1)

@@ -1,6 +1,7 @@
 pub mod Walk
 pub mod Graph
 pub mod Hierarchy
+pub mod Checking
 pub mod LinkIndex
 pub mod LinkHalves
 pub mod Unfolding

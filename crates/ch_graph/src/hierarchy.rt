@@ -1,10 +1,14 @@
-ghost use Rattle.std.specs.Prelude.{◌≡◌, ◌<◌, ℕ, length, slice_index, slice_index_or, AllPairs, None, IfOk, IfSome, IfNone};
+ghost use Rattle.std.specs.Prelude.{◌≡◌, ◌<◌, ℕ, length, slice_index, slice_index_or, AllPairs, None, IfErr, IfOk, IfSome, IfNone};
 ghost use Rattle.ch_cost.specs.Cost.{of_weight};
 ghost use Rattle.ch_graph.specs.Hierarchy.{IsWellMade, IsLinkAt, ComesBefore};
+ghost use Rattle.ch_graph.specs.declared.error.HierarchyError.TheVariants.{OutOfMemory};
+ghost use Rattle.ch_graph.specs.Checking.{IsHierarchyRefusal};
 ghost use Rattle.ch_graph.specs.LinkIndex.{IsIndexOf};
 ghost use Rattle.ch_graph.specs.LinkHalves.{AreHalvesOf, ArePartsOf};
 ghost use Rattle.ch_graph.specs.declared.link.Link.{Link};
 
+use crate::checking;
+use crate::error::HierarchyError;
 use crate::link::Link;
 use crate::link_halves::{LinkHalves, Parts};
 use crate::link_index::LinkIndex;
@@ -57,6 +61,26 @@ impl Hierarchy {
         let index = LinkIndex::none(alloc);
         let halves = LinkHalves::none(alloc);
         Hierarchy::with_index(ranks, links, bound, index, halves)
+    }
+
+    /// The hierarchy of these ranks, links and bound, as [`Hierarchy::new`] makes it, where they are well made, and else
+    /// why they aren't. They may be any.
+    ///
+    /// It is refused only where it isn't well made, or for want of memory. Takes a byte a node while it runs. It looks at
+    /// each rank and each link once, and looks for the halves of each link among all. All are dropped where they are
+    /// refused. The hierarchy has no index; [`Hierarchy::indexed`] makes one of what was found to be well made.
+    pub fn checked(
+        alloc: Global,
+        ranks: Vec<u32>,
+        links: Vec<Link>,
+        bound: Cost,
+    ) -> Result<Hierarchy, HierarchyError>
+        ensures hierarchy { IfOk result (λ h. h ≡ record { ranks = ranks.items; links = links.items; bound = bound }) }
+        ensures refused { IfErr result (IsHierarchyRefusal (record { ranks = ranks.items; links = links.items; bound = bound })) }
+        ensures accepted { IsWellMade (record { ranks = ranks.items; links = links.items; bound = bound }) → IfErr result (λ e. e ≡ OutOfMemory) }
+    {
+        checking::check(alloc, ranks.as_slice(), links.as_slice(), bound)?;
+        Ok(Hierarchy::new(ranks, links, bound))
     }
 
     /// The same hierarchy as by [`Hierarchy::new`], with an index, so that a link is looked for among those that leave

@@ -9,6 +9,7 @@
 //! are kept.
 #![tactic(auto)]
 
+mod checking;
 mod error;
 mod frontier;
 mod graph;
@@ -23,7 +24,7 @@ mod road;
 mod search;
 mod step;
 
-pub use error::GraphError;
+pub use error::{GraphError, HierarchyError};
 pub use graph::Graph;
 pub use hierarchy::{Hierarchy, LinkId};
 pub use laws::{

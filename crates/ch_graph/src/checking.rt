@@ -1,0 +1,170 @@
+ghost use Rattle.std.specs.Prelude.{◌≡◌, ◌≢◌, ◌<◌, ◌↔◌, ℕ, length, slice_index, All, AllPairs, Some, ◌-◌, ◌^◌, ◌≤◌, IfErr, IfNone, IfOk, IfSome, IsTrue, OnOk};
+ghost use Rattle.ch_cost.specs.Cost.{◌⊕◌, cost_of_arcs};
+ghost use Rattle.ch_graph.specs.declared.link.Link.{Link};
+ghost use Rattle.ch_graph.specs.Hierarchy.{ComesBefore, IsLinkWellMade, IsWellMade};
+ghost use Rattle.ch_graph.specs.Checking.{ComesNext, HaveSum, IsAllowed, IsFirstWithout, IsHierarchyRefusal, IsLow, IsNewRank, IsWellMadeAt};
+
+use crate::error::HierarchyError;
+use crate::hierarchy::find_link;
+use crate::link::Link;
+use ch_cost::Cost;
+use std::alloc::{AllocError, Global};
+
+/// Tests whether these ranks, these links and this bound make a hierarchy, and else tells why they don't.
+///
+/// Takes a byte a node. It looks at each rank and each link once, and looks for the halves of each link.
+pub fn check(
+    alloc: Global,
+    ranks: &[u32],
+    links: &[Link],
+    bound: Cost,
+) -> Result<(), HierarchyError>
+    ensures made { OnOk result (IsWellMade (record { ranks = ranks.now; links = links.now; bound = bound })) }
+    ensures refused { IfErr result (IsHierarchyRefusal (record { ranks = ranks.now; links = links.now; bound = bound })) }
+{
+    if ranks.len() > 1 << 25 {
+        return Err(HierarchyError::TooManyNodes);
+    }
+    if !bound.is_within(greatest_bound(ranks)) {
+        return Err(HierarchyError::BoundTooBig);
+    }
+    if let Some(place) = first_bad_rank(alloc, ranks)? {
+        return Err(HierarchyError::BadRank(place));
+    }
+    if let Some(place) = first_out_of_order(links) {
+        return Err(HierarchyError::LinkOutOfOrder(place));
+    }
+    if let Some(place) = first_bad_link(ranks, links, bound) {
+        return Err(HierarchyError::BadLink(place));
+    }
+    Ok(())
+}
+
+// The greatest bound that a hierarchy of so many nodes as there are ranks can have.
+fn greatest_bound(ranks: &[u32]) -> Cost
+    requires { length ranks.now ≤ 2 ^ 25 }
+    ensures { result ≡ cost_of_arcs (length ranks.now - 1) (2 ^ 32 - 1) }
+{
+    let nodes = ranks.len() as u32;
+    Cost::of_arcs(nodes.saturating_sub(1), u32::MAX)
+}
+
+// The place of the first rank that isn't below the number of ranks, or that stands at an earlier place, or none where
+// there is no such rank. Takes a byte a rank.
+fn first_bad_rank(alloc: Global, ranks: &[u32]) -> Result<Option<usize>, AllocError>
+    ensures found { IfOk result (λ found. IfSome found (IsFirstWithout (IsNewRank ranks.now) (length ranks.now))) }
+    ensures none { IfOk result (λ found. IfNone found (All (λ r. r < length ranks.now) ranks.now × AllPairs (λ q r. q ≢ r) ranks.now)) }
+{
+    let mut taken = vec![in alloc; false; ranks.len()]?;
+    'ranks: for place in 0..ranks.len() {
+        let rank = ranks[place] as usize;
+        if rank >= ranks.len() || taken[rank] {
+            return Ok(Some(place));
+        }
+        taken[rank] = true;
+    }
+    Ok(None)
+}
+
+// The place of the first link that doesn't come after the one before it, or none where each does.
+fn first_out_of_order(links: &[Link]) -> Option<usize>
+    ensures found { IfSome result (IsFirstWithout (ComesNext links.now) (length links.now)) }
+    ensures none { IfNone result (AllPairs ComesBefore links.now) }
+{
+    'links: for place in 1..links.len() {
+        if !comes_before(links[place - 1], links[place]) {
+            return Some(place);
+        }
+    }
+    None
+}
+
+// Whether a link comes before another one.
+fn comes_before(link: Link, later: Link) -> bool
+    ensures { IsTrue result ↔ ComesBefore link later }
+{
+    (link.from < later.from) | ((link.from == later.from) & (link.to < later.to))
+}
+
+// The place of the first link that isn't well made, or none where each is.
+fn first_bad_link(ranks: &[u32], links: &[Link], bound: Cost) -> Option<usize>
+    requires { AllPairs ComesBefore links.now }
+    ensures found { IfSome result (IsFirstWithout (IsWellMadeAt (record { ranks = ranks.now; links = links.now; bound = bound })) (length links.now)) }
+    ensures none { IfNone result (All (IsLinkWellMade (record { ranks = ranks.now; links = links.now; bound = bound })) links.now) }
+{
+    'links: for place in 0..links.len() {
+        if !is_link_well_made(ranks, links, bound, links[place]) {
+            return Some(place);
+        }
+    }
+    None
+}
+
+// Whether a link is well made in the hierarchy of these ranks, these links and this bound.
+fn is_link_well_made(ranks: &[u32], links: &[Link], bound: Cost, link: Link) -> bool
+    requires { AllPairs ComesBefore links.now }
+    ensures { IsTrue result ↔ IsLinkWellMade (record { ranks = ranks.now; links = links.now; bound = bound }) link }
+{
+    is_allowed(ranks.len(), bound, link) & has_halves(ranks, links, link)
+}
+
+// Whether a link is between two different ones of so many nodes, and costs something and no more than the bound.
+fn is_allowed(nodes: usize, bound: Cost, link: Link) -> bool
+    ensures { IsTrue result ↔ IsAllowed nodes bound link }
+{
+    let from = link.from as usize;
+    let to = link.to as usize;
+    let has_ends = (from < nodes) & (to < nodes) & (from != to);
+    let has_cost = Cost::ZERO.is_below(link.cost) & link.cost.is_within(bound);
+    has_ends & has_cost
+}
+
+// Whether a link has halves where it has a middle.
+fn has_halves(ranks: &[u32], links: &[Link], link: Link) -> bool
+    requires { AllPairs ComesBefore links.now }
+    ensures { IsTrue result ↔ ((m : ℕ) → link.middle ≡ Some m → IsLow ranks.now link m × HaveSum links.now link m) }
+{
+    let Some(middle) = link.middle else {
+        return true;
+    };
+    is_low(ranks, link, middle) & have_sum(links, link, middle)
+}
+
+// Whether a middle ranks below both ends of a link.
+fn is_low(ranks: &[u32], link: Link, middle: u32) -> bool
+    ensures { IsTrue result ↔ IsLow ranks.now link middle }
+{
+    let rank = rank_of(ranks, middle);
+    (rank < rank_of(ranks, link.from)) & (rank < rank_of(ranks, link.to))
+}
+
+// The rank of a node, and 0 for a number that is no node.
+fn rank_of(ranks: &[u32], node: u32) -> u32
+    ensures { result ≡ slice_index ranks.now node }
+{
+    ranks.get(node as usize).copied().unwrap_or(0)
+}
+
+// Whether two links meet at a middle of a link and cost together what it costs.
+fn have_sum(links: &[Link], link: Link, middle: u32) -> bool
+    requires { AllPairs ComesBefore links.now }
+    ensures { IsTrue result ↔ HaveSum links.now link middle }
+{
+    let Some(first) = find_link(links, link.from, middle) else {
+        return false;
+    };
+    let Some(second) = find_link(links, middle, link.to) else {
+        return false;
+    };
+    is_sum(link.cost, links[first.0].cost, links[second.0].cost)
+}
+
+// Whether a cost is the sum of two, which may be of any size.
+fn is_sum(whole: Cost, first: Cost, second: Cost) -> bool
+    ensures { IsTrue result ↔ (whole ≡ first ⊕ second) }
+{
+    match first.plus_within(second, whole) {
+        None => false,
+        Some(sum) => sum == whole,
+    }
+}
