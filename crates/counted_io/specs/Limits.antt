@@ -1,9 +1,9 @@
 -- What a limit of calls means for whoever reads or writes by many loops over one reader or writer.
-use Rattle.std.specs.Prelude.{ℕ, suc, ◌≡◌, ◌+◌, ◌⊎◌, ⊤, Result, Ok, Err}
+use Rattle.std.specs.Prelude.{ℕ, suc, ◌≡◌, ◌+◌, ⊤, Result, Ok, Err}
 use Rattle.std.specs.IoError.{error_kind}
 use Rattle.std.specs.declared.io.Error.{Error}
 use Rattle.std.specs.declared.io.ErrorKind.TheVariants.{Interrupted}
-use Rattle.counted_io.specs.Calls.{IsCalled, IsFailure, StopsBy, Takings}
+use Rattle.counted_io.specs.Calls.{Calls, IsFailure, StopsBy, Takings}
 pub mod Laws
 
 -- the call of a reader did not fail: it gave bytes, or none at the end, or it was interrupted
@@ -15,8 +15,10 @@ abbrev pub NoFailure : {S : Type 0} → (S → S → Result ℕ Error → Type 0
 NoFailure step old new answer = step old new answer × GivesOrWaits answer
 
 -- As many calls of a reader were made as are gone of those that were left, and none of them failed.
-abbrev pub IsRead : {S : Type 0} → (S → S → Result ℕ Error → Type 0) → ℕ → ℕ → S → S → Type 0
-IsRead step before after old new = IsCalled (NoFailure step) before after old new
+pub record IsRead {S : Type 0} (step : S → S → Result ℕ Error → Type 0) (before after : ℕ) (old new : S) : Type 0 where
+  pub calls : ℕ
+  pub counted : before ≡ after + calls
+  pub none_failed : Calls (NoFailure step) calls old new
 
 -- At most so many calls of a reader were made, and none of them failed.
 abbrev pub IsReadWithin : {S : Type 0} → (S → S → Result ℕ Error → Type 0) → ℕ → S → S → Type 0
@@ -28,9 +30,10 @@ pub data GivesOut {S : Type 0} (step : S → S → Result ℕ Error → Type 0) 
   fails : (after : ℕ) {before : S} {answer : Result ℕ Error} → IsRead step most (suc after) old before → step before new answer → IsFailure answer → GivesOut step most old new
   ends : IsRead step most 0 old new → GivesOut step most old new
 
--- At most so many calls of a reader were made. Where it is told that the reader failed, it gave out; else no call failed.
-abbrev pub ReadsWithin : {S : Type 0} → (S → S → Result ℕ Error → Type 0) → ℕ → Type 0 → S → S → Type 0
-ReadsWithin step most failed old new = (failed × GivesOut step most old new) ⊎ ((failed → ⊥) × IsReadWithin step most old new)
+-- At most so many calls of a reader were made. It gave out, where it is told that it failed, and else no call failed.
+pub data ReadsWithin {S : Type 0} (step : S → S → Result ℕ Error → Type 0) (most : ℕ) (failed : Type 0) (old new : S) : Type 0 where
+  gives_out : failed → GivesOut step most old new → ReadsWithin step most failed old new
+  reads_on : (failed → ⊥) → IsReadWithin step most old new → ReadsWithin step most failed old new
 
 -- As many calls of a writer were made as are gone of those that were left. None of them failed, and so many bytes were taken.
 abbrev pub IsWritten : {S : Type 0} → (S → S → Result ℕ Error → Type 0) → ℕ → ℕ → ℕ → S → S → Type 0

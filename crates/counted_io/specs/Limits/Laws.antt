@@ -18,24 +18,28 @@ module _ {S : Type 0} (step : S → S → Result ℕ Error → Type 0) where
 module _ {S : Type 0} (step : S → S → Result ℕ Error → Type 0) where
   -- no call
   pub read_none : (left : ℕ) (a : S) → IsRead step left left a a
-  read_none left a = (0, omega arith, Calls.no_call)
+  read_none left a = record { calls = 0; counted = omega arith; none_failed = Calls.no_call }
 
   -- one loop after the other
-  pub read_then : (first mid last : ℕ) {a b c : S} → IsRead step first mid a b → IsRead step mid last b c → IsRead step first last a c
-  read_then first mid last h k = (h.0 + k.0, omega (arith, h.1, k.1), calls_then (NoFailure step) h.2 k.2)
+  pub read_then : {first mid last : ℕ} {a b c : S} → IsRead step first mid a b → IsRead step mid last b c → IsRead step first last a c
+  read_then h k = record { calls = h.calls + k.calls; counted = omega (arith, h.counted, k.counted); none_failed = calls_then (NoFailure step) h.none_failed k.none_failed }
 
   -- and the second one gave out
-  pub gives_out_then : (first mid : ℕ) {a b c : S} → IsRead step first mid a b → GivesOut step mid b c → GivesOut step first a c
-  gives_out_then first mid h (GivesOut.fails after reads last is) = GivesOut.fails after (read_then first mid (suc after) h reads) last is
-  gives_out_then first mid h (GivesOut.ends reads) = GivesOut.ends (read_then first mid 0 h reads)
+  pub gives_out_then : {first mid : ℕ} {a b c : S} → IsRead step first mid a b → GivesOut step mid b c → GivesOut step first a c
+  gives_out_then h (GivesOut.fails after reads last is) = GivesOut.fails after (read_then h reads) last is
+  gives_out_then h (GivesOut.ends reads) = GivesOut.ends (read_then h reads)
 
-  pub reads_then : (first mid : ℕ) (failed : Type 0) {a b c : S} → IsRead step first mid a b → ReadsWithin step mid failed b c → ReadsWithin step first failed a c
-  reads_then first mid failed h (inl out) = inl (out.0, gives_out_then first mid h out.1)
-  reads_then first mid failed h (inr in_all) = inr (in_all.0, (in_all.1.0, read_then first mid in_all.1.0 h in_all.1.1))
+  pub reads_then : {first mid : ℕ} {failed : Type 0} {a b c : S} → IsRead step first mid a b → ReadsWithin step mid failed b c → ReadsWithin step first failed a c
+  reads_then h (ReadsWithin.gives_out so out) = ReadsWithin.gives_out so (gives_out_then h out)
+  reads_then h (ReadsWithin.reads_on not_so all) = ReadsWithin.reads_on not_so (all.0, read_then h all.1)
 
   -- what is refused after calls that did not fail
-  pub refused_after : (first left : ℕ) (failed : Type 0) {a b : S} → IsRead step first left a b → (failed → ⊥) → ReadsWithin step first failed a b
-  refused_after first left failed h not_failed = inr (not_failed, (left, h))
+  pub refused_after : {first left : ℕ} {failed : Type 0} {a b : S} → IsRead step first left a b → (failed → ⊥) → ReadsWithin step first failed a b
+  refused_after {left = left} h not_so = ReadsWithin.reads_on not_so (left, h)
+
+  -- what is refused because the reader gave out after them
+  pub failed_after : {first mid : ℕ} {failed : Type 0} {a b c : S} → IsRead step first mid a b → failed → GivesOut step mid b c → ReadsWithin step first failed a c
+  failed_after h so out = ReadsWithin.gives_out so (gives_out_then h out)
 
   waits_give : {n : ℕ} {a b : S} → Waits step n a b → Calls (NoFailure step) n a b
   waits_give Waits.no_call = Calls.no_call
@@ -44,13 +48,13 @@ module _ {S : Type 0} (step : S → S → Result ℕ Error → Type 0) where
 
   -- one loop that answered how many bytes came
   pub read_by : (before after n : ℕ) {a b : S} → (calls : ℕ) × (before ≡ after + calls) × EndsBy step calls a b (Ok n) → IsRead step before after a b
-  read_by before after n ends = (suc ends.2.interruptions, omega (arith, ends.1, ends.2.calls_are), Calls.one_more (waits_give ends.2.waits) (ends.2.last, tt))
+  read_by before after n ends = record { calls = suc ends.2.interruptions; counted = omega (arith, ends.1, ends.2.calls_are); none_failed = Calls.one_more (waits_give ends.2.waits) (ends.2.last, tt) }
 
   -- and one that was refused
   pub gave_out : (before after : ℕ) {a b : S} → (calls : ℕ) × (before ≡ after + calls) × FailsBy step calls after a b → GivesOut step before a b
   gave_out before after (calls, count, inl ends) =
-      GivesOut.fails after (ends.2.interruptions, omega (arith, count, ends.2.calls_are), waits_give ends.2.waits) ends.2.last ends.1
-  gave_out before after (calls, count, inr waits) = GivesOut.ends (calls, omega (arith, count, waits.0), waits_give waits.1)
+      GivesOut.fails after (record { calls = ends.2.interruptions; counted = omega (arith, count, ends.2.calls_are); none_failed = waits_give ends.2.waits }) ends.2.last ends.1
+  gave_out before after (calls, count, inr waits) = GivesOut.ends (record { calls = calls; counted = omega (arith, count, waits.0); none_failed = waits_give waits.1 })
 
   -- no call of a writer
   pub written_none : (left : ℕ) (a : S) → IsWritten step left left 0 a a
