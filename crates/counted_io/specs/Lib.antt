@@ -1,3 +1,4 @@
 pub mod Handing
 pub mod Calls
+pub mod Limits
 pub mod Names

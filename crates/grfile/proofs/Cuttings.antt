@@ -5,6 +5,8 @@ use Rattle.std.specs.Io.KnownBytes.{Consumes, Keeps, IsAtEnd}
 use Rattle.std.specs.Result.{IfOk, IfErr, ForOk}
 use Rattle.std.proofs.lemmas.List.{append_assoc, append-nil, length-append}
 use Rattle.counted_io.specs.Handing.{IsGivenBy}
+use Rattle.std.specs.declared.io.Error.{Error}
+use Rattle.counted_io.specs.Limits.{IsReadWithin, ReadsWithin}
 use Rattle.grfile.specs.declared.error.GrError.{GrError}
 use Rattle.grfile.specs.declared.error.GrErrorKind.{GrErrorKind}
 use Rattle.grfile.specs.declared.error.GrErrorKind.TheVariants.{OutOfMemory, Read, UnknownLine, NoProblemLine, SecondProblemLine, FieldCount, NotANumber, NodeRange, ZeroWeight, WeightTooBig, TooManyNodes, TooManyArcs, ArcCount}
@@ -138,6 +140,16 @@ at_some A P (Some m) n is known = let same : m ≡ n = cc in subst P same known
 -- each call that is gone gave a piece at most
 abbrev pub IsWithin : Option (List ℕ) → Option (List ℕ) → ℕ → ℕ → Type 0
 IsWithin had left after before = IfSome had (λ text. MatchOption left ⊥ (λ rest. length text + after * 65536 ≤ length rest + before * 65536))
+
+pub nothing_taken : (had : Option (List ℕ)) → IfSome had (λ text. MatchOption had ⊥ (λ rest. [] ++ rest ≡ text))
+nothing_taken None = tt
+nothing_taken (Some text) = refl
+
+-- a refusal at the end is of no failed read
+pub unfailed_at_end : {A S : Type 0} (step : S → S → Result ℕ Error → Type 0) (most : ℕ) (r : Result A GrError) (line : ℕ) {old new : S} → IfErr r (IsAtEndOf line) → IsReadWithin step most old new
+    → IfErr r (λ e. ReadsWithin step most (e.kind ≡ Read) old new)
+unfailed_at_end step most (Ok x) line refused reads = tt
+unfailed_at_end step most (Err e) line refused reads = ReadsWithin.reads_on refused.no_read reads
 
 pub within_first : (had : Option (List ℕ)) (after before : ℕ) → after ≤ before → IsWithin had had after before
 within_first None after before fewer = tt

@@ -1,18 +1,20 @@
-ghost use Rattle.std.specs.Prelude.{◌≡◌, ◌++◌, [], None, Some, IfErr, OnOk, IfSome, Err, List, ℕ};
+ghost use Rattle.std.specs.Prelude.{◌≡◌, ◌++◌, [], None, Some, min, IfErr, OnOk, IfSome, Err, List, ℕ};
 ghost use Rattle.std.specs.Io.KnownBytes.{IsAtEnd};
 ghost use Rattle.counted_io.specs.Handing.{IsGivenBy};
+ghost use Rattle.counted_io.specs.Limits.{IsReadWithin, ReadsWithin};
+ghost use Rattle.counted_io.specs.declared.TheConstants.{MOST_CALLS};
 ghost use Rattle.grfile.specs.Outcome.{IsReading, Takes};
 ghost use Rattle.grfile.specs.Reading.{graph_of};
 ghost use Rattle.grfile.specs.Taken.{CountsLines, IsAtEndOf, StopsAtReached, graph_with, line_feeds};
+ghost use Rattle.grfile.specs.declared.error.GrErrorKind.TheVariants.{Read};
 
 use crate::error::GrError;
 use crate::listing::Listed;
 use crate::pieces::{Pieces, feed, finish, read_listing};
 use crate::roads::Roads;
 use ch_graph::{Graph, Road};
-use counted_io::MOST_CALLS;
+use counted_io::{MOST_CALLS, StepRead};
 use std::alloc::Global;
-use std::io::Read;
 use std::marker::Model;
 
 /// Reads the text of a graph that comes in pieces, however it was cut.
@@ -79,25 +81,30 @@ impl GrReader {
 /// The first fault of the text is answered, with its line; `Read` where the reader fails, and `OutOfMemory` where
 /// a growth is refused, both at the line that was reached. What is kept is the arcs so far, one line and 64 KiB:
 /// memory grows with what the text has spelled, never with what a line announces.
-pub fn read_graph<R: Read>(alloc: Global, reader: &mut R) -> Result<Graph, GrError>
+pub fn read_graph<R: StepRead>(alloc: Global, reader: &mut R) -> Result<Graph, GrError>
     ensures reading { IfSome (R.remaining reader.old) (λ text. IsReading (λ g. g) result (graph_of text)) }
     ensures ended { OnOk result (IsAtEnd (R.remaining reader.new)) }
+    ensures few { OnOk result (IsGivenBy MOST_CALLS (R.remaining reader.old)) }
     ensures reached { IfErr result (StopsAtReached (R.remaining reader.old) (R.remaining reader.new)) }
+    ensures calls { OnOk result (IsReadWithin R.step MOST_CALLS reader.old reader.new) }
+    ensures stopped { IfErr result (λ e. ReadsWithin R.step MOST_CALLS (e.kind ≡ Read) reader.old reader.new) }
 {
     read_graph_within(alloc, reader, MOST_CALLS)
 }
 
 /// Reads as [`read_graph`] does, by so many calls of the reader, or 2^40 where they are more. After the last of them
 /// the answer is `Read`.
-pub fn read_graph_within<R: Read>(
+pub fn read_graph_within<R: StepRead>(
     alloc: Global,
     reader: &mut R,
     calls: u64,
 ) -> Result<Graph, GrError>
     ensures reading { IfSome (R.remaining reader.old) (λ text. IsReading (λ g. g) result (graph_of text)) }
     ensures ended { OnOk result (IsAtEnd (R.remaining reader.new)) }
-    ensures few { OnOk result (IsGivenBy calls (R.remaining reader.old)) }
+    ensures few { OnOk result (IsGivenBy (min calls MOST_CALLS) (R.remaining reader.old)) }
     ensures reached { IfErr result (StopsAtReached (R.remaining reader.old) (R.remaining reader.new)) }
+    ensures calls { OnOk result (IsReadWithin R.step (min calls MOST_CALLS) reader.old reader.new) }
+    ensures stopped { IfErr result (λ e. ReadsWithin R.step (min calls MOST_CALLS) (e.kind ≡ Read) reader.old reader.new) }
 {
     let Listed { size, entries } = read_listing(alloc, Roads, reader, calls)?;
     Ok(Graph::new(size.nodes, entries))

@@ -1,8 +1,10 @@
-ghost use Rattle.std.specs.Prelude.{◌≡◌, ◌+◌, ◌<◌, ◌≤◌, ◌∷◌, ◌++◌, [], None, Some, IfErr, OnOk, IfOk, IfSome, Ok, Err, MatchResult, MatchOption, List, ℕ, length, take};
+ghost use Rattle.std.specs.Prelude.{◌≡◌, ◌+◌, ◌<◌, ◌≤◌, ◌∷◌, ◌++◌, [], None, Some, min, IfErr, OnErr, OnOk, IfOk, IfSome, Ok, Err, MatchResult, MatchOption, List, ℕ, length, take};
 ghost use Rattle.std.specs.Io.KnownBytes.{Consumes, IsAtEnd, Keeps};
 ghost use Rattle.std.specs.Option.{option_map};
 ghost use Rattle.std.specs.Str.Lines.{strip_carriage_return};
 ghost use Rattle.counted_io.specs.Handing.{IsGivenBy};
+ghost use Rattle.counted_io.specs.Limits.{GivesOut, IsRead, IsReadWithin, ReadsWithin};
+ghost use Rattle.counted_io.specs.declared.TheConstants.{MOST_CALLS};
 ghost use Rattle.grfile.specs.Lines.{lines_of};
 ghost use Rattle.grfile.specs.Outcome.{IsReading, FromText, IsOfLine, Takes, capped, next_line};
 ghost use Rattle.grfile.specs.Grammar.{listing_after};
@@ -14,9 +16,8 @@ use crate::error::{GrError, GrErrorKind};
 use crate::form::Form;
 use crate::line::{first_line, without_return};
 use crate::listing::{Listed, Progress, end, take_line, take_plain};
-use counted_io::ReadCalls;
+use counted_io::{ReadCalls, StepRead};
 use std::alloc::Global;
-use std::io::Read;
 
 /// What is kept of a text that comes in pieces.
 #[derive(Drop)]
@@ -185,7 +186,7 @@ pub(crate) fn finish<F: Form>(
 }
 
 /// What the text lists that a reader gives to its end in so many calls, or its first fault.
-pub(crate) fn read_listing<F: Form, R: Read>(
+pub(crate) fn read_listing<F: Form, R: StepRead>(
     alloc: Global,
     form: F,
     reader: &mut R,
@@ -194,8 +195,10 @@ pub(crate) fn read_listing<F: Form, R: Read>(
     ensures told { IfSome (R.remaining reader.old) (λ text. IsReading listing_of result (listing_after (F.grammar form) 0 (lines_of text))) }
     ensures listed { IfOk result (λ listed. (text : List ℕ) × (listing_after (F.grammar form) 0 (lines_of text) ≡ Ok (listing_of listed))) }
     ensures ended { OnOk result (IsAtEnd (R.remaining reader.new)) }
-    ensures few { OnOk result (IsGivenBy calls (R.remaining reader.old)) }
+    ensures few { OnOk result (IsGivenBy (min calls MOST_CALLS) (R.remaining reader.old)) }
     ensures reached { IfErr result (StopsAtReached (R.remaining reader.old) (R.remaining reader.new)) }
+    ensures calls { OnOk result (IsReadWithin R.step (min calls MOST_CALLS) reader.old reader.new) }
+    ensures stopped { IfErr result (λ e. ReadsWithin R.step (min calls MOST_CALLS) (e.kind ≡ Read) reader.old reader.new) }
 {
     let mut pieces = Pieces::new(alloc);
     feed_all(&mut pieces, form, reader, calls)?;
@@ -203,7 +206,7 @@ pub(crate) fn read_listing<F: Form, R: Read>(
 }
 
 /// Takes all that a reader gives in so many calls, in pieces of 64 KiB at most.
-fn feed_all<F: Form, R: Read>(
+fn feed_all<F: Form, R: StepRead>(
     pieces: &mut Pieces<F::Entry>,
     form: F,
     reader: &mut R,
@@ -214,9 +217,11 @@ fn feed_all<F: Form, R: Read>(
     ensures ok { OnOk result (HasTaken (told_with (F.grammar form) (taken_of pieces.old)) (told_with (F.grammar form) (taken_of pieces.new)) pieces.new.progress.line (R.remaining reader.old) (R.remaining reader.new)) }
     ensures stays { OnOk result (pieces.new.failed ≡ None) }
     ensures ended { OnOk result (IsAtEnd (R.remaining reader.new)) }
-    ensures few { OnOk result (IsGivenBy calls (R.remaining reader.old)) }
+    ensures few { OnOk result (IsGivenBy (min calls MOST_CALLS) (R.remaining reader.old)) }
     ensures err { IfErr result (λ e. IfSome (R.remaining reader.old) (λ text. FromText e.kind (told_with (F.grammar form) (taken_of pieces.old) text ≡ Err e))) }
     ensures reached { IfErr result (StopsAtReached (R.remaining reader.old) (R.remaining reader.new)) }
+    ensures calls { OnOk result (IsReadWithin R.step (min calls MOST_CALLS) reader.old reader.new) }
+    ensures stopped { IfErr result (λ e. ReadsWithin R.step (min calls MOST_CALLS) (e.kind ≡ Read) reader.old reader.new) }
 {
     let mut calls = ReadCalls::new(calls);
     let mut piece = [0u8; 65536];
@@ -227,7 +232,7 @@ fn feed_all<F: Form, R: Read>(
 }
 
 /// Reads the next bytes into the piece, and answers how many they are, or none at the end. So many lines have ended.
-fn read_piece<R: Read>(
+fn read_piece<R: StepRead>(
     calls: &mut ReadCalls,
     reader: &mut R,
     piece: &mut [u8],
@@ -237,6 +242,8 @@ fn read_piece<R: Read>(
     ensures bytes { IfOk result (λ o. MatchOption o (IsAtEnd (R.remaining reader.new) × Keeps (R.remaining reader.old) (R.remaining reader.new)) (λ n. (n ≤ length piece.new) × Consumes (R.remaining reader.old) (R.remaining reader.new) (take n piece.new))) }
     ensures counted { OnOk result (calls.new.left < calls.old.left) }
     ensures refused { IfErr result (λ e. (e ≡ record { kind = Read; line = next_line line }) × Keeps (R.remaining reader.old) (R.remaining reader.new)) }
+    ensures calls { OnOk result (IsRead R.step calls.old.left calls.new.left reader.old reader.new) }
+    ensures gave_out { OnErr result (GivesOut R.step calls.old.left reader.old reader.new) }
 {
     match calls.read(reader, piece) {
         Ok(0) => Ok(None),

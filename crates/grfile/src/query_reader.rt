@@ -1,16 +1,18 @@
-ghost use Rattle.std.specs.Prelude.{◌≡◌, ◌++◌, [], None, Some, IfOk, IfErr, OnOk, IfSome, Err, All, List, ℕ};
+ghost use Rattle.std.specs.Prelude.{◌≡◌, ◌++◌, [], None, Some, min, IfOk, IfErr, OnOk, IfSome, Err, All, List, ℕ};
 ghost use Rattle.std.specs.Io.KnownBytes.{IsAtEnd};
 ghost use Rattle.counted_io.specs.Handing.{IsGivenBy};
+ghost use Rattle.counted_io.specs.Limits.{IsReadWithin, ReadsWithin};
+ghost use Rattle.counted_io.specs.declared.TheConstants.{MOST_CALLS};
 ghost use Rattle.grfile.specs.Outcome.{IsReading, Takes};
 ghost use Rattle.grfile.specs.Reading.{pairs_of, IsPair};
 ghost use Rattle.grfile.specs.Taken.{CountsLines, IsAtEndOf, StopsAtReached, line_feeds, pairs_with};
+ghost use Rattle.grfile.specs.declared.error.GrErrorKind.TheVariants.{Read};
 
 use crate::error::GrError;
 use crate::pairs::Pairs;
 use crate::pieces::{Pieces, feed, finish, read_listing};
-use counted_io::MOST_CALLS;
+use counted_io::{MOST_CALLS, StepRead};
 use std::alloc::Global;
-use std::io::Read;
 use std::marker::Model;
 
 /// Reads the text of pairs of nodes that comes in pieces, however it was cut.
@@ -83,7 +85,7 @@ impl QueryReader {
 /// The first fault of the text is answered, with its line; `Read` where the reader fails, and `OutOfMemory` where
 /// a growth is refused, both at the line that was reached. What is kept is the pairs so far, one line and 64 KiB:
 /// memory grows with what the text has spelled, never with what a line announces.
-pub fn read_queries<R: Read>(
+pub fn read_queries<R: StepRead>(
     alloc: Global,
     reader: &mut R,
     nodes: u32,
@@ -91,14 +93,17 @@ pub fn read_queries<R: Read>(
     ensures reading { IfSome (R.remaining reader.old) (λ text. IsReading (λ v. v.items) result (pairs_of nodes text)) }
     ensures in_range { IfOk result (λ pairs. All (IsPair nodes) pairs.items) }
     ensures ended { OnOk result (IsAtEnd (R.remaining reader.new)) }
+    ensures few { OnOk result (IsGivenBy MOST_CALLS (R.remaining reader.old)) }
     ensures reached { IfErr result (StopsAtReached (R.remaining reader.old) (R.remaining reader.new)) }
+    ensures calls { OnOk result (IsReadWithin R.step MOST_CALLS reader.old reader.new) }
+    ensures stopped { IfErr result (λ e. ReadsWithin R.step MOST_CALLS (e.kind ≡ Read) reader.old reader.new) }
 {
     read_queries_within(alloc, reader, nodes, MOST_CALLS)
 }
 
 /// Reads as [`read_queries`] does, by so many calls of the reader, or 2^40 where they are more. After the last of them
 /// the answer is `Read`.
-pub fn read_queries_within<R: Read>(
+pub fn read_queries_within<R: StepRead>(
     alloc: Global,
     reader: &mut R,
     nodes: u32,
@@ -107,8 +112,10 @@ pub fn read_queries_within<R: Read>(
     ensures reading { IfSome (R.remaining reader.old) (λ text. IsReading (λ v. v.items) result (pairs_of nodes text)) }
     ensures in_range { IfOk result (λ pairs. All (IsPair nodes) pairs.items) }
     ensures ended { OnOk result (IsAtEnd (R.remaining reader.new)) }
-    ensures few { OnOk result (IsGivenBy calls (R.remaining reader.old)) }
+    ensures few { OnOk result (IsGivenBy (min calls MOST_CALLS) (R.remaining reader.old)) }
     ensures reached { IfErr result (StopsAtReached (R.remaining reader.old) (R.remaining reader.new)) }
+    ensures calls { OnOk result (IsReadWithin R.step (min calls MOST_CALLS) reader.old reader.new) }
+    ensures stopped { IfErr result (λ e. ReadsWithin R.step (min calls MOST_CALLS) (e.kind ≡ Read) reader.old reader.new) }
 {
     let listed = read_listing(alloc, Pairs { nodes }, reader, calls)?;
     Ok(listed.entries)

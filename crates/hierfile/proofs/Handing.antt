@@ -1,5 +1,5 @@
 -- What a writer took of gathered bytes.
-use Rattle.std.proofs.Common.{ℕ, ◌≡◌, ◌+◌, ◌-◌, ◌<◌, get_or, List, [], ◌++◌, length, take, drop, Option, refl, sym, ◌∙◌, ap, subst, arith, append_assoc, append-nil, length-append}
+use Rattle.std.proofs.Common.{ℕ, ◌≡◌, ◌+◌, ◌<◌, get_or, List, [], ◌++◌, length, take, drop, Option, refl, sym, ◌∙◌, ap, subst, arith, append_assoc, append-nil, length-append}
 use Rattle.std.specs.Io.KnownBytes.{Appends}
 use Rattle.std.proofs.KnownBytes.{Appends-trans, Appends-nil}
 use Rattle.std.proofs.Math.Seq.{take-append_seam}
@@ -81,8 +81,8 @@ spelled-parts f xs i d h =
     ap (λ l. l ++ flat_map f (drop (i + 1) xs)) (spelled-more f xs i d h) ∙ sym (flat_map-append f (take (i + 1) xs) (drop (i + 1) xs)) ∙ ap (flat_map f) (take-append-drop (i + 1) xs)
 
 -- what a writer took where it failed
-pub took_part : (a b : Option (List ℕ)) (g : Gathered) (whole : List ℕ) (written : ℕ) → g ≡ record { waiting = []; written = 0 } → IsPartOf a b g whole written → Took a b written whole
-took_part a b g whole written e k =
+pub took_part : (a b : Option (List ℕ)) (g : Gathered) (most : ℕ) (whole : List ℕ) (written : ℕ) → g ≡ record { waiting = []; written = 0; left = most } → IsPartOf a b g whole written → Took a b written whole
+took_part a b g most whole written e k =
     let taken : List ℕ = k.4.taken in
     let rest : List ℕ = k.2 in
     let none : g.waiting ≡ [] = ap (λ (x : Gathered). x.waiting) e in
@@ -94,9 +94,17 @@ took_part a b g whole written e k =
     (omega (arith, k.5, count, ap length parts, length-append taken (rest ++ k.1), length-append rest k.1), subst (Appends a b) (sym first) k.4.given)
 
 -- and where all was handed to it
-pub took_all : (a b c : Option (List ℕ)) (x y z : Gathered) (whole : List ℕ) → x ≡ record { waiting = []; written = 0 } → Handed a b x y whole → HandsOn b c y.waiting z.waiting y.written z.written → z.waiting ≡ [] → Appends a c whole
-took_all a b c x y z whole e h k none =
+pub took_all : (a b c : Option (List ℕ)) (x y z : Gathered) (most : ℕ) (whole : List ℕ) → x ≡ record { waiting = []; written = 0; left = most } → Handed a b x y whole → HandsOn b c y.waiting z.waiting y.written z.written → z.waiting ≡ [] → Appends a c whole
+took_all a b c x y z most whole e h k none =
     let empty : x.waiting ≡ [] = ap (λ (g : Gathered). g.waiting) e in
     let first : whole ≡ h.taken ++ y.waiting = ap (λ l. l ++ whole) (sym empty) ∙ h.parts in
     let second : y.waiting ≡ k.taken = k.parts ∙ ap (λ l. k.taken ++ l) none ∙ append-nil k.taken in
     subst (Appends a c) (sym (first ∙ ap (λ l. h.taken ++ l) second)) (Appends-trans a b c h.taken k.taken h.given k.given)
+
+pub counted_all : (a b c : Option (List ℕ)) (x y z : Gathered) (most : ℕ) (whole : List ℕ) → x ≡ record { waiting = []; written = 0; left = most } → Handed a b x y whole → HandsOn b c y.waiting z.waiting y.written z.written → z.waiting ≡ [] → z.written ≡ length whole
+counted_all a b c x y z most whole e h k none =
+    let zero : x.written ≡ 0 = ap (λ (g : Gathered). g.written) e in
+    let empty : x.waiting ≡ [] = ap (λ (g : Gathered). g.waiting) e in
+    let first : whole ≡ h.taken ++ y.waiting = ap (λ l. l ++ whole) (sym empty) ∙ h.parts in
+    let second : y.waiting ≡ k.taken = k.parts ∙ ap (λ l. k.taken ++ l) none ∙ append-nil k.taken in
+    omega (arith, zero, h.counted, k.counted, ap length first, ap length second, length-append h.taken y.waiting)

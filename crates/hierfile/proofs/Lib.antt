@@ -10,6 +10,7 @@ pub mod WellMade
 pub mod Bodies
 pub mod Whole
 pub mod Handing
+mod HandCalls
 pub mod OneSpelling
 pub mod FewLinks
 pub mod NoFault

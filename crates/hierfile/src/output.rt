@@ -1,10 +1,11 @@
-ghost use Rattle.std.specs.Prelude.{◌≡◌, ◌+◌, ◌≤◌, [], ◌++◌, length, OnOk, IfErr};
+ghost use Rattle.std.specs.Prelude.{◌≡◌, ◌+◌, ◌≤◌, [], ◌++◌, length, min, OnOk, IfErr};
 ghost use Rattle.counted_io.specs.Handing.{HandsOn, HandsOnPart};
+ghost use Rattle.counted_io.specs.declared.TheConstants.{MOST_CALLS};
+ghost use Rattle.hierfile.specs.Bytes.{Hands, Stops};
 ghost use Rattle.hierfile.specs.Spelling.{word, long};
 
 use byteorder::{BigEndian, ByteOrder};
-use counted_io::{WriteCalls, WriteFault};
-use std::io::Write;
+use counted_io::{StepWrite, WriteCalls, WriteFault};
 use std::marker::Model;
 
 /// How many bytes are gathered before they are handed to the writer.
@@ -27,7 +28,7 @@ impl Model for Output {
 
     ghost Value = { bytes.Gathered };
 
-    ghost view = { λ o. record { waiting = take o.end o.buffer; written = o.calls.written } };
+    ghost view = { λ o. record { waiting = take o.end o.buffer; written = o.calls.written; left = o.calls.left } };
 
     ghost invariant = { λ o. (o.end ≤ 8192) × (length o.buffer ≡ 8192) };
 }
@@ -35,7 +36,7 @@ impl Model for Output {
 impl Output {
     /// Nothing gathered, nothing written, and the writer may be called so often.
     pub fn new(calls: u64) -> Output
-        ensures { result ≡ record { waiting = []; written = 0 } }
+        ensures { result ≡ record { waiting = []; written = 0; left = min calls MOST_CALLS } }
     {
         Output {
             buffer: [0; SIZE],
@@ -45,9 +46,11 @@ impl Output {
     }
 
     /// Gathers a number of four bytes.
-    pub fn word<W: Write>(&mut self, writer: &mut W, number: u32) -> Result<(), WriteFault>
+    pub fn word<W: StepWrite>(&mut self, writer: &mut W, number: u32) -> Result<(), WriteFault>
         ensures ok { OnOk result (HandsOn (W.contents writer.old) (W.contents writer.new) (self.old.waiting ++ word number) self.new.waiting self.old.written self.new.written) }
         ensures err { IfErr result (λ fault. HandsOnPart (W.contents writer.old) (W.contents writer.new) self.old.waiting self.old.written fault.written) }
+        ensures calls { OnOk result (Hands W.step self.old self.new writer.old writer.new) }
+        ensures stopped { IfErr result (λ fault. Stops W.step self.old fault.written writer.old writer.new) }
     {
         self.make_room(writer)?;
         BigEndian::write_u32(&mut self.buffer[self.end..], number);
@@ -56,9 +59,11 @@ impl Output {
     }
 
     /// Gathers a number of eight bytes.
-    pub fn long<W: Write>(&mut self, writer: &mut W, number: u64) -> Result<(), WriteFault>
+    pub fn long<W: StepWrite>(&mut self, writer: &mut W, number: u64) -> Result<(), WriteFault>
         ensures ok { OnOk result (HandsOn (W.contents writer.old) (W.contents writer.new) (self.old.waiting ++ long number) self.new.waiting self.old.written self.new.written) }
         ensures err { IfErr result (λ fault. HandsOnPart (W.contents writer.old) (W.contents writer.new) self.old.waiting self.old.written fault.written) }
+        ensures calls { OnOk result (Hands W.step self.old self.new writer.old writer.new) }
+        ensures stopped { IfErr result (λ fault. Stops W.step self.old fault.written writer.old writer.new) }
     {
         self.make_room(writer)?;
         BigEndian::write_u64(&mut self.buffer[self.end..], number);
@@ -67,10 +72,12 @@ impl Output {
     }
 
     // Sees that a number of eight bytes has room.
-    fn make_room<W: Write>(&mut self, writer: &mut W) -> Result<(), WriteFault>
+    fn make_room<W: StepWrite>(&mut self, writer: &mut W) -> Result<(), WriteFault>
         ensures ok { OnOk result (HandsOn (W.contents writer.old) (W.contents writer.new) self.old.waiting self.new.waiting self.old.written self.new.written) }
         ensures room { OnOk result (length self.new.waiting + 8 ≤ 8192) }
         ensures err { IfErr result (λ fault. HandsOnPart (W.contents writer.old) (W.contents writer.new) self.old.waiting self.old.written fault.written) }
+        ensures calls { OnOk result (Hands W.step self.old self.new writer.old writer.new) }
+        ensures stopped { IfErr result (λ fault. Stops W.step self.old fault.written writer.old writer.new) }
     {
         if SIZE - self.end >= 8 {
             return Ok(());
@@ -79,10 +86,12 @@ impl Output {
     }
 
     /// Hands what is gathered to the writer.
-    pub fn hand_over<W: Write>(&mut self, writer: &mut W) -> Result<(), WriteFault>
+    pub fn hand_over<W: StepWrite>(&mut self, writer: &mut W) -> Result<(), WriteFault>
         ensures ok { OnOk result (HandsOn (W.contents writer.old) (W.contents writer.new) self.old.waiting self.new.waiting self.old.written self.new.written) }
         ensures all { OnOk result (self.new.waiting ≡ []) }
         ensures err { IfErr result (λ fault. HandsOnPart (W.contents writer.old) (W.contents writer.new) self.old.waiting self.old.written fault.written) }
+        ensures calls { OnOk result (Hands W.step self.old self.new writer.old writer.new) }
+        ensures stopped { IfErr result (λ fault. Stops W.step self.old fault.written writer.old writer.new) }
     {
         self.calls.write(writer, &self.buffer[..self.end])?;
         self.end = 0;

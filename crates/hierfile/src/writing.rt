@@ -1,15 +1,16 @@
-ghost use Rattle.std.specs.Prelude.{◌≡◌, ◌++◌, ◌≤◌, ℕ, List, length, OnOk, IfErr};
+ghost use Rattle.std.specs.Prelude.{◌≡◌, ◌++◌, ◌≤◌, ℕ, List, length, min, OnOk, IfErr};
 ghost use Rattle.std.specs.List.{flat_map};
 ghost use Rattle.std.specs.Io.KnownBytes.{Appends};
 ghost use Rattle.hierfile.specs.Spelling.{bytes_of, word, long, head_bytes, link_bytes, middle_number};
 ghost use Rattle.counted_io.specs.Handing.{HandsOn};
-ghost use Rattle.hierfile.specs.Bytes.{IsPartOf, Took};
+ghost use Rattle.counted_io.specs.Limits.{IsWrittenWithin, StopsWithin};
+ghost use Rattle.counted_io.specs.declared.TheConstants.{MOST_CALLS};
+ghost use Rattle.hierfile.specs.Bytes.{Hands, IsPartOf, Stops, Took};
 
 use crate::links::NO_MIDDLE;
 use crate::output::Output;
 use ch_graph::{Hierarchy, Link};
-use counted_io::{MOST_CALLS, WriteFault};
-use std::io::Write;
+use counted_io::{MOST_CALLS, StepWrite, WriteFault};
 
 /// The magic, as a number of four bytes.
 const MAGIC: u32 = 0x5243_4831;
@@ -19,22 +20,26 @@ const MAGIC: u32 = 0x5243_4831;
 /// On Ok the writer took the spelling of the hierarchy, and on a fault its first `written` bytes. An interrupted call
 /// of the writer is tried again; one that takes no byte is a failure, and so is the end of 2^40 calls. Takes no
 /// memory, beside 8 KiB of the stack; linear in the size of the hierarchy.
-pub fn write<W: Write>(hierarchy: &Hierarchy, writer: &mut W) -> Result<(), WriteFault>
+pub fn write<W: StepWrite>(hierarchy: &Hierarchy, writer: &mut W) -> Result<(), WriteFault>
     ensures ok { OnOk result (Appends (W.contents writer.old) (W.contents writer.new) (bytes_of hierarchy.now)) }
     ensures err { IfErr result (λ fault. Took (W.contents writer.old) (W.contents writer.new) fault.written (bytes_of hierarchy.now)) }
+    ensures calls { OnOk result (IsWrittenWithin W.step MOST_CALLS (length (bytes_of hierarchy.now)) writer.old writer.new) }
+    ensures stopped { IfErr result (λ fault. StopsWithin W.step MOST_CALLS fault.written writer.old writer.new) }
 {
     write_within(hierarchy, writer, MOST_CALLS)
 }
 
 /// Writes as [`write`] does, by so many calls of the writer, or 2^40 where they are more. After the last of them it has
 /// failed.
-pub fn write_within<W: Write>(
+pub fn write_within<W: StepWrite>(
     hierarchy: &Hierarchy,
     writer: &mut W,
     calls: u64,
 ) -> Result<(), WriteFault>
     ensures ok { OnOk result (Appends (W.contents writer.old) (W.contents writer.new) (bytes_of hierarchy.now)) }
     ensures err { IfErr result (λ fault. Took (W.contents writer.old) (W.contents writer.new) fault.written (bytes_of hierarchy.now)) }
+    ensures calls { OnOk result (IsWrittenWithin W.step (min calls MOST_CALLS) (length (bytes_of hierarchy.now)) writer.old writer.new) }
+    ensures stopped { IfErr result (λ fault. StopsWithin W.step (min calls MOST_CALLS) fault.written writer.old writer.new) }
 {
     let mut output = Output::new(calls);
     write_head(hierarchy, &mut output, writer)?;
@@ -45,13 +50,15 @@ pub fn write_within<W: Write>(
 }
 
 // Writes the magic, how many nodes and links there are, and the bound.
-fn write_head<W: Write>(
+fn write_head<W: StepWrite>(
     hierarchy: &Hierarchy,
     output: &mut Output,
     writer: &mut W,
 ) -> Result<(), WriteFault>
     ensures ok { OnOk result (HandsOn (W.contents writer.old) (W.contents writer.new) (output.old.waiting ++ head_bytes (length hierarchy.now.ranks) (length hierarchy.now.links) hierarchy.now.bound) output.new.waiting output.old.written output.new.written) }
     ensures err { IfErr result (λ fault. IsPartOf (W.contents writer.old) (W.contents writer.new) output.old (head_bytes (length hierarchy.now.ranks) (length hierarchy.now.links) hierarchy.now.bound) fault.written) }
+    ensures calls { OnOk result (Hands W.step output.old output.new writer.old writer.new) }
+    ensures stopped { IfErr result (λ fault. Stops W.step output.old fault.written writer.old writer.new) }
 {
     output.word(writer, MAGIC)?;
     output.word(writer, hierarchy.nodes())?;
@@ -61,13 +68,15 @@ fn write_head<W: Write>(
 }
 
 // Writes the rank of each node.
-fn write_ranks<W: Write>(
+fn write_ranks<W: StepWrite>(
     hierarchy: &Hierarchy,
     output: &mut Output,
     writer: &mut W,
 ) -> Result<(), WriteFault>
     ensures ok { OnOk result (HandsOn (W.contents writer.old) (W.contents writer.new) (output.old.waiting ++ flat_map word hierarchy.now.ranks) output.new.waiting output.old.written output.new.written) }
     ensures err { IfErr result (λ fault. IsPartOf (W.contents writer.old) (W.contents writer.new) output.old (flat_map word hierarchy.now.ranks) fault.written) }
+    ensures calls { OnOk result (Hands W.step output.old output.new writer.old writer.new) }
+    ensures stopped { IfErr result (λ fault. Stops W.step output.old fault.written writer.old writer.new) }
 {
     'nodes: for node in 0..hierarchy.nodes() {
         output.word(writer, hierarchy.rank(node))?;
@@ -76,13 +85,15 @@ fn write_ranks<W: Write>(
 }
 
 // Writes each link.
-fn write_links<W: Write>(
+fn write_links<W: StepWrite>(
     links: &[Link],
     output: &mut Output,
     writer: &mut W,
 ) -> Result<(), WriteFault>
     ensures ok { OnOk result (HandsOn (W.contents writer.old) (W.contents writer.new) (output.old.waiting ++ flat_map link_bytes links.now) output.new.waiting output.old.written output.new.written) }
     ensures err { IfErr result (λ fault. IsPartOf (W.contents writer.old) (W.contents writer.new) output.old (flat_map link_bytes links.now) fault.written) }
+    ensures calls { OnOk result (Hands W.step output.old output.new writer.old writer.new) }
+    ensures stopped { IfErr result (λ fault. Stops W.step output.old fault.written writer.old writer.new) }
 {
     'links: for link in links {
         write_link(*link, output, writer)?;
@@ -91,9 +102,15 @@ fn write_links<W: Write>(
 }
 
 // Writes one link.
-fn write_link<W: Write>(link: Link, output: &mut Output, writer: &mut W) -> Result<(), WriteFault>
+fn write_link<W: StepWrite>(
+    link: Link,
+    output: &mut Output,
+    writer: &mut W,
+) -> Result<(), WriteFault>
     ensures ok { OnOk result (HandsOn (W.contents writer.old) (W.contents writer.new) (output.old.waiting ++ link_bytes link) output.new.waiting output.old.written output.new.written) }
     ensures err { IfErr result (λ fault. IsPartOf (W.contents writer.old) (W.contents writer.new) output.old (link_bytes link) fault.written) }
+    ensures calls { OnOk result (Hands W.step output.old output.new writer.old writer.new) }
+    ensures stopped { IfErr result (λ fault. Stops W.step output.old fault.written writer.old writer.new) }
 {
     output.word(writer, link.from)?;
     output.word(writer, link.to)?;

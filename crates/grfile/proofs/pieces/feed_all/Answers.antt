@@ -1,8 +1,11 @@
-use Rattle.std.proofs.Common.{◌≤◌, ◌∙◌, length, take, arith}
+use Rattle.std.proofs.Common.{◌≤◌, [], refl, subst, ◌∙◌, length, take, ap, arith}
 use Rattle.std.proofs.lemmas.List.{length-take-le}
 use Rattle.std.proofs.lemmas.Result.{err_from_is_err_and}
+use Rattle.grfile.specs.declared.error.GrError.{GrError}
 use Rattle.grfile.specs.Taken.{taken_of, told_with}
-use Rattle.grfile.proofs.Cuttings.{at_some, stops_in_piece, taken_more, within_more}
+use Rattle.grfile.proofs.Cuttings.{at_some, nothing_taken, stops_in_piece, taken_more, within_first, within_more}
+use Rattle.counted_io.specs.Limits.{IsRead}
+use Rattle.counted_io.specs.Limits.Laws.{failed_after, read_none, read_then, refused_after}
 use Rattle.grfile.proofs.pieces.feed_all.Goals as goal
 
 pub loop-count-preserved : goal.loop-count-preserved
@@ -18,7 +21,8 @@ loop-count-preserved g c =
     record {
       fresh = c.in_ok-feed.ensures.stays ∙ kept.fresh;
       told = taken_more (told_with grammar (taken_of c.args.pieces.now)) (told_with grammar (taken_of c.loop-count.pieces)) (told_with grammar (taken_of c.feed.new.pieces)) c.loop-count.pieces.progress.line c.feed.new.pieces.progress.line had left later chunk kept.told c.in_ok-feed.ensures.takes (c.in_ok-feed.ensures.lines kept.fresh) given.1;
-      few = within_more had left later chunk c.read_piece.new.calls.left c.loop-count.calls.left c.args.calls kept.few given.1 short c.in_ok-count.ensures.counted;
+      few = within_more had left later chunk c.read_piece.new.calls.left c.loop-count.calls.left _ kept.few given.1 short c.in_ok-count.ensures.counted;
+      calls = read_then g.R.StepRead.step kept.calls c.in_ok-count.ensures.calls;
     }
 
 pub returns-in_err-feed-clause-reached : goal.returns-in_err-feed-clause-reached
@@ -30,3 +34,30 @@ returns-in_err-feed-clause-reached g c =
     let short : length chunk ≤ 65536 = omega (arith, given.0, length-take-le c.in-Some.count c.read_piece.new.piece given.0) in
     let exit = err_from_is_err_and c.from_residual-in_err-feed.result c.from_residual-in_err-feed.ensures.1 in
     rw (exit.1, exit.2) (stops_in_piece (told_with grammar (taken_of c.args.pieces.now)) (told_with grammar (taken_of c.loop-count.pieces)) c.loop-count.pieces.progress.line _ (g.R.Read.remaining c.args.reader.now) (g.R.Read.remaining c.loop-count.reader) (g.R.Read.remaining c.read_piece.new.reader) chunk _ kept.told given.1 short (c.in_err-feed.ensures.lines kept.fresh))
+
+pub returns-in_err-count-clause-stopped : goal.returns-in_err-count-clause-stopped
+returns-in_err-count-clause-stopped g c =
+    let exit = err_from_is_err_and c.from_residual.result c.from_residual.ensures.1 in
+    rw (exit.1, exit.2) (failed_after g.R.StepRead.step c.loop-count.invariant.calls (ap (λ (e : GrError). e.kind) c.in_err-count.ensures.refused.0) c.in_err-count.ensures.gave_out)
+
+pub returns-in_err-feed-clause-stopped : goal.returns-in_err-feed-clause-stopped
+returns-in_err-feed-clause-stopped g c =
+    let kept = c.loop-count.invariant in
+    let exit = err_from_is_err_and c.from_residual-in_err-feed.result c.from_residual-in_err-feed.ensures.1 in
+    rw (exit.1, exit.2) (refused_after g.R.StepRead.step (read_then g.R.StepRead.step kept.calls c.in_ok-count.ensures.calls) (c.in_err-feed.ensures.lines kept.fresh).no_read)
+
+pub loop-count-init : goal.loop-count-init
+loop-count-init g c =
+    let step = g.R.StepRead.step in
+    let reader = c.args.reader.now in
+    let left = c.new-calls.result.left in
+    let had = g.R.Read.remaining reader in
+    record {
+      fresh = c.requires.fresh;
+      told = ([], (λ rest. refl), c.requires.begins, nothing_taken had);
+      few = within_first had left _ (omega (arith, c.new-calls.ensures));
+      calls = subst (λ n. IsRead step n left reader reader) c.new-calls.ensures (read_none step left reader);
+    }
+
+pub returns-clause-calls : goal.returns-clause-calls
+returns-clause-calls g c = (c.read_piece.new.calls.left, read_then g.R.StepRead.step c.loop-count.invariant.calls c.in_ok-count.ensures.calls)

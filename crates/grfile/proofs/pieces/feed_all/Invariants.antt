@@ -1,4 +1,6 @@
-use Rattle.std.proofs.Common.{◌≡◌, None}
+use Rattle.std.proofs.Common.{◌≡◌, None, min}
+use Rattle.counted_io.specs.Limits.{IsRead}
+use Rattle.counted_io.specs.declared.TheConstants.{MOST_CALLS}
 use Rattle.grfile.specs.Taken.{HasTaken, taken_of, told_with}
 use Rattle.grfile.proofs.Cuttings.{IsWithin}
 use Rattle.grfile.proofs.pieces.feed_all.Given as goal
@@ -10,7 +12,8 @@ invariant-loop-count g l =
     record {
       fresh : l.pieces.failed ≡ None;
       told : HasTaken (told_with (g.F.Form.grammar l.fn.form) (taken_of l.fn.pieces)) (told_with (g.F.Form.grammar l.fn.form) (taken_of l.pieces)) l.pieces.progress.line had left;
-      few : IsWithin had left l.calls.left l.fn.calls;
+      few : IsWithin had left l.calls.left (min l.fn.calls MOST_CALLS);
+      calls : IsRead g.R.StepRead.step (min l.fn.calls MOST_CALLS) l.calls.left l.fn.reader l.reader;
     }
 
 abbrev pub decreases-loop-count : goal.decreases-loop-count

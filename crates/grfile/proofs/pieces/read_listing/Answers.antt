@@ -1,7 +1,7 @@
 use Rattle.std.proofs.lemmas.Result.{err_from_is_err_and}
 use Rattle.grfile.specs.Progress.{listing_of}
 use Rattle.grfile.specs.Taken.{taken_of, told_with}
-use Rattle.grfile.proofs.Cuttings.{first_fault, stops_at_end, told_all, told_some}
+use Rattle.grfile.proofs.Cuttings.{first_fault, unfailed_at_end, stops_at_end, told_all, told_some}
 use Rattle.grfile.proofs.pieces.read_listing.Goals as goal
 
 pub returns-in_err-feed_all-clause-told : goal.returns-in_err-feed_all-clause-told
@@ -19,3 +19,6 @@ pub returns-clause-reached : goal.returns-clause-reached
 returns-clause-reached g c =
     let grammar = g.F.Form.grammar c.args.form in
     stops_at_end c.finish.result (told_with grammar (taken_of c.new-pieces.result)) (told_with grammar (taken_of c.feed_all.new.pieces)) c.feed_all.new.pieces.progress.line (g.R.Read.remaining c.args.reader.now) (g.R.Read.remaining c.feed_all.new.reader) c.in_ok-feed_all.ensures.ok (c.finish.ensures.refused c.in_ok-feed_all.ensures.stays)
+
+pub returns-clause-stopped : goal.returns-clause-stopped
+returns-clause-stopped g c = unfailed_at_end g.R.StepRead.step _ c.finish.result c.feed_all.new.pieces.progress.line (c.finish.ensures.refused c.in_ok-feed_all.ensures.stays) c.in_ok-feed_all.ensures.calls

@@ -1,5 +1,6 @@
 use Rattle.std.proofs.Common.{ℕ, ◌++◌, List, [], refl, sym, subst, append-nil, append_assoc}
 use Rattle.hierfile.specs.Spelling.{word, long, link_bytes, middle_number}
+use Rattle.hierfile.proofs.HandCalls.{hands_then, stops_later}
 use Rattle.hierfile.proofs.Faults.{hands_on}
 use Rattle.hierfile.proofs.Handing.{Handed, handed_then, part_then, part_none}
 use Rattle.ch_cost.specs.Cost.{length_of}
@@ -74,3 +75,33 @@ returns-clause-ok g c =
     let t2 = handed_then (contents c.args.writer.now) (contents c.word-2.new.writer) (contents c.long.new.writer) c.args.output.now c.word-2.new.self c.long.new.self (b0 ++ b1) b2 t1 h2 in
     let t3 = handed_then (contents c.args.writer.now) (contents c.long.new.writer) (contents c.word-3.new.writer) c.args.output.now c.long.new.self c.word-3.new.self ((b0 ++ b1) ++ b2) b3 t2 h3 in
     t3
+
+pub returns-in_err-word-2-clause-stopped : goal.returns-in_err-word-2-clause-stopped
+returns-in_err-word-2-clause-stopped g c =
+    let step = g.W.StepWrite.step in
+    let t1 = c.in_ok-word.ensures.calls in
+    hands_on c.from_residual-in_err-word-2.result _ _ c.from_residual-in_err-word-2.ensures.1 (stops_later step c.args.output.now c.word.new.self c.in_err-word-2.field-0.0.written t1 c.in_err-word-2.ensures.stopped)
+
+pub returns-in_err-long-clause-stopped : goal.returns-in_err-long-clause-stopped
+returns-in_err-long-clause-stopped g c =
+    let step = g.W.StepWrite.step in
+    let t1 = c.in_ok-word.ensures.calls in
+    let t2 = hands_then step c.args.output.now c.word.new.self c.word-2.new.self t1 c.in_ok-word-2.ensures.calls in
+    hands_on c.from_residual-in_err-long.result _ _ c.from_residual-in_err-long.ensures.1 (stops_later step c.args.output.now c.word-2.new.self c.in_err-long.field-0.0.written t2 c.in_err-long.ensures.stopped)
+
+pub returns-in_err-word-3-clause-stopped : goal.returns-in_err-word-3-clause-stopped
+returns-in_err-word-3-clause-stopped g c =
+    let step = g.W.StepWrite.step in
+    let t1 = c.in_ok-word.ensures.calls in
+    let t2 = hands_then step c.args.output.now c.word.new.self c.word-2.new.self t1 c.in_ok-word-2.ensures.calls in
+    let t3 = hands_then step c.args.output.now c.word-2.new.self c.long.new.self t2 c.in_ok-long.ensures.calls in
+    hands_on c.from_residual-in_err-word-3.result _ _ c.from_residual-in_err-word-3.ensures.1 (stops_later step c.args.output.now c.long.new.self c.in_err-word-3.field-0.0.written t3 c.in_err-word-3.ensures.stopped)
+
+pub returns-clause-calls : goal.returns-clause-calls
+returns-clause-calls g c =
+    let step = g.W.StepWrite.step in
+    let t1 = c.in_ok-word.ensures.calls in
+    let t2 = hands_then step c.args.output.now c.word.new.self c.word-2.new.self t1 c.in_ok-word-2.ensures.calls in
+    let t3 = hands_then step c.args.output.now c.word-2.new.self c.long.new.self t2 c.in_ok-long.ensures.calls in
+    let t4 = hands_then step c.args.output.now c.long.new.self c.word-3.new.self t3 c.in_ok-word-3.ensures.calls in
+    t4
