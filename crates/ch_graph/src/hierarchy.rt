@@ -25,7 +25,7 @@ pub struct LinkId(pub usize);
 ///
 /// Every hierarchy is well made, so that a file can hold it. Whether it is right for a graph is said where it is
 /// made. It holds 4 bytes a node and 24 a link, with an index 8 bytes a node and 8 a link more, and no call takes memory
-/// but [`Hierarchy::indexed`].
+/// but [`Hierarchy::checked`] while it runs, [`Hierarchy::indexed`] and [`Hierarchy::into_indexed`].
 #[derive(Drop)]
 pub struct Hierarchy {
     ranks: Vec<u32>,
@@ -68,7 +68,7 @@ impl Hierarchy {
     ///
     /// It is refused only where it isn't well made, or for want of memory. Takes a byte a node while it runs. It looks at
     /// each rank and each link once, and looks for the halves of each link among all. All are dropped where they are
-    /// refused. The hierarchy has no index; [`Hierarchy::indexed`] makes one of what was found to be well made.
+    /// refused. The hierarchy has no index; [`Hierarchy::into_indexed`] gives it one, as [`Hierarchy::indexed`] does.
     pub fn checked(
         alloc: Global,
         ranks: Vec<u32>,
@@ -102,6 +102,17 @@ impl Hierarchy {
         let mut hierarchy = Hierarchy::with_index(ranks, links, bound, index, none);
         hierarchy.halves = hierarchy.find_all_halves(alloc)?;
         Ok(hierarchy)
+    }
+
+    /// The same hierarchy, with an index and the places of the halves of links, as [`Hierarchy::indexed`] makes them.
+    ///
+    /// Takes 8 bytes a node and 8 a link. It fails only for want of memory, and the hierarchy is dropped then.
+    pub fn into_indexed(mut self, alloc: Global) -> Result<Hierarchy, AllocError>
+        ensures { IfOk result (λ h. h ≡ self) }
+    {
+        self.index = LinkIndex::new(alloc, self.nodes(), self.links())?;
+        self.halves = self.find_all_halves(alloc)?;
+        Ok(self)
     }
 
     /// The same hierarchy as by [`Hierarchy::new`], with this index of its links and these places of their halves. Takes

@@ -4,9 +4,9 @@
 //! between numbered nodes. The promise of the layer is the contract of [`Graph::least`]: the least cost over all
 //! walks from one node to another, or none where there is no walk. It is the plain program that every faster
 //! answer of the workspace is compared with. [`Graph::is_walk`] tells a route of a given cost from any other list
-//! of nodes. A [`Hierarchy`] holds what faster answers come from; [`Hierarchy::find`] gives the link of a pair, by a
-//! [`LinkIndex`] where it has one, and [`Hierarchy::parts`] the places of a link's halves, by [`LinkHalves`] where they
-//! are kept.
+//! of nodes. A [`Hierarchy`] holds what faster answers come from: [`Hierarchy::checked`] makes one of any ranks and links,
+//! or tells why they make none; [`Hierarchy::find`] gives the link of a pair, by a [`LinkIndex`] where it has one, and
+//! [`Hierarchy::parts`] the places of a link's halves, by [`LinkHalves`] where they are kept.
 #![tactic(auto)]
 
 mod checking;

@@ -1,9 +1,9 @@
-//! What the plain search answers where one growth is refused: `tests/refusals` runs the test once for each of its
-//! growths.
+//! What the plain search and the test of a hierarchy answer where one growth is refused: `tests/refusals` runs each test
+//! here once for each of its growths.
 ghost use Rattle.std.specs.Prelude.{◌≡◌, IfOk};
 
 use ch_cost::Cost;
-use ch_graph::{Graph, Road};
+use ch_graph::{Graph, Hierarchy, HierarchyError, Link, LinkId, Road};
 use std::alloc::{AllocError, Global};
 use std::test::Fail;
 
@@ -30,5 +30,33 @@ fn least(rt: HostRuntime) -> Result<(), Fail> {
         Err(AllocError) => graph.least(2, 1)?,
     };
     assert!(rt; there.map(Cost::length) == Some(5) && back.is_none());
+    Ok(())
+}
+
+/// The hierarchy of two nodes and a link from the first to the second.
+fn two_nodes(alloc: Global) -> Result<Result<Hierarchy, HierarchyError>, AllocError> {
+    let link = Link {
+        from: 0,
+        to: 1,
+        cost: Cost::of_weight(7),
+        middle: None,
+    };
+    let ranks = vec![in alloc; 0u32, 1]?;
+    let links = vec![in alloc; link]?;
+    Ok(Hierarchy::checked(alloc, ranks, links, Cost::of_weight(7)))
+}
+
+/// A hierarchy that is refused for want of memory is made again.
+#[test]
+fn checked(rt: HostRuntime) -> Result<(), Fail> {
+    let hierarchy = match two_nodes(rt.alloc())? {
+        Err(HierarchyError::OutOfMemory) => two_nodes(rt.alloc())??,
+        answer => answer?,
+    };
+    let hierarchy = match hierarchy.into_indexed(rt.alloc()) {
+        Ok(indexed) => indexed,
+        Err(AllocError) => two_nodes(rt.alloc())??.into_indexed(rt.alloc())?,
+    };
+    assert!(rt; hierarchy.nodes() == 2 && hierarchy.find(0, 1) == Some(LinkId(0)));
     Ok(())
 }
