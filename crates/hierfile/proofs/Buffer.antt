@@ -4,7 +4,7 @@ use Rattle.std.specs.Io.KnownBytes.{Consumes, Keeps}
 use Rattle.std.proofs.lemmas.List.{drop-take, take-append-le, take-append-drop, length-take-le, length-drop, get_or-drop, get_or-take, get_or_read}
 use Rattle.std.proofs.lemmas.List.Edits.{take-paste}
 use Rattle.std.proofs.lemmas.Slice.{take-put_mid_below}
-use Rattle.std.proofs.Math.Seq.{paste, take-add, drop-append_seam}
+use Rattle.std.proofs.Math.Seq.{paste, take-add, take-append_seam, drop-append_seam}
 use borrow.Rule.Slice.PartMut.{put_mid, post_of}
 use Rattle.std.specs.Int.{w32, w64, from_be_bytes}
 use Rattle.std.proofs.lemmas.Nat.{be_bytes_4, be_bytes_8}
@@ -19,6 +19,13 @@ moved bytes at end h k =
     let pasted : take (end - at) (paste bytes 0 (drop at bytes) (end - at)) ≡ take (end - at) (drop at bytes) =
     ap (λ n. take n (paste bytes 0 (drop at bytes) (end - at))) (sym (zero-add (end - at))) ∙ take-paste bytes 0 (drop at bytes) (end - at) (omega arith) room in
     pasted ∙ sym (drop-take at (end - at) bytes) ∙ ap (λ n. drop at (take n bytes)) parts
+
+-- bytes that were written over all that there were
+pub written_back : (count : ℕ) (new items : List ℕ) → length new ≡ length items → count ≡ length items → take count (new ++ drop (length new) items) ≡ new
+written_back count new items size counted =
+    let rest : List ℕ = drop (length new) items in
+    let all : count ≡ length new = omega (arith, size, counted) in
+    ap (λ n. take n (new ++ rest)) all ∙ take-append_seam new rest
 
 -- bytes that were put behind the first ones
 pub put_behind : (k : ℕ) (old new : List ℕ) (end n : ℕ) → end ≤ length old → n ≤ length new → take (end + n) (put_mid end k old new) ≡ take end old ++ take n new

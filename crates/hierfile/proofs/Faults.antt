@@ -1,6 +1,6 @@
 -- How faults of parts are faults of the whole.
 use Rattle.std.proofs.Common.{ℕ, zero, suc, ◌≡◌, ◌+◌, ◌<◌, ◌≤◌, List, ◌++◌, length, Option, None, Some, Result, Ok, Err, sym, refl, subst, arith, inl, inr, length-append}
-use Rattle.std.specs.Prelude.{IfErr, IfSome, IsErrAnd}
+use Rattle.std.specs.Prelude.{IfErr, IfSome, IsErrAnd, OnErr}
 use Rattle.std.specs.Io.KnownBytes.{Consumes}
 use Rattle.std.proofs.lemmas.Bool.{cases_lt}
 use Rattle.std.proofs.lemmas.Bool.Decides.{nat_tests}
@@ -122,3 +122,16 @@ found front g old new e {P} h step = of_bytes-map e (λ p. known_behind front (�
 pub hands_on : {T E : Type 0} (r : Result T E) (P : E → Type 0) (e : E) → IsErrAnd r (λ y. y ≡ e) → P e → IfErr r P
 hands_on (Ok x) P e is h = tt
 hands_on (Err y) P e is h = subst P (sym is) h
+
+pub where_err : {T E : Type 0} (r : Result T E) {P : Type 0} → P → OnErr r P
+where_err (Ok x) h = tt
+where_err (Err e) h = h
+
+pub memory_is_no_read : OutOfMemory ≡ Read → ⊥
+memory_is_no_read is = cc
+
+pub truncated_is_no_read : Truncated ≡ Read → ⊥
+truncated_is_no_read is = cc
+
+pub magic_is_no_read : BadMagic ≡ Read → ⊥
+magic_is_no_read is = cc

@@ -55,6 +55,11 @@ pub record IsBodyOf (h : Hierarchy) (nodes count longest : ℕ) : Type 0 where
   pub links : length h.links ≡ count
   pub bound : length_of h.bound ≡ longest
 
+-- bytes of a reader that wait in a buffer, and how often it may still be called
+pub record Buffered : Type 0 where
+  pub waiting : List ℕ
+  pub left : ℕ
+
 -- bytes that are gathered for a writer, how many it has taken before, and how often it may still be called
 pub record Gathered : Type 0 where
   pub waiting : List ℕ

@@ -1,19 +1,21 @@
-ghost use Rattle.std.specs.Prelude.{◌≡◌, ◌+◌, ◌<◌, ◌≤◌, [], ◌∷◌, length, take, IfOk, IfErr, OnOk, MatchBool, MatchOption};
+ghost use Rattle.std.specs.Prelude.{◌≡◌, ◌+◌, ◌<◌, ◌≤◌, [], ◌∷◌, length, min, take, IfOk, IfErr, OnErr, OnOk, MatchBool, MatchOption};
 ghost use Rattle.std.specs.Io.KnownBytes.{Consumes, Keeps, IsAtEnd};
+ghost use Rattle.counted_io.specs.Limits.{GivesOut, IsRead, ReadsWithin};
+ghost use Rattle.counted_io.specs.declared.TheConstants.{MOST_CALLS};
 ghost use Rattle.hierfile.specs.Spelling.{word, long};
 ghost use Rattle.hierfile.specs.Fault.{cut};
 ghost use Rattle.hierfile.specs.Bytes.{coming, IsFaultOf};
 
 use crate::error::HierError;
-use counted_io::{ReadCalls, ReadFault};
+use counted_io::{ReadCalls, ReadFault, StepRead};
 use std::alloc::{AllocError, Global};
-use std::io::Read;
 use std::marker::Model;
 
 /// How many bytes the buffer holds.
 const SIZE: usize = 1 << 16;
 
-/// The bytes of a reader, taken number by number through a buffer. It is seen as the bytes that wait in the buffer.
+/// The bytes of a reader, taken number by number through a buffer. It is seen as the bytes that wait in
+/// the buffer, and the number of calls that are left.
 #[derive(Drop)]
 pub struct Input {
     buffer: Vec<u8>,
@@ -26,11 +28,12 @@ pub struct Input {
 }
 
 impl Model for Input {
-    ghost use Rattle.std.specs.Prelude.{ℕ, List, ◌≤◌, ◌≡◌, length, take, drop};
+    ghost use Rattle.std.specs.Prelude.{◌≤◌, ◌≡◌, length, take, drop};
+    ghost use Rattle.hierfile.specs.Bytes as bytes;
 
-    ghost Value = { List ℕ };
+    ghost Value = { bytes.Buffered };
 
-    ghost view = { λ i. drop i.at (take i.end i.buffer.items) };
+    ghost view = { λ i. record { waiting = drop i.at (take i.end i.buffer.items); left = i.calls.left } };
 
     ghost invariant = { λ i. (i.at ≤ i.end) × (i.end ≤ length i.buffer.items) × (length i.buffer.items ≡ 65536) };
 }
@@ -38,7 +41,7 @@ impl Model for Input {
 impl Input {
     /// Nothing waits, and the reader may be called so often.
     pub fn new(alloc: Global, calls: u64) -> Result<Input, AllocError>
-        ensures { IfOk result (λ input. input ≡ []) }
+        ensures { IfOk result (λ input. input ≡ record { waiting = []; left = min calls MOST_CALLS }) }
     {
         Ok(Input {
             buffer: vec![in alloc; 0; SIZE]?,
@@ -49,10 +52,12 @@ impl Input {
     }
 
     /// The next byte, or none at the end of the reader's bytes.
-    pub fn byte<R: Read>(&mut self, reader: &mut R) -> Result<Option<u8>, HierError>
-        ensures ok { IfOk result (λ next. MatchOption next (IsAtEnd (coming self.old (R.remaining reader.old)))
-            (λ b. Consumes (coming self.old (R.remaining reader.old)) (coming self.new (R.remaining reader.new)) (b ∷ []))) }
+    pub fn byte<R: StepRead>(&mut self, reader: &mut R) -> Result<Option<u8>, HierError>
+        ensures ok { IfOk result (λ next. MatchOption next (IsAtEnd (coming self.old.waiting (R.remaining reader.old)))
+            (λ b. Consumes (coming self.old.waiting (R.remaining reader.old)) (coming self.new.waiting (R.remaining reader.new)) (b ∷ []))) }
         ensures err { IfErr result (λ e. e ≡ HierError.Read) }
+        ensures calls { OnOk result (IsRead R.step self.old.left self.new.left reader.old reader.new) }
+        ensures stopped { IfErr result (λ e. ReadsWithin R.step self.old.left (e ≡ HierError.Read) reader.old reader.new) }
     {
         if !self.has(reader, 1)? {
             return Ok(None);
@@ -63,9 +68,11 @@ impl Input {
     }
 
     /// The next number of four bytes.
-    pub fn word<R: Read>(&mut self, reader: &mut R) -> Result<u32, HierError>
-        ensures ok { IfOk result (λ n. Consumes (coming self.old (R.remaining reader.old)) (coming self.new (R.remaining reader.new)) (word n)) }
-        ensures err { IfErr result (IsFaultOf (cut 4) (coming self.old (R.remaining reader.old))) }
+    pub fn word<R: StepRead>(&mut self, reader: &mut R) -> Result<u32, HierError>
+        ensures ok { IfOk result (λ n. Consumes (coming self.old.waiting (R.remaining reader.old)) (coming self.new.waiting (R.remaining reader.new)) (word n)) }
+        ensures err { IfErr result (IsFaultOf (cut 4) (coming self.old.waiting (R.remaining reader.old))) }
+        ensures calls { OnOk result (IsRead R.step self.old.left self.new.left reader.old reader.new) }
+        ensures stopped { IfErr result (λ e. ReadsWithin R.step self.old.left (e ≡ HierError.Read) reader.old reader.new) }
     {
         self.need(reader, 4)?;
         let at = self.at;
@@ -76,9 +83,11 @@ impl Input {
     }
 
     /// The next number of eight bytes.
-    pub fn long<R: Read>(&mut self, reader: &mut R) -> Result<u64, HierError>
-        ensures ok { IfOk result (λ n. Consumes (coming self.old (R.remaining reader.old)) (coming self.new (R.remaining reader.new)) (long n)) }
-        ensures err { IfErr result (IsFaultOf (cut 8) (coming self.old (R.remaining reader.old))) }
+    pub fn long<R: StepRead>(&mut self, reader: &mut R) -> Result<u64, HierError>
+        ensures ok { IfOk result (λ n. Consumes (coming self.old.waiting (R.remaining reader.old)) (coming self.new.waiting (R.remaining reader.new)) (long n)) }
+        ensures err { IfErr result (IsFaultOf (cut 8) (coming self.old.waiting (R.remaining reader.old))) }
+        ensures calls { OnOk result (IsRead R.step self.old.left self.new.left reader.old reader.new) }
+        ensures stopped { IfErr result (λ e. ReadsWithin R.step self.old.left (e ≡ HierError.Read) reader.old reader.new) }
     {
         self.need(reader, 8)?;
         let at = self.at;
@@ -98,11 +107,13 @@ impl Input {
     }
 
     // Sees that so many bytes wait.
-    fn need<R: Read>(&mut self, reader: &mut R, count: usize) -> Result<(), HierError>
+    fn need<R: StepRead>(&mut self, reader: &mut R, count: usize) -> Result<(), HierError>
         requires { count ≤ 8 }
-        ensures ok { OnOk result (Keeps (coming self.old (R.remaining reader.old)) (coming self.new (R.remaining reader.new))) }
-        ensures enough { OnOk result (count ≤ length self.new) }
-        ensures err { IfErr result (IsFaultOf (cut count) (coming self.old (R.remaining reader.old))) }
+        ensures ok { OnOk result (Keeps (coming self.old.waiting (R.remaining reader.old)) (coming self.new.waiting (R.remaining reader.new))) }
+        ensures enough { OnOk result (count ≤ length self.new.waiting) }
+        ensures err { IfErr result (IsFaultOf (cut count) (coming self.old.waiting (R.remaining reader.old))) }
+        ensures calls { OnOk result (IsRead R.step self.old.left self.new.left reader.old reader.new) }
+        ensures stopped { IfErr result (λ e. ReadsWithin R.step self.old.left (e ≡ HierError.Read) reader.old reader.new) }
     {
         if !self.has(reader, count)? {
             return Err(HierError::Truncated);
@@ -112,11 +123,13 @@ impl Input {
 
     // Whether so many bytes are still to come. If so they wait.
     #[inline]
-    fn has<R: Read>(&mut self, reader: &mut R, count: usize) -> Result<bool, HierError>
+    fn has<R: StepRead>(&mut self, reader: &mut R, count: usize) -> Result<bool, HierError>
         requires { count ≤ 8 }
-        ensures keeps { OnOk result (Keeps (coming self.old (R.remaining reader.old)) (coming self.new (R.remaining reader.new))) }
-        ensures ok { IfOk result (λ enough. MatchBool enough (count ≤ length self.new) ((length self.new < count) × IsAtEnd (R.remaining reader.new))) }
+        ensures keeps { OnOk result (Keeps (coming self.old.waiting (R.remaining reader.old)) (coming self.new.waiting (R.remaining reader.new))) }
+        ensures ok { IfOk result (λ enough. MatchBool enough (count ≤ length self.new.waiting) ((length self.new.waiting < count) × IsAtEnd (R.remaining reader.new))) }
         ensures err { IfErr result (λ e. e ≡ HierError.Read) }
+        ensures calls { OnOk result (IsRead R.step self.old.left self.new.left reader.old reader.new) }
+        ensures stopped { IfErr result (λ e. ReadsWithin R.step self.old.left (e ≡ HierError.Read) reader.old reader.new) }
     {
         if self.end - self.at >= count {
             return Ok(true);
@@ -126,11 +139,13 @@ impl Input {
 
     // Reads on until so many bytes wait; false where the reader's bytes end before.
     #[cold]
-    fn fill<R: Read>(&mut self, reader: &mut R, count: usize) -> Result<bool, HierError>
+    fn fill<R: StepRead>(&mut self, reader: &mut R, count: usize) -> Result<bool, HierError>
         requires { count ≤ 8 }
-        ensures keeps { OnOk result (Keeps (coming self.old (R.remaining reader.old)) (coming self.new (R.remaining reader.new))) }
-        ensures ok { IfOk result (λ enough. MatchBool enough (count ≤ length self.new) ((length self.new < count) × IsAtEnd (R.remaining reader.new))) }
+        ensures keeps { OnOk result (Keeps (coming self.old.waiting (R.remaining reader.old)) (coming self.new.waiting (R.remaining reader.new))) }
+        ensures ok { IfOk result (λ enough. MatchBool enough (count ≤ length self.new.waiting) ((length self.new.waiting < count) × IsAtEnd (R.remaining reader.new))) }
         ensures err { IfErr result (λ e. e ≡ HierError.Read) }
+        ensures calls { OnOk result (IsRead R.step self.old.left self.new.left reader.old reader.new) }
+        ensures stopped { IfErr result (λ e. ReadsWithin R.step self.old.left (e ≡ HierError.Read) reader.old reader.new) }
     {
         self.buffer.copy_within(self.at..self.end, 0);
         self.end -= self.at;
@@ -152,7 +167,7 @@ impl Input {
 }
 
 // Reads the next bytes, and puts them behind the first ones of the buffer.
-fn read_behind<R: Read>(
+fn read_behind<R: StepRead>(
     calls: &mut ReadCalls,
     reader: &mut R,
     buffer: &mut [u8],
@@ -162,6 +177,8 @@ fn read_behind<R: Read>(
     ensures room { IfOk result (λ n. end + n ≤ length buffer.new) }
     ensures ok { IfOk result (λ n. Keeps (coming (take end buffer.old) (R.remaining reader.old)) (coming (take (end + n) buffer.new) (R.remaining reader.new))) }
     ensures end { IfOk result (λ n. n ≡ 0 → end < length buffer.new → IsAtEnd (R.remaining reader.new)) }
+    ensures calls { OnOk result (IsRead R.step calls.old.left calls.new.left reader.old reader.new) }
+    ensures stopped { OnErr result (GivesOut R.step calls.old.left reader.old reader.new) }
 {
     let count = calls.read(reader, &mut buffer[end..])?;
     Ok(count)

@@ -1,4 +1,4 @@
-ghost use Rattle.std.specs.Prelude.{◌≡◌, ◌==◌, ◌+◌, ◌-◌, ◌^◌, ◌<◌, ℕ, length, slice_index_or, None, Some, All, AllPairs, IfSome, IfOk, IfErr, OnOk};
+ghost use Rattle.std.specs.Prelude.{◌≡◌, ◌≢◌, ◌==◌, ◌+◌, ◌-◌, ◌^◌, ◌<◌, ℕ, length, slice_index_or, None, Some, All, AllPairs, IfSome, IfOk, IfErr, OnOk};
 ghost use Rattle.std.specs.List.{flat_map};
 ghost use Rattle.std.specs.Io.KnownBytes.{Consumes};
 ghost use Rattle.ch_cost.specs.Cost.{length_of};
@@ -6,6 +6,7 @@ ghost use Rattle.ch_graph.specs.Hierarchy.{ComesBefore};
 ghost use Rattle.ch_graph.specs.declared.link.Link.{Link};
 ghost use Rattle.ch_graph.specs.LinkIndex.{IsIndexOf};
 ghost use Rattle.ch_graph.specs.LinkHalves.{AreHalvesOf, ArePartsOf};
+ghost use Rattle.counted_io.specs.Limits.{IsRead, ReadsWithin};
 ghost use Rattle.hierfile.specs.Spelling.{link_bytes, middle_number};
 ghost use Rattle.hierfile.specs.Fault.{cut, is_in_order, link_fault, link_fault_at, links_fault, middle_fault, half_fault, first_along};
 ghost use Rattle.hierfile.specs.Bytes.{coming, IsFaultOf, OfBytes, Tells, NoneBelow, IsWritable};
@@ -14,14 +15,14 @@ use crate::error::HierError;
 use crate::input::Input;
 use ch_cost::Cost;
 use ch_graph::{Link, LinkHalves, LinkId, LinkIndex, Parts};
+use counted_io::StepRead;
 use std::alloc::Global;
-use std::io::Read;
 
 /// The number that is written for no middle.
 pub const NO_MIDDLE: u32 = u32::MAX;
 
 /// Reads so many links, of a hierarchy with these ranks and this bound.
-pub fn read_links<R: Read>(
+pub fn read_links<R: StepRead>(
     alloc: Global,
     input: &mut Input,
     reader: &mut R,
@@ -31,9 +32,11 @@ pub fn read_links<R: Read>(
 ) -> Result<Vec<Link>, HierError>
     ensures count { IfOk result (λ links. length links.items ≡ count) }
     ensures faultless { IfOk result (λ links. NoneBelow count (link_fault_at ranks.now bound links.items)) }
-    ensures ok { IfOk result (λ links. Consumes (coming input.old (R.remaining reader.old)) (coming input.new (R.remaining reader.new)) (flat_map link_bytes links.items)) }
+    ensures ok { IfOk result (λ links. Consumes (coming input.old.waiting (R.remaining reader.old)) (coming input.new.waiting (R.remaining reader.new)) (flat_map link_bytes links.items)) }
     ensures writable { IfOk result (λ links. All IsWritable links.items) }
-    ensures err { IfErr result (IsFaultOf (links_fault ranks.now bound count) (coming input.old (R.remaining reader.old))) }
+    ensures err { IfErr result (IsFaultOf (links_fault ranks.now bound count) (coming input.old.waiting (R.remaining reader.old))) }
+    ensures calls { OnOk result (IsRead R.step input.old.left input.new.left reader.old reader.new) }
+    ensures stopped { IfErr result (λ e. ReadsWithin R.step input.old.left (e ≡ HierError.Read) reader.old reader.new) }
 {
     let mut links = Vec::new(alloc);
     'links: for _ in 0..count {
@@ -45,10 +48,12 @@ pub fn read_links<R: Read>(
 }
 
 // Reads one link.
-fn read_link<R: Read>(input: &mut Input, reader: &mut R) -> Result<Link, HierError>
-    ensures ok { IfOk result (λ link. Consumes (coming input.old (R.remaining reader.old)) (coming input.new (R.remaining reader.new)) (link_bytes link)) }
+fn read_link<R: StepRead>(input: &mut Input, reader: &mut R) -> Result<Link, HierError>
+    ensures ok { IfOk result (λ link. Consumes (coming input.old.waiting (R.remaining reader.old)) (coming input.new.waiting (R.remaining reader.new)) (link_bytes link)) }
     ensures writable { IfOk result IsWritable }
-    ensures err { IfErr result (IsFaultOf (cut 20) (coming input.old (R.remaining reader.old))) }
+    ensures err { IfErr result (IsFaultOf (cut 20) (coming input.old.waiting (R.remaining reader.old))) }
+    ensures calls { OnOk result (IsRead R.step input.old.left input.new.left reader.old reader.new) }
+    ensures stopped { IfErr result (λ e. ReadsWithin R.step input.old.left (e ≡ HierError.Read) reader.old reader.new) }
 {
     let from = input.word(reader)?;
     let to = input.word(reader)?;
@@ -77,7 +82,8 @@ fn middle_of(number: u32) -> Option<u32>
 // Tests a link by itself, beside the one before it.
 #[tactic(auto, unfolding(crate::specs::Fault::link_fault))]
 fn test_link(ranks: &[u32], bound: Cost, earlier: Option<Link>, link: Link) -> Result<(), HierError>
-    ensures { Tells result (link_fault ranks.now bound earlier link) }
+    ensures told { Tells result (link_fault ranks.now bound earlier link) }
+    ensures no_read { IfErr result (λ e. e ≢ HierError.Read) }
 {
     let nodes = ranks.len();
     if link.from as usize >= nodes || link.to as usize >= nodes || link.from == link.to {
@@ -109,7 +115,8 @@ fn is_in_order(earlier: Option<Link>, link: Link) -> bool
 fn test_middle(ranks: &[u32], from: u32, to: u32, middle: Option<u32>) -> Result<(), HierError>
     requires from_in { from < length ranks.now }
     requires to_in { to < length ranks.now }
-    ensures { Tells result (middle_fault ranks.now from to middle) }
+    ensures told { Tells result (middle_fault ranks.now from to middle) }
+    ensures no_read { IfErr result (λ e. e ≢ HierError.Read) }
 {
     let Some(middle) = middle else {
         return Ok(());
@@ -138,6 +145,7 @@ pub fn find_halves(
     ensures halves { IfOk result (AreHalvesOf links.now) }
     ensures faultless { OnOk result (first_along (half_fault links.now) links.now ≡ None) }
     ensures err { IfErr result (λ e. OfBytes e (first_along (half_fault links.now) links.now ≡ Some e)) }
+    ensures no_read { IfErr result (λ e. e ≢ HierError.Read) }
 {
     let mut halves = LinkHalves::with_room(alloc, links.len())?;
     'links: for place in 0..links.len() {
@@ -155,6 +163,7 @@ fn parts_of(links: &[Link], index: &LinkIndex, link: Link) -> Result<Parts, Hier
     ensures parts { IfOk result (ArePartsOf links.now link) }
     ensures faultless { OnOk result (half_fault links.now link ≡ None) }
     ensures err { IfErr result (λ e. half_fault links.now link ≡ Some e) }
+    ensures no_read { IfErr result (λ e. e ≢ HierError.Read) }
 {
     let Some(middle) = link.middle else {
         return Ok(Parts::Arc(link.to));

@@ -1,6 +1,7 @@
-ghost use Rattle.std.specs.Prelude.{◌≡◌, ◌++◌, ◌∷◌, [], ◌<◌, ℕ, length, None, Some, IfOk, IfErr, OnOk};
+ghost use Rattle.std.specs.Prelude.{◌≡◌, ◌≢◌, ◌++◌, ◌∷◌, [], ◌<◌, ℕ, length, None, Some, IfOk, IfErr, OnOk};
 ghost use Rattle.std.specs.List.{flat_map};
 ghost use Rattle.std.specs.Io.KnownBytes.{Consumes};
+ghost use Rattle.counted_io.specs.Limits.{IsRead, ReadsWithin};
 ghost use Rattle.hierfile.specs.Spelling.{word};
 ghost use Rattle.hierfile.specs.Fault.{rank_test, rank_fault, ranks_fault};
 ghost use Rattle.hierfile.specs.Bytes.{coming, IsFaultOf, OfBytes, NoneBelow};
@@ -9,12 +10,12 @@ ghost use Rattle.hierfile.specs.Taken.{AreTaken};
 use crate::error::HierError;
 use crate::input::Input;
 use crate::taken::Taken;
+use counted_io::StepRead;
 use std::alloc::Global;
 use std::collections::BTreeSet;
-use std::io::Read;
 
 /// Reads the ranks of so many nodes.
-pub fn read_ranks<R: Read>(
+pub fn read_ranks<R: StepRead>(
     alloc: Global,
     input: &mut Input,
     reader: &mut R,
@@ -22,8 +23,10 @@ pub fn read_ranks<R: Read>(
 ) -> Result<Vec<u32>, HierError>
     ensures count { IfOk result (λ ranks. length ranks.items ≡ nodes) }
     ensures faultless { IfOk result (λ ranks. NoneBelow nodes (rank_fault nodes ranks.items)) }
-    ensures ok { IfOk result (λ ranks. Consumes (coming input.old (R.remaining reader.old)) (coming input.new (R.remaining reader.new)) (flat_map word ranks.items)) }
-    ensures err { IfErr result (IsFaultOf (ranks_fault nodes) (coming input.old (R.remaining reader.old))) }
+    ensures ok { IfOk result (λ ranks. Consumes (coming input.old.waiting (R.remaining reader.old)) (coming input.new.waiting (R.remaining reader.new)) (flat_map word ranks.items)) }
+    ensures err { IfErr result (IsFaultOf (ranks_fault nodes) (coming input.old.waiting (R.remaining reader.old))) }
+    ensures calls { OnOk result (IsRead R.step input.old.left input.new.left reader.old reader.new) }
+    ensures stopped { IfErr result (λ e. ReadsWithin R.step input.old.left (e ≡ HierError.Read) reader.old reader.new) }
 {
     let mut ranks = Vec::new(alloc);
     let mut taken = Taken::Few(BTreeSet::new(alloc));
@@ -48,6 +51,7 @@ fn take_rank(
     ensures taken { OnOk result (AreTaken nodes taken.new ranks.new.items) }
     ensures faultless { OnOk result (rank_test nodes ranks.old.items rank ≡ None) }
     ensures err { IfErr result (λ e. OfBytes e (rank_test nodes ranks.old.items rank ≡ Some e)) }
+    ensures no_read { IfErr result (λ e. e ≢ HierError.Read) }
 {
     if rank >= nodes {
         return Err(HierError::RankRange);

@@ -1,8 +1,10 @@
-ghost use Rattle.std.specs.Prelude.{◌≡◌, ◌++◌, [], ◌*◌, length, None, Some, IfOk, IfErr, OnOk, IfSome};
+ghost use Rattle.std.specs.Prelude.{◌≡◌, ◌≢◌, ◌++◌, [], ◌*◌, length, min, None, Some, IfOk, IfErr, OnOk, IfSome};
 ghost use Rattle.std.specs.List.{flat_map};
 ghost use Rattle.std.specs.Io.KnownBytes.{Consumes, IsAtEnd};
 ghost use Rattle.ch_cost.specs.Cost.{of_length};
 ghost use Rattle.ch_graph.specs.Hierarchy.{IsWellMade};
+ghost use Rattle.counted_io.specs.Limits.{IsRead, IsReadWithin, ReadsWithin};
+ghost use Rattle.counted_io.specs.declared.TheConstants.{MOST_CALLS};
 ghost use Rattle.hierfile.specs.Spelling.{bytes_of, magic, word, long, link_bytes};
 ghost use Rattle.hierfile.specs.Fault.{first_fault, magic_fault, head_fault, size_fault, body_fault, end_fault};
 ghost use Rattle.hierfile.specs.Bytes.{coming, IsFaultOf, ReadsSpellings, Tells, IsBodyOf};
@@ -13,9 +15,8 @@ use crate::links::{find_halves, read_links};
 use crate::ranks::read_ranks;
 use ch_cost::Cost;
 use ch_graph::{Hierarchy, LinkIndex};
-use counted_io::MOST_CALLS;
+use counted_io::{MOST_CALLS, StepRead};
 use std::alloc::Global;
-use std::io::Read;
 
 /// What every file begins with.
 const MAGIC: [u8; 4] = *b"RCH1";
@@ -44,18 +45,20 @@ struct Head {
 /// links have come, 8 bytes for each node and for each link. What the file announces takes none. Linear in the bytes, but
 /// for two binary searches for each link with a middle, among the links that leave one node, and one for each of the first
 /// ranks, among those before it.
-pub fn read<R: Read>(alloc: Global, reader: &mut R) -> Result<Hierarchy, HierError>
+pub fn read<R: StepRead>(alloc: Global, reader: &mut R) -> Result<Hierarchy, HierError>
     ensures ok { IfOk result (λ hierarchy. IfSome (R.remaining reader.old) (λ bytes. bytes ≡ bytes_of hierarchy)) }
     ensures made { IfOk result IsWellMade }
     ensures spelling { IfSome (R.remaining reader.old) (λ bytes. ReadsSpellings bytes result) }
     ensures err { IfErr result (IsFaultOf first_fault (R.remaining reader.old)) }
+    ensures calls { OnOk result (IsReadWithin R.step MOST_CALLS reader.old reader.new) }
+    ensures stopped { IfErr result (λ e. ReadsWithin R.step MOST_CALLS (e ≡ HierError.Read) reader.old reader.new) }
 {
     read_within(alloc, reader, MOST_CALLS)
 }
 
 /// Reads as [`read`] does, by so many calls of the reader, or 2^40 where they are more. After the last of them the
 /// answer is `Read`.
-pub fn read_within<R: Read>(
+pub fn read_within<R: StepRead>(
     alloc: Global,
     reader: &mut R,
     calls: u64,
@@ -64,6 +67,8 @@ pub fn read_within<R: Read>(
     ensures made { IfOk result IsWellMade }
     ensures spelling { IfSome (R.remaining reader.old) (λ bytes. ReadsSpellings bytes result) }
     ensures err { IfErr result (IsFaultOf first_fault (R.remaining reader.old)) }
+    ensures calls { OnOk result (IsReadWithin R.step (min calls MOST_CALLS) reader.old reader.new) }
+    ensures stopped { IfErr result (λ e. ReadsWithin R.step (min calls MOST_CALLS) (e ≡ HierError.Read) reader.old reader.new) }
 {
     let mut input = Input::new(alloc, calls)?;
     read_magic(&mut input, reader)?;
@@ -73,9 +78,11 @@ pub fn read_within<R: Read>(
 }
 
 // Reads the magic, and compares each byte as it comes.
-fn read_magic<R: Read>(input: &mut Input, reader: &mut R) -> Result<(), HierError>
-    ensures ok { OnOk result (Consumes (coming input.old (R.remaining reader.old)) (coming input.new (R.remaining reader.new)) magic) }
-    ensures err { IfErr result (IsFaultOf magic_fault (coming input.old (R.remaining reader.old))) }
+fn read_magic<R: StepRead>(input: &mut Input, reader: &mut R) -> Result<(), HierError>
+    ensures ok { OnOk result (Consumes (coming input.old.waiting (R.remaining reader.old)) (coming input.new.waiting (R.remaining reader.new)) magic) }
+    ensures err { IfErr result (IsFaultOf magic_fault (coming input.old.waiting (R.remaining reader.old))) }
+    ensures calls { OnOk result (IsRead R.step input.old.left input.new.left reader.old reader.new) }
+    ensures stopped { IfErr result (λ e. ReadsWithin R.step input.old.left (e ≡ HierError.Read) reader.old reader.new) }
 {
     'bytes: for wanted in &MAGIC {
         let Some(byte) = input.byte(reader)? else {
@@ -89,10 +96,12 @@ fn read_magic<R: Read>(input: &mut Input, reader: &mut R) -> Result<(), HierErro
 }
 
 // Reads the numbers behind the magic.
-fn read_head<R: Read>(input: &mut Input, reader: &mut R) -> Result<Head, HierError>
+fn read_head<R: StepRead>(input: &mut Input, reader: &mut R) -> Result<Head, HierError>
     ensures sizes { IfOk result (λ head. size_fault head.nodes head.links head.bound ≡ None) }
-    ensures ok { IfOk result (λ head. Consumes (coming input.old (R.remaining reader.old)) (coming input.new (R.remaining reader.new)) (word head.nodes ++ long head.links ++ long head.bound)) }
-    ensures err { IfErr result (IsFaultOf head_fault (coming input.old (R.remaining reader.old))) }
+    ensures ok { IfOk result (λ head. Consumes (coming input.old.waiting (R.remaining reader.old)) (coming input.new.waiting (R.remaining reader.new)) (word head.nodes ++ long head.links ++ long head.bound)) }
+    ensures err { IfErr result (IsFaultOf head_fault (coming input.old.waiting (R.remaining reader.old))) }
+    ensures calls { OnOk result (IsRead R.step input.old.left input.new.left reader.old reader.new) }
+    ensures stopped { IfErr result (λ e. ReadsWithin R.step input.old.left (e ≡ HierError.Read) reader.old reader.new) }
 {
     let head = Head {
         nodes: input.word(reader)?,
@@ -105,7 +114,8 @@ fn read_head<R: Read>(input: &mut Input, reader: &mut R) -> Result<Head, HierErr
 
 // Tests the numbers behind the magic.
 fn test_sizes(head: Head) -> Result<(), HierError>
-    ensures { Tells result (size_fault head.nodes head.links head.bound) }
+    ensures told { Tells result (size_fault head.nodes head.links head.bound) }
+    ensures no_read { IfErr result (λ e. e ≢ HierError.Read) }
 {
     let nodes = u64::from(head.nodes);
     let others = nodes.saturating_sub(1);
@@ -119,7 +129,7 @@ fn test_sizes(head: Head) -> Result<(), HierError>
 }
 
 // Reads what follows the head.
-fn read_body<R: Read>(
+fn read_body<R: StepRead>(
     alloc: Global,
     input: &mut Input,
     reader: &mut R,
@@ -128,8 +138,10 @@ fn read_body<R: Read>(
     requires { size_fault head.nodes head.links head.bound ≡ None }
     ensures made { IfOk result IsWellMade }
     ensures sizes { IfOk result (λ hierarchy. IsBodyOf hierarchy head.nodes head.links head.bound) }
-    ensures ok { IfOk result (λ hierarchy. IfSome (coming input.old (R.remaining reader.old)) (λ bytes. bytes ≡ flat_map word hierarchy.ranks ++ flat_map link_bytes hierarchy.links)) }
-    ensures err { IfErr result (IsFaultOf (body_fault head.nodes head.links head.bound) (coming input.old (R.remaining reader.old))) }
+    ensures ok { IfOk result (λ hierarchy. IfSome (coming input.old.waiting (R.remaining reader.old)) (λ bytes. bytes ≡ flat_map word hierarchy.ranks ++ flat_map link_bytes hierarchy.links)) }
+    ensures err { IfErr result (IsFaultOf (body_fault head.nodes head.links head.bound) (coming input.old.waiting (R.remaining reader.old))) }
+    ensures calls { OnOk result (IsRead R.step input.old.left input.new.left reader.old reader.new) }
+    ensures stopped { IfErr result (λ e. ReadsWithin R.step input.old.left (e ≡ HierError.Read) reader.old reader.new) }
 {
     let bound = Cost::of_length(head.bound);
     let ranks = read_ranks(alloc, input, reader, head.nodes)?;
@@ -142,9 +154,11 @@ fn read_body<R: Read>(
 }
 
 // Sees that nothing follows.
-fn read_end<R: Read>(input: &mut Input, reader: &mut R) -> Result<(), HierError>
-    ensures ok { OnOk result (IsAtEnd (coming input.old (R.remaining reader.old))) }
-    ensures err { IfErr result (IsFaultOf end_fault (coming input.old (R.remaining reader.old))) }
+fn read_end<R: StepRead>(input: &mut Input, reader: &mut R) -> Result<(), HierError>
+    ensures ok { OnOk result (IsAtEnd (coming input.old.waiting (R.remaining reader.old))) }
+    ensures err { IfErr result (IsFaultOf end_fault (coming input.old.waiting (R.remaining reader.old))) }
+    ensures calls { OnOk result (IsRead R.step input.old.left input.new.left reader.old reader.new) }
+    ensures stopped { IfErr result (λ e. ReadsWithin R.step input.old.left (e ≡ HierError.Read) reader.old reader.new) }
 {
     match input.byte(reader)? {
         None => Ok(()),

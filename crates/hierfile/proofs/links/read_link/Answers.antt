@@ -5,6 +5,7 @@ use Rattle.hierfile.proofs.Spelled.{length-word, length-long}
 use Rattle.hierfile.specs.Spelling.{word, long, link_bytes}
 use Rattle.hierfile.specs.Fault.{cut}
 use Rattle.ch_cost.specs.Cost.Lengths.{length_of-of_length}
+use Rattle.counted_io.specs.Limits.Laws.{read_then, reads_then}
 use Rattle.hierfile.proofs.links.read_link.Goals as goal
 
 pub returns-in_err-to-clause-err : goal.returns-in_err-to-clause-err
@@ -41,3 +42,33 @@ returns-clause-writable g c = record {
   cost = rw (c.of_length.ensures, length_of-of_length c.in_ok-weight.weight) (omega arith);
   middle = c.middle_of.ensures.node;
 }
+
+pub returns-in_err-to-clause-stopped : goal.returns-in_err-to-clause-stopped
+returns-in_err-to-clause-stopped g c =
+    let step = g.R.StepRead.step in
+    let t1 = c.in_ok-from.ensures.calls in
+    hands_on c.from_residual-in_err-to.result _ _ c.from_residual-in_err-to.ensures.1 (reads_then step t1 c.in_err-to.ensures.stopped)
+
+pub returns-in_err-weight-clause-stopped : goal.returns-in_err-weight-clause-stopped
+returns-in_err-weight-clause-stopped g c =
+    let step = g.R.StepRead.step in
+    let t1 = c.in_ok-from.ensures.calls in
+    let t2 = read_then step t1 c.in_ok-to.ensures.calls in
+    hands_on c.from_residual-in_err-weight.result _ _ c.from_residual-in_err-weight.ensures.1 (reads_then step t2 c.in_err-weight.ensures.stopped)
+
+pub returns-in_err-middle-clause-stopped : goal.returns-in_err-middle-clause-stopped
+returns-in_err-middle-clause-stopped g c =
+    let step = g.R.StepRead.step in
+    let t1 = c.in_ok-from.ensures.calls in
+    let t2 = read_then step t1 c.in_ok-to.ensures.calls in
+    let t3 = read_then step t2 c.in_ok-weight.ensures.calls in
+    hands_on c.from_residual-in_err-middle.result _ _ c.from_residual-in_err-middle.ensures.1 (reads_then step t3 c.in_err-middle.ensures.stopped)
+
+pub returns-clause-calls : goal.returns-clause-calls
+returns-clause-calls g c =
+    let step = g.R.StepRead.step in
+    let t1 = c.in_ok-from.ensures.calls in
+    let t2 = read_then step t1 c.in_ok-to.ensures.calls in
+    let t3 = read_then step t2 c.in_ok-weight.ensures.calls in
+    let t4 = read_then step t3 c.in_ok-middle.ensures.calls in
+    t4

@@ -8,6 +8,11 @@ use Rattle.hierfile.specs.Fault.{cut, rank_fault, ranks_fault}
 use Rattle.hierfile.specs.Bytes.{NoneBelow, coming}
 use Rattle.hierfile.proofs.Faults.{hands_on, behind, found}
 use Rattle.hierfile.proofs.RankFaults.{ranks_cut, ranks_stop, none-push}
+use Rattle.counted_io.specs.Limits.Laws.{read_none, read_then, reads_then, refused_after}
+use Rattle.hierfile.specs.declared.error.HierError.TheVariants.{OutOfMemory}
+use Rattle.hierfile.proofs.Faults.{memory_is_no_read}
+use Rattle.std.proofs.Common.{List, ℕ, rules}
+use Rattle.std.proofs.KnownBytes.{Consumes-nil}
 use Rattle.hierfile.proofs.ranks.read_ranks.Goals as goal
 
 pub returns-in_err-rank-clause-err : goal.returns-in_err-rank-clause-err
@@ -47,5 +52,38 @@ nodes-preserved g c =
       count = omega (arith, c.nodes.invariant.count, ap length pushed, length-append ranks (rank ∷ []));
       came = c.in_ok-take_rank.ensures.taken;
       faultless = subst (λ l. NoneBelow (c.nodes.counter + 1) (rank_fault n l)) (sym pushed) (none-push n rank c.nodes.counter ranks c.nodes.invariant.count c.nodes.invariant.faultless c.in_ok-take_rank.ensures.faultless);
-      taken = subst (λ l. Consumes (coming c.args.input.now (remaining c.args.reader.now)) (coming c.word.new.self (remaining c.word.new.reader)) l) spelled so_far;
+      taken = subst (λ l. Consumes (coming c.args.input.now.waiting (remaining c.args.reader.now)) (coming c.word.new.self.waiting (remaining c.word.new.reader)) l) spelled so_far;
+      calls = read_then g.R.StepRead.step c.nodes.invariant.calls c.in_ok-rank.ensures.calls;
     }
+
+pub returns-in_err-rank-clause-stopped : goal.returns-in_err-rank-clause-stopped
+returns-in_err-rank-clause-stopped g c =
+    hands_on c.from_residual.result _ _ c.from_residual.ensures.1 (reads_then g.R.StepRead.step c.nodes.invariant.calls c.in_err-rank.ensures.stopped)
+
+pub returns-in_err-take_rank-clause-stopped : goal.returns-in_err-take_rank-clause-stopped
+returns-in_err-take_rank-clause-stopped g c =
+    let step = g.R.StepRead.step in
+    let first = c.args.input.now.left in
+    let last = c.word.new.self.left in
+    hands_on c.from_residual-in_err-take_rank.result _ _ c.from_residual-in_err-take_rank.ensures.1
+    (refused_after step (read_then step c.nodes.invariant.calls c.in_ok-rank.ensures.calls) c.in_err-take_rank.ensures.no_read)
+
+pub returns-clause-calls : goal.returns-clause-calls
+returns-clause-calls g c = c.nodes.invariant.calls
+
+pub nodes-init : goal.nodes-init
+nodes-init g c =
+    let none = c.new-ranks.ensures.items in
+    let known = coming c.args.input.now.waiting (g.R.Read.remaining c.args.reader.now) in
+    record {
+      count = ap length none;
+      came = search rules;
+      faultless = λ k less. absurd (omega (arith, less));
+      taken = subst (λ (l : List ℕ). Consumes known known (flat_map word l)) (sym none) (Consumes-nil known);
+      calls = read_none g.R.StepRead.step c.args.input.now.left c.args.reader.now;
+    }
+
+pub returns-in_err-mark_if_many-clause-stopped : goal.returns-in_err-mark_if_many-clause-stopped
+returns-in_err-mark_if_many-clause-stopped g c =
+    let step = g.R.StepRead.step in
+    hands_on c.from_residual-in_err-mark_if_many.result _ OutOfMemory c.from_residual-in_err-mark_if_many.ensures.1 (refused_after step (read_then step c.nodes.invariant.calls c.in_ok-rank.ensures.calls) memory_is_no_read)

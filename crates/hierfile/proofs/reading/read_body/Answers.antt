@@ -15,6 +15,9 @@ use Rattle.hierfile.proofs.Faults.{hands_on, behind, found, earlier, later}
 use Rattle.hierfile.proofs.Bodies.{body_ranks, body_links, body_after_links}
 use Rattle.hierfile.proofs.WellMade.{links_sorted, few_nodes, well_made_of}
 use Rattle.ch_graph.specs.Hierarchy.{IsWellMade}
+use Rattle.counted_io.specs.Limits.Laws.{read_then, reads_then, refused_after}
+use Rattle.hierfile.specs.declared.error.HierError.TheVariants.{OutOfMemory}
+use Rattle.hierfile.proofs.Faults.{memory_is_no_read}
 use Rattle.hierfile.proofs.reading.read_body.Goals as goal
 
 pub returns-in_err-ranks-clause-err : goal.returns-in_err-ranks-clause-err
@@ -94,3 +97,26 @@ pub returns-clause-made : goal.returns-clause-made
 returns-clause-made g c =
     subst IsWellMade (sym c.with_index.ensures)
     (well_made_of c.args.head.nodes c.args.head.links c.args.head.bound c.in_ok-ranks.ranks.items c.as_slice.result.now c.in_ok-links.links.items c.as_slice-all.result.now c.of_length-bound.result c.requires c.in_ok-ranks.ensures.count c.in_ok-ranks.ensures.faultless c.in_ok-links.ensures.count c.in_ok-links.ensures.faultless c.in_ok-halves.ensures.faultless c.as_slice.ensures.value c.as_slice-all.ensures.value c.of_length-bound.ensures)
+
+pub returns-in_err-links-clause-stopped : goal.returns-in_err-links-clause-stopped
+returns-in_err-links-clause-stopped g c = hands_on c.from_residual-in_err-links.result _ _ c.from_residual-in_err-links.ensures.1 (reads_then g.R.StepRead.step c.in_ok-ranks.ensures.calls c.in_err-links.ensures.stopped)
+
+pub returns-in_err-halves-clause-stopped : goal.returns-in_err-halves-clause-stopped
+returns-in_err-halves-clause-stopped g c =
+    let step = g.R.StepRead.step in
+    hands_on c.from_residual-in_err-halves.result _ _ c.from_residual-in_err-halves.ensures.1 (refused_after step (read_then step c.in_ok-ranks.ensures.calls c.in_ok-links.ensures.calls) c.in_err-halves.ensures.no_read)
+
+pub returns-in_err-read_end-clause-stopped : goal.returns-in_err-read_end-clause-stopped
+returns-in_err-read_end-clause-stopped g c =
+    let step = g.R.StepRead.step in
+    hands_on c.from_residual-in_err-read_end.result _ _ c.from_residual-in_err-read_end.ensures.1 (reads_then step (read_then step c.in_ok-ranks.ensures.calls c.in_ok-links.ensures.calls) c.in_err-read_end.ensures.stopped)
+
+pub returns-clause-calls : goal.returns-clause-calls
+returns-clause-calls g c =
+    let step = g.R.StepRead.step in
+    read_then step (read_then step c.in_ok-ranks.ensures.calls c.in_ok-links.ensures.calls) c.in_ok-read_end.ensures.calls
+
+pub returns-in_err-index-clause-stopped : goal.returns-in_err-index-clause-stopped
+returns-in_err-index-clause-stopped g c =
+    let step = g.R.StepRead.step in
+    hands_on c.from_residual-in_err-index.result _ OutOfMemory c.from_residual-in_err-index.ensures.1 (refused_after step (read_then step c.in_ok-ranks.ensures.calls c.in_ok-links.ensures.calls) memory_is_no_read)

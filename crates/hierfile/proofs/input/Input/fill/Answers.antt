@@ -1,6 +1,12 @@
-use Rattle.std.proofs.Common.{◌≡◌, ◌-◌, length, take, ◌∙◌, ap, arith, rules}
-use Rattle.std.proofs.KnownBytes.{Keeps-refl}
-use Rattle.hierfile.proofs.Buffer.{moved, kept}
+use Rattle.std.proofs.Common.{ℕ, ◌≡◌, ◌+◌, ◌-◌, ◌≤◌, ◌++◌, List, Option, drop, sym, length, take, ◌∙◌, ap, refl, subst, arith, rules}
+use Rattle.std.specs.Io.KnownBytes.{Keeps}
+use Rattle.std.proofs.KnownBytes.{Keeps-refl, Keeps-trans}
+use Rattle.hierfile.proofs.Buffer.{moved, kept, written_back}
+use Rattle.counted_io.specs.Limits.{IsRead}
+use Rattle.counted_io.specs.Limits.Laws.{failed_after, read_none, read_then}
+use Rattle.hierfile.specs.declared.error.HierError.TheVariants.{Read}
+use Rattle.hierfile.specs.Bytes.{Buffered, coming}
+use Rattle.hierfile.proofs.Faults.{hands_on}
 use Rattle.hierfile.proofs.input.Input.fill.Goals as goal
 
 pub loop-self-init : goal.loop-self-init
@@ -11,5 +17,32 @@ loop-self-init g c =
       front = search rules;
       within = omega (arith, c.self.invariant.1);
       size = size;
-      keeps = kept _ _ _ _ (Keeps-refl _) (ap (take (input.end - input.at)) c.copy_within.ensures.items ∙ moved input.buffer.items input.at input.end c.self.invariant.0 c.self.invariant.1 ∙ c.self.view_is);
+      keeps = kept _ _ _ _ (Keeps-refl _) (ap (take (input.end - input.at)) c.copy_within.ensures.items ∙ moved input.buffer.items input.at input.end c.self.invariant.0 c.self.invariant.1 ∙ ap (λ (b : Buffered). b.waiting) c.self.view_is);
+      calls = subst (λ (b : Buffered). IsRead g.R.StepRead.step b.left input.calls.left c.args.reader.now c.args.reader.now) c.self.view_is (read_none g.R.StepRead.step input.calls.left c.args.reader.now);
+    }
+
+pub returns-in_err-more-clause-stopped : goal.returns-in_err-more-clause-stopped
+returns-in_err-more-clause-stopped g c = hands_on c.from_residual.result _ Read c.from_residual.ensures.1 (failed_after g.R.StepRead.step c.loop-self.invariant.calls refl c.in_err-more.ensures.stopped)
+
+pub returns-then-more-eq0-clause-calls : goal.returns-then-more-eq0-clause-calls
+returns-then-more-eq0-clause-calls g c = read_then g.R.StepRead.step c.loop-self.invariant.calls c.in_ok-more.ensures.calls
+
+pub loop-self-preserved : goal.loop-self-preserved
+loop-self-preserved g c =
+    let input = c.loop-self.self-inside in
+    let kept = c.loop-self.invariant in
+    let end = input.end + c.in_ok-more.more in
+    let new : List ℕ = c.read_behind.new.buffer in
+    let items : List ℕ = input.buffer.items in
+    let before : Option (List ℕ) = g.R.Read.remaining c.loop-self.reader in
+    let later : Option (List ℕ) = g.R.Read.remaining c.read_behind.new.reader in
+    let size : length new ≡ length items = c.read_behind.auto.buffer ∙ ap length c.as_mut_slice.ensures.value in
+    let whole : take input.buffer.len (new ++ drop (length new) items) ≡ new = written_back input.buffer.len new items size input.buffer.ok.0 in
+    let more : Keeps (coming (take input.end items) before) (coming (take end new) later) = subst (λ l. Keeps (coming (take input.end l) before) (coming (take end new) later)) c.as_mut_slice.ensures.value c.in_ok-more.ensures.ok in
+    record {
+      front = kept.front;
+      within = subst (λ (l : List ℕ). end ≤ length l) (sym whole) c.in_ok-more.ensures.room;
+      size = ap length whole ∙ size ∙ kept.size;
+      keeps = Keeps-trans _ _ _ kept.keeps (subst (λ l. Keeps (coming (take input.end items) before) (coming (take end l) later)) (sym whole) more);
+      calls = read_then g.R.StepRead.step kept.calls c.in_ok-more.ensures.calls;
     }

@@ -1,6 +1,7 @@
 use Rattle.std.proofs.Common.{◌≡◌, ◌-◌, ◌≤◌, length, take}
 use Rattle.std.specs.Io.KnownBytes.{Keeps}
 use Rattle.hierfile.specs.Bytes.{coming}
+use Rattle.counted_io.specs.Limits.{IsRead}
 use Rattle.hierfile.proofs.input.Input.fill.Given as goal
 
 abbrev pub invariant-loop-self : goal.invariant-loop-self
@@ -11,7 +12,8 @@ invariant-loop-self g l =
       front : input.at ≡ 0;
       within : input.end ≤ length input.buffer.items;
       size : length input.buffer.items ≡ 65536;
-      keeps : Keeps (coming l.fn.self (remaining l.fn.reader)) (coming (take input.end input.buffer.items) (remaining l.reader));
+      keeps : Keeps (coming l.fn.self.waiting (remaining l.fn.reader)) (coming (take input.end input.buffer.items) (remaining l.reader));
+      calls : IsRead g.R.StepRead.step l.fn.self.left input.calls.left l.fn.reader l.reader;
     }
 
 abbrev pub decreases-loop-self : goal.decreases-loop-self
