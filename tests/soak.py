@@ -2,15 +2,18 @@
 """Prepares many small random networks by many workers while the processors are busy, and compares every answer with the
 plain search in C++.
 
-    tests/soak.py [BUILDS [SEED]]        by default 1,000 builds
+    tests/soak.py [BUILDS [SEED]] [--first BUILD]        by default 1,000 builds and seed 1, from build 0 on
 
 Each network has up to 40 nodes and up to 200 arcs, loops and parallel arcs among them, and weights from a range that
 makes ties likely; one in ten has up to 400 nodes. Each is prepared with another seed by 2 to 64 workers, the orders in
 turn, and its pairs are routed, all of them in a small network: every length has to be that of the plain search, and
 every route a walk of that length. Meanwhile one process for each processor does nothing but count, so that workers are
-interrupted anywhere. A program that takes more than a minute is told as stuck. It needs g++ and the proved program,
-which is crates/routecli/out/routecli (README.md says how to build it) or the path in the environment variable ROUTECLI.
+interrupted anywhere. A program that takes more than a minute is told as stuck. The network of a build is drawn by the
+seed and the build's number, so `--first` goes on where a run was ended. Each 50 builds a line on standard error says how
+far it has come. It needs g++ and the proved program, which is crates/routecli/out/routecli (README.md says how to build
+it) or the path in the environment variable ROUTECLI.
 """
+import argparse
 import multiprocessing
 import os
 import pathlib
@@ -18,6 +21,7 @@ import random
 import subprocess
 import sys
 import tempfile
+import time
 
 sys.path.insert(0, str(pathlib.Path(__file__).resolve().parent.parent / "bench"))
 
@@ -26,6 +30,7 @@ from run import PROGRAM, ROOT, are_answers, least_arcs_of
 ORDERS = ["edges", "neighbours", "depth"]
 MOST_SECONDS = 60
 MOST_PAIRS = 1600
+TOLD_EACH = 50
 
 
 def write_network(draw, graph, queries):
@@ -50,13 +55,15 @@ def run(words, file):
             sys.exit(f"stuck: {' '.join(map(str, words))}")
 
 
-def soak(builds, draw, folder):
+def soak(builds, seed, folder):
     """Prepares and compares; the number of pairs."""
+    begun = time.time()
     plain = folder / "plain_search"
     subprocess.run(["g++", "-O2", "-std=c++17", "-o", plain, ROOT / "bench/plain_search.cpp"], check=True)
     graph, queries, file = folder / "network.gr", folder / "network.pairs", folder / "network.rch"
     total = 0
-    for build in range(builds):
+    for done, build in enumerate(builds, 1):
+        draw = random.Random(f"{seed} {build}")
         total += write_network(draw, graph, queries)
         workers = draw.randint(2, 64)
         order = ORDERS[build % len(ORDERS)]
@@ -66,6 +73,8 @@ def soak(builds, draw, folder):
         run([plain, graph, queries], folder / "wanted")
         if not are_answers(folder / "routed", folder / "wanted", least_arcs_of(graph)):
             sys.exit(f"build {build}, {workers} workers by {order}: the answers differ")
+        if done % TOLD_EACH == 0:
+            print(f"{done:,} of {len(builds):,} builds in {time.time() - begun:.0f} s", file=sys.stderr, flush=True)
     return total
 
 
@@ -75,18 +84,21 @@ def count():
 
 
 def main():
-    builds = int(sys.argv[1]) if len(sys.argv) > 1 else 1000
-    seed = int(sys.argv[2]) if len(sys.argv) > 2 else 1
+    parser = argparse.ArgumentParser(description=__doc__, formatter_class=argparse.RawDescriptionHelpFormatter)
+    parser.add_argument("builds", nargs="?", type=int, default=1000, metavar="BUILDS")
+    parser.add_argument("seed", nargs="?", type=int, default=1, metavar="SEED")
+    parser.add_argument("--first", type=int, default=0, metavar="BUILD")
+    asked = parser.parse_args()
     if not PROGRAM.exists():
         sys.exit(f"{PROGRAM} isn't built: README.md says how")
     busy = [multiprocessing.Process(target=count, daemon=True) for _ in range(os.cpu_count() or 1)]
     for process in busy:
         process.start()
     with tempfile.TemporaryDirectory() as folder:
-        total = soak(builds, random.Random(seed), pathlib.Path(folder))
+        total = soak(range(asked.first, asked.first + asked.builds), asked.seed, pathlib.Path(folder))
     for process in busy:
         process.terminate()
-    print(f"{builds:,} builds with 2 to 64 workers, {total:,} pairs: all answers are right, and none was stuck")
+    print(f"{asked.builds:,} builds with 2 to 64 workers, {total:,} pairs: all answers are right, and none was stuck")
 
 
 if __name__ == "__main__":

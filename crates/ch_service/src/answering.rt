@@ -28,7 +28,7 @@ use std::thread::Threads;
 /// order: its least length, how many arcs its route has, and the nodes of the route. The texts are read first, the
 /// graph's before the pairs', and the hierarchy is built next, as [`prepare`](crate::prepare) does; where one of them
 /// is refused nothing is written. Where memory is refused while pairs are answered, the lines of the pairs before are
-/// written first. On every answer the estimators were dropped, and `leases` was waited for. Takes the time and memory
+/// written first. On every answer the estimators were dropped, and no lease of `leases` is out. Takes the time and memory
 /// of [`prepare`](crate::prepare), and then those of [`route`](crate::route).
 pub fn answer<G: Read, Q: Read, W: Write, P: Gate, R: Threads + Wait + Sync>(
     rt: &R,
@@ -45,6 +45,7 @@ pub fn answer<G: Read, Q: Read, W: Write, P: Gate, R: Threads + Wait + Sync>(
     ensures answers { OnOk result (IfTold (G.remaining gr.old) (Q.remaining queries.old)
         (λ graph pairs. Writes (Answers graph pairs) (W.contents out.old) (W.contents out.new))) }
     ensures good { OnOk result (AreGood options (vec_len lists)) }
+    ensures leases { leases.new ≡ record leases.old { out = 0 } }
 
     // At a refusal.
     ensures bad { (e : BuildError) → result ≡ Err (Build e) → (e ≡ BadOptions) ↔ AreBad options (vec_len lists) }

@@ -15,8 +15,8 @@ use std::thread::Threads;
 /// [`prepare`] writes the file from the text of the graph, and [`route`] reads it and answers the pairs: what a user does
 /// by two commands. The answers have one line for each pair, in order: the least length over all walks in the graph and
 /// the nodes along a walk of exactly that length, or that there is no walk. This holds for all options and estimators,
-/// and however the workers' reads and commits fall. Refusals, time and memory are those of the two calls, with the bytes of
-/// the file and of the answers.
+/// and however the workers' reads and commits fall. On every answer the estimators were dropped, and no lease of
+/// `leases` is out. Refusals, time and memory are those of the two calls, with the bytes of the file and of the answers.
 pub fn routes_in_memory<P: Gate, R: Threads + Wait + Sync>(
     rt: &R,
     alloc: Global,
@@ -29,6 +29,7 @@ pub fn routes_in_memory<P: Gate, R: Threads + Wait + Sync>(
 ) -> Result<Vec<u8>, ServiceError>
     requires untold { All (λ list. All (λ estimator. heard estimator ≡ []) list.items) lists.items }
     ensures exact { IfOk result (λ text. Answers graph.now pairs.now text.items) }
+    ensures leases { leases.new ≡ record leases.old { out = 0 } }
 {
     let (mut graph, mut pairs) = (graph, pairs);
     let mut file = Vec::new(alloc);

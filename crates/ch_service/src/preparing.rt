@@ -22,7 +22,7 @@ use std::thread::Threads;
 /// `gr` gives the text of the graph, and `out` gets the file of the hierarchy. The text is read first, and then the
 /// hierarchy is built by workers as the options say, each with the estimators of its list, of which none was told
 /// anything; where one of the two is refused nothing is written. On every answer the estimators were dropped, and
-/// `leases` was waited for. Takes memory for the graph, and then that of [`build`](ch_workers::build).
+/// no lease of `leases` is out. Takes memory for the graph, and then that of [`build`](ch_workers::build).
 pub fn prepare<G: Read, W: Write, P: Gate, R: Threads + Wait + Sync>(
     rt: &R,
     alloc: Global,
@@ -37,6 +37,7 @@ pub fn prepare<G: Read, W: Write, P: Gate, R: Threads + Wait + Sync>(
     ensures prepares { OnOk result (IfSome (G.remaining gr.old)
         (λ text. Writes (Prepares text) (W.contents out.old) (W.contents out.new))) }
     ensures good { OnOk result (AreGood options (vec_len lists)) }
+    ensures leases { leases.new ≡ record leases.old { out = 0 } }
 
     // At a refusal.
     ensures bad { (e : BuildError) → result ≡ Err (Build e) → (e ≡ BadOptions) ↔ AreBad options (vec_len lists) }

@@ -259,7 +259,7 @@ fn five_workers_hear_of_the_log(rt: HostRuntime) -> Result<(), Fail> {
 }
 
 /// Two lists of estimators.
-fn two_lists(
+pub(crate) fn two_lists(
     alloc: Global,
     first: Vec<Box<dyn Estimator + Send>>,
     second: Vec<Box<dyn Estimator + Send>>,
@@ -275,7 +275,7 @@ fn two_lists(
 }
 
 /// A list of three estimators.
-fn list_of_three(
+pub(crate) fn list_of_three(
     alloc: Global,
     first: Box<dyn Estimator + Send>,
     second: Box<dyn Estimator + Send>,

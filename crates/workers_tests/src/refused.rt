@@ -3,6 +3,8 @@
 //! A build that is refused memory is made again. The lengths of what is built are those of the plain search, whichever
 //! growth was refused: a worker that is refused memory leaves its work to the others and to the sweep. A growth of what a
 //! test sets up ends the test with that error.
+mod drops;
+
 use crate::kit::{Keys, ONE, TWO, built_by, grid, tie};
 use crate::lengths::are_least;
 use ch_graph::Graph;

@@ -22,13 +22,13 @@ returns-clause-fault g c =
 
 pub returns-in-Err-read_queries-clause-fault : goal.returns-in-Err-read_queries-clause-fault
 returns-in-Err-read_queries-clause-fault g c =
-    fault-answered c.in-Ok.graph c.in-Err-read_queries.fault _ _ c.refuse-in-Err-read_queries.result (search rules) (search rules) c.refuse-in-Err-read_queries.ensures
+    fault-answered c.in-Ok.graph c.in-Err-read_queries.fault _ _ c.refuse-in-Err-read_queries.result (search rules) (search rules) c.refuse-in-Err-read_queries.ensures.refused
 
 pub returns-in-Err-read_queries-clause-bad : goal.returns-in-Err-read_queries-clause-bad
-returns-in-Err-read_queries-clause-bad g c e is = absurd (pairs_refused c.refuse-in-Err-read_queries.result c.in-Err-read_queries.fault e c.refuse-in-Err-read_queries.ensures is)
+returns-in-Err-read_queries-clause-bad g c e is = absurd (pairs_refused c.refuse-in-Err-read_queries.result c.in-Err-read_queries.fault e c.refuse-in-Err-read_queries.ensures.refused is)
 
 pub returns-in-Err-read_queries-clause-untouched : goal.returns-in-Err-read_queries-clause-untouched
-returns-in-Err-read_queries-clause-untouched g c = rw c.refuse-in-Err-read_queries.ensures (search rules)
+returns-in-Err-read_queries-clause-untouched g c = rw c.refuse-in-Err-read_queries.ensures.refused (search rules)
 
 pub returns-clause-kinds : goal.returns-clause-kinds
 returns-clause-kinds g c =

@@ -2,8 +2,7 @@ use Rattle.std.proofs.Common.{rules}
 use Rattle.ch_service.proofs.Exact.{exact-in_memory}
 use Rattle.ch_service.proofs.in_memory.routes_in_memory.Goals as goal
 
-pub returns : goal.returns
-returns g c = record {
-  exact = exact-in_memory c.args.graph.now c.args.pairs.now c.new-file.result.items c.prepare.new.out.items c.as_slice-bytes.result.now c.new-text.result.items c.route.new.out.items
-      (search rules) (search rules) (search rules) c.in_ok-prepare.ensures.prepares c.in_ok-route.ensures.exact;
-}
+pub returns-clause-exact : goal.returns-clause-exact
+returns-clause-exact g c =
+    exact-in_memory c.args.graph.now c.args.pairs.now c.new-file.result.items c.prepare.new.out.items c.as_slice-bytes.result.now c.new-text.result.items c.route.new.out.items
+    (search rules) (search rules) (search rules) c.in_ok-prepare.ensures.prepares c.in_ok-route.ensures.exact

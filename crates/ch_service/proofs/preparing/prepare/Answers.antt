@@ -14,16 +14,16 @@ returns-in_err-write-clause-broken g c =
     c.from_residual-in_err-write.ensures.1 c.in_err-write.ensures.err
 
 pub returns-in-Err-clause-fault : goal.returns-in-Err-clause-fault
-returns-in-Err-clause-fault g c = fault-prepared _ c.in-Err.fault c.refuse.result (search rules) c.refuse.ensures
+returns-in-Err-clause-fault g c = fault-prepared _ c.in-Err.fault c.refuse.result (search rules) c.refuse.ensures.refused
 
 pub returns-in-Err-clause-reached : goal.returns-in-Err-clause-reached
-returns-in-Err-clause-reached g c = rw c.refuse.ensures c.in-Err.ensures.reached
+returns-in-Err-clause-reached g c = rw c.refuse.ensures.refused c.in-Err.ensures.reached
 
 pub returns-in-Err-clause-bad : goal.returns-in-Err-clause-bad
-returns-in-Err-clause-bad g c e is = absurd (graph_refused c.refuse.result c.in-Err.fault e c.refuse.ensures is)
+returns-in-Err-clause-bad g c e is = absurd (graph_refused c.refuse.result c.in-Err.fault e c.refuse.ensures.refused is)
 
 pub returns-in-Err-clause-untouched : goal.returns-in-Err-clause-untouched
-returns-in-Err-clause-untouched g c = rw c.refuse.ensures (search rules)
+returns-in-Err-clause-untouched g c = rw c.refuse.ensures.refused (search rules)
 
 pub returns-in_err-hierarchy-clause-bad : goal.returns-in_err-hierarchy-clause-bad
 returns-in_err-hierarchy-clause-bad g c = refused-bad c.build.result c.in_err-hierarchy.field-0.0 _ _ c.from_residual.result c.in_err-hierarchy.was c.from_residual.ensures.1 c.build.ensures.bad

@@ -1,0 +1,156 @@
+//! Whether each estimator that a build was handed is dropped once, whichever growth was refused.
+//!
+//! Where memory is refused to the build itself, its answer is `OutOfMemory`, and the test ends with that error once the
+//! drops were compared. Each estimator has a count of its own, so none is dropped twice in place of another.
+ghost use Rattle.std.specs.Prelude.{◌≡◌, [], All, IfOk};
+
+use crate::drops::{list_of_three, two_lists};
+use crate::kit::{Lists, TWO, tie};
+use ch_contract::{Contraction, Facts};
+use ch_estimate::{EdgeDifference, Estimator, Lease, Leases, Note};
+use ch_workers::{BuildError, OpenGate, Options, build};
+use std::alloc::{AllocError, Global};
+use std::sync::atomic::{AtomicU64, Ordering};
+use std::sync::{Arc, Wait};
+use std::test::Fail;
+use std::thread::Threads;
+
+/// How often each of six estimators was dropped.
+#[derive(Drop)]
+struct Drops {
+    of: [AtomicU64; 6],
+}
+
+impl Drops {
+    /// None was.
+    fn new(alloc: Global) -> Result<Arc<Drops>, AllocError> {
+        let of = [
+            AtomicU64::new(0),
+            AtomicU64::new(0),
+            AtomicU64::new(0),
+            AtomicU64::new(0),
+            AtomicU64::new(0),
+            AtomicU64::new(0),
+        ];
+        let drops = Arc::new(alloc, Drops { of })?;
+        Ok(drops)
+    }
+
+    /// Whether each was dropped once.
+    fn are_one_each(&self) -> bool {
+        self.of
+            .iter()
+            .all(|drops| drops.load(Ordering::SeqCst) == 1)
+    }
+}
+
+/// An estimator that counts its drops by its number.
+struct Numbered {
+    inner: EdgeDifference,
+    number: usize,
+    drops: Arc<Drops>,
+}
+
+impl Estimator for Numbered {
+    ghost heard = { λ n. n.inner };
+
+    fn key(&mut self, facts: &Facts) -> u64 {
+        self.inner.key(facts)
+    }
+
+    fn told(&mut self, entry: &Contraction) -> Result<(), AllocError> {
+        self.inner.told(entry)
+    }
+
+    fn note(&self, node: u32) -> Note {
+        self.inner.note(node)
+    }
+}
+
+impl Drop for Numbered {
+    fn drop(self) {
+        let Self {
+            inner: _,
+            number,
+            drops,
+        } = self;
+        if let Some(count) = drops.of.get(number) {
+            count.fetch_add(1, Ordering::SeqCst);
+        }
+        drop(drops);
+    }
+}
+
+/// An estimator of this number that was told nothing.
+fn make_numbered(
+    alloc: Global,
+    lease: Lease,
+    number: usize,
+    drops: &Arc<Drops>,
+) -> Result<Box<dyn Estimator + Send>, AllocError>
+    ensures untold { IfOk result (λ estimator. heard estimator ≡ []) }
+{
+    let inner = EdgeDifference::new(alloc, lease);
+    let drops = Arc::try_clone(drops)?;
+    let estimator: Box<dyn Estimator + Send> = Box::new(
+        alloc,
+        Numbered {
+            inner,
+            number,
+            drops,
+        },
+    )?;
+    Ok(estimator)
+}
+
+/// The lists of two workers, of three estimators each.
+fn three_each(alloc: Global, leases: &mut Leases, drops: &Arc<Drops>) -> Result<Lists, AllocError>
+    ensures untold { IfOk result (λ lists. All (λ list. All (λ estimator. heard estimator ≡ []) list.items) lists.items) }
+{
+    let first = list_of_three(
+        alloc,
+        make_numbered(alloc, leases.lease()?, 0, drops)?,
+        make_numbered(alloc, leases.lease()?, 1, drops)?,
+        make_numbered(alloc, leases.lease()?, 2, drops)?,
+    )?;
+    let second = list_of_three(
+        alloc,
+        make_numbered(alloc, leases.lease()?, 3, drops)?,
+        make_numbered(alloc, leases.lease()?, 4, drops)?,
+        make_numbered(alloc, leases.lease()?, 5, drops)?,
+    )?;
+    two_lists(alloc, first, second)
+}
+
+/// How a build of the tie by these options ends, and whether each of its six estimators was then dropped once.
+fn end_of<R: Threads + Wait + Sync>(
+    rt: &R,
+    alloc: Global,
+    options: Options,
+) -> Result<(Result<(), BuildError>, bool), Fail> {
+    let graph = tie(alloc)?;
+    let drops = Drops::new(alloc)?;
+    let mut leases = Leases::new(alloc)?;
+    let lists = three_each(alloc, &mut leases, &drops)?;
+    let built = build(rt, alloc, graph, options, lists, &mut leases, &OpenGate);
+    let are_dropped = drops.are_one_each();
+    Ok((built.map(drop), are_dropped))
+}
+
+#[test]
+fn estimators_of_two_workers(rt: HostRuntime) -> Result<(), Fail> {
+    let (end, are_dropped) = end_of(&rt, rt.alloc(), TWO)?;
+    assert!(rt; are_dropped);
+    assert!(rt; matches!(end, Ok(()) | Err(BuildError::OutOfMemory)));
+    end?;
+    Ok(())
+}
+
+#[test]
+fn estimators_for_bad_options(rt: HostRuntime) -> Result<(), Fail> {
+    let bad = Options { settle: 0, ..TWO };
+    let (end, are_dropped) = end_of(&rt, rt.alloc(), bad)?;
+    assert!(rt; are_dropped);
+    assert_eq!(rt; end, Err(BuildError::BadOptions));
+    Ok(())
+}
