@@ -9,3 +9,4 @@ pub mod Prepared
 pub mod Progress
 pub mod Refusals
 pub mod Unpacked
+mod TextFaults

@@ -2,6 +2,7 @@ use Rattle.std.proofs.Common.{rules, subst}
 use Rattle.ch_graph.specs.Graph.{Graph, IsGraph}
 use Rattle.ch_service.proofs.ByWalks.{answers-told, stops-answered, fault-answering, texts-kinds, fault-answered, no_text_fault, pairs_refused}
 use Rattle.ch_service.proofs.FromBuild.{built-good}
+use Rattle.ch_service.proofs.TextFaults.{fault-built}
 use Rattle.ch_service.proofs.answering.answer.Goals as goal
 
 pub returns-clause-answers : goal.returns-clause-answers
@@ -40,3 +41,7 @@ returns-clause-good g c = built-good c.build.result _ _ _ c.answer_pairs.result 
 
 pub returns-clause-reached : goal.returns-clause-reached
 returns-clause-reached g c = no_text_fault _ _ c.answer_pairs.result c.answer_pairs.ensures.fault
+
+pub returns-in_err-hierarchy-clause-fault : goal.returns-in_err-hierarchy-clause-fault
+returns-in_err-hierarchy-clause-fault g c =
+    fault-built c.in-Ok.graph c.in-Ok-read_queries.pairs.items _ _ c.in_err-hierarchy.field-0.0 c.from_residual.result (search rules) (search rules) c.from_residual.ensures.1
