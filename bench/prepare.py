@@ -2,10 +2,11 @@
 """Times `routecli prepare` by workers and orders on the same networks, beside the sweep and a textbook hierarchy in
 C++ (hierarchy.cpp), one after the other on this machine, and then `routecli route`.
 
-    bench/prepare.py [SIDE ..]        sides of the square networks, by default 100 256 514
+    bench/prepare.py [--rounds ROUNDS] [SIDE ..]
+                                      by default 3 rounds; sides of the square networks, by default 100 256 514
 
 For each number of workers and each order, and for the textbook: seconds of the whole run, reading included, the best of
-three, and the most processor seconds; for the textbook also those of its preparation alone; links for each arc of
+the rounds, and the most processor seconds; for the textbook also those of its preparation alone; links for each arc of
 the network; and the greatest resident size, of which up to 15 MB may be this script's own. The sweep (`--workers 0`)
 contracts in the order of the node numbers and is left out above a side of 128. How many proposals were refused is told by
 refusals.py. Then 10,000 pairs are
@@ -13,6 +14,7 @@ routed once by the hierarchy of one worker and the first order, and every length
 other hierarchies of the network answer 100 pairs, which are compared too. It needs g++ and the proved program
 crates/routecli/out/routecli (README.md says how to build it).
 """
+import argparse
 import os
 import pathlib
 import subprocess
@@ -25,7 +27,6 @@ from run import PROGRAM, ROOT, arcs_in, links_in, run
 PAIRS = 10_000
 FEW = 100
 MOST_SWEPT = 128
-ROUNDS = 3
 ORDERS = ["edges", "neighbours", "depth"]
 WORKERS = [1, 2, 4]
 
@@ -43,10 +44,10 @@ def network(side, pairs, folder):
     return graph, queries
 
 
-def measured(words):
-    """The seconds of the best of three runs, the most processor seconds, and the greatest resident size in MB."""
+def measured(words, rounds):
+    """The seconds of the best of these runs, the most processor seconds, and the greatest resident size in MB."""
     best, processor, memory = None, 0, 0
-    for _ in range(ROUNDS):
+    for _ in range(rounds):
         start = time.perf_counter()
         child = subprocess.Popen(words, stdout=subprocess.DEVNULL, stderr=subprocess.DEVNULL)
         _, status, usage = os.wait4(child.pid, 0)
@@ -65,8 +66,8 @@ def textbook(program, graph, queries, answers):
     return [float(word) for word in said]
 
 
-def prepared(graph, file, workers, order):
-    return measured([PROGRAM, "prepare", "--workers", str(workers), "--order", order, graph, file])
+def prepared(graph, file, workers, order, rounds):
+    return measured([PROGRAM, "prepare", "--workers", str(workers), "--order", order, graph, file], rounds)
 
 
 def check(file, queries, wanted, folder):
@@ -81,7 +82,7 @@ def row(name, times, links):
     print(f"| {name} | {seconds:.2f} s | {processor:.2f} s | {links:.2f} | {memory:.0f} MB |", flush=True)
 
 
-def times_of(side, program, folder):
+def times_of(side, program, rounds, folder):
     graph, few = network(side, FEW, folder)
     graph, many = network(side, PAIRS, folder)
     arcs = arcs_in(graph)
@@ -93,29 +94,32 @@ def times_of(side, program, folder):
     print("|---" * 5 + "|")
     if side <= MOST_SWEPT:
         file = folder / "sweep.rch"
-        row("0 (the sweep)", prepared(graph, file, 0, "edges"), links_in(file) / arcs)
+        row("0 (the sweep)", prepared(graph, file, 0, "edges", rounds), links_in(file) / arcs)
         check(file, few, folder / "few.wanted", folder)
     for order in ORDERS:
         for workers in WORKERS:
             file = folder / f"{order}{workers}.rch"
-            row(f"{workers}, {order}", prepared(graph, file, workers, order), links_in(file) / arcs)
+            row(f"{workers}, {order}", prepared(graph, file, workers, order, rounds), links_in(file) / arcs)
             check(file, few, folder / "few.wanted", folder)
-    row("textbook in C++", measured([program, graph, folder / "none.pairs"]), links)
+    row("textbook in C++", measured([program, graph, folder / "none.pairs"], rounds), links)
     print(f"\ntextbook in C++, preparation alone: {seconds:.2f} s")
     seconds, memory = check(folder / "edges1.rch", many, folder / "many.wanted", folder)
     print(f"\n{PAIRS:,} pairs: route {seconds:.2f} s, {memory:.0f} MB; textbook in C++, lengths alone {answered:.2f} s")
 
 
 def main():
-    sides = [int(word) for word in sys.argv[1:]] or [100, 256, 514]
+    parser = argparse.ArgumentParser(description=__doc__, formatter_class=argparse.RawDescriptionHelpFormatter)
+    parser.add_argument("--rounds", type=int, default=3)
+    parser.add_argument("sides", nargs="*", type=int, default=[100, 256, 514], metavar="SIDE")
+    asked = parser.parse_args()
     if not PROGRAM.exists():
         sys.exit(f"{PROGRAM} isn't built: README.md says how")
     with tempfile.TemporaryDirectory() as folder:
         folder = pathlib.Path(folder)
         program = folder / "hierarchy"
         subprocess.run(["g++", "-O3", "-std=c++17", "-o", program, ROOT / "bench/hierarchy.cpp"], check=True)
-        for side in sides:
-            times_of(side, program, folder)
+        for side in asked.sides:
+            times_of(side, program, asked.rounds, folder)
 
 
 if __name__ == "__main__":
