@@ -6,7 +6,6 @@ pub mod Growing
 pub mod Keeping
 pub mod Limits
 pub mod Listing
-pub mod Placing
 pub mod Offering
 pub mod Tracing
 pub mod Valued

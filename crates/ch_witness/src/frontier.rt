@@ -9,16 +9,16 @@ use std::collections::BinaryHeap;
 
 /// The labels of the nodes that a search has come to, and which of them is settled next.
 ///
-/// Its memory goes by the number of these nodes and of the offers, and not by the size of a network. It is kept for
-/// the next search.
+/// Its memory goes by the number of these nodes and of the offers, and by the greatest of the nodes. It is kept for the
+/// next search.
 #[derive(Drop)]
 pub struct Frontier {
     /// The nodes that the search has come to.
     pub nodes: NodeIndex,
     /// What is known of each of them, in their order.
     pub labels: Vec<Label>,
-    /// Of each offer the cost, the node, and the place of that.
-    pub queue: BinaryHeap<Reverse<(Cost, u32, usize)>>,
+    /// Of each offer the cost, and the node.
+    pub queue: BinaryHeap<Reverse<(Cost, u32)>>,
     ghost paired: { length labels.items ≡ length nodes },
 }
 
@@ -92,7 +92,7 @@ impl Frontier {
         if !self.labels[at].is_improved_by(cost) {
             return Ok(());
         }
-        self.queue.push(Reverse((cost, node, at)))?;
+        self.queue.push(Reverse((cost, node)))?;
         self.labels[at] = opened(cost, place);
         Ok(())
     }
@@ -102,8 +102,7 @@ impl Frontier {
         requires { (k : ℕ) → k < length self.old.nodes → slice_index self.old.nodes k ≢ node }
         ensures { OnOk result (IsOffered (labels_of self.old) node cost place (labels_of self.new)) }
     {
-        let at = self.labels.len();
-        self.queue.push(Reverse((cost, node, at)))?;
+        self.queue.push(Reverse((cost, node)))?;
         self.labels.reserve(1)?;
         self.nodes.push(node)?;
         self.labels.push_reserved(opened(cost, place));
@@ -116,8 +115,8 @@ impl Frontier {
         ensures settled { IfSome result (λ r. IsSettledNow (labels_of self.old) r (labels_of self.new)) }
         ensures stays { IfNone result ((v : ℕ) → labels_of self.new v ≡ labels_of self.old v) }
     {
-        'entries: while let Some(Reverse((_, node, place))) = self.queue.pop() {
-            let reached = self.settle(node, place);
+        'entries: while let Some(Reverse((_, node))) = self.queue.pop() {
+            let reached = self.settle(node);
             if reached.is_some() {
                 return reached;
             }
@@ -125,24 +124,18 @@ impl Frontier {
         None
     }
 
-    /// Settles the node at a place where it is open, and does nothing to another one.
-    fn settle(&mut self, node: u32, place: usize) -> Option<Reached>
+    /// Settles a node where it is open, and does nothing to another one.
+    fn settle(&mut self, node: u32) -> Option<Reached>
         ensures settled { IfSome result (λ r. IsSettledNow (labels_of self.old) r (labels_of self.new)) }
         ensures queue { heap_len self.new.queue ≡ heap_len self.old.queue }
         ensures stays { IfNone result ((v : ℕ) → labels_of self.new v ≡ labels_of self.old v) }
     {
-        if !self.nodes.is_at(node, place) {
-            return None;
-        }
+        let place = self.nodes.find(node)?;
         let label = self.labels[place];
         if label.settled {
             return None;
         }
-        self.labels[place] = Label {
-            cost: label.cost,
-            before: label.before,
-            settled: true,
-        };
+        self.labels[place].settled = true;
         Some(Reached {
             node,
             cost: label.cost,

@@ -6,7 +6,7 @@ use std::alloc::{AllocError, Global};
 
 /// The answers of a source that were read, each node asked for once.
 ///
-/// Its memory goes by the number of these nodes.
+/// Its memory goes by the number of these nodes and by the greatest of them, and is kept for others.
 #[derive(Drop)]
 pub struct Rows {
     /// The nodes that were read.
