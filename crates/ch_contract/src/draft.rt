@@ -11,10 +11,11 @@ ghost use Rattle.ch_contract.specs.Listed.{LeadsOn};
 ghost use Rattle.ch_contract.specs.declared.error.ProposeError.TheVariants.{Unseen, Contracted};
 
 use crate::error::ProposeError;
+use crate::scratch::Desk;
 use ch_cost::Cost;
 use ch_laws::Entry;
 use ch_overlay::{Row, RowSource, Shortcut};
-use ch_witness::{Rule, Searcher, Way};
+use ch_witness::{Rule, Way};
 use std::alloc::{AllocError, Global};
 
 /// What the pairs of a proposal have in common.
@@ -98,7 +99,7 @@ impl Draft {
 pub fn draft_pairs<S: RowSource>(
     alloc: Global,
     source: &mut S,
-    searcher: &mut Searcher,
+    desk: &mut Desk,
     task: Task,
     row: &Row,
     into: Entry,
@@ -112,33 +113,34 @@ pub fn draft_pairs<S: RowSource>(
     requires out_rises { Rises row.now.out }
     requires entries { AreEntries (2 ^ 25) task.bound task.node row.now }
     requires among { Contains row.now.inn into }
-    requires kept { AreKept S.bears (S.shows source.old) (S.bound_of source.old) (kept_of searcher.old.rows) }
-    ensures draft { OnOk result (IsDraftedFrom task.bound task.node row.now into (kept_of searcher.new.rows) draft.old draft.new) }
-    ensures kept { AreKept S.bears (S.shows source.new) (S.bound_of source.new) (kept_of searcher.new.rows) }
-    ensures more { IsMore (kept_of searcher.old.rows) (kept_of searcher.new.rows) }
+    requires kept { AreKept S.bears (S.shows source.old) (S.bound_of source.old) (kept_of desk.old.searcher.rows) }
+    ensures draft { OnOk result (IsDraftedFrom task.bound task.node row.now into (kept_of desk.new.searcher.rows) draft.old draft.new) }
+    ensures kept { AreKept S.bears (S.shows source.new) (S.bound_of source.new) (kept_of desk.new.searcher.rows) }
+    ensures more { IsMore (kept_of desk.old.searcher.rows) (kept_of desk.new.searcher.rows) }
     ensures stays { S.stays source.old source.new }
-    ensures found { AllNamed (S.whole source.old) (kept_of searcher.old.rows) → NamesAlone (S.whole source.old) row.now → result ≡ Err Unseen → ⊥ }
+    ensures found { AllNamed (S.whole source.old) (kept_of desk.old.searcher.rows) → NamesAlone (S.whole source.old) row.now → result ≡ Err Unseen → ⊥ }
     ensures never { result ≡ Err Contracted → ⊥ }
-    ensures names { AllNamed (S.whole source.old) (kept_of searcher.old.rows) → NamesAlone (S.whole source.old) row.now → OnOk result (AllNamed (S.whole source.new) (kept_of searcher.new.rows)) }
+    ensures names { AllNamed (S.whole source.old) (kept_of desk.old.searcher.rows) → NamesAlone (S.whole source.old) row.now → OnOk result (AllNamed (S.whole source.new) (kept_of desk.new.searcher.rows)) }
 {
     if !leads_on(&row.out, into.other) {
         return Ok(());
     }
-    searcher.rows.read(source, into.other)?;
+    desk.searcher.rows.read(source, into.other)?;
     draft.listed.push(into.other)?;
-    let pairs = light_pairs(alloc, task.bound, into, &row.out)?;
-    if pairs.is_empty() {
+    find_light_pairs(task.bound, into, &row.out, &mut desk.pairs)?;
+    if desk.pairs.is_empty() {
         return Ok(());
     }
-    let targets = ends_of(alloc, &pairs)?;
-    let cutoff = greatest(&pairs);
+    find_ends(&desk.pairs, &mut desk.targets)?;
     let rule = Rule {
         from: into.other,
         avoid: task.node,
-        cutoff,
+        cutoff: greatest(&desk.pairs),
     };
-    let found = searcher.search(alloc, source, rule, &targets, task.settle)?;
-    draft.judge(&pairs, &found.ways)?;
+    let found = desk
+        .searcher
+        .search(alloc, source, rule, &desk.targets, task.settle)?;
+    draft.judge(&desk.pairs, &found.ways)?;
     Ok(())
 }
 
@@ -149,21 +151,22 @@ fn leads_on(entries: &[Entry], node: u32) -> bool
     entries.iter().any(|entry| node != entry.other)
 }
 
-/// The pairs from one neighbour to the others that aren't heavy, with what their two arcs cost together.
-fn light_pairs(
-    alloc: Global,
+/// The pairs from one neighbour to the others that aren't heavy, with what their two arcs cost together. They take the
+/// place of what the list had.
+fn find_light_pairs(
     bound: Cost,
     into: Entry,
     outs: &[Entry],
-) -> Result<Vec<Shortcut>, AllocError>
+    pairs: &mut Vec<Shortcut>,
+) -> Result<(), AllocError>
     requires rises { Rises outs.now }
-    ensures { IfOk result (λ pairs. ArePairs bound into outs.now pairs.items) }
+    ensures { OnOk result (ArePairs bound into outs.now pairs.new.items) }
 {
-    let mut pairs = Vec::with_capacity(alloc, outs.len())?;
+    pairs.clear();
     'outs: for out in outs {
-        add_pair(bound, into, *out, &mut pairs)?;
+        add_pair(bound, into, *out, pairs)?;
     }
-    Ok(pairs)
+    Ok(())
 }
 
 /// Adds the pair of two arcs, unless it is heavy or they join a node with itself.
@@ -198,11 +201,15 @@ fn light_pair(bound: Cost, into: Entry, out: Entry) -> Option<Shortcut>
     })
 }
 
-/// The nodes to which the pairs lead.
-fn ends_of(alloc: Global, pairs: &[Shortcut]) -> Result<Vec<u32>, AllocError>
-    ensures { IfOk result (λ nodes. nodes.items ≡ map (λ p. p.to) pairs.now) }
+/// The nodes to which the pairs lead. They take the place of what the list had.
+fn find_ends(pairs: &[Shortcut], ends: &mut Vec<u32>) -> Result<(), AllocError>
+    ensures { OnOk result (ends.new.items ≡ map (λ p. p.to) pairs.now) }
 {
-    pairs.iter().map(|pair| pair.to).collect(alloc)
+    ends.clear();
+    'pairs: for pair in pairs {
+        ends.push(pair.to)?;
+    }
+    Ok(())
 }
 
 /// What the most costly pair costs, or nothing where there is none.

@@ -10,8 +10,8 @@ ghost use Rattle.ch_contract.specs.declared.error.ProposeError.TheVariants.{Unse
 use crate::draft::{Draft, Task, draft_pairs};
 use crate::error::ProposeError;
 use crate::proposal::Proposal;
+use crate::scratch::{Desk, Scratch};
 use ch_overlay::{Row, RowSource};
-use ch_witness::Searcher;
 use std::alloc::Global;
 use std::sync::Arc;
 
@@ -21,7 +21,8 @@ use std::sync::Arc;
 /// the arcs cost more than the bound together, or a search finds another way that costs at most as much. A search
 /// settles at most `settle` nodes (1 to 65,536). `OutOfMemory` where a growth was refused, `Unseen` where the source
 /// has no row of a node that is asked for, `Contracted` exactly where the node's row, which is read first, has a rank;
-/// the source has then moved as reading moves it, and nothing else. Memory and time go by the nodes that are settled.
+/// the source has then moved as reading moves it, and nothing else. Memory and time go by the nodes that are settled and
+/// their neighbours, with 16 bytes for each number up to the greatest of them, which [`propose_with`] takes once.
 pub fn propose<S: RowSource>(
     alloc: Global,
     source: &mut S,
@@ -41,21 +42,6 @@ pub fn propose<S: RowSource>(
 {
     let mut scratch = Scratch::new(alloc);
     propose_with(alloc, source, &mut scratch, node, settle)
-}
-
-/// What proposals are worked out in, one after the other. It keeps their memory.
-#[derive(Drop)]
-pub struct Scratch {
-    searcher: Searcher,
-}
-
-impl Scratch {
-    /// It takes no memory yet.
-    pub fn new(alloc: Global) -> Scratch {
-        Scratch {
-            searcher: Searcher::new(alloc),
-        }
-    }
 }
 
 /// The proposal of [`propose`], worked out in memory that is used again.
@@ -79,19 +65,19 @@ pub fn propose_with<S: RowSource>(
     ensures stays { S.stays source.old source.new }
     ensures found { S.whole source.old node → result ≡ Err Unseen → ⊥ }
 {
-    scratch.searcher.rows.forget();
-    propose_in(alloc, source, &mut scratch.searcher, node, settle)
+    scratch.desk.searcher.rows.forget();
+    propose_in(alloc, source, &mut scratch.desk, node, settle)
 }
 
 /// The same, where no row is kept yet.
 fn propose_in<S: RowSource>(
     alloc: Global,
     source: &mut S,
-    searcher: &mut Searcher,
+    desk: &mut Desk,
     node: u32,
     settle: u32,
 ) -> Result<Proposal, ProposeError>
-    requires none { (x : ℕ) → kept_of searcher.old.rows x ≡ None }
+    requires none { (x : ℕ) → kept_of desk.old.searcher.rows x ≡ None }
     requires some { 1 ≤ settle }
     requires few { settle ≤ 65536 }
     ensures node { IfOk result (λ p. p.node ≡ node) }
@@ -108,19 +94,19 @@ fn propose_in<S: RowSource>(
         bound: source.bound(),
         settle,
     };
-    let place = searcher.rows.read(source, node)?;
-    let own = searcher.rows.at(place);
+    let place = desk.searcher.rows.read(source, node)?;
+    let own = desk.searcher.rows.at(place);
     if own.row.rank.is_some() {
         return Err(ProposeError::Contracted);
     }
     let row = Arc::try_clone(&own.row)?;
     let mut draft = Draft::new(alloc, node)?;
-    draft_all(alloc, source, searcher, task, &row, &mut draft)?;
+    draft_all(alloc, source, desk, task, &row, &mut draft)?;
     let Draft { listed, shortcuts } = draft;
     Ok(Proposal {
         bound: task.bound,
         node,
-        rests_on: searcher.rows.hand_out(alloc, &listed)?,
+        rests_on: desk.searcher.rows.hand_out(alloc, &listed)?,
         shortcuts,
     })
 }
@@ -129,7 +115,7 @@ fn propose_in<S: RowSource>(
 fn draft_all<S: RowSource>(
     alloc: Global,
     source: &mut S,
-    searcher: &mut Searcher,
+    desk: &mut Desk,
     task: Task,
     row: &Row,
     draft: &mut Draft,
@@ -141,17 +127,17 @@ fn draft_all<S: RowSource>(
     requires inn_rises { Rises row.now.inn }
     requires out_rises { Rises row.now.out }
     requires entries { AreEntries (2 ^ 25) task.bound task.node row.now }
-    requires kept { AreKept S.bears (S.shows source.old) (S.bound_of source.old) (kept_of searcher.old.rows) }
+    requires kept { AreKept S.bears (S.shows source.old) (S.bound_of source.old) (kept_of desk.old.searcher.rows) }
     requires begun { IsBegun task.node draft.old }
-    ensures draft { OnOk result (IsDrafted task.bound task.node row.now row.now.inn (kept_of searcher.new.rows) draft.new) }
-    ensures kept { AreKept S.bears (S.shows source.new) (S.bound_of source.new) (kept_of searcher.new.rows) }
-    ensures more { IsMore (kept_of searcher.old.rows) (kept_of searcher.new.rows) }
+    ensures draft { OnOk result (IsDrafted task.bound task.node row.now row.now.inn (kept_of desk.new.searcher.rows) draft.new) }
+    ensures kept { AreKept S.bears (S.shows source.new) (S.bound_of source.new) (kept_of desk.new.searcher.rows) }
+    ensures more { IsMore (kept_of desk.old.searcher.rows) (kept_of desk.new.searcher.rows) }
     ensures stays { S.stays source.old source.new }
     ensures never { result ≡ Err Contracted → ⊥ }
-    ensures found { AllNamed (S.whole source.old) (kept_of searcher.old.rows) → NamesAlone (S.whole source.old) row.now → result ≡ Err Unseen → ⊥ }
+    ensures found { AllNamed (S.whole source.old) (kept_of desk.old.searcher.rows) → NamesAlone (S.whole source.old) row.now → result ≡ Err Unseen → ⊥ }
 {
     'inns: for into in &row.inn {
-        draft_pairs(alloc, source, searcher, task, row, *into, draft)?;
+        draft_pairs(alloc, source, desk, task, row, *into, draft)?;
     }
     Ok(())
 }

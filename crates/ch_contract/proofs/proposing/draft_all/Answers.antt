@@ -7,7 +7,7 @@ use Rattle.ch_contract.proofs.proposing.draft_all.Goals as goal
 
 pub inns-init : goal.inns-init
 inns-init g c = record {
-  draft = drafted_none c.args.task.bound c.args.task.node c.args.row.now (kept_of c.args.searcher.now.rows) c.args.draft.now c.requires.begun;
+  draft = drafted_none c.args.task.bound c.args.task.node c.args.row.now (kept_of c.args.desk.now.searcher.rows) c.args.draft.now c.requires.begun;
   kept = c.requires.kept;
   more = λ x s is. is;
   stays = g.met.S.RowSource.stays_self c.args.source.now;
@@ -20,7 +20,7 @@ inns-preserved g c =
     let inv = c.inns.invariant in
     let step = c.in_ok-draft_pairs.ensures in
     record {
-      draft = next_drafted c.args.task.bound c.args.task.node c.args.row.now c.deref-into-items.result.now inns c.requires.inn_rises c.inns.into-index _ c.inns-test.true (kept_of c.inns.searcher.rows) (kept_of c.draft_pairs.new.searcher.rows) c.inns.draft c.draft_pairs.new.draft step.more inv.draft step.draft;
+      draft = next_drafted c.args.task.bound c.args.task.node c.args.row.now c.deref-into-items.result.now inns c.requires.inn_rises c.inns.into-index _ c.inns-test.true (kept_of c.inns.desk.searcher.rows) (kept_of c.draft_pairs.new.desk.searcher.rows) c.inns.draft c.draft_pairs.new.draft step.more inv.draft step.draft;
       kept = step.kept;
       more = λ x s is. step.more x s (inv.more x s is);
       stays = g.met.S.RowSource.stays_more c.args.source.now c.inns.source c.draft_pairs.new.source inv.stays step.stays;

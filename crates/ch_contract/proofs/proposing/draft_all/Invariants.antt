@@ -6,9 +6,9 @@ use Rattle.ch_contract.proofs.proposing.draft_all.Given as goal
 
 abbrev pub invariant-inns : goal.invariant-inns
 invariant-inns g l = record {
-  draft : IsDrafted l.fn.task.bound l.fn.task.node l.fn.row (take l.into-index l.into-items) (kept_of l.searcher.rows) l.draft;
-  kept : AreKept g.S.RowSource.bears (g.S.RowSource.shows l.source) (g.S.RowSource.bound_of l.source) (kept_of l.searcher.rows);
-  more : IsMore (kept_of l.initial.searcher.rows) (kept_of l.searcher.rows);
+  draft : IsDrafted l.fn.task.bound l.fn.task.node l.fn.row (take l.into-index l.into-items) (kept_of l.desk.searcher.rows) l.draft;
+  kept : AreKept g.S.RowSource.bears (g.S.RowSource.shows l.source) (g.S.RowSource.bound_of l.source) (kept_of l.desk.searcher.rows);
+  more : IsMore (kept_of l.initial.desk.searcher.rows) (kept_of l.desk.searcher.rows);
   stays : g.S.RowSource.stays l.initial.source l.source;
-  names : AllNamed (g.S.RowSource.whole l.initial.source) (kept_of l.initial.searcher.rows) → NamesAlone (g.S.RowSource.whole l.initial.source) l.fn.row → AllNamed (g.S.RowSource.whole l.source) (kept_of l.searcher.rows);
+  names : AllNamed (g.S.RowSource.whole l.initial.source) (kept_of l.initial.desk.searcher.rows) → NamesAlone (g.S.RowSource.whole l.initial.source) l.fn.row → AllNamed (g.S.RowSource.whole l.source) (kept_of l.desk.searcher.rows);
 }

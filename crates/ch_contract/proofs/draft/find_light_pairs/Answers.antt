@@ -4,10 +4,10 @@ use Rattle.ch_laws.specs.declared.entry.Entry.{Entry}
 use Rattle.ch_laws.specs.declared.shortcut.Shortcut.{Shortcut}
 use Rattle.ch_contract.specs.Drafts.{ArePairs}
 use Rattle.ch_contract.proofs.Pairing.{next_pairs, pairs_none}
-use Rattle.ch_contract.proofs.draft.light_pairs.Goals as goal
+use Rattle.ch_contract.proofs.draft.find_light_pairs.Goals as goal
 
 pub outs-init : goal.outs-init
-outs-init c = subst (λ (ps : List Shortcut). ArePairs c.args.bound c.args.into [] ps) (sym c.in_ok-pairs.ensures.items) (pairs_none c.args.bound c.args.into)
+outs-init c = subst (λ (ps : List Shortcut). ArePairs c.args.bound c.args.into [] ps) (sym c.clear.ensures.items) (pairs_none c.args.bound c.args.into)
 
 pub outs-preserved : goal.outs-preserved
 outs-preserved c = next_pairs c.args.bound c.args.into c.args.outs.now c.outs.out-index _ _ _ c.outs-test.true c.requires.rises c.in_ok-add_pair.ensures c.outs.invariant

@@ -1,0 +1,40 @@
+use ch_overlay::Shortcut;
+use ch_witness::Searcher;
+use std::alloc::Global;
+use std::marker::Model;
+
+/// What proposals are worked out in, one after the other. It keeps their memory, of which 16 bytes for each number up to
+/// the greatest of a node that they came to.
+#[derive(Drop)]
+pub struct Scratch {
+    pub(crate) desk: Desk,
+}
+
+impl Model for Scratch {
+    ghost Value = { Unit {0} };
+
+    ghost view = { λ _. tt };
+}
+
+/// What lies there.
+#[derive(Drop)]
+pub(crate) struct Desk {
+    pub(crate) searcher: Searcher,
+    /// The pairs from one neighbour that aren't heavy.
+    pub(crate) pairs: Vec<Shortcut>,
+    /// The nodes to which they lead.
+    pub(crate) targets: Vec<u32>,
+}
+
+impl Scratch {
+    /// It takes no memory yet.
+    pub fn new(alloc: Global) -> Scratch {
+        Scratch {
+            desk: Desk {
+                searcher: Searcher::new(alloc),
+                pairs: Vec::new(alloc),
+                targets: Vec::new(alloc),
+            },
+        }
+    }
+}
