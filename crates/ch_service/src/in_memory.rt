@@ -1,5 +1,9 @@
-ghost use Rattle.std.specs.Prelude.{◌≡◌, [], All, IfOk};
+ghost use Rattle.std.specs.Prelude.{◌≡◌, ◌↔◌, [], All, IfOk, OnOk, vec_len};
 ghost use Rattle.ch_service.specs.Answer.{Answers};
+ghost use Rattle.ch_service.specs.declared.error.ServiceError.TheVariants.{Build};
+ghost use Rattle.ch_workers.specs.Options.{AreBad, AreGood};
+ghost use Rattle.ch_workers.specs.declared.error.BuildError.{BuildError};
+ghost use Rattle.ch_workers.specs.declared.error.BuildError.TheVariants.{BadOptions};
 
 use crate::error::ServiceError;
 use crate::preparing::prepare;
@@ -29,6 +33,8 @@ pub fn routes_in_memory<P: Gate, R: Threads + Wait + Sync>(
 ) -> Result<Vec<u8>, ServiceError>
     requires untold { All (λ list. All (λ estimator. heard estimator ≡ []) list.items) lists.items }
     ensures exact { IfOk result (λ text. Answers graph.now pairs.now text.items) }
+    ensures good { OnOk result (AreGood options (vec_len lists)) }
+    ensures bad { (e : BuildError) → result ≡ Err (Build e) → (e ≡ BadOptions) ↔ AreBad options (vec_len lists) }
     ensures leases { leases.new ≡ record leases.old { out = 0 } }
 {
     let (mut graph, mut pairs) = (graph, pairs);
