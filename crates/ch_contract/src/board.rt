@@ -7,7 +7,7 @@ ghost use Rattle.ch_rowbook.specs.Blanks.{name_of};
 ghost use Rattle.ch_rowbook.specs.Books.{IsOfBook};
 ghost use Rattle.ch_rowbook.specs.Words.{IsBelow};
 ghost use Rattle.ch_contract.specs.declared.error.CommitError.TheVariants as commits;
-ghost use Rattle.ch_contract.specs.Ledger.{IsLedger, IsLog, IsNode, AreLawful, IsContracted, version_now};
+ghost use Rattle.ch_contract.specs.Ledger.{IsLedger, IsLog, IsNode, AreLawful, IsContracted, version_now, versions_now};
 ghost use Rattle.ch_contract.specs.Commit.{IsContractedYet, NoneIsOld, Agrees, IsStale};
 ghost use Rattle.ch_contract.specs.Finish.{HasNodesLeft};
 ghost use Rattle.ch_contract.specs.Sweep.{IsSwept, IsPartlySwept, IsVisited};
@@ -72,13 +72,54 @@ impl<S: Site> Board<S> {
         ensures start { IfOk result (λ made. IsStart graph (state_of made.0.overlay)) }
         ensures front { IfOk result (λ made. (x : ℕ) → x < graph.nodes → slice_index made.1 x ≡ version_now made.0 x) }
     {
-        bounds_fit();
-        let mut ledger = Ledger::new(alloc, graph)?;
+        let ledger = Ledger::new(alloc, graph)?;
         ledger.holds();
-        let (pen, reader) = open(rt, alloc, blank, ledger.overlay().rows())?;
-        let versions = pen.versions(alloc)?;
+        match Board::of_ledger(rt, alloc, blank, ledger) {
+            Ok(made) => Ok(made),
+            Err((_, refused)) => Err(refused),
+        }
+    }
+
+    /// The board of a ledger, whose rows stand in the book that the blank is opened as; and a reader of that book.
+    ///
+    /// The rows get versions anew, and nothing else of the ledger changes. So a ledger that is taken out of a board goes
+    /// on with a new book, which keeps no earlier version of a row. On a refusal it is handed back as it was, and the
+    /// blank is dropped. Takes memory for a record a row, and waits while another thread makes room for records.
+    pub fn of_ledger<R: Wait>(
+        rt: &R,
+        alloc: Global,
+        blank: Blank,
+        ledger: Ledger,
+    ) -> Result<(Board<S>, Reader<S>), (Ledger, BookError)>
+        requires of_graph { S.graph ≡ ledger.graph }
+        requires of_book { S.book ≡ name_of blank }
+        requires nodes { blank.nodes ≡ length ledger.overlay.rows }
+        requires bound { blank.bound ≡ ledger.overlay.bound }
+        ensures same { IfOk result (λ made. made.0 ≡ record ledger { overlay = record ledger.overlay { versions = versions_now made.0 } }) }
+        ensures front { IfOk result (λ made. (x : ℕ) → IsNode ledger x → slice_index made.1 x ≡ version_now made.0 x) }
+        ensures back { IfErr result (λ refused. refused.0 ≡ ledger) }
+    {
+        bounds_fit();
+        let mut ledger = ledger;
+        ledger.holds();
+        let (pen, reader) = match open(rt, alloc, blank, ledger.overlay().rows()) {
+            Ok(opened) => opened,
+            Err(refused) => return Err((ledger, refused)),
+        };
+        let versions = match pen.versions(alloc) {
+            Ok(versions) => versions,
+            Err(_) => return Err((ledger, BookError::OutOfMemory)),
+        };
         ledger.renumber(versions.as_slice());
         Ok((Board { ledger, pen }, reader))
+    }
+
+    /// The ledger, without the book, whose records go with the last of its readers. Takes no memory.
+    pub fn into_ledger(self) -> Ledger
+        ensures same { result ≡ self }
+        ensures named { result.graph ≡ S.graph }
+    {
+        self.ledger
     }
 
     /// The graph that the board was made of.

@@ -1,13 +1,11 @@
 ghost use Rattle.std.specs.Prelude.{◌≡◌, ◌+◌, ◌↔◌, [], All, IfOk, map, vec_len};
-ghost use Rattle.ch_graph.specs.Graph.{bound_of};
 ghost use Rattle.ch_graph.specs.Hierarchy.{IsRight};
-ghost use Rattle.ch_rowbook.specs.Blanks.{name_of};
 ghost use Rattle.ch_workers.specs.Account.{IsAccount};
 ghost use Rattle.ch_workers.specs.Built.{IsMadeBy};
 ghost use Rattle.ch_workers.specs.Options.{AreBad, AreGood};
 ghost use Rattle.ch_workers.specs.declared.error.BuildError.TheVariants.{BadOptions};
 
-use crate::boxed::{Boxed, box_lists};
+use crate::boxed::box_lists;
 use crate::built::Built;
 use crate::error::BuildError;
 use crate::finishing::finish;
@@ -15,12 +13,10 @@ use crate::gate::Gate;
 use crate::options::Options;
 use crate::run::contract;
 use crate::trouble::Trouble;
-use ch_contract::{Board, Site};
+use ch_contract::Ledger;
 use ch_estimate::{Estimator, Leases};
 use ch_graph::Graph;
-use ch_rowbook::Blank;
 use std::alloc::Global;
-use std::marker::Brand;
 use std::sync::Wait;
 use std::thread::Threads;
 
@@ -31,8 +27,9 @@ use std::thread::Threads;
 /// `BadOptions`, which is tested first, where a number of the options is outside its range or there isn't one list for
 /// each worker; `OutOfMemory` where a growth was refused; `Mixed` where the receipts and the log, or the accounts of
 /// the queue, don't agree. On every answer the estimators were dropped and no lease of `leases` is out: so it doesn't
-/// answer as long as one is out elsewhere. Takes memory for the rows of the nodes, shortcuts included, for the log,
-/// the receipts and the queue.
+/// answer as long as one is out elsewhere. Takes memory for the rows of the nodes, shortcuts included, and for those
+/// that are replaced in a shift, in which a quarter of the nodes that wait are contracted, or 16; for the log, the receipts
+/// and the queue.
 pub fn build<G: Gate, R: Threads + Wait + Sync>(
     rt: &R,
     alloc: Global,
@@ -74,14 +71,14 @@ fn build_with_good<G: Gate, R: Threads + Wait + Sync>(
     if options.are_bad(estimators.len()) {
         return Err(BuildError::BadOptions);
     }
-    match build_in_book(rt, alloc, graph, options, estimators, gate) {
+    match build_by_good(rt, alloc, graph, options, estimators, gate) {
         Ok(built) => Ok(built),
         Err(trouble) => Err(trouble.error()),
     }
 }
 
-/// Builds by a board of a type that names the graph, and the book that a new blank becomes.
-fn build_in_book<G: Gate, R: Threads + Wait + Sync>(
+/// Builds by workers and then by a sweep.
+fn build_by_good<G: Gate, R: Threads + Wait + Sync>(
     rt: &R,
     alloc: Global,
     graph: Graph,
@@ -97,32 +94,7 @@ fn build_in_book<G: Gate, R: Threads + Wait + Sync>(
     ensures lists { IfOk result (λ b. vec_len b.receipts ≡ options.workers + 1) }
 {
     let lists = box_lists(alloc, estimators)?;
-    let blank = Blank::new(alloc, graph.nodes(), graph.bound())?;
-    build_named::<Brand, Boxed, G, R>(rt, alloc, blank, graph, options, lists, gate)
-}
-
-/// Builds by a board of a type that names the graph and the book.
-fn build_named<S: Site + Send + Sync, E: Estimator + Send, G: Gate, R: Threads + Wait + Sync>(
-    rt: &R,
-    alloc: Global,
-    blank: Blank,
-    graph: Graph,
-    options: Options,
-    estimators: Vec<Vec<E>>,
-    gate: &G,
-) -> Result<Built, Trouble>
-    requires of_graph { S.graph ≡ graph }
-    requires of_book { S.book ≡ name_of blank }
-    requires nodes { blank.nodes ≡ graph.nodes }
-    requires bound { blank.bound ≡ bound_of graph }
-    requires good { AreGood options (vec_len estimators) }
-    requires untold { All (λ list. All (λ estimator. E.heard estimator ≡ []) list.items) estimators.items }
-    ensures built { IfOk result (λ b. IsMadeBy graph b.log.items b.hierarchy) }
-    ensures right { IfOk result (λ b. IsRight graph b.hierarchy) }
-    ensures account { IfOk result (λ b. IsAccount b.log.items (map (λ v. v.items) b.receipts.items)) }
-    ensures lists { IfOk result (λ b. vec_len b.receipts ≡ options.workers + 1) }
-{
-    let (board, reader) = Board::<S>::new(rt, alloc, blank, graph)?;
-    let worked = contract(rt, alloc, board, reader, options, estimators, gate)?;
+    let ledger = Ledger::new(alloc, graph)?;
+    let worked = contract(rt, alloc, ledger, options, lists, gate)?;
     finish(rt, alloc, worked, options.settle)
 }

@@ -1,8 +1,9 @@
-ghost use Rattle.std.specs.Prelude.{◌≡◌, ◌+◌, ◌<◌, ◌≤◌, IfOk, map, vec_len};
+ghost use Rattle.std.specs.Prelude.{◌≡◌, ◌+◌, ◌<◌, ◌≤◌, IfOk, length, map, vec_len};
 ghost use Rattle.ch_graph.specs.Hierarchy.{IsRight};
 ghost use Rattle.ch_laws.specs.Contraction.{IsOver};
 ghost use Rattle.ch_overlay.specs.Overlay.{state_of};
 ghost use Rattle.ch_contract.specs.Ledger.{IsLedger};
+ghost use Rattle.ch_rowbook.specs.Blanks.{name_of};
 ghost use Rattle.ch_workers.specs.Account.{IsAccount};
 ghost use Rattle.ch_workers.specs.Built.{IsMadeBy};
 
@@ -11,16 +12,42 @@ use crate::built::Built;
 use crate::run::Worked;
 use crate::trouble::Trouble;
 use ch_contract::{Board, FinishError, Receipt, Site};
+use ch_rowbook::Blank;
 use std::alloc::Global;
+use std::marker::Brand;
 use std::sync::Wait;
 
 /// Contracts what the workers left, and makes the hierarchy.
-pub(crate) fn finish<S: Site, R: Wait>(
+pub(crate) fn finish<R: Wait>(
     rt: &R,
     alloc: Global,
-    worked: Worked<S>,
+    worked: Worked,
     settle: u32,
 ) -> Result<Built, Trouble>
+    requires some { 0 < settle }
+    requires few { settle ≤ 65536 }
+    ensures built { IfOk result (λ b. IsMadeBy worked.ledger.graph b.log.items b.hierarchy) }
+    ensures right { IfOk result (λ b. IsRight worked.ledger.graph b.hierarchy) }
+    ensures account { IfOk result (λ b. IsAccount b.log.items (map (λ v. v.items) b.receipts.items)) }
+    ensures lists { IfOk result (λ b. vec_len b.receipts ≡ vec_len worked.receipts + 1) }
+{
+    let rows = worked.ledger.overlay();
+    let blank = Blank::new(alloc, rows.nodes(), rows.bound())?;
+    finish_named::<Brand, R>(rt, alloc, blank, worked, settle)
+}
+
+/// Makes the hierarchy by a board of a type that names the graph and the book.
+fn finish_named<S: Site, R: Wait>(
+    rt: &R,
+    alloc: Global,
+    blank: Blank,
+    worked: Worked,
+    settle: u32,
+) -> Result<Built, Trouble>
+    requires of_graph { S.graph ≡ worked.ledger.graph }
+    requires of_book { S.book ≡ name_of blank }
+    requires nodes { blank.nodes ≡ length worked.ledger.overlay.rows }
+    requires bound { blank.bound ≡ worked.ledger.overlay.bound }
     requires some { 0 < settle }
     requires few { settle ≤ 65536 }
     ensures built { IfOk result (λ b. IsMadeBy S.graph b.log.items b.hierarchy) }
@@ -29,9 +56,13 @@ pub(crate) fn finish<S: Site, R: Wait>(
     ensures lists { IfOk result (λ b. vec_len b.receipts ≡ vec_len worked.receipts + 1) }
 {
     let Worked {
-        mut board,
+        ledger,
         mut receipts,
     } = worked;
+    let mut board = match Board::<S>::of_ledger(rt, alloc, blank, ledger) {
+        Ok((board, _)) => board,
+        Err((_, refused)) => return Err(refused.into()),
+    };
     sweep_rest(rt, &mut board, &mut receipts, settle)?;
     if !is_account(alloc, board.log(), receipts.as_slice())? {
         return Err(Trouble::Mixed);

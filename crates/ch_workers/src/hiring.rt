@@ -4,26 +4,24 @@ ghost use Rattle.ch_workers.specs.Options.{AreGood};
 use crate::listener::{Listener, listeners_of};
 use crate::options::Options;
 use crate::worker::Worker;
-use ch_contract::{Contraction, Scratch, Site};
+use ch_contract::{Contraction, Scratch};
 use ch_estimate::Estimator;
 use ch_multiqueue::{MultiQueue, Pass};
-use ch_rowbook::Reader;
 use std::alloc::{AllocError, Global};
 
 /// The workers of a build, and the queue of which each has a pass.
 #[derive(Drop)]
-pub(crate) struct Crew<S: Site, E: Estimator> {
+pub(crate) struct Crew<E: Estimator> {
     pub(crate) queue: MultiQueue,
-    pub(crate) workers: Vec<Worker<S, E>>,
+    pub(crate) workers: Vec<Worker<E>>,
 }
 
-/// As many workers as there are lists of estimators, each with a reader that is split off this one, and their queue.
-pub(crate) fn hire<S: Site, E: Estimator>(
+/// As many workers as there are lists of estimators, and their queue.
+pub(crate) fn hire<E: Estimator>(
     alloc: Global,
-    reader: &mut Reader<S>,
     options: Options,
     estimators: Vec<Vec<E>>,
-) -> Result<Crew<S, E>, AllocError>
+) -> Result<Crew<E>, AllocError>
     requires good { AreGood options (vec_len estimators) }
     requires some { 0 < options.workers }
     requires untold { All (λ list. All (λ estimator. E.heard estimator ≡ []) list.items) estimators.items }
@@ -33,7 +31,7 @@ pub(crate) fn hire<S: Site, E: Estimator>(
     let heaps = options.workers * options.heaps;
     let (mut queue, first) = MultiQueue::new(alloc, heaps, options.seed)?;
     let passes = passes_of(alloc, &mut queue, first, options.workers)?;
-    let workers = workers_of(alloc, reader, passes, lists)?;
+    let workers = workers_of(alloc, passes, lists, options.turns)?;
     Ok(Crew { queue, workers })
 }
 
@@ -57,13 +55,13 @@ fn passes_of(
     Ok(passes)
 }
 
-/// The workers with these passes and estimators, numbered from 0. The reader of each is split off this one.
-fn workers_of<S: Site, E: Estimator>(
+/// The workers with these passes and estimators, numbered from 0, each of whom may take so many turns.
+fn workers_of<E: Estimator>(
     alloc: Global,
-    reader: &mut Reader<S>,
     passes: Vec<Pass>,
     lists: Vec<Vec<Listener<E>>>,
-) -> Result<Vec<Worker<S, E>>, AllocError>
+    turns: u64,
+) -> Result<Vec<Worker<E>>, AllocError>
     requires as_many { vec_len passes ≡ vec_len lists }
     ensures count { IfOk result (λ workers. vec_len workers ≡ vec_len lists) }
 {
@@ -73,12 +71,14 @@ fn workers_of<S: Site, E: Estimator>(
         workers.push(Worker {
             number,
             pass,
-            reader: reader.split()?,
             listeners,
             scratch: Scratch::new(alloc),
             entry: no_entry(alloc),
             deferred: 0,
             receipts: Vec::new(alloc),
+            turns,
+            is_ready: false,
+            has_ended: false,
         })?;
     }
     Ok(workers)

@@ -5,22 +5,20 @@ ghost use Rattle.ch_workers.specs.Options.{AreGood};
 use crate::gate::Gate;
 use crate::hiring::{Crew, hire};
 use crate::options::Options;
-use crate::shared::Shared;
+use crate::shift::{Work, shift};
 use crate::trouble::Trouble;
-use crate::worker::{Worker, work};
-use ch_contract::{Board, Receipt, Site};
+use crate::worker::Worker;
+use ch_contract::{Ledger, Receipt};
 use ch_estimate::Estimator;
 use ch_multiqueue::{CloseError, Item, MultiQueue, Pass};
-use ch_rowbook::Reader;
 use std::alloc::{AllocError, Global};
 use std::sync::Wait;
-use std::thread;
 use std::thread::Threads;
 
-/// A board on which workers have worked, and the receipts of each.
+/// A ledger on which workers have worked, and the receipts of each.
 #[derive(Drop)]
-pub(crate) struct Worked<S: Site> {
-    pub(crate) board: Board<S>,
+pub(crate) struct Worked {
+    pub(crate) ledger: Ledger,
     pub(crate) receipts: Vec<Vec<Receipt>>,
 }
 
@@ -31,93 +29,82 @@ struct Left {
     receipts: Vec<Vec<Receipt>>,
 }
 
-/// Lets workers contract nodes of a board, as many as there are lists of estimators, by rows that a reader of its book
-/// answers. The estimators are dropped.
-pub(crate) fn contract<
-    S: Site + Send + Sync,
-    E: Estimator + Send,
-    G: Gate,
-    R: Threads + Wait + Sync,
->(
+/// Lets workers contract nodes of a ledger, as many workers as there are lists of estimators, which are dropped.
+pub(crate) fn contract<E: Estimator + Send, G: Gate, R: Threads + Wait + Sync>(
     rt: &R,
     alloc: Global,
-    board: Board<S>,
-    reader: Reader<S>,
+    ledger: Ledger,
     options: Options,
     estimators: Vec<Vec<E>>,
     gate: &G,
-) -> Result<Worked<S>, Trouble>
+) -> Result<Worked, Trouble>
     requires good { AreGood options (vec_len estimators) }
     requires untold { All (λ list. All (λ estimator. E.heard estimator ≡ []) list.items) estimators.items }
+    ensures graph { IfOk result (λ worked. worked.ledger.graph ≡ ledger.graph) }
     ensures lists { IfOk result (λ worked. vec_len worked.receipts ≡ options.workers) }
 {
     if options.workers == 0 {
         let receipts = Vec::new(alloc);
-        return Ok(Worked { board, receipts });
+        return Ok(Worked { ledger, receipts });
     }
-    let mut reader = reader;
-    let crew = hire(alloc, &mut reader, options, estimators)?;
-    contract_by(rt, alloc, board, &mut reader, options, crew, gate)
+    let Crew { queue, workers } = hire(alloc, options, estimators)?;
+    let work = Work {
+        ledger,
+        queue,
+        workers,
+    };
+    let Work {
+        ledger,
+        queue,
+        workers,
+    } = go_on(rt, alloc, work, options, gate)?;
+    let Left { passes, receipts } = take_apart(alloc, workers)?;
+    let _left = close(queue, passes)?;
+    Ok(Worked { ledger, receipts })
 }
 
-/// Lets these workers contract nodes of a board. Their readers are joined into this one at the end.
-fn contract_by<S: Site + Send + Sync, E: Estimator + Send, G: Gate, R: Threads + Wait + Sync>(
+/// Lets workers go on shift after shift, until each has ended or a shift contracts no node.
+fn go_on<E: Estimator + Send, G: Gate, R: Threads + Wait + Sync>(
     rt: &R,
     alloc: Global,
-    board: Board<S>,
-    reader: &mut Reader<S>,
+    work: Work<E>,
     options: Options,
-    crew: Crew<S, E>,
     gate: &G,
-) -> Result<Worked<S>, Trouble>
-    requires workers { 0 < options.workers }
+) -> Result<Work<E>, Trouble>
     requires some { 0 < options.settle }
     requires few { options.settle ≤ 65536 }
-    ensures lists { IfOk result (λ worked. vec_len worked.receipts ≡ vec_len crew.workers) }
+    requires workers { 0 < options.workers }
+    ensures graph { IfOk result (λ after. after.ledger.graph ≡ work.ledger.graph) }
+    ensures count { IfOk result (λ after. vec_len after.workers ≡ vec_len work.workers) }
 {
-    let Crew { queue, mut workers } = crew;
-    let shared = Shared::new(alloc, board, queue, options);
-    run_all(rt, &shared, gate, workers.as_mut_slice());
-    let Left { passes, receipts } = take_apart(alloc, reader, workers)?;
-    let (board, queue) = shared.into_parts();
-    let _left = close(queue, passes)?;
-    Ok(Worked { board, receipts })
-}
-
-/// Lends each worker to a thread of its own, and joins them all. A worker whose thread can't be started does nothing.
-pub(crate) fn run_all<
-    's,
-    'w: 's,
-    E: Estimator + Send,
-    S: Site + Send + Sync,
-    G: Gate,
-    R: Threads + Wait + Sync,
->(rt: &'s R, shared: &'s Shared<S>, gate: &'s G, workers: &'w mut [Worker<S, E>]) {
-    thread::scope(thread::scope_env(), rt, |scope| {
-        'workers: for worker in workers.iter_mut() {
-            let _ = scope.spawn(move || work(rt, shared, gate, worker));
+    let nodes = work.ledger.overlay().nodes();
+    let mut work = shift(rt, alloc, work, options, gate)?;
+    'shifts: for _ in 1..nodes {
+        if have_ended(work.workers.as_slice()) {
+            break;
         }
-    });
+        let before = work.ledger.log().len();
+        work = shift(rt, alloc, work, options, gate)?;
+        if work.ledger.log().len() == before {
+            break;
+        }
+    }
+    Ok(work)
 }
 
-/// Takes the workers apart, joins their readers into this one, and drops their estimators.
-fn take_apart<S: Site, E: Estimator>(
-    alloc: Global,
-    reader: &mut Reader<S>,
-    workers: Vec<Worker<S, E>>,
-) -> Result<Left, AllocError>
+/// Whether each of the workers has ended.
+fn have_ended<E: Estimator>(workers: &[Worker<E>]) -> bool {
+    workers.iter().all(|worker| worker.has_ended)
+}
+
+/// Takes the workers apart, and drops the estimators that they have left.
+fn take_apart<E: Estimator>(alloc: Global, workers: Vec<Worker<E>>) -> Result<Left, AllocError>
     ensures lists { IfOk result (λ left. vec_len left.receipts ≡ vec_len workers) }
 {
     let mut passes = Vec::new(alloc);
     let mut lists = Vec::new(alloc);
     'workers: for worker in workers {
-        let Worker {
-            pass,
-            reader: own,
-            receipts,
-            ..
-        } = worker;
-        reader.join(own);
+        let Worker { pass, receipts, .. } = worker;
         passes.push(pass)?;
         lists.push(receipts)?;
     }

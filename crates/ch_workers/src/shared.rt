@@ -6,6 +6,7 @@ use crate::options::Options;
 use ch_contract::{Board, CommitError, Contraction, Proposal, Receipt, Site};
 use ch_estimate::Estimator;
 use ch_multiqueue::MultiQueue;
+use ch_overlay::Overlay;
 use ch_rowbook::Reader;
 use std::alloc::{AllocError, Global};
 use std::hint;
@@ -15,7 +16,11 @@ use std::sync::{Mutex, MutexGuard, Wait};
 /// time than to sleep and to be woken does.
 const TRIES: u32 = 1000;
 
-/// What the workers of a build share: the board behind its lock, the queue of the nodes that wait, and the options.
+/// The least number of contractions that a shift is for.
+const FEWEST: u32 = 16;
+
+/// What the workers of a build share in a shift: the board behind its lock, the queue of the nodes that wait, and the
+/// options.
 #[derive(Drop)]
 pub(crate) struct Shared<S: Site> {
     pub(crate) alloc: Global,
@@ -23,6 +28,8 @@ pub(crate) struct Shared<S: Site> {
     pub(crate) queue: MultiQueue,
     pub(crate) options: Options,
     pub(crate) nodes: u32,
+    /// The rank at which the shift is over.
+    pub(crate) last: u32,
     ghost some: { 0 < options.settle },
     ghost few: { options.settle ≤ 65536 },
     ghost workers: { 0 < options.workers },
@@ -41,12 +48,14 @@ impl<S: Site> Shared<S> {
         requires workers { 0 < options.workers }
     {
         let nodes = board.graph().nodes();
+        let last = last_rank(board.overlay());
         Shared {
             alloc,
             board: Mutex::new(board),
             queue,
             options,
             nodes,
+            last,
         }
     }
 
@@ -132,6 +141,13 @@ impl<S: Site> Shared<S> {
         'entries: while self.tell_next(rt, listener.told(), copy, listener)? {}
         Ok(())
     }
+}
+
+/// The rank at which a shift is over that begins with these rows: a quarter of the nodes that wait are contracted then.
+fn last_rank(overlay: &Overlay) -> u32 {
+    let alive = overlay.alive();
+    let done = overlay.nodes() - alive;
+    done.saturating_add(FEWEST.max(alive / 4))
 }
 
 /// Makes a copy the same as an entry of the log. It keeps its memory.

@@ -13,7 +13,7 @@ use ch_rowbook::Reader;
 use std::alloc::AllocError;
 use std::sync::Wait;
 
-/// A worker ends here: it found no item, memory was refused, or a proposal didn't fit the board.
+/// A worker ends here: its turns are over, it found no item, memory was refused, or a proposal didn't fit the board.
 #[derive(Drop)]
 pub(crate) struct End;
 
@@ -25,77 +25,119 @@ impl From<AllocError> for End {
 
 /// What a worker has of its own, in the builder's list.
 #[derive(Drop)]
-pub(crate) struct Worker<S: Site, E: Estimator> {
+pub(crate) struct Worker<E: Estimator> {
     pub(crate) number: u32,
     pub(crate) pass: Pass,
-    pub(crate) reader: Reader<S>,
     pub(crate) listeners: Vec<Listener<E>>,
     pub(crate) scratch: Scratch,
     pub(crate) entry: Contraction,
     pub(crate) deferred: u32,
     pub(crate) receipts: Vec<Receipt>,
+    /// How many turns it may still take.
+    pub(crate) turns: u64,
+    /// Whether its nodes were put into the queue.
+    pub(crate) is_ready: bool,
+    /// Whether it takes no turn any more, and its estimators were dropped.
+    pub(crate) has_ended: bool,
 }
 
-/// Lets a worker do all its work, drops its estimators, and passes the gate at its end.
+/// Lets a worker go on until the shift is over or it ends. Where it ends, it drops its estimators and passes the gate.
 pub(crate) fn work<S: Site, E: Estimator, G: Gate, R: Wait>(
     rt: &R,
     shared: &Shared<S>,
     gate: &G,
-    worker: &mut Worker<S, E>,
+    worker: &mut Worker<E>,
+    reader: &mut Reader<S>,
 ) {
-    let _ended = worker.run(rt, shared, gate);
+    if worker.has_ended {
+        return;
+    }
+    if worker.go_on(rt, shared, gate, reader).is_ok() {
+        return;
+    }
+    worker.has_ended = true;
     worker.listeners.clear();
     gate.pass(worker.number, Point::Done);
 }
 
-impl<S: Site, E: Estimator> Worker<S, E> {
-    /// Puts its nodes into the queue, and takes its turns.
-    fn run<G: Gate, R: Wait>(&mut self, rt: &R, shared: &Shared<S>, gate: &G) -> Result<(), End> {
-        self.put_all(rt, shared)?;
-        'turns: for _ in 0..shared.options.turns {
-            self.turn(rt, shared, gate)?;
+impl<E: Estimator> Worker<E> {
+    /// Puts its nodes into the queue, if it hasn't yet, and takes turns until the shift is over.
+    fn go_on<S: Site, G: Gate, R: Wait>(
+        &mut self,
+        rt: &R,
+        shared: &Shared<S>,
+        gate: &G,
+        reader: &mut Reader<S>,
+    ) -> Result<(), End> {
+        if !self.is_ready {
+            self.put_all(rt, shared, reader)?;
+            self.is_ready = true;
         }
-        Ok(())
+        let turns = self.turns;
+        'turns: for turn in 0..turns {
+            if self.turn(rt, shared, gate, reader)? {
+                self.turns = turns - turn - 1;
+                return Ok(());
+            }
+        }
+        Err(End)
     }
 
     /// Puts each node that is its own, by the remainder of its number, into the queue.
-    fn put_all<R: Wait>(&mut self, rt: &R, shared: &Shared<S>) -> Result<(), End> {
+    fn put_all<S: Site, R: Wait>(
+        &mut self,
+        rt: &R,
+        shared: &Shared<S>,
+        reader: &mut Reader<S>,
+    ) -> Result<(), End> {
         let workers = shared.options.workers;
         'nodes: for node in 0..shared.nodes {
             if node % workers == self.number {
-                self.put(rt, shared, node)?;
+                self.put(rt, shared, reader, node)?;
             }
         }
         Ok(())
     }
 
     /// Puts a node into the queue, with the key that its estimator gives it. A contracted node is left out.
-    fn put<R: Wait>(&mut self, rt: &R, shared: &Shared<S>, node: u32) -> Result<(), End> {
-        let Some(proposal) = self.propose(shared, node)? else {
+    fn put<S: Site, R: Wait>(
+        &mut self,
+        rt: &R,
+        shared: &Shared<S>,
+        reader: &mut Reader<S>,
+        node: u32,
+    ) -> Result<(), End> {
+        let Some(proposal) = self.propose(shared, reader, node)? else {
             return Ok(());
         };
         let key = self.key(&proposal);
         self.push(rt, shared, Item { key, node })
     }
 
-    /// Takes an item, and commits the contraction of its node or puts it back.
-    fn turn<G: Gate, R: Wait>(&mut self, rt: &R, shared: &Shared<S>, gate: &G) -> Result<(), End> {
+    /// Takes an item, and commits the contraction of its node or puts it back. Answers whether the shift is over.
+    fn turn<S: Site, G: Gate, R: Wait>(
+        &mut self,
+        rt: &R,
+        shared: &Shared<S>,
+        gate: &G,
+        reader: &mut Reader<S>,
+    ) -> Result<bool, End> {
         let item = self.take(rt, shared)?;
         gate.pass(self.number, Point::Took);
-        let Some(proposal) = self.propose(shared, item.node)? else {
-            return Ok(());
+        let Some(proposal) = self.propose(shared, reader, item.node)? else {
+            return Ok(false);
         };
         self.hear(rt, shared)?;
         let key = self.key(&proposal);
         if self.put_back(rt, shared, item, key)? {
-            return Ok(());
+            return Ok(false);
         }
         gate.pass(self.number, Point::Proposed);
-        self.commit(rt, shared, gate, item, proposal)
+        self.commit(rt, shared, gate, reader, item, proposal)
     }
 
     /// Takes an item from the queue. The worker ends where there is none.
-    fn take<R: Wait>(&mut self, rt: &R, shared: &Shared<S>) -> Result<Item, End> {
+    fn take<S: Site, R: Wait>(&mut self, rt: &R, shared: &Shared<S>) -> Result<Item, End> {
         match shared.queue.pop(rt, &mut self.pass)? {
             Some(item) => Ok(item),
             None => Err(End),
@@ -103,27 +145,31 @@ impl<S: Site, E: Estimator> Worker<S, E> {
     }
 
     /// Puts an item into the queue. The worker ends where memory is refused.
-    fn push<R: Wait>(&mut self, rt: &R, shared: &Shared<S>, item: Item) -> Result<(), End> {
+    fn push<S: Site, R: Wait>(
+        &mut self,
+        rt: &R,
+        shared: &Shared<S>,
+        item: Item,
+    ) -> Result<(), End> {
         match shared.queue.push(rt, &mut self.pass, item) {
             Ok(()) => Ok(()),
             Err(_item) => Err(End),
         }
     }
 
-    /// Works out the contraction of a node by the rows that its reader answers, or answers none where it is contracted
+    /// Works out the contraction of a node by the rows that a reader answers, or answers none where it is contracted
     /// already. It takes no lock.
-    fn propose(&mut self, shared: &Shared<S>, node: u32) -> Result<Option<Proposal>, End>
+    fn propose<S: Site>(
+        &mut self,
+        shared: &Shared<S>,
+        reader: &mut Reader<S>,
+        node: u32,
+    ) -> Result<Option<Proposal>, End>
         ensures of_book { IfOk result (λ found. IfSome found (λ p. All (IsOfBook S.book) p.rests_on)) }
         ensures bound { IfOk result (λ found. IfSome found (λ p. p.bound ≡ S.book.bound)) }
     {
         let settle = shared.options.settle;
-        match propose_with(
-            shared.alloc,
-            &mut self.reader,
-            &mut self.scratch,
-            node,
-            settle,
-        ) {
+        match propose_with(shared.alloc, reader, &mut self.scratch, node, settle) {
             Ok(proposal) => Ok(Some(proposal)),
             Err(ProposeError::OutOfMemory) => Err(End),
             Err(ProposeError::Unseen | ProposeError::Contracted) => Ok(None),
@@ -131,7 +177,7 @@ impl<S: Site, E: Estimator> Worker<S, E> {
     }
 
     /// Tells its current estimator, if it has one, what it wasn't told of the log.
-    fn hear<R: Wait>(&mut self, rt: &R, shared: &Shared<S>) -> Result<(), End> {
+    fn hear<S: Site, R: Wait>(&mut self, rt: &R, shared: &Shared<S>) -> Result<(), End> {
         if let Some(listener) = self.listeners.first_mut() {
             shared.tell_all(rt, &mut self.entry, listener)?;
         }
@@ -148,7 +194,7 @@ impl<S: Site, E: Estimator> Worker<S, E> {
 
     /// Puts an item back with the key that its node has now, where that is greater and the worker hasn't put back as
     /// many items as it may since its last commit. Answers whether it did.
-    fn put_back<R: Wait>(
+    fn put_back<S: Site, R: Wait>(
         &mut self,
         rt: &R,
         shared: &Shared<S>,
@@ -164,32 +210,34 @@ impl<S: Site, E: Estimator> Worker<S, E> {
         Ok(true)
     }
 
-    /// Commits a proposal and keeps the receipt, or puts the item back where a row has changed.
-    fn commit<G: Gate, R: Wait>(
+    /// Commits a proposal and keeps the receipt, or puts the item back where a row has changed. Answers whether the shift
+    /// is over.
+    fn commit<S: Site, G: Gate, R: Wait>(
         &mut self,
         rt: &R,
         shared: &Shared<S>,
         gate: &G,
+        reader: &mut Reader<S>,
         item: Item,
         proposal: Proposal,
-    ) -> Result<(), End>
+    ) -> Result<bool, End>
         requires of_book { All (IsOfBook S.book) proposal.rests_on }
         requires bound { proposal.bound ≡ S.book.bound }
     {
         self.receipts.reserve(1)?;
-        match shared.commit(rt, proposal, &mut self.reader) {
+        match shared.commit(rt, proposal, reader) {
             Ok(receipt) => {
                 self.receipts.push_reserved(receipt);
                 self.deferred = 0;
                 gate.pass(self.number, Point::Committed);
-                Ok(())
+                Ok(receipt.rank >= shared.last)
             }
             Err(CommitError::Stale { .. }) => {
                 self.push(rt, shared, item)?;
                 gate.pass(self.number, Point::Refused);
-                Ok(())
+                Ok(false)
             }
-            Err(CommitError::Contracted) => Ok(()),
+            Err(CommitError::Contracted) => Ok(false),
             Err(CommitError::OutOfMemory | CommitError::Slot) => Err(End),
         }
     }

@@ -1,10 +1,10 @@
 //! What the readers of a board's book find.
-ghost use Rattle.std.specs.Prelude.{◌≡◌};
+ghost use Rattle.std.specs.Prelude.{◌≡◌, length};
 ghost use Rattle.ch_graph.specs.Graph.{bound_of};
 ghost use Rattle.ch_rowbook.specs.Blanks.{name_of};
 
 use crate::networks::{ROW, blank_of, graph_of};
-use ch_contract::{Board, CommitError, Receipt, Site, propose};
+use ch_contract::{Board, CommitError, Ledger, Receipt, Site, propose};
 use ch_cost::Cost;
 use ch_graph::Graph;
 use ch_overlay::{Entry, SeeError, Seen};
@@ -32,6 +32,13 @@ const LATER: [Version; 3] = [
     (3, &[(2, 3, None)], &[(1, 2, None)], Some(0)),
     (4, &[(2, 5, Some(0))], &[], None),
     (5, &[], &[(1, 5, Some(0))], None),
+];
+
+/// The same rows in a book that was opened then.
+const ANEW: [Version; 3] = [
+    (0, &[(2, 3, None)], &[(1, 2, None)], Some(0)),
+    (1, &[(2, 5, Some(0))], &[], None),
+    (2, &[], &[(1, 5, Some(0))], None),
 ];
 
 fn are(entries: &[Entry], expected: Entries) -> bool {
@@ -92,5 +99,59 @@ fn readers_find_the_rows_of_a_board(rt: HostRuntime) -> Result<(), Fail> {
     let graph = graph_of(alloc, 3, &ROW)?;
     let blank = blank_of(alloc, &graph)?;
     assert!(rt; follows::<Brand, HostRuntime>(&rt, alloc, blank, graph)?);
+    Ok(())
+}
+
+/// What is taken out of a board once node 0 is contracted.
+fn taken_out<S: Site, R: Wait>(
+    rt: &R,
+    alloc: Global,
+    blank: Blank,
+    graph: Graph,
+) -> Result<Ledger, Fail>
+    requires of_graph { S.graph ≡ graph }
+    requires of_book { S.book ≡ name_of blank }
+    requires nodes { blank.nodes ≡ graph.nodes }
+    requires bound { blank.bound ≡ bound_of graph }
+{
+    let (mut board, mut reader): (Board<S>, Reader<S>) = Board::new(rt, alloc, blank, graph)?;
+    let proposal = propose(alloc, &mut reader, 0, 64)?;
+    board.commit(rt, proposal)?;
+    Ok(board.into_ledger())
+}
+
+/// Whether a ledger goes on with a new book, whose reader finds the rows as they are, and commits what that one proposes.
+fn goes_on<S: Site, R: Wait>(
+    rt: &R,
+    alloc: Global,
+    blank: Blank,
+    ledger: Ledger,
+) -> Result<bool, Fail>
+    requires of_graph { S.graph ≡ ledger.graph }
+    requires of_book { S.book ≡ name_of blank }
+    requires nodes { blank.nodes ≡ length ledger.overlay.rows }
+    requires bound { blank.bound ≡ ledger.overlay.bound }
+{
+    let (mut board, mut reader): (Board<S>, Reader<S>) = match Board::of_ledger(
+        rt, alloc, blank, ledger,
+    ) {
+        Ok(made) => made,
+        Err((_, refused)) => return Err(refused.into()),
+    };
+    let holds = finds(&mut reader, ANEW)?;
+    let proposal = propose(alloc, &mut reader, 1, 64)?;
+    let taken = board.commit_and_see(rt, proposal, &mut reader);
+    Ok(holds & (taken == Ok(Receipt { node: 1, rank: 1 })) & (board.log().len() == 2))
+}
+
+#[test]
+fn a_ledger_goes_on_with_a_new_book(rt: HostRuntime) -> Result<(), Fail> {
+    let alloc = rt.alloc();
+    let graph = graph_of(alloc, 3, &ROW)?;
+    let blank = blank_of(alloc, &graph)?;
+    let ledger = taken_out::<Brand, HostRuntime>(&rt, alloc, blank, graph)?;
+    let rows = ledger.overlay();
+    let blank = Blank::new(alloc, rows.nodes(), rows.bound())?;
+    assert!(rt; goes_on::<Brand, HostRuntime>(&rt, alloc, blank, ledger)?);
     Ok(())
 }

@@ -4,20 +4,21 @@
 //! A call that is refused memory leaves its value as it was, is made again, and has to give what it gives with ample
 //! memory. What is used up by a refused call, as a graph, ends the test with that error, and so does a growth of what the
 //! test sets up.
-ghost use Rattle.std.specs.Prelude.{◌≡◌, [], IfOk};
+ghost use Rattle.std.specs.Prelude.{◌≡◌, [], IfOk, length};
 ghost use Rattle.ch_graph.specs.Graph.{bound_of};
 ghost use Rattle.ch_rowbook.specs.Blanks.{name_of};
 
 use crate::networks::{ROW, TIE, blank_of, graph_of};
 use crate::shelf::{Arcs, Shelf};
 use ch_contract::{
-    Board, CommitError, FinishError, Proposal, ProposeError, Receipt, Site, SweepError, propose,
+    Board, CommitError, FinishError, Ledger, Proposal, ProposeError, Receipt, Site, SweepError,
+    propose,
 };
 use ch_core::{Event, Outcome, World, run};
 use ch_cost::Cost;
 use ch_graph::{Graph, Hierarchy};
 use ch_overlay::{Overlay, RowSource, SeeError, Seen};
-use ch_rowbook::{Blank, Reader};
+use ch_rowbook::{Blank, BookError, Reader};
 use ch_witness::{SearchError, search};
 use std::alloc::{AllocError, Global};
 use std::marker::Brand;
@@ -199,6 +200,49 @@ fn board(rt: HostRuntime) -> Result<(), Fail> {
     let graph = graph_of(alloc, 3, &ROW)?;
     let blank = blank_of(alloc, &graph)?;
     assert!(rt; comes_to::<Brand, HostRuntime>(&rt, alloc, blank, graph)?);
+    Ok(())
+}
+
+/// Whether a ledger goes on with a new book, and has no contraction yet. It is handed back where memory is refused.
+fn goes_on<S: Site, R: Wait>(
+    rt: &R,
+    alloc: Global,
+    blank: Blank,
+    ledger: Ledger,
+) -> Result<bool, (Ledger, BookError)>
+    requires of_graph { S.graph ≡ ledger.graph }
+    requires of_book { S.book ≡ name_of blank }
+    requires nodes { blank.nodes ≡ length ledger.overlay.rows }
+    requires bound { blank.bound ≡ ledger.overlay.bound }
+{
+    match Board::<S>::of_ledger(rt, alloc, blank, ledger) {
+        Ok((board, _)) => Ok(board.log().is_empty()),
+        Err(refused) => Err(refused),
+    }
+}
+
+/// A blank for the rows of a ledger.
+fn blank_for(alloc: Global, ledger: &Ledger) -> Result<Blank, AllocError>
+    ensures nodes { IfOk result (λ b. b.nodes ≡ length ledger.now.overlay.rows) }
+    ensures bound { IfOk result (λ b. b.bound ≡ ledger.now.overlay.bound) }
+{
+    Blank::new(alloc, ledger.overlay().nodes(), ledger.overlay().bound())
+}
+
+#[test]
+fn ledger_in_a_book(rt: HostRuntime) -> Result<(), Fail> {
+    let alloc = rt.alloc();
+    let ledger = Ledger::new(alloc, graph_of(alloc, 3, &ROW)?)?;
+    let blank = blank_for(alloc, &ledger)?;
+    let first = goes_on::<Brand, HostRuntime>(&rt, alloc, blank, ledger);
+    let answer = match first {
+        Err((ledger, BookError::OutOfMemory)) => {
+            let blank = blank_for(alloc, &ledger)?;
+            goes_on::<Brand, HostRuntime>(&rt, alloc, blank, ledger)
+        }
+        answer => answer,
+    };
+    assert!(rt; matches!(answer, Ok(true)));
     Ok(())
 }
 

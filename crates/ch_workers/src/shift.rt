@@ -1,0 +1,140 @@
+ghost use Rattle.std.specs.Prelude.{◌≡◌, ◌<◌, ◌≤◌, IfOk, length, vec_len};
+ghost use Rattle.ch_rowbook.specs.Blanks.{name_of};
+
+use crate::gate::Gate;
+use crate::options::Options;
+use crate::shared::Shared;
+use crate::trouble::Trouble;
+use crate::worker::{Worker, work};
+use ch_contract::{Board, Ledger, Site};
+use ch_estimate::Estimator;
+use ch_multiqueue::MultiQueue;
+use ch_rowbook::{Blank, Reader};
+use std::alloc::{AllocError, Global};
+use std::marker::Brand;
+use std::sync::Wait;
+use std::thread;
+use std::thread::Threads;
+
+/// What goes on from one shift to the next: the rows and the log, the queue of the nodes that wait, and the workers.
+#[derive(Drop)]
+pub(crate) struct Work<E: Estimator> {
+    pub(crate) ledger: Ledger,
+    pub(crate) queue: MultiQueue,
+    pub(crate) workers: Vec<Worker<E>>,
+}
+
+/// A worker on shift, with a reader of the board's book.
+#[derive(Drop)]
+struct OnShift<S: Site, E: Estimator> {
+    worker: Worker<E>,
+    reader: Reader<S>,
+}
+
+/// Lets the workers go on for a shift: by a board whose book is new, so that it keeps no row that isn't current, until
+/// each of them has ended or so many nodes are contracted that the book is to be renewed.
+pub(crate) fn shift<E: Estimator + Send, G: Gate, R: Threads + Wait + Sync>(
+    rt: &R,
+    alloc: Global,
+    work: Work<E>,
+    options: Options,
+    gate: &G,
+) -> Result<Work<E>, Trouble>
+    requires some { 0 < options.settle }
+    requires few { options.settle ≤ 65536 }
+    requires workers { 0 < options.workers }
+    ensures graph { IfOk result (λ after. after.ledger.graph ≡ work.ledger.graph) }
+    ensures count { IfOk result (λ after. vec_len after.workers ≡ vec_len work.workers) }
+{
+    let rows = work.ledger.overlay();
+    let blank = Blank::new(alloc, rows.nodes(), rows.bound())?;
+    shift_named::<Brand, E, G, R>(rt, alloc, blank, work, options, gate)
+}
+
+/// Lets the workers go on for a shift, by a board of a type that names the graph and the book.
+fn shift_named<S: Site + Send + Sync, E: Estimator + Send, G: Gate, R: Threads + Wait + Sync>(
+    rt: &R,
+    alloc: Global,
+    blank: Blank,
+    work: Work<E>,
+    options: Options,
+    gate: &G,
+) -> Result<Work<E>, Trouble>
+    requires of_graph { S.graph ≡ work.ledger.graph }
+    requires of_book { S.book ≡ name_of blank }
+    requires nodes { blank.nodes ≡ length work.ledger.overlay.rows }
+    requires bound { blank.bound ≡ work.ledger.overlay.bound }
+    requires some { 0 < options.settle }
+    requires few { options.settle ≤ 65536 }
+    requires workers { 0 < options.workers }
+    ensures graph { IfOk result (λ after. after.ledger.graph ≡ work.ledger.graph) }
+    ensures count { IfOk result (λ after. vec_len after.workers ≡ vec_len work.workers) }
+{
+    let Work {
+        ledger,
+        queue,
+        workers,
+    } = work;
+    let (board, mut reader) = match Board::<S>::of_ledger(rt, alloc, blank, ledger) {
+        Ok(made) => made,
+        Err((_, refused)) => return Err(refused.into()),
+    };
+    let mut on_shift = begin(alloc, &mut reader, workers)?;
+    let shared = Shared::new(alloc, board, queue, options);
+    run_all(rt, &shared, gate, on_shift.as_mut_slice());
+    let workers = end(alloc, &mut reader, on_shift)?;
+    let (board, queue) = shared.into_parts();
+    Ok(Work {
+        ledger: board.into_ledger(),
+        queue,
+        workers,
+    })
+}
+
+/// Hands each worker a reader that is split off this one.
+fn begin<S: Site, E: Estimator>(
+    alloc: Global,
+    reader: &mut Reader<S>,
+    workers: Vec<Worker<E>>,
+) -> Result<Vec<OnShift<S, E>>, AllocError>
+    ensures count { IfOk result (λ on_shift. vec_len on_shift ≡ vec_len workers) }
+{
+    let mut on_shift = Vec::new(alloc);
+    'workers: for worker in workers {
+        let reader = reader.split()?;
+        on_shift.push(OnShift { worker, reader })?;
+    }
+    Ok(on_shift)
+}
+
+/// Joins the readers of workers into this one.
+fn end<S: Site, E: Estimator>(
+    alloc: Global,
+    reader: &mut Reader<S>,
+    on_shift: Vec<OnShift<S, E>>,
+) -> Result<Vec<Worker<E>>, AllocError>
+    ensures count { IfOk result (λ workers. vec_len workers ≡ vec_len on_shift) }
+{
+    let mut workers = Vec::new(alloc);
+    'workers: for one in on_shift {
+        reader.join(one.reader);
+        workers.push(one.worker)?;
+    }
+    Ok(workers)
+}
+
+/// Lends each worker to a thread of its own, and joins them all. A worker whose thread can't be started does nothing.
+fn run_all<
+    's,
+    'w: 's,
+    E: Estimator + Send,
+    S: Site + Send + Sync,
+    G: Gate,
+    R: Threads + Wait + Sync,
+>(rt: &'s R, shared: &'s Shared<S>, gate: &'s G, on_shift: &'w mut [OnShift<S, E>]) {
+    thread::scope(thread::scope_env(), rt, |scope| {
+        'workers: for one in on_shift.iter_mut() {
+            let _ = scope.spawn(move || work(rt, shared, gate, &mut one.worker, &mut one.reader));
+        }
+    });
+}
