@@ -76,13 +76,9 @@ impl Row {
     pub(crate) fn ranked(&self, alloc: Global, rank: u32) -> Result<Row, AllocError>
         ensures { IfOk result (λ row. row ≡ record self.now { rank = Some rank }) }
     {
-        let mut out: Vec<Entry> = self.out.iter().copied().collect(alloc)?;
-        out.shrink_to_fit();
-        let mut inn: Vec<Entry> = self.inn.iter().copied().collect(alloc)?;
-        inn.shrink_to_fit();
         Ok(Row {
-            out,
-            inn,
+            out: Vec::from_slice(alloc, &self.out)?,
+            inn: Vec::from_slice(alloc, &self.inn)?,
             rank: Some(rank),
         })
     }
@@ -127,8 +123,18 @@ fn replaced(
 ) -> Result<Vec<Entry>, AllocError>
     ensures { IfOk result (λ es. es.items ≡ filter (λ e. not (nat_eq e.other gone)) (merged old.now new.now)) }
 {
-    let both = Merge::new(old, new);
-    let mut entries: Vec<Entry> = both.filter(|e| e.other != gone).collect(alloc)?;
-    entries.shrink_to_fit();
+    let mut entries: Vec<Entry> = Vec::with_capacity(alloc, count(gone, old, new))?;
+    entries.extend(Merge::new(old, new).filter(|e| e.other != gone))?;
     Ok(entries)
+}
+
+/// How many entries these are. Only the memory that is taken for them goes by it.
+fn count(gone: u32, old: &[Entry], new: &[Entry]) -> usize {
+    let mut count = 0usize;
+    'entries: for entry in Merge::new(old, new) {
+        if entry.other != gone {
+            count = count.saturating_add(1);
+        }
+    }
+    count
 }
