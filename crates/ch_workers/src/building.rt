@@ -28,8 +28,8 @@ use std::thread::Threads;
 /// each worker; `OutOfMemory` where a growth was refused; `Mixed` where the receipts and the log, or the accounts of
 /// the queue, don't agree. On every answer the estimators were dropped and no lease of `leases` is out: so it doesn't
 /// answer as long as one is out elsewhere. Takes memory for the rows of the nodes, shortcuts included, and for those
-/// that are replaced in a shift, in which a quarter of the nodes that wait are contracted, or 16; for the log, the receipts
-/// and the queue.
+/// that are replaced in a shift, which have a dozen entries or so for each node of the graph; for the log, the receipts and the
+/// queue.
 pub fn build<G: Gate, R: Threads + Wait + Sync>(
     rt: &R,
     alloc: Global,

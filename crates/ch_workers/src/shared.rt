@@ -3,10 +3,9 @@ ghost use Rattle.ch_rowbook.specs.Books.{IsOfBook};
 
 use crate::listener::Listener;
 use crate::options::Options;
-use ch_contract::{Board, CommitError, Contraction, Proposal, Receipt, Site};
+use ch_contract::{Board, CommitError, Contraction, Facts, Proposal, Receipt, Site};
 use ch_estimate::Estimator;
 use ch_multiqueue::MultiQueue;
-use ch_overlay::Overlay;
 use ch_rowbook::Reader;
 use std::alloc::{AllocError, Global};
 use std::hint;
@@ -16,8 +15,11 @@ use std::sync::{Mutex, MutexGuard, Wait};
 /// time than to sleep and to be woken does.
 const TRIES: u32 = 1000;
 
-/// The least number of contractions that a shift is for.
-const FEWEST: u32 = 16;
+/// What the rows that are replaced in a shift may weigh for each node of the network.
+const ROOM: u64 = 12;
+
+/// How many nodes a worker contracts at least before its shift is over.
+const FEWEST: u64 = 16;
 
 /// What the workers of a build share in a shift: the board behind its lock, the queue of the nodes that wait, and the
 /// options.
@@ -28,8 +30,8 @@ pub(crate) struct Shared<S: Site> {
     pub(crate) queue: MultiQueue,
     pub(crate) options: Options,
     pub(crate) nodes: u32,
-    /// The rank at which the shift is over.
-    pub(crate) last: u32,
+    /// What the rows weigh after whose replacement a worker's shift is over.
+    pub(crate) room: u64,
     ghost some: { 0 < options.settle },
     ghost few: { options.settle ≤ 65536 },
     ghost workers: { 0 < options.workers },
@@ -48,14 +50,14 @@ impl<S: Site> Shared<S> {
         requires workers { 0 < options.workers }
     {
         let nodes = board.graph().nodes();
-        let last = last_rank(board.overlay());
+        let room = room(nodes, options.workers);
         Shared {
             alloc,
             board: Mutex::new(board),
             queue,
             options,
             nodes,
-            last,
+            room,
         }
     }
 
@@ -143,11 +145,18 @@ impl<S: Site> Shared<S> {
     }
 }
 
-/// The rank at which a shift is over that begins with these rows: a quarter of the nodes that wait are contracted then.
-fn last_rank(overlay: &Overlay) -> u32 {
-    let alive = overlay.alive();
-    let done = overlay.nodes() - alive;
-    done.saturating_add(FEWEST.max(alive / 4))
+/// What the rows weigh, in entries or so, that are replaced where a node is contracted: for each of its arcs a row that has
+/// about as many, and what a row takes besides. A sixteenth of the room is the most.
+pub(crate) fn weight(facts: Facts, room: u64) -> u64 {
+    let arcs = u64::from(facts.ins) + u64::from(facts.outs);
+    arcs.saturating_mul(arcs + 6).min(room / FEWEST)
+}
+
+/// The room of one of so many workers, in a network of so many nodes.
+fn room(nodes: u32, workers: u32) -> u64
+    requires { 0 < workers }
+{
+    FEWEST.max(ROOM * u64::from(nodes) / u64::from(workers))
 }
 
 /// Makes a copy the same as an entry of the log. It keeps its memory.

@@ -3,7 +3,7 @@ ghost use Rattle.ch_rowbook.specs.Books.{IsOfBook};
 
 use crate::gate::{Gate, Point};
 use crate::listener::Listener;
-use crate::shared::Shared;
+use crate::shared::{Shared, weight};
 use ch_contract::{
     CommitError, Contraction, Proposal, ProposeError, Receipt, Scratch, Site, propose_with,
 };
@@ -74,8 +74,10 @@ impl<E: Estimator> Worker<E> {
             self.is_ready = true;
         }
         let turns = self.turns;
+        let mut replaced = 0u64;
         'turns: for turn in 0..turns {
-            if self.turn(rt, shared, gate, reader)? {
+            replaced = replaced.saturating_add(self.turn(rt, shared, gate, reader)?);
+            if replaced >= shared.room {
                 self.turns = turns - turn - 1;
                 return Ok(());
             }
@@ -114,26 +116,31 @@ impl<E: Estimator> Worker<E> {
         self.push(rt, shared, Item { key, node })
     }
 
-    /// Takes an item, and commits the contraction of its node or puts it back. Answers whether the shift is over.
+    /// Takes an item, and commits the contraction of its node or puts it back. Answers what the rows weigh that were
+    /// replaced.
     fn turn<S: Site, G: Gate, R: Wait>(
         &mut self,
         rt: &R,
         shared: &Shared<S>,
         gate: &G,
         reader: &mut Reader<S>,
-    ) -> Result<bool, End> {
+    ) -> Result<u64, End> {
         let item = self.take(rt, shared)?;
         gate.pass(self.number, Point::Took);
         let Some(proposal) = self.propose(shared, reader, item.node)? else {
-            return Ok(false);
+            return Ok(0);
         };
         self.hear(rt, shared)?;
         let key = self.key(&proposal);
         if self.put_back(rt, shared, item, key)? {
-            return Ok(false);
+            return Ok(0);
         }
         gate.pass(self.number, Point::Proposed);
-        self.commit(rt, shared, gate, reader, item, proposal)
+        let weight = weight(proposal.facts(), shared.room);
+        if self.commit(rt, shared, gate, reader, item, proposal)? {
+            return Ok(weight);
+        }
+        Ok(0)
     }
 
     /// Takes an item from the queue. The worker ends where there is none.
@@ -210,8 +217,8 @@ impl<E: Estimator> Worker<E> {
         Ok(true)
     }
 
-    /// Commits a proposal and keeps the receipt, or puts the item back where a row has changed. Answers whether the shift
-    /// is over.
+    /// Commits a proposal and keeps the receipt, or puts the item back where a row has changed. Answers whether it was
+    /// committed.
     fn commit<S: Site, G: Gate, R: Wait>(
         &mut self,
         rt: &R,
@@ -230,7 +237,7 @@ impl<E: Estimator> Worker<E> {
                 self.receipts.push_reserved(receipt);
                 self.deferred = 0;
                 gate.pass(self.number, Point::Committed);
-                Ok(receipt.rank >= shared.last)
+                Ok(true)
             }
             Err(CommitError::Stale { .. }) => {
                 self.push(rt, shared, item)?;
