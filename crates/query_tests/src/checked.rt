@@ -175,7 +175,7 @@ fn cascade(alloc: Global) -> Result<Vec<Given>, AllocError> {
 }
 
 /// The nodes of the route along the link from one node to another, or none where there is no such link.
-fn route(
+pub fn route(
     alloc: Global,
     hierarchy: &Hierarchy,
     from: u32,

@@ -4,6 +4,7 @@ ghost use Rattle.ch_cost.specs.Cost.{of_weight};
 use ch_cost::Cost;
 use ch_graph::{Hierarchy, Link, LinkId, LinkIndex};
 use std::alloc::{AllocError, Global};
+use std::test::Fail;
 
 fn link(from: u32, to: u32) -> Link
     ensures { result ≡ record { from = from; to = to; cost = of_weight 7; middle = None } }
@@ -17,14 +18,14 @@ fn link(from: u32, to: u32) -> Link
 }
 
 // Two nodes, ranked in their order, and a link of weight 7 from the first to the second.
-fn two_nodes(alloc: Global, is_indexed: bool) -> Result<Hierarchy, AllocError> {
-    let seven = Cost::of_weight(7);
+fn two_nodes(alloc: Global, is_indexed: bool) -> Result<Hierarchy, Fail> {
     let ranks = vec![in alloc; 0, 1]?;
     let links = vec![in alloc; link(0, 1)]?;
+    let hierarchy = Hierarchy::checked(alloc, ranks, links, Cost::of_weight(7))?;
     if is_indexed {
-        return Hierarchy::indexed(alloc, ranks, links, seven);
+        return Ok(hierarchy.into_indexed(alloc)?);
     }
-    Ok(Hierarchy::new(ranks, links, seven))
+    Ok(hierarchy)
 }
 
 #[test]
@@ -52,7 +53,7 @@ fn finds_links(rt: HostRuntime) -> Result<(), AllocError> {
 }
 
 #[test]
-fn tells_its_parts(rt: HostRuntime) -> Result<(), AllocError> {
+fn tells_its_parts(rt: HostRuntime) -> Result<(), Fail> {
     for is_indexed in [false, true] {
         let hierarchy = two_nodes(rt.alloc(), is_indexed)?;
         assert!(rt; hierarchy.nodes() == 2);

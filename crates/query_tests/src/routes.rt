@@ -1,69 +1,66 @@
-ghost use Rattle.std.specs.Prelude.{◌≡◌, [], ◌∷◌, IfOk};
-ghost use Rattle.ch_cost.specs.Cost.{of_weight, cost_of_arcs, ◌⊕◌};
-
+use crate::checked::route;
 use ch_cost::Cost;
-use ch_graph::{Hierarchy, Link, LinkId};
+use ch_graph::{Hierarchy, Link};
 use ch_unpack::{UnpackError, unpack};
-use std::alloc::{AllocError, Global};
+use std::alloc::Global;
 use std::test::Fail;
 
-fn link(from: u32, to: u32, cost: Cost, middle: Option<u32>) -> Link
-    ensures { result ≡ record { from = from; to = to; cost = cost; middle = middle } }
-{
+fn link(from: u32, to: u32, length: u64, middle: Option<u32>) -> Link {
     Link {
         from,
         to,
-        cost,
+        cost: Cost::of_length(length),
         middle,
     }
 }
 
 /// Two nodes with a link each way.
-fn two_nodes(alloc: Global) -> Result<Hierarchy, AllocError>
-    ensures { IfOk result (λ h. h ≡ record {
-      ranks = 0 ∷ 1 ∷ [];
-      links = (record { from = 0; to = 1; cost = of_weight 7; middle = None }) ∷ (record { from = 1; to = 0; cost = of_weight 7; middle = None }) ∷ [];
-      bound = of_weight 7;
-    }) }
-{
-    let seven = Cost::of_weight(7);
+fn two_nodes(alloc: Global) -> Result<Hierarchy, Fail> {
     let ranks = vec![in alloc; 0u32, 1]?;
-    let links = vec![in alloc; link(0, 1, seven, None), link(1, 0, seven, None)]?;
-    Ok(Hierarchy::new(ranks, links, seven))
+    let links = vec![in alloc; link(0, 1, 7, None), link(1, 0, 7, None)]?;
+    let hierarchy = Hierarchy::checked(alloc, ranks, links, Cost::of_length(7))?;
+    Ok(hierarchy)
 }
 
 /// Three nodes and a link from 1 to 2 by way of 0; with an index, the places of its halves are kept.
-fn three_nodes(alloc: Global, is_indexed: bool) -> Result<Hierarchy, AllocError>
-    ensures { IfOk result (λ h. h ≡ record {
-      ranks = 0 ∷ 1 ∷ 2 ∷ [];
-      links = (record { from = 0; to = 2; cost = of_weight 3; middle = None }) ∷ (record { from = 1; to = 0; cost = of_weight 2; middle = None }) ∷ (record { from = 1; to = 2; cost = of_weight 2 ⊕ of_weight 3; middle = Some 0 }) ∷ [];
-      bound = cost_of_arcs 2 3;
-    }) }
-{
-    let two = Cost::of_weight(2);
-    let three = Cost::of_weight(3);
-    let both = two.plus(three);
+fn three_nodes(alloc: Global, is_indexed: bool) -> Result<Hierarchy, Fail> {
     let ranks = vec![in alloc; 0u32, 1, 2]?;
     let links = vec![in alloc;
-        link(0, 2, three, None),
-        link(1, 0, two, None),
-        link(1, 2, both, Some(0)),
+        link(0, 2, 3, None),
+        link(1, 0, 2, None),
+        link(1, 2, 5, Some(0)),
     ]?;
-    let bound = Cost::of_arcs(2, 3);
+    let hierarchy = Hierarchy::checked(alloc, ranks, links, Cost::of_length(6))?;
     if is_indexed {
-        return Hierarchy::indexed(alloc, ranks, links, bound);
+        return Ok(hierarchy.into_indexed(alloc)?);
     }
-    Ok(Hierarchy::new(ranks, links, bound))
+    Ok(hierarchy)
+}
+
+/// The nodes of the route along the link from one node to another and the link back, or none where one isn't there.
+fn route_and_back(
+    alloc: Global,
+    hierarchy: &Hierarchy,
+    from: u32,
+    to: u32,
+) -> Option<Result<Vec<u32>, UnpackError>> {
+    if from >= hierarchy.nodes() {
+        return None;
+    }
+    let there = hierarchy.find(from, to)?;
+    let back = hierarchy.find(to, from)?;
+    Some(unpack(alloc, hierarchy, from, &[there, back]))
 }
 
 #[test]
 fn there_and_back(rt: HostRuntime) -> Result<(), Fail> {
     let hierarchy = two_nodes(rt.alloc())?;
+    assert!(rt; 1 < hierarchy.nodes());
     let none = unpack(rt.alloc(), &hierarchy, 1, &[])?;
     assert!(rt; none.as_slice() == [1u32].as_slice());
-    let there = unpack(rt.alloc(), &hierarchy, 0, &[LinkId(0)])?;
+    let there = route(rt.alloc(), &hierarchy, 0, 1).expect(&rt, "a link")?;
     assert!(rt; there.as_slice() == [0u32, 1].as_slice());
-    let back = unpack(rt.alloc(), &hierarchy, 0, &[LinkId(0), LinkId(1)]);
+    let back = route_and_back(rt.alloc(), &hierarchy, 0, 1).expect(&rt, "two links");
     assert!(rt; back.err() == Some(UnpackError::TooLong));
     Ok(())
 }
@@ -72,7 +69,7 @@ fn there_and_back(rt: HostRuntime) -> Result<(), Fail> {
 fn by_way_of_a_middle(rt: HostRuntime) -> Result<(), Fail> {
     'hierarchies: for is_indexed in [false, true] {
         let hierarchy = three_nodes(rt.alloc(), is_indexed)?;
-        let nodes = unpack(rt.alloc(), &hierarchy, 1, &[LinkId(2)])?;
+        let nodes = route(rt.alloc(), &hierarchy, 1, 2).expect(&rt, "a link")?;
         assert!(rt; nodes.as_slice() == [1u32, 0, 2].as_slice());
     }
     Ok(())

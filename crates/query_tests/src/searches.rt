@@ -1,57 +1,48 @@
-ghost use Rattle.std.specs.Prelude.{◌≡◌, ◌<◌, length, None, IfOk};
-ghost use Rattle.ch_cost.specs.Cost.{of_weight};
+ghost use Rattle.std.specs.Prelude.{◌≡◌, length, IfOk};
 
 use ch_cost::Cost;
 use ch_graph::{Hierarchy, Link, LinkId};
 use ch_query::Search;
-use std::alloc::{AllocError, Global};
+use std::alloc::Global;
 use std::test::Fail;
 
-/// The hierarchy of one node.
-fn one_node(alloc: Global) -> Result<Hierarchy, AllocError>
-    ensures { IfOk result (λ h. length h.ranks ≡ 1) }
+/// The hierarchy of nodes of these ranks and of these arcs, each given by its ends and its weight.
+fn hierarchy_of(
+    alloc: Global,
+    ranks: &[u32],
+    arcs: &[(u32, u32, u32)],
+    bound: Cost,
+) -> Result<Hierarchy, Fail>
+    ensures { IfOk result (λ h. h.ranks ≡ ranks.now) }
 {
-    let ranks = vec![in alloc; 0]?;
-    Ok(Hierarchy::new(ranks, Vec::new(alloc), Cost::ZERO))
+    let mut links = Vec::new(alloc);
+    for (from, to, weight) in arcs {
+        links.push(Link {
+            from: *from,
+            to: *to,
+            cost: Cost::of_weight(*weight),
+            middle: None,
+        })?;
+    }
+    let ranks = Vec::from_slice(alloc, ranks)?;
+    let hierarchy = Hierarchy::checked(alloc, ranks, links, bound)?;
+    Ok(hierarchy)
 }
 
 /// The hierarchy of one arc of this weight, from node 0 to node 1.
-fn one_arc(alloc: Global, weight: u32) -> Result<Hierarchy, AllocError>
-    requires { 0 < weight }
+fn one_arc(alloc: Global, weight: u32) -> Result<Hierarchy, Fail>
     ensures { IfOk result (λ h. length h.ranks ≡ 2) }
 {
-    let cost = Cost::of_weight(weight);
-    let ranks = vec![in alloc; 0, 1]?;
-    let link = Link {
-        from: 0,
-        to: 1,
-        cost,
-        middle: None,
-    };
-    let links = vec![in alloc; link]?;
-    Ok(Hierarchy::new(ranks, links, cost))
-}
-
-/// A link that is an arc.
-fn link(from: u32, to: u32, weight: u32) -> Link
-    ensures { result ≡ record { from = from; to = to; cost = of_weight weight; middle = None } }
-{
-    Link {
-        from,
-        to,
-        cost: Cost::of_weight(weight),
-        middle: None,
-    }
+    hierarchy_of(alloc, &[0, 1], &[(0, 1, weight)], Cost::of_weight(weight))
 }
 
 /// Four nodes, ranked in their order. The walk from 0 to 1 over 3 costs 6, and that over 2, where the sides meet
 /// first, costs 8.
-fn two_tops(alloc: Global) -> Result<Hierarchy, AllocError>
+fn two_tops(alloc: Global) -> Result<Hierarchy, Fail>
     ensures { IfOk result (λ h. length h.ranks ≡ 4) }
 {
-    let ranks = vec![in alloc; 0, 1, 2, 3]?;
-    let links = vec![in alloc; link(0, 2, 4), link(0, 3, 5), link(2, 1, 4), link(3, 1, 1)]?;
-    Ok(Hierarchy::new(ranks, links, Cost::of_arcs(3, 5)))
+    let arcs = [(0, 2, 4), (0, 3, 5), (2, 1, 4), (3, 1, 1)];
+    hierarchy_of(alloc, &[0, 1, 2, 3], &arcs, Cost::of_arcs(3, 5))
 }
 
 /// What a walk between two nodes of [`two_tops`] costs at least, found by hand.
@@ -65,7 +56,7 @@ const TWO_TOPS: [[Option<u64>; 4]; 4] = [
 #[test]
 fn no_node(rt: HostRuntime) -> Result<(), Fail> {
     let alloc = rt.alloc();
-    let hierarchy = Hierarchy::new(Vec::new(alloc), Vec::new(alloc), Cost::ZERO);
+    let hierarchy = hierarchy_of(alloc, &[], &[], Cost::ZERO)?;
     let search = Search::new(alloc, &hierarchy);
     assert!(rt; search.is_ok());
     Ok(())
@@ -74,7 +65,7 @@ fn no_node(rt: HostRuntime) -> Result<(), Fail> {
 #[test]
 fn a_node_and_itself(rt: HostRuntime) -> Result<(), Fail> {
     let alloc = rt.alloc();
-    let hierarchy = one_node(alloc)?;
+    let hierarchy = hierarchy_of(alloc, &[0], &[], Cost::ZERO)?;
     let mut search = Search::new(alloc, &hierarchy)?;
     let found = search.distance(0, 0)?.expect(&rt, "a walk");
     assert!(rt; found.cost == Cost::ZERO && found.links.is_empty());

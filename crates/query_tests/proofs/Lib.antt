@@ -1,2 +1,0 @@
-pub mod SearchedHierarchies
-pub mod UnpackedHierarchies
