@@ -102,7 +102,7 @@ pub fn draft_pairs<S: RowSource>(
     desk: &mut Desk,
     task: Task,
     row: &Row,
-    into: Entry,
+    into: &Entry,
     draft: &mut Draft,
 ) -> Result<(), ProposeError>
     requires some { 1 ≤ task.settle }
@@ -112,9 +112,9 @@ pub fn draft_pairs<S: RowSource>(
     requires inn_rises { Rises row.now.inn }
     requires out_rises { Rises row.now.out }
     requires entries { AreEntries (2 ^ 25) task.bound task.node row.now }
-    requires among { Contains row.now.inn into }
+    requires among { Contains row.now.inn into.now }
     requires kept { AreKept S.bears (S.shows source.old) (S.bound_of source.old) (kept_of desk.old.searcher.rows) }
-    ensures draft { OnOk result (IsDraftedFrom task.bound task.node row.now into (kept_of desk.new.searcher.rows) draft.old draft.new) }
+    ensures draft { OnOk result (IsDraftedFrom task.bound task.node row.now into.now (kept_of desk.new.searcher.rows) draft.old draft.new) }
     ensures kept { AreKept S.bears (S.shows source.new) (S.bound_of source.new) (kept_of desk.new.searcher.rows) }
     ensures more { IsMore (kept_of desk.old.searcher.rows) (kept_of desk.new.searcher.rows) }
     ensures stays { S.stays source.old source.new }
@@ -122,18 +122,19 @@ pub fn draft_pairs<S: RowSource>(
     ensures never { result ≡ Err Contracted → ⊥ }
     ensures names { AllNamed (S.whole source.old) (kept_of desk.old.searcher.rows) → NamesAlone (S.whole source.old) row.now → OnOk result (AllNamed (S.whole source.new) (kept_of desk.new.searcher.rows)) }
 {
-    if !leads_on(&row.out, into.other) {
+    let from = into.other;
+    if !leads_on(&row.out, from) {
         return Ok(());
     }
-    desk.searcher.rows.read(source, into.other)?;
-    draft.listed.push(into.other)?;
+    desk.searcher.rows.read(source, from)?;
+    draft.listed.push(from)?;
     find_light_pairs(task.bound, into, &row.out, &mut desk.pairs)?;
     if desk.pairs.is_empty() {
         return Ok(());
     }
     find_ends(&desk.pairs, &mut desk.targets)?;
     let rule = Rule {
-        from: into.other,
+        from,
         avoid: task.node,
         cutoff: greatest(&desk.pairs),
     };
@@ -155,16 +156,16 @@ fn leads_on(entries: &[Entry], node: u32) -> bool
 /// place of what the list had.
 fn find_light_pairs(
     bound: Cost,
-    into: Entry,
+    into: &Entry,
     outs: &[Entry],
     pairs: &mut Vec<Shortcut>,
 ) -> Result<(), AllocError>
     requires rises { Rises outs.now }
-    ensures { OnOk result (ArePairs bound into outs.now pairs.new.items) }
+    ensures { OnOk result (ArePairs bound into.now outs.now pairs.new.items) }
 {
     pairs.clear();
     'outs: for out in outs {
-        add_pair(bound, into, *out, pairs)?;
+        add_pair(bound, into, out, pairs)?;
     }
     Ok(())
 }
@@ -172,11 +173,11 @@ fn find_light_pairs(
 /// Adds the pair of two arcs, unless it is heavy or they join a node with itself.
 fn add_pair(
     bound: Cost,
-    into: Entry,
-    out: Entry,
+    into: &Entry,
+    out: &Entry,
     pairs: &mut Vec<Shortcut>,
 ) -> Result<(), AllocError>
-    ensures { OnOk result (IsPairAdded bound into out pairs.old.items pairs.new.items) }
+    ensures { OnOk result (IsPairAdded bound into.now out.now pairs.old.items pairs.new.items) }
 {
     if let Some(pair) = light_pair(bound, into, out) {
         pairs.push(pair)?;
@@ -185,8 +186,8 @@ fn add_pair(
 }
 
 /// The pair of two arcs, unless it is heavy or they join a node with itself.
-fn light_pair(bound: Cost, into: Entry, out: Entry) -> Option<Shortcut>
-    ensures { IsPairOf bound into out result }
+fn light_pair(bound: Cost, into: &Entry, out: &Entry) -> Option<Shortcut>
+    ensures { IsPairOf bound into.now out.now result }
 {
     if into.other == out.other {
         return None;

@@ -51,7 +51,7 @@ fn push_out(links: &mut Vec<Link>, node: u32, entries: &[Entry]) -> Result<(), A
             from: node,
             to: entry.other,
             cost: entry.cost,
-            middle: entry.middle,
+            middle: entry.middle.node(),
         })?;
     }
     Ok(())
@@ -65,7 +65,7 @@ fn push_in(links: &mut Vec<Link>, node: u32, entries: &[Entry]) -> Result<(), Al
             from: entry.other,
             to: node,
             cost: entry.cost,
-            middle: entry.middle,
+            middle: entry.middle.node(),
         })?;
     }
     Ok(())

@@ -137,7 +137,7 @@ fn draft_all<S: RowSource>(
     ensures found { AllNamed (S.whole source.old) (kept_of desk.old.searcher.rows) → NamesAlone (S.whole source.old) row.now → result ≡ Err Unseen → ⊥ }
 {
     'inns: for into in &row.inn {
-        draft_pairs(alloc, source, desk, task, row, *into, draft)?;
+        draft_pairs(alloc, source, desk, task, row, into, draft)?;
     }
     Ok(())
 }

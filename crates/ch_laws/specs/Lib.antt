@@ -1,5 +1,6 @@
 pub mod Contraction
 pub mod Members
+pub mod Middle
 pub mod Moving
 pub mod Rows
 pub mod Theorems

@@ -1,12 +1,13 @@
+use crate::middle::Middle;
 use ch_cost::Cost;
 
-/// An entry of a row: an arc between the row's node and another.
+/// An entry of a row: an arc between the row's node and another. It takes 16 bytes.
 #[derive(Clone, Copy, Debug, PartialEq, Eq)]
 pub struct Entry {
     /// The other node, numbered from 0.
     pub other: u32,
+    /// The node where its two halves meet, or none for an arc of the graph.
+    pub middle: Middle,
     /// What the arc costs.
     pub cost: Cost,
-    /// The node where its two halves meet, or none for an arc of the graph.
-    pub middle: Option<u32>,
 }

@@ -1,12 +1,13 @@
 //! The laws of contraction: why a hierarchy that lawful contractions lead to answers as its graph does.
 //!
-//! Stands on `ch_cost`, of which it uses the laws of costs alone, and on `ch_graph`. It has no code that does
-//! anything: its definitions say what a state, a lawful contraction, a row and a made hierarchy are, and each law is
-//! the contract of a function with an empty body.
+//! Stands on `ch_cost`, of which it uses the laws of costs alone, and on `ch_graph`. Its definitions say what a state, a
+//! lawful contraction, a row and a made hierarchy are, and each law is the contract of a function with an empty body. Its
+//! only code that does anything keeps an entry's middle in four bytes ([`Middle`]).
 #![tactic(auto)]
 
 mod contraction;
 mod entry;
+mod middle;
 mod right;
 mod routes;
 mod rows;
@@ -17,6 +18,7 @@ pub use contraction::{
     verdicts_are_lawful,
 };
 pub use entry::Entry;
+pub use middle::Middle;
 pub use right::{
     made_hierarchy_is_unique, reached_hierarchy_is_right, reached_hierarchy_is_well_made,
 };

@@ -58,7 +58,7 @@ module _ (v x : ℕ) (put : List Shortcut) (out inn : List Placed) (placed : Are
   out_short : (e : Entry) → Contains out (record { at = x; entry = e }) ↔ IsOfShortcut put v x e.other e
   out_short e = (
     λ h.
-        let found = contains-mapped (out_place v) put (record { at = x; entry = e }) (Contains-permutation out (map (out_place v) put) _ (IsPermutation-sym _ _ placed.outs) h) in
+        let found = contains-mapped (out_place (Some v)) put (record { at = x; entry = e }) (Contains-permutation out (map (out_place (Some v)) put) _ (IsPermutation-sym _ _ placed.outs) h) in
         let entry = ap (λ (p : Placed). p.entry) found.2 in
         record {
           shortcut = found.0;
@@ -67,17 +67,17 @@ module _ (v x : ℕ) (put : List Shortcut) (out inn : List Placed) (placed : Are
           cost = sym (ap (λ (f : Entry). f.cost) entry);
           middle = sym (ap (λ (f : Entry). f.middle) entry);
         },
-    λ is. subst (λ (p : Placed). Contains out p) (place_is is) (Contains-permutation (map (out_place v) put) out _ placed.outs (contains-map (out_place v) put is.shortcut is.among)),
+    λ is. subst (λ (p : Placed). Contains out p) (place_is is) (Contains-permutation (map (out_place (Some v)) put) out _ placed.outs (contains-map (out_place (Some v)) put is.shortcut is.among)),
   )
     where
-      place_is : (is : IsOfShortcut put v x e.other e) → out_place v is.shortcut ≡ record { at = x; entry = e }
+      place_is : (is : IsOfShortcut put v x e.other e) → out_place (Some v) is.shortcut ≡ record { at = x; entry = e }
       place_is is = ap (λ n. made n is.shortcut.to is.shortcut.cost (Some v)) is.joins.0 ∙ ap (λ n. made x n is.shortcut.cost (Some v)) is.joins.1
           ∙ ap (λ (c : Cost). made x e.other c (Some v)) (sym is.cost) ∙ ap (λ (m : Option ℕ). made x e.other e.cost m) (sym is.middle)
 
   in_short : (e : Entry) → Contains inn (record { at = x; entry = e }) ↔ IsOfShortcut put v e.other x e
   in_short e = (
     λ h.
-        let found = contains-mapped (in_place v) put (record { at = x; entry = e }) (Contains-permutation inn (map (in_place v) put) _ (IsPermutation-sym _ _ placed.inns) h) in
+        let found = contains-mapped (in_place (Some v)) put (record { at = x; entry = e }) (Contains-permutation inn (map (in_place (Some v)) put) _ (IsPermutation-sym _ _ placed.inns) h) in
         let entry = ap (λ (p : Placed). p.entry) found.2 in
         record {
           shortcut = found.0;
@@ -86,10 +86,10 @@ module _ (v x : ℕ) (put : List Shortcut) (out inn : List Placed) (placed : Are
           cost = sym (ap (λ (f : Entry). f.cost) entry);
           middle = sym (ap (λ (f : Entry). f.middle) entry);
         },
-    λ is. subst (λ (p : Placed). Contains inn p) (place_is is) (Contains-permutation (map (in_place v) put) inn _ placed.inns (contains-map (in_place v) put is.shortcut is.among)),
+    λ is. subst (λ (p : Placed). Contains inn p) (place_is is) (Contains-permutation (map (in_place (Some v)) put) inn _ placed.inns (contains-map (in_place (Some v)) put is.shortcut is.among)),
   )
     where
-      place_is : (is : IsOfShortcut put v e.other x e) → in_place v is.shortcut ≡ record { at = x; entry = e }
+      place_is : (is : IsOfShortcut put v e.other x e) → in_place (Some v) is.shortcut ≡ record { at = x; entry = e }
       place_is is = ap (λ n. made n is.shortcut.from is.shortcut.cost (Some v)) is.joins.1 ∙ ap (λ n. made x n is.shortcut.cost (Some v)) is.joins.0
           ∙ ap (λ (c : Cost). made x e.other c (Some v)) (sym is.cost) ∙ ap (λ (m : Option ℕ). made x e.other e.cost m) (sym is.middle)
 

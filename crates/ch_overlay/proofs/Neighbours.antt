@@ -60,7 +60,7 @@ module _ (row_of_alive : RowOfAlive) (o : Overlay) (holds : IsOverlay o) (v : �
   others_rise = pairs-map (λ x y. x < y) (λ (e : Entry). e.other) (record { other = 0; cost = o.bound; middle = None }) (merged row.out row.inn) both.rises
 
   pub change_is : (put : List Shortcut) (out inn : List Placed) (c : Change) → IsPlan o.bound (state_of o) v put → c.node ≡ v
-      → IsPermutation (map (out_place v) put) out → IsPermutation (map (in_place v) put) inn
+      → IsPermutation (map (out_place (Some v)) put) out → IsPermutation (map (in_place (Some v)) put) inn
       → AreChanged v o.rows out inn (others_of row) ((v, record row { rank = Some (length o.order) }) ∷ []) c.rows → IsChange o put c
   change_is put out inn c plan node outs inns changed =
       let placed : ArePlaced v put out inn = record {

@@ -1,22 +1,16 @@
 -- Rows are the same where their entries and their ranks are.
-use Rattle.std.proofs.Common.{ℕ, ◌≡◌, Bool, ◌&&◌, ◌==◌, List, Option, Some, None, ap, subst, refl, ◌∙◌}
+use Rattle.std.proofs.Common.{ℕ, ◌≡◌, Bool, ◌&&◌, ◌==◌, List, Option, ap, subst, ◌∙◌}
 use Rattle.std.specs.Bool.{Decides}
 use Rattle.std.specs.Cmp.{unsigned_Decides}
 use Rattle.std.specs.Cmp.Lexicographic.{pointwise}
-use Rattle.std.specs.Option.{option_eq}
 use Rattle.std.proofs.lemmas.Bool.Decides.{Decides-and}
 use Rattle.std.proofs.lemmas.Slice.Eq.{slice_eq-Decides}
 use Rattle.ch_cost.specs.declared.cost.Cost.{Cost}
 use Rattle.ch_cost.specs.Cost.{same}
 use Rattle.ch_cost.specs.Cost.Laws.{equal-from_same, same-from_equal}
 use Rattle.ch_laws.specs.declared.entry.Entry.{Entry}
+use Rattle.ch_laws.specs.Middle.{same_middles, same_middles-Decides}
 use Rattle.ch_laws.specs.Rows.{Row}
-
-pub option_decides : (a b : Option ℕ) → Decides (option_eq (λ x y. x == y) a b) (a ≡ b)
-option_decides None None = (λ _. refl, λ _. refl)
-option_decides None (Some y) = (λ e. absurd (cc), λ e. absurd (cc))
-option_decides (Some x) None = (λ e. absurd (cc), λ e. absurd (cc))
-option_decides (Some x) (Some y) = (λ e. ap Some ((unsigned_Decides x y).0 e), λ e. let same : x ≡ y = cc in (unsigned_Decides x y).1 same)
 
 cost_decides : (a b : Cost) → Decides (same a b) (a ≡ b)
 cost_decides a b = (equal-from_same a b, same-from_equal a b)
@@ -25,12 +19,12 @@ entry : ℕ → Cost → Option ℕ → Entry
 entry other cost middle = record { other = other; cost = cost; middle = middle }
 
 -- entries are the same where their three parts are
-entry_decides : (a b : Entry) → Decides (a.other == b.other && (same a.cost b.cost && option_eq (λ x y. x == y) a.middle b.middle)) (a ≡ b)
+entry_decides : (a b : Entry) → Decides (a.other == b.other && (same_middles a.middle b.middle && same a.cost b.cost)) (a ≡ b)
 unfolding entry
 entry_decides a b =
-    let parts = Decides-and (a.other == b.other) (same a.cost b.cost && option_eq (λ x y. x == y) a.middle b.middle) (unsigned_Decides a.other b.other) (Decides-and (same a.cost b.cost) (option_eq (λ x y. x == y) a.middle b.middle) (cost_decides a.cost b.cost) (option_decides a.middle b.middle)) in (
-      λ e. let is = parts.0 e in ap (λ x. entry x a.cost a.middle) is.0 ∙ ap (λ (x : Cost). entry b.other x a.middle) is.1.0 ∙ ap (λ x. entry b.other b.cost x) is.1.1,
-      λ e. parts.1 (ap (λ (x : Entry). x.other) e, (ap (λ (x : Entry). x.cost) e, ap (λ (x : Entry). x.middle) e)),
+    let parts = Decides-and (a.other == b.other) (same_middles a.middle b.middle && same a.cost b.cost) (unsigned_Decides a.other b.other) (Decides-and (same_middles a.middle b.middle) (same a.cost b.cost) (same_middles-Decides a.middle b.middle) (cost_decides a.cost b.cost)) in (
+      λ e. let is = parts.0 e in ap (λ x. entry x a.cost a.middle) is.0 ∙ ap (λ x. entry b.other a.cost x) is.1.0 ∙ ap (λ (x : Cost). entry b.other x b.middle) is.1.1,
+      λ e. parts.1 (ap (λ (x : Entry). x.other) e, (ap (λ (x : Entry). x.middle) e, ap (λ (x : Entry). x.cost) e)),
     )
 
 row : List Entry → List Entry → Option ℕ → Row
@@ -46,6 +40,6 @@ row_decides q r rank out inn ranks outs inns =
     )
 
 -- what `==` answers of two lists of entries
-pub entries_decide : (xs ys as_xs as_ys : List Entry) (r : Bool) → as_xs ≡ xs → as_ys ≡ ys → r ≡ pointwise (λ (a b : Entry). a.other == b.other && (same a.cost b.cost && option_eq (λ x y. x == y) a.middle b.middle)) as_xs as_ys → Decides r (xs ≡ ys)
+pub entries_decide : (xs ys as_xs as_ys : List Entry) (r : Bool) → as_xs ≡ xs → as_ys ≡ ys → r ≡ pointwise (λ (a b : Entry). a.other == b.other && (same_middles a.middle b.middle && same a.cost b.cost)) as_xs as_ys → Decides r (xs ≡ ys)
 entries_decide xs ys as_xs as_ys r first second e =
     subst (λ zs. Decides r (zs ≡ ys)) first (subst (λ zs. Decides r (as_xs ≡ zs)) second (slice_eq-Decides entry_decides as_xs as_ys r e))

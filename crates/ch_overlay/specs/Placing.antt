@@ -1,5 +1,5 @@
 -- The entries that shortcuts make, with the nodes whose rows they are for.
-use Rattle.std.specs.Prelude.{ℕ, ◌≡◌, ◌≢◌, ◌<◌, ◌⊎◌, ◌++◌, List, Some, length, map, All, AllPairs, Contains}
+use Rattle.std.specs.Prelude.{ℕ, ◌≡◌, ◌≢◌, ◌<◌, ◌⊎◌, ◌++◌, List, Option, Some, length, map, All, AllPairs, Contains}
 use Rattle.std.specs.List.Sorted.{IsPermutation}
 use Rattle.ch_laws.specs.declared.shortcut.Shortcut.{Shortcut}
 use Rattle.ch_laws.specs.Rows.{Row, Rises, IsChanged}
@@ -7,11 +7,11 @@ use Rattle.ch_overlay.specs.Overlay.{row_at}
 use Rattle.ch_overlay.specs.declared.placed.Placed.{Placed}
 
 -- the entry of a shortcut in the row of the node that it leaves, and of the one that it comes to
-abbrev pub out_place : ℕ → Shortcut → Placed
-out_place middle p = record { at = p.from; entry = record { other = p.to; cost = p.cost; middle = Some middle } }
+abbrev pub out_place : Option ℕ → Shortcut → Placed
+out_place middle p = record { at = p.from; entry = record { other = p.to; cost = p.cost; middle = middle } }
 
-abbrev pub in_place : ℕ → Shortcut → Placed
-in_place middle p = record { at = p.to; entry = record { other = p.from; cost = p.cost; middle = Some middle } }
+abbrev pub in_place : Option ℕ → Shortcut → Placed
+in_place middle p = record { at = p.to; entry = record { other = p.from; cost = p.cost; middle = middle } }
 
 -- by the node of the row, and then by the other node; no two have the same ends
 abbrev pub IsInOrder : List Placed → Type 0
@@ -19,8 +19,8 @@ IsInOrder = AllPairs (λ a b. (a.at < b.at) ⊎ ((a.at ≡ b.at) × (a.entry.oth
 
 -- the entries are those of the shortcuts that a contraction of `gone` puts in
 pub record ArePlaced (gone : ℕ) (put : List Shortcut) (out inn : List Placed) : Type 0 where
-  pub outs : IsPermutation (map (out_place gone) put) out
-  pub inns : IsPermutation (map (in_place gone) put) inn
+  pub outs : IsPermutation (map (out_place (Some gone)) put) out
+  pub inns : IsPermutation (map (in_place (Some gone)) put) inn
   pub apart : (p : Shortcut) → Contains put p → (p.from ≢ gone) × (p.to ≢ gone)
 
 -- the entries of each row rise

@@ -20,7 +20,7 @@ mod record;
 mod row;
 mod source;
 
-pub use ch_laws::{Entry, Shortcut};
+pub use ch_laws::{Entry, Middle, Shortcut};
 pub use change::{Change, changes_write_their_rows};
 pub use overlay::{Overlay, changes_are_sound};
 pub use record::{Record, SoundRows, Token};

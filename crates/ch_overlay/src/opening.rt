@@ -7,7 +7,7 @@ ghost use Rattle.ch_overlay.specs.Opening.{opening_row, with_arc};
 use crate::row::Row;
 use ch_cost::Cost;
 use ch_graph::Road;
-use ch_laws::Entry;
+use ch_laws::{Entry, Middle};
 use std::alloc::{AllocError, Global};
 use std::sync::Arc;
 
@@ -47,13 +47,13 @@ fn add_arc(rows: &mut [Row], arc: Road) -> Result<(), AllocError>
     from.add_out(Entry {
         other: arc.to,
         cost,
-        middle: None,
+        middle: Middle::NONE,
     })?;
     let to = &mut rows[arc.to as usize];
     to.add_in(Entry {
         other: arc.from,
         cost,
-        middle: None,
+        middle: Middle::NONE,
     })?;
     Ok(())
 }

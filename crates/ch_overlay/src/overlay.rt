@@ -17,7 +17,7 @@ use crate::row::Row;
 use ch_cost::Cost;
 use ch_graph::Graph;
 use ch_laws::{
-    Shortcut, rows_are_the_state, rows_of_alive_nodes_show_what_remains,
+    Middle, Shortcut, rows_are_the_state, rows_of_alive_nodes_show_what_remains,
     rows_of_least_arcs_are_the_start, updated_rows_are_the_next,
 };
 use std::alloc::{AllocError, Global};
@@ -146,8 +146,9 @@ impl Overlay {
         rows_of_alive_nodes_show_what_remains();
         let alloc = *self.rows.allocator();
         let row = self.row(node);
-        let out = out_entries(alloc, node, shortcuts)?;
-        let inn = in_entries(alloc, node, shortcuts)?;
+        let middle = Middle::at(node);
+        let out = out_entries(alloc, middle, shortcuts)?;
+        let inn = in_entries(alloc, middle, shortcuts)?;
         let neighbours = row.others(alloc)?;
         let ranked = ranked_row(alloc, row, self.contracted())?;
         let mut rows = Vec::with_capacity(alloc, neighbours.len() + 1)?;

@@ -5,7 +5,7 @@ ghost use Rattle.ch_laws.specs.Rows.{Rises};
 ghost use Rattle.ch_laws.specs.declared.entry.Entry.{Entry};
 ghost use Rattle.ch_overlay.specs.Placing.{out_place, in_place, IsInOrder};
 
-use ch_laws::{Entry, Shortcut};
+use ch_laws::{Entry, Middle, Shortcut};
 use std::alloc::{AllocError, Global};
 
 /// An entry for the row of the node `at`.
@@ -18,7 +18,7 @@ pub struct Placed {
 /// The entries of shortcuts in the rows of the nodes that they leave, in order. `middle` is the contracted node.
 pub fn out_entries(
     alloc: Global,
-    middle: u32,
+    middle: Middle,
     shortcuts: &[Shortcut],
 ) -> Result<Vec<Placed>, AllocError>
     requires { AllPairs (λ p q. IsFor p q.from q.to → ⊥) shortcuts.now }
@@ -32,7 +32,7 @@ pub fn out_entries(
 /// The entries of shortcuts in the rows of the nodes that they come to, in order.
 pub fn in_entries(
     alloc: Global,
-    middle: u32,
+    middle: Middle,
     shortcuts: &[Shortcut],
 ) -> Result<Vec<Placed>, AllocError>
     requires { AllPairs (λ p q. IsFor p q.from q.to → ⊥) shortcuts.now }
@@ -45,7 +45,7 @@ pub fn in_entries(
 
 fn entries_out(
     alloc: Global,
-    middle: u32,
+    middle: Middle,
     shortcuts: &[Shortcut],
 ) -> Result<Vec<Placed>, AllocError>
     ensures { IfOk result (λ entries. entries.items ≡ map (out_place middle) shortcuts.now) }
@@ -55,13 +55,17 @@ fn entries_out(
         entry: Entry {
             other: shortcut.to,
             cost: shortcut.cost,
-            middle: Some(middle),
+            middle,
         },
     };
     shortcuts.iter().map(entry_of).collect(alloc)
 }
 
-fn entries_in(alloc: Global, middle: u32, shortcuts: &[Shortcut]) -> Result<Vec<Placed>, AllocError>
+fn entries_in(
+    alloc: Global,
+    middle: Middle,
+    shortcuts: &[Shortcut],
+) -> Result<Vec<Placed>, AllocError>
     ensures { IfOk result (λ entries. entries.items ≡ map (in_place middle) shortcuts.now) }
 {
     let entry_of = |shortcut: &Shortcut| Placed {
@@ -69,7 +73,7 @@ fn entries_in(alloc: Global, middle: u32, shortcuts: &[Shortcut]) -> Result<Vec<
         entry: Entry {
             other: shortcut.from,
             cost: shortcut.cost,
-            middle: Some(middle),
+            middle,
         },
     };
     shortcuts.iter().map(entry_of).collect(alloc)

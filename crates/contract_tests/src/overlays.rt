@@ -2,7 +2,7 @@ ghost use Rattle.std.specs.Prelude.{◌≡◌, [], IfOk};
 
 use crate::networks::{Line, PARALLEL, ROW, graph_of};
 use ch_cost::Cost;
-use ch_overlay::{Entry, Overlay, Row};
+use ch_overlay::{Entry, Middle, Overlay, Row};
 use std::alloc::Global;
 use std::test::Fail;
 
@@ -46,7 +46,7 @@ fn are_entries(entries: &[Entry], expected: Entries) -> bool {
         && entries.iter().zip(expected).all(|(entry, (other, weight))| {
             (entry.other == *other)
                 & (entry.cost == Cost::of_weight(*weight))
-                & entry.middle.is_none()
+                & (entry.middle == Middle::NONE)
         })
 }
 
@@ -76,6 +76,17 @@ fn begins(overlay: &Overlay, opening: Opening) -> bool {
         holds &= overlay.version(node) == u64::from(node);
     }
     holds && nodes as usize == opening.rows.len()
+}
+
+#[test]
+fn a_middle_is_a_node_or_none(rt: HostRuntime) -> Result<(), Fail> {
+    for node in [0, 1, u32::MAX - 1] {
+        assert!(rt; Middle::at(node).node() == Some(node));
+        assert!(rt; Middle::at(node) == Middle::at(node) && Middle::at(node) != Middle::NONE);
+    }
+    assert!(rt; Middle::NONE.node() == None && Middle::NONE == Middle::NONE);
+    assert!(rt; Middle::at(1) != Middle::at(2));
+    Ok(())
 }
 
 #[test]

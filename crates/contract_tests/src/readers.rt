@@ -46,7 +46,7 @@ fn are(entries: &[Entry], expected: Entries) -> bool {
         && entries.iter().zip(expected).all(|(entry, (other, weight, middle))| {
             (entry.other == *other)
                 & (entry.cost == Cost::of_weight(*weight))
-                & (entry.middle == *middle)
+                & (entry.middle.node() == *middle)
         })
 }
 

@@ -5,7 +5,7 @@ ghost use Rattle.ch_overlay.specs.Overlay.{IsEntry};
 ghost use Rattle.ch_overlay.specs.Source.{IsSeenRow};
 
 use ch_cost::Cost;
-use ch_overlay::{Entry, Row, RowSource, SeeError, Seen};
+use ch_overlay::{Entry, Middle, Row, RowSource, SeeError, Seen};
 use std::alloc::{AllocError, Global};
 use std::marker::Model;
 use std::sync::Arc;
@@ -178,7 +178,7 @@ fn entry(other: u32, count: u32, weight: u32) -> Entry {
     Entry {
         other,
         cost: Cost::of_arcs(count, weight),
-        middle: None,
+        middle: Middle::NONE,
     }
 }
 

@@ -6,7 +6,7 @@ ghost use Rattle.ch_overlay.specs.Source.{IsBound};
 ghost use Rattle.ch_overlay.specs.Records.{AreSoundRows, IsSoundRow};
 
 use ch_cost::Cost;
-use ch_overlay::{Entry, Row};
+use ch_overlay::{Entry, Middle, Row};
 use std::alloc::{AllocError, Global};
 use std::sync::Arc;
 
@@ -26,7 +26,7 @@ fn entries(alloc: Global, all: Entries<'_>) -> Result<Vec<Entry>, AllocError> {
         list.push(Entry {
             other: *other,
             cost: Cost::of_weight(*weight),
-            middle: None,
+            middle: Middle::NONE,
         })?;
     }
     Ok(list)

@@ -11,4 +11,4 @@ abbrev at_cost : Entry → Entry → Cost → Shortcut
 at_cost into out cost = record { from = into.other; to = out.other; cost = cost }
 
 pub returns : goal.returns
-returns c = (c.if-into-out.false, c.in-Some.ensures.0, ap (at_cost c.args.into c.args.out) c.in-Some.ensures.1)
+returns c = (c.if-into-out.false, c.in-Some.ensures.0, ap (at_cost c.args.into.now c.args.out.now) c.in-Some.ensures.1)

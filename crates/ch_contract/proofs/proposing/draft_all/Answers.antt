@@ -1,7 +1,9 @@
-use Rattle.std.proofs.Common.{ap, ◌∙◌}
+use Rattle.std.proofs.Common.{ap, subst, ◌∙◌}
 use Rattle.std.proofs.lemmas.Result.{err_from_is_err_and}
+use Rattle.ch_laws.specs.declared.entry.Entry.{Entry}
 use Rattle.ch_laws.specs.Rows.{Row}
 use Rattle.ch_witness.specs.Kept.{kept_of}
+use Rattle.ch_contract.specs.Drafts.{IsDraftedFrom}
 use Rattle.ch_contract.proofs.Gathering.{drafted_none, next_drafted, names_moved}
 use Rattle.ch_contract.proofs.proposing.draft_all.Goals as goal
 
@@ -20,7 +22,7 @@ inns-preserved g c =
     let inv = c.inns.invariant in
     let step = c.in_ok-draft_pairs.ensures in
     record {
-      draft = next_drafted c.args.task.bound c.args.task.node c.args.row.now c.deref-into-items.result.now inns c.requires.inn_rises c.inns.into-index _ c.inns-test.true (kept_of c.inns.desk.searcher.rows) (kept_of c.draft_pairs.new.desk.searcher.rows) c.inns.draft c.draft_pairs.new.draft step.more inv.draft step.draft;
+      draft = next_drafted c.args.task.bound c.args.task.node c.args.row.now c.deref-into-items.result.now inns c.requires.inn_rises c.inns.into-index _ c.inns-test.true (kept_of c.inns.desk.searcher.rows) (kept_of c.draft_pairs.new.desk.searcher.rows) c.inns.draft c.draft_pairs.new.draft step.more inv.draft (subst (λ (e : Entry). IsDraftedFrom c.args.task.bound c.args.task.node c.args.row.now e (kept_of c.draft_pairs.new.desk.searcher.rows) c.inns.draft c.draft_pairs.new.draft) c.into-item.is step.draft);
       kept = step.kept;
       more = λ x s is. step.more x s (inv.more x s is);
       stays = g.met.S.RowSource.stays_more c.args.source.now c.inns.source c.draft_pairs.new.source inv.stays step.stays;

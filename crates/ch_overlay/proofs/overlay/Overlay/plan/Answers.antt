@@ -1,17 +1,23 @@
-use Rattle.std.proofs.Common.{ℕ, ◌≡◌, List, [], ◌∷◌, ◌++◌, length, get_or, map, Contains, Some, arith, refl, sym, ◌∙◌, ap, subst}
+use Rattle.std.proofs.Common.{ℕ, ◌≡◌, List, [], ◌∷◌, ◌++◌, length, get_or, map, Contains, Option, Some, arith, refl, sym, ◌∙◌, ap, subst}
 use Rattle.std.specs.Arc.{arc_value}
+use Rattle.std.specs.List.Sorted.{IsPermutation}
 use Rattle.std.proofs.lemmas.List.{length-map}
 use Rattle.std.proofs.lemmas.List.Elements.{Contains-get_or}
 use Rattle.ch_laws.specs.Rows.{Row}
 use Rattle.ch_overlay.specs.declared.placed.Placed.{Placed}
 use Rattle.ch_overlay.specs.Overlay.{Overlay, IsOverlay, row_at}
-use Rattle.ch_overlay.specs.Placing.{IsInOrder, RowsRise, AreChanged}
+use Rattle.ch_overlay.specs.Placing.{IsInOrder, RowsRise, AreChanged, out_place, in_place}
 use Rattle.ch_overlay.proofs.Neighbours.{others_of, other_near, rows_rise, change_is}
 use Rattle.ch_overlay.proofs.overlay.Overlay.plan.Goals as goal
 
 -- the rows as the slice of them has them
 rows_are : (c : goal.After-as_slice-4) → map arc_value c.as_slice.result.now ≡ c.args.self.now.rows
 rows_are c = ap (map arc_value) c.as_slice.ensures.value ∙ ap (λ (o : Overlay). o.rows) c.self.view_is
+
+pub at-middle-requires : goal.at-middle-requires
+at-middle-requires c =
+    let holds = subst (λ (o : Overlay). IsOverlay o) c.self.view_is c.self.invariant.0 in
+    omega (arith, c.requires.alive.in_range, holds.few_nodes)
 
 pub push_changed-requires-clause-in_range : goal.push_changed-requires-clause-in_range
 push_changed-requires-clause-in_range c k d h =
@@ -54,5 +60,7 @@ returns-clause-change c =
     ap (map (λ a. (a.0, arc_value a.1))) (c.in_ok-push.ensures.items ∙ ap (λ xs. xs ++ (v, c.in_ok-ranked.ranked) ∷ []) c.in_ok-rows.ensures.items)
     ∙ ap (λ (r : Row). (v, r) ∷ []) (c.in_ok-ranked.ensures ∙ ap (λ (r : Row). record r { rank = Some c.contracted.result }) (c.deref-2.ensures ∙ c.row-row.ensures)
     ∙ ap (λ (n : ℕ). record (row_at o.rows v) { rank = Some n }) c.contracted.ensures) in
-    change_is c.rows_of_alive_nodes_show_what_remains.ensures o holds v c.requires.alive c.args.shortcuts.now c.in_ok-out.out.items c.in_ok-inn.inn.items _ c.requires refl c.in_ok-out.ensures.all c.in_ok-inn.ensures.all
+    change_is c.rows_of_alive_nodes_show_what_remains.ensures o holds v c.requires.alive c.args.shortcuts.now c.in_ok-out.out.items c.in_ok-inn.inn.items _ c.requires refl
+    (subst (λ (m : Option ℕ). IsPermutation (map (out_place m) c.args.shortcuts.now) c.in_ok-out.out.items) c.at-middle.ensures c.in_ok-out.ensures.all)
+    (subst (λ (m : Option ℕ). IsPermutation (map (in_place m) c.args.shortcuts.now) c.in_ok-inn.inn.items) c.at-middle.ensures c.in_ok-inn.ensures.all)
     (changed_along rows c.as_slice-3.ensures.value c.as_slice-4.ensures.value nodes first c.in_ok-push_changed.ensures)
