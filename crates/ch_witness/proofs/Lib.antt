@@ -7,5 +7,6 @@ pub mod Keeping
 pub mod Limits
 pub mod Listing
 pub mod Offering
+pub mod Placed
 pub mod Tracing
 pub mod Valued

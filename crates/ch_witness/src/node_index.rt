@@ -1,4 +1,4 @@
-ghost use Rattle.std.specs.Prelude.{◌≡◌, ◌≢◌, ◌++◌, ◌∷◌, [], ℕ, ◌<◌, IfSome, IfNone, OnOk, OnErr, length, slice_index};
+ghost use Rattle.std.specs.Prelude.{◌≡◌, ◌≢◌, ◌++◌, ◌∷◌, ◌^◌, [], ℕ, ◌<◌, ◌≤◌, IfSome, IfNone, OnOk, OnErr, length, slice_index};
 ghost use Rattle.ch_witness.specs.Places.{ArePlaced, IsFirstAt};
 
 use std::alloc::{AllocError, Global};
@@ -7,23 +7,23 @@ use std::marker::Model;
 /// Different nodes in the order in which they came, and the place of each.
 ///
 /// A list by node number tells the place of each. What it tells counts only where that node does stand there, so that
-/// all nodes are forgotten at once (Briggs and Torczon 1993). It takes 8 bytes for each number up to the greatest of a
+/// all nodes are forgotten at once (Briggs and Torczon 1993). It takes 4 bytes for each number up to the greatest of a
 /// node so far.
 #[derive(Drop)]
 pub struct NodeIndex {
-    places: Vec<usize>,
+    places: Vec<u32>,
     nodes: Vec<u32>,
 }
 
 impl Model for NodeIndex {
-    ghost use Rattle.std.specs.Prelude.{ℕ, List};
+    ghost use Rattle.std.specs.Prelude.{◌≤◌, ◌^◌, ℕ, List, length};
     ghost use Rattle.ch_witness.specs.Places.{ArePlaced};
 
     ghost Value = { List ℕ };
 
     ghost view = { λ i. i.nodes.items };
 
-    ghost invariant = { λ i. ArePlaced i.places.items i.nodes.items };
+    ghost invariant = { λ i. ArePlaced i.places.items i.nodes.items × (length i.places.items ≤ 2 ^ 32) };
 }
 
 impl NodeIndex {
@@ -49,7 +49,7 @@ impl NodeIndex {
         ensures found { IfSome result (IsFirstAt self.now node) }
         ensures absent { IfNone result ((k : ℕ) → k < length self.now → slice_index self.now k ≢ node) }
     {
-        let place = *self.places.get(node as usize)?;
+        let place = *self.places.get(node as usize)? as usize;
         let there = *self.nodes.get(place)?;
         if there != node {
             return None;
@@ -66,16 +66,18 @@ impl NodeIndex {
     {
         make_room(&mut self.places, &self.nodes, node)?;
         self.nodes.reserve(1)?;
-        self.places[node as usize] = self.nodes.len();
+        self.places[node as usize] = next_place(&self.places, &self.nodes, node);
         self.nodes.push_reserved(node);
         Ok(())
     }
 }
 
 /// Sees to it that a place can be told of the node. Refused for want of memory.
-fn make_room(places: &mut Vec<usize>, nodes: &[u32], node: u32) -> Result<(), AllocError>
+fn make_room(places: &mut Vec<u32>, nodes: &[u32], node: u32) -> Result<(), AllocError>
     requires placed { ArePlaced places.old.items nodes.now }
+    requires few { length places.old.items ≤ 2 ^ 32 }
     ensures placed { ArePlaced places.new.items nodes.now }
+    ensures few { length places.new.items ≤ 2 ^ 32 }
     ensures room { OnOk result (node < length places.new.items) }
 {
     let at = node as usize;
@@ -83,4 +85,16 @@ fn make_room(places: &mut Vec<usize>, nodes: &[u32], node: u32) -> Result<(), Al
         return Ok(());
     }
     places.resize(at + 1, 0)
+}
+
+/// The place behind these nodes, where another one is to stand: each has a number of its own, so they are fewer than
+/// there are numbers.
+fn next_place(places: &[u32], nodes: &[u32], node: u32) -> u32
+    requires placed { ArePlaced places.now nodes.now }
+    requires few { length places.now ≤ 2 ^ 32 }
+    requires room { node < length places.now }
+    requires absent { (k : ℕ) → k < length nodes.now → slice_index nodes.now k ≢ node }
+    ensures { result ≡ length nodes.now }
+{
+    nodes.len() as u32
 }
