@@ -15,7 +15,7 @@ use crate::scratch::Desk;
 use ch_cost::Cost;
 use ch_laws::Entry;
 use ch_overlay::{Row, RowSource, Shortcut};
-use ch_witness::{Rule, Way};
+use ch_witness::{Aim, Rows, Rule, Way};
 use std::alloc::{AllocError, Global};
 
 /// What the pairs of a proposal have in common.
@@ -133,20 +133,19 @@ pub fn draft_pairs<S: RowSource>(
         return Ok(());
     }
     find_ends(&desk.pairs, &mut desk.targets)?;
+    find_aims(&desk.pairs, task.node, &desk.searcher.rows, &mut desk.aims)?;
     let rule = Rule {
         from,
         avoid: task.node,
         cutoff: greatest(&desk.pairs),
     };
-    let found = desk
-        .searcher
-        .search(alloc, source, rule, &desk.targets, task.settle)?;
+    let found = desk.searcher.search(alloc, source, rule, &desk.targets, &desk.aims, task.settle)?;
     draft.judge(&desk.pairs, &found.ways)?;
     Ok(())
 }
 
 /// Whether one of the entries is for another node than this.
-fn leads_on(entries: &[Entry], node: u32) -> bool
+pub fn leads_on(entries: &[Entry], node: u32) -> bool
     ensures { IsTrue result ↔ LeadsOn entries.now node }
 {
     entries.iter().any(|entry| node != entry.other)
@@ -211,6 +210,38 @@ fn find_ends(pairs: &[Shortcut], ends: &mut Vec<u32>) -> Result<(), AllocError>
         ends.push(pair.to)?;
     }
     Ok(())
+}
+
+/// What a search may know of the ends of these pairs, whose middle it avoids. It takes the place of what the list had.
+fn find_aims(
+    pairs: &[Shortcut],
+    avoid: u32,
+    rows: &Rows,
+    aims: &mut Vec<Aim>,
+) -> Result<(), AllocError> {
+    aims.clear();
+    'pairs: for pair in pairs {
+        aims.push(Aim {
+            enough: pair.cost,
+            last_arc: least_last_arc(rows, *pair, avoid),
+        })?;
+    }
+    Ok(())
+}
+
+/// What each arc to the end of a pair costs at least, but for one from its start or from the node to avoid. Nothing is
+/// known where no row of the end is kept.
+fn least_last_arc(rows: &Rows, pair: Shortcut, avoid: u32) -> Cost {
+    let Some(seen) = rows.get(pair.to) else {
+        return Cost::ZERO;
+    };
+    let mut least = Cost::of_length(u64::MAX);
+    'inns: for arc in &seen.row.inn {
+        if arc.other != avoid && arc.other != pair.from && arc.cost.is_below(least) {
+            least = arc.cost;
+        }
+    }
+    least
 }
 
 /// What the most costly pair costs, or nothing where there is none.

@@ -6,12 +6,14 @@ ghost use Rattle.ch_witness.specs.Kept.{kept_of, AllNamed, AreKept, IsMore};
 ghost use Rattle.ch_contract.specs.Drafts.{IsBegun, IsDrafted};
 ghost use Rattle.ch_contract.specs.Proposal.{IsProposal, TellsContracted};
 ghost use Rattle.ch_contract.specs.declared.error.ProposeError.TheVariants.{Unseen, Contracted};
+ghost use Rattle.ch_overlay.specs.declared.source.SeeError.TheVariants as see;
 
-use crate::draft::{Draft, Task, draft_pairs};
+use crate::draft::{Draft, Task, draft_pairs, leads_on};
 use crate::error::ProposeError;
 use crate::proposal::Proposal;
 use crate::scratch::{Desk, Scratch};
-use ch_overlay::{Row, RowSource};
+use ch_overlay::{Row, RowSource, SeeError};
+use ch_witness::Rows;
 use std::alloc::Global;
 use std::sync::Arc;
 
@@ -22,7 +24,7 @@ use std::sync::Arc;
 /// settles at most `settle` nodes (1 to 65,536). `OutOfMemory` where a growth was refused, `Unseen` where the source
 /// has no row of a node that is asked for, `Contracted` exactly where the node's row, which is read first, has a rank;
 /// the source has then moved as reading moves it, and nothing else. Memory and time go by the nodes that are settled and
-/// their neighbours, with 16 bytes for each number up to the greatest of them, which [`propose_with`] takes once.
+/// their neighbours, with 8 bytes for each number up to the greatest of them, which [`propose_with`] takes once.
 pub fn propose<S: RowSource>(
     alloc: Global,
     source: &mut S,
@@ -136,8 +138,28 @@ fn draft_all<S: RowSource>(
     ensures never { result ≡ Err Contracted → ⊥ }
     ensures found { AllNamed (S.whole source.old) (kept_of desk.old.searcher.rows) → NamesAlone (S.whole source.old) row.now → result ≡ Err Unseen → ⊥ }
 {
+    read_neighbours(source, &mut desk.searcher.rows, row)?;
     'inns: for into in &row.inn {
         draft_pairs(alloc, source, desk, task, row, into, draft)?;
+    }
+    Ok(())
+}
+
+/// Reads the row of each neighbour from which a pair may lead, so that each search knows the arcs to such of them as it
+/// is to find.
+fn read_neighbours<S: RowSource>(source: &mut S, rows: &mut Rows, row: &Row) -> Result<(), SeeError>
+    requires kept { AreKept S.bears (S.shows source.old) (S.bound_of source.old) (kept_of rows.old) }
+    ensures kept { AreKept S.bears (S.shows source.new) (S.bound_of source.new) (kept_of rows.new) }
+    ensures more { IsMore (kept_of rows.old) (kept_of rows.new) }
+    ensures stays { S.stays source.old source.new }
+    ensures found { AllNamed (S.whole source.old) (kept_of rows.old) → NamesAlone (S.whole source.old) row.now → result ≡ Err see.Unseen → ⊥ }
+    ensures names { AllNamed (S.whole source.old) (kept_of rows.old) → NamesAlone (S.whole source.old) row.now → OnOk result (AllNamed (S.whole source.new) (kept_of rows.new)) }
+{
+    'inns: for into in &row.inn {
+        if !leads_on(&row.out, into.other) {
+            continue;
+        }
+        rows.read(source, into.other)?;
     }
     Ok(())
 }

@@ -1,9 +1,9 @@
 use ch_overlay::Shortcut;
-use ch_witness::Searcher;
+use ch_witness::{Aim, Searcher};
 use std::alloc::Global;
 use std::marker::Model;
 
-/// What proposals are worked out in, one after the other. It keeps their memory, of which 16 bytes for each number up to
+/// What proposals are worked out in, one after the other. It keeps their memory, of which 8 bytes for each number up to
 /// the greatest of a node that they came to.
 #[derive(Drop)]
 pub struct Scratch {
@@ -24,6 +24,8 @@ pub(crate) struct Desk {
     pub(crate) pairs: Vec<Shortcut>,
     /// The nodes to which they lead.
     pub(crate) targets: Vec<u32>,
+    /// What the search may know of each of these.
+    pub(crate) aims: Vec<Aim>,
 }
 
 impl Scratch {
@@ -34,6 +36,7 @@ impl Scratch {
                 searcher: Searcher::new(alloc),
                 pairs: Vec::new(alloc),
                 targets: Vec::new(alloc),
+                aims: Vec::new(alloc),
             },
         }
     }

@@ -9,6 +9,7 @@
 //! costs what its arcs do.
 #![tactic(auto)]
 
+mod aim;
 mod error;
 mod follow;
 mod frontier;
@@ -23,6 +24,7 @@ mod trace;
 mod tree;
 mod way;
 
+pub use aim::Aim;
 pub use error::SearchError;
 pub use rows::Rows;
 pub use rule::Rule;

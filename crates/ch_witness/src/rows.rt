@@ -71,6 +71,15 @@ impl Rows {
         self.kept[place].as_ref().unwrap()
     }
 
+    /// The answer that is kept for a node, or none where none is.
+    pub fn get(&self, node: u32) -> Option<&Seen>
+        ensures kept { IfSome result (λ seen. kept_of self.now node ≡ Some seen.now) }
+        ensures none { IfNone result (kept_of self.now node ≡ None) }
+    {
+        let place = self.known(node, self.nodes.find(node))?;
+        Some(self.at(place))
+    }
+
     /// The answers that are kept for these nodes, in this order, each node's once and at its first place. Of those nodes
     /// no answer is kept any more.
     pub fn hand_out(&mut self, alloc: Global, nodes: &[u32]) -> Result<Vec<Seen>, AllocError>

@@ -2,6 +2,7 @@ ghost use Rattle.std.specs.Prelude.{◌≡◌, ◌<◌, ℕ, IfOk, length, slice
 ghost use Rattle.ch_witness.specs.Tree.{labels_of, seen_of, IsTree};
 ghost use Rattle.ch_witness.specs.Ways.{IsWayOf, way_at};
 
+use crate::aim::Aim;
 use crate::error::SearchError;
 use crate::frontier::Frontier;
 use crate::rows::Rows;
@@ -56,12 +57,17 @@ impl Searcher {
     /// search fails. The rows of the steps are those that are kept, so that several searches may rest on the same
     /// answers. The conditions and the errors are those of [`search`](crate::search); a search that fails
     /// lets the memory go that it would have used again.
+    ///
+    /// The aims are those of the targets, in their order, as far as they go. A target with an aim is done, as one that is
+    /// settled is, where no node that is settled from then on can make its way a better one that is wanted. So the
+    /// ways that are wanted are those of [`search`](crate::search), and fewer nodes are settled, and rows read, for them.
     pub fn search<S: RowSource>(
         &mut self,
         alloc: Global,
         source: &mut S,
         rule: Rule,
         targets: &[u32],
+        aims: &[Aim],
         settle: u32,
     ) -> Result<Traced, SearchError>
         requires start { rule.from ≢ rule.avoid }
@@ -88,6 +94,7 @@ impl Searcher {
             &mut self.rows,
             rule,
             targets,
+            aims,
             settle,
         )?;
         let ways = ways_to(alloc, rule, &tree, targets)?;

@@ -23,7 +23,7 @@ use std::alloc::{AllocError, Global};
 ///
 /// `from` and the targets differ from `avoid`, and the cutoff is within the bound of the source. `OutOfMemory` where a
 /// growth was refused, `Unseen` where the source has no row of a node that is gone on from; the source has then moved
-/// as reading moves it, and nothing else. Memory and time go by the nodes that are settled and their neighbours, with 16
+/// as reading moves it, and nothing else. Memory and time go by the nodes that are settled and their neighbours, with 8
 /// bytes for each number up to the greatest of them: a [`Searcher`] keeps that memory for its next search.
 pub fn search<S: RowSource>(
     alloc: Global,
@@ -53,7 +53,7 @@ pub fn search<S: RowSource>(
         avoid,
         cutoff,
     };
-    let traced = searcher.search(alloc, source, rule, targets, settle)?;
+    let traced = searcher.search(alloc, source, rule, targets, &[], settle)?;
     let nodes = nodes_of(alloc, &traced.steps)?;
     let seen = searcher.rows.hand_out(alloc, &nodes)?;
     let ways = traced.ways;

@@ -5,6 +5,7 @@ ghost use Rattle.ch_witness.specs.declared.error.SearchError.TheVariants.{Unseen
 ghost use Rattle.ch_witness.specs.Kept.{kept_of, AllNamed, AreKept, IsKept, IsMore};
 ghost use Rattle.ch_witness.specs.Tree.{labels_of, IsTree, IsNew, IsGoneOn, IsLater, IsStartSeen, AllAre, AllSeen};
 
+use crate::aim::Aim;
 use crate::error::SearchError;
 use crate::follow::follow;
 use crate::frontier::{Frontier, Reached};
@@ -35,6 +36,7 @@ impl Tree {
         rows: &mut Rows,
         rule: Rule,
         targets: &[u32],
+        aims: &[Aim],
         settle: u32,
     ) -> Result<Tree, SearchError>
         requires start { rule.from ≢ rule.avoid }
@@ -64,18 +66,19 @@ impl Tree {
             before: None,
         };
         tree.go_on_from(source, rows, rule, start)?;
-        tree.grow(source, rows, rule, targets, settle - 1)?;
+        tree.grow(source, rows, rule, targets, aims, settle - 1)?;
         Ok(tree)
     }
 
     /// Goes on with the search: settles node after node and goes on from each, until so many turns are over, no node
-    /// is open, or every target is settled, whose last one's row isn't read.
+    /// is open, or every target is done, and the row of the node that was settled last isn't read.
     pub fn grow<S: RowSource>(
         &mut self,
         source: &mut S,
         rows: &mut Rows,
         rule: Rule,
         targets: &[u32],
+        aims: &[Aim],
         turns: u32,
     ) -> Result<(), SearchError>
         requires tree { IsTree rule self.old.steps.items (labels_of self.old.frontier) }
@@ -91,12 +94,12 @@ impl Tree {
         ensures found { AllNamed (S.whole source.old) (kept_of rows.old) → AllAre (S.whole source.old) (labels_of self.old.frontier) → result ≡ Err Unseen → ⊥ }
         ensures names { AllNamed (S.whole source.old) (kept_of rows.old) → AllAre (S.whole source.old) (labels_of self.old.frontier) → OnOk result (AllNamed (S.whole source.new) (kept_of rows.new)) }
     {
-        let mut done = self.settled_targets(targets, 0);
+        let mut done = 0;
         'turns: for _ in 0..turns {
             let Some(reached) = self.frontier.settle_next() else {
                 break;
             };
-            done = self.settled_after(targets, done, reached.node);
+            done = self.done_targets(targets, aims, done, reached.cost);
             if done >= targets.len() {
                 break;
             }
@@ -105,19 +108,12 @@ impl Tree {
         Ok(())
     }
 
-    /// The same as [`Tree::settled_targets`], where this node alone was settled since so many were.
-    fn settled_after(&self, targets: &[u32], known: usize, node: u32) -> usize {
-        if known < targets.len() && targets[known] != node {
-            return known;
-        }
-        self.settled_targets(targets, known)
-    }
-
-    /// How many targets at the beginning of the list are settled, where it is known of so many.
-    fn settled_targets(&self, targets: &[u32], known: usize) -> usize {
+    /// How many targets at the beginning of the list are done, where it is known of so many, and nodes of this cost
+    /// are settled now.
+    fn done_targets(&self, targets: &[u32], aims: &[Aim], known: usize, cost: Cost) -> usize {
         let mut done = known;
         'targets: while done < targets.len() {
-            if !self.is_settled(targets[done]) {
+            if !self.is_done(targets[done], aims.get(done), cost) {
                 break;
             }
             done += 1;
@@ -125,9 +121,19 @@ impl Tree {
         done
     }
 
-    /// Whether the way to a node is final.
-    fn is_settled(&self, node: u32) -> bool {
-        self.frontier.label(node).is_some_and(|label| label.settled)
+    /// Whether a target is done: its way is final, or no node of this cost or more makes it a better one that is wanted.
+    fn is_done(&self, target: u32, aim: Option<&Aim>, cost: Cost) -> bool {
+        let label = self.frontier.label(target);
+        if label.is_some_and(|label| label.settled) {
+            return true;
+        }
+        let Some(aim) = aim else {
+            return false;
+        };
+        let Some(least) = cost.plus_within(aim.last_arc, aim.enough) else {
+            return true;
+        };
+        label.is_some_and(|label| label.cost.is_at_most(least))
     }
 
     /// Goes on from a node that was settled: reads its row and, where that has no rank, makes it a step and follows

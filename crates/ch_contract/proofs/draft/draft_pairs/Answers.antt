@@ -44,13 +44,13 @@ returns-then-is_empty-clause-draft g c =
 
 pub search-requires-clause-targets : goal.search-requires-clause-targets
 search-requires-clause-targets g c =
-    let targets : c.deref-5.result.now ≡ map (λ (p : Shortcut). p.to) c.find_light_pairs.new.pairs.items = c.deref-5.ensures.value ∙ c.in_ok-find_ends.ensures ∙ ap (map (λ (p : Shortcut). p.to)) c.deref-3.ensures.value in
+    let targets : c.deref-6.result.now ≡ map (λ (p : Shortcut). p.to) c.find_light_pairs.new.pairs.items = c.deref-6.ensures.value ∙ c.in_ok-find_ends.ensures ∙ ap (map (λ (p : Shortcut). p.to)) c.deref-3.ensures.value in
     λ among. no_target c.args.task.bound c.args.task.node c.args.row.now c.args.into.now c.find_light_pairs.new.pairs.items (subst (λ (es : List Entry). ArePairs c.args.task.bound c.args.into.now es c.find_light_pairs.new.pairs.items) (c.deref-2.ensures.value ∙ ap (λ (r : Row). r.out) c.row.view_is) c.in_ok-find_light_pairs.ensures) c.requires.entries (subst (λ (ts : List ℕ). Contains ts c.args.task.node) targets among)
 
 pub search-requires-clause-cutoff : goal.search-requires-clause-cutoff
 search-requires-clause-cutoff g c =
     let bound : c.args.task.bound ≡ g.S.RowSource.bound_of c.read.new.source = c.requires.bound ∙ sym (g.met.S.RowSource.same_bound c.args.source.now c.read.new.source c.in_ok-read.ensures.stays) in
-    subst (λ (b : Cost). IsWithin c.greatest.result b) bound (c.greatest.ensures.within c.args.task.bound (λ p among. (pair_through c.args.task.bound c.args.row.now c.args.into.now c.find_light_pairs.new.pairs.items c.requires.among c.requires.inn_rises (subst (λ (es : List Entry). ArePairs c.args.task.bound c.args.into.now es c.find_light_pairs.new.pairs.items) (c.deref-2.ensures.value ∙ ap (λ (r : Row). r.out) c.row.view_is) c.in_ok-find_light_pairs.ensures) p (subst (λ (ps : List Shortcut). Contains ps p) c.deref-4.ensures.value among)).1))
+    subst (λ (b : Cost). IsWithin c.greatest.result b) bound (c.greatest.ensures.within c.args.task.bound (λ p among. (pair_through c.args.task.bound c.args.row.now c.args.into.now c.find_light_pairs.new.pairs.items c.requires.among c.requires.inn_rises (subst (λ (es : List Entry). ArePairs c.args.task.bound c.args.into.now es c.find_light_pairs.new.pairs.items) (c.deref-2.ensures.value ∙ ap (λ (r : Row). r.out) c.row.view_is) c.in_ok-find_light_pairs.ensures) p (subst (λ (ps : List Shortcut). Contains ps p) c.deref-5.ensures.value among)).1))
 
 pub returns-in_err-found-clause-found : goal.returns-in_err-found-clause-found
 returns-in_err-found-clause-found g c = λ named names e.
@@ -70,7 +70,7 @@ returns-clause-names g c = λ named names.
 pub returns-clause-draft : goal.returns-clause-draft
 returns-clause-draft g c =
     let pairs = c.find_light_pairs.new.pairs.items in
-    let targets : c.deref-5.result.now ≡ map (λ (p : Shortcut). p.to) pairs = c.deref-5.ensures.value ∙ c.in_ok-find_ends.ensures ∙ ap (map (λ (p : Shortcut). p.to)) c.deref-3.ensures.value in
+    let targets : c.deref-6.result.now ≡ map (λ (p : Shortcut). p.to) pairs = c.deref-6.ensures.value ∙ c.in_ok-find_ends.ensures ∙ ap (map (λ (p : Shortcut). p.to)) c.deref-3.ensures.value in
     let first = c.in_ok-read.ensures.here in
     let ways = c.in_ok-found.found.ways.items in
     let rows = seen_of c.in_ok-found.found.steps.items in
@@ -79,9 +79,9 @@ returns-clause-draft g c =
     c.requires.out_rises (subst (λ (es : List Entry). LeadsOn es c.args.into.now.other) outs (c.leads_on.ensures.0 (is-true _ c.if-not-leads_on.false)))
     (kept_of c.search.new.self.rows) first.seen (c.in_ok-found.ensures.more c.args.into.now.other first.seen first.kept)
     rows c.greatest.result ways (subst (λ (ts : List ℕ). AreWays rows c.args.into.now.other c.args.task.node c.greatest.result ts ways) targets c.in_ok-found.ensures.ways)
-    (λ p among. c.greatest.ensures.most p (subst (λ (ps : List Shortcut). Contains ps p) (sym c.deref-4.ensures.value) among))
+    (λ p among. c.greatest.ensures.most p (subst (λ (ps : List Shortcut). Contains ps p) (sym c.deref-5.ensures.value) among))
     (direct_for (kept_of c.search.new.self.rows) rows c.args.into.now.other c.greatest.result ways _ (map (λ (p : Shortcut). p.to) pairs) targets c.in_ok-found.ensures.direct)
     c.in_ok-found.ensures.kept_rows
     c.args.draft.now _ c.judge.new.self
-    (judged_for _ pairs _ ways _ c.judge.new.self c.deref-6.ensures.value c.deref-7.ensures.value c.in_ok-judge.ensures)
+    (judged_for _ pairs _ ways _ c.judge.new.self c.deref-8.ensures.value c.deref-9.ensures.value c.in_ok-judge.ensures)
     refl c.in_ok-push.ensures.items

@@ -8,13 +8,15 @@ use Rattle.ch_contract.proofs.Gathering.{drafted_none, next_drafted, names_moved
 use Rattle.ch_contract.proofs.proposing.draft_all.Goals as goal
 
 pub inns-init : goal.inns-init
-inns-init g c = record {
-  draft = drafted_none c.args.task.bound c.args.task.node c.args.row.now (kept_of c.args.desk.now.searcher.rows) c.args.draft.now c.requires.begun;
-  kept = c.requires.kept;
-  more = λ x s is. is;
-  stays = g.met.S.RowSource.stays_self c.args.source.now;
-  names = λ named names. named;
-}
+inns-init g c =
+    let read = c.in_ok-read_neighbours.ensures in
+    record {
+      draft = drafted_none c.args.task.bound c.args.task.node c.args.row.now (kept_of c.read_neighbours.new.rows) c.args.draft.now c.requires.begun;
+      kept = read.kept;
+      more = read.more;
+      stays = read.stays;
+      names = read.names;
+    }
 
 pub inns-preserved : goal.inns-preserved
 inns-preserved g c =
@@ -32,7 +34,7 @@ inns-preserved g c =
 pub returns-in_err-draft_pairs-clause-found : goal.returns-in_err-draft_pairs-clause-found
 returns-in_err-draft_pairs-clause-found g c = λ named names e.
     let inv = c.inns.invariant in
-    let p = err_from_is_err_and c.from_residual.result c.from_residual.ensures.1 in
+    let p = err_from_is_err_and c.from_residual-in_err-draft_pairs.result c.from_residual-in_err-draft_pairs.ensures.1 in
     let was = c.in_err-draft_pairs.was in
     let one = p.1 in
     let two = p.2 in

@@ -8,7 +8,7 @@ abbrev pub invariant-inns : goal.invariant-inns
 invariant-inns g l = record {
   draft : IsDrafted l.fn.task.bound l.fn.task.node l.fn.row (take l.into-index l.into-items) (kept_of l.desk.searcher.rows) l.draft;
   kept : AreKept g.S.RowSource.bears (g.S.RowSource.shows l.source) (g.S.RowSource.bound_of l.source) (kept_of l.desk.searcher.rows);
-  more : IsMore (kept_of l.initial.desk.searcher.rows) (kept_of l.desk.searcher.rows);
-  stays : g.S.RowSource.stays l.initial.source l.source;
-  names : AllNamed (g.S.RowSource.whole l.initial.source) (kept_of l.initial.desk.searcher.rows) → NamesAlone (g.S.RowSource.whole l.initial.source) l.fn.row → AllNamed (g.S.RowSource.whole l.source) (kept_of l.desk.searcher.rows);
+  more : IsMore (kept_of l.fn.desk.searcher.rows) (kept_of l.desk.searcher.rows);
+  stays : g.S.RowSource.stays l.fn.source l.source;
+  names : AllNamed (g.S.RowSource.whole l.fn.source) (kept_of l.fn.desk.searcher.rows) → NamesAlone (g.S.RowSource.whole l.fn.source) l.fn.row → AllNamed (g.S.RowSource.whole l.source) (kept_of l.desk.searcher.rows);
 }
