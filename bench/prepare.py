@@ -2,14 +2,14 @@
 """Times `routecli prepare` by workers and orders on the same networks, beside the sweep and a textbook hierarchy in
 C++ (hierarchy.cpp), one after the other on this machine, and then `routecli route`.
 
-    bench/prepare.py [--rounds ROUNDS] [SIDE ..]
+    bench/prepare.py [--rounds ROUNDS] [--refusals] [SIDE ..]
                                       by default 3 rounds; sides of the square networks, by default 100 256 514
 
 For each number of workers and each order, and for the textbook: seconds of the whole run, reading included, the best of
 the rounds, and the most processor seconds; for the textbook also those of its preparation alone; links for each arc of
 the network; and the greatest resident size, of which up to 15 MB may be this script's own. The sweep (`--workers 0`)
-contracts in the order of the node numbers and is left out above a side of 128. How many proposals were refused is told by
-refusals.py. Then 10,000 pairs are
+contracts in the order of the node numbers and is left out above a side of 128. With --refusals also how many proposals
+were refused for each node, in one more run, by the program of refusals.py, which counts them. Then 10,000 pairs are
 routed once by the hierarchy of one worker and the first order, and every length is compared with the textbook's; all
 other hierarchies of the network answer 100 pairs, which are compared too. It needs g++ and the proved program
 crates/routecli/out/routecli (README.md says how to build it).
@@ -22,6 +22,7 @@ import sys
 import tempfile
 import time
 
+from refusals import built, refused
 from run import PROGRAM, ROOT, arcs_in, links_in, run
 
 PAIRS = 10_000
@@ -77,12 +78,13 @@ def check(file, queries, wanted, folder):
     return seconds, memory
 
 
-def row(name, times, links):
+def row(name, times, links, share=None):
     seconds, processor, memory = times
-    print(f"| {name} | {seconds:.2f} s | {processor:.2f} s | {links:.2f} | {memory:.0f} MB |", flush=True)
+    told = "" if share is None else f" {share:.3f} |"
+    print(f"| {name} | {seconds:.2f} s | {processor:.2f} s | {links:.2f} | {memory:.0f} MB |{told}", flush=True)
 
 
-def times_of(side, program, rounds, folder):
+def times_of(side, program, counting, rounds, folder):
     graph, few = network(side, FEW, folder)
     graph, many = network(side, PAIRS, folder)
     arcs = arcs_in(graph)
@@ -90,8 +92,8 @@ def times_of(side, program, rounds, folder):
     (folder / "none.pairs").write_text("p aux sp p2p 0\n")
     seconds, links, answered = textbook(program, graph, many, folder / "many.wanted")
     print(f"\n{side * side:,} nodes, {arcs:,} arcs\n")
-    print("| workers, order | prepare | processor | links per arc | memory |")
-    print("|---" * 5 + "|")
+    print("| workers, order | prepare | processor | links per arc | memory |" + (" refused a node |" if counting else ""))
+    print("|---" * (6 if counting else 5) + "|")
     if side <= MOST_SWEPT:
         file = folder / "sweep.rch"
         row("0 (the sweep)", prepared(graph, file, 0, "edges", rounds), links_in(file) / arcs)
@@ -99,7 +101,9 @@ def times_of(side, program, rounds, folder):
     for order in ORDERS:
         for workers in WORKERS:
             file = folder / f"{order}{workers}.rch"
-            row(f"{workers}, {order}", prepared(graph, file, workers, order, rounds), links_in(file) / arcs)
+            times = prepared(graph, file, workers, order, rounds)
+            share = refused(counting, graph, workers, 2, order)[1] if counting else None
+            row(f"{workers}, {order}", times, links_in(file) / arcs, share)
             check(file, few, folder / "few.wanted", folder)
     row("textbook in C++", measured([program, graph, folder / "none.pairs"], rounds), links)
     print(f"\ntextbook in C++, preparation alone: {seconds:.2f} s")
@@ -110,16 +114,18 @@ def times_of(side, program, rounds, folder):
 def main():
     parser = argparse.ArgumentParser(description=__doc__, formatter_class=argparse.RawDescriptionHelpFormatter)
     parser.add_argument("--rounds", type=int, default=3)
+    parser.add_argument("--refusals", action="store_true")
     parser.add_argument("sides", nargs="*", type=int, default=[100, 256, 514], metavar="SIDE")
     asked = parser.parse_args()
     if not PROGRAM.exists():
         sys.exit(f"{PROGRAM} isn't built: README.md says how")
-    with tempfile.TemporaryDirectory() as folder:
+    with tempfile.TemporaryDirectory(dir=ROOT.parent) as folder:
         folder = pathlib.Path(folder)
+        counting = built(folder) if asked.refusals else None
         program = folder / "hierarchy"
         subprocess.run(["g++", "-O3", "-std=c++17", "-o", program, ROOT / "bench/hierarchy.cpp"], check=True)
         for side in asked.sides:
-            times_of(side, program, asked.rounds, folder)
+            times_of(side, program, counting, asked.rounds, folder)
 
 
 if __name__ == "__main__":

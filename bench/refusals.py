@@ -1,6 +1,6 @@
 #!/usr/bin/env python3
 """Counts how many proposals workers commit and how many are refused since a row has changed, on a square network whose
-node numbers follow the map, for 1, 2 and 4 workers and 2 and 4 heaps for each.
+node numbers follow the map, for each order, 1, 2 and 4 workers, and 2 and 4 heaps for each.
 
     bench/refusals.py [SIDE ..]        sides of the square networks, by default 100 256
 
@@ -30,6 +30,15 @@ def built(folder):
     return folder / "crates/refusals/out/refusals"
 
 
+def refused(program, graph, workers, heaps, order):
+    """How many proposals are refused, and how many that is for each node."""
+    with open(graph) as text:
+        words = [program, str(workers), str(heaps), order]
+        said = subprocess.run(words, stdin=text, check=True, capture_output=True)
+    committed, refused = map(int, said.stdout.split())
+    return refused, refused / committed
+
+
 def main():
     with tempfile.TemporaryDirectory(dir=ROOT.parent) as name:
         folder = pathlib.Path(name)
@@ -38,13 +47,13 @@ def main():
             graph = folder / "network.gr"
             words = [sys.executable, ROOT / "bench/make_network.py", side, "1", "1", graph, folder / "pairs"]
             subprocess.run(words, check=True)
-            for workers in ["1", "2", "4"]:
-                for heaps in ["2", "4"]:
-                    with open(graph) as text:
-                        said = subprocess.run([program, workers, heaps], stdin=text, check=True, capture_output=True)
-                    committed, refused = map(int, said.stdout.split())
-                    share = refused / committed
-                    print(f"{side}^2 nodes, {workers} workers, {heaps} heaps each: {refused} refused, {share:.3f} a node")
+            for order in ["edges", "neighbours", "depth"]:
+                for workers in [1, 2, 4]:
+                    for heaps in [2, 4]:
+                        count, share = refused(program, graph, workers, heaps, order)
+                        what = f"{side}^2 nodes, {order}, {workers} workers, {heaps} heaps each"
+                        print(f"{what}: {count} refused, {share:.3f} a node", flush=True)
 
 
-main()
+if __name__ == "__main__":
+    main()
