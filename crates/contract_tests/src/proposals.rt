@@ -16,6 +16,18 @@ const TIE: [Arcs; 4] = [(2, 0, 1, 1), (0, 3, 1, 1), (2, 1, 1, 1), (1, 3, 1, 1)];
 /// Node 3 is reached from node 2 by way of 1, at more than the bound.
 const HEAVY: [Arcs; 2] = [(2, 1, 2, u32::MAX), (1, 3, 2, u32::MAX)];
 
+/// Nodes 1 and 2 are joined both ways by node 0, and by node 3 at the same cost.
+const SQUARE: [Arcs; 8] = [
+    (0, 1, 1, 1),
+    (0, 2, 1, 1),
+    (1, 0, 1, 1),
+    (1, 3, 1, 1),
+    (2, 0, 1, 1),
+    (2, 3, 1, 1),
+    (3, 1, 1, 1),
+    (3, 2, 1, 1),
+];
+
 /// Nodes 1 and 2 lead to node 3 by way of 0, and by way of 4 at the same cost.
 const OVERLAP: [Arcs; 6] = [
     (1, 0, 1, 1),
@@ -170,6 +182,18 @@ fn proposals_of_a_shelf(rt: HostRuntime) -> Result<(), Fail> {
         }
         assert!(rt; are_the_same(&shelf.asked, case.rests_on));
     }
+    Ok(())
+}
+
+/// Each search knows what the last arc to the other neighbour costs at least, and finds the way over it.
+#[test]
+fn a_way_between_neighbours(rt: HostRuntime) -> Result<(), Fail> {
+    let alloc = rt.alloc();
+    let mut shelf = Shelf::new(alloc, 4, &SQUARE, (3, 1), None)?;
+    let proposal = propose(alloc, &mut shelf, 0, 64)?;
+    assert!(rt; are_of(proposal.rests_on(), &[0, 1, 3, 2]));
+    assert!(rt; proposal.shortcuts().is_empty());
+    assert!(rt; shelf.asked.as_slice() == [0u32, 1, 2, 3].as_slice());
     Ok(())
 }
 
