@@ -6,13 +6,14 @@ C++ (hierarchy.cpp), one after the other on this machine, and then `routecli rou
                                       by default 3 rounds; sides of the square networks, by default 100 256 514
 
 For each number of workers and each order, and for the textbook: seconds of the whole run, reading included, the best of
-the rounds, and the most processor seconds; for the textbook also those of its preparation alone; links for each arc of
-the network; and the greatest resident size, of which up to 15 MB may be this script's own. The sweep (`--workers 0`)
+the rounds, and the least processor seconds; for the textbook also those of its preparation alone; links for each arc of
+the network; and the greatest resident size, of which up to 15 MB may be this script's own. A round has one run of each,
+one after the other, so that a machine that is slow for a while is slow for all of them. The sweep (`--workers 0`)
 contracts in the order of the node numbers and is left out above a side of 128. With --refusals also how many proposals
 were refused for each node, in one more run, by the program of refusals.py, which counts them. Then 10,000 pairs are
 routed once by the hierarchy of one worker and the first order, and every length is compared with the textbook's; all
 other hierarchies of the network answer 100 pairs, which are compared too. It needs g++ and the proved program
-crates/routecli/out/routecli (README.md says how to build it).
+crates/routecli/out/routecli (README.md says how to build it), or the path in the environment variable ROUTECLI.
 """
 import argparse
 import os
@@ -45,20 +46,27 @@ def network(side, pairs, folder):
     return graph, queries
 
 
-def measured(words, rounds):
-    """The seconds of the best of these runs, the most processor seconds, and the greatest resident size in MB."""
-    best, processor, memory = None, 0, 0
-    for _ in range(rounds):
+class Runs:
+    """The runs of one command: the seconds of the best, the least processor seconds, the greatest resident size in MB."""
+
+    def __init__(self, name, words):
+        self.name, self.words = name, words
+        self.seconds, self.processor, self.memory = [], [], []
+
+    def go(self):
         start = time.perf_counter()
-        child = subprocess.Popen(words, stdout=subprocess.DEVNULL, stderr=subprocess.DEVNULL)
+        child = subprocess.Popen(self.words, stdout=subprocess.DEVNULL, stderr=subprocess.DEVNULL)
         _, status, usage = os.wait4(child.pid, 0)
-        seconds = time.perf_counter() - start
+        self.seconds.append(time.perf_counter() - start)
         if os.waitstatus_to_exitcode(status) != 0:
-            sys.exit(f"{words[0]} ended with {status}")
-        best = seconds if best is None else min(best, seconds)
-        processor = max(processor, usage.ru_utime + usage.ru_stime)
-        memory = max(memory, usage.ru_maxrss / 1024)
-    return best, processor, memory
+            sys.exit(f"{self.words[0]} ended with {status}")
+        self.processor.append(usage.ru_utime + usage.ru_stime)
+        self.memory.append(usage.ru_maxrss / 1024)
+
+    def show(self, links, share=None):
+        told = "" if share is None else f" {share:.3f} |"
+        times = f"{min(self.seconds):.2f} s | {min(self.processor):.2f} s"
+        print(f"| {self.name} | {times} | {links:.2f} | {max(self.memory):.0f} MB |{told}", flush=True)
 
 
 def textbook(program, graph, queries, answers):
@@ -67,8 +75,9 @@ def textbook(program, graph, queries, answers):
     return [float(word) for word in said]
 
 
-def prepared(graph, file, workers, order, rounds):
-    return measured([PROGRAM, "prepare", "--workers", str(workers), "--order", order, graph, file], rounds)
+def prepared(graph, file, workers, order):
+    name = f"{workers}, {order}" if workers > 0 else "0 (the sweep)"
+    return Runs(name, [PROGRAM, "prepare", "--workers", str(workers), "--order", order, graph, file])
 
 
 def check(file, queries, wanted, folder):
@@ -78,12 +87,6 @@ def check(file, queries, wanted, folder):
     return seconds, memory
 
 
-def row(name, times, links, share=None):
-    seconds, processor, memory = times
-    told = "" if share is None else f" {share:.3f} |"
-    print(f"| {name} | {seconds:.2f} s | {processor:.2f} s | {links:.2f} | {memory:.0f} MB |{told}", flush=True)
-
-
 def times_of(side, program, counting, rounds, folder):
     graph, few = network(side, FEW, folder)
     graph, many = network(side, PAIRS, folder)
@@ -91,21 +94,22 @@ def times_of(side, program, counting, rounds, folder):
     textbook(program, graph, few, folder / "few.wanted")
     (folder / "none.pairs").write_text("p aux sp p2p 0\n")
     seconds, links, answered = textbook(program, graph, many, folder / "many.wanted")
+    swept = [(0, "edges")] if side <= MOST_SWEPT else []
+    kinds = swept + [(workers, order) for order in ORDERS for workers in WORKERS]
+    files = {kind: folder / f"{kind[1]}{kind[0]}.rch" for kind in kinds}
+    runs = {kind: prepared(graph, files[kind], *kind) for kind in kinds}
+    plain = Runs("textbook in C++", [program, graph, folder / "none.pairs"])
+    for _ in range(rounds):
+        for each in [*runs.values(), plain]:
+            each.go()
     print(f"\n{side * side:,} nodes, {arcs:,} arcs\n")
     print("| workers, order | prepare | processor | links per arc | memory |" + (" refused a node |" if counting else ""))
     print("|---" * (6 if counting else 5) + "|")
-    if side <= MOST_SWEPT:
-        file = folder / "sweep.rch"
-        row("0 (the sweep)", prepared(graph, file, 0, "edges", rounds), links_in(file) / arcs)
-        check(file, few, folder / "few.wanted", folder)
-    for order in ORDERS:
-        for workers in WORKERS:
-            file = folder / f"{order}{workers}.rch"
-            times = prepared(graph, file, workers, order, rounds)
-            share = refused(counting, graph, workers, 2, order)[1] if counting else None
-            row(f"{workers}, {order}", times, links_in(file) / arcs, share)
-            check(file, few, folder / "few.wanted", folder)
-    row("textbook in C++", measured([program, graph, folder / "none.pairs"], rounds), links)
+    for (workers, order), each in runs.items():
+        share = refused(counting, graph, workers, 2, order)[1] if counting and workers > 0 else None
+        each.show(links_in(files[workers, order]) / arcs, share)
+        check(files[workers, order], few, folder / "few.wanted", folder)
+    plain.show(links)
     print(f"\ntextbook in C++, preparation alone: {seconds:.2f} s")
     seconds, memory = check(folder / "edges1.rch", many, folder / "many.wanted", folder)
     print(f"\n{PAIRS:,} pairs: route {seconds:.2f} s, {memory:.0f} MB; textbook in C++, lengths alone {answered:.2f} s")
