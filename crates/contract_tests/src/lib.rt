@@ -1,8 +1,8 @@
 //! Worked cases of the layers from rows to hierarchies: small networks, and what is to come of them by hand; and threads
 //! that read the rows of a board while another commits.
 //!
-//! Stands on `ch_overlay`, `ch_rowbook`, `ch_witness`, `ch_contract` and `ch_core`, and has nothing but their tests. They
-//! stand apart so that the proofs of the layers are made once.
+//! Stands on `ch_overlay`, `ch_rowbook`, `ch_witness` and `ch_contract`, and has nothing but their tests. They stand apart
+//! so that the proofs of the layers are made once.
 #![tactic(auto)]
 
 #[cfg(test)]
@@ -23,5 +23,3 @@ mod refused;
 mod searches;
 #[cfg(test)]
 mod shelf;
-#[cfg(test)]
-mod worlds;

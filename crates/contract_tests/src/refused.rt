@@ -1,4 +1,4 @@
-//! What rows, searches, proposals, boards and worlds answer where one growth is refused: `tests/refusals` runs each test
+//! What rows, searches, proposals and boards answer where one growth is refused: `tests/refusals` runs each test
 //! once for each of its growths.
 //!
 //! A call that is refused memory leaves its value as it was, is made again, and has to give what it gives with ample
@@ -14,7 +14,6 @@ use ch_contract::{
     Board, CommitError, FinishError, Ledger, Proposal, ProposeError, Receipt, Site, SweepError,
     propose,
 };
-use ch_core::{Event, Outcome, World, run};
 use ch_cost::Cost;
 use ch_graph::{Graph, Hierarchy};
 use ch_overlay::{Overlay, RowSource, SeeError, Seen};
@@ -272,86 +271,5 @@ fn board_and_reader(rt: HostRuntime) -> Result<(), Fail> {
     let graph = graph_of(alloc, 4, &TIE)?;
     let blank = blank_of(alloc, &graph)?;
     assert!(rt; is_seen::<Brand, HostRuntime>(&rt, alloc, blank, graph)?);
-    Ok(())
-}
-
-/// Shows a worker the opening row of a node.
-fn show(world: &mut World, worker: u32, node: u32) -> Result<Outcome, AllocError> {
-    let version = u64::from(node);
-    let read = || Event::Read {
-        worker,
-        node,
-        version,
-    };
-    match world.step(read()) {
-        Ok(outcome) => Ok(outcome),
-        Err(AllocError) => world.step(read()),
-    }
-}
-
-/// Shows both workers all opening rows of four nodes.
-fn shown(world: &mut World) -> Result<bool, AllocError> {
-    let mut all = true;
-    for worker in 0..2 {
-        for node in 0..4u32 {
-            all &= show(world, worker, node)? == Outcome::Shown;
-        }
-    }
-    Ok(all)
-}
-
-/// What a worker proposes by what it read.
-fn proposal(alloc: Global, world: &World, worker: u32, node: u32) -> Result<Proposal, Fail> {
-    if worker >= world.workers() {
-        return Err(Fail::new("no such worker"));
-    }
-    let mut view = world.view(worker);
-    row_of(&mut view, node)?;
-    Ok(proposed(alloc, &mut view, node)?)
-}
-
-/// What is answered to a worker's offer of a node. A refused call leaves the log.
-fn offered(alloc: Global, world: &mut World, worker: u32, node: u32) -> Result<Outcome, Fail> {
-    let before = world.log().len();
-    let proposal = proposal(alloc, world, worker, node)?;
-    match world.step(Event::Offer { worker, proposal }) {
-        Ok(outcome) => Ok(outcome),
-        Err(AllocError) if world.log().len() == before => {
-            let proposal = self::proposal(alloc, world, worker, node)?;
-            Ok(world.step(Event::Offer { worker, proposal })?)
-        }
-        Err(AllocError) => Err(Fail::new("a refused contraction is in the log")),
-    }
-}
-
-#[test]
-fn world(rt: HostRuntime) -> Result<(), Fail> {
-    let alloc = rt.alloc();
-    let mut world = World::new(alloc, graph_of(alloc, 4, &TIE)?, 2)?;
-    assert!(rt; shown(&mut world)?);
-    let first = offered(alloc, &mut world, 0, 0)?;
-    let second = offered(alloc, &mut world, 1, 1)?;
-    let stale = CommitError::Stale {
-        node: 2,
-        seen: 2,
-        now: 5,
-        front: 1,
-    };
-    let receipt = Receipt { node: 0, rank: 0 };
-    assert!(rt; (first, second) == (Outcome::Committed(receipt), Outcome::Refused(stale)));
-    Ok(())
-}
-
-#[test]
-fn run_of_reads(rt: HostRuntime) -> Result<(), Fail> {
-    let alloc = rt.alloc();
-    let read = Event::Read {
-        worker: 0,
-        node: 0,
-        version: 0,
-    };
-    let events = vec![in alloc; read, Event::Forget { worker: 0 }]?;
-    let (_, outcomes) = run(alloc, graph_of(alloc, 4, &TIE)?, 1, events)?;
-    assert!(rt; outcomes.as_slice() == [Outcome::Shown, Outcome::Forgotten].as_slice());
     Ok(())
 }

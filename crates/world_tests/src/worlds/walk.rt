@@ -1,4 +1,4 @@
-use super::{read, road};
+use super::read;
 use ch_contract::{CommitError, Proposal, Receipt, propose};
 use ch_core::{Event, Outcome, World};
 use ch_graph::{Graph, Road};
@@ -255,7 +255,8 @@ fn random_roads(alloc: Global, dice: &mut Dice) -> Result<Vec<Road>, AllocError>
     let mut roads = Vec::new(alloc);
     for _ in 0..8 {
         let weight = dice.below(3).min(2) + 1;
-        roads.push(road(dice.below(NODES), dice.below(NODES), weight))?;
+        let (from, to) = (dice.below(NODES), dice.below(NODES));
+        roads.push(Road { from, to, weight })?;
     }
     Ok(roads)
 }
