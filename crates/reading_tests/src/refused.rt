@@ -3,13 +3,17 @@
 //!
 //! A call that is refused memory is made again, and has to give what it gives with ample memory. A growth of what a test
 //! sets up ends the test with that error.
+ghost use Rattle.std.specs.Prelude.{◌≡◌, ◌<◌, length, IfOk, IfSome};
+ghost use Rattle.ch_graph.specs.Unfolding.{Joined};
+
 use crate::files::cascade;
-use ch_graph::{Graph, Road};
-use ch_query::Search;
+use ch_graph::{Graph, Hierarchy, LinkId, Road};
+use ch_query::{Found, Search};
 use ch_unpack::{UnpackError, unpack};
 use grfile::{GrError, GrErrorKind, GrReader, QueryReader, read_graph_within, read_queries_within};
 use hierfile::{HierError, read_within};
 use std::alloc::{AllocError, Global};
+use std::process::Abort;
 use std::test::Fail;
 
 /// More calls than any reader here gets.
@@ -224,63 +228,93 @@ fn read_file(rt: HostRuntime) -> Result<(), Fail> {
     Ok(())
 }
 
+/// The hierarchy of a file of these numbers.
+fn hierarchy_of(alloc: Global, words: &[u32]) -> Result<Hierarchy, Fail> {
+    let bytes = bytes(alloc, words)?;
+    Ok(read_within(alloc, &mut bytes.as_slice(), MANY)?)
+}
+
 #[test]
 fn search(rt: HostRuntime) -> Result<(), Fail> {
     let alloc = rt.alloc();
-    let bytes = bytes(alloc, FILES[0].0)?;
-    let hierarchy = read_within(alloc, &mut bytes.as_slice(), MANY)?;
+    let hierarchy = hierarchy_of(alloc, FILES[0].0)?;
     let first = Search::new(alloc, &hierarchy).is_ok();
     let second = Search::new(alloc, &hierarchy).is_ok();
     assert!(rt; first || second);
     Ok(())
 }
 
+/// A search's answer; where it is refused memory it is asked again.
+fn found(search: &mut Search, source: u32, target: u32) -> Result<Option<Found>, AllocError>
+    requires source_in { source < length search.old.ranks }
+    requires target_in { target < length search.old.ranks }
+    ensures joined { IfOk result (λ found. IfSome found (λ f. Joined search.old source f.links.items)) }
+    ensures kept { search.new ≡ search.old }
+{
+    match search.distance(source, target) {
+        Ok(found) => Ok(found),
+        Err(AllocError) => search.distance(source, target),
+    }
+}
+
+/// The nodes of links; where they are refused memory they are asked for again.
+fn nodes_of(
+    alloc: Global,
+    hierarchy: &Hierarchy,
+    source: u32,
+    links: &[LinkId],
+) -> Result<Vec<u32>, UnpackError>
+    requires source_in { source < length hierarchy.now.ranks }
+    requires joined { Joined hierarchy.now source links.now }
+{
+    match unpack(alloc, hierarchy, source, links) {
+        Err(UnpackError::OutOfMemory) => unpack(alloc, hierarchy, source, links),
+        answer => answer,
+    }
+}
+
+/// Asks for a walk from 1 to 2 of three nodes, and for none from 2 to 1.
+fn ask_three(rt: &impl Abort, alloc: Global, hierarchy: &Hierarchy) -> Result<(), Fail>
+    requires three { length hierarchy.now.ranks ≡ 3 }
+{
+    let mut search = Search::new(alloc, hierarchy)?;
+    let walk = found(&mut search, 1, 2)?.expect(rt, "a walk");
+    assert!(rt; walk.cost.length() == 5);
+    let nodes = nodes_of(alloc, hierarchy, 1, &walk.links)?;
+    assert!(rt; nodes.as_slice() == [1u32, 0, 2].as_slice());
+    let none = found(&mut search, 2, 1)?;
+    assert!(rt; none.is_none());
+    Ok(())
+}
+
 #[test]
 fn query_and_route(rt: HostRuntime) -> Result<(), Fail> {
     let alloc = rt.alloc();
-    let bytes = bytes(alloc, FILES[0].0)?;
-    let hierarchy = read_within(alloc, &mut bytes.as_slice(), MANY)?;
+    let hierarchy = hierarchy_of(alloc, FILES[0].0)?;
     if hierarchy.nodes() != 3 {
         return Err(Fail::new("there are three nodes"));
     }
-    let mut search = Search::new(alloc, &hierarchy)?;
-    let found = match search.distance(1, 2) {
-        Ok(found) => found,
-        Err(AllocError) => search.distance(1, 2)?,
-    };
-    let found = found.expect(&rt, "a walk");
-    assert!(rt; found.cost.length() == 5);
-    let nodes = match unpack(alloc, &hierarchy, 1, &found.links) {
-        Err(UnpackError::OutOfMemory) => unpack(alloc, &hierarchy, 1, &found.links)?,
-        answer => answer?,
-    };
-    assert!(rt; nodes.as_slice() == [1u32, 0, 2].as_slice());
-    let none = match search.distance(2, 1) {
-        Ok(found) => found,
-        Err(AllocError) => search.distance(2, 1)?,
-    };
-    assert!(rt; none.is_none());
+    ask_three(&rt, alloc, &hierarchy)
+}
+
+/// Asks for the way between the last two of 38 nodes, which has too many arcs.
+fn ask_cascade(rt: &impl Abort, alloc: Global, hierarchy: &Hierarchy) -> Result<(), Fail>
+    requires all { length hierarchy.now.ranks ≡ 38 }
+{
+    let mut search = Search::new(alloc, hierarchy)?;
+    let walk = found(&mut search, 37, 36)?.expect(rt, "a walk");
+    let refused = nodes_of(alloc, hierarchy, 37, &walk.links);
+    assert!(rt; refused.err() == Some(UnpackError::TooLong));
     Ok(())
 }
 
 #[test]
 fn too_long_a_route(rt: HostRuntime) -> Result<(), Fail> {
     let alloc = rt.alloc();
-    let bytes = bytes(alloc, cascade(alloc)?.as_slice())?;
-    let hierarchy = read_within(alloc, &mut bytes.as_slice(), MANY)?;
+    let words = cascade(alloc)?;
+    let hierarchy = hierarchy_of(alloc, &words)?;
     if hierarchy.nodes() != 38 {
         return Err(Fail::new("there are 38 nodes"));
     }
-    let mut search = Search::new(alloc, &hierarchy)?;
-    let found = match search.distance(37, 36) {
-        Ok(found) => found,
-        Err(AllocError) => search.distance(37, 36)?,
-    };
-    let links = found.expect(&rt, "a walk").links;
-    let refused = match unpack(alloc, &hierarchy, 37, &links) {
-        Err(UnpackError::OutOfMemory) => unpack(alloc, &hierarchy, 37, &links),
-        answer => answer,
-    };
-    assert!(rt; refused.err() == Some(UnpackError::TooLong));
-    Ok(())
+    ask_cascade(&rt, alloc, &hierarchy)
 }
