@@ -5,12 +5,13 @@ use crate::stations::comes_to;
 use ch_contract::{Contraction, Facts};
 use ch_cost::Cost;
 use ch_estimate::{EdgeDifference, Estimator, Lease, Leases, Note};
-use ch_graph::{Graph, Link, Road};
+use ch_graph::{Graph, Hierarchy, Link, Road};
 use ch_workers::{Built, Gate, Point, build};
 use std::alloc::{AllocError, Global};
-use std::sync::Arc;
 use std::sync::atomic::{AtomicU64, Ordering};
+use std::sync::{Arc, Wait};
 use std::test::Fail;
+use std::thread::Threads;
 
 /// What two workers who propose neighbours at the same time are watched by: who has come to a first proposal, how often
 /// one was refused, and whether anybody was kept to the last look.
@@ -138,39 +139,55 @@ fn is_by_workers(built: &Built) -> bool {
     }
 }
 
+/// Two nodes with an arc of weight 7 each way.
+fn neighbours(alloc: Global) -> Result<Graph, Fail> {
+    let there = Road {
+        from: 0,
+        to: 1,
+        weight: 7,
+    };
+    let back = Road {
+        from: 1,
+        to: 0,
+        weight: 7,
+    };
+    Ok(Graph::checked(2, vec![in alloc; there, back]?)?)
+}
+
+/// Builds the two neighbours by two workers, who meet at their first proposals.
+fn built_by_two<R: Threads + Wait + Sync>(
+    rt: &R,
+    alloc: Global,
+    meeting: &Arc<Meeting>,
+) -> Result<Built, Fail> {
+    let mut leases = Leases::new(alloc)?;
+    let follower = make_follower(alloc, leases.lease()?, meeting)?;
+    let lists = lists_of(alloc, Box::new(alloc, follower)?)?;
+    let graph = neighbours(alloc)?;
+    let gate = Collision {
+        meeting: Arc::try_clone(meeting)?,
+    };
+    let built = build(rt, alloc, graph, TWO, lists, &mut leases, &gate)?;
+    Ok(built)
+}
+
+/// Whether both arcs are links, and one node is above the other.
+fn is_of_neighbours(hierarchy: &Hierarchy) -> bool {
+    if hierarchy.nodes() != 2 {
+        return false;
+    }
+    let ranks = (hierarchy.rank(0), hierarchy.rank(1));
+    (ranks == (0, 1) || ranks == (1, 0)) && hierarchy.links() == [link(0, 1), link(1, 0)].as_slice()
+}
+
 // Each rests on both rows. Whoever comes second to the lock is refused, and tries once more.
 #[test]
 fn two_workers_propose_neighbours(rt: HostRuntime) -> Result<(), Fail> {
     let alloc = rt.alloc();
     let meeting = Meeting::new(alloc)?;
-    let mut leases = Leases::new(alloc)?;
-    let follower = make_follower(alloc, leases.lease()?, &meeting)?;
-    let lists = lists_of(alloc, Box::new(alloc, follower)?)?;
-    let arcs = vec![in alloc;
-        Road {
-            from: 0,
-            to: 1,
-            weight: 7
-        },
-        Road {
-            from: 1,
-            to: 0,
-            weight: 7
-        },
-    ]?;
-    let graph = Graph::checked(2, arcs)?;
-    let gate = Collision {
-        meeting: Arc::try_clone(&meeting)?,
-    };
-    let built = build(&rt, alloc, graph, TWO, lists, &mut leases, &gate)?;
+    let built = built_by_two(&rt, alloc, &meeting)?;
     assert_eq!(rt; meeting.late.load(Ordering::SeqCst), 0);
     assert_eq!(rt; meeting.refused.load(Ordering::SeqCst), 1);
-    assert_eq!(rt;
-        built.hierarchy.links(),
-        [link(0, 1), link(1, 0)].as_slice()
-    );
-    let (first, second) = (built.hierarchy.rank(0), built.hierarchy.rank(1));
-    assert!(rt; (first, second) == (0, 1) || (first, second) == (1, 0));
-    assert!(rt; is_by_workers(&built));
+    assert!(rt; is_of_neighbours(&built.hierarchy) && is_by_workers(&built));
     Ok(())
 }

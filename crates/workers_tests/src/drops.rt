@@ -293,6 +293,25 @@ pub(crate) fn list_of_three(
     Ok(list)
 }
 
+/// A list of three estimators that leave traces.
+fn three_stubborn(
+    alloc: Global,
+    leases: &mut Leases,
+    traces: &Arc<Traces>,
+) -> Result<Vec<Box<dyn Estimator + Send>>, AllocError>
+    ensures untold { IfOk result (λ list. All (λ estimator. heard estimator ≡ []) list.items) }
+{
+    let boxed = |lease| -> Result<Box<dyn Estimator + Send>, AllocError>
+        ensures { IfOk result (λ estimator. heard estimator ≡ []) }
+    { Ok(Box::new(alloc, make_stubborn(alloc, lease, traces)?)?) };
+    list_of_three(
+        alloc,
+        boxed(leases.lease()?)?,
+        boxed(leases.lease()?)?,
+        boxed(leases.lease()?)?,
+    )
+}
+
 /// Builds the tie by two workers, who have three estimators each that leave traces.
 fn built_with_six<R: Threads + Wait + Sync>(
     rt: &R,
@@ -301,21 +320,8 @@ fn built_with_six<R: Threads + Wait + Sync>(
     traces: &Arc<Traces>,
 ) -> Result<Result<Built, BuildError>, Fail> {
     let mut leases = Leases::new(alloc)?;
-    let boxed = |lease| -> Result<Box<dyn Estimator + Send>, AllocError>
-        ensures { IfOk result (λ estimator. heard estimator ≡ []) }
-    { Ok(Box::new(alloc, make_stubborn(alloc, lease, traces)?)?) };
-    let first = list_of_three(
-        alloc,
-        boxed(leases.lease()?)?,
-        boxed(leases.lease()?)?,
-        boxed(leases.lease()?)?,
-    )?;
-    let second = list_of_three(
-        alloc,
-        boxed(leases.lease()?)?,
-        boxed(leases.lease()?)?,
-        boxed(leases.lease()?)?,
-    )?;
+    let first = three_stubborn(alloc, &mut leases, traces)?;
+    let second = three_stubborn(alloc, &mut leases, traces)?;
     let lists = two_lists(alloc, first, second)?;
     let graph = tie(alloc)?;
     Ok(build(rt, alloc, graph, options, lists, &mut leases, &OpenGate))

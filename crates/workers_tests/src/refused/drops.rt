@@ -103,22 +103,30 @@ fn make_numbered(
     Ok(estimator)
 }
 
+/// A list of three estimators of these numbers.
+fn list_of(
+    alloc: Global,
+    leases: &mut Leases,
+    numbers: [usize; 3],
+    drops: &Arc<Drops>,
+) -> Result<Vec<Box<dyn Estimator + Send>>, AllocError>
+    ensures untold { IfOk result (λ list. All (λ estimator. heard estimator ≡ []) list.items) }
+{
+    let [first, second, third] = numbers;
+    list_of_three(
+        alloc,
+        make_numbered(alloc, leases.lease()?, first, drops)?,
+        make_numbered(alloc, leases.lease()?, second, drops)?,
+        make_numbered(alloc, leases.lease()?, third, drops)?,
+    )
+}
+
 /// The lists of two workers, of three estimators each.
 fn three_each(alloc: Global, leases: &mut Leases, drops: &Arc<Drops>) -> Result<Lists, AllocError>
     ensures untold { IfOk result (λ lists. All (λ list. All (λ estimator. heard estimator ≡ []) list.items) lists.items) }
 {
-    let first = list_of_three(
-        alloc,
-        make_numbered(alloc, leases.lease()?, 0, drops)?,
-        make_numbered(alloc, leases.lease()?, 1, drops)?,
-        make_numbered(alloc, leases.lease()?, 2, drops)?,
-    )?;
-    let second = list_of_three(
-        alloc,
-        make_numbered(alloc, leases.lease()?, 3, drops)?,
-        make_numbered(alloc, leases.lease()?, 4, drops)?,
-        make_numbered(alloc, leases.lease()?, 5, drops)?,
-    )?;
+    let first = list_of(alloc, leases, [0, 1, 2], drops)?;
+    let second = list_of(alloc, leases, [3, 4, 5], drops)?;
     two_lists(alloc, first, second)
 }
 
