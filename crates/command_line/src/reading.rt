@@ -1,11 +1,10 @@
 ghost use Rattle.std.specs.Prelude.{◌≡◌, true, false, IfOk};
 ghost use Rattle.clap.specs.declared.builder.command.Command.TheViews.{out-Command};
-ghost use Rattle.command_line.specs.Job.{names_one_file};
+ghost use Rattle.jobs.specs.Job.{names_one_file};
 
-use crate::job::{Job, Order, Stop};
-use crate::workers::Workers;
 use clap::error::ErrorKind;
 use clap::{Arg, ArgAction, ArgMatches, Command, Error, value_parser};
+use jobs::{Job, Order, Stop, Workers};
 use std::alloc::{AllocError, Global};
 
 /// What the words of a command line ask for. The first word is the program's name.
@@ -16,8 +15,7 @@ pub fn command(alloc: Global, words: &[String]) -> Result<Job<'_>, Stop>
     ensures { IfOk result (λ job. names_one_file job ≡ false) }
 {
     match read_words(alloc, words) {
-        Ok(job) if job.names_one_file() => Err(Stop::OneFile),
-        Ok(job) => Ok(job),
+        Ok(job) => job.of_two_files(),
         Err(error) => Err(stop_of(alloc, &error)),
     }
 }
@@ -50,22 +48,44 @@ fn read_words(alloc: Global, words: &[String]) -> Result<Job<'_>, Error> {
 // The job of a command by its name, if its files and the values of its options are there.
 fn job_of<'a>(name: &str, found: &ArgMatches<'a>) -> Option<Job<'a>> {
     match name {
-        "prepare" => Some(Job::Prepare {
-            graph: found.get_str("GRAPH")?,
-            out: found.get_str("OUT")?,
-            workers: Workers::new(found.get_one("workers")?)?,
-            seed: found.get_one("seed")?,
-            order: order_of(found.get_str("order")?)?,
-        }),
-        "route" => Some(Job::Route {
-            hierarchy: found.get_str("HIER")?,
-            queries: found.get_str("QUERIES")?,
-        }),
-        _ => Some(Job::Answer {
-            graph: found.get_str("GRAPH")?,
-            queries: found.get_str("QUERIES")?,
-        }),
+        "prepare" => preparing(found),
+        "route" => routing(found),
+        _ => answering(found),
     }
+}
+
+fn preparing<'a>(found: &ArgMatches<'a>) -> Option<Job<'a>> {
+    let (graph, out) = files_of(found, "GRAPH", "OUT")?;
+    let workers = workers_of(found)?;
+    let seed = found.get_one("seed")?;
+    let order = order_of(found.get_str("order")?)?;
+    Some(Job::Prepare {
+        graph,
+        out,
+        workers,
+        seed,
+        order,
+    })
+}
+
+fn routing<'a>(found: &ArgMatches<'a>) -> Option<Job<'a>> {
+    let (hierarchy, queries) = files_of(found, "HIER", "QUERIES")?;
+    Some(Job::Route { hierarchy, queries })
+}
+
+fn answering<'a>(found: &ArgMatches<'a>) -> Option<Job<'a>> {
+    let (graph, queries) = files_of(found, "GRAPH", "QUERIES")?;
+    Some(Job::Answer { graph, queries })
+}
+
+// The two files of these names, if both are there.
+fn files_of<'a>(found: &ArgMatches<'a>, first: &str, second: &str) -> Option<(&'a str, &'a str)> {
+    Some((found.get_str(first)?, found.get_str(second)?))
+}
+
+// How many workers are asked for, if that is a number of workers.
+fn workers_of(found: &ArgMatches<'_>) -> Option<Workers> {
+    Workers::new(found.get_one("workers")?)
 }
 
 // The order of this name, if there is one.
@@ -96,11 +116,23 @@ fn program<'a>(alloc: Global) -> Result<Command<'a>, AllocError>
         .about(
             "Answers pairs of nodes of a road graph with least routes: lengths and nodes along the way",
         )
-        .after_help(STATUSES)
-        .subcommand(answer(alloc)?)?
-        .subcommand(prepare(alloc)?)?
-        .subcommand(route(alloc)?)?;
+        .after_help(STATUSES);
+    let program = with(program, answer(alloc))?;
+    let program = with(program, prepare(alloc))?;
+    let program = with(program, route(alloc))?;
     Ok(with_a_command(program))
+}
+
+// The command line with one more command, if that could be made.
+fn with<'a>(
+    program: Command<'a>,
+    command: Result<Command<'a>, AllocError>,
+) -> Result<Command<'a>, AllocError>
+    requires program { (out-Command program).has_globals ≡ false }
+    requires command { IfOk command (λ it. (out-Command it).has_globals ≡ false) }
+    ensures { IfOk result (λ it. (out-Command it).has_globals ≡ false) }
+{
+    program.subcommand(command?)
 }
 
 // The command line, which is refused where its words name no command.

@@ -1,4 +1,5 @@
-use command_line::{Job, Order, Stop, Workers, command, show_stop};
+use command_line::command;
+use jobs::{Job, Order, Stop, Workers, show_stop};
 use std::alloc::{AllocError, Global};
 use std::io::{self, ErrorKind, Write};
 use std::test::Fail;
@@ -71,7 +72,7 @@ const NAMED: [(&[&str], Job<'static>, bool); 5] = [
 ];
 
 /// The words after the program's name, and what they choose.
-#[derive(Clone, Copy, Debug)]
+#[derive(Clone, Copy)]
 struct Chosen {
     words: &'static [&'static str],
     workers: u32,
@@ -180,16 +181,20 @@ fn names(
 #[test]
 fn words_that_name_a_job(rt: HostRuntime) -> Result<(), Fail> {
     for (texts, job, is_joined) in NAMED {
-        assert!(rt;
-            names(rt.alloc(), texts, Some(job), is_joined)?,
-            "{texts:?}"
-        );
+        assert!(rt; names(rt.alloc(), texts, Some(job), is_joined)?);
     }
     for chosen in CHOSEN {
         let job = job_of(&chosen);
-        assert!(rt; names(rt.alloc(), chosen.words, job, false)?, "{chosen:?}");
+        assert!(rt; names(rt.alloc(), chosen.words, job, false)?);
     }
     Ok(())
+}
+
+/// Why the words name no job.
+fn stop_of(alloc: Global, texts: &[&str]) -> Result<Stop, Fail> {
+    let words = words(alloc, texts)?;
+    let why = command(alloc, words.as_slice()).err().ok_or("no job")?;
+    Ok(why)
 }
 
 /// Words that are refused, and how the first line of the refusal goes on after `error: `.
@@ -268,18 +273,22 @@ const REFUSED: [(&[&str], &[u8]); 21] = [
     ),
 ];
 
+/// Whether the user is told of a refusal, in a text that begins with `error: ` and this.
+fn tells_error(alloc: Global, why: &Stop, line: &[u8]) -> bool {
+    let mut out = Vec::new(alloc);
+    let mut err = Vec::new(alloc);
+    let status = show_stop(why, &mut out, &mut err);
+    let Some(text) = err.strip_prefix(b"error: ") else {
+        return false;
+    };
+    (status == 2) & out.is_empty() & text.starts_with(line)
+}
+
 #[test]
 fn words_that_are_refused(rt: HostRuntime) -> Result<(), Fail> {
     for (texts, line) in REFUSED {
-        let words = words(rt.alloc(), texts)?;
-        let why = command(rt.alloc(), words.as_slice())
-            .err()
-            .ok_or("refused")?;
-        let mut out = Vec::new(rt.alloc());
-        let mut err = Vec::new(rt.alloc());
-        assert_eq!(rt; show_stop(&why, &mut out, &mut err), 2, "{texts:?}");
-        let text = err.strip_prefix(b"error: ").ok_or("an error")?;
-        assert!(rt; out.is_empty() && text.starts_with(line), "{texts:?}");
+        let why = stop_of(rt.alloc(), texts)?;
+        assert!(rt; tells_error(rt.alloc(), &why, line));
     }
     Ok(())
 }
@@ -291,18 +300,20 @@ const ONE_FILE: [&[&str]; 3] = [
     &["routecli", "prepare", "../a", "--order=depth", "../a"],
 ];
 
+/// Whether the user is shown this line alone, on standard error, with this status.
+fn tells_line(alloc: Global, why: &Stop, status: u8, line: &[u8]) -> bool {
+    let mut out = Vec::new(alloc);
+    let mut err = Vec::new(alloc);
+    let shown = show_stop(why, &mut out, &mut err);
+    (shown == status) & out.is_empty() & (err.as_slice() == line)
+}
+
 #[test]
 fn one_word_for_both_files(rt: HostRuntime) -> Result<(), Fail> {
     for texts in ONE_FILE {
-        let words = words(rt.alloc(), texts)?;
-        let why = command(rt.alloc(), words.as_slice())
-            .err()
-            .ok_or("refused")?;
-        let mut out = Vec::new(rt.alloc());
-        let mut err = Vec::new(rt.alloc());
-        assert_eq!(rt; show_stop(&why, &mut out, &mut err), 2, "{texts:?}");
-        assert!(rt; out.is_empty(), "{texts:?}");
-        assert!(rt; err.as_slice() == b"routecli: GRAPH and OUT are one file\n".as_slice());
+        let why = stop_of(rt.alloc(), texts)?;
+        let line = b"routecli: GRAPH and OUT are one file\n";
+        assert!(rt; tells_line(rt.alloc(), &why, 2, line));
     }
     Ok(())
 }
@@ -342,26 +353,26 @@ fn tells(why: &Stop, parts: &[&str]) -> bool {
     true
 }
 
+/// Whether the text goes to standard output, and a writer that fails ends with a line of that.
+fn is_shown(alloc: Global, why: &Stop) -> bool {
+    let mut out = Vec::new(alloc);
+    let mut err = Vec::new(alloc);
+    let status = show_stop(why, &mut out, &mut err);
+    let is_told = !out.is_empty() && err.is_empty();
+    let broken = show_stop(why, &mut Broken, &mut err);
+    is_told & (status == 0) & (broken == 7) & (err.as_slice() == b"routecli: write\n".as_slice())
+}
+
 #[test]
 fn words_that_ask_for_help(rt: HostRuntime) -> Result<(), Fail> {
     for (texts, parts) in HELP {
-        let words = words(rt.alloc(), texts)?;
-        let why = command(rt.alloc(), words.as_slice()).err().ok_or("help")?;
-        let mut out = Vec::new(rt.alloc());
-        let mut err = Vec::new(rt.alloc());
-        assert_eq!(rt; show_stop(&why, &mut out, &mut err), 0, "{texts:?}");
-        assert!(rt; !out.is_empty() && err.is_empty(), "{texts:?}");
-        assert_eq!(rt; show_stop(&why, &mut Broken, &mut err), 7);
-        assert!(rt; err.as_slice() == b"routecli: write\n".as_slice());
-        assert!(rt; tells(&why, parts), "{texts:?}");
+        let why = stop_of(rt.alloc(), texts)?;
+        assert!(rt; is_shown(rt.alloc(), &why) && tells(&why, parts));
     }
     Ok(())
 }
 
 #[test]
 fn want_of_memory(rt: HostRuntime) {
-    let mut out = Vec::new(rt.alloc());
-    let mut err = Vec::new(rt.alloc());
-    assert_eq!(rt; show_stop(&Stop::OutOfMemory, &mut out, &mut err), 6);
-    assert!(rt; err.as_slice() == b"routecli: memory\n".as_slice());
+    assert!(rt; tells_line(rt.alloc(), &Stop::OutOfMemory, 6, b"routecli: memory\n"));
 }

@@ -1,30 +1,16 @@
 //! The program `routecli`: prepares hierarchies of road graphs, and answers pairs of nodes with least routes.
 //!
-//! Stands on `command_line`, which turns the words of a command line into a [`Job`], on `ch_service`, which does the
-//! work, and on `ch_workers` and `ch_estimate` for the workers that prepare a hierarchy and the orders in which they
-//! contract nodes. The file of a hierarchy comes to stand whole by `whole_file`. [`perform`] does a job over readers and
-//! writers and answers the exit status, and `main` opens the files for it. The promise is in the contracts of [`perform`]
-//! and [`prepare_whole`]: a status of 0 means that what was written answers all pairs, or that what stands at its
-//! destination is a hierarchy that is right for the graph; with any other status there stands what stood there before.
+//! Stands on `command_line`, which turns the words of a command line into a [`Job`], on `performing`, which does it over
+//! readers and writers and answers the exit status, and on `whole_file`, by which the file of a hierarchy comes to stand
+//! whole. `main` opens the files.
 #![tactic(auto)]
 
 ghost use Rattle.std.specs.Prelude.{◌≡◌, ◌⊎◌};
-ghost use Rattle.routecli.specs.Status.{IsStatusOf};
+ghost use Rattle.performing.specs.Status.{IsStatusOf};
 
-#[cfg(test)]
-mod destination_tests;
-mod lists;
-mod perform;
-#[cfg(test)]
-mod prepare_tests;
-mod prepare_whole;
-mod preparing;
-#[cfg(test)]
-mod tests;
-
-use command_line::{Job, Stop, command, end, show_stop};
-use perform::perform;
-use prepare_whole::prepare_whole;
+use command_line::command;
+use jobs::{Job, Stop, end, show_stop};
+use performing::{perform, prepare_whole};
 use std::env::Env;
 use std::io::ErrorKind;
 use std::process::ExitCode;

@@ -48,7 +48,7 @@ fn uneven_reader(text: &[u8], fails_at: u64) -> Uneven<'_> {
 }
 
 /// How a writer ends.
-#[derive(Clone, Copy, Debug, PartialEq, Eq)]
+#[derive(Clone, Copy, PartialEq, Eq)]
 enum End {
     Fails,
     TakesNothing,
@@ -124,7 +124,7 @@ fn is_right<R: Threads + Wait + Sync>(
 #[test]
 fn worked_examples(rt: HostRuntime) -> Result<(), Fail> {
     for example in EXAMPLES {
-        assert!(rt; is_right(&rt, rt.alloc(), &example)?, "{}", example.name);
+        assert!(rt; is_right(&rt, rt.alloc(), &example)?);
     }
     Ok(())
 }
@@ -160,10 +160,7 @@ const REFUSED: [(&[u8], ServiceError); 7] = [
 #[test]
 fn joined_inputs_that_are_refused(rt: HostRuntime) {
     for (input, error) in REFUSED {
-        assert!(rt;
-            is_answered_joined(&rt, rt.alloc(), input, Err(error), b""),
-            "{error:?}"
-        );
+        assert!(rt; is_answered_joined(&rt, rt.alloc(), input, Err(error), b""));
     }
 }
 
@@ -173,39 +170,54 @@ const PAIRS: &[u8] = b"p aux sp p2p 2\nq 1 2\nq 2 1\n";
 
 const ANSWERS: &[u8] = b"r 1 2 7 1 1 2\nn 2 1\n";
 
-/// Where the readers fail, if not at 0, and how the writer ends after how many bytes.
-#[derive(Clone, Copy, Debug)]
+/// Where the readers fail, if not at 0.
+#[derive(Clone, Copy)]
 struct Ends {
     graph_fails_at: u64,
     pairs_fail_at: u64,
-    left: usize,
-    end: End,
 }
 
-/// How `answer` ends over such readers and writer, and the writer.
+/// How `answer` ends over such readers and this writer.
 fn unevenly<R: Threads + Wait + Sync>(
     rt: &R,
     alloc: Global,
     ends: Ends,
-) -> (Result<(), ServiceError>, Short) {
-    let mut out = short_writer(alloc, ends.left, ends.end);
+    out: &mut Short,
+) -> Result<(), ServiceError> {
     let mut graph = uneven_reader(GRAPH, ends.graph_fails_at);
     let mut pairs = uneven_reader(PAIRS, ends.pairs_fail_at);
-    let result = answer_alone(rt, alloc, &mut graph, &mut pairs, &mut out);
-    (result, out)
+    answer_alone(rt, alloc, &mut graph, &mut pairs, out)
 }
 
-/// How `answer_joined` ends over such a reader and writer, and the writer.
+/// How `answer_joined` ends over such a reader and this writer.
 fn unevenly_joined<R: Threads + Wait + Sync>(
     rt: &R,
     alloc: Global,
     input: &[u8],
     ends: Ends,
-) -> (Result<(), ServiceError>, Short) {
-    let mut out = short_writer(alloc, ends.left, ends.end);
+    out: &mut Short,
+) -> Result<(), ServiceError> {
     let mut input = uneven_reader(input, ends.graph_fails_at);
-    let result = answer_joined(rt, alloc, &mut input, &mut out);
-    (result, out)
+    answer_joined(rt, alloc, &mut input, out)
+}
+
+/// Whether two texts and a joined input are both answered as far as the writer takes it.
+fn are_stopped<R: Threads + Wait + Sync>(
+    rt: &R,
+    alloc: Global,
+    input: &[u8],
+    left: usize,
+    end: End,
+) -> bool {
+    let ends = Ends {
+        graph_fails_at: 0,
+        pairs_fail_at: 0,
+    };
+    let mut out = short_writer(alloc, left, end);
+    let result = unevenly(rt, alloc, ends, &mut out);
+    let mut out_joined = short_writer(alloc, left, end);
+    let result_joined = unevenly_joined(rt, alloc, input, ends, &mut out_joined);
+    is_stopped(result, &out, ANSWERS, left) & is_stopped(result_joined, &out_joined, ANSWERS, left)
 }
 
 #[test]
@@ -213,16 +225,7 @@ fn writes_that_fail_or_are_short(rt: HostRuntime) -> Result<(), Fail> {
     let input = joined(rt.alloc(), GRAPH, b"%\n", PAIRS)?;
     for end in [End::Fails, End::TakesNothing] {
         for left in 0..101usize {
-            let ends = Ends {
-                graph_fails_at: 0,
-                pairs_fail_at: 0,
-                left,
-                end,
-            };
-            let (result, out) = unevenly(&rt, rt.alloc(), ends);
-            assert!(rt; is_stopped(result, &out, ANSWERS, left), "{ends:?}");
-            let (result, out) = unevenly_joined(&rt, rt.alloc(), input.as_slice(), ends);
-            assert!(rt; is_stopped(result, &out, ANSWERS, left), "{ends:?}");
+            assert!(rt; are_stopped(&rt, rt.alloc(), input.as_slice(), left, end));
         }
     }
     Ok(())
@@ -239,26 +242,36 @@ const BROKEN: [(u64, u64, u64); 6] = [
     (0, 3, 1),
 ];
 
+/// Whether a call that fails is told by its line, of two texts and of a joined input, and nothing is written.
+fn are_told<R: Threads + Wait + Sync>(
+    rt: &R,
+    alloc: Global,
+    input: &[u8],
+    ends: Ends,
+    line: u64,
+) -> bool {
+    let kind = GrErrorKind::Read;
+    let fault = GrError { kind, line };
+    let mut out = short_writer(alloc, 100, End::Fails);
+    let result = unevenly(rt, alloc, ends, &mut out);
+    let told = if ends.pairs_fail_at > 0 {
+        result == Err(ServiceError::Queries(fault))
+    } else {
+        let result_joined = unevenly_joined(rt, alloc, input, ends, &mut out);
+        result == Err(ServiceError::Graph(fault)) && result_joined == result
+    };
+    told & out.taken.is_empty()
+}
+
 #[test]
 fn reads_that_fail(rt: HostRuntime) -> Result<(), Fail> {
     let input = joined(rt.alloc(), GRAPH, b"%\n", PAIRS)?;
     for (graph_fails_at, pairs_fail_at, line) in BROKEN {
-        let kind = GrErrorKind::Read;
-        let fault = GrError { kind, line };
         let ends = Ends {
             graph_fails_at,
             pairs_fail_at,
-            left: 100,
-            end: End::Fails,
         };
-        let (result, out) = unevenly(&rt, rt.alloc(), ends);
-        if pairs_fail_at > 0 {
-            assert!(rt; result == Err(ServiceError::Queries(fault)) && out.taken.is_empty());
-        } else {
-            assert!(rt; result == Err(ServiceError::Graph(fault)) && out.taken.is_empty());
-            let (result, out) = unevenly_joined(&rt, rt.alloc(), input.as_slice(), ends);
-            assert!(rt; result == Err(ServiceError::Graph(fault)) && out.taken.is_empty());
-        }
+        assert!(rt; are_told(&rt, rt.alloc(), input.as_slice(), ends, line));
     }
     Ok(())
 }
@@ -291,7 +304,7 @@ fn is_answered_as_far<R: Threads + Wait + Sync>(
 fn many_answers(rt: HostRuntime) -> Result<(), Fail> {
     let pairs = repeated(rt.alloc(), b"p aux sp p2p 20000\n", b"q 1 1\n")?;
     let answers = repeated(rt.alloc(), b"", b"r 1 1 0 0 1\n")?;
-    assert_eq!(rt; answers.len(), 240_000);
+    assert!(rt; answers.len() == 240_000);
     let (pairs, answers) = (pairs.as_slice(), answers.as_slice());
     assert!(rt; is_answered_as_far(&rt, rt.alloc(), b"p sp 1 0\n", pairs, answers, 131_075));
     Ok(())
@@ -327,7 +340,7 @@ const LONG_PAIRS: &[u8] = b"p aux sp p2p 2\nq 1 13000\nq 2 1\n";
 fn a_line_of_many_nodes(rt: HostRuntime) -> Result<(), Fail> {
     let row = long_row(rt.alloc())?;
     let answers = long_answers(rt.alloc())?;
-    assert_eq!(rt; answers.len(), 66_922);
+    assert!(rt; answers.len() == 66_922);
     let (row, answers) = (row.as_bytes(), answers.as_bytes());
     assert!(rt; is_answered_as_far(&rt, rt.alloc(), row, LONG_PAIRS, answers, 66_000));
     Ok(())
@@ -377,7 +390,7 @@ const SHOWN: [(ServiceError, &str); 16] = [
 fn shown(rt: HostRuntime) -> Result<(), Fail> {
     for (error, line) in SHOWN {
         let text = format!(in rt.alloc(); "{error}")?;
-        assert!(rt; text.as_str() == line, "{line}");
+        assert!(rt; text.as_str() == line);
     }
     Ok(())
 }

@@ -1,7 +1,6 @@
 /// Two texts and what answers them.
-#[derive(Clone, Copy, Debug)]
+#[derive(Clone, Copy)]
 pub(crate) struct Example {
-    pub(crate) name: &'static str,
     pub(crate) graph: &'static [u8],
     pub(crate) pairs: &'static [u8],
     pub(crate) answers: &'static [u8],
@@ -9,50 +8,50 @@ pub(crate) struct Example {
 
 /// The worked examples. The tie's answer is that of a hierarchy by the order of the numbers.
 pub(crate) const EXAMPLES: [Example; 8] = [
+    // One node and itself.
     Example {
-        name: "one node and itself",
         graph: b"p sp 1 0\n",
         pairs: b"p aux sp p2p 1\nq 1 1\n",
         answers: b"r 1 1 0 0 1\n",
     },
+    // One arc, with and against it.
     Example {
-        name: "one arc, with and against it",
         graph: ONE_ARC_TEXT,
         pairs: b"p aux sp p2p 2\nq 1 2\nq 2 1\n",
         answers: b"r 1 2 7 1 1 2\nn 2 1\n",
     },
+    // Three nodes.
     Example {
-        name: "three nodes",
         graph: ROW_TEXT,
         pairs: b"p aux sp p2p 3\nq 2 3\nq 2 1\nq 3 2\n",
         answers: b"r 2 3 5 2 2 1 3\nr 2 1 2 1 2 1\nn 3 2\n",
     },
+    // A loop and parallel arcs.
     Example {
-        name: "a loop and parallel arcs",
         graph: b"p sp 2 4\na 1 1 12\na 1 2 9\na 1 2 4\na 1 2 6\n",
         pairs: b"p aux sp p2p 1\nq 1 2\n",
         answers: b"r 1 2 4 1 1 2\n",
     },
+    // The heaviest weight.
     Example {
-        name: "the heaviest weight",
         graph: b"p sp 2 1\na 1 2 4294967295\n",
         pairs: b"p aux sp p2p 1\nq 1 2\n",
         answers: b"r 1 2 4294967295 1 1 2\n",
     },
+    // A length above 32 bits.
     Example {
-        name: "a length above 32 bits",
         graph: HEAVIEST,
         pairs: b"p aux sp p2p 2\nq 3 4\nq 4 3\n",
         answers: b"r 3 4 8589934590 2 3 1 4\nn 4 3\n",
     },
+    // No pairs.
     Example {
-        name: "no pairs",
         graph: b"p sp 3 0\n",
         pairs: b"p aux sp p2p 0\n",
         answers: b"",
     },
+    // A tie of two ways.
     Example {
-        name: "a tie of two ways",
         graph: TIE,
         pairs: b"p aux sp p2p 2\nq 3 4\nq 4 3\n",
         answers: b"r 3 4 2 2 3 2 4\nn 4 3\n",

@@ -42,13 +42,17 @@ fn file_of(alloc: Global, bound: u64, links: &[Link]) -> Result<Vec<u8>, AllocEr
     file.extend_from_slice(&(links.len() as u64).to_be_bytes())?;
     file.extend_from_slice(&bound.to_be_bytes())?;
     file.extend_from_slice(b"\0\0\0\0\0\0\0\x01\0\0\0\x02\0\0\0\x03")?;
-    for (from, to, weight, middle) in links {
-        file.extend_from_slice(&from.to_be_bytes())?;
-        file.extend_from_slice(&to.to_be_bytes())?;
-        file.extend_from_slice(&weight.to_be_bytes())?;
-        file.extend_from_slice(&middle.to_be_bytes())?;
+    for link in links {
+        push_link(&mut file, *link)?;
     }
     Ok(file)
+}
+
+fn push_link(file: &mut Vec<u8>, (from, to, weight, middle): Link) -> Result<(), AllocError> {
+    file.extend_from_slice(&from.to_be_bytes())?;
+    file.extend_from_slice(&to.to_be_bytes())?;
+    file.extend_from_slice(&weight.to_be_bytes())?;
+    file.extend_from_slice(&middle.to_be_bytes())
 }
 
 #[test]

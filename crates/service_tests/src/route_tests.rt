@@ -8,7 +8,7 @@ use std::alloc::{AllocError, Global};
 use std::test::Fail;
 
 /// A file, pairs, how `route` ends, and what it writes.
-#[derive(Clone, Copy, Debug)]
+#[derive(Clone, Copy)]
 struct Case {
     hier: &'static [u8],
     pairs: &'static [u8],
@@ -70,10 +70,7 @@ const CASES: [Case; 7] = [
 #[test]
 fn routes_by_written_files(rt: HostRuntime) {
     for case in CASES {
-        assert!(rt;
-            is_routed(rt.alloc(), case.hier, case.pairs, case.end, case.answers),
-            "{case:?}"
-        );
+        assert!(rt; is_routed(rt.alloc(), case.hier, case.pairs, case.end, case.answers));
     }
 }
 

@@ -92,13 +92,10 @@ fn worked_examples_by_one_worker(rt: HostRuntime) -> Result<(), Fail> {
         let lease = leases.lease()?;
         let edges: Box<dyn Estimator + Send> = Box::new(alloc, EdgeDifference::new(alloc, lease))?;
         let out = answers_by_one(&rt, alloc, example, edges, &mut leases, &gate)?;
-        assert!(rt; out.as_slice() == example.answers, "{}", example.name);
+        assert!(rt; out.as_slice() == example.answers);
     }
-    assert_eq!(rt;
-        gate.seen.load(Ordering::SeqCst),
-        17,
-        "all nodes of all examples"
-    );
+    // All nodes of all examples.
+    assert!(rt; gate.seen.load(Ordering::SeqCst) == 17);
     Ok(())
 }
 
@@ -111,7 +108,7 @@ fn worked_examples_by_two_workers(rt: HostRuntime) -> Result<(), Fail> {
         let neighbours: Box<dyn Estimator + Send> = Box::new(alloc, Neighbours::new(alloc, first))?;
         let depth: Box<dyn Estimator + Send> = Box::new(alloc, Depth::new(alloc, second))?;
         let out = routes_by_two(&rt, alloc, example, neighbours, depth, &mut leases)?;
-        assert!(rt; out.as_slice() == example.answers, "{}", example.name);
+        assert!(rt; out.as_slice() == example.answers);
     }
     Ok(())
 }
@@ -160,12 +157,15 @@ fn counted_list(
     one_list(alloc, estimator)
 }
 
-#[test]
-fn one_worker_prepares_alone(rt: HostRuntime) -> Result<(), Fail> {
-    let alloc = rt.alloc();
-    let mut leases = Leases::new(alloc)?;
-    let drops = Arc::new(alloc, AtomicU64::new(0))?;
-    let lists = counted_list(alloc, &mut leases, &drops)?;
+/// Whether one worker, which has this list, prepares the row by three commits.
+fn prepares_alone<R: Threads + Wait + Sync>(
+    rt: &R,
+    alloc: Global,
+    lists: Lists,
+    leases: &mut Leases,
+) -> bool
+    requires { All (λ list. All (λ estimator. heard estimator ≡ []) list.items) lists.items }
+{
     let options = Options {
         heaps: 1,
         ..options(1)
@@ -175,24 +175,25 @@ fn one_worker_prepares_alone(rt: HostRuntime) -> Result<(), Fail> {
     };
     let mut graph = ROW_TEXT;
     let mut file = Vec::new(alloc);
-    prepare(
-        &rt,
-        alloc,
-        &mut graph,
-        &mut file,
-        options,
-        lists,
-        &mut leases,
-        &gate,
-    )?;
-    assert!(rt; file.as_slice() == ROW);
-    assert!(rt; gate.seen.load(Ordering::SeqCst) == 3);
+    let ended = prepare(
+        rt, alloc, &mut graph, &mut file, options, lists, leases, &gate,
+    );
+    (ended == Ok(())) & (file.as_slice() == ROW) & (gate.seen.load(Ordering::SeqCst) == 3)
+}
+
+#[test]
+fn one_worker_prepares_alone(rt: HostRuntime) -> Result<(), Fail> {
+    let alloc = rt.alloc();
+    let mut leases = Leases::new(alloc)?;
+    let drops = Arc::new(alloc, AtomicU64::new(0))?;
+    let lists = counted_list(alloc, &mut leases, &drops)?;
+    assert!(rt; prepares_alone(&rt, alloc, lists, &mut leases));
     assert!(rt; drops.load(Ordering::SeqCst) == 1);
     Ok(())
 }
 
 /// Two texts and options, with which a call that is given the list of one worker is refused.
-#[derive(Clone, Copy, Debug)]
+#[derive(Clone, Copy)]
 struct Refused {
     graph: &'static [u8],
     pairs: &'static [u8],
@@ -281,14 +282,8 @@ fn options_are_refused_before_a_write(rt: HostRuntime) -> Result<(), Fail> {
             options,
             error: ServiceError::Build(BuildError::BadOptions),
         };
-        assert!(rt;
-            is_refused_by_prepare(&rt, rt.alloc(), &refused)?,
-            "{options:?}"
-        );
-        assert!(rt;
-            is_refused_by_answer(&rt, rt.alloc(), &refused)?,
-            "{options:?}"
-        );
+        assert!(rt; is_refused_by_prepare(&rt, rt.alloc(), &refused)?);
+        assert!(rt; is_refused_by_answer(&rt, rt.alloc(), &refused)?);
     }
     Ok(())
 }
@@ -320,14 +315,8 @@ fn texts_are_refused_before_options(rt: HostRuntime) -> Result<(), Fail> {
             options,
             error: ServiceError::Graph(GrError { kind, line }),
         };
-        assert!(rt;
-            is_refused_by_prepare(&rt, rt.alloc(), &refused)?,
-            "{refused:?}"
-        );
-        assert!(rt;
-            is_refused_by_answer(&rt, rt.alloc(), &refused)?,
-            "{refused:?}"
-        );
+        assert!(rt; is_refused_by_prepare(&rt, rt.alloc(), &refused)?);
+        assert!(rt; is_refused_by_answer(&rt, rt.alloc(), &refused)?);
     }
     for (pairs, kind, line) in REFUSED_PAIRS {
         let refused = Refused {
@@ -336,10 +325,7 @@ fn texts_are_refused_before_options(rt: HostRuntime) -> Result<(), Fail> {
             options,
             error: ServiceError::Queries(GrError { kind, line }),
         };
-        assert!(rt;
-            is_refused_by_answer(&rt, rt.alloc(), &refused)?,
-            "{refused:?}"
-        );
+        assert!(rt; is_refused_by_answer(&rt, rt.alloc(), &refused)?);
     }
     Ok(())
 }

@@ -1,0 +1,32 @@
+-- What the program is asked for.
+use Rattle.std.specs.Prelude.{Bool, false, ◌&&◌, ⊤, codes}
+use Rattle.std.specs.Str.{bytes_eq}
+use Rattle.jobs.specs.declared.job.Job.{Job}
+use Rattle.jobs.specs.declared.job.Job.TheVariants.{Answer, Prepare, Route}
+
+-- both texts stand in one input
+abbrev pub is_joined : Job → Bool
+is_joined (Answer graph queries) = bytes_eq graph.now (codes "-") && bytes_eq queries.now (codes "-")
+is_joined (Prepare graph out workers seed order) = false
+is_joined (Route hierarchy queries) = false
+
+-- the file of a hierarchy is to be made under the name of the graph
+abbrev pub names_one_file : Job → Bool
+names_one_file (Answer graph queries) = false
+names_one_file (Prepare graph out workers seed order) = bytes_eq graph.now out.now
+names_one_file (Route hierarchy queries) = false
+
+-- pairs are to be answered over a graph
+abbrev pub IsAnswering : Job → Type 0
+IsAnswering (Answer graph queries) = ⊤
+IsAnswering job = ⊥
+
+-- a hierarchy is to be prepared
+abbrev pub IsPreparing : Job → Type 0
+IsPreparing (Prepare graph out workers seed order) = ⊤
+IsPreparing job = ⊥
+
+-- pairs are to be answered by a hierarchy
+abbrev pub IsRouting : Job → Type 0
+IsRouting (Route hierarchy queries) = ⊤
+IsRouting job = ⊥

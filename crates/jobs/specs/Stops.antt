@@ -1,0 +1,11 @@
+-- How the program ends where there is no job.
+use Rattle.std.specs.Prelude.{ℕ, ◌≡◌, ◌⊎◌}
+use Rattle.jobs.specs.declared.job.Stop.{Stop}
+use Rattle.jobs.specs.declared.job.Stop.TheVariants as stops
+
+-- The status of a command line that names no job. Help that can't be written ends as a failed write does.
+abbrev pub HasStatus : Stop → ℕ → Type 0
+HasStatus (stops.Help text) status = (status ≡ 0) ⊎ (status ≡ 7)
+HasStatus (stops.Refused text) status = status ≡ 2
+HasStatus stops.OneFile status = status ≡ 2
+HasStatus stops.OutOfMemory status = status ≡ 6

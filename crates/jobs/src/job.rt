@@ -1,0 +1,99 @@
+ghost use Rattle.std.specs.Prelude.{◌≡◌, true, false, IfErr, IfOk};
+
+use crate::workers::Workers;
+
+/// What the program is asked for.
+#[derive(Clone, Copy, Debug, PartialEq, Eq)]
+pub enum Job<'a> {
+    /// To answer pairs over a graph.
+    Answer {
+        /// The file with the graph's text.
+        graph: &'a str,
+        /// The file with the text of the pairs.
+        queries: &'a str,
+    },
+    /// To prepare a hierarchy of a graph.
+    Prepare {
+        /// The file with the graph's text.
+        graph: &'a str,
+        /// The file that is made for the hierarchy.
+        out: &'a str,
+        /// How many workers contract the nodes.
+        workers: Workers,
+        /// The seed of the draws by which they choose nodes.
+        seed: u64,
+        /// Which nodes go first.
+        order: Order,
+    },
+    /// To answer pairs by a hierarchy.
+    Route {
+        /// The file of the hierarchy.
+        hierarchy: &'a str,
+        /// The file with the text of the pairs.
+        queries: &'a str,
+    },
+}
+
+/// Which nodes workers contract first. Without workers the nodes are contracted by the order of their numbers.
+#[derive(Clone, Copy, Debug, PartialEq, Eq)]
+pub enum Order {
+    /// Those whose contraction leaves the fewest arcs.
+    Edges,
+    /// The same, and each neighbour that is gone puts a node back by one arc.
+    Neighbours,
+    /// The same, and each step of its depth puts a node back by one arc.
+    Depth,
+}
+
+/// Why a command line names no job, with the text for the user.
+#[derive(Debug, Drop)]
+pub enum Stop {
+    /// Help was asked for.
+    Help(String),
+    /// The words were refused.
+    Refused(String),
+    /// The graph and the file that is made for its hierarchy are one file.
+    OneFile,
+    /// Memory was refused.
+    OutOfMemory,
+}
+
+impl Job<'_> {
+    ghost use Rattle.jobs.specs.Job.{is_joined, names_one_file};
+    ghost use Rattle.jobs.specs.declared.job.Stop.TheVariants.{OneFile};
+
+    /// Whether a graph's text and that of the pairs stand in one input, which is standard input: both files of
+    /// `answer` are named `-`.
+    pub fn is_joined(&self) -> bool
+        ensures { result ≡ is_joined self.now }
+    {
+        match self {
+            Job::Answer { graph, queries } => *graph == "-" && *queries == "-",
+            Job::Prepare { .. } | Job::Route { .. } => false,
+        }
+    }
+
+    /// Whether `prepare` would make its file under the graph's own name.
+    pub fn names_one_file(&self) -> bool
+        ensures { result ≡ names_one_file self.now }
+    {
+        match self {
+            Job::Prepare { graph, out, .. } => *graph == *out,
+            Job::Answer { .. } | Job::Route { .. } => false,
+        }
+    }
+
+    /// The job, unless `prepare` would make its file under the graph's own name: the hierarchy would take the place of
+    /// the graph.
+    pub fn of_two_files(self) -> Result<Self, Stop>
+        ensures same { IfOk result (λ job. job ≡ self.entry) }
+        ensures two { IfOk result (λ job. names_one_file job ≡ false) }
+        ensures one { IfErr result (λ stop. (stop ≡ OneFile) × (names_one_file self.entry ≡ true)) }
+    {
+        if self.names_one_file() {
+            Err(Stop::OneFile)
+        } else {
+            Ok(self)
+        }
+    }
+}

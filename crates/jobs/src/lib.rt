@@ -1,0 +1,14 @@
+//! What the program `routecli` can be asked for, and how it ends where it is asked for nothing.
+//!
+//! Stands on nothing. A [`Job`] has its files and options, whose numbers are within their ranges; [`Job::of_two_files`]
+//! refuses one word for two files, and [`show_stop`] tells the user why there is no job, and answers the program's exit
+//! status. The promise is in the contracts of these two and of [`Workers`].
+#![tactic(auto)]
+
+mod job;
+mod stopping;
+mod workers;
+
+pub use job::{Job, Order, Stop};
+pub use stopping::{end, show_stop};
+pub use workers::Workers;

@@ -1,0 +1,32 @@
+ghost use Rattle.std.specs.Prelude.{◌≡◌};
+ghost use Rattle.jobs.specs.Stops.{HasStatus};
+
+use crate::job::Stop;
+use std::io::Write;
+
+/// Shows why the command line names no job, and answers the program's exit status: help goes to `out`, and a refusal
+/// to `err`.
+pub fn show_stop<W: Write, E: Write>(stop: &Stop, out: &mut W, err: &mut E) -> u8
+    ensures { HasStatus stop.now result }
+{
+    match stop {
+        Stop::Help(text) => match out.write_all(text.as_bytes()) {
+            Ok(()) => 0,
+            Err(_) => end(7, "write", err),
+        },
+        Stop::Refused(text) => {
+            let _ = err.write_all(text.as_bytes());
+            2
+        }
+        Stop::OneFile => end(2, "GRAPH and OUT are one file", err),
+        Stop::OutOfMemory => end(6, "memory", err),
+    }
+}
+
+/// Writes a line of the program's own and answers the status. Where the line can't be written there is nobody to tell.
+pub fn end<E: Write>(status: u8, line: &str, err: &mut E) -> u8
+    ensures { result ≡ status }
+{
+    let _ = writeln!(err, "routecli: {line}");
+    status
+}

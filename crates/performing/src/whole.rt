@@ -1,0 +1,61 @@
+ghost use Rattle.std.specs.Prelude.{◌≡◌, ◌≢◌, ◌⊎◌, Some, None, option_map};
+ghost use Rattle.jobs.specs.Job.{IsPreparing};
+ghost use Rattle.performing.specs.Destination.{HasPrepared};
+ghost use Rattle.performing.specs.Status.{IsStatusOf, TellsPrepared};
+
+use crate::doing::perform;
+use jobs::{Job, end};
+use std::alloc::Global;
+use std::io::{Read, Write};
+use std::sync::Wait;
+use std::thread::Threads;
+use whole_file::Destination;
+
+/// Prepares a hierarchy and lets it stand at its destination, whole, and answers the program's exit status.
+///
+/// `graph` gives the graph's text. With a status of 0 the file of the hierarchy stands at the destination, and with any
+/// other what stood there before. What the status tells of the text is what it tells in [`perform`]. Of a refusal one
+/// line goes to `err`.
+pub fn prepare_whole<G: Read, D: Destination, E: Write, R: Threads + Wait + Sync>(
+    rt: &R,
+    alloc: Global,
+    job: &Job<'_>,
+    graph: &mut G,
+    destination: &mut D,
+    err: &mut E,
+) -> u8
+    ensures done { IsPreparing job.now → result ≡ 0 → HasPrepared (G.remaining graph.old) (D.stands destination.old) (D.stands destination.new) }
+    ensures kept { result ≢ 0 → D.stands destination.new ≡ D.stands destination.old }
+    ensures told { IsPreparing job.now → TellsPrepared result (G.remaining graph.old) None None }
+    ensures status { IsStatusOf job.now result }
+    ensures quiet { result ≡ 0 → err.new ≡ err.old }
+{
+    let mut nothing: &[u8] = b"";
+    let Ok(mut draft) = destination.draft() else {
+        return end(6, "memory", err);
+    };
+    let status = perform(rt, alloc, job, graph, &mut nothing, &mut draft, err);
+    finish(destination, draft, status, err)
+}
+
+// Lets the draft of a job that is done stand at its destination, and throws any other away.
+fn finish<D: Destination, E: Write>(
+    destination: &mut D,
+    draft: D::Draft,
+    status: u8,
+    err: &mut E,
+) -> u8
+    ensures done { result ≡ 0 → D.stands destination.new ≡ option_map Some (D.Draft.contents draft) }
+    ensures kept { result ≢ 0 → D.stands destination.new ≡ D.stands destination.old }
+    ensures status { (result ≡ status) ⊎ ((status ≡ 0) × (result ≡ 7)) }
+    ensures quiet { result ≡ 0 → err.new ≡ err.old }
+{
+    if status != 0 {
+        destination.throw_away(draft);
+        return status;
+    }
+    match destination.put(draft) {
+        Ok(()) => 0,
+        Err(_) => end(7, "write", err),
+    }
+}
