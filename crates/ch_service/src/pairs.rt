@@ -1,4 +1,4 @@
-ghost use Rattle.std.specs.Prelude.{◌≡◌, ◌++◌, ℕ, List, All, OnOk, IfErr, length, take};
+ghost use Rattle.std.specs.Prelude.{◌≡◌, ◌++◌, ℕ, List, [], All, OnOk, IfErr, length, take};
 ghost use Rattle.grfile.specs.Reading.{IsPair};
 ghost use Rattle.ch_service.specs.Answer.{IsAnswer};
 ghost use Rattle.ch_service.specs.Outcome.{Writes, StopsShort, IsSearchFault, ComesOfAnswering};
@@ -28,8 +28,28 @@ pub fn answer_pairs<W: Write>(
 {
     let mut search = Search::new(alloc, hierarchy)?;
     let mut output = Output::new(alloc);
+    answer_each(alloc, hierarchy, &mut search, pairs, &mut output, out)
+}
+
+// Writes the answers by a search and an output that has gathered nothing.
+fn answer_each<W: Write>(
+    alloc: Global,
+    hierarchy: &Hierarchy,
+    search: &mut Search<'_>,
+    pairs: &[(u32, u32)],
+    output: &mut Output,
+    out: &mut W,
+) -> Result<(), ServiceError>
+    requires same { search.old ≡ hierarchy.now }
+    requires in_range { All (IsPair (length hierarchy.now.ranks)) pairs.now }
+    requires lines { output.old.lines.items ≡ [] }
+    requires written { output.old.calls.written ≡ 0 }
+    ensures routed { OnOk result (Writes (Routed hierarchy.now pairs.now) (W.contents out.old) (W.contents out.new)) }
+    ensures fault { IfErr result ComesOfAnswering }
+    ensures stops { IfErr result (StopsShort (λ text. (count : ℕ) × Routed hierarchy.now (take count pairs.now) text) (StopsAtTooLong hierarchy.now pairs.now) (W.contents out.old) (W.contents out.new)) }
+{
     'pairs: for pair in pairs {
-        if let Err(refused) = push_pair(alloc, hierarchy, &mut search, *pair, &mut output.lines) {
+        if let Err(refused) = push_pair(alloc, hierarchy, search, *pair, &mut output.lines) {
             output.hand_over(out)?;
             return Err(refused);
         }

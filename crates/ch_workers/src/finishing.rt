@@ -63,11 +63,30 @@ fn finish_named<S: Site, R: Wait>(
         Ok((board, _)) => board,
         Err((_, refused)) => return Err(refused.into()),
     };
-    sweep_rest(rt, &mut board, &mut receipts, settle)?;
+    sweep_and_count(rt, alloc, &mut board, &mut receipts, settle)?;
+    built_of(board, receipts)
+}
+
+/// Contracts what the workers left, and sees that the receipts account for the log.
+fn sweep_and_count<S: Site, R: Wait>(
+    rt: &R,
+    alloc: Global,
+    board: &mut Board<S>,
+    receipts: &mut Vec<Vec<Receipt>>,
+    settle: u32,
+) -> Result<(), Trouble>
+    requires some { 0 < settle }
+    requires few { settle ≤ 65536 }
+    ensures holds { IfOk result (λ _. IsLedger board.new) }
+    ensures over { IfOk result (λ _. IsOver (state_of board.new.overlay)) }
+    ensures account { IfOk result (λ _. IsAccount board.new.log (map (λ v. v.items) receipts.new.items)) }
+    ensures lists { IfOk result (λ _. vec_len receipts.new ≡ vec_len receipts.old + 1) }
+{
+    sweep_rest(rt, board, receipts, settle)?;
     if !is_account(alloc, board.log(), receipts.as_slice())? {
         return Err(Trouble::Mixed);
     }
-    built_of(board, receipts)
+    Ok(())
 }
 
 /// Contracts what the workers left, and puts the receipts behind theirs.

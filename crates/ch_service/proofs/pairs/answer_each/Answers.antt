@@ -1,16 +1,16 @@
 use Rattle.std.proofs.Common.{◌≤◌, ◌∙◌, length, arith}
 use Rattle.ch_service.proofs.Progress.{gathered-start, gathered-next, gathered-hand_on, gathered-same, gathered-whole, gathered-all, stops-from_gathered, stops-at_next, comes_of_answering}
-use Rattle.ch_service.proofs.pairs.answer_pairs.Goals as goal
+use Rattle.ch_service.proofs.pairs.answer_each.Goals as goal
 
 pub pairs-init : goal.pairs-init
 pairs-init g c = record {
-  same = c.in_ok-search.ensures;
-  gathered = gathered-start _ _ _ _ c.new-output.ensures.lines c.new-output.ensures.written;
+  same = c.requires.same;
+  gathered = gathered-start _ _ _ _ c.requires.lines c.requires.written;
 }
 
 pub returns-in_err-hand_over-clause-stops : goal.returns-in_err-hand_over-clause-stops
 returns-in_err-hand_over-clause-stops g c =
-    stops-from_gathered c.args.pairs.now c.pairs.pair-index _ c.in_err-hand_over.field-0.0 c.from_residual-in_err-hand_over.result c.from_residual-in_err-hand_over.ensures.1
+    stops-from_gathered c.args.pairs.now c.pairs.pair-index _ c.in_err-hand_over.field-0.0 c.from_residual.result c.from_residual.ensures.1
     (gathered-same c.pairs.invariant.gathered c.in-Err.ensures.err.1) c.in_err-hand_over.ensures.err
 
 pub returns-in-Err-clause-stops : goal.returns-in-Err-clause-stops

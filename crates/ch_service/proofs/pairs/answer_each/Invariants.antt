@@ -1,7 +1,7 @@
 use Rattle.std.proofs.Common.{◌≡◌, take}
 use Rattle.ch_service.specs.Route.{IsRouteBy}
 use Rattle.ch_service.proofs.Progress.{IsGathered}
-use Rattle.ch_service.proofs.pairs.answer_pairs.Given as goal
+use Rattle.ch_service.proofs.pairs.answer_each.Given as goal
 
 abbrev pub invariant-pairs : goal.invariant-pairs
 invariant-pairs g l =
