@@ -6,7 +6,7 @@ use crate::networks::{HEAVY, Line, MOST, PARALLEL, ROW, TIE, blank_of, graph_of}
 use crate::proposals::{are_of, are_shortcuts};
 use crate::shelf::Arcs;
 use ch_contract::{
-    Board, CommitError, Contraction, FinishError, ProposeError, Receipt, Site, propose,
+    Board, CommitError, Contraction, FinishError, ProposeError, Receipt, Site, SweepError, propose,
 };
 use ch_cost::Cost;
 use ch_graph::{Graph, Hierarchy, Link, Road};
@@ -195,21 +195,41 @@ fn comes_to<S: Site, R: Wait>(
     requires bound { blank.bound ≡ bound_of graph }
 {
     let (mut board, _): (Board<S>, Reader<S>) = Board::new(rt, alloc, blank, graph)?;
-    let mut holds = true;
-    for offers in case.turns {
-        holds &= answers(rt, alloc, &mut board, offers)?;
-    }
-    let contracted = board.log().len() as u32;
-    for node in 0..contracted {
-        holds &= refuses(alloc, &mut board, node, ProposeError::Contracted);
-    }
-    holds &= refuses(alloc, &mut board, case.nodes, ProposeError::Unseen);
-    let receipts = board.sweep(rt, SETTLE)?;
-    holds &= in_order(&receipts, contracted) & is_log(board.log(), case);
+    let holds = takes_turns(rt, alloc, &mut board, case)?;
     match board.into_hierarchy() {
         Ok(hierarchy) => Ok(holds & is_hierarchy(&hierarchy, case)),
         Err((_, error)) => Err(Fail::from(error)),
     }
+}
+
+/// Whether the board answers the offers of each turn, and the sweep then contracts what is left.
+fn takes_turns<S: Site, R: Wait>(
+    rt: &R,
+    alloc: Global,
+    board: &mut Board<S>,
+    case: Case,
+) -> Result<bool, Fail> {
+    let mut holds = true;
+    for offers in case.turns {
+        holds &= answers(rt, alloc, board, offers)?;
+    }
+    Ok(holds & is_swept(rt, alloc, board, case)?)
+}
+
+/// Whether no contracted node is proposed, and no other number than a node's, and the sweep contracts the others.
+fn is_swept<S: Site, R: Wait>(
+    rt: &R,
+    alloc: Global,
+    board: &mut Board<S>,
+    case: Case,
+) -> Result<bool, SweepError> {
+    let contracted = board.log().len() as u32;
+    let mut holds = refuses(alloc, board, case.nodes, ProposeError::Unseen);
+    for node in 0..contracted {
+        holds &= refuses(alloc, board, node, ProposeError::Contracted);
+    }
+    let receipts = board.sweep(rt, SETTLE)?;
+    Ok(holds & in_order(&receipts, contracted) & is_log(board.log(), case))
 }
 
 /// Whether the proposals by the rows as they are, and then the board's answers to them, are as expected.
@@ -279,10 +299,10 @@ fn are_links(links: &[Link], expected: &[Linked]) -> bool {
 #[test]
 fn boards_come_to_their_hierarchies(rt: HostRuntime) -> Result<(), Fail> {
     let alloc = rt.alloc();
-    for case in CASES {
+    for case in &CASES {
         let graph = graph_of(alloc, case.nodes, case.lines)?;
         let blank = blank_of(alloc, &graph)?;
-        assert!(rt; comes_to::<Brand, HostRuntime>(&rt, alloc, blank, graph, case)?);
+        assert!(rt; comes_to::<Brand, HostRuntime>(&rt, alloc, blank, graph, *case)?);
     }
     Ok(())
 }

@@ -169,6 +169,11 @@ fn is_proposed(proposal: &Proposal, case: Case) -> bool {
         & are_shortcuts(proposal.shortcuts(), case.shortcuts)
 }
 
+/// Whether the proposal has the verdicts of the case.
+fn has_verdicts(proposal: &Proposal, case: Case) -> bool {
+    case.verdicts.iter().all(|(from, to, verdict)| proposal.verdict(*from, *to) == *verdict)
+}
+
 #[test]
 fn proposals_of_a_shelf(rt: HostRuntime) -> Result<(), Fail> {
     let alloc = rt.alloc();
@@ -176,10 +181,7 @@ fn proposals_of_a_shelf(rt: HostRuntime) -> Result<(), Fail> {
         assert!(rt; 0 < case.settle && case.settle <= 64);
         let mut shelf = Shelf::new(alloc, 5, case.lines, case.bound, None)?;
         let proposal = propose(alloc, &mut shelf, case.node, case.settle)?;
-        assert!(rt; is_proposed(&proposal, case));
-        for (from, to, verdict) in case.verdicts {
-            assert!(rt; proposal.verdict(*from, *to) == *verdict);
-        }
+        assert!(rt; is_proposed(&proposal, case) && has_verdicts(&proposal, case));
         assert!(rt; are_the_same(&shelf.asked, case.rests_on));
     }
     Ok(())

@@ -112,16 +112,34 @@ fn contract_all<S: Site, R: Wait>(
     reader: &mut Reader<S>,
     signals: &Signals,
 ) -> Option<Vec<Written>> {
-    let mut scratch = Scratch::new(alloc);
     let mut log = Vec::new(alloc);
-    for node in 0..NODES {
-        note(&mut log, board, node)?;
-    }
+    note_all(&mut log, board)?;
     wait_for_readers(signals);
-    for node in 0..NODES {
-        contract(rt, alloc, board, reader, &mut scratch, node, &mut log)?;
-    }
+    contract_each(rt, alloc, board, reader, &mut log)?;
     Some(log)
+}
+
+/// Puts the rows of all nodes behind the others.
+fn note_all<S: Site>(log: &mut Vec<Written>, board: &Board<S>) -> Option<()> {
+    for node in 0..NODES {
+        note(log, board, node)?;
+    }
+    Some(())
+}
+
+/// Contracts all nodes, one by one.
+fn contract_each<S: Site, R: Wait>(
+    rt: &R,
+    alloc: Global,
+    board: &mut Board<S>,
+    reader: &mut Reader<S>,
+    log: &mut Vec<Written>,
+) -> Option<()> {
+    let mut scratch = Scratch::new(alloc);
+    for node in 0..NODES {
+        contract(rt, alloc, board, reader, &mut scratch, node, log)?;
+    }
+    Some(())
 }
 
 /// Reads all rows. Keeps those whose version isn't the one that was last found.
@@ -186,7 +204,31 @@ fn race<S: Site + Send + Sync, R: Threads + Wait + Sync>(
     requires bound { blank.bound ≡ bound_of graph }
 {
     let (mut board, mut own): (Board<S>, Reader<S>) = Board::new(rt, alloc, blank, graph)?;
-    let (mut first, mut second) = (own.split()?, own.split()?);
+    let first = own.split()?;
+    Ok(race_against(rt, alloc, &mut board, &mut own, first)?)
+}
+
+/// The same, against this reader and another.
+fn race_against<S: Site + Send + Sync, R: Threads + Wait + Sync>(
+    rt: &R,
+    alloc: Global,
+    board: &mut Board<S>,
+    own: &mut Reader<S>,
+    first: Reader<S>,
+) -> Result<bool, AllocError> {
+    let second = own.split()?;
+    Ok(race_of_three(rt, alloc, board, own, first, second))
+}
+
+/// Contracts all nodes by one reader, while two others read.
+fn race_of_three<S: Site + Send + Sync, R: Threads + Wait + Sync>(
+    rt: &R,
+    alloc: Global,
+    board: &mut Board<S>,
+    own: &mut Reader<S>,
+    mut first: Reader<S>,
+    mut second: Reader<S>,
+) -> bool {
     let signals = Signals {
         begun: AtomicU64::new(0),
         ended: AtomicU64::new(0),
@@ -194,7 +236,7 @@ fn race<S: Site + Send + Sync, R: Threads + Wait + Sync>(
     let (log, (by_first, by_second)) = thread::join(
         rt,
         || {
-            let log = contract_all(rt, alloc, &mut board, &mut own, &signals);
+            let log = contract_all(rt, alloc, board, own, &signals);
             signals.ended.store(1, Ordering::SeqCst);
             log
         },
@@ -206,19 +248,31 @@ fn race<S: Site + Send + Sync, R: Threads + Wait + Sync>(
             )
         },
     );
-    let (by_first, by_second) = (by_first?, by_second?);
-    let Some(log) = log else {
-        return Ok(false);
-    };
     first.join(second);
-    let last = read_rows(alloc, &mut first, &signals)?;
-    let done = last.iter().all(|seen| seen.row.rank == Some(seen.node));
-    Ok(
-        done & (last.len() == NODES as usize)
-            & were_written(&log, &by_first)
-            & were_written(&log, &by_second)
-            & were_written(&log, &last),
-    )
+    let last = read_rows(alloc, &mut first, &signals);
+    match log {
+        Some(log) => was_read(&log, by_first) & was_read(&log, by_second) & is_last(&log, last),
+        None => false,
+    }
+}
+
+/// Whether each row that was read is the one that was written at its version.
+fn was_read(log: &[Written], read: Result<Vec<Seen>, SeeError>) -> bool {
+    match read {
+        Ok(seen) => were_written(log, &seen),
+        Err(_) => false,
+    }
+}
+
+/// Whether each node was read once, when all were contracted, and its row is the one that was written at its version.
+fn is_last(log: &[Written], read: Result<Vec<Seen>, SeeError>) -> bool {
+    match read {
+        Ok(last) => {
+            let done = last.iter().all(|seen| seen.row.rank == Some(seen.node));
+            done & (last.len() == NODES as usize) & were_written(log, &last)
+        }
+        Err(_) => false,
+    }
 }
 
 #[test]

@@ -4,7 +4,7 @@ ghost use Rattle.ch_graph.specs.Graph.{bound_of};
 ghost use Rattle.ch_rowbook.specs.Blanks.{name_of};
 
 use crate::networks::{ROW, blank_of, graph_of};
-use ch_contract::{Board, CommitError, Ledger, Receipt, Site, propose};
+use ch_contract::{Board, CommitError, Ledger, ProposeError, Receipt, Site, propose};
 use ch_cost::Cost;
 use ch_graph::Graph;
 use ch_overlay::{Entry, SeeError, Seen};
@@ -68,6 +68,29 @@ fn finds<S: Site>(reader: &mut Reader<S>, rows: [Version; 3]) -> Result<bool, Se
     Ok(holds & matches!(reader.read(3), Err(SeeError::Unseen)))
 }
 
+/// Whether two readers find these rows, and none besides.
+fn both_find<S: Site>(
+    first: &mut Reader<S>,
+    second: &mut Reader<S>,
+    rows: [Version; 3],
+) -> Result<bool, SeeError> {
+    Ok(finds(first, rows)? & finds(second, rows)?)
+}
+
+/// Proposes node 0 twice by what a reader finds, and offers both. Whether the first alone is taken.
+fn takes_one<S: Site, R: Wait>(
+    rt: &R,
+    alloc: Global,
+    board: &mut Board<S>,
+    reader: &mut Reader<S>,
+) -> Result<bool, ProposeError> {
+    let first = propose(alloc, reader, 0, 64)?;
+    let second = propose(alloc, reader, 0, 64)?;
+    let taken = board.commit_and_see(rt, first, reader);
+    let again = board.commit_and_see(rt, second, reader);
+    Ok((taken == Ok(Receipt { node: 0, rank: 0 })) & (again == Err(CommitError::Contracted)))
+}
+
 /// Proposes node 0 twice by what a reader of the board's book finds, and offers both. Whether the first proposal alone
 /// changes the rows that this reader finds, and another that was split off before.
 fn follows<S: Site, R: Wait>(
@@ -83,14 +106,21 @@ fn follows<S: Site, R: Wait>(
 {
     let (mut board, mut reader): (Board<S>, Reader<S>) = Board::new(rt, alloc, blank, graph)?;
     let mut early = reader.split()?;
-    let mut holds = finds(&mut reader, OPENING)? & finds(&mut early, OPENING)?;
-    let first = propose(alloc, &mut reader, 0, 64)?;
-    let second = propose(alloc, &mut reader, 0, 64)?;
-    let taken = board.commit_and_see(rt, first, &mut reader);
-    holds &= taken == Ok(Receipt { node: 0, rank: 0 });
-    let again = board.commit_and_see(rt, second, &mut reader);
-    holds &= again == Err(CommitError::Contracted);
-    Ok(holds & finds(&mut reader, LATER)? & finds(&mut early, LATER)?)
+    follow(rt, alloc, &mut board, &mut reader, &mut early)
+}
+
+/// Whether two readers find the opening rows, and then those once node 0 is contracted.
+fn follow<S: Site, R: Wait>(
+    rt: &R,
+    alloc: Global,
+    board: &mut Board<S>,
+    reader: &mut Reader<S>,
+    early: &mut Reader<S>,
+) -> Result<bool, Fail> {
+    let opening = both_find(reader, early, OPENING)?;
+    let takes_one = takes_one(rt, alloc, board, reader)?;
+    let later = both_find(reader, early, LATER)?;
+    Ok(opening & takes_one & later)
 }
 
 #[test]
@@ -115,9 +145,19 @@ fn taken_out<S: Site, R: Wait>(
     requires bound { blank.bound ≡ bound_of graph }
 {
     let (mut board, mut reader): (Board<S>, Reader<S>) = Board::new(rt, alloc, blank, graph)?;
-    let proposal = propose(alloc, &mut reader, 0, 64)?;
-    board.commit(rt, proposal)?;
+    contract(rt, alloc, &mut board, &mut reader)?;
     Ok(board.into_ledger())
+}
+
+/// Contracts node 0 by what the reader finds.
+fn contract<S: Site, R: Wait>(
+    rt: &R,
+    alloc: Global,
+    board: &mut Board<S>,
+    reader: &mut Reader<S>,
+) -> Result<Receipt, Fail> {
+    let proposal = propose(alloc, reader, 0, 64)?;
+    Ok(board.commit(rt, proposal)?)
 }
 
 /// Whether a ledger goes on with a new book, whose reader finds the rows as they are, and commits what that one proposes.
@@ -138,9 +178,19 @@ fn goes_on<S: Site, R: Wait>(
         Ok(made) => made,
         Err((_, refused)) => return Err(refused.into()),
     };
-    let holds = finds(&mut reader, ANEW)?;
-    let proposal = propose(alloc, &mut reader, 1, 64)?;
-    let taken = board.commit_and_see(rt, proposal, &mut reader);
+    contracts_second(rt, alloc, &mut board, &mut reader)
+}
+
+/// Whether the reader finds the rows as they are, and node 1 is contracted by what it finds.
+fn contracts_second<S: Site, R: Wait>(
+    rt: &R,
+    alloc: Global,
+    board: &mut Board<S>,
+    reader: &mut Reader<S>,
+) -> Result<bool, Fail> {
+    let holds = finds(reader, ANEW)?;
+    let proposal = propose(alloc, reader, 1, 64)?;
+    let taken = board.commit_and_see(rt, proposal, reader);
     Ok(holds & (taken == Ok(Receipt { node: 1, rank: 1 })) & (board.log().len() == 2))
 }
 

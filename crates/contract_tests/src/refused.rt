@@ -165,6 +165,23 @@ fn are_links(hierarchy: &Hierarchy, expected: &[(u32, u32, u64, Option<u32>)]) -
         .eq(expected.iter().copied())
 }
 
+/// Whether the nodes of a board of the row of three nodes are all contracted, node 0 by a commit.
+fn is_contracted<S: Site, R: Wait>(
+    rt: &R,
+    alloc: Global,
+    board: &mut Board<S>,
+) -> Result<bool, Fail> {
+    let is_first = row_of(board, 1)?.version == 1;
+    let receipt = committed(rt, alloc, board, 0)?;
+    let swept = swept(rt, board)?;
+    Ok(
+        is_first
+            & (receipt == Receipt { node: 0, rank: 0 })
+            & (swept <= 2)
+            & (board.log().len() == 3),
+    )
+}
+
 /// Whether a board of the row of three nodes comes to its hierarchy, with node 0 contracted by a commit.
 fn comes_to<S: Site, R: Wait>(
     rt: &R,
@@ -178,19 +195,10 @@ fn comes_to<S: Site, R: Wait>(
     requires bound { blank.bound ≡ bound_of graph }
 {
     let (mut board, _): (Board<S>, Reader<S>) = Board::new(rt, alloc, blank, graph)?;
-    let mut holds = row_of(&mut board, 1)?.version == 1;
-    let receipt = committed(rt, alloc, &mut board, 0)?;
-    holds &= receipt == Receipt { node: 0, rank: 0 };
-    let swept = swept(rt, &mut board)?;
-    holds &= swept <= 2 && board.log().len() == 3;
+    let holds = is_contracted(rt, alloc, &mut board)?;
     let hierarchy = hierarchy_of(board)?;
-    Ok(
-        holds
-            & are_links(
-                &hierarchy,
-                &[(0, 2, 3, None), (1, 0, 2, None), (1, 2, 5, Some(0))],
-            ),
-    )
+    let links = [(0, 2, 3, None), (1, 0, 2, None), (1, 2, 5, Some(0))];
+    Ok(holds & are_links(&hierarchy, &links))
 }
 
 #[test]
@@ -245,6 +253,29 @@ fn ledger_in_a_book(rt: HostRuntime) -> Result<(), Fail> {
     Ok(())
 }
 
+/// Whether a node is proposed with one shortcut.
+fn has_shortcut<S: RowSource>(
+    alloc: Global,
+    source: &mut S,
+    node: u32,
+) -> Result<bool, ProposeError> {
+    let proposal = proposed(alloc, source, node)?;
+    Ok(proposal.shortcuts().len() == 1)
+}
+
+/// Whether both middle nodes are contracted, the first by what the reader finds.
+fn are_contracted<S: Site, R: Wait>(
+    rt: &R,
+    alloc: Global,
+    board: &mut Board<S>,
+    reader: &mut Reader<S>,
+) -> Result<bool, Fail> {
+    let first = committed_and_seen(rt, alloc, board, reader, 0)?;
+    let has_shortcut = has_shortcut(alloc, reader, 1)?;
+    let second = committed(rt, alloc, board, 1)?;
+    Ok(has_shortcut & ((first.rank, second.rank) == (0, 1)))
+}
+
 /// Whether both middle nodes of the tie are contracted, the first by what a reader of the board's book finds.
 fn is_seen<S: Site, R: Wait>(
     rt: &R,
@@ -258,11 +289,7 @@ fn is_seen<S: Site, R: Wait>(
     requires bound { blank.bound ≡ bound_of graph }
 {
     let (mut board, mut reader): (Board<S>, Reader<S>) = Board::new(rt, alloc, blank, graph)?;
-    let first = committed_and_seen(rt, alloc, &mut board, &mut reader, 0)?;
-    let proposal = proposed(alloc, &mut reader, 1)?;
-    let has_shortcut = proposal.shortcuts().len() == 1;
-    let second = committed(rt, alloc, &mut board, 1)?;
-    Ok(has_shortcut & ((first.rank, second.rank) == (0, 1)))
+    are_contracted(rt, alloc, &mut board, &mut reader)
 }
 
 #[test]

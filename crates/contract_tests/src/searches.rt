@@ -1,6 +1,11 @@
+ghost use Rattle.ch_witness.specs.Kept.{OfTheirNodes, kept_of};
+
+use crate::proposals::are_of;
 use crate::shelf::{Arcs, Shelf};
 use ch_cost::Cost;
-use ch_witness::{Aim, Found, Rule, Searcher, Way, search};
+use ch_witness::{Aim, Rule, SearchError, Searcher, Way, search};
+use std::alloc::{AllocError, Global};
+use std::process::Abort;
 use std::test::Fail;
 
 /// Node 3 is reached from node 2 by way of 0 or of 1, at the same cost.
@@ -47,43 +52,63 @@ fn is_one_way(ways: &[Option<Way>], nodes: &[u32]) -> bool {
     }
 }
 
+/// Whether a search that avoids a node finds the way within the cutoff, or none where no nodes are given.
+fn finds_round<R: Abort>(
+    rt: &R,
+    alloc: Global,
+    shelf: &mut Shelf,
+    (avoid, cutoff, settle): (u32, u32, u32),
+    way: &[u32],
+) -> Result<bool, SearchError> {
+    let cutoff = Cost::of_weight(cutoff);
+    assert!(rt; shelf.allows(cutoff));
+    assert!(rt; avoid != 2 && avoid != 3 && 0 < settle && settle <= 64);
+    let found = search(alloc, shelf, 2, avoid, cutoff, &[3], settle)?;
+    Ok(is_one_way(&found.ways, way))
+}
+
 #[test]
 fn one_search(rt: HostRuntime) -> Result<(), Fail> {
     let alloc = rt.alloc();
-    for (lines, ranked, (avoid, cutoff, settle), way, asked) in CASES {
+    for (lines, ranked, rule, way, asked) in CASES {
         let mut shelf = Shelf::new(alloc, 4, lines, (3, 1), ranked)?;
-        let cutoff = Cost::of_weight(cutoff);
-        assert!(rt; shelf.allows(cutoff));
-        assert!(rt; avoid != 2 && avoid != 3 && 0 < settle && settle <= 64);
-        let found = search(alloc, &mut shelf, 2, avoid, cutoff, &[3], settle)?;
-        assert!(rt; is_one_way(&found.ways, way));
+        assert!(rt; finds_round(&rt, alloc, &mut shelf, rule, way)?);
         assert!(rt; shelf.asked.as_slice() == asked);
     }
     Ok(())
 }
 
-#[test]
-fn two_searches_ask_for_a_row_once(rt: HostRuntime) -> Result<(), Fail> {
-    let alloc = rt.alloc();
-    let mut shelf = Shelf::new(alloc, 4, &TIE, (3, 1), None)?;
-    let cutoff = Cost::of_weight(2);
+/// Whether nodes 1 and 2 are handed out, whose rows were read, node 1 once though it is named twice, and not node 3.
+fn hands_out(alloc: Global, searcher: &mut Searcher) -> Result<bool, AllocError>
+    requires { OfTheirNodes (kept_of searcher.old.rows) }
+{
+    let listed = searcher.rows.hand_out(alloc, &[1, 2, 3, 1])?;
+    Ok(are_of(&listed, &[1, 2]))
+}
+
+/// Whether two searches of one searcher find the same way, and it hands out what they have read.
+fn finds_twice<R: Abort>(rt: &R, alloc: Global, shelf: &mut Shelf) -> Result<bool, Fail> {
+    let (from, avoid, cutoff) = (2, 0, Cost::of_weight(2));
     assert!(rt; shelf.allows(cutoff));
-    let (from, avoid) = (2, 0);
     let rule = Rule {
         from,
         avoid,
         cutoff,
     };
     let mut searcher = Searcher::new(alloc);
-    let first = searcher.search(alloc, &mut shelf, rule, &[3], &[], 64)?;
+    let first = searcher.search(alloc, shelf, rule, &[3], &[], 64)?;
     assert!(rt; shelf.allows(cutoff));
-    let second = searcher.search(alloc, &mut shelf, rule, &[3], &[], 64)?;
-    assert!(rt; is_one_way(&first.ways, &[2, 1, 3]) && is_one_way(&second.ways, &[2, 1, 3]));
+    let second = searcher.search(alloc, shelf, rule, &[3], &[], 64)?;
+    let holds = is_one_way(&first.ways, &[2, 1, 3]) & is_one_way(&second.ways, &[2, 1, 3]);
+    Ok(holds & hands_out(alloc, &mut searcher)?)
+}
+
+#[test]
+fn two_searches_ask_for_a_row_once(rt: HostRuntime) -> Result<(), Fail> {
+    let alloc = rt.alloc();
+    let mut shelf = Shelf::new(alloc, 4, &TIE, (3, 1), None)?;
+    assert!(rt; finds_twice(&rt, alloc, &mut shelf)?);
     assert!(rt; shelf.asked.as_slice() == [2u32, 1].as_slice());
-    // Node 3 wasn't read, and node 1 is named twice.
-    let listed = searcher.rows.hand_out(alloc, &[1, 2, 3, 1])?;
-    assert!(rt; listed.len() == 2);
-    assert!(rt; listed[0].node == 1 && listed[1].node == 2);
     Ok(())
 }
 
@@ -101,25 +126,36 @@ const AIM_CASES: [AimCase; 4] = [
     (&CHAIN, (3, 3), &[], &[2]),
 ];
 
+/// Whether a search that has this aim finds the way, or none where no nodes are given.
+fn finds<R: Abort>(
+    rt: &R,
+    alloc: Global,
+    shelf: &mut Shelf,
+    aim: Aim,
+    way: &[u32],
+) -> Result<bool, SearchError> {
+    let cutoff = Cost::of_weight(3);
+    assert!(rt; shelf.allows(cutoff));
+    let rule = Rule {
+        from: 2,
+        avoid: 9,
+        cutoff,
+    };
+    let mut searcher = Searcher::new(alloc);
+    let found = searcher.search(alloc, shelf, rule, &[3], &[aim], 64)?;
+    Ok(is_one_way(&found.ways, way))
+}
+
 #[test]
 fn a_search_with_an_aim(rt: HostRuntime) -> Result<(), Fail> {
     let alloc = rt.alloc();
     for (lines, (enough, last_arc), way, asked) in AIM_CASES {
         let mut shelf = Shelf::new(alloc, 4, lines, (3, 1), None)?;
-        let cutoff = Cost::of_weight(3);
-        assert!(rt; shelf.allows(cutoff));
-        let rule = Rule {
-            from: 2,
-            avoid: 9,
-            cutoff,
-        };
         let aim = Aim {
             enough: Cost::of_weight(enough),
             last_arc: Cost::of_weight(last_arc),
         };
-        let mut searcher = Searcher::new(alloc);
-        let found = searcher.search(alloc, &mut shelf, rule, &[3], &[aim], 64)?;
-        assert!(rt; is_one_way(&found.ways, way));
+        assert!(rt; finds(&rt, alloc, &mut shelf, aim, way)?);
         assert!(rt; shelf.asked.as_slice() == asked);
     }
     Ok(())

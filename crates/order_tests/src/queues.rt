@@ -11,11 +11,6 @@ fn item(key: u64, node: u32) -> Item {
     Item { key, node }
 }
 
-/// The item that an answer of a `push` stands for: none where it was taken in.
-fn refused(answer: Result<(), Item>) -> Option<Item> {
-    answer.err()
-}
-
 /// The least of a list, by looking at each of them.
 fn least(list: &[Item]) -> Option<Item> {
     let mut best: Option<Item> = None;
@@ -103,31 +98,64 @@ fn lacking(queue: MultiQueue, passes: Vec<Pass>) -> Result<(MultiQueue, Vec<Pass
     }
 }
 
+/// Whether a queue is closed by this pass, and these items are left.
+fn is_left(alloc: Global, queue: MultiQueue, pass: Pass, want: &[Item]) -> Result<bool, Fail> {
+    let items = closed(queue, vec![in alloc; pass]?)?;
+    Ok(items.as_slice() == want)
+}
+
+/// Whether the next item that is popped is this one, or there is none.
+fn pops<R: Wait>(
+    rt: &R,
+    queue: &MultiQueue,
+    pass: &mut Pass,
+    want: Option<Item>,
+) -> Result<bool, AllocError> {
+    Ok(queue.pop(rt, pass)? == want)
+}
+
+/// Whether an item is taken in.
+fn takes<R: Wait>(rt: &R, queue: &MultiQueue, pass: &mut Pass, item: Item) -> bool {
+    queue.push(rt, pass, item).is_ok()
+}
+
 #[test]
 fn what_is_pushed_is_popped(rt: HostRuntime) -> Result<(), Fail> {
     let (queue, mut pass) = MultiQueue::new(rt.alloc(), 4, 11)?;
-    assert_eq!(rt; refused(queue.push(&rt, &mut pass, item(5, 7))), None);
-    assert_eq!(rt; queue.pop(&rt, &mut pass)?, Some(item(5, 7)));
-    assert_eq!(rt; queue.pop(&rt, &mut pass)?, None);
-    let items = closed(queue, vec![in rt.alloc(); pass]?)?;
-    assert!(rt; items.is_empty());
+    assert!(rt; takes(&rt, &queue, &mut pass, item(5, 7)));
+    assert!(rt; pops(&rt, &queue, &mut pass, Some(item(5, 7)))?);
+    assert!(rt; pops(&rt, &queue, &mut pass, None)?);
+    assert!(rt; is_left(rt.alloc(), queue, pass, &[])?);
     Ok(())
+}
+
+/// Whether both passes push the same item, and the first pops it.
+fn pops_one_of_two<R: Wait>(
+    rt: &R,
+    queue: &MultiQueue,
+    first: &mut Pass,
+    second: &mut Pass,
+) -> Result<bool, AllocError> {
+    let holds = takes(rt, queue, first, item(5, 7)) & takes(rt, queue, second, item(5, 7));
+    Ok(holds & pops(rt, queue, first, Some(item(5, 7)))?)
+}
+
+/// Whether the first pass alone doesn't close a queue and is handed back, and both do, with one item left.
+fn needs_both(alloc: Global, queue: MultiQueue, first: Pass, second: Pass) -> Result<bool, Fail> {
+    let (queue, mut passes) = lacking(queue, vec![in alloc; first]?)?;
+    let is_first = passes.iter().map(|pass| pass.number()).eq([0]);
+    passes.push(second)?;
+    let items = closed(queue, passes)?;
+    Ok(is_first & (items.as_slice() == [item(5, 7)].as_slice()))
 }
 
 #[test]
 fn closed_with_all_passes_alone(rt: HostRuntime) -> Result<(), Fail> {
     let (mut queue, mut first) = MultiQueue::new(rt.alloc(), 2, 1)?;
     let mut second = queue.pass()?;
-    assert_eq!(rt; (first.number(), second.number()), (0, 1));
-    assert_eq!(rt; refused(queue.push(&rt, &mut first, item(5, 7))), None);
-    assert_eq!(rt; refused(queue.push(&rt, &mut second, item(5, 7))), None);
-    assert_eq!(rt; queue.pop(&rt, &mut first)?, Some(item(5, 7)));
-    let (queue, mut passes) = lacking(queue, vec![in rt.alloc(); first]?)?;
-    assert_eq!(rt; passes.len(), 1);
-    assert_eq!(rt; passes[0].number(), 0);
-    passes.push(second)?;
-    let items = closed(queue, passes)?;
-    assert_eq!(rt; items.as_slice(), [item(5, 7)].as_slice());
+    assert!(rt; first.number() == 0 && second.number() == 1);
+    assert!(rt; pops_one_of_two(&rt, &queue, &mut first, &mut second)?);
+    assert!(rt; needs_both(rt.alloc(), queue, first, second)?);
     Ok(())
 }
 
@@ -139,7 +167,7 @@ fn one_pass_of_another_queue_for_two(rt: HostRuntime) -> Result<(), Fail> {
     let passes = vec![in rt.alloc(); first, stranger]?;
     let (queue, _passes) = lacking(queue, passes)?;
     let (_queue, passes) = lacking(queue, vec![in rt.alloc(); second]?)?;
-    assert_eq!(rt; passes.len(), 1);
+    assert!(rt; passes.len() == 1);
     Ok(())
 }
 
@@ -147,11 +175,44 @@ fn one_pass_of_another_queue_for_two(rt: HostRuntime) -> Result<(), Fail> {
 fn an_empty_queue_gives_none(rt: HostRuntime) -> Result<(), Fail> {
     for heaps in [1u32, 2, 256] {
         let (queue, mut pass) = MultiQueue::new(rt.alloc(), heaps, 3)?;
-        assert_eq!(rt; queue.heaps(), heaps as usize);
-        assert_eq!(rt; queue.pop(&rt, &mut pass)?, None);
-        assert!(rt; queue.close(vec![in rt.alloc(); pass]?).is_ok());
+        assert!(rt; queue.heaps() == heaps as usize);
+        assert!(rt; pops(&rt, &queue, &mut pass, None)?);
+        assert!(rt; is_left(rt.alloc(), queue, pass, &[])?);
     }
     Ok(())
+}
+
+/// Whether a queue takes an item in, which is put into the list that the next word names.
+fn pushes<R: Wait>(
+    rt: &R,
+    queue: &MultiQueue,
+    pass: &mut Pass,
+    lists: &mut Vec<Vec<Item>>,
+    words: &mut Pcg32,
+    item: Item,
+) -> Result<bool, AllocError> {
+    let place = words.next_word() as usize % 3;
+    let Some(list) = lists.get_mut(place) else {
+        return Ok(false);
+    };
+    list.push(item)?;
+    Ok(takes(rt, queue, pass, item))
+}
+
+/// Whether a queue pops what the rules give over the lists; counts what is found.
+fn pops_by_rule<R: Wait>(
+    rt: &R,
+    queue: &MultiQueue,
+    pass: &mut Pass,
+    lists: &mut Vec<Vec<Item>>,
+    words: &mut Pcg32,
+    found: &mut u32,
+) -> Result<bool, AllocError> {
+    let want = pop_from_lists(lists, words);
+    if want.is_some() {
+        *found = found.wrapping_add(1);
+    }
+    pops(rt, queue, pass, want)
 }
 
 #[test]
@@ -162,20 +223,15 @@ fn one_pass_goes_by_its_words(rt: HostRuntime) -> Result<(), Fail> {
     let mut words = Pcg32::new(5, 0);
     let mut found = 0u32;
     for turn in 0..450u64 {
-        if is_push(turn) {
+        let holds = if is_push(turn) {
             let new = item(turn * 37 % 11, (turn % 2) as u32);
-            assert_eq!(rt; refused(queue.push(&rt, &mut pass, new)), None);
-            let place = words.next_word() as usize % 3;
-            lists.get_mut(place).expect(&rt, "one of three").push(new)?;
+            pushes(&rt, &queue, &mut pass, &mut lists, &mut words, new)?
         } else {
-            let want = pop_from_lists(&mut lists, &mut words);
-            assert_eq!(rt; queue.pop(&rt, &mut pass)?, want, "at {turn}");
-            if want.is_some() {
-                found = found.wrapping_add(1);
-            }
-        }
+            pops_by_rule(&rt, &queue, &mut pass, &mut lists, &mut words, &mut found)?
+        };
+        assert!(rt; holds);
     }
-    assert_eq!(rt; found, 200);
+    assert!(rt; found == 200);
     Ok(())
 }
 
@@ -191,7 +247,7 @@ fn what_is_left_is_in_order(rt: HostRuntime) -> Result<(), Fail> {
         (2, 6),
         (2, 5),
     ] {
-        assert_eq!(rt; refused(queue.push(&rt, &mut pass, item(key, node))), None);
+        assert!(rt; takes(&rt, &queue, &mut pass, item(key, node)));
     }
     let want = [
         item(0, 4),
@@ -202,8 +258,7 @@ fn what_is_left_is_in_order(rt: HostRuntime) -> Result<(), Fail> {
         item(9, 1),
         item(u64::MAX, 3),
     ];
-    let items = closed(queue, vec![in rt.alloc(); pass]?)?;
-    assert_eq!(rt; items.as_slice(), want.as_slice());
+    assert!(rt; is_left(rt.alloc(), queue, pass, &want)?);
     Ok(())
 }
 
@@ -229,6 +284,43 @@ fn push_and_pop<R: Wait>(
     Ok(popped)
 }
 
+/// Whether what was popped is what the pass has taken.
+fn has_taken(pass: &Pass, popped: Result<Vec<Item>, AllocError>) -> Result<bool, AllocError> {
+    let popped = popped?;
+    Ok(pass.taken() == popped.as_slice())
+}
+
+/// What both passes have taken.
+fn taken(alloc: Global, first: &Pass, second: &Pass) -> Result<Vec<Item>, AllocError> {
+    let mut all = first.taken().to_vec(alloc)?;
+    all.extend_from_slice(second.taken())?;
+    Ok(all)
+}
+
+/// Whether a list has the items that both threads push, each once.
+fn are_those_put(alloc: Global, all: &mut Vec<Item>) -> Result<bool, AllocError> {
+    all.as_mut_slice().sort_unstable();
+    let mut put = Vec::new(alloc);
+    for key in 0..1000u64 {
+        put.push(item(key, 0))?;
+        put.push(item(key, 1))?;
+    }
+    Ok(all.as_slice() == put.as_slice())
+}
+
+/// Whether what was taken and what is left is what was put.
+fn is_nothing_lost(
+    alloc: Global,
+    queue: MultiQueue,
+    first: Pass,
+    second: Pass,
+) -> Result<bool, Fail> {
+    let mut all = taken(alloc, &first, &second)?;
+    let items = closed(queue, vec![in alloc; second, first]?)?;
+    all.extend_from_slice(items.as_slice())?;
+    Ok(are_those_put(alloc, &mut all)?)
+}
+
 #[test]
 fn two_threads_lose_nothing(rt: HostRuntime) -> Result<(), Fail> {
     let alloc = rt.alloc();
@@ -239,19 +331,9 @@ fn two_threads_lose_nothing(rt: HostRuntime) -> Result<(), Fail> {
         || push_and_pop(&rt, alloc, &queue, &mut first, 0),
         || push_and_pop(&rt, alloc, &queue, &mut second, 1),
     );
-    let mut all = by_first?;
-    assert_eq!(rt; first.taken(), all.as_slice());
-    all.extend_from_slice(by_second?.as_slice())?;
-    assert_eq!(rt; (first.put().len(), second.put().len()), (1000, 1000));
-    let items = closed(queue, vec![in alloc; second, first]?)?;
-    all.extend_from_slice(items.as_slice())?;
-    all.as_mut_slice().sort_unstable();
-    let mut put = Vec::new(alloc);
-    for key in 0..1000u64 {
-        put.push(item(key, 0))?;
-        put.push(item(key, 1))?;
-    }
-    assert_eq!(rt; all.as_slice(), put.as_slice());
+    assert!(rt; has_taken(&first, by_first)? & has_taken(&second, by_second)?);
+    assert!(rt; first.put().len() == 1000 && second.put().len() == 1000);
+    assert!(rt; is_nothing_lost(alloc, queue, first, second)?);
     Ok(())
 }
 
@@ -269,12 +351,20 @@ fn mixed(queue: MultiQueue, passes: Vec<Pass>) -> Result<(MultiQueue, Vec<Pass>)
 fn accounts_of_another_queue_are_mixed(rt: HostRuntime) -> Result<(), Fail> {
     let alloc = rt.alloc();
     let (queue, mut pass) = MultiQueue::new(alloc, 2, 1)?;
+    assert!(rt; takes(&rt, &queue, &mut pass, item(5, 7)));
     let (_other, stranger) = MultiQueue::new(alloc, 2, 1)?;
-    assert_eq!(rt; refused(queue.push(&rt, &mut pass, item(5, 7))), None);
     let (queue, _passes) = mixed(queue, vec![in alloc; stranger]?)?;
-    let items = closed(queue, vec![in alloc; pass]?)?;
-    assert_eq!(rt; items.as_slice(), [item(5, 7)].as_slice());
+    assert!(rt; is_left(alloc, queue, pass, &[item(5, 7)])?);
     Ok(())
+}
+
+/// Whether the accounts of this pass don't agree with what is left, and it is handed back with what it has put.
+fn hands_back(alloc: Global, queue: MultiQueue, pass: Pass, put: &[Item]) -> Result<bool, Fail> {
+    let (_queue, passes) = mixed(queue, vec![in alloc; pass]?)?;
+    let Some(back) = passes.first() else {
+        return Ok(false);
+    };
+    Ok(back.put() == put)
 }
 
 #[test]
@@ -282,14 +372,11 @@ fn accounts_count_how_often(rt: HostRuntime) -> Result<(), Fail> {
     let alloc = rt.alloc();
     let (queue, mut pass) = MultiQueue::new(alloc, 1, 1)?;
     let (other, mut stranger) = MultiQueue::new(alloc, 1, 1)?;
-    for _ in 0..2 {
-        assert_eq!(rt; refused(queue.push(&rt, &mut pass, item(5, 7))), None);
-    }
-    assert_eq!(rt; refused(other.push(&rt, &mut stranger, item(5, 7))), None);
-    let (_queue, passes) = mixed(queue, vec![in alloc; stranger]?)?;
-    let (_other, _passes) = mixed(other, vec![in alloc; pass]?)?;
-    let back = passes.first().ok_or("a pass that is handed back")?;
-    assert_eq!(rt; back.put(), [item(5, 7)].as_slice());
+    let (once, twice) = ([item(5, 7)], [item(5, 7), item(5, 7)]);
+    assert!(rt; takes(&rt, &queue, &mut pass, once[0]) && takes(&rt, &queue, &mut pass, once[0]));
+    assert!(rt; takes(&rt, &other, &mut stranger, once[0]));
+    assert!(rt; hands_back(alloc, queue, stranger, &once)?);
+    assert!(rt; hands_back(alloc, other, pass, &twice)?);
     Ok(())
 }
 
@@ -301,8 +388,9 @@ fn errors_by_name_and_number(rt: HostRuntime) -> Result<(), Fail> {
         (CloseError::Mixed, 3, "Mixed"),
     ];
     for (error, number, name) in names {
-        assert_eq!(rt; error as u8, number);
-        assert_eq!(rt; format!(in rt.alloc(); "{error}")?.as_str(), name);
+        assert!(rt; error as u8 == number);
+        let said = format!(in rt.alloc(); "{error}")?;
+        assert!(rt; said.as_str() == name);
     }
     Ok(())
 }

@@ -112,6 +112,39 @@ fn item(key: u64, node: u32) -> Item {
     Item { key, node }
 }
 
+/// Puts the nodes from 0 to 5 in by each pass, each pass by a key of its own.
+fn put_twelve<R: Wait>(
+    rt: &R,
+    queue: &MultiQueue,
+    first: &mut Pass,
+    second: &mut Pass,
+) -> Result<(), AllocError> {
+    for node in 0..6u32 {
+        put(rt, queue, first, item(5, node))?;
+        put(rt, queue, second, item(4, node))?;
+    }
+    Ok(())
+}
+
+fn taken<R: Wait>(rt: &R, queue: &MultiQueue, pass: &mut Pass) -> Result<Option<Item>, AllocError> {
+    match queue.pop(rt, pass) {
+        Ok(taken) => Ok(taken),
+        Err(AllocError) => queue.pop(rt, pass),
+    }
+}
+
+/// Whether these are the twelve items that were put in.
+fn are_twelve(alloc: Global, items: &mut Vec<Item>) -> Result<bool, AllocError> {
+    items.as_mut_slice().sort_unstable();
+    let mut put = Vec::new(alloc);
+    for key in [4, 5] {
+        for node in 0..6u32 {
+            put.push(item(key, node))?;
+        }
+    }
+    Ok(items.as_slice() == put.as_slice())
+}
+
 #[test]
 fn queue(rt: HostRuntime) -> Result<(), Fail> {
     let alloc = rt.alloc();
@@ -120,26 +153,13 @@ fn queue(rt: HostRuntime) -> Result<(), Fail> {
         Err(AllocError) => MultiQueue::new(alloc, 2, 1)?,
     };
     let mut second = queue.pass()?;
-    for node in 0..6u32 {
-        put(&rt, &queue, &mut first, item(5, node))?;
-        put(&rt, &queue, &mut second, item(4, node))?;
-    }
-    let taken = match queue.pop(&rt, &mut first) {
-        Ok(taken) => taken,
-        Err(AllocError) => queue.pop(&rt, &mut first)?,
-    };
+    put_twelve(&rt, &queue, &mut first, &mut second)?;
+    let taken = taken(&rt, &queue, &mut first)?;
     let mut items = left(queue, vec![in alloc; first, second]?)?;
     assert!(rt; items.len() == 11);
     if let Some(taken) = taken {
         items.push(taken)?;
     }
-    items.as_mut_slice().sort_unstable();
-    let mut put = Vec::new(alloc);
-    for key in [4, 5] {
-        for node in 0..6u32 {
-            put.push(item(key, node))?;
-        }
-    }
-    assert!(rt; items.as_slice() == put.as_slice());
+    assert!(rt; are_twelve(alloc, &mut items)?);
     Ok(())
 }

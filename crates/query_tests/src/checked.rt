@@ -47,6 +47,17 @@ fn finds_each_link(hierarchy: &Hierarchy) -> bool {
         == Some(LinkId(place)))
 }
 
+/// Whether it has these links once it has an index, and finds each of them.
+fn is_indexed(
+    alloc: Global,
+    hierarchy: Hierarchy,
+    links: &[Given],
+) -> Result<bool, HierarchyError> {
+    let hierarchy = hierarchy.into_indexed(alloc)?;
+    let links = links_of(alloc, links)?;
+    Ok((hierarchy.links() == links.as_slice()) & finds_each_link(&hierarchy))
+}
+
 #[test]
 fn is_made_of_what_is_well_made(rt: HostRuntime) -> Result<(), Fail> {
     let cases: [(&[u32], &[Given], u64); 5] = [
@@ -60,9 +71,7 @@ fn is_made_of_what_is_well_made(rt: HostRuntime) -> Result<(), Fail> {
         let hierarchy = checked(rt.alloc(), ranks, links, bound)??;
         assert!(rt; hierarchy.nodes() as usize == ranks.len());
         assert!(rt; hierarchy.bound().length() == bound);
-        let hierarchy = hierarchy.into_indexed(rt.alloc())?;
-        assert!(rt; hierarchy.links() == links_of(rt.alloc(), links)?.as_slice());
-        assert!(rt; finds_each_link(&hierarchy));
+        assert!(rt; is_indexed(rt.alloc(), hierarchy, links)?);
     }
     Ok(())
 }
@@ -188,19 +197,35 @@ pub fn route(
     Some(unpack(alloc, hierarchy, from, &[link]))
 }
 
-/// One link stands for 2^36 arcs, and a route of 38 nodes has at most 37.
-#[test]
-fn unpacks_no_route_that_is_too_long(rt: HostRuntime) -> Result<(), Fail> {
-    let mut ranks = Vec::new(rt.alloc());
+/// Whether there is a route, and it goes along these nodes.
+pub fn is_route(route: Option<Result<Vec<u32>, UnpackError>>, nodes: &[u32]) -> bool {
+    match route {
+        Some(Ok(route)) => route.as_slice() == nodes,
+        _ => false,
+    }
+}
+
+/// Whether a route is refused, since it is too long.
+pub fn is_too_long(route: Option<Result<Vec<u32>, UnpackError>>) -> bool {
+    matches!(route, Some(Err(UnpackError::TooLong)))
+}
+
+/// The hierarchy of the cascade.
+fn hierarchy_of_38(alloc: Global) -> Result<Hierarchy, Fail> {
+    let mut ranks = Vec::new(alloc);
     for rank in 0..38u32 {
         ranks.push(rank)?;
     }
-    let links = cascade(rt.alloc())?;
-    let ranks = ranks.as_slice();
-    let hierarchy = checked(rt.alloc(), ranks, links.as_slice(), 158_913_789_915)??;
-    let short = route(rt.alloc(), &hierarchy, 2, 1).expect(&rt, "a link")?;
-    assert!(rt; short.as_slice() == [2u32, 0, 1].as_slice());
-    let long = route(rt.alloc(), &hierarchy, 37, 36).expect(&rt, "a link");
-    assert!(rt; long.err() == Some(UnpackError::TooLong));
+    let links = cascade(alloc)?;
+    let hierarchy = checked(alloc, ranks.as_slice(), links.as_slice(), 158_913_789_915)??;
+    Ok(hierarchy)
+}
+
+/// One link stands for 2^36 arcs, and a route of 38 nodes has at most 37.
+#[test]
+fn unpacks_no_route_that_is_too_long(rt: HostRuntime) -> Result<(), Fail> {
+    let hierarchy = hierarchy_of_38(rt.alloc())?;
+    assert!(rt; is_route(route(rt.alloc(), &hierarchy, 2, 1), &[2, 0, 1]));
+    assert!(rt; is_too_long(route(rt.alloc(), &hierarchy, 37, 36)));
     Ok(())
 }

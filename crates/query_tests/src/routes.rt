@@ -1,4 +1,4 @@
-use crate::checked::route;
+use crate::checked::{is_route, is_too_long, route};
 use ch_cost::Cost;
 use ch_graph::{Hierarchy, Link};
 use ch_unpack::{UnpackError, unpack};
@@ -56,12 +56,9 @@ fn route_and_back(
 fn there_and_back(rt: HostRuntime) -> Result<(), Fail> {
     let hierarchy = two_nodes(rt.alloc())?;
     assert!(rt; 1 < hierarchy.nodes());
-    let none = unpack(rt.alloc(), &hierarchy, 1, &[])?;
-    assert!(rt; none.as_slice() == [1u32].as_slice());
-    let there = route(rt.alloc(), &hierarchy, 0, 1).expect(&rt, "a link")?;
-    assert!(rt; there.as_slice() == [0u32, 1].as_slice());
-    let back = route_and_back(rt.alloc(), &hierarchy, 0, 1).expect(&rt, "two links");
-    assert!(rt; back.err() == Some(UnpackError::TooLong));
+    assert!(rt; is_route(Some(unpack(rt.alloc(), &hierarchy, 1, &[])), &[1]));
+    assert!(rt; is_route(route(rt.alloc(), &hierarchy, 0, 1), &[0, 1]));
+    assert!(rt; is_too_long(route_and_back(rt.alloc(), &hierarchy, 0, 1)));
     Ok(())
 }
 
@@ -69,8 +66,7 @@ fn there_and_back(rt: HostRuntime) -> Result<(), Fail> {
 fn by_way_of_a_middle(rt: HostRuntime) -> Result<(), Fail> {
     'hierarchies: for is_indexed in [false, true] {
         let hierarchy = three_nodes(rt.alloc(), is_indexed)?;
-        let nodes = route(rt.alloc(), &hierarchy, 1, 2).expect(&rt, "a link")?;
-        assert!(rt; nodes.as_slice() == [1u32, 0, 2].as_slice());
+        assert!(rt; is_route(route(rt.alloc(), &hierarchy, 1, 2), &[1, 0, 2]));
     }
     Ok(())
 }

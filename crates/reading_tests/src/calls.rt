@@ -1,7 +1,7 @@
 use crate::files::row;
 use grfile::{GrError, GrErrorKind, read_graph_within, read_queries_within};
 use hierfile::{HierError, WriteFault, read_within, write_within};
-use std::alloc::AllocError;
+use std::alloc::{AllocError, Global};
 use std::io::{self, ErrorKind, Read, Write};
 
 /// A reader and writer that is interrupted each time.
@@ -28,6 +28,14 @@ impl Write for Interrupted {
     }
 }
 
+/// Whether a hierarchy isn't written in three calls.
+fn is_not_written(alloc: Global, always: &mut Interrupted) -> Result<bool, AllocError> {
+    let Some(hierarchy) = row(alloc)? else {
+        return Ok(false);
+    };
+    Ok(write_within(&hierarchy, always, 3) == Err(WriteFault { written: 0 }))
+}
+
 #[test]
 fn interrupted_to_the_last_call(rt: HostRuntime) -> Result<(), AllocError> {
     let mut always = Interrupted { calls: 0 };
@@ -38,10 +46,7 @@ fn interrupted_to_the_last_call(rt: HostRuntime) -> Result<(), AllocError> {
     assert!(rt; read_graph_within(rt.alloc(), &mut always, 3).err() == Some(fault));
     assert!(rt; read_queries_within(rt.alloc(), &mut always, 2, 3).err() == Some(fault));
     assert!(rt; read_within(rt.alloc(), &mut always, 3).err() == Some(HierError::Read));
-    if let Some(hierarchy) = row(rt.alloc())? {
-        let written = write_within(&hierarchy, &mut always, 3);
-        assert!(rt; written == Err(WriteFault { written: 0 }));
-    }
+    assert!(rt; is_not_written(rt.alloc(), &mut always)?);
     assert!(rt; always.calls == 12);
     Ok(())
 }

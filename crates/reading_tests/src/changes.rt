@@ -86,7 +86,7 @@ fn some_bytes_changed(rt: HostRuntime) -> Result<(), AllocError> {
     for _ in 0..DRAWN {
         let mut changed = Vec::from_slice(rt.alloc(), file.as_slice())?;
         change(&mut draw, &mut changed);
-        assert!(rt; is_told(rt.alloc(), changed.as_slice()), "{changed:?}");
+        assert!(rt; is_told(rt.alloc(), changed.as_slice()));
     }
     Ok(())
 }

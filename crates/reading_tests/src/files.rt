@@ -237,9 +237,7 @@ fn distance(
     from: u32,
     to: u32,
 ) -> Result<Option<(u64, usize)>, AllocError> {
-    let bytes = bytes(alloc, words)?;
-    let mut rest = bytes.as_slice();
-    let Ok(hierarchy) = read(alloc, &mut rest) else {
+    let Some(hierarchy) = hierarchy_of(alloc, words)? else {
         return Ok(None);
     };
     if from.max(to) >= hierarchy.nodes() {
@@ -248,6 +246,13 @@ fn distance(
     let mut search = Search::new(alloc, &hierarchy)?;
     let found = search.distance(from, to)?;
     Ok(found.map(|found| (found.cost.length(), found.links.len())))
+}
+
+// The hierarchy of a file of these numbers, or none.
+fn hierarchy_of(alloc: Global, words: &[u32]) -> Result<Option<Hierarchy>, AllocError> {
+    let bytes = bytes(alloc, words)?;
+    let mut rest = bytes.as_slice();
+    Ok(read(alloc, &mut rest).ok())
 }
 
 #[test]
@@ -335,9 +340,19 @@ impl Write for Taker {
 }
 
 pub(crate) fn row(alloc: Global) -> Result<Option<Hierarchy>, AllocError> {
-    let bytes = bytes(alloc, &ROW)?;
-    let mut rest = bytes.as_slice();
-    Ok(read(alloc, &mut rest).ok())
+    hierarchy_of(alloc, &ROW)
+}
+
+// How the row is written in so many calls, if it is read.
+fn writes_row(
+    alloc: Global,
+    taker: &mut Taker,
+    limit: u64,
+) -> Result<Option<Result<(), WriteFault>>, AllocError> {
+    let Some(hierarchy) = row(alloc)? else {
+        return Ok(None);
+    };
+    Ok(Some(write_within(&hierarchy, taker, limit)))
 }
 
 #[test]
@@ -357,10 +372,7 @@ fn writes_in_pieces(rt: HostRuntime) -> Result<(), AllocError> {
             left,
             is_odd: false,
         };
-        let Some(hierarchy) = row(rt.alloc())? else {
-            continue;
-        };
-        assert!(rt; write_within(&hierarchy, &mut taker, limit) == expected);
+        assert!(rt; writes_row(rt.alloc(), &mut taker, limit)? == Some(expected));
         assert!(rt; Some(taker.taken.as_slice()) == bytes.as_slice().get(..count));
     }
     Ok(())

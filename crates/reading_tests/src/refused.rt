@@ -13,7 +13,6 @@ use ch_unpack::{UnpackError, unpack};
 use grfile::{GrError, GrErrorKind, GrReader, QueryReader, read_graph_within, read_queries_within};
 use hierfile::{HierError, read_within};
 use std::alloc::{AllocError, Global};
-use std::process::Abort;
 use std::test::Fail;
 
 /// More calls than any reader here gets.
@@ -234,13 +233,16 @@ fn hierarchy_of(alloc: Global, words: &[u32]) -> Result<Hierarchy, Fail> {
     Ok(read_within(alloc, &mut bytes.as_slice(), MANY)?)
 }
 
+/// Whether a search of the hierarchy is made.
+fn is_made(alloc: Global, hierarchy: &Hierarchy) -> bool {
+    Search::new(alloc, hierarchy).is_ok()
+}
+
 #[test]
 fn search(rt: HostRuntime) -> Result<(), Fail> {
     let alloc = rt.alloc();
     let hierarchy = hierarchy_of(alloc, FILES[0].0)?;
-    let first = Search::new(alloc, &hierarchy).is_ok();
-    let second = Search::new(alloc, &hierarchy).is_ok();
-    assert!(rt; first || second);
+    assert!(rt; is_made(alloc, &hierarchy) || is_made(alloc, &hierarchy));
     Ok(())
 }
 
@@ -273,18 +275,34 @@ fn nodes_of(
     }
 }
 
-/// Asks for a walk from 1 to 2 of three nodes, and for none from 2 to 1.
-fn ask_three(rt: &impl Abort, alloc: Global, hierarchy: &Hierarchy) -> Result<(), Fail>
+/// Whether a walk from 1 to 2 of three nodes is found, and goes by way of 0.
+fn goes_round(alloc: Global, hierarchy: &Hierarchy, search: &mut Search) -> Result<bool, Fail>
+    requires same { search.old ≡ hierarchy.now }
+    requires three { length hierarchy.now.ranks ≡ 3 }
+    ensures kept { search.new ≡ search.old }
+{
+    let Some(walk) = found(search, 1, 2)? else {
+        return Ok(false);
+    };
+    let nodes = nodes_of(alloc, hierarchy, 1, &walk.links)?;
+    Ok((walk.cost.length() == 5) & (nodes.as_slice() == [1u32, 0, 2].as_slice()))
+}
+
+/// Whether no walk is found between two nodes.
+fn finds_none(search: &mut Search, source: u32, target: u32) -> Result<bool, AllocError>
+    requires source_in { source < length search.old.ranks }
+    requires target_in { target < length search.old.ranks }
+{
+    Ok(found(search, source, target)?.is_none())
+}
+
+/// Whether a walk is found from 1 to 2 of three nodes, and none from 2 to 1.
+fn goes_one_way(alloc: Global, hierarchy: &Hierarchy) -> Result<bool, Fail>
     requires three { length hierarchy.now.ranks ≡ 3 }
 {
     let mut search = Search::new(alloc, hierarchy)?;
-    let walk = found(&mut search, 1, 2)?.expect(rt, "a walk");
-    assert!(rt; walk.cost.length() == 5);
-    let nodes = nodes_of(alloc, hierarchy, 1, &walk.links)?;
-    assert!(rt; nodes.as_slice() == [1u32, 0, 2].as_slice());
-    let none = found(&mut search, 2, 1)?;
-    assert!(rt; none.is_none());
-    Ok(())
+    let goes_round = goes_round(alloc, hierarchy, &mut search)?;
+    Ok(goes_round & finds_none(&mut search, 2, 1)?)
 }
 
 #[test]
@@ -294,18 +312,31 @@ fn query_and_route(rt: HostRuntime) -> Result<(), Fail> {
     if hierarchy.nodes() != 3 {
         return Err(Fail::new("there are three nodes"));
     }
-    ask_three(&rt, alloc, &hierarchy)
+    assert!(rt; goes_one_way(alloc, &hierarchy)?);
+    Ok(())
 }
 
-/// Asks for the way between the last two of 38 nodes, which has too many arcs.
-fn ask_cascade(rt: &impl Abort, alloc: Global, hierarchy: &Hierarchy) -> Result<(), Fail>
+/// Whether a walk between the last two of 38 nodes is found, and has too many arcs for a route.
+fn is_too_long(
+    alloc: Global,
+    hierarchy: &Hierarchy,
+    search: &mut Search,
+) -> Result<bool, AllocError>
+    requires same { search.old ≡ hierarchy.now }
+    requires all { length hierarchy.now.ranks ≡ 38 }
+{
+    let Some(walk) = found(search, 37, 36)? else {
+        return Ok(false);
+    };
+    Ok(nodes_of(alloc, hierarchy, 37, &walk.links).err() == Some(UnpackError::TooLong))
+}
+
+/// The same, by a search of its own.
+fn goes_too_far(alloc: Global, hierarchy: &Hierarchy) -> Result<bool, AllocError>
     requires all { length hierarchy.now.ranks ≡ 38 }
 {
     let mut search = Search::new(alloc, hierarchy)?;
-    let walk = found(&mut search, 37, 36)?.expect(rt, "a walk");
-    let refused = nodes_of(alloc, hierarchy, 37, &walk.links);
-    assert!(rt; refused.err() == Some(UnpackError::TooLong));
-    Ok(())
+    is_too_long(alloc, hierarchy, &mut search)
 }
 
 #[test]
@@ -316,5 +347,6 @@ fn too_long_a_route(rt: HostRuntime) -> Result<(), Fail> {
     if hierarchy.nodes() != 38 {
         return Err(Fail::new("there are 38 nodes"));
     }
-    ask_cascade(&rt, alloc, &hierarchy)
+    assert!(rt; goes_too_far(alloc, &hierarchy)?);
+    Ok(())
 }

@@ -7,7 +7,7 @@ ghost use Rattle.ch_rowbook.specs.Blanks.{name_of};
 use crate::kit::{Entries, are, are_sound, bound, is_sound, row};
 use ch_overlay::{Row, RowSource, SeeError, Seen};
 use ch_rowbook::{Blank, Book, Pen, Reader, open};
-use std::alloc::Global;
+use std::alloc::{AllocError, Global};
 use std::marker::Brand;
 use std::sync::{Arc, Wait};
 use std::test::Fail;
@@ -37,7 +37,7 @@ fn is_read_back<B: Book, R: Wait>(
     requires nodes { B.book.nodes ≡ 3 }
     requires bound { IsBound B.book.bound }
 {
-    let opening = reader.read(1)?;
+    let opening = reader.read(1)?.version;
     let mut other = reader.split()?;
     let limit = reader.bound();
     let later = row(alloc, LATER, &[])?;
@@ -45,23 +45,43 @@ fn is_read_back<B: Book, R: Wait>(
         return Ok(false);
     }
     let laid = pen.lay(rt, 1, later)?;
-    let before = reader.read(1)?;
     let version = laid.version();
+    let before = is_current(reader, opening, ROWS[1].0)?;
     pen.show(laid);
-    let after = other.read(1)?;
-    let again = reader.glance(1);
+    let after = is_current(&mut other, version, LATER)? & (reader.glance(1) == version);
+    Ok(before & (opening < version) & after & is_own(pen, version)?)
+}
+
+/// Whether a reader finds the row of node 1 of this version, which has these entries out of it alone.
+fn is_current<B: Book>(
+    reader: &mut Reader<B>,
+    version: u64,
+    out: Entries<'_>,
+) -> Result<bool, SeeError>
+    requires nodes { B.book.nodes ≡ 3 }
+{
+    let seen = reader.read(1)?;
+    Ok((seen.version == version) & shows(&seen, 1, out, &[]))
+}
+
+/// Whether the pen has the later row as the current one of node 1, of this version.
+fn is_own<B: Book>(pen: &Pen<B>, version: u64) -> Result<bool, AllocError>
+    requires nodes { B.book.nodes ≡ 3 }
+{
     let own = pen.see(1)?;
-    Ok(
-        shows(&opening, 1, ROWS[1].0, &[])
-            && shows(&before, 1, ROWS[1].0, &[])
-            && before.version == opening.version
-            && version > opening.version
-            && shows(&after, 1, LATER, &[])
-            && after.version == version
-            && again == version
-            && pen.version(1) == version
-            && shows(&own, 1, LATER, &[]),
-    )
+    Ok((pen.version(1) == version) & shows(&own, 1, LATER, &[]))
+}
+
+/// Whether the opening rows are read, and none besides.
+fn finds_opening<B: Book>(reader: &mut Reader<B>) -> Result<bool, SeeError> {
+    let mut holds = true;
+    for node in 0..3u32 {
+        let (out, inn) = ROWS[node as usize];
+        let seen = reader.read(node)?;
+        holds &= shows(&seen, node, out, inn);
+    }
+    holds &= matches!(reader.read(3), Err(SeeError::Unseen));
+    Ok(holds & matches!(reader.row_of(3), Err(SeeError::Unseen)))
 }
 
 /// Opens a book of three nodes, and reads and writes it.
@@ -78,16 +98,8 @@ fn is_read<B: Book, R: Wait>(
     requires bound { IsBound blank.bound }
 {
     let (mut pen, mut reader): (Pen<B>, Reader<B>) = open(rt, alloc, blank, rows)?;
-    let mut holds = true;
-    for node in 0..3u32 {
-        let (out, inn) = ROWS[node as usize];
-        let seen = reader.read(node)?;
-        holds &= shows(&seen, node, out, inn);
-    }
-    holds &= matches!(reader.read(3), Err(SeeError::Unseen));
-    holds &= matches!(reader.row_of(3), Err(SeeError::Unseen));
-    holds &= is_read_back(rt, alloc, &mut pen, &mut reader)?;
-    Ok(holds)
+    let holds = finds_opening(&mut reader)?;
+    Ok(holds & is_read_back(rt, alloc, &mut pen, &mut reader)?)
 }
 
 /// The opening rows.

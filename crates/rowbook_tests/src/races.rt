@@ -34,6 +34,9 @@ struct Written {
     weight: u32,
 }
 
+/// What a reader has read.
+type Read = Result<Vec<Seen>, SeeError>;
+
 /// How many readers have begun, and whether the pen has ended.
 #[derive(Drop)]
 struct Signals {
@@ -84,20 +87,37 @@ fn write_rows<B: Book, R: Wait>(
     }
     wait_for_readers(signals);
     for weight in NODES + 1..WEIGHTS {
-        let node = weight % NODES;
-        let row = weighted(alloc, node, weight)?;
-        if !is_sound(node, &row, limit) {
+        let Some(written) = write_row(rt, alloc, pen, limit, weight)? else {
             break;
-        }
-        let version = pen.write(rt, node, row)?;
-        log.push(Written {
-            node,
-            version,
-            weight,
-        })?;
+        };
+        log.push(written)?;
     }
     signals.ended.store(1, Ordering::SeqCst);
     Ok(log)
+}
+
+/// Writes the row of a weight, if it is one that can be relied on.
+fn write_row<B: Book, R: Wait>(
+    rt: &R,
+    alloc: Global,
+    pen: &mut Pen<B>,
+    limit: Cost,
+    weight: u32,
+) -> Result<Option<Written>, BookError>
+    requires nodes { B.book.nodes ≡ 3 }
+    requires bound { B.book.bound ≡ limit }
+{
+    let node = weight % NODES;
+    let row = weighted(alloc, node, weight)?;
+    if !is_sound(node, &row, limit) {
+        return Ok(None);
+    }
+    let version = pen.write(rt, node, row)?;
+    Ok(Some(Written {
+        node,
+        version,
+        weight,
+    }))
 }
 
 /// Reads all rows again and again until the pen has ended; what was read.
@@ -180,15 +200,36 @@ fn race<B: Book + Send + Sync, R: Threads + Wait + Sync>(
             )
         },
     );
-    let (log, by_first, by_second) = (written?, by_first?, by_second?);
     first.join(second);
-    let last = read_rows(alloc, &mut first, &signals)?;
-    Ok(
-        (log.len() == WEIGHTS as usize - 1)
-            & were_written(log.as_slice(), by_first.as_slice())
-            & were_written(log.as_slice(), by_second.as_slice())
-            & were_written_last(log.as_slice(), last.as_slice()),
-    )
+    let last = read_rows(alloc, &mut first, &signals);
+    Ok(match written {
+        Ok(log) => is_log(&log, by_first, by_second, last),
+        Err(_) => false,
+    })
+}
+
+/// Whether the log has a row of each weight, and the readers read its rows, at last those that were written last.
+fn is_log(log: &[Written], by_first: Read, by_second: Read, last: Read) -> bool {
+    (log.len() == WEIGHTS as usize - 1)
+        & was_read(log, by_first)
+        & was_read(log, by_second)
+        & was_read_last(log, last)
+}
+
+/// Whether all that was read was written.
+fn was_read(log: &[Written], read: Read) -> bool {
+    match read {
+        Ok(read) => were_written(log, &read),
+        Err(_) => false,
+    }
+}
+
+/// Whether all that was read are the rows that were written last.
+fn was_read_last(log: &[Written], read: Read) -> bool {
+    match read {
+        Ok(read) => were_written_last(log, &read),
+        Err(_) => false,
+    }
 }
 
 /// The opening rows, with the first weights.

@@ -92,26 +92,59 @@ fn is_kept<B: Book, R: Wait>(
     requires bound { IsBound limit }
 {
     let (mut pen, mut reader): (Pen<B>, Reader<B>) = open(rt, alloc, blank, rows)?;
-    let mut other = match reader.split() {
-        Ok(other) => other,
-        Err(AllocError) => reader.split()?,
-    };
-    let opening = read(&mut reader)?;
-    let version = laid(rt, alloc, &mut pen, limit)?.version();
-    let before = read(&mut reader)?;
+    is_written(rt, alloc, &mut pen, &mut reader, limit)
+}
+
+/// Whether the later row is read by another reader once it is written, and by this one not before.
+fn is_written<B: Book, R: Wait>(
+    rt: &R,
+    alloc: Global,
+    pen: &mut Pen<B>,
+    reader: &mut Reader<B>,
+    limit: Cost,
+) -> Result<bool, Fail>
+    requires nodes { B.book.nodes ≡ 3 }
+    requires limit { B.book.bound ≡ limit }
+{
+    let mut other = split(reader)?;
+    let (opening, version) = laid_in_vain(rt, alloc, pen, reader, limit)?;
     let mut last = version;
     'rows: for _ in 0..40 {
-        last = written(rt, alloc, &mut pen, limit)?;
+        last = written(rt, alloc, pen, limit)?;
     }
-    let after = read(&mut other)?;
-    Ok(
-        are(&opening.row.out, &[(0, 2)])
-            & (before.version == opening.version)
-            & are(&after.row.out, &[(2, 5)])
-            & (after.version == last)
-            & (opening.version < version)
-            & (version < last),
-    )
+    Ok((opening < version) & (version < last) & finds(&mut other, last, (2, 5))?)
+}
+
+fn split<B: Book>(reader: &mut Reader<B>) -> Result<Reader<B>, AllocError> {
+    match reader.split() {
+        Ok(other) => Ok(other),
+        Err(AllocError) => reader.split(),
+    }
+}
+
+/// Lays the later row, and doesn't show it. The version of the opening row, which is still read, and that of the later.
+fn laid_in_vain<B: Book, R: Wait>(
+    rt: &R,
+    alloc: Global,
+    pen: &mut Pen<B>,
+    reader: &mut Reader<B>,
+    limit: Cost,
+) -> Result<(u64, u64), Fail>
+    requires nodes { B.book.nodes ≡ 3 }
+    requires limit { B.book.bound ≡ limit }
+{
+    let opening = read(reader)?.version;
+    let version = laid(rt, alloc, pen, limit)?.version();
+    if !finds(reader, opening, (0, 2))? {
+        return Err(Fail::new("a row that isn't shown is read"));
+    }
+    Ok((opening, version))
+}
+
+/// Whether a reader finds the row of this version, whose one arc is this.
+fn finds<B: Book>(reader: &mut Reader<B>, version: u64, arc: (u32, u32)) -> Result<bool, SeeError> {
+    let seen = read(reader)?;
+    Ok((seen.version == version) & are(&seen.row.out, &[arc]))
 }
 
 /// The opening rows of three nodes: 1 leads to 0, and 0 to 2.

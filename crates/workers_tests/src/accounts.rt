@@ -68,7 +68,7 @@ const ACCOUNTS: [(u8, &[&[(u32, u32)]], bool); 10] = [
 #[test]
 fn receipts_account_for_a_log(rt: HostRuntime) -> Result<(), Fail> {
     for (nodes, lists, want) in ACCOUNTS {
-        assert_eq!(rt; account(rt.alloc(), nodes, lists)?, want);
+        assert!(rt; account(rt.alloc(), nodes, lists)? == want);
     }
     Ok(())
 }

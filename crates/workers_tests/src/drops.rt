@@ -216,8 +216,8 @@ fn one_worker_hears_of_the_log(rt: HostRuntime) -> Result<(), Fail> {
     let traces = Traces::new(alloc)?;
     let built = built_by_one(&rt, alloc, &traces)?;
     let told = traces.told(&rt, built.log.as_slice());
-    assert_eq!(rt; told, Some([3, 0, 0, 0, 0]));
-    assert_eq!(rt; traces.dropped.load(Ordering::SeqCst), 2);
+    assert!(rt; told == Some([3, 0, 0, 0, 0]));
+    assert!(rt; traces.dropped.load(Ordering::SeqCst) == 2);
     Ok(())
 }
 
@@ -254,7 +254,7 @@ fn five_workers_hear_of_the_log(rt: HostRuntime) -> Result<(), Fail> {
     let built = built_by(&rt, alloc, grid(alloc)?, options, &traces, &gate)??;
     assert!(rt; gate.was_met());
     assert!(rt; traces.told(&rt, built.log.as_slice()).is_some());
-    assert_eq!(rt; traces.dropped.load(Ordering::SeqCst), 5);
+    assert!(rt; traces.dropped.load(Ordering::SeqCst) == 5);
     Ok(())
 }
 
@@ -334,8 +334,8 @@ fn estimators_are_dropped(rt: HostRuntime) -> Result<(), Fail> {
         let traces = Traces::new(alloc)?;
         let options = Options { settle, ..TWO };
         let built = built_with_six(&rt, alloc, options, &traces)?;
-        assert_eq!(rt; built.err(), want);
-        assert_eq!(rt; traces.dropped.load(Ordering::SeqCst), 6);
+        assert!(rt; built.err() == want);
+        assert!(rt; traces.dropped.load(Ordering::SeqCst) == 6);
     }
     Ok(())
 }
@@ -347,6 +347,6 @@ fn estimators_are_dropped_on_any_answer(rt: HostRuntime) -> Result<(), Fail> {
     let traces = Traces::new(alloc)?;
     let built = built_with_six(&rt, alloc, TWO, &traces)?;
     assert!(rt; matches!(built, Ok(_) | Err(BuildError::OutOfMemory)));
-    assert_eq!(rt; traces.dropped.load(Ordering::SeqCst), 6);
+    assert!(rt; traces.dropped.load(Ordering::SeqCst) == 6);
     Ok(())
 }

@@ -104,6 +104,6 @@ const LIMITS: [(Options, usize, bool); 24] = [
 #[test]
 fn numbers_have_limits(rt: HostRuntime) {
     for (options, lists, want) in LIMITS {
-        assert_eq!(rt; options.are_bad(lists), want);
+        assert!(rt; options.are_bad(lists) == want);
     }
 }

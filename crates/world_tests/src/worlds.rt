@@ -44,10 +44,15 @@ const NO_SUCH: Option<Outcome> = Some(Outcome::NoSuch);
 
 const FORGOTTEN: Option<Outcome> = Some(Outcome::Forgotten);
 
-/// A contraction that is accepted.
-fn committed(node: u32, rank: u32) -> Option<Outcome> {
-    Some(Outcome::Committed(Receipt { node, rank }))
-}
+/// What is answered where node 0 is contracted first, and where a proposal then rests on an old row of node 2.
+const FIRST: Option<Outcome> = Some(Outcome::Committed(Receipt { node: 0, rank: 0 }));
+
+const STALE: CommitError = CommitError::Stale {
+    node: 2,
+    seen: 2,
+    now: 5,
+    front: 1,
+};
 
 /// The graph of these arcs.
 pub fn graph_of(alloc: Global, nodes: u32, lines: &[Line]) -> Result<Graph, Fail> {
@@ -166,56 +171,82 @@ fn plays(
     Ok(same & has_versions(&world, versions))
 }
 
-#[test]
-fn later_offer_is_stale(rt: HostRuntime) -> Result<(), Fail> {
-    let stale = CommitError::Stale {
-        node: 2,
-        seen: 2,
-        now: 5,
-        front: 1,
-    };
-    let script = [
-        (Act::Propose(1, 1), None),
-        (Act::Propose(0, 0), None),
-        (Act::Offer(0), committed(0, 0)),
-        (Act::Offer(1), Some(Outcome::Refused(stale))),
-    ];
-    assert!(rt; plays(rt.alloc(), 4, &TIE, &script, &TIE_LATER)?);
-    Ok(())
-}
+/// The nodes and arcs of a graph, what two workers do who have read its opening rows, and the versions then.
+type Play = (u32, &'static [Line], &'static [Step], &'static [u64]);
+
+const PLAYS: [Play; 5] = [
+    // The later offer is stale.
+    (
+        4,
+        &TIE,
+        &[
+            (Act::Propose(1, 1), None),
+            (Act::Propose(0, 0), None),
+            (Act::Offer(0), FIRST),
+            (Act::Offer(1), Some(Outcome::Refused(STALE))),
+        ],
+        &TIE_LATER,
+    ),
+    // Old rows are read.
+    (
+        4,
+        &TIE,
+        &[
+            (Act::Propose(0, 0), None),
+            (Act::Offer(0), FIRST),
+            (Act::Read(1, 2, 2), SHOWN),
+            (Act::Read(1, 2, 5), SHOWN),
+            (Act::Read(1, 2, 9), NO_SUCH),
+        ],
+        &TIE_LATER,
+    ),
+    // Forgotten rows are not offered.
+    (
+        4,
+        &TIE,
+        &[
+            (Act::Propose(1, 1), None),
+            (Act::Forget(1), FORGOTTEN),
+            (Act::Offer(1), NO_SUCH),
+        ],
+        &[0, 1, 2, 3],
+    ),
+    // What another has read is not offered.
+    (
+        4,
+        &TIE,
+        &[
+            (Act::Propose(0, 0), None),
+            (Act::Forget(1), FORGOTTEN),
+            (Act::Offer(1), NO_SUCH),
+        ],
+        &[0, 1, 2, 3],
+    ),
+    // Offers that share no row.
+    (
+        6,
+        &ROWS,
+        &[
+            (Act::Propose(1, 4), None),
+            (Act::Propose(0, 1), None),
+            (
+                Act::Offer(0),
+                Some(Outcome::Committed(Receipt { node: 1, rank: 0 })),
+            ),
+            (
+                Act::Offer(1),
+                Some(Outcome::Committed(Receipt { node: 4, rank: 1 })),
+            ),
+        ],
+        &[7, 6, 8, 10, 9, 11],
+    ),
+];
 
 #[test]
-fn old_rows_are_read(rt: HostRuntime) -> Result<(), Fail> {
-    let script = [
-        (Act::Propose(0, 0), None),
-        (Act::Offer(0), committed(0, 0)),
-        (Act::Read(1, 2, 2), SHOWN),
-        (Act::Read(1, 2, 5), SHOWN),
-        (Act::Read(1, 2, 9), NO_SUCH),
-    ];
-    assert!(rt; plays(rt.alloc(), 4, &TIE, &script, &TIE_LATER)?);
-    Ok(())
-}
-
-#[test]
-fn forgotten_rows_are_not_offered(rt: HostRuntime) -> Result<(), Fail> {
-    let script = [
-        (Act::Propose(1, 1), None),
-        (Act::Forget(1), FORGOTTEN),
-        (Act::Offer(1), NO_SUCH),
-    ];
-    assert!(rt; plays(rt.alloc(), 4, &TIE, &script, &[0, 1, 2, 3])?);
-    Ok(())
-}
-
-#[test]
-fn what_another_read_is_not_offered(rt: HostRuntime) -> Result<(), Fail> {
-    let script = [
-        (Act::Propose(0, 0), None),
-        (Act::Forget(1), FORGOTTEN),
-        (Act::Offer(1), NO_SUCH),
-    ];
-    assert!(rt; plays(rt.alloc(), 4, &TIE, &script, &[0, 1, 2, 3])?);
+fn what_two_workers_do(rt: HostRuntime) -> Result<(), Fail> {
+    for (nodes, lines, script, versions) in PLAYS {
+        assert!(rt; plays(rt.alloc(), nodes, lines, script, versions)?);
+    }
     Ok(())
 }
 
@@ -237,25 +268,20 @@ fn nothing_there(rt: HostRuntime) -> Result<(), Fail> {
     Ok(())
 }
 
-#[test]
-fn another_bound(rt: HostRuntime) -> Result<(), Fail> {
-    let alloc = rt.alloc();
-    let mut world = world_shown(alloc, 4, &TIE)?;
+/// What a worker proposes in a world of another bound.
+fn foreign(alloc: Global) -> Result<Vec<Proposal>, Fail> {
     let other = world_shown(alloc, 4, &TIE_AND_LOOP)?;
-    let foreign = vec![in alloc; proposal(alloc, &other, 0, 0)?]?;
-    assert!(rt; answers(alloc, &mut world, foreign, &[(Act::Offer(0), NO_SUCH)])?);
-    Ok(())
+    let mut foreign = Vec::new(alloc);
+    foreign.push(proposal(alloc, &other, 0, 0)?)?;
+    Ok(foreign)
 }
 
 #[test]
-fn offers_that_share_no_row(rt: HostRuntime) -> Result<(), Fail> {
-    let script = [
-        (Act::Propose(1, 4), None),
-        (Act::Propose(0, 1), None),
-        (Act::Offer(0), committed(1, 0)),
-        (Act::Offer(1), committed(4, 1)),
-    ];
-    assert!(rt; plays(rt.alloc(), 6, &ROWS, &script, &[7, 6, 8, 10, 9, 11])?);
+fn another_bound(rt: HostRuntime) -> Result<(), Fail> {
+    let alloc = rt.alloc();
+    let foreign = foreign(alloc)?;
+    let mut world = world_shown(alloc, 4, &TIE)?;
+    assert!(rt; answers(alloc, &mut world, foreign, &[(Act::Offer(0), NO_SUCH)])?);
     Ok(())
 }
 

@@ -159,6 +159,6 @@ fn estimators_for_bad_options(rt: HostRuntime) -> Result<(), Fail> {
     let bad = Options { settle: 0, ..TWO };
     let (end, are_dropped) = end_of(&rt, rt.alloc(), bad)?;
     assert!(rt; are_dropped);
-    assert_eq!(rt; end, Err(BuildError::BadOptions));
+    assert!(rt; end == Err(BuildError::BadOptions));
     Ok(())
 }
