@@ -19,7 +19,7 @@ use ch_witness::{Aim, Rows, Rule, Way};
 use std::alloc::{AllocError, Global};
 
 /// What the pairs of a proposal have in common.
-#[derive(Clone, Copy, Debug)]
+#[derive(Clone, Copy)]
 pub struct Task {
     /// The node that it would contract.
     pub node: u32,

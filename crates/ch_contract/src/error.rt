@@ -66,10 +66,10 @@ impl fmt::Display for SweepError {
     ghost output = { λ e. Some (sweep_error_name e) };
 
     fn fmt<W: fmt::Write>(&self, f: &mut fmt::Formatter<W>) -> fmt::Result {
-        match self {
-            SweepError::OutOfMemory => write!(f, "OutOfMemory"),
-            SweepError::Slot => write!(f, "Slot"),
-        }
+        f.write_str(match self {
+            SweepError::OutOfMemory => "OutOfMemory",
+            SweepError::Slot => "Slot",
+        })
     }
 }
 
@@ -77,10 +77,10 @@ impl fmt::Display for FinishError {
     ghost output = { λ e. Some (finish_error_name e) };
 
     fn fmt<W: fmt::Write>(&self, f: &mut fmt::Formatter<W>) -> fmt::Result {
-        match self {
-            FinishError::OutOfMemory => write!(f, "OutOfMemory"),
-            FinishError::NodesLeft => write!(f, "NodesLeft"),
-        }
+        f.write_str(match self {
+            FinishError::OutOfMemory => "OutOfMemory",
+            FinishError::NodesLeft => "NodesLeft",
+        })
     }
 }
 
@@ -88,11 +88,11 @@ impl fmt::Display for ProposeError {
     ghost output = { λ e. Some (propose_error_name e) };
 
     fn fmt<W: fmt::Write>(&self, f: &mut fmt::Formatter<W>) -> fmt::Result {
-        match self {
-            ProposeError::OutOfMemory => write!(f, "OutOfMemory"),
-            ProposeError::Unseen => write!(f, "Unseen"),
-            ProposeError::Contracted => write!(f, "Contracted"),
-        }
+        f.write_str(match self {
+            ProposeError::OutOfMemory => "OutOfMemory",
+            ProposeError::Unseen => "Unseen",
+            ProposeError::Contracted => "Contracted",
+        })
     }
 }
 
@@ -102,12 +102,12 @@ impl fmt::Display for CommitError {
     ghost output = { λ e. Some (commit_error_name e) };
 
     fn fmt<W: fmt::Write>(&self, f: &mut fmt::Formatter<W>) -> fmt::Result {
-        match self {
-            CommitError::Contracted => write!(f, "Contracted"),
-            CommitError::Stale { .. } => write!(f, "Stale"),
-            CommitError::OutOfMemory => write!(f, "OutOfMemory"),
-            CommitError::Slot => write!(f, "Slot"),
-        }
+        f.write_str(match self {
+            CommitError::Contracted => "Contracted",
+            CommitError::Stale { .. } => "Stale",
+            CommitError::OutOfMemory => "OutOfMemory",
+            CommitError::Slot => "Slot",
+        })
     }
 }
 

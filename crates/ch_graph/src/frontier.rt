@@ -33,7 +33,7 @@ impl Model for Frontier {
 }
 
 /// A node that was settled, and the cost of the least walk to it.
-#[derive(Clone, Copy, Debug)]
+#[derive(Clone, Copy)]
 pub struct Reached {
     /// The node, numbered from 0.
     pub node: u32,

@@ -123,32 +123,3 @@ fn short(id: LinkId) -> Option<u32>
     }
     Some(id.0 as u32)
 }
-
-#[cfg(test)]
-mod tests {
-    use super::*;
-
-    fn of(halves: &LinkHalves, place: usize) -> Option<Parts> {
-        let id = LinkId(place);
-        let kept = halves.get(id)?;
-        Some(kept.parts(id))
-    }
-
-    #[test]
-    fn keeps_places_in_turn(rt: HostRuntime) -> Result<(), AllocError> {
-        let arc = Parts::Arc(7);
-        let shortcut = Parts::Shortcut(LinkId(2), LinkId(0));
-        let mut halves = LinkHalves::with_room(rt.alloc(), 3)?;
-        assert!(rt; of(&halves, 0).is_none());
-        halves.keep(LinkId(0), arc)?;
-        halves.keep(LinkId(2), arc)?;
-        halves.keep(LinkId(1), shortcut)?;
-        halves.keep(LinkId(2), Parts::Shortcut(LinkId(0), LinkId(1 << 32)))?;
-        halves.keep(LinkId(3), arc)?;
-        assert!(rt; of(&halves, 0) == Some(arc));
-        assert!(rt; of(&halves, 1) == Some(shortcut));
-        assert!(rt; of(&halves, 2).is_none());
-        assert!(rt; of(&halves, 3).is_none());
-        Ok(())
-    }
-}

@@ -4,7 +4,7 @@ ghost use Rattle.ch_graph.specs.Marks.{Improves};
 use ch_cost::Cost;
 
 /// What a search knows of a node.
-#[derive(Clone, Copy, Debug)]
+#[derive(Clone, Copy)]
 pub enum Mark {
     /// No walk to it was found yet.
     Unseen,

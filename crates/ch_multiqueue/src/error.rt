@@ -19,11 +19,11 @@ impl fmt::Display for CloseError {
     ghost output = { λ e. Some (error_name e) };
 
     fn fmt<W: fmt::Write>(&self, f: &mut fmt::Formatter<W>) -> fmt::Result {
-        match self {
-            CloseError::OutOfMemory => write!(f, "OutOfMemory"),
-            CloseError::PassMissing => write!(f, "PassMissing"),
-            CloseError::Mixed => write!(f, "Mixed"),
-        }
+        f.write_str(match self {
+            CloseError::OutOfMemory => "OutOfMemory",
+            CloseError::PassMissing => "PassMissing",
+            CloseError::Mixed => "Mixed",
+        })
     }
 }
 

@@ -36,10 +36,10 @@ impl fmt::Display for SeeError {
     ghost output = { λ e. Some (error_name e) };
 
     fn fmt<W: fmt::Write>(&self, f: &mut fmt::Formatter<W>) -> fmt::Result {
-        match self {
-            SeeError::OutOfMemory => write!(f, "OutOfMemory"),
-            SeeError::Unseen => write!(f, "Unseen"),
-        }
+        f.write_str(match self {
+            SeeError::OutOfMemory => "OutOfMemory",
+            SeeError::Unseen => "Unseen",
+        })
     }
 }
 

@@ -19,10 +19,10 @@ impl fmt::Display for BookError {
     ghost output = { λ e. Some (error_name e) };
 
     fn fmt<W: fmt::Write>(&self, f: &mut fmt::Formatter<W>) -> fmt::Result {
-        match self {
-            BookError::OutOfMemory => write!(f, "OutOfMemory"),
-            BookError::Slot => write!(f, "Slot"),
-        }
+        f.write_str(match self {
+            BookError::OutOfMemory => "OutOfMemory",
+            BookError::Slot => "Slot",
+        })
     }
 }
 

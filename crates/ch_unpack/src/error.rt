@@ -19,10 +19,10 @@ impl fmt::Display for UnpackError {
     ghost output = { λ e. Some (error_name e) };
 
     fn fmt<W: fmt::Write>(&self, f: &mut fmt::Formatter<W>) -> fmt::Result {
-        match self {
-            UnpackError::OutOfMemory => write!(f, "OutOfMemory"),
-            UnpackError::TooLong => write!(f, "TooLong"),
-        }
+        f.write_str(match self {
+            UnpackError::OutOfMemory => "OutOfMemory",
+            UnpackError::TooLong => "TooLong",
+        })
     }
 }
 

@@ -21,10 +21,10 @@ impl fmt::Display for SearchError {
     ghost output = { λ e. Some (error_name e) };
 
     fn fmt<W: fmt::Write>(&self, f: &mut fmt::Formatter<W>) -> fmt::Result {
-        match self {
-            SearchError::OutOfMemory => write!(f, "OutOfMemory"),
-            SearchError::Unseen => write!(f, "Unseen"),
-        }
+        f.write_str(match self {
+            SearchError::OutOfMemory => "OutOfMemory",
+            SearchError::Unseen => "Unseen",
+        })
     }
 }
 

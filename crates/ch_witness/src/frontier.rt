@@ -23,7 +23,7 @@ pub struct Frontier {
 }
 
 /// A node that was settled, and the way to it.
-#[derive(Clone, Copy, Debug)]
+#[derive(Clone, Copy)]
 pub struct Reached {
     pub node: u32,
     pub cost: Cost,

@@ -4,7 +4,7 @@ ghost use Rattle.ch_cost.specs.Cost.{◌≺◌};
 use ch_cost::Cost;
 
 /// What a search knows of a node that it has come to.
-#[derive(Clone, Copy, Debug)]
+#[derive(Clone, Copy)]
 pub struct Label {
     /// What the best way to it costs, so far.
     pub cost: Cost,

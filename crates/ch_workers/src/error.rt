@@ -19,11 +19,11 @@ impl fmt::Display for BuildError {
     ghost output = { λ e. Some (error_name e) };
 
     fn fmt<W: fmt::Write>(&self, f: &mut fmt::Formatter<W>) -> fmt::Result {
-        match self {
-            BuildError::OutOfMemory => write!(f, "OutOfMemory"),
-            BuildError::BadOptions => write!(f, "BadOptions"),
-            BuildError::Mixed => write!(f, "Mixed"),
-        }
+        f.write_str(match self {
+            BuildError::OutOfMemory => "OutOfMemory",
+            BuildError::BadOptions => "BadOptions",
+            BuildError::Mixed => "Mixed",
+        })
     }
 }
 

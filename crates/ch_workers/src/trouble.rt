@@ -10,7 +10,7 @@ use ch_rowbook::BookError;
 use std::alloc::AllocError;
 
 /// Why a hierarchy wasn't built by good options.
-#[derive(Clone, Copy, Debug)]
+#[derive(Clone, Copy)]
 pub(crate) enum Trouble {
     /// A growth was refused.
     OutOfMemory,

@@ -2,11 +2,12 @@ ghost use Rattle.std.specs.Prelude.{◌≡◌};
 ghost use Rattle.ch_graph.specs.Graph.{bound_of};
 ghost use Rattle.ch_rowbook.specs.Blanks.{name_of};
 
-use crate::networks::{HEAVY, Line, MOST, PARALLEL, ROW, TIE, blank_of, graph_of};
+use crate::networks::{HEAVY, Line, MOST, PARALLEL, ROW, TIE, graph_of, with_blank};
 use crate::proposals::{are_of, are_shortcuts};
 use crate::shelf::Arcs;
 use ch_contract::{
-    Board, CommitError, Contraction, FinishError, ProposeError, Receipt, Site, SweepError, propose,
+    Board, CommitError, Contraction, FinishError, Proposal, ProposeError, Receipt, Site,
+    SweepError, propose,
 };
 use ch_cost::Cost;
 use ch_graph::{Graph, Hierarchy, Link, Road};
@@ -39,10 +40,8 @@ struct Case {
     /// The proposals of a turn are worked out by the rows as they are, and then offered one by one. The sweep goes on
     /// from there.
     turns: &'static [&'static [Offer]],
-    /// Each node with each of its neighbours, as the log has them.
-    neighbours: &'static [(u32, u32)],
-    /// By rising node how many shortcuts were put in.
-    shortcuts: &'static [u64],
+    /// By rising node its neighbours, as the log has them, and how many shortcuts were put in.
+    log: &'static [(&'static [u32], u64)],
     links: &'static [Linked],
     /// What so many arcs of this weight cost.
     bound: (u32, u32),
@@ -52,8 +51,7 @@ const ROW_OF_THREE: Case = Case {
     nodes: 3,
     lines: &ROW,
     turns: &[],
-    neighbours: &[(0, 1), (0, 2), (1, 2)],
-    shortcuts: &[1, 0, 0],
+    log: &[(&[1, 2], 1), (&[2], 0), (&[], 0)],
     links: &[
         (0, 2, 1, 3, None),
         (1, 0, 1, 2, None),
@@ -66,8 +64,7 @@ const TIE_OF_FOUR: Case = Case {
     nodes: 4,
     lines: &TIE,
     turns: &[],
-    neighbours: &[(0, 2), (0, 3), (1, 2), (1, 3), (2, 3)],
-    shortcuts: &[0, 1, 0, 0],
+    log: &[(&[2, 3], 0), (&[2, 3], 1), (&[3], 0), (&[], 0)],
     links: &[
         (0, 3, 1, 1, None),
         (1, 3, 1, 1, None),
@@ -82,8 +79,7 @@ const HEAVIEST_WEIGHTS: Case = Case {
     nodes: 4,
     lines: &HEAVY,
     turns: &[],
-    neighbours: &[(0, 1), (0, 2), (0, 3), (1, 2), (1, 3), (2, 3)],
-    shortcuts: &[3, 0, 0, 0],
+    log: &[(&[1, 2, 3], 3), (&[2, 3], 0), (&[3], 0), (&[], 0)],
     links: &[
         (0, 1, 1, MOST, None),
         (0, 3, 1, MOST, None),
@@ -164,8 +160,7 @@ const CASES: [Case; 8] = [
         nodes: 2,
         lines: &PARALLEL,
         turns: &[],
-        neighbours: &[(0, 1)],
-        shortcuts: &[0, 0],
+        log: &[(&[1], 0), (&[], 0)],
         links: &[(0, 1, 1, 4, None)],
         bound: (1, 12),
     },
@@ -174,8 +169,7 @@ const CASES: [Case; 8] = [
         nodes: 0,
         lines: &[],
         turns: &[],
-        neighbours: &[],
-        shortcuts: &[],
+        log: &[],
         links: &[],
         bound: (0, 0),
     },
@@ -187,7 +181,7 @@ fn comes_to<S: Site, R: Wait>(
     alloc: Global,
     blank: Blank,
     graph: Graph,
-    case: Case,
+    case: &Case,
 ) -> Result<bool, Fail>
     requires of_graph { S.graph ≡ graph }
     requires of_book { S.book ≡ name_of blank }
@@ -196,10 +190,20 @@ fn comes_to<S: Site, R: Wait>(
 {
     let (mut board, _): (Board<S>, Reader<S>) = Board::new(rt, alloc, blank, graph)?;
     let holds = takes_turns(rt, alloc, &mut board, case)?;
+    Ok(holds & is_finished(board, case)?)
+}
+
+/// The hierarchy of a board, which is lost where it has none.
+pub fn finished<S: Site>(board: Board<S>) -> Result<Hierarchy, FinishError> {
     match board.into_hierarchy() {
-        Ok(hierarchy) => Ok(holds & is_hierarchy(&hierarchy, case)),
-        Err((_, error)) => Err(Fail::from(error)),
+        Ok(hierarchy) => Ok(hierarchy),
+        Err((_, error)) => Err(error),
     }
+}
+
+/// Whether a board comes to the hierarchy of the case.
+fn is_finished<S: Site>(board: Board<S>, case: &Case) -> Result<bool, FinishError> {
+    Ok(is_hierarchy(&finished(board)?, case))
 }
 
 /// Whether the board answers the offers of each turn, and the sweep then contracts what is left.
@@ -207,11 +211,11 @@ fn takes_turns<S: Site, R: Wait>(
     rt: &R,
     alloc: Global,
     board: &mut Board<S>,
-    case: Case,
-) -> Result<bool, Fail> {
+    case: &Case,
+) -> Result<bool, SweepError> {
     let mut holds = true;
     for offers in case.turns {
-        holds &= answers(rt, alloc, board, offers)?;
+        holds &= answers(rt, alloc, board, offers);
     }
     Ok(holds & is_swept(rt, alloc, board, case)?)
 }
@@ -221,7 +225,7 @@ fn is_swept<S: Site, R: Wait>(
     rt: &R,
     alloc: Global,
     board: &mut Board<S>,
-    case: Case,
+    case: &Case,
 ) -> Result<bool, SweepError> {
     let contracted = board.log().len() as u32;
     let mut holds = refuses(alloc, board, case.nodes, ProposeError::Unseen);
@@ -229,7 +233,7 @@ fn is_swept<S: Site, R: Wait>(
         holds &= refuses(alloc, board, node, ProposeError::Contracted);
     }
     let receipts = board.sweep(rt, SETTLE)?;
-    Ok(holds & in_order(&receipts, contracted) & is_log(board.log(), case))
+    Ok(holds & in_order(&receipts, contracted) & is_log(board.log(), case.log))
 }
 
 /// Whether the proposals by the rows as they are, and then the board's answers to them, are as expected.
@@ -240,16 +244,20 @@ fn answers<S: Site, R: Wait>(
     alloc: Global,
     board: &mut Board<S>,
     offers: &[Offer],
-) -> Result<bool, Fail> {
-    let Some(((node, rows, shortcuts, answer), before)) = offers.split_last() else {
-        return Ok(true);
+) -> bool {
+    let Some((offer, before)) = offers.split_last() else {
+        return true;
     };
-    let proposal = propose(alloc, board, *node, SETTLE)?;
-    let mut holds = answers(rt, alloc, board, before)?;
-    holds &= are_of(proposal.rests_on(), rows);
-    holds &= are_shortcuts(proposal.shortcuts(), shortcuts);
-    holds &= board.commit(rt, proposal) == *answer;
-    Ok(holds)
+    let Ok(proposal) = propose(alloc, board, offer.0, SETTLE) else {
+        return false;
+    };
+    let holds = answers(rt, alloc, board, before) & is_offer(&proposal, offer);
+    holds & (board.commit(rt, proposal) == offer.3)
+}
+
+/// Whether a proposal rests on the rows of the offer, and has its shortcuts.
+fn is_offer(proposal: &Proposal, (_, rows, shortcuts, _): &Offer) -> bool {
+    are_of(proposal.rests_on(), rows) & are_shortcuts(proposal.shortcuts(), shortcuts)
 }
 
 /// Whether a node isn't proposed, for this reason.
@@ -262,23 +270,26 @@ fn in_order(receipts: &[Receipt], first: u32) -> bool {
     (first..).zip(receipts).all(|(node, receipt)| (receipt.node == node) & (receipt.rank == node))
 }
 
-/// Whether the log has an entry for each node, by its number, as the case has it.
-fn is_log(entries: &[Contraction], case: Case) -> bool {
-    let mut holds = entries.len() == case.shortcuts.len();
-    for (node, (entry, shortcuts)) in (0u32..).zip(entries.iter().zip(case.shortcuts)) {
-        holds &= (entry.node == node) & (entry.rank == node) & (entry.shortcuts == *shortcuts);
-        holds &= has_neighbours(node, &entry.neighbours, case.neighbours);
-    }
-    holds
+/// Whether the log has an entry for each node, by its number, with these neighbours and so many shortcuts.
+fn is_log(entries: &[Contraction], expected: &[(&[u32], u64)]) -> bool {
+    are_numbered(entries) & are_expected(entries, expected)
 }
 
-/// Whether the neighbours of a node are those of the pairs that begin with it, in this order.
-fn has_neighbours(node: u32, neighbours: &[u32], pairs: &[(u32, u32)]) -> bool {
-    let of_node = pairs.iter().filter(|(from, _)| *from == node);
-    of_node.map(|(_, neighbour)| neighbour).eq(neighbours)
+/// Whether the entries are of the nodes from 0 on, each of the rank of its number.
+fn are_numbered(entries: &[Contraction]) -> bool {
+    (0u32..).zip(entries).all(|(node, entry)| (entry.node == node) & (entry.rank == node))
 }
 
-fn is_hierarchy(hierarchy: &Hierarchy, case: Case) -> bool {
+/// Whether the entries have these neighbours, and so many shortcuts.
+fn are_expected(entries: &[Contraction], expected: &[(&[u32], u64)]) -> bool {
+    entries.len() == expected.len()
+        && entries.iter().zip(expected).all(|(entry, (neighbours, shortcuts))| {
+            (entry.neighbours.as_slice() == *neighbours) & (entry.shortcuts == *shortcuts)
+        })
+}
+
+/// Whether the hierarchy is that of the case, in which each node has the rank of its number.
+fn is_hierarchy(hierarchy: &Hierarchy, case: &Case) -> bool {
     let (count, heaviest) = case.bound;
     (0..hierarchy.nodes()).all(|node| hierarchy.rank(node) == node)
         && hierarchy.nodes() == case.nodes
@@ -296,13 +307,16 @@ fn are_links(links: &[Link], expected: &[Linked]) -> bool {
         })
 }
 
+/// Whether a board of the case's graph comes to what the case says.
+fn comes_true<R: Wait>(rt: &R, alloc: Global, case: &Case) -> Result<bool, Fail> {
+    let (blank, graph) = with_blank(alloc, graph_of(alloc, case.nodes, case.lines)?)?;
+    comes_to::<Brand, R>(rt, alloc, blank, graph, case)
+}
+
 #[test]
 fn boards_come_to_their_hierarchies(rt: HostRuntime) -> Result<(), Fail> {
-    let alloc = rt.alloc();
     for case in &CASES {
-        let graph = graph_of(alloc, case.nodes, case.lines)?;
-        let blank = blank_of(alloc, &graph)?;
-        assert!(rt; comes_to::<Brand, HostRuntime>(&rt, alloc, blank, graph, *case)?);
+        assert!(rt; comes_true(&rt, rt.alloc(), case)?);
     }
     Ok(())
 }
@@ -320,9 +334,14 @@ fn has_nodes_left<S: Site, R: Wait>(
     requires bound { blank.bound ≡ bound_of graph }
 {
     let (board, _): (Board<S>, Reader<S>) = Board::new(rt, alloc, blank, graph)?;
+    Ok(is_handed_back(board))
+}
+
+/// Whether a board of the row of three nodes is handed back, with no node contracted.
+fn is_handed_back<S: Site>(board: Board<S>) -> bool {
     match board.into_hierarchy() {
-        Ok(_) => Ok(false),
-        Err((back, error)) => Ok((error == FinishError::NodesLeft) & is_fresh(&back)),
+        Ok(_) => false,
+        Err((back, error)) => (error == FinishError::NodesLeft) & is_fresh(&back),
     }
 }
 
@@ -337,8 +356,7 @@ fn is_fresh<S: Site>(board: &Board<S>) -> bool {
 #[test]
 fn nodes_left(rt: HostRuntime) -> Result<(), Fail> {
     let alloc = rt.alloc();
-    let graph = graph_of(alloc, 3, &ROW)?;
-    let blank = blank_of(alloc, &graph)?;
+    let (blank, graph) = with_blank(alloc, graph_of(alloc, 3, &ROW)?)?;
     assert!(rt; has_nodes_left::<Brand, HostRuntime>(&rt, alloc, blank, graph)?);
     Ok(())
 }

@@ -1,6 +1,7 @@
-ghost use Rattle.std.specs.Prelude.{◌≡◌, IfOk};
+ghost use Rattle.std.specs.Prelude.{◌≡◌, IfOk, length};
 ghost use Rattle.ch_graph.specs.Graph.{bound_of};
 
+use ch_contract::Ledger;
 use ch_graph::{Graph, Road};
 use ch_rowbook::Blank;
 use std::alloc::{AllocError, Global};
@@ -38,10 +39,20 @@ pub fn graph_of(alloc: Global, nodes: u32, lines: &[Line]) -> Result<Graph, Fail
     Ok(graph)
 }
 
-/// A blank book for the rows of this graph.
-pub fn blank_of(alloc: Global, graph: &Graph) -> Result<Blank, AllocError>
-    ensures nodes { IfOk result (λ blank. blank.nodes ≡ graph.now.nodes) }
-    ensures bound { IfOk result (λ blank. blank.bound ≡ bound_of graph.now) }
+/// A blank book for the rows of this graph, and the graph.
+pub fn with_blank(alloc: Global, graph: Graph) -> Result<(Blank, Graph), AllocError>
+    ensures nodes { IfOk result (λ made. made.0.nodes ≡ made.1.nodes) }
+    ensures bound { IfOk result (λ made. made.0.bound ≡ bound_of made.1) }
 {
-    Blank::new(alloc, graph.nodes(), graph.bound())
+    let blank = Blank::new(alloc, graph.nodes(), graph.bound())?;
+    Ok((blank, graph))
+}
+
+/// A blank book for the rows of this ledger, and the ledger.
+pub fn with_book(alloc: Global, ledger: Ledger) -> Result<(Blank, Ledger), AllocError>
+    ensures nodes { IfOk result (λ made. made.0.nodes ≡ length made.1.overlay.rows) }
+    ensures bound { IfOk result (λ made. made.0.bound ≡ made.1.overlay.bound) }
+{
+    let blank = Blank::new(alloc, ledger.overlay().nodes(), ledger.overlay().bound())?;
+    Ok((blank, ledger))
 }

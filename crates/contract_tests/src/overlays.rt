@@ -3,7 +3,8 @@ ghost use Rattle.std.specs.Prelude.{◌≡◌, [], IfOk};
 use crate::networks::{Line, PARALLEL, ROW, graph_of};
 use ch_cost::Cost;
 use ch_overlay::{Entry, Middle, Overlay, Row};
-use std::alloc::Global;
+use std::alloc::{AllocError, Global};
+use std::sync::Arc;
 use std::test::Fail;
 
 /// The entries of a row: the other node of each, and its weight.
@@ -64,7 +65,7 @@ fn overlay_of(alloc: Global, nodes: u32, lines: &[Line]) -> Result<Overlay, Fail
 }
 
 /// Whether each node has its row, the version of its number, and no rank.
-fn begins(overlay: &Overlay, opening: Opening) -> bool {
+fn begins(overlay: &Overlay, opening: &Opening) -> bool {
     let (count, heaviest) = opening.bound;
     let nodes = overlay.nodes();
     let mut holds = overlay.bound() == Cost::of_arcs(count, heaviest) && overlay.alive() == nodes;
@@ -91,22 +92,34 @@ fn a_middle_is_a_node_or_none(rt: HostRuntime) -> Result<(), Fail> {
 
 #[test]
 fn opening_rows(rt: HostRuntime) -> Result<(), Fail> {
-    for opening in OPENINGS {
+    for opening in &OPENINGS {
         let overlay = overlay_of(rt.alloc(), opening.rows.len() as u32, opening.lines)?;
         assert!(rt; begins(&overlay, opening));
     }
     Ok(())
 }
 
+/// Whether the rows are the new ones.
+fn are_changed(rows: &[(u32, Arc<Row>)]) -> bool {
+    rows.len() == CHANGED.len()
+        && rows.iter().zip(&CHANGED).all(|((at, row), (node, out, inn, rank))| {
+            (at == node) & is_row(row, out, inn, *rank)
+        })
+}
+
+/// Whether the contraction of node 0 of three nodes without a shortcut brings the new rows.
+fn brings_new_rows(overlay: &Overlay) -> Result<bool, AllocError>
+    requires { overlay.now.order ≡ [] }
+{
+    if overlay.nodes() != 3 {
+        return Ok(false);
+    }
+    Ok(are_changed(overlay.plan(0, &[])?.rows()))
+}
+
 #[test]
 fn rows_without_a_shortcut(rt: HostRuntime) -> Result<(), Fail> {
     let overlay = overlay_of(rt.alloc(), 3, &DIRECT)?;
-    assert!(rt; overlay.nodes() == 3);
-    let change = overlay.plan(0, &[])?;
-    let rows = change.rows();
-    assert!(rt; rows.len() == CHANGED.len());
-    for ((at, row), (node, out, inn, rank)) in rows.iter().zip(CHANGED) {
-        assert!(rt; *at == node && is_row(row, out, inn, rank));
-    }
+    assert!(rt; brings_new_rows(&overlay)?);
     Ok(())
 }

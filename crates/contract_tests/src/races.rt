@@ -3,7 +3,7 @@ ghost use Rattle.std.specs.Prelude.{◌≡◌};
 ghost use Rattle.ch_graph.specs.Graph.{bound_of};
 ghost use Rattle.ch_rowbook.specs.Blanks.{name_of};
 
-use crate::networks::blank_of;
+use crate::networks::with_blank;
 use ch_contract::{Board, Scratch, Site, propose_with};
 use ch_graph::{Graph, Road};
 use ch_overlay::{Row, SeeError, Seen};
@@ -96,6 +96,11 @@ fn contract<S: Site, R: Wait>(
 ) -> Option<()> {
     let proposal = propose_with(alloc, reader, scratch, node, SETTLE).ok()?;
     board.commit_and_see(rt, proposal, reader).ok()?;
+    note_changes(log, board, node)
+}
+
+/// Puts the rows of the node that was contracted last, and of its neighbours, behind the others.
+fn note_changes<S: Site>(log: &mut Vec<Written>, board: &Board<S>, node: u32) -> Option<()> {
     note(log, board, node)?;
     let last = board.log().last()?;
     for neighbour in &last.neighbours {
@@ -142,6 +147,15 @@ fn contract_each<S: Site, R: Wait>(
     Some(())
 }
 
+/// Keeps a row whose version isn't the one that was last found.
+fn keep(seen: Seen, last: &mut u64, kept: &mut Vec<Seen>) -> Result<(), AllocError> {
+    if seen.version == *last {
+        return Ok(());
+    }
+    *last = seen.version;
+    Ok(kept.push(seen)?)
+}
+
 /// Reads all rows. Keeps those whose version isn't the one that was last found.
 fn read_once<S: Site>(
     reader: &mut Reader<S>,
@@ -149,11 +163,7 @@ fn read_once<S: Site>(
     kept: &mut Vec<Seen>,
 ) -> Result<(), SeeError> {
     for (node, last) in (0u32..).zip(found) {
-        let seen = reader.read(node)?;
-        if seen.version != *last {
-            *last = seen.version;
-            kept.push(seen)?;
-        }
+        keep(reader.read(node)?, last, kept)?;
     }
     Ok(())
 }
@@ -204,18 +214,17 @@ fn race<S: Site + Send + Sync, R: Threads + Wait + Sync>(
     requires bound { blank.bound ≡ bound_of graph }
 {
     let (mut board, mut own): (Board<S>, Reader<S>) = Board::new(rt, alloc, blank, graph)?;
-    let first = own.split()?;
-    Ok(race_against(rt, alloc, &mut board, &mut own, first)?)
+    race_against(rt, alloc, &mut board, &mut own)
 }
 
-/// The same, against this reader and another.
+/// The same, against two readers that are split off this one.
 fn race_against<S: Site + Send + Sync, R: Threads + Wait + Sync>(
     rt: &R,
     alloc: Global,
     board: &mut Board<S>,
     own: &mut Reader<S>,
-    first: Reader<S>,
-) -> Result<bool, AllocError> {
+) -> Result<bool, Fail> {
+    let first = own.split()?;
     let second = own.split()?;
     Ok(race_of_three(rt, alloc, board, own, first, second))
 }
@@ -233,7 +242,7 @@ fn race_of_three<S: Site + Send + Sync, R: Threads + Wait + Sync>(
         begun: AtomicU64::new(0),
         ended: AtomicU64::new(0),
     };
-    let (log, (by_first, by_second)) = thread::join(
+    let (log, read) = thread::join(
         rt,
         || {
             let log = contract_all(rt, alloc, board, own, &signals);
@@ -250,26 +259,34 @@ fn race_of_three<S: Site + Send + Sync, R: Threads + Wait + Sync>(
     );
     first.join(second);
     let last = read_rows(alloc, &mut first, &signals);
+    is_as_written(&log, &read, &last)
+}
+
+/// What a reader has read.
+type Read = Result<Vec<Seen>, SeeError>;
+
+/// Whether all nodes were contracted, and what two readers read meanwhile, and one of them at last, is what was written.
+fn is_as_written(log: &Option<Vec<Written>>, (first, second): &(Read, Read), last: &Read) -> bool {
     match log {
-        Some(log) => was_read(&log, by_first) & was_read(&log, by_second) & is_last(&log, last),
+        Some(log) => was_read(log, first) & was_read(log, second) & is_last(log, last),
         None => false,
     }
 }
 
 /// Whether each row that was read is the one that was written at its version.
-fn was_read(log: &[Written], read: Result<Vec<Seen>, SeeError>) -> bool {
+fn was_read(log: &[Written], read: &Read) -> bool {
     match read {
-        Ok(seen) => were_written(log, &seen),
+        Ok(seen) => were_written(log, seen),
         Err(_) => false,
     }
 }
 
 /// Whether each node was read once, when all were contracted, and its row is the one that was written at its version.
-fn is_last(log: &[Written], read: Result<Vec<Seen>, SeeError>) -> bool {
+fn is_last(log: &[Written], read: &Read) -> bool {
     match read {
         Ok(last) => {
             let done = last.iter().all(|seen| seen.row.rank == Some(seen.node));
-            done & (last.len() == NODES as usize) & were_written(log, &last)
+            done & (last.len() == NODES as usize) & were_written(log, last)
         }
         Err(_) => false,
     }
@@ -278,8 +295,7 @@ fn is_last(log: &[Written], read: Result<Vec<Seen>, SeeError>) -> bool {
 #[test]
 fn readers_find_what_was_committed(rt: HostRuntime) -> Result<(), Fail> {
     let alloc = rt.alloc();
-    let graph = Graph::checked(NODES, grid(alloc)?)?;
-    let blank = blank_of(alloc, &graph)?;
+    let (blank, graph) = with_blank(alloc, Graph::checked(NODES, grid(alloc)?)?)?;
     assert!(rt; race::<Brand, HostRuntime>(&rt, alloc, blank, graph)?);
     Ok(())
 }

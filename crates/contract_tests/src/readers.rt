@@ -3,7 +3,7 @@ ghost use Rattle.std.specs.Prelude.{◌≡◌, length};
 ghost use Rattle.ch_graph.specs.Graph.{bound_of};
 ghost use Rattle.ch_rowbook.specs.Blanks.{name_of};
 
-use crate::networks::{ROW, blank_of, graph_of};
+use crate::networks::{ROW, graph_of, with_blank, with_book};
 use ch_contract::{Board, CommitError, Ledger, ProposeError, Receipt, Site, propose};
 use ch_cost::Cost;
 use ch_graph::Graph;
@@ -21,21 +21,21 @@ type Entries = &'static [(u32, u32, Option<u32>)];
 type Version = (u64, Entries, Entries, Option<u32>);
 
 /// The rows of the row of three nodes, by their nodes.
-const OPENING: [Version; 3] = [
+const OPENING: &[Version] = &[
     (0, &[(2, 3, None)], &[(1, 2, None)], None),
     (1, &[(0, 2, None)], &[], None),
     (2, &[], &[(0, 3, None)], None),
 ];
 
 /// Its rows once node 0 is contracted, which were laid behind the others.
-const LATER: [Version; 3] = [
+const LATER: &[Version] = &[
     (3, &[(2, 3, None)], &[(1, 2, None)], Some(0)),
     (4, &[(2, 5, Some(0))], &[], None),
     (5, &[], &[(1, 5, Some(0))], None),
 ];
 
 /// The same rows in a book that was opened then.
-const ANEW: [Version; 3] = [
+const ANEW: &[Version] = &[
     (0, &[(2, 3, None)], &[(1, 2, None)], Some(0)),
     (1, &[(2, 5, Some(0))], &[], None),
     (2, &[], &[(1, 5, Some(0))], None),
@@ -51,28 +51,38 @@ fn are(entries: &[Entry], expected: Entries) -> bool {
 }
 
 /// Whether an answer is of this node, and has this version and its row.
-fn is_of(seen: &Seen, node: u32, (version, out, inn, rank): Version) -> bool {
+fn is_of(seen: &Seen, node: u32, (version, out, inn, rank): &Version) -> bool {
     (seen.node == node)
-        & (seen.version == version)
+        & (seen.version == *version)
         & are(&seen.row.out, out)
         & are(&seen.row.inn, inn)
-        & (seen.row.rank == rank)
+        & (seen.row.rank == *rank)
 }
 
-/// Whether a reader finds these rows, and none besides.
-fn finds<S: Site>(reader: &mut Reader<S>, rows: [Version; 3]) -> Result<bool, SeeError> {
-    let mut holds = true;
+/// Whether a reader finds this row of the node.
+fn finds_row<S: Site>(reader: &mut Reader<S>, node: u32, row: &Version) -> Result<bool, SeeError> {
+    Ok(is_of(&reader.read(node)?, node, row))
+}
+
+/// Whether a reader finds no row of the node.
+fn finds_none<S: Site>(reader: &mut Reader<S>, node: u32) -> bool {
+    reader.read(node).err() == Some(SeeError::Unseen)
+}
+
+/// Whether a reader finds these three rows, and none besides.
+fn finds<S: Site>(reader: &mut Reader<S>, rows: &[Version]) -> Result<bool, SeeError> {
+    let mut holds = rows.len() == 3;
     for (node, row) in (0u32..).zip(rows) {
-        holds &= is_of(&reader.read(node)?, node, row);
+        holds &= finds_row(reader, node, row)?;
     }
-    Ok(holds & matches!(reader.read(3), Err(SeeError::Unseen)))
+    Ok(holds & finds_none(reader, 3))
 }
 
 /// Whether two readers find these rows, and none besides.
 fn both_find<S: Site>(
     first: &mut Reader<S>,
     second: &mut Reader<S>,
-    rows: [Version; 3],
+    rows: &[Version],
 ) -> Result<bool, SeeError> {
     Ok(finds(first, rows)? & finds(second, rows)?)
 }
@@ -105,8 +115,18 @@ fn follows<S: Site, R: Wait>(
     requires bound { blank.bound ≡ bound_of graph }
 {
     let (mut board, mut reader): (Board<S>, Reader<S>) = Board::new(rt, alloc, blank, graph)?;
+    are_two(rt, alloc, &mut board, &mut reader)
+}
+
+/// Whether a reader and another that is split off first both follow.
+fn are_two<S: Site, R: Wait>(
+    rt: &R,
+    alloc: Global,
+    board: &mut Board<S>,
+    reader: &mut Reader<S>,
+) -> Result<bool, Fail> {
     let mut early = reader.split()?;
-    follow(rt, alloc, &mut board, &mut reader, &mut early)
+    follow(rt, alloc, board, reader, &mut early)
 }
 
 /// Whether two readers find the opening rows, and then those once node 0 is contracted.
@@ -126,8 +146,7 @@ fn follow<S: Site, R: Wait>(
 #[test]
 fn readers_find_the_rows_of_a_board(rt: HostRuntime) -> Result<(), Fail> {
     let alloc = rt.alloc();
-    let graph = graph_of(alloc, 3, &ROW)?;
-    let blank = blank_of(alloc, &graph)?;
+    let (blank, graph) = with_blank(alloc, graph_of(alloc, 3, &ROW)?)?;
     assert!(rt; follows::<Brand, HostRuntime>(&rt, alloc, blank, graph)?);
     Ok(())
 }
@@ -172,13 +191,10 @@ fn goes_on<S: Site, R: Wait>(
     requires nodes { blank.nodes ≡ length ledger.overlay.rows }
     requires bound { blank.bound ≡ ledger.overlay.bound }
 {
-    let (mut board, mut reader): (Board<S>, Reader<S>) = match Board::of_ledger(
-        rt, alloc, blank, ledger,
-    ) {
-        Ok(made) => made,
-        Err((_, refused)) => return Err(refused.into()),
-    };
-    contracts_second(rt, alloc, &mut board, &mut reader)
+    match Board::<S>::of_ledger(rt, alloc, blank, ledger) {
+        Ok((mut board, mut reader)) => contracts_second(rt, alloc, &mut board, &mut reader),
+        Err((_, refused)) => Err(refused.into()),
+    }
 }
 
 /// Whether the reader finds the rows as they are, and node 1 is contracted by what it finds.
@@ -197,11 +213,9 @@ fn contracts_second<S: Site, R: Wait>(
 #[test]
 fn a_ledger_goes_on_with_a_new_book(rt: HostRuntime) -> Result<(), Fail> {
     let alloc = rt.alloc();
-    let graph = graph_of(alloc, 3, &ROW)?;
-    let blank = blank_of(alloc, &graph)?;
+    let (blank, graph) = with_blank(alloc, graph_of(alloc, 3, &ROW)?)?;
     let ledger = taken_out::<Brand, HostRuntime>(&rt, alloc, blank, graph)?;
-    let rows = ledger.overlay();
-    let blank = Blank::new(alloc, rows.nodes(), rows.bound())?;
+    let (blank, ledger) = with_book(alloc, ledger)?;
     assert!(rt; goes_on::<Brand, HostRuntime>(&rt, alloc, blank, ledger)?);
     Ok(())
 }

@@ -8,7 +8,10 @@ ghost use Rattle.std.specs.Prelude.{◌≡◌, [], IfOk, length};
 ghost use Rattle.ch_graph.specs.Graph.{bound_of};
 ghost use Rattle.ch_rowbook.specs.Blanks.{name_of};
 
-use crate::networks::{ROW, TIE, blank_of, graph_of};
+use crate::boards::finished;
+use crate::networks::{ROW, TIE, graph_of, with_blank, with_book};
+use crate::proposals::are_of;
+use crate::searches::is_one_way;
 use crate::shelf::{Arcs, Shelf};
 use ch_contract::{
     Board, CommitError, FinishError, Ledger, Proposal, ProposeError, Receipt, Site, SweepError,
@@ -37,38 +40,50 @@ fn started(alloc: Global, graph: &Graph) -> Result<Overlay, AllocError>
     }
 }
 
-#[test]
-fn start_and_plan(rt: HostRuntime) -> Result<(), Fail> {
-    let alloc = rt.alloc();
-    let graph = graph_of(alloc, 3, &[(1, 0, 2), (0, 2, 3), (1, 2, 4)])?;
-    let overlay = started(alloc, &graph)?;
-    assert!(rt; overlay.nodes() == 3);
+/// Whether the contraction of node 0 of three nodes changes the rows of all three.
+fn changes_all(overlay: &Overlay) -> Result<bool, AllocError>
+    requires { overlay.now.order ≡ [] }
+{
+    if overlay.nodes() != 3 {
+        return Ok(false);
+    }
     let change = match overlay.plan(0, &[]) {
         Ok(change) => change,
         Err(AllocError) => overlay.plan(0, &[])?,
     };
-    assert!(rt; change.rows().iter().map(|(node, _)| *node).eq([0, 1, 2]));
+    Ok(change.rows().iter().map(|(node, _)| *node).eq([0, 1, 2]))
+}
+
+#[test]
+fn start_and_plan(rt: HostRuntime) -> Result<(), Fail> {
+    let alloc = rt.alloc();
+    let graph = graph_of(alloc, 3, &[(1, 0, 2), (0, 2, 3), (1, 2, 4)])?;
+    assert!(rt; changes_all(&started(alloc, &graph)?)?);
     Ok(())
 }
 
 /// Node 3 is reached from node 2 by way of 0 or of 1, at the same cost.
 const TIED: [Arcs; 4] = [(2, 0, 1, 1), (0, 3, 1, 1), (2, 1, 1, 1), (1, 3, 1, 1)];
 
+/// Whether the one way from node 2 to node 3 that a search round node 0 finds is that by way of 1.
+fn finds_way(alloc: Global, shelf: &mut Shelf) -> Result<bool, SearchError> {
+    let cutoff = Cost::of_weight(2);
+    if !shelf.allows(cutoff) {
+        return Ok(false);
+    }
+    let found = search(alloc, shelf, 2, 0, cutoff, &[3], SETTLE)?;
+    Ok(is_one_way(&found.ways, &[2, 1, 3]))
+}
+
 #[test]
 fn search_round_a_node(rt: HostRuntime) -> Result<(), Fail> {
     let alloc = rt.alloc();
     let mut shelf = Shelf::new(alloc, 4, &TIED, (3, 1), None)?;
-    let cutoff = Cost::of_weight(2);
-    assert!(rt; shelf.allows(cutoff));
-    let found = match search(alloc, &mut shelf, 2, 0, cutoff, &[3], SETTLE) {
-        Err(SearchError::OutOfMemory) => {
-            assert!(rt; shelf.allows(cutoff));
-            search(alloc, &mut shelf, 2, 0, cutoff, &[3], SETTLE)?
-        }
-        answer => answer?,
+    let answer = match finds_way(alloc, &mut shelf) {
+        Err(SearchError::OutOfMemory) => finds_way(alloc, &mut shelf),
+        answer => answer,
     };
-    let ways = found.ways.as_slice();
-    assert!(rt; matches!(ways, [Some(way)] if way.nodes.as_slice() == [2, 1, 3].as_slice()));
+    assert!(rt; answer?);
     Ok(())
 }
 
@@ -90,13 +105,17 @@ fn row_of<S: RowSource>(source: &mut S, node: u32) -> Result<Seen, SeeError> {
     }
 }
 
+/// Whether the proposal of node 0 of the tie rests on the rows that it has to, and has no shortcut.
+fn needs_none(alloc: Global, shelf: &mut Shelf) -> Result<bool, ProposeError> {
+    let proposal = proposed(alloc, shelf, 0)?;
+    Ok(are_of(proposal.rests_on(), &[0, 2, 1]) & proposal.shortcuts().is_empty())
+}
+
 #[test]
 fn propose_by_a_shelf(rt: HostRuntime) -> Result<(), Fail> {
     let alloc = rt.alloc();
     let mut shelf = Shelf::new(alloc, 4, &TIED, (3, 1), None)?;
-    let proposal = proposed(alloc, &mut shelf, 0)?;
-    let nodes = proposal.rests_on().iter().map(|seen| seen.node);
-    assert!(rt; nodes.eq([0, 2, 1]) && proposal.shortcuts().is_empty());
+    assert!(rt; needs_none(alloc, &mut shelf)?);
     Ok(())
 }
 
@@ -110,13 +129,24 @@ fn committed<S: Site, R: Wait>(
     let before = board.log().len();
     let proposal = propose(alloc, board, node, SETTLE)?;
     match board.commit(rt, proposal) {
-        Err(CommitError::OutOfMemory) if board.log().len() == before => {
-            let again = propose(alloc, board, node, SETTLE)?;
-            Ok(board.commit(rt, again)?)
-        }
-        Err(CommitError::OutOfMemory) => Err(Fail::new("a refused contraction is in the log")),
+        Err(CommitError::OutOfMemory) => committed_again(rt, alloc, board, node, before),
         answer => Ok(answer?),
     }
+}
+
+/// Commits a node that memory was refused to, with so many contractions in the log.
+fn committed_again<S: Site, R: Wait>(
+    rt: &R,
+    alloc: Global,
+    board: &mut Board<S>,
+    node: u32,
+    before: usize,
+) -> Result<Receipt, Fail> {
+    if board.log().len() != before {
+        return Err(Fail::new("a refused contraction is in the log"));
+    }
+    let proposal = propose(alloc, board, node, SETTLE)?;
+    Ok(board.commit(rt, proposal)?)
 }
 
 /// Commits a node as [`committed`] does, and has the reader take a glance at what changed.
@@ -130,20 +160,37 @@ fn committed_and_seen<S: Site, R: Wait>(
     let before = board.log().len();
     let proposal = propose(alloc, reader, node, SETTLE)?;
     match board.commit_and_see(rt, proposal, reader) {
-        Err(CommitError::OutOfMemory) if board.log().len() == before => {
-            let again = propose(alloc, reader, node, SETTLE)?;
-            Ok(board.commit_and_see(rt, again, reader)?)
-        }
-        Err(CommitError::OutOfMemory) => Err(Fail::new("a refused contraction is in the log")),
+        Err(CommitError::OutOfMemory) => seen_again(rt, alloc, board, reader, node, before),
         answer => Ok(answer?),
     }
 }
 
+/// Commits a node as [`committed_again`] does, and has the reader take a glance at what changed.
+fn seen_again<S: Site, R: Wait>(
+    rt: &R,
+    alloc: Global,
+    board: &mut Board<S>,
+    reader: &mut Reader<S>,
+    node: u32,
+    before: usize,
+) -> Result<Receipt, Fail> {
+    if board.log().len() != before {
+        return Err(Fail::new("a refused contraction is in the log"));
+    }
+    let proposal = propose(alloc, reader, node, SETTLE)?;
+    Ok(board.commit_and_see(rt, proposal, reader)?)
+}
+
+/// Contracts the nodes that are left: how many.
+fn sweep<S: Site, R: Wait>(rt: &R, board: &mut Board<S>) -> Result<usize, SweepError> {
+    Ok(board.sweep(rt, SETTLE)?.len())
+}
+
 /// Contracts the nodes that are left, and then those that a refused sweep left.
 fn swept<S: Site, R: Wait>(rt: &R, board: &mut Board<S>) -> Result<usize, SweepError> {
-    match board.sweep(rt, SETTLE) {
-        Err(SweepError::OutOfMemory) => Ok(board.sweep(rt, SETTLE)?.len()),
-        answer => Ok(answer?.len()),
+    match sweep(rt, board) {
+        Err(SweepError::OutOfMemory) => sweep(rt, board),
+        answer => answer,
     }
 }
 
@@ -151,10 +198,17 @@ fn swept<S: Site, R: Wait>(rt: &R, board: &mut Board<S>) -> Result<usize, SweepE
 fn hierarchy_of<S: Site>(board: Board<S>) -> Result<Hierarchy, FinishError> {
     match board.into_hierarchy() {
         Ok(hierarchy) => Ok(hierarchy),
-        Err((back, FinishError::OutOfMemory)) => back.into_hierarchy().map_err(|refused| refused.1),
+        Err((back, FinishError::OutOfMemory)) => finished(back),
         Err((_, error)) => Err(error),
     }
 }
+
+/// The links of the row of three nodes with node 0 at the bottom: their ends, lengths and middles.
+const LINKS: [(u32, u32, u64, Option<u32>); 3] = [
+    (0, 2, 3, None),
+    (1, 0, 2, None),
+    (1, 2, 5, Some(0)),
+];
 
 /// Whether the links have these ends, lengths and middles.
 fn are_links(hierarchy: &Hierarchy, expected: &[(u32, u32, u64, Option<u32>)]) -> bool {
@@ -196,16 +250,18 @@ fn comes_to<S: Site, R: Wait>(
 {
     let (mut board, _): (Board<S>, Reader<S>) = Board::new(rt, alloc, blank, graph)?;
     let holds = is_contracted(rt, alloc, &mut board)?;
-    let hierarchy = hierarchy_of(board)?;
-    let links = [(0, 2, 3, None), (1, 0, 2, None), (1, 2, 5, Some(0))];
-    Ok(holds & are_links(&hierarchy, &links))
+    Ok(holds & has_links(board)?)
+}
+
+/// Whether the hierarchy of a board has the links of the row of three nodes.
+fn has_links<S: Site>(board: Board<S>) -> Result<bool, FinishError> {
+    Ok(are_links(&hierarchy_of(board)?, &LINKS))
 }
 
 #[test]
 fn board(rt: HostRuntime) -> Result<(), Fail> {
     let alloc = rt.alloc();
-    let graph = graph_of(alloc, 3, &ROW)?;
-    let blank = blank_of(alloc, &graph)?;
+    let (blank, graph) = with_blank(alloc, graph_of(alloc, 3, &ROW)?)?;
     assert!(rt; comes_to::<Brand, HostRuntime>(&rt, alloc, blank, graph)?);
     Ok(())
 }
@@ -228,28 +284,21 @@ fn goes_on<S: Site, R: Wait>(
     }
 }
 
-/// A blank for the rows of a ledger.
-fn blank_for(alloc: Global, ledger: &Ledger) -> Result<Blank, AllocError>
-    ensures nodes { IfOk result (λ b. b.nodes ≡ length ledger.now.overlay.rows) }
-    ensures bound { IfOk result (λ b. b.bound ≡ ledger.now.overlay.bound) }
-{
-    Blank::new(alloc, ledger.overlay().nodes(), ledger.overlay().bound())
+/// Whether a ledger that was handed back goes on with another book.
+fn goes_on_again<R: Wait>(rt: &R, alloc: Global, ledger: Ledger) -> Result<bool, AllocError> {
+    let (blank, ledger) = with_book(alloc, ledger)?;
+    Ok(matches!(goes_on::<Brand, R>(rt, alloc, blank, ledger), Ok(true)))
 }
 
 #[test]
 fn ledger_in_a_book(rt: HostRuntime) -> Result<(), Fail> {
     let alloc = rt.alloc();
-    let ledger = Ledger::new(alloc, graph_of(alloc, 3, &ROW)?)?;
-    let blank = blank_for(alloc, &ledger)?;
-    let first = goes_on::<Brand, HostRuntime>(&rt, alloc, blank, ledger);
-    let answer = match first {
-        Err((ledger, BookError::OutOfMemory)) => {
-            let blank = blank_for(alloc, &ledger)?;
-            goes_on::<Brand, HostRuntime>(&rt, alloc, blank, ledger)
-        }
-        answer => answer,
+    let (blank, ledger) = with_book(alloc, Ledger::new(alloc, graph_of(alloc, 3, &ROW)?)?)?;
+    let holds = match goes_on::<Brand, HostRuntime>(&rt, alloc, blank, ledger) {
+        Err((ledger, BookError::OutOfMemory)) => goes_on_again(&rt, alloc, ledger)?,
+        answer => matches!(answer, Ok(true)),
     };
-    assert!(rt; matches!(answer, Ok(true)));
+    assert!(rt; holds);
     Ok(())
 }
 
@@ -295,8 +344,7 @@ fn is_seen<S: Site, R: Wait>(
 #[test]
 fn board_and_reader(rt: HostRuntime) -> Result<(), Fail> {
     let alloc = rt.alloc();
-    let graph = graph_of(alloc, 4, &TIE)?;
-    let blank = blank_of(alloc, &graph)?;
+    let (blank, graph) = with_blank(alloc, graph_of(alloc, 4, &TIE)?)?;
     assert!(rt; is_seen::<Brand, HostRuntime>(&rt, alloc, blank, graph)?);
     Ok(())
 }

@@ -1,11 +1,10 @@
-ghost use Rattle.ch_witness.specs.Kept.{OfTheirNodes, kept_of};
+ghost use Rattle.ch_witness.specs.Kept.{AreKept, OfTheirNodes, kept_of};
 
 use crate::proposals::are_of;
 use crate::shelf::{Arcs, Shelf};
 use ch_cost::Cost;
 use ch_witness::{Aim, Rule, SearchError, Searcher, Way, search};
 use std::alloc::{AllocError, Global};
-use std::process::Abort;
 use std::test::Fail;
 
 /// Node 3 is reached from node 2 by way of 0 or of 1, at the same cost.
@@ -42,7 +41,7 @@ const CASES: [Case; 9] = [
 ];
 
 /// Whether the one way is this, or there is none where no nodes are given.
-fn is_one_way(ways: &[Option<Way>], nodes: &[u32]) -> bool {
+pub fn is_one_way(ways: &[Option<Way>], nodes: &[u32]) -> bool {
     if ways.len() != 1 {
         return false;
     }
@@ -53,27 +52,31 @@ fn is_one_way(ways: &[Option<Way>], nodes: &[u32]) -> bool {
 }
 
 /// Whether a search that avoids a node finds the way within the cutoff, or none where no nodes are given.
-fn finds_round<R: Abort>(
-    rt: &R,
+fn finds_round(
     alloc: Global,
     shelf: &mut Shelf,
     (avoid, cutoff, settle): (u32, u32, u32),
     way: &[u32],
 ) -> Result<bool, SearchError> {
     let cutoff = Cost::of_weight(cutoff);
-    assert!(rt; shelf.allows(cutoff));
-    assert!(rt; avoid != 2 && avoid != 3 && 0 < settle && settle <= 64);
+    if avoid == 2 || avoid == 3 || settle == 0 || settle > 64 || !shelf.allows(cutoff) {
+        return Ok(false);
+    }
     let found = search(alloc, shelf, 2, avoid, cutoff, &[3], settle)?;
     Ok(is_one_way(&found.ways, way))
 }
 
+/// Whether a search by a shelf of the case's arcs finds its way, and asks for its rows.
+fn comes_true(alloc: Global, (lines, ranked, rule, way, asked): &Case) -> Result<bool, Fail> {
+    let mut shelf = Shelf::new(alloc, 4, lines, (3, 1), *ranked)?;
+    let holds = finds_round(alloc, &mut shelf, *rule, way)?;
+    Ok(holds & (shelf.asked.as_slice() == *asked))
+}
+
 #[test]
 fn one_search(rt: HostRuntime) -> Result<(), Fail> {
-    let alloc = rt.alloc();
-    for (lines, ranked, rule, way, asked) in CASES {
-        let mut shelf = Shelf::new(alloc, 4, lines, (3, 1), ranked)?;
-        assert!(rt; finds_round(&rt, alloc, &mut shelf, rule, way)?);
-        assert!(rt; shelf.asked.as_slice() == asked);
+    for case in &CASES {
+        assert!(rt; comes_true(rt.alloc(), case)?);
     }
     Ok(())
 }
@@ -86,29 +89,38 @@ fn hands_out(alloc: Global, searcher: &mut Searcher) -> Result<bool, AllocError>
     Ok(are_of(&listed, &[1, 2]))
 }
 
-/// Whether two searches of one searcher find the same way, and it hands out what they have read.
-fn finds_twice<R: Abort>(rt: &R, alloc: Global, shelf: &mut Shelf) -> Result<bool, Fail> {
+/// Whether a search from node 2 to node 3 that avoids node 0 finds the way by node 1.
+fn finds_by(alloc: Global, searcher: &mut Searcher, shelf: &mut Shelf) -> Result<bool, SearchError>
+    requires { AreKept (λ _. Unit {0}) (λ _. Unit {0}) shelf.old (kept_of searcher.old.rows) }
+    ensures { AreKept (λ _. Unit {0}) (λ _. Unit {0}) shelf.new (kept_of searcher.new.rows) }
+{
     let (from, avoid, cutoff) = (2, 0, Cost::of_weight(2));
-    assert!(rt; shelf.allows(cutoff));
+    if !shelf.allows(cutoff) {
+        return Ok(false);
+    }
     let rule = Rule {
         from,
         avoid,
         cutoff,
     };
+    let found = searcher.search(alloc, shelf, rule, &[3], &[], 64)?;
+    Ok(is_one_way(&found.ways, &[2, 1, 3]))
+}
+
+/// Whether two searches of one searcher find the same way, and it hands out what they have read.
+fn finds_twice(alloc: Global, shelf: &mut Shelf) -> Result<bool, Fail> {
     let mut searcher = Searcher::new(alloc);
-    let first = searcher.search(alloc, shelf, rule, &[3], &[], 64)?;
-    assert!(rt; shelf.allows(cutoff));
-    let second = searcher.search(alloc, shelf, rule, &[3], &[], 64)?;
-    let holds = is_one_way(&first.ways, &[2, 1, 3]) & is_one_way(&second.ways, &[2, 1, 3]);
-    Ok(holds & hands_out(alloc, &mut searcher)?)
+    let first = finds_by(alloc, &mut searcher, shelf)?;
+    let second = finds_by(alloc, &mut searcher, shelf)?;
+    Ok(first & second & hands_out(alloc, &mut searcher)?)
 }
 
 #[test]
 fn two_searches_ask_for_a_row_once(rt: HostRuntime) -> Result<(), Fail> {
     let alloc = rt.alloc();
     let mut shelf = Shelf::new(alloc, 4, &TIE, (3, 1), None)?;
-    assert!(rt; finds_twice(&rt, alloc, &mut shelf)?);
-    assert!(rt; shelf.asked.as_slice() == [2u32, 1].as_slice());
+    let holds = finds_twice(alloc, &mut shelf)?;
+    assert!(rt; holds & (shelf.asked.as_slice() == [2u32, 1].as_slice()));
     Ok(())
 }
 
@@ -127,15 +139,11 @@ const AIM_CASES: [AimCase; 4] = [
 ];
 
 /// Whether a search that has this aim finds the way, or none where no nodes are given.
-fn finds<R: Abort>(
-    rt: &R,
-    alloc: Global,
-    shelf: &mut Shelf,
-    aim: Aim,
-    way: &[u32],
-) -> Result<bool, SearchError> {
+fn finds(alloc: Global, shelf: &mut Shelf, aim: Aim, way: &[u32]) -> Result<bool, SearchError> {
     let cutoff = Cost::of_weight(3);
-    assert!(rt; shelf.allows(cutoff));
+    if !shelf.allows(cutoff) {
+        return Ok(false);
+    }
     let rule = Rule {
         from: 2,
         avoid: 9,
@@ -146,17 +154,21 @@ fn finds<R: Abort>(
     Ok(is_one_way(&found.ways, way))
 }
 
+/// Whether a search with its aim, by a shelf of the case's arcs, finds its way, and asks for its rows.
+fn is_aimed(alloc: Global, (lines, aim, way, asked): &AimCase) -> Result<bool, Fail> {
+    let aim = Aim {
+        enough: Cost::of_weight(aim.0),
+        last_arc: Cost::of_weight(aim.1),
+    };
+    let mut shelf = Shelf::new(alloc, 4, lines, (3, 1), None)?;
+    let holds = finds(alloc, &mut shelf, aim, way)?;
+    Ok(holds & (shelf.asked.as_slice() == *asked))
+}
+
 #[test]
 fn a_search_with_an_aim(rt: HostRuntime) -> Result<(), Fail> {
-    let alloc = rt.alloc();
-    for (lines, (enough, last_arc), way, asked) in AIM_CASES {
-        let mut shelf = Shelf::new(alloc, 4, lines, (3, 1), None)?;
-        let aim = Aim {
-            enough: Cost::of_weight(enough),
-            last_arc: Cost::of_weight(last_arc),
-        };
-        assert!(rt; finds(&rt, alloc, &mut shelf, aim, way)?);
-        assert!(rt; shelf.asked.as_slice() == asked);
+    for case in &AIM_CASES {
+        assert!(rt; is_aimed(rt.alloc(), case)?);
     }
     Ok(())
 }

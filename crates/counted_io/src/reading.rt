@@ -92,7 +92,7 @@ impl fmt::Display for ReadFault {
     ghost output = { λ _. Some (codes "the reader failed") };
 
     fn fmt<W: fmt::Write>(&self, f: &mut fmt::Formatter<W>) -> fmt::Result {
-        write!(f, "the reader failed")
+        f.write_str("the reader failed")
     }
 }
 

@@ -59,21 +59,21 @@ impl fmt::Display for GrErrorKind {
     ghost output = { λ kind. Some (kind_name kind) };
 
     fn fmt<W: fmt::Write>(&self, f: &mut fmt::Formatter<W>) -> fmt::Result {
-        match self {
-            GrErrorKind::OutOfMemory => write!(f, "OutOfMemory"),
-            GrErrorKind::Read => write!(f, "Read"),
-            GrErrorKind::UnknownLine => write!(f, "UnknownLine"),
-            GrErrorKind::NoProblemLine => write!(f, "NoProblemLine"),
-            GrErrorKind::SecondProblemLine => write!(f, "SecondProblemLine"),
-            GrErrorKind::FieldCount => write!(f, "FieldCount"),
-            GrErrorKind::NotANumber => write!(f, "NotANumber"),
-            GrErrorKind::NodeRange => write!(f, "NodeRange"),
-            GrErrorKind::ZeroWeight => write!(f, "ZeroWeight"),
-            GrErrorKind::WeightTooBig => write!(f, "WeightTooBig"),
-            GrErrorKind::TooManyNodes => write!(f, "TooManyNodes"),
-            GrErrorKind::TooManyArcs => write!(f, "TooManyArcs"),
-            GrErrorKind::ArcCount => write!(f, "ArcCount"),
-        }
+        f.write_str(match self {
+            GrErrorKind::OutOfMemory => "OutOfMemory",
+            GrErrorKind::Read => "Read",
+            GrErrorKind::UnknownLine => "UnknownLine",
+            GrErrorKind::NoProblemLine => "NoProblemLine",
+            GrErrorKind::SecondProblemLine => "SecondProblemLine",
+            GrErrorKind::FieldCount => "FieldCount",
+            GrErrorKind::NotANumber => "NotANumber",
+            GrErrorKind::NodeRange => "NodeRange",
+            GrErrorKind::ZeroWeight => "ZeroWeight",
+            GrErrorKind::WeightTooBig => "WeightTooBig",
+            GrErrorKind::TooManyNodes => "TooManyNodes",
+            GrErrorKind::TooManyArcs => "TooManyArcs",
+            GrErrorKind::ArcCount => "ArcCount",
+        })
     }
 }
 

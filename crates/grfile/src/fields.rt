@@ -5,7 +5,7 @@ ghost use Rattle.grfile.specs.Grammar.{kind_of};
 use std::marker::Model;
 
 /// What a line is, by its first field.
-#[derive(Clone, Copy, Debug, PartialEq, Eq)]
+#[derive(Clone, Copy)]
 pub(crate) enum LineKind {
     /// A comment, or a line without fields.
     Skipped,

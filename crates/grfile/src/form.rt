@@ -7,7 +7,7 @@ use crate::error::GrError;
 use crate::fields::Fields;
 
 /// What a problem line says: how many nodes there are, and how many entries follow.
-#[derive(Clone, Copy, Debug, PartialEq, Eq)]
+#[derive(Clone, Copy)]
 pub(crate) struct Size {
     /// The nodes, numbered from 1 in the text.
     pub(crate) nodes: u32,

@@ -48,24 +48,24 @@ impl fmt::Display for HierError {
     ghost output = { λ error. Some (error_name error) };
 
     fn fmt<W: fmt::Write>(&self, f: &mut fmt::Formatter<W>) -> fmt::Result {
-        match self {
-            HierError::OutOfMemory => write!(f, "OutOfMemory"),
-            HierError::Read => write!(f, "Read"),
-            HierError::BadMagic => write!(f, "BadMagic"),
-            HierError::Truncated => write!(f, "Truncated"),
-            HierError::TooBig => write!(f, "TooBig"),
-            HierError::BoundTooBig => write!(f, "BoundTooBig"),
-            HierError::RankRange => write!(f, "RankRange"),
-            HierError::RankTwice => write!(f, "RankTwice"),
-            HierError::LinkEnds => write!(f, "LinkEnds"),
-            HierError::LinkOrder => write!(f, "LinkOrder"),
-            HierError::LinkWeight => write!(f, "LinkWeight"),
-            HierError::MiddleRange => write!(f, "MiddleRange"),
-            HierError::MiddleRank => write!(f, "MiddleRank"),
-            HierError::HalfMissing => write!(f, "HalfMissing"),
-            HierError::HalfSum => write!(f, "HalfSum"),
-            HierError::Trailing => write!(f, "Trailing"),
-        }
+        f.write_str(match self {
+            HierError::OutOfMemory => "OutOfMemory",
+            HierError::Read => "Read",
+            HierError::BadMagic => "BadMagic",
+            HierError::Truncated => "Truncated",
+            HierError::TooBig => "TooBig",
+            HierError::BoundTooBig => "BoundTooBig",
+            HierError::RankRange => "RankRange",
+            HierError::RankTwice => "RankTwice",
+            HierError::LinkEnds => "LinkEnds",
+            HierError::LinkOrder => "LinkOrder",
+            HierError::LinkWeight => "LinkWeight",
+            HierError::MiddleRange => "MiddleRange",
+            HierError::MiddleRank => "MiddleRank",
+            HierError::HalfMissing => "HalfMissing",
+            HierError::HalfSum => "HalfSum",
+            HierError::Trailing => "Trailing",
+        })
     }
 }
 

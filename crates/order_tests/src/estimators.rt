@@ -72,18 +72,31 @@ fn has_notes(estimator: &EdgeDifference, notes: &[(u32, u32, u32)]) -> bool {
     })
 }
 
+/// Whether an estimator has the notes that follow from each entry.
+fn follows(alloc: Global, lease: Lease) -> Result<bool, AllocError> {
+    let log = log_of_two(alloc)?;
+    let mut estimator = EdgeDifference::new(alloc, lease);
+    let mut holds = has_notes(&estimator, &[(1, 0, 0)]);
+    estimator.told(&log[0])?;
+    holds &= has_notes(&estimator, &[(0, 0, 0), (1, 1, 1), (2, 1, 1)]);
+    estimator.told(&log[1])?;
+    holds &= has_notes(&estimator, &[(1, 1, 1), (2, 2, 2), (7, 0, 0)]);
+    Ok(holds)
+}
+
 #[test]
 fn notes_of_a_log(rt: HostRuntime) -> Result<(), Fail> {
-    let alloc = rt.alloc();
-    let mut leases = Leases::new(alloc)?;
-    let log = log_of_two(alloc)?;
-    let mut estimator = EdgeDifference::new(alloc, leases.lease()?);
-    assert!(rt; has_notes(&estimator, &[(1, 0, 0)]));
-    estimator.told(&log[0])?;
-    assert!(rt; has_notes(&estimator, &[(0, 0, 0), (1, 1, 1), (2, 1, 1)]));
-    estimator.told(&log[1])?;
-    assert!(rt; has_notes(&estimator, &[(1, 1, 1), (2, 2, 2), (7, 0, 0)]));
+    let mut leases = Leases::new(rt.alloc())?;
+    let lease = leases.lease()?;
+    assert!(rt; follows(rt.alloc(), lease)?);
     Ok(())
+}
+
+/// Whether the keys are those of a chain, of a star and of an end, before any entry.
+fn has_first_keys(estimator: &mut EdgeDifference) -> bool {
+    (estimator.key(&facts(0, 1, 1, 1)) == 67_108_863)
+        & (estimator.key(&facts(0, 2, 2, 4)) == 67_108_864)
+        & (estimator.key(&facts(1, 1, 0, 0)) == 67_108_863)
 }
 
 #[test]
@@ -91,9 +104,7 @@ fn keys_of_a_chain_and_a_star(rt: HostRuntime) -> Result<(), Fail> {
     let alloc = rt.alloc();
     let mut leases = Leases::new(alloc)?;
     let mut estimator = EdgeDifference::new(alloc, leases.lease()?);
-    assert!(rt; estimator.key(&facts(0, 1, 1, 1)) == 67_108_863);
-    assert!(rt; estimator.key(&facts(0, 2, 2, 4)) == 67_108_864);
-    assert!(rt; estimator.key(&facts(1, 1, 0, 0)) == 67_108_863);
+    assert!(rt; has_first_keys(&mut estimator));
     Ok(())
 }
 
@@ -174,10 +185,9 @@ fn key_by_neighbours(alloc: Global, lease: Lease) -> Result<u64, AllocError> {
 fn keys_by_a_log(rt: HostRuntime) -> Result<(), Fail> {
     let alloc = rt.alloc();
     let mut leases = Leases::new(alloc)?;
-    let first = leases.lease()?;
-    assert!(rt; key_by_depth(alloc, first)? == 67_108_864);
-    let second = leases.lease()?;
-    assert!(rt; key_by_neighbours(alloc, second)? == 67_108_866);
+    let (first, second) = (leases.lease()?, leases.lease()?);
+    let holds = key_by_depth(alloc, first)? == 67_108_864;
+    assert!(rt; holds & (key_by_neighbours(alloc, second)? == 67_108_866));
     leases.wait(&rt);
     Ok(())
 }

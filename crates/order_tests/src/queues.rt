@@ -1,3 +1,5 @@
+ghost use Rattle.std.specs.Prelude.{◌<◌, ◌≤◌};
+
 use ch_multiqueue::{CloseError, Item, MultiQueue, Pass};
 use rand_core::utils::NextWord;
 use rand_pcg::Pcg32;
@@ -119,13 +121,21 @@ fn takes<R: Wait>(rt: &R, queue: &MultiQueue, pass: &mut Pass, item: Item) -> bo
     queue.push(rt, pass, item).is_ok()
 }
 
+/// Whether an item that is pushed is popped once.
+fn pops_what_is_pushed<R: Wait>(
+    rt: &R,
+    queue: &MultiQueue,
+    pass: &mut Pass,
+) -> Result<bool, AllocError> {
+    let holds = takes(rt, queue, pass, item(5, 7));
+    Ok(holds & pops(rt, queue, pass, Some(item(5, 7)))? & pops(rt, queue, pass, None)?)
+}
+
 #[test]
 fn what_is_pushed_is_popped(rt: HostRuntime) -> Result<(), Fail> {
     let (queue, mut pass) = MultiQueue::new(rt.alloc(), 4, 11)?;
-    assert!(rt; takes(&rt, &queue, &mut pass, item(5, 7)));
-    assert!(rt; pops(&rt, &queue, &mut pass, Some(item(5, 7)))?);
-    assert!(rt; pops(&rt, &queue, &mut pass, None)?);
-    assert!(rt; is_left(rt.alloc(), queue, pass, &[])?);
+    let holds = pops_what_is_pushed(&rt, &queue, &mut pass)?;
+    assert!(rt; holds & is_left(rt.alloc(), queue, pass, &[])?);
     Ok(())
 }
 
@@ -153,31 +163,53 @@ fn needs_both(alloc: Global, queue: MultiQueue, first: Pass, second: Pass) -> Re
 fn closed_with_all_passes_alone(rt: HostRuntime) -> Result<(), Fail> {
     let (mut queue, mut first) = MultiQueue::new(rt.alloc(), 2, 1)?;
     let mut second = queue.pass()?;
-    assert!(rt; first.number() == 0 && second.number() == 1);
-    assert!(rt; pops_one_of_two(&rt, &queue, &mut first, &mut second)?);
-    assert!(rt; needs_both(rt.alloc(), queue, first, second)?);
+    let are_numbered = (first.number() == 0) & (second.number() == 1);
+    let holds = are_numbered & pops_one_of_two(&rt, &queue, &mut first, &mut second)?;
+    assert!(rt; holds & needs_both(rt.alloc(), queue, first, second)?);
     Ok(())
+}
+
+/// The first pass of another queue of two heaps.
+fn stranger(alloc: Global) -> Result<Pass, AllocError> {
+    let (_other, stranger) = MultiQueue::new(alloc, 2, 1)?;
+    Ok(stranger)
+}
+
+/// Whether a queue isn't closed by these passes, nor then by its second one, which is handed back.
+fn lacks_one(
+    alloc: Global,
+    queue: MultiQueue,
+    passes: Vec<Pass>,
+    second: Pass,
+) -> Result<bool, Fail> {
+    let (queue, _passes) = lacking(queue, passes)?;
+    let (_queue, passes) = lacking(queue, vec![in alloc; second]?)?;
+    Ok(passes.len() == 1)
 }
 
 #[test]
 fn one_pass_of_another_queue_for_two(rt: HostRuntime) -> Result<(), Fail> {
     let (mut queue, first) = MultiQueue::new(rt.alloc(), 2, 1)?;
     let second = queue.pass()?;
-    let (_other, stranger) = MultiQueue::new(rt.alloc(), 2, 1)?;
-    let passes = vec![in rt.alloc(); first, stranger]?;
-    let (queue, _passes) = lacking(queue, passes)?;
-    let (_queue, passes) = lacking(queue, vec![in rt.alloc(); second]?)?;
-    assert!(rt; passes.len() == 1);
+    let passes = vec![in rt.alloc(); first, stranger(rt.alloc())?]?;
+    assert!(rt; lacks_one(rt.alloc(), queue, passes, second)?);
     Ok(())
+}
+
+/// Whether a queue of so many heaps has them, and nothing is popped and nothing left.
+fn is_empty<R: Wait>(rt: &R, alloc: Global, heaps: u32) -> Result<bool, Fail>
+    requires some { 0 < heaps }
+    requires few { heaps ≤ 256 }
+{
+    let (queue, mut pass) = MultiQueue::new(alloc, heaps, 3)?;
+    let holds = (queue.heaps() == heaps as usize) & pops(rt, &queue, &mut pass, None)?;
+    Ok(holds & is_left(alloc, queue, pass, &[])?)
 }
 
 #[test]
 fn an_empty_queue_gives_none(rt: HostRuntime) -> Result<(), Fail> {
     for heaps in [1u32, 2, 256] {
-        let (queue, mut pass) = MultiQueue::new(rt.alloc(), heaps, 3)?;
-        assert!(rt; queue.heaps() == heaps as usize);
-        assert!(rt; pops(&rt, &queue, &mut pass, None)?);
-        assert!(rt; is_left(rt.alloc(), queue, pass, &[])?);
+        assert!(rt; is_empty(&rt, rt.alloc(), heaps)?);
     }
     Ok(())
 }
@@ -215,40 +247,57 @@ fn pops_by_rule<R: Wait>(
     pops(rt, queue, pass, want)
 }
 
+/// Whether each of 450 turns goes by the rules over the lists, and 200 items are found.
+fn goes_by_rule<R: Wait>(
+    rt: &R,
+    queue: &MultiQueue,
+    pass: &mut Pass,
+    lists: &mut Vec<Vec<Item>>,
+    words: &mut Pcg32,
+) -> Result<bool, AllocError> {
+    let mut holds = true;
+    let mut found = 0u32;
+    for turn in 0..450u64 {
+        holds &= if is_push(turn) {
+            let new = item(turn * 37 % 11, (turn % 2) as u32);
+            pushes(rt, queue, pass, lists, words, new)?
+        } else {
+            pops_by_rule(rt, queue, pass, lists, words, &mut found)?
+        };
+    }
+    Ok(holds & (found == 200))
+}
+
 #[test]
 fn one_pass_goes_by_its_words(rt: HostRuntime) -> Result<(), Fail> {
     let alloc = rt.alloc();
-    let (queue, mut pass) = MultiQueue::new(alloc, 3, 5)?;
-    let mut lists = vec![in alloc; Vec::new(alloc), Vec::new(alloc), Vec::new(alloc)]?;
     let mut words = Pcg32::new(5, 0);
-    let mut found = 0u32;
-    for turn in 0..450u64 {
-        let holds = if is_push(turn) {
-            let new = item(turn * 37 % 11, (turn % 2) as u32);
-            pushes(&rt, &queue, &mut pass, &mut lists, &mut words, new)?
-        } else {
-            pops_by_rule(&rt, &queue, &mut pass, &mut lists, &mut words, &mut found)?
-        };
-        assert!(rt; holds);
-    }
-    assert!(rt; found == 200);
+    let mut lists = vec![in alloc; Vec::new(alloc), Vec::new(alloc), Vec::new(alloc)]?;
+    let (queue, mut pass) = MultiQueue::new(alloc, 3, 5)?;
+    assert!(rt; goes_by_rule(&rt, &queue, &mut pass, &mut lists, &mut words)?);
     Ok(())
+}
+
+/// Whether all items are taken in.
+fn takes_all<R: Wait>(rt: &R, queue: &MultiQueue, pass: &mut Pass, items: &[Item]) -> bool {
+    let mut holds = true;
+    for item in items {
+        holds &= takes(rt, queue, pass, *item);
+    }
+    holds
 }
 
 #[test]
 fn what_is_left_is_in_order(rt: HostRuntime) -> Result<(), Fail> {
-    let (queue, mut pass) = MultiQueue::new(rt.alloc(), 3, 8)?;
-    for (key, node) in [
-        (9, 1),
-        (2, 6),
-        (9, 0),
-        (0, 4),
-        (u64::MAX, 3),
-        (2, 6),
-        (2, 5),
-    ] {
-        assert!(rt; takes(&rt, &queue, &mut pass, item(key, node)));
-    }
+    let put = [
+        item(9, 1),
+        item(2, 6),
+        item(9, 0),
+        item(0, 4),
+        item(u64::MAX, 3),
+        item(2, 6),
+        item(2, 5),
+    ];
     let want = [
         item(0, 4),
         item(2, 5),
@@ -258,7 +307,9 @@ fn what_is_left_is_in_order(rt: HostRuntime) -> Result<(), Fail> {
         item(9, 1),
         item(u64::MAX, 3),
     ];
-    assert!(rt; is_left(rt.alloc(), queue, pass, &want)?);
+    let (queue, mut pass) = MultiQueue::new(rt.alloc(), 3, 8)?;
+    let holds = takes_all(&rt, &queue, &mut pass, &put);
+    assert!(rt; holds & is_left(rt.alloc(), queue, pass, &want)?);
     Ok(())
 }
 
@@ -331,9 +382,9 @@ fn two_threads_lose_nothing(rt: HostRuntime) -> Result<(), Fail> {
         || push_and_pop(&rt, alloc, &queue, &mut first, 0),
         || push_and_pop(&rt, alloc, &queue, &mut second, 1),
     );
-    assert!(rt; has_taken(&first, by_first)? & has_taken(&second, by_second)?);
-    assert!(rt; first.put().len() == 1000 && second.put().len() == 1000);
-    assert!(rt; is_nothing_lost(alloc, queue, first, second)?);
+    let have_put = (first.put().len() == 1000) & (second.put().len() == 1000);
+    let holds = have_put & has_taken(&first, by_first)? & has_taken(&second, by_second)?;
+    assert!(rt; holds & is_nothing_lost(alloc, queue, first, second)?);
     Ok(())
 }
 
@@ -350,11 +401,11 @@ fn mixed(queue: MultiQueue, passes: Vec<Pass>) -> Result<(MultiQueue, Vec<Pass>)
 #[test]
 fn accounts_of_another_queue_are_mixed(rt: HostRuntime) -> Result<(), Fail> {
     let alloc = rt.alloc();
+    let passes = vec![in alloc; stranger(alloc)?]?;
     let (queue, mut pass) = MultiQueue::new(alloc, 2, 1)?;
-    assert!(rt; takes(&rt, &queue, &mut pass, item(5, 7)));
-    let (_other, stranger) = MultiQueue::new(alloc, 2, 1)?;
-    let (queue, _passes) = mixed(queue, vec![in alloc; stranger]?)?;
-    assert!(rt; is_left(alloc, queue, pass, &[item(5, 7)])?);
+    let holds = takes(&rt, &queue, &mut pass, item(5, 7));
+    let (queue, _passes) = mixed(queue, passes)?;
+    assert!(rt; holds & is_left(alloc, queue, pass, &[item(5, 7)])?);
     Ok(())
 }
 
@@ -370,13 +421,13 @@ fn hands_back(alloc: Global, queue: MultiQueue, pass: Pass, put: &[Item]) -> Res
 #[test]
 fn accounts_count_how_often(rt: HostRuntime) -> Result<(), Fail> {
     let alloc = rt.alloc();
+    let (once, twice) = ([item(5, 7)], [item(5, 7), item(5, 7)]);
     let (queue, mut pass) = MultiQueue::new(alloc, 1, 1)?;
     let (other, mut stranger) = MultiQueue::new(alloc, 1, 1)?;
-    let (once, twice) = ([item(5, 7)], [item(5, 7), item(5, 7)]);
-    assert!(rt; takes(&rt, &queue, &mut pass, once[0]) && takes(&rt, &queue, &mut pass, once[0]));
-    assert!(rt; takes(&rt, &other, &mut stranger, once[0]));
-    assert!(rt; hands_back(alloc, queue, stranger, &once)?);
-    assert!(rt; hands_back(alloc, other, pass, &twice)?);
+    let are_taken = takes_all(&rt, &queue, &mut pass, &twice)
+        & takes_all(&rt, &other, &mut stranger, &once);
+    let holds = are_taken & hands_back(alloc, queue, stranger, &once)?;
+    assert!(rt; holds & hands_back(alloc, other, pass, &twice)?);
     Ok(())
 }
 
@@ -388,9 +439,8 @@ fn errors_by_name_and_number(rt: HostRuntime) -> Result<(), Fail> {
         (CloseError::Mixed, 3, "Mixed"),
     ];
     for (error, number, name) in names {
-        assert!(rt; error as u8 == number);
         let said = format!(in rt.alloc(); "{error}")?;
-        assert!(rt; said.as_str() == name);
+        assert!(rt; (error as u8 == number) & (said.as_str() == name));
     }
     Ok(())
 }

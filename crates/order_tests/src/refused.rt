@@ -76,14 +76,22 @@ fn hears<E: Estimator>(mut estimator: E, entry: &Contraction) -> bool
     notes(&estimator) == AFTER
 }
 
+/// Whether one estimator of each kind hears of the entry.
+fn all_hear(alloc: Global, leases: &mut Leases, entry: &Contraction) -> Result<bool, AllocError>
+    requires rank { entry.now.rank ≡ 0 }
+    requires neighbours { entry.now.neighbours ≡ 1 ∷ 2 ∷ [] }
+{
+    let by_edges = hears(EdgeDifference::new(alloc, leases.lease()?), entry);
+    let by_neighbours = hears(Neighbours::new(alloc, leases.lease()?), entry);
+    let by_depth = hears(Depth::new(alloc, leases.lease()?), entry);
+    Ok(by_edges & by_neighbours & by_depth)
+}
+
 #[test]
 fn told(rt: HostRuntime) -> Result<(), Fail> {
-    let alloc = rt.alloc();
-    let mut leases = Leases::new(alloc)?;
-    let entry = first_entry(alloc)?;
-    assert!(rt; hears(EdgeDifference::new(alloc, leases.lease()?), &entry));
-    assert!(rt; hears(Neighbours::new(alloc, leases.lease()?), &entry));
-    assert!(rt; hears(Depth::new(alloc, leases.lease()?), &entry));
+    let mut leases = Leases::new(rt.alloc())?;
+    let entry = first_entry(rt.alloc())?;
+    assert!(rt; all_hear(rt.alloc(), &mut leases, &entry)?);
     Ok(())
 }
 
@@ -145,21 +153,39 @@ fn are_twelve(alloc: Global, items: &mut Vec<Item>) -> Result<bool, AllocError> 
     Ok(items.as_slice() == put.as_slice())
 }
 
-#[test]
-fn queue(rt: HostRuntime) -> Result<(), Fail> {
-    let alloc = rt.alloc();
-    let (mut queue, mut first) = match MultiQueue::new(alloc, 2, 1) {
-        Ok(made) => made,
-        Err(AllocError) => MultiQueue::new(alloc, 2, 1)?,
-    };
-    let mut second = queue.pass()?;
-    put_twelve(&rt, &queue, &mut first, &mut second)?;
-    let taken = taken(&rt, &queue, &mut first)?;
-    let mut items = left(queue, vec![in alloc; first, second]?)?;
-    assert!(rt; items.len() == 11);
+/// A queue of two heaps, and its first pass.
+fn made(alloc: Global) -> Result<(MultiQueue, Pass), AllocError>
+    ensures { IfOk result (λ made. made.0.passes ≡ 1) }
+{
+    match MultiQueue::new(alloc, 2, 1) {
+        Ok(made) => Ok(made),
+        Err(AllocError) => MultiQueue::new(alloc, 2, 1),
+    }
+}
+
+/// Whether eleven items are left, and the twelve with the one that was taken.
+fn lose_nothing(
+    alloc: Global,
+    queue: MultiQueue,
+    passes: Vec<Pass>,
+    taken: Option<Item>,
+) -> Result<bool, Fail> {
+    let mut items = left(queue, passes)?;
+    let are_left = items.len() == 11;
     if let Some(taken) = taken {
         items.push(taken)?;
     }
-    assert!(rt; are_twelve(alloc, &mut items)?);
+    Ok(are_left & are_twelve(alloc, &mut items)?)
+}
+
+#[test]
+fn queue(rt: HostRuntime) -> Result<(), Fail> {
+    let alloc = rt.alloc();
+    let (mut queue, mut first) = made(alloc)?;
+    let mut second = queue.pass()?;
+    put_twelve(&rt, &queue, &mut first, &mut second)?;
+    let taken = taken(&rt, &queue, &mut first)?;
+    let passes = vec![in alloc; first, second]?;
+    assert!(rt; lose_nothing(alloc, queue, passes, taken)?);
     Ok(())
 }

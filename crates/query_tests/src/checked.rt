@@ -10,8 +10,17 @@ use std::test::Fail;
 /// A link by its ends, its length and its middle.
 type Given = (u32, u32, u64, Option<u32>);
 
-/// A row of three nodes, with a shortcut by way of the first.
-const ROW: [Given; 3] = [(0, 2, 3, None), (1, 0, 2, None), (1, 2, 5, Some(0))];
+/// The link of a row of three nodes that leaves the first.
+const UP: Given = (0, 2, 3, None);
+
+/// The one that comes to the first.
+const DOWN: Given = (1, 0, 2, None);
+
+/// The shortcut by way of the first.
+const SHORTCUT: Given = (1, 2, 5, Some(0));
+
+/// The row.
+const ROW: [Given; 3] = [UP, DOWN, SHORTCUT];
 
 /// The greatest bound of three nodes.
 const GREATEST: u64 = 8_589_934_590;
@@ -47,31 +56,52 @@ fn finds_each_link(hierarchy: &Hierarchy) -> bool {
         == Some(LinkId(place)))
 }
 
-/// Whether it has these links once it has an index, and finds each of them.
-fn is_indexed(
-    alloc: Global,
-    hierarchy: Hierarchy,
-    links: &[Given],
-) -> Result<bool, HierarchyError> {
-    let hierarchy = hierarchy.into_indexed(alloc)?;
+/// Whether it has these links, and finds each of them.
+fn has_links(alloc: Global, hierarchy: &Hierarchy, links: &[Given]) -> Result<bool, Fail> {
     let links = links_of(alloc, links)?;
-    Ok((hierarchy.links() == links.as_slice()) & finds_each_link(&hierarchy))
+    Ok((hierarchy.links() == links.as_slice()) & finds_each_link(hierarchy))
+}
+
+/// Whether it has these links once it has an index.
+fn is_indexed(alloc: Global, hierarchy: Hierarchy, links: &[Given]) -> Result<bool, Fail> {
+    let hierarchy = hierarchy.into_indexed(alloc)?;
+    has_links(alloc, &hierarchy, links)
+}
+
+/// Ranks, links and a bound.
+type Case = (&'static [u32], &'static [Given], u64);
+
+/// Whether there is a hierarchy of these.
+fn is_made(alloc: Global, (ranks, links, bound): Case) -> Result<bool, Fail> {
+    let hierarchy = checked(alloc, ranks, links, bound)??;
+    let (nodes, length) = (hierarchy.nodes(), hierarchy.bound().length());
+    let is_indexed = is_indexed(alloc, hierarchy, links)?;
+    Ok((nodes as usize == ranks.len()) & (length == bound) & is_indexed)
+}
+
+/// Whether there is none of these, for this reason.
+fn is_refused(
+    alloc: Global,
+    (ranks, links, bound): Case,
+    error: HierarchyError,
+) -> Result<bool, AllocError> {
+    match checked(alloc, ranks, links, bound)? {
+        Ok(_) => Ok(false),
+        Err(refusal) => Ok(refusal == error),
+    }
 }
 
 #[test]
 fn is_made_of_what_is_well_made(rt: HostRuntime) -> Result<(), Fail> {
-    let cases: [(&[u32], &[Given], u64); 5] = [
+    let cases: [Case; 5] = [
         (&[0, 1, 2], &ROW, 6),
         (&[0, 2, 1], &ROW, 5),
-        (&[2, 0, 1], &ROW[..2], GREATEST),
+        (&[2, 0, 1], &[UP, DOWN], GREATEST),
         (&[0], &[], 0),
         (&[], &[], 0),
     ];
-    for (ranks, links, bound) in cases {
-        let hierarchy = checked(rt.alloc(), ranks, links, bound)??;
-        assert!(rt; hierarchy.nodes() as usize == ranks.len());
-        assert!(rt; hierarchy.bound().length() == bound);
-        assert!(rt; is_indexed(rt.alloc(), hierarchy, links)?);
+    for case in cases {
+        assert!(rt; is_made(rt.alloc(), case)?);
     }
     Ok(())
 }
@@ -88,8 +118,7 @@ fn tells_of_ranks_and_bounds(rt: HostRuntime) -> Result<(), Fail> {
         (&[2, 1, 2], 6, HierarchyError::BadRank(2)),
     ];
     for (ranks, bound, error) in cases {
-        let refused = checked(rt.alloc(), ranks, &ROW, bound)?.err();
-        assert!(rt; refused == Some(error));
+        assert!(rt; is_refused(rt.alloc(), (ranks, &ROW, bound), error)?);
     }
     Ok(())
 }
@@ -105,14 +134,14 @@ fn tells_of_too_many_nodes(rt: HostRuntime) -> Result<(), Fail> {
 #[test]
 fn tells_of_links_out_of_order(rt: HostRuntime) -> Result<(), Fail> {
     let cases: [(&[Given], usize); 4] = [
-        (&[ROW[1], ROW[0], ROW[2]], 1),
-        (&[ROW[0], ROW[2], ROW[1]], 2),
-        (&[ROW[0], ROW[0], ROW[1]], 1),
+        (&[DOWN, UP, SHORTCUT], 1),
+        (&[UP, SHORTCUT, DOWN], 2),
+        (&[UP, UP, DOWN], 1),
         (&[(0, 0, 0, None), (0, 2, 3, None), (0, 1, 3, None)], 2),
     ];
     for (links, place) in cases {
-        let refused = checked(rt.alloc(), &[0, 1, 2], links, 6)?.err();
-        assert!(rt; refused == Some(HierarchyError::LinkOutOfOrder(place)));
+        let error = HierarchyError::LinkOutOfOrder(place);
+        assert!(rt; is_refused(rt.alloc(), (&[0, 1, 2], links, 6), error)?);
     }
     Ok(())
 }
@@ -121,16 +150,16 @@ fn tells_of_links_out_of_order(rt: HostRuntime) -> Result<(), Fail> {
 fn tells_of_links_by_themselves(rt: HostRuntime) -> Result<(), Fail> {
     let cases: [(&[Given], usize); 7] = [
         (&[(0, 3, 3, None)], 0),
-        (&[ROW[0], (3, 0, 3, None)], 1),
-        (&[ROW[0], (1, 1, 3, None)], 1),
-        (&[ROW[0], (1, 0, 0, None), (1, 2, 0, None)], 1),
-        (&[ROW[0], (1, 0, 6, None), (1, 2, 7, None)], 2),
+        (&[UP, (3, 0, 3, None)], 1),
+        (&[UP, (1, 1, 3, None)], 1),
+        (&[UP, (1, 0, 0, None), (1, 2, 0, None)], 1),
+        (&[UP, (1, 0, 6, None), (1, 2, 7, None)], 2),
         (&[(0, 1, u64::MAX, None)], 0),
-        (&[ROW[0], ROW[1], (1, 2, 5, None), (2, 2, 1, None)], 3),
+        (&[UP, DOWN, (1, 2, 5, None), (2, 2, 1, None)], 3),
     ];
     for (links, place) in cases {
-        let refused = checked(rt.alloc(), &[0, 1, 2], links, 6)?.err();
-        assert!(rt; refused == Some(HierarchyError::BadLink(place)));
+        let error = HierarchyError::BadLink(place);
+        assert!(rt; is_refused(rt.alloc(), (&[0, 1, 2], links, 6), error)?);
     }
     Ok(())
 }
@@ -139,12 +168,12 @@ fn tells_of_links_by_themselves(rt: HostRuntime) -> Result<(), Fail> {
 fn tells_of_links_without_their_halves(rt: HostRuntime) -> Result<(), Fail> {
     let cases: [(&[u32], &[Given], usize); 10] = [
         // One half or both aren't there.
-        (&[0, 1, 2], &[ROW[1], ROW[2]], 1),
-        (&[0, 1, 2], &[ROW[0], ROW[2]], 1),
-        (&[0, 1, 2], &[ROW[2]], 0),
+        (&[0, 1, 2], &[DOWN, SHORTCUT], 1),
+        (&[0, 1, 2], &[UP, SHORTCUT], 1),
+        (&[0, 1, 2], &[SHORTCUT], 0),
         // They don't sum to its cost.
-        (&[0, 1, 2], &[ROW[0], ROW[1], (1, 2, 4, Some(0))], 2),
-        (&[0, 1, 2], &[ROW[0], ROW[1], (1, 2, 6, Some(0))], 2),
+        (&[0, 1, 2], &[UP, DOWN, (1, 2, 4, Some(0))], 2),
+        (&[0, 1, 2], &[UP, DOWN, (1, 2, 6, Some(0))], 2),
         (
             &[1, 2, 0],
             &[(0, 1, 1, Some(2)), (0, 2, u64::MAX, None), (2, 1, 2, None)],
@@ -162,8 +191,8 @@ fn tells_of_links_without_their_halves(rt: HostRuntime) -> Result<(), Fail> {
         ),
     ];
     for (ranks, links, place) in cases {
-        let refused = checked(rt.alloc(), ranks, links, 6)?.err();
-        assert!(rt; refused == Some(HierarchyError::BadLink(place)));
+        let error = HierarchyError::BadLink(place);
+        assert!(rt; is_refused(rt.alloc(), (ranks, links, 6), error)?);
     }
     Ok(())
 }

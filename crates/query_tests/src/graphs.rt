@@ -49,22 +49,34 @@ fn graph_of(alloc: Global, nodes: u32, arcs: &[(u32, u32, u32)]) -> Result<Graph
     Ok(graph)
 }
 
-/// Compares the bound of a graph and least lengths, each given by its ends.
-fn check_least(
-    rt: &impl Abort,
-    graph: &Graph,
-    bound: u64,
-    lengths: &[(u32, u32, Option<u64>)],
-) -> Result<(), Fail> {
-    assert!(rt; graph.bound().length() == bound);
-    for (source, target, length) in lengths {
-        assert!(rt; *source < graph.nodes());
-        assert!(rt; *target < graph.nodes());
-        let least = graph.least(*source, *target)?;
-        let is_right = least.map(Cost::length) == *length;
-        assert!(rt; is_right, "from {source} to {target}");
+/// Two nodes, and the least length between them, if there is a walk.
+type Least = (u32, u32, Option<u64>);
+
+/// Whether this is the least length between two nodes.
+fn is_least(graph: &Graph, (source, target, length): Least) -> Result<bool, AllocError> {
+    if source >= graph.nodes() || target >= graph.nodes() {
+        return Ok(false);
     }
-    Ok(())
+    let least = graph.least(source, target)?;
+    Ok(least.map(Cost::length) == length)
+}
+
+/// Whether a graph has this bound and these least lengths.
+fn answers(graph: &Graph, bound: u64, lengths: &[Least]) -> Result<bool, Fail> {
+    let mut holds = graph.bound().length() == bound;
+    for length in lengths {
+        holds &= is_least(graph, *length)?;
+    }
+    Ok(holds)
+}
+
+/// Nodes, arcs, a bound and least lengths.
+type Case = (u32, &'static [(u32, u32, u32)], u64, &'static [Least]);
+
+/// Whether the graph of a case has its bound and its least lengths.
+fn holds_so(alloc: Global, (nodes, arcs, bound, lengths): Case) -> Result<bool, Fail> {
+    let graph = graph_of(alloc, nodes, arcs)?;
+    answers(&graph, bound, lengths)
 }
 
 /// What arcs of these weights cost together.
@@ -128,7 +140,7 @@ fn refuses_arcs_that_are_not_allowed(rt: HostRuntime) -> Result<(), Fail> {
 
 #[test]
 fn answers_least_lengths(rt: HostRuntime) -> Result<(), Fail> {
-    let cases: [(u32, &[(u32, u32, u32)], u64, &[(u32, u32, Option<u64>)]); 6] = [
+    let cases: [Case; 6] = [
         (
             3,
             &ROW,
@@ -156,9 +168,8 @@ fn answers_least_lengths(rt: HostRuntime) -> Result<(), Fail> {
         (2, &[(0, 1, HEAVY)], 4294967295, &[(0, 1, Some(4294967295))]),
         (1, &[], 0, &[(0, 0, Some(0))]),
     ];
-    for (nodes, arcs, bound, lengths) in cases {
-        let graph = graph_of(rt.alloc(), nodes, arcs)?;
-        check_least(&rt, &graph, bound, lengths)?;
+    for case in cases {
+        assert!(rt; holds_so(rt.alloc(), case)?);
     }
     Ok(())
 }

@@ -46,17 +46,31 @@ fn two_nodes(alloc: Global) -> Result<Result<Hierarchy, HierarchyError>, AllocEr
     Ok(Hierarchy::checked(alloc, ranks, links, Cost::of_weight(7)))
 }
 
-/// A hierarchy that is refused for want of memory is made again.
+/// That hierarchy, which is made again where it is refused for want of memory.
+fn plain(alloc: Global) -> Result<Result<Hierarchy, HierarchyError>, AllocError> {
+    match two_nodes(alloc)? {
+        Err(HierarchyError::OutOfMemory) => two_nodes(alloc),
+        answer => Ok(answer),
+    }
+}
+
+/// The same with an index. One that is refused memory is made again.
+fn indexed(alloc: Global) -> Result<Hierarchy, Fail> {
+    match plain(alloc)??.into_indexed(alloc) {
+        Ok(indexed) => Ok(indexed),
+        Err(AllocError) => Ok(two_nodes(alloc)??.into_indexed(alloc)?),
+    }
+}
+
+/// Whether a hierarchy is of two nodes, and finds the link between them.
+fn is_whole(hierarchy: &Hierarchy) -> bool {
+    (hierarchy.nodes() == 2) & (hierarchy.find(0, 1) == Some(LinkId(0)))
+}
+
+/// A hierarchy that is refused memory is made again, and has to be as with ample memory.
 #[test]
 fn checked(rt: HostRuntime) -> Result<(), Fail> {
-    let hierarchy = match two_nodes(rt.alloc())? {
-        Err(HierarchyError::OutOfMemory) => two_nodes(rt.alloc())??,
-        answer => answer?,
-    };
-    let hierarchy = match hierarchy.into_indexed(rt.alloc()) {
-        Ok(indexed) => indexed,
-        Err(AllocError) => two_nodes(rt.alloc())??.into_indexed(rt.alloc())?,
-    };
-    assert!(rt; hierarchy.nodes() == 2 && hierarchy.find(0, 1) == Some(LinkId(0)));
+    let hierarchy = indexed(rt.alloc())?;
+    assert!(rt; is_whole(&hierarchy));
     Ok(())
 }

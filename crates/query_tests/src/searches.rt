@@ -47,32 +47,60 @@ const LENGTHS: [[Option<u64>; 4]; 4] = [
     [None, Some(1), None, Some(0)],
 ];
 
+/// Makes a search of a hierarchy and lets it go.
+fn make_search(alloc: Global, hierarchy: &Hierarchy) -> Result<(), Fail> {
+    let _search = Search::new(alloc, hierarchy)?;
+    Ok(())
+}
+
 #[test]
 fn no_node(rt: HostRuntime) -> Result<(), Fail> {
-    let alloc = rt.alloc();
-    let hierarchy = hierarchy_of(alloc, &[], &[], Cost::ZERO)?;
-    let search = Search::new(alloc, &hierarchy);
-    assert!(rt; search.is_ok());
+    let hierarchy = hierarchy_of(rt.alloc(), &[], &[], Cost::ZERO)?;
+    make_search(rt.alloc(), &hierarchy)?;
+    assert!(rt; hierarchy.nodes() == 0);
     Ok(())
 }
 
 /// Two nodes, and the length and the links of the walk that is found between them, or none.
 type Question = (u32, u32, Option<(u64, &'static [LinkId])>);
 
-/// Whether a search gives this answer.
-fn answers(
-    alloc: Global,
-    hierarchy: &Hierarchy,
-    (source, target, expected): Question,
-) -> Result<bool, AllocError> {
-    if source >= hierarchy.nodes() || target >= hierarchy.nodes() {
+/// Whether a search of a hierarchy of so many nodes gives this answer.
+fn answers(search: &mut Search, nodes: u32, question: Question) -> Result<bool, AllocError>
+    requires { length search.old.ranks ≡ nodes }
+{
+    let (source, target, expected) = question;
+    if source >= nodes || target >= nodes {
         return Ok(false);
     }
-    let mut search = Search::new(alloc, hierarchy)?;
     let found = search.distance(source, target)?;
     Ok(is_found(found, expected))
 }
 
+/// Whether a new search of a hierarchy gives this answer.
+fn is_answered(
+    alloc: Global,
+    hierarchy: &Hierarchy,
+    question: Question,
+) -> Result<bool, AllocError> {
+    let nodes = hierarchy.nodes();
+    let mut search = Search::new(alloc, hierarchy)?;
+    answers(&mut search, nodes, question)
+}
+
+/// Whether new searches of a hierarchy give each of these answers.
+fn are_answered(
+    alloc: Global,
+    hierarchy: &Hierarchy,
+    questions: &[Question],
+) -> Result<bool, Fail> {
+    let mut holds = true;
+    for question in questions {
+        holds &= is_answered(alloc, hierarchy, *question)?;
+    }
+    Ok(holds)
+}
+
+/// Whether a walk is of this length and these links, or there is neither.
 fn is_found(found: Option<Found>, expected: Option<(u64, &[LinkId])>) -> bool {
     match (found, expected) {
         (Some(walk), Some((length, links))) => {
@@ -120,20 +148,22 @@ const CASES: [Case; 4] = [
     ),
 ];
 
+/// Whether searches of the hierarchy of a case give its answers.
+fn holds_so(alloc: Global, (ranks, arcs, (count, weight), questions): Case) -> Result<bool, Fail> {
+    let hierarchy = hierarchy_of(alloc, ranks, arcs, Cost::of_arcs(count, weight))?;
+    are_answered(alloc, &hierarchy, questions)
+}
+
 #[test]
 fn least_walks(rt: HostRuntime) -> Result<(), Fail> {
-    let alloc = rt.alloc();
-    for (ranks, arcs, (count, weight), questions) in CASES {
-        let hierarchy = hierarchy_of(alloc, ranks, arcs, Cost::of_arcs(count, weight))?;
-        for question in questions {
-            assert!(rt; answers(alloc, &hierarchy, *question)?);
-        }
+    for case in CASES {
+        assert!(rt; holds_so(rt.alloc(), case)?);
     }
     Ok(())
 }
 
-/// Whether a thousand calls of one search give the lengths that were found by hand.
-fn answers_a_thousand(search: &mut Search) -> Result<bool, AllocError>
+/// Whether a thousand calls of a search give the lengths that were found by hand.
+fn answers_a_thousand(search: &mut Search) -> Result<bool, Fail>
     requires { length search.old.ranks ≡ 4 }
 {
     let mut holds = true;
@@ -147,11 +177,22 @@ fn answers_a_thousand(search: &mut Search) -> Result<bool, AllocError>
     Ok(holds)
 }
 
+/// Whether one search of a hierarchy gives them.
+fn one_search_answers(alloc: Global, hierarchy: &Hierarchy) -> Result<bool, Fail>
+    requires { length hierarchy.now.ranks ≡ 4 }
+{
+    let mut search = Search::new(alloc, hierarchy)?;
+    answers_a_thousand(&mut search)
+}
+
+/// Whether one search of the hierarchy of two tops gives them.
+fn two_tops_are_searched(alloc: Global) -> Result<bool, Fail> {
+    let hierarchy = two_tops(alloc)?;
+    one_search_answers(alloc, &hierarchy)
+}
+
 #[test]
 fn a_thousand_calls_of_one_search(rt: HostRuntime) -> Result<(), Fail> {
-    let alloc = rt.alloc();
-    let hierarchy = two_tops(alloc)?;
-    let mut search = Search::new(alloc, &hierarchy)?;
-    assert!(rt; answers_a_thousand(&mut search)?);
+    assert!(rt; two_tops_are_searched(rt.alloc())?);
     Ok(())
 }

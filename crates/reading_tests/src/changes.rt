@@ -1,3 +1,5 @@
+ghost use Rattle.std.specs.Prelude.{◌<◌};
+
 use crate::files::{HEAVY, MAGIC, ROW, bytes, refusal};
 use crate::plain::first_fault;
 use std::alloc::{AllocError, Global};
@@ -24,33 +26,55 @@ impl Draw {
     }
 }
 
-// Whether these bytes are refused as the plain reader says.
+/// Whether these bytes are refused as the plain reader says.
 fn is_told(alloc: Global, bytes: &[u8]) -> bool {
     refusal(alloc, bytes) == first_fault(bytes)
+}
+
+/// Whether a file is told with each value of the byte at this place. The byte is then as it was.
+fn is_told_at(alloc: Global, file: &mut [u8], place: usize) -> bool {
+    let Some(kept) = file.get(place).copied() else {
+        return false;
+    };
+    let mut is_each_told = true;
+    for value in 0..=255u8 {
+        if let Some(byte) = file.get_mut(place) {
+            *byte = value;
+        }
+        is_each_told &= is_told(alloc, file);
+    }
+    if let Some(byte) = file.get_mut(place) {
+        *byte = kept;
+    }
+    is_each_told
+}
+
+/// Whether a file is told with each value of each byte. Where it is, it is then as it was.
+fn is_told_everywhere(alloc: Global, file: &mut [u8]) -> bool {
+    for place in 0..file.len() {
+        if !is_told_at(alloc, file, place) {
+            return false;
+        }
+    }
+    true
 }
 
 #[test]
 fn each_byte_changed(rt: HostRuntime) -> Result<(), AllocError> {
     let mut file = bytes(rt.alloc(), &ROW)?;
-    for place in 0..file.len() {
-        let Some(kept) = file.get(place).copied() else {
-            continue;
-        };
-        for value in 0..=255u8 {
-            if let Some(byte) = file.get_mut(place) {
-                *byte = value;
-            }
-            assert!(rt;
-                is_told(rt.alloc(), file.as_slice()),
-                "byte {place} is {value}"
-            );
-        }
-        if let Some(byte) = file.get_mut(place) {
-            *byte = kept;
+    let is_told = is_told_everywhere(rt.alloc(), file.as_mut_slice());
+    assert!(rt; is_told & refusal(rt.alloc(), file.as_slice()).is_none());
+    Ok(())
+}
+
+/// Whether each front of a file is told.
+fn is_each_front_told(alloc: Global, file: &[u8]) -> bool {
+    for length in 0..=file.len() {
+        if !is_told(alloc, &file[..length]) {
+            return false;
         }
     }
-    assert!(rt; refusal(rt.alloc(), file.as_slice()).is_none());
-    Ok(())
+    true
 }
 
 #[test]
@@ -58,11 +82,7 @@ fn each_cut(rt: HostRuntime) -> Result<(), AllocError> {
     let files: [&[u32]; 2] = [&ROW, &HEAVY];
     for words in files {
         let file = bytes(rt.alloc(), words)?;
-        for length in 0..=file.len() {
-            if let Some(front) = file.as_slice().get(..length) {
-                assert!(rt; is_told(rt.alloc(), front), "{length} bytes");
-            }
-        }
+        assert!(rt; is_each_front_told(rt.alloc(), file.as_slice()));
     }
     Ok(())
 }
@@ -92,17 +112,19 @@ fn some_bytes_changed(rt: HostRuntime) -> Result<(), AllocError> {
 }
 
 // The file of 64 nodes and no link, whose ranks fall, with the rank of one node given to another.
-fn falling(alloc: Global, node: usize, other: usize) -> Result<Vec<u8>, AllocError> {
-    let mut words = Vec::new(alloc);
-    words.extend_from_slice(&[MAGIC, 64, 0, 0, 0, 0])?;
+fn falling(alloc: Global, node: usize, other: usize) -> Result<Vec<u8>, AllocError>
+    requires node_in { node < 64 }
+    requires other_in { other < 64 }
+{
+    let mut ranks = [0u32; 64];
     for node in 0..64u32 {
-        words.push(63u32.saturating_sub(node))?;
+        ranks[node as usize] = 63 - node;
     }
-    let rank = words.get(node.saturating_add(6)).copied().unwrap_or(0);
-    if let Some(word) = words.get_mut(other.saturating_add(6)) {
-        *word = rank;
-    }
-    bytes(alloc, words.as_slice())
+    ranks[other] = ranks[node];
+    let mut words = [0u32; 70];
+    words[..2].copy_from_slice(&[MAGIC, 64]);
+    words[6..].copy_from_slice(&ranks);
+    bytes(alloc, &words)
 }
 
 #[test]

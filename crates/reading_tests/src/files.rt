@@ -1,3 +1,5 @@
+ghost use Rattle.std.specs.Prelude.{◌<◌, length};
+
 use ch_graph::Hierarchy;
 use ch_query::Search;
 use hierfile::{HierError, WriteFault, read, read_within, write, write_within};
@@ -97,16 +99,45 @@ pub(crate) fn refusal(alloc: Global, mut bytes: &[u8]) -> Option<HierError> {
     read(alloc, &mut bytes).err()
 }
 
-// Whether a file is read, and written as it was.
+/// Whether a hierarchy is written as these bytes.
+fn is_written_as(alloc: Global, hierarchy: &Hierarchy, bytes: &[u8]) -> bool {
+    let mut written = Vec::new(alloc);
+    write(hierarchy, &mut written).is_ok() & (written.as_slice() == bytes)
+}
+
+/// Whether bytes are read, and written as they were.
+fn are_kept(alloc: Global, bytes: &[u8]) -> bool {
+    match read(alloc, &mut { bytes }) {
+        Ok(hierarchy) => is_written_as(alloc, &hierarchy, bytes),
+        Err(_) => false,
+    }
+}
+
+/// Whether a file is read, and written as it was.
 fn is_kept(alloc: Global, words: &[u32]) -> Result<bool, AllocError> {
     let bytes = bytes(alloc, words)?;
-    let mut rest = bytes.as_slice();
-    let Ok(hierarchy) = read(alloc, &mut rest) else {
-        return Ok(false);
-    };
-    let mut written = Vec::new(alloc);
-    Ok(write(&hierarchy, &mut written).is_ok() && written.as_slice() == bytes.as_slice())
+    Ok(are_kept(alloc, bytes.as_slice()))
 }
+
+/// Other numbers at some places of a file, and what it is refused for with them.
+type Change = (&'static [(usize, u32)], HierError);
+
+/// Changes of the row.
+const CHANGES: [Change; 13] = [
+    (&[(1, 33_554_433), (2, 0)], HierError::TooBig),
+    (&[(2, 0), (3, 7)], HierError::TooBig),
+    (&[(4, 1), (5, NONE)], HierError::BoundTooBig),
+    (&[(6, 3), (7, 1)], HierError::RankRange),
+    (&[(6, 0), (7, 0)], HierError::RankTwice),
+    (&[(19, 1), (20, 1)], HierError::LinkEnds),
+    (&[(19, 1), (20, 3)], HierError::LinkEnds),
+    (&[(19, 1), (20, 0)], HierError::LinkOrder),
+    (&[(21, 0), (22, 0)], HierError::LinkWeight),
+    (&[(21, 0), (22, 7)], HierError::LinkWeight),
+    (&[(22, 5), (23, 3)], HierError::MiddleRange),
+    (&[(22, 5), (23, 2)], HierError::MiddleRank),
+    (&[(21, 0), (22, 4)], HierError::HalfSum),
+];
 
 // Why a file is refused with other numbers at some places, or none.
 fn refusal_of(
@@ -134,69 +165,103 @@ fn keeps_files(rt: HostRuntime) -> Result<(), AllocError> {
     Ok(())
 }
 
-#[test]
-fn reads_numbers(rt: HostRuntime) -> Result<(), AllocError> {
-    let bytes = bytes(rt.alloc(), &ROW)?;
-    let mut rest = bytes.as_slice();
-    let read = read(rt.alloc(), &mut rest);
-    assert!(rt; read.is_ok());
-    if let Ok(hierarchy) = read {
-        assert!(rt; hierarchy.nodes() == 3);
-        assert!(rt; hierarchy.bound().length() == 6);
-        assert!(rt; hierarchy.links().len() == 3);
-        let last = hierarchy.links().last().copied();
-        assert!(rt; last.map(|link| link.cost.length()) == Some(5));
-        assert!(rt; last.map(|link| link.middle) == Some(Some(0)));
+/// Whether a hierarchy has the numbers of the row.
+fn has_numbers(hierarchy: &Hierarchy) -> bool {
+    let links = hierarchy.links();
+    let Some(last) = links.last() else {
+        return false;
+    };
+    (hierarchy.nodes() == 3)
+        & (hierarchy.bound().length() == 6)
+        & (links.len() == 3)
+        & (last.cost.length() == 5)
+        & (last.middle == Some(0))
+}
+
+/// Whether the row is read with its numbers.
+fn row_has_numbers(alloc: Global) -> Result<bool, AllocError> {
+    match row(alloc)? {
+        Some(hierarchy) => Ok(has_numbers(&hierarchy)),
+        None => Ok(false),
     }
-    Ok(())
 }
 
 #[test]
-fn refuses_cut_files(rt: HostRuntime) -> Result<(), AllocError> {
-    let mut row = bytes(rt.alloc(), &ROW)?;
-    assert!(rt; row.len() == 96);
+fn reads_numbers(rt: HostRuntime) -> Result<(), AllocError> {
+    assert!(rt; row_has_numbers(rt.alloc())?);
+    Ok(())
+}
+
+/// Whether each front of the row but the whole of it is refused as cut.
+fn fronts_are_cut(alloc: Global, row: &[u8]) -> bool {
     for length in 0..row.len() {
-        let refusal = refusal(rt.alloc(), &row[..length]);
-        assert!(rt; refusal == Some(HierError::Truncated));
+        if refusal(alloc, &row[..length]) != Some(HierError::Truncated) {
+            return false;
+        }
     }
-    row.push(0)?;
+    row.len() == 96
+}
+
+/// Whether bytes that are too long, and bytes with another magic, are refused.
+fn others_are_refused(alloc: Global, longer: &[u8]) -> bool {
     let others: [(&[u8], HierError); 3] = [
-        (row.as_slice(), HierError::Trailing),
+        (longer, HierError::Trailing),
         (b"SCH1", HierError::BadMagic),
         (b"RX", HierError::BadMagic),
     ];
     for (bytes, expected) in others {
-        assert!(rt; refusal(rt.alloc(), bytes) == Some(expected));
+        if refusal(alloc, bytes) != Some(expected) {
+            return false;
+        }
     }
+    true
+}
+
+/// Whether the row is refused where it is cut or longer.
+fn row_is_whole(alloc: Global) -> Result<bool, AllocError> {
+    let mut row = bytes(alloc, &ROW)?;
+    let are_cut = fronts_are_cut(alloc, row.as_slice());
+    row.push(0)?;
+    Ok(are_cut & others_are_refused(alloc, row.as_slice()))
+}
+
+#[test]
+fn refuses_cut_files(rt: HostRuntime) -> Result<(), AllocError> {
+    assert!(rt; row_is_whole(rt.alloc())?);
     Ok(())
+}
+
+/// Whether a file is refused as it is said with each of these changes.
+fn are_refused(alloc: Global, file: &[u32], changes: &[Change]) -> Result<bool, AllocError> {
+    for (places, expected) in changes {
+        if refusal_of(alloc, file, places)? != Some(*expected) {
+            return Ok(false);
+        }
+    }
+    Ok(true)
+}
+
+/// Whether the row is refused with its changes.
+fn changed_rows_are_refused(alloc: Global) -> Result<bool, AllocError> {
+    are_refused(alloc, &ROW, &CHANGES)
+}
+
+/// Whether other files are refused, with changes or as they are.
+fn other_files_are_refused(alloc: Global) -> Result<bool, AllocError> {
+    let greatest: [Change; 3] = [
+        (&[], HierError::Truncated),
+        (&[(3, 0xfe00_0001)], HierError::TooBig),
+        (&[(1, 0x0200_0001)], HierError::TooBig),
+    ];
+    let exchanged = are_refused(alloc, &EXCHANGED, &[(&[], HierError::LinkOrder)])?;
+    let without_half = are_refused(alloc, &WITHOUT_HALF, &[(&[], HierError::HalfMissing)])?;
+    Ok(exchanged & without_half & are_refused(alloc, &GREATEST, &greatest)?)
 }
 
 #[test]
 fn refuses_files(rt: HostRuntime) -> Result<(), AllocError> {
-    let cases: [(&[u32], &[(usize, u32)], HierError); 18] = [
-        (&GREATEST, &[], HierError::Truncated),
-        (&GREATEST, &[(3, 0xfe00_0001)], HierError::TooBig),
-        (&GREATEST, &[(1, 0x0200_0001)], HierError::TooBig),
-        (&ROW, &[(1, 33_554_433), (2, 0)], HierError::TooBig),
-        (&ROW, &[(2, 0), (3, 7)], HierError::TooBig),
-        (&ROW, &[(4, 1), (5, NONE)], HierError::BoundTooBig),
-        (&ROW, &[(6, 3), (7, 1)], HierError::RankRange),
-        (&ROW, &[(6, 0), (7, 0)], HierError::RankTwice),
-        (&ROW, &[(19, 1), (20, 1)], HierError::LinkEnds),
-        (&ROW, &[(19, 1), (20, 3)], HierError::LinkEnds),
-        (&ROW, &[(19, 1), (20, 0)], HierError::LinkOrder),
-        (&EXCHANGED, &[], HierError::LinkOrder),
-        (&ROW, &[(21, 0), (22, 0)], HierError::LinkWeight),
-        (&ROW, &[(21, 0), (22, 7)], HierError::LinkWeight),
-        (&ROW, &[(22, 5), (23, 3)], HierError::MiddleRange),
-        (&ROW, &[(22, 5), (23, 2)], HierError::MiddleRank),
-        (&WITHOUT_HALF, &[], HierError::HalfMissing),
-        (&ROW, &[(21, 0), (22, 4)], HierError::HalfSum),
-    ];
-    for (file, places, expected) in cases {
-        let refusal = refusal_of(rt.alloc(), file, places)?;
-        assert!(rt; refusal == Some(expected));
-    }
+    assert!(rt; changed_rows_are_refused(rt.alloc())?);
+    assert!(rt; other_files_are_refused(rt.alloc())?);
     Ok(())
 }
 
@@ -230,22 +295,31 @@ fn push_link(words: &mut Vec<u32>, from: u32, to: u32) -> Result<(), AllocError>
     ])
 }
 
-// The length of the least walk between two nodes of a file and the number of its links, or none.
-fn distance(
-    alloc: Global,
-    words: &[u32],
-    from: u32,
-    to: u32,
-) -> Result<Option<(u64, usize)>, AllocError> {
-    let Some(hierarchy) = hierarchy_of(alloc, words)? else {
-        return Ok(None);
-    };
-    if from.max(to) >= hierarchy.nodes() {
-        return Ok(None);
+/// Whether the least walk from 37 to 36 is one link, of this length.
+fn goes_by_a_link(search: &mut Search) -> Result<bool, AllocError>
+    requires all { 37 < length search.old.ranks }
+{
+    match search.distance(37, 36)? {
+        Some(found) => Ok((found.cost.length() == 68_719_476_736) & (found.links.len() == 1)),
+        None => Ok(false),
     }
-    let mut search = Search::new(alloc, &hierarchy)?;
-    let found = search.distance(from, to)?;
-    Ok(found.map(|found| (found.cost.length(), found.links.len())))
+}
+
+/// Whether the least walk between the last two of 38 nodes is their link.
+fn joins_the_last(alloc: Global, hierarchy: &Hierarchy) -> Result<bool, AllocError> {
+    if hierarchy.nodes() <= 37 {
+        return Ok(false);
+    }
+    let mut search = Search::new(alloc, hierarchy)?;
+    goes_by_a_link(&mut search)
+}
+
+/// Whether a file is read, and its last two nodes of 38 are joined so.
+fn is_joined(alloc: Global, words: &[u32]) -> Result<bool, AllocError> {
+    match hierarchy_of(alloc, words)? {
+        Some(hierarchy) => joins_the_last(alloc, &hierarchy),
+        None => Ok(false),
+    }
 }
 
 // The hierarchy of a file of these numbers, or none.
@@ -255,13 +329,16 @@ fn hierarchy_of(alloc: Global, words: &[u32]) -> Result<Option<Hierarchy>, Alloc
     Ok(read(alloc, &mut rest).ok())
 }
 
+/// Whether the words of a cascade are kept, and join its last two nodes.
+fn is_a_cascade(alloc: Global, words: &[u32]) -> Result<bool, AllocError> {
+    let are_all = words.len() == 6 + 38 + 5 * 1406;
+    Ok(are_all & is_kept(alloc, words)? & is_joined(alloc, words)?)
+}
+
 #[test]
 fn keeps_a_cascade(rt: HostRuntime) -> Result<(), AllocError> {
     let words = cascade(rt.alloc())?;
-    assert!(rt; words.len() == 6 + 38 + 5 * 1406);
-    assert!(rt; is_kept(rt.alloc(), words.as_slice())?);
-    let last = distance(rt.alloc(), words.as_slice(), 37, 36)?;
-    assert!(rt; last == Some((68_719_476_736, 1)));
+    assert!(rt; is_a_cascade(rt.alloc(), words.as_slice())?);
     Ok(())
 }
 
@@ -292,9 +369,8 @@ impl Read for Pieces<'_> {
     }
 }
 
-#[test]
-fn reads_in_pieces(rt: HostRuntime) -> Result<(), AllocError> {
-    let row = bytes(rt.alloc(), &ROW)?;
+/// Whether a file in pieces is read, or refused, as it is said.
+fn is_read_in_pieces(alloc: Global, bytes: &[u8]) -> bool {
     let table = [
         (1, 1000, 194, None),
         (1, 1000, 193, Some(HierError::Read)),
@@ -303,13 +379,22 @@ fn reads_in_pieces(rt: HostRuntime) -> Result<(), AllocError> {
     ];
     for (most, calls, limit, expected) in table {
         let mut pieces = Pieces {
-            bytes: row.as_slice(),
+            bytes,
             most,
             calls,
             is_odd: false,
         };
-        assert!(rt; read_within(rt.alloc(), &mut pieces, limit).err() == expected);
+        if read_within(alloc, &mut pieces, limit).err() != expected {
+            return false;
+        }
     }
+    true
+}
+
+#[test]
+fn reads_in_pieces(rt: HostRuntime) -> Result<(), AllocError> {
+    let row = bytes(rt.alloc(), &ROW)?;
+    assert!(rt; is_read_in_pieces(rt.alloc(), row.as_slice()));
     Ok(())
 }
 
@@ -355,9 +440,27 @@ fn writes_row(
     Ok(Some(write_within(&hierarchy, taker, limit)))
 }
 
-#[test]
-fn writes_in_pieces(rt: HostRuntime) -> Result<(), AllocError> {
-    let bytes = bytes(rt.alloc(), &ROW)?;
+/// How many bytes a writer takes at a call and in all, the limit of the calls, the answer, and how many bytes are taken.
+type Writing = (usize, usize, u64, Result<(), WriteFault>, usize);
+
+/// Whether the row, of these bytes, is written so.
+fn is_taken(
+    alloc: Global,
+    bytes: &[u8],
+    (most, left, limit, expected, count): Writing,
+) -> Result<bool, AllocError> {
+    let mut taker = Taker {
+        taken: Vec::new(alloc),
+        most,
+        left,
+        is_odd: false,
+    };
+    let is_answered = writes_row(alloc, &mut taker, limit)? == Some(expected);
+    Ok(is_answered & (Some(taker.taken.as_slice()) == bytes.get(..count)))
+}
+
+/// Whether the row, of these bytes, is written in pieces as it is said.
+fn is_written_in_pieces(alloc: Global, bytes: &[u8]) -> Result<bool, AllocError> {
     let table = [
         (1, 1000, 192, Ok(()), 96),
         (1, 1000, 191, Err(WriteFault { written: 95 }), 95),
@@ -365,16 +468,18 @@ fn writes_in_pieces(rt: HostRuntime) -> Result<(), AllocError> {
         (7, 30, MANY, Err(WriteFault { written: 30 }), 30),
         (7, 0, MANY, Err(WriteFault { written: 0 }), 0),
     ];
-    for (most, left, limit, expected, count) in table {
-        let mut taker = Taker {
-            taken: Vec::new(rt.alloc()),
-            most,
-            left,
-            is_odd: false,
-        };
-        assert!(rt; writes_row(rt.alloc(), &mut taker, limit)? == Some(expected));
-        assert!(rt; Some(taker.taken.as_slice()) == bytes.as_slice().get(..count));
+    for writing in table {
+        if !is_taken(alloc, bytes, writing)? {
+            return Ok(false);
+        }
     }
+    Ok(true)
+}
+
+#[test]
+fn writes_in_pieces(rt: HostRuntime) -> Result<(), AllocError> {
+    let row = bytes(rt.alloc(), &ROW)?;
+    assert!(rt; is_written_in_pieces(rt.alloc(), row.as_slice())?);
     Ok(())
 }
 

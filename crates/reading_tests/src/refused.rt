@@ -6,7 +6,7 @@
 ghost use Rattle.std.specs.Prelude.{◌≡◌, ◌<◌, length, IfOk, IfSome};
 ghost use Rattle.ch_graph.specs.Unfolding.{Joined};
 
-use crate::files::cascade;
+use crate::files::{ROW, bytes, cascade};
 use ch_graph::{Graph, Hierarchy, LinkId, Road};
 use ch_query::{Found, Search};
 use ch_unpack::{UnpackError, unpack};
@@ -39,35 +39,7 @@ const PAIRS: [(&[u8], Option<(GrErrorKind, u64)>); 3] = [
 /// Files, as numbers of four bytes, each with what it is refused for or none: a row of three nodes with a shortcut by
 /// way of the first, with a wrong sum of the halves, and cut after its ranks.
 const FILES: [(&[u32], Option<HierError>); 3] = [
-    (
-        &[
-            0x5243_4831,
-            3,
-            0,
-            3,
-            0,
-            6,
-            0,
-            1,
-            2,
-            0,
-            2,
-            0,
-            3,
-            u32::MAX,
-            1,
-            0,
-            0,
-            2,
-            u32::MAX,
-            1,
-            2,
-            0,
-            5,
-            0,
-        ],
-        None,
-    ),
+    (&ROW, None),
     (
         &[
             0x5243_4831,
@@ -205,12 +177,14 @@ fn read_queries(rt: HostRuntime) {
     }
 }
 
-fn bytes(alloc: Global, words: &[u32]) -> Result<Vec<u8>, AllocError> {
-    let mut bytes = Vec::new(alloc);
-    for word in words {
-        bytes.extend_from_slice(&word.to_be_bytes())?;
+/// Why a file is refused, or none; where it is refused memory it is read again.
+fn file_fault(alloc: Global, bytes: &[u8]) -> Option<HierError> {
+    let fault = read_within(alloc, &mut { bytes }, MANY).err();
+    if fault == Some(HierError::OutOfMemory) {
+        read_within(alloc, &mut { bytes }, MANY).err()
+    } else {
+        fault
     }
-    Ok(bytes)
 }
 
 #[test]
@@ -218,11 +192,7 @@ fn read_file(rt: HostRuntime) -> Result<(), Fail> {
     let alloc = rt.alloc();
     for (words, fault) in FILES {
         let bytes = bytes(alloc, words)?;
-        let mut answer = read_within(alloc, &mut bytes.as_slice(), MANY);
-        if matches!(answer, Err(HierError::OutOfMemory)) {
-            answer = read_within(alloc, &mut bytes.as_slice(), MANY);
-        }
-        assert!(rt; answer.err() == fault);
+        assert!(rt; file_fault(alloc, &bytes) == fault);
     }
     Ok(())
 }
@@ -241,7 +211,7 @@ fn is_made(alloc: Global, hierarchy: &Hierarchy) -> bool {
 #[test]
 fn search(rt: HostRuntime) -> Result<(), Fail> {
     let alloc = rt.alloc();
-    let hierarchy = hierarchy_of(alloc, FILES[0].0)?;
+    let hierarchy = hierarchy_of(alloc, &ROW)?;
     assert!(rt; is_made(alloc, &hierarchy) || is_made(alloc, &hierarchy));
     Ok(())
 }
@@ -270,9 +240,19 @@ fn nodes_of(
     requires joined { Joined hierarchy.now source links.now }
 {
     match unpack(alloc, hierarchy, source, links) {
+        Ok(nodes) => Ok(nodes),
         Err(UnpackError::OutOfMemory) => unpack(alloc, hierarchy, source, links),
-        answer => answer,
+        Err(error) => Err(error),
     }
+}
+
+/// Whether links from 1 go by way of 0 to 2.
+fn are_round(alloc: Global, hierarchy: &Hierarchy, links: &[LinkId]) -> Result<bool, UnpackError>
+    requires source_in { 1 < length hierarchy.now.ranks }
+    requires joined { Joined hierarchy.now 1 links.now }
+{
+    let nodes = nodes_of(alloc, hierarchy, 1, links)?;
+    Ok(nodes.as_slice() == [1u32, 0, 2].as_slice())
 }
 
 /// Whether a walk from 1 to 2 of three nodes is found, and goes by way of 0.
@@ -281,11 +261,10 @@ fn goes_round(alloc: Global, hierarchy: &Hierarchy, search: &mut Search) -> Resu
     requires three { length hierarchy.now.ranks ≡ 3 }
     ensures kept { search.new ≡ search.old }
 {
-    let Some(walk) = found(search, 1, 2)? else {
-        return Ok(false);
-    };
-    let nodes = nodes_of(alloc, hierarchy, 1, &walk.links)?;
-    Ok((walk.cost.length() == 5) & (nodes.as_slice() == [1u32, 0, 2].as_slice()))
+    match found(search, 1, 2)? {
+        Some(walk) => Ok((walk.cost.length() == 5) & are_round(alloc, hierarchy, &walk.links)?),
+        None => Ok(false),
+    }
 }
 
 /// Whether no walk is found between two nodes.
@@ -297,31 +276,37 @@ fn finds_none(search: &mut Search, source: u32, target: u32) -> Result<bool, All
 }
 
 /// Whether a walk is found from 1 to 2 of three nodes, and none from 2 to 1.
-fn goes_one_way(alloc: Global, hierarchy: &Hierarchy) -> Result<bool, Fail>
+fn goes_one_way(alloc: Global, hierarchy: &Hierarchy, search: &mut Search) -> Result<bool, Fail>
+    requires same { search.old ≡ hierarchy.now }
     requires three { length hierarchy.now.ranks ≡ 3 }
 {
+    let goes_round = goes_round(alloc, hierarchy, search)?;
+    Ok(goes_round & finds_none(search, 2, 1)?)
+}
+
+/// Whether there are three nodes, and a search goes one way.
+fn is_one_way(alloc: Global, hierarchy: &Hierarchy) -> Result<bool, Fail> {
+    if hierarchy.nodes() != 3 {
+        return Ok(false);
+    }
     let mut search = Search::new(alloc, hierarchy)?;
-    let goes_round = goes_round(alloc, hierarchy, &mut search)?;
-    Ok(goes_round & finds_none(&mut search, 2, 1)?)
+    goes_one_way(alloc, hierarchy, &mut search)
+}
+
+/// Whether the row is one way.
+fn row_is_one_way(alloc: Global) -> Result<bool, Fail> {
+    let hierarchy = hierarchy_of(alloc, &ROW)?;
+    is_one_way(alloc, &hierarchy)
 }
 
 #[test]
 fn query_and_route(rt: HostRuntime) -> Result<(), Fail> {
-    let alloc = rt.alloc();
-    let hierarchy = hierarchy_of(alloc, FILES[0].0)?;
-    if hierarchy.nodes() != 3 {
-        return Err(Fail::new("there are three nodes"));
-    }
-    assert!(rt; goes_one_way(alloc, &hierarchy)?);
+    assert!(rt; row_is_one_way(rt.alloc())?);
     Ok(())
 }
 
 /// Whether a walk between the last two of 38 nodes is found, and has too many arcs for a route.
-fn is_too_long(
-    alloc: Global,
-    hierarchy: &Hierarchy,
-    search: &mut Search,
-) -> Result<bool, AllocError>
+fn is_too_long(alloc: Global, hierarchy: &Hierarchy, search: &mut Search) -> Result<bool, Fail>
     requires same { search.old ≡ hierarchy.now }
     requires all { length hierarchy.now.ranks ≡ 38 }
 {
@@ -331,22 +316,29 @@ fn is_too_long(
     Ok(nodes_of(alloc, hierarchy, 37, &walk.links).err() == Some(UnpackError::TooLong))
 }
 
-/// The same, by a search of its own.
-fn goes_too_far(alloc: Global, hierarchy: &Hierarchy) -> Result<bool, AllocError>
-    requires all { length hierarchy.now.ranks ≡ 38 }
-{
+/// Whether there are 38 nodes, and a search finds such a walk.
+fn goes_too_far(alloc: Global, hierarchy: &Hierarchy) -> Result<bool, Fail> {
+    if hierarchy.nodes() != 38 {
+        return Ok(false);
+    }
     let mut search = Search::new(alloc, hierarchy)?;
     is_too_long(alloc, hierarchy, &mut search)
 }
 
+/// The hierarchy of the cascade.
+fn hierarchy_of_cascade(alloc: Global) -> Result<Hierarchy, Fail> {
+    let words = cascade(alloc)?;
+    hierarchy_of(alloc, &words)
+}
+
+/// Whether a walk of the cascade is too long.
+fn cascade_goes_too_far(alloc: Global) -> Result<bool, Fail> {
+    let hierarchy = hierarchy_of_cascade(alloc)?;
+    goes_too_far(alloc, &hierarchy)
+}
+
 #[test]
 fn too_long_a_route(rt: HostRuntime) -> Result<(), Fail> {
-    let alloc = rt.alloc();
-    let words = cascade(alloc)?;
-    let hierarchy = hierarchy_of(alloc, &words)?;
-    if hierarchy.nodes() != 38 {
-        return Err(Fail::new("there are 38 nodes"));
-    }
-    assert!(rt; goes_too_far(alloc, &hierarchy)?);
+    assert!(rt; cascade_goes_too_far(rt.alloc())?);
     Ok(())
 }

@@ -1,7 +1,7 @@
 ghost use Rattle.std.specs.Prelude.{◌≡◌, length, map};
 ghost use Rattle.std.specs.Arc.{arc_value};
 ghost use Rattle.ch_overlay.specs.Source.{IsBound};
-ghost use Rattle.ch_overlay.specs.Records.{AreSoundRows};
+ghost use Rattle.ch_overlay.specs.Records.{AreSoundRows, IsSoundRow};
 ghost use Rattle.ch_rowbook.specs.Blanks.{name_of};
 
 use crate::kit::{Entries, are, are_sound, bound, is_sound, row};
@@ -27,8 +27,8 @@ fn shows(seen: &Seen, node: u32, out: Entries<'_>, inn: Entries<'_>) -> bool {
     seen.node == node && are(&seen.row.out, out) && are(&seen.row.inn, inn)
 }
 
-/// A row, which has to be one that can be relied on, is read back where it was written, and only once it is shown.
-fn is_read_back<B: Book, R: Wait>(
+/// Whether the opening rows are read, and a later one once it is shown.
+fn is_kept<B: Book, R: Wait>(
     rt: &R,
     alloc: Global,
     pen: &mut Pen<B>,
@@ -37,19 +37,49 @@ fn is_read_back<B: Book, R: Wait>(
     requires nodes { B.book.nodes ≡ 3 }
     requires bound { IsBound B.book.bound }
 {
-    let opening = reader.read(1)?.version;
+    let holds = finds_opening(reader)?;
     let mut other = reader.split()?;
+    Ok(holds & is_read_back(rt, alloc, pen, reader, &mut other)?)
+}
+
+/// Whether the later row can be relied on, and is read back where it was written.
+fn is_read_back<B: Book, R: Wait>(
+    rt: &R,
+    alloc: Global,
+    pen: &mut Pen<B>,
+    reader: &mut Reader<B>,
+    other: &mut Reader<B>,
+) -> Result<bool, Fail>
+    requires nodes { B.book.nodes ≡ 3 }
+    requires bound { IsBound B.book.bound }
+{
+    let opening = reader.read(1)?.version;
     let limit = reader.bound();
     let later = row(alloc, LATER, &[])?;
     if !is_sound(1, &later, limit) {
         return Ok(false);
     }
+    is_shown(rt, pen, reader, other, opening, later)
+}
+
+/// Whether two readers and the pen find a row of node 1 in place of the opening one, and only once it is shown.
+fn is_shown<B: Book, R: Wait>(
+    rt: &R,
+    pen: &mut Pen<B>,
+    reader: &mut Reader<B>,
+    other: &mut Reader<B>,
+    opening: u64,
+    later: Arc<Row>,
+) -> Result<bool, Fail>
+    requires nodes { B.book.nodes ≡ 3 }
+    requires row { IsSoundRow B.book.bound 1 (arc_value later) }
+{
     let laid = pen.lay(rt, 1, later)?;
     let version = laid.version();
-    let before = is_current(reader, opening, ROWS[1].0)?;
+    let before = is_current(reader, opening, ROWS[1].0);
     pen.show(laid);
-    let after = is_current(&mut other, version, LATER)? & (reader.glance(1) == version);
-    Ok(before & (opening < version) & after & is_own(pen, version)?)
+    let after = is_current(other, version, LATER)? & (reader.glance(1) == version);
+    Ok(before? & (opening < version) & after & is_own(pen, version)?)
 }
 
 /// Whether a reader finds the row of node 1 of this version, which has these entries out of it alone.
@@ -98,8 +128,7 @@ fn is_read<B: Book, R: Wait>(
     requires bound { IsBound blank.bound }
 {
     let (mut pen, mut reader): (Pen<B>, Reader<B>) = open(rt, alloc, blank, rows)?;
-    let holds = finds_opening(&mut reader)?;
-    Ok(holds & is_read_back(rt, alloc, &mut pen, &mut reader)?)
+    is_kept(rt, alloc, &mut pen, &mut reader)
 }
 
 /// The opening rows.
@@ -111,18 +140,22 @@ fn opening(alloc: Global) -> Result<Vec<Arc<Row>>, Fail> {
     Ok(rows)
 }
 
-#[test]
-fn row_of_three_nodes(rt: HostRuntime) -> Result<(), Fail> {
-    let alloc = rt.alloc();
-    let rows = opening(alloc)?;
-    let (all, limit) = (rows.as_slice(), bound());
-    if all.len() != 3 {
+/// Whether a book of these rows, which have to be three that can be relied on, is read and written.
+fn is_opened<R: Wait>(rt: &R, alloc: Global, rows: &[Arc<Row>]) -> Result<bool, Fail> {
+    let limit = bound();
+    if rows.len() != 3 {
         return Err(Fail::new("there are three opening rows"));
     }
-    if !are_sound(all, limit) {
+    if !are_sound(rows, limit) {
         return Err(Fail::new("the opening rows can be relied on"));
     }
     let blank = Blank::new(alloc, 3, limit)?;
-    assert!(rt; is_read::<Brand, HostRuntime>(&rt, alloc, blank, all)?);
+    is_read::<Brand, R>(rt, alloc, blank, rows)
+}
+
+#[test]
+fn row_of_three_nodes(rt: HostRuntime) -> Result<(), Fail> {
+    let rows = opening(rt.alloc())?;
+    assert!(rt; is_opened(&rt, rt.alloc(), rows.as_slice())?);
     Ok(())
 }

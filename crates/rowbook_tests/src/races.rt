@@ -164,7 +164,55 @@ fn were_written_last(log: &[Written], read: &[Seen]) -> bool {
     were_written(&log[log.len() - 3..], read)
 }
 
-/// Lets a pen write and two readers read at the same time. Whether each row that was read was written.
+/// Lets a pen write and two readers read at the same time: what was written, and what was read.
+fn run<B: Book + Send + Sync, R: Threads + Wait + Sync>(
+    rt: &R,
+    alloc: Global,
+    pen: &mut Pen<B>,
+    limit: Cost,
+    first: &mut Reader<B>,
+    second: &mut Reader<B>,
+    signals: &Signals,
+) -> (Result<Vec<Written>, BookError>, (Read, Read))
+    requires nodes { B.book.nodes ≡ 3 }
+    requires bound { B.book.bound ≡ limit }
+{
+    thread::join(
+        rt,
+        || write_rows(rt, alloc, pen, limit, signals),
+        || {
+            thread::join(
+                rt,
+                || read_rows(alloc, first, signals),
+                || read_rows(alloc, second, signals),
+            )
+        },
+    )
+}
+
+/// Whether each row that two readers read, while a pen writes, was written.
+fn finds_what_was_written<B: Book + Send + Sync, R: Threads + Wait + Sync>(
+    rt: &R,
+    alloc: Global,
+    pen: &mut Pen<B>,
+    limit: Cost,
+    first: &mut Reader<B>,
+) -> Result<bool, Fail>
+    requires nodes { B.book.nodes ≡ 3 }
+    requires bound { B.book.bound ≡ limit }
+{
+    let signals = Signals {
+        begun: AtomicU64::new(0),
+        ended: AtomicU64::new(0),
+    };
+    let mut second = first.split()?;
+    let (log, (by_first, by_second)) = run(rt, alloc, pen, limit, first, &mut second, &signals);
+    first.join(second);
+    let last = read_rows(alloc, first, &signals);
+    Ok(is_log(log, by_first, by_second, last))
+}
+
+/// Opens a book of three rows, which have to be such as can be relied on. Whether each row that was read was written.
 fn race<B: Book + Send + Sync, R: Threads + Wait + Sync>(
     rt: &R,
     alloc: Global,
@@ -184,36 +232,23 @@ fn race<B: Book + Send + Sync, R: Threads + Wait + Sync>(
         return Err(Fail::new("the opening rows can be relied on"));
     }
     let (mut pen, mut first): (Pen<B>, Reader<B>) = open(rt, alloc, blank, rows)?;
-    let mut second = first.split()?;
-    let signals = Signals {
-        begun: AtomicU64::new(0),
-        ended: AtomicU64::new(0),
-    };
-    let (written, (by_first, by_second)) = thread::join(
-        rt,
-        || write_rows(rt, alloc, &mut pen, limit, &signals),
-        || {
-            thread::join(
-                rt,
-                || read_rows(alloc, &mut first, &signals),
-                || read_rows(alloc, &mut second, &signals),
-            )
-        },
-    );
-    first.join(second);
-    let last = read_rows(alloc, &mut first, &signals);
-    Ok(match written {
-        Ok(log) => is_log(&log, by_first, by_second, last),
-        Err(_) => false,
-    })
+    finds_what_was_written(rt, alloc, &mut pen, limit, &mut first)
 }
 
 /// Whether the log has a row of each weight, and the readers read its rows, at last those that were written last.
-fn is_log(log: &[Written], by_first: Read, by_second: Read, last: Read) -> bool {
+fn is_log(
+    written: Result<Vec<Written>, BookError>,
+    by_first: Read,
+    by_second: Read,
+    last: Read,
+) -> bool {
+    let Ok(log) = written else {
+        return false;
+    };
     (log.len() == WEIGHTS as usize - 1)
-        & was_read(log, by_first)
-        & was_read(log, by_second)
-        & was_read_last(log, last)
+        & was_read(&log, by_first)
+        & was_read(&log, by_second)
+        & was_read_last(&log, last)
 }
 
 /// Whether all that was read was written.
@@ -241,12 +276,20 @@ fn opening(alloc: Global) -> Result<Vec<Arc<Row>>, AllocError> {
     Ok(rows)
 }
 
-#[test]
-fn readers_find_what_the_pen_wrote(rt: HostRuntime) -> Result<(), Fail> {
-    let alloc = rt.alloc();
-    let rows = opening(alloc)?;
+/// Whether a race in a book of these rows ends well.
+fn is_raced<R: Threads + Wait + Sync>(
+    rt: &R,
+    alloc: Global,
+    rows: &[Arc<Row>],
+) -> Result<bool, Fail> {
     let limit = bound();
     let blank = Blank::new(alloc, NODES, limit)?;
-    assert!(rt; race::<Brand, HostRuntime>(&rt, alloc, blank, rows.as_slice(), limit)?);
+    race::<Brand, R>(rt, alloc, blank, rows, limit)
+}
+
+#[test]
+fn readers_find_what_the_pen_wrote(rt: HostRuntime) -> Result<(), Fail> {
+    let rows = opening(rt.alloc())?;
+    assert!(rt; is_raced(&rt, rt.alloc(), rows.as_slice())?);
     Ok(())
 }

@@ -12,7 +12,7 @@ ghost use Rattle.ch_rowbook.specs.Blanks.{name_of};
 use crate::kit::{are, are_sound, bound, is_sound, row};
 use ch_cost::Cost;
 use ch_overlay::{Row, SeeError, Seen};
-use ch_rowbook::{Blank, Book, BookError, Laid, Pen, Reader, open};
+use ch_rowbook::{Blank, Book, BookError, Pen, Reader, open};
 use std::alloc::{AllocError, Global};
 use std::marker::Brand;
 use std::sync::{Arc, Wait};
@@ -36,44 +36,47 @@ fn read<B: Book>(reader: &mut Reader<B>) -> Result<Seen, SeeError> {
     }
 }
 
-/// Lays the later row. A refused call leaves the current one.
-fn laid<B: Book, R: Wait>(
+/// Writes the later row, or lays it and doesn't show it: its version.
+fn put<B: Book, R: Wait>(
     rt: &R,
     alloc: Global,
     pen: &mut Pen<B>,
     limit: Cost,
-) -> Result<Laid<B>, Fail>
+    is_shown: bool,
+) -> Result<Result<u64, BookError>, Fail>
     requires nodes { B.book.nodes ≡ 3 }
     requires limit { B.book.bound ≡ limit }
 {
-    let before = pen.version(1);
-    match pen.lay(rt, 1, later(alloc, limit)?) {
-        Err(BookError::OutOfMemory) if pen.version(1) == before => {
-            Ok(pen.lay(rt, 1, later(alloc, limit)?)?)
-        }
-        Err(BookError::OutOfMemory) => Err(Fail::new("a refused row is current")),
-        answer => Ok(answer?),
+    let row = later(alloc, limit)?;
+    if is_shown {
+        return Ok(pen.write(rt, 1, row));
+    }
+    match pen.lay(rt, 1, row) {
+        Ok(laid) => Ok(Ok(laid.version())),
+        Err(error) => Ok(Err(error)),
     }
 }
 
-/// Writes the later row. A refused call leaves the current one.
+/// The same, made again where it is refused memory. A refused call leaves the current row.
 fn written<B: Book, R: Wait>(
     rt: &R,
     alloc: Global,
     pen: &mut Pen<B>,
     limit: Cost,
+    is_shown: bool,
 ) -> Result<u64, Fail>
     requires nodes { B.book.nodes ≡ 3 }
     requires limit { B.book.bound ≡ limit }
 {
     let before = pen.version(1);
-    match pen.write(rt, 1, later(alloc, limit)?) {
-        Err(BookError::OutOfMemory) if pen.version(1) == before => {
-            Ok(pen.write(rt, 1, later(alloc, limit)?)?)
-        }
-        Err(BookError::OutOfMemory) => Err(Fail::new("a refused row is current")),
-        answer => Ok(answer?),
+    let answer = put(rt, alloc, pen, limit, is_shown)?;
+    if !matches!(answer, Err(BookError::OutOfMemory)) {
+        return Ok(answer?);
     }
+    if pen.version(1) != before {
+        return Err(Fail::new("a refused row is current"));
+    }
+    Ok(put(rt, alloc, pen, limit, is_shown)??)
 }
 
 /// Whether a book of three nodes is read and written.
@@ -107,12 +110,27 @@ fn is_written<B: Book, R: Wait>(
     requires limit { B.book.bound ≡ limit }
 {
     let mut other = split(reader)?;
+    is_found(rt, alloc, pen, reader, &mut other, limit)
+}
+
+/// The same for two readers.
+fn is_found<B: Book, R: Wait>(
+    rt: &R,
+    alloc: Global,
+    pen: &mut Pen<B>,
+    reader: &mut Reader<B>,
+    other: &mut Reader<B>,
+    limit: Cost,
+) -> Result<bool, Fail>
+    requires nodes { B.book.nodes ≡ 3 }
+    requires limit { B.book.bound ≡ limit }
+{
     let (opening, version) = laid_in_vain(rt, alloc, pen, reader, limit)?;
     let mut last = version;
     'rows: for _ in 0..40 {
-        last = written(rt, alloc, pen, limit)?;
+        last = written(rt, alloc, pen, limit, true)?;
     }
-    Ok((opening < version) & (version < last) & finds(&mut other, last, (2, 5))?)
+    Ok((opening < version) & (version < last) & finds(other, last, (2, 5))?)
 }
 
 fn split<B: Book>(reader: &mut Reader<B>) -> Result<Reader<B>, AllocError> {
@@ -134,7 +152,7 @@ fn laid_in_vain<B: Book, R: Wait>(
     requires limit { B.book.bound ≡ limit }
 {
     let opening = read(reader)?.version;
-    let version = laid(rt, alloc, pen, limit)?.version();
+    let version = written(rt, alloc, pen, limit, false)?;
     if !finds(reader, opening, (0, 2))? {
         return Err(Fail::new("a row that isn't shown is read"));
     }
@@ -157,18 +175,22 @@ fn opening(alloc: Global) -> Result<Vec<Arc<Row>>, AllocError> {
     Ok(rows)
 }
 
-#[test]
-fn book(rt: HostRuntime) -> Result<(), Fail> {
-    let alloc = rt.alloc();
-    let rows = opening(alloc)?;
-    let (all, limit) = (rows.as_slice(), bound());
-    if all.len() != 3 {
+/// Whether a book of these rows, which have to be three that can be relied on, is read and written.
+fn is_opened<R: Wait>(rt: &R, alloc: Global, rows: &[Arc<Row>]) -> Result<bool, Fail> {
+    let limit = bound();
+    if rows.len() != 3 {
         return Err(Fail::new("there are three opening rows"));
     }
-    if !are_sound(all, limit) {
+    if !are_sound(rows, limit) {
         return Err(Fail::new("the opening rows can be relied on"));
     }
     let blank = Blank::new(alloc, 3, limit)?;
-    assert!(rt; is_kept::<Brand, HostRuntime>(&rt, alloc, blank, all, limit)?);
+    is_kept::<Brand, R>(rt, alloc, blank, rows, limit)
+}
+
+#[test]
+fn book(rt: HostRuntime) -> Result<(), Fail> {
+    let rows = opening(rt.alloc())?;
+    assert!(rt; is_opened(&rt, rt.alloc(), rows.as_slice())?);
     Ok(())
 }

@@ -36,14 +36,30 @@ fn receipts_of(alloc: Global, receipts: &[(u32, u32)]) -> Result<Vec<Receipt>, A
     Ok(list)
 }
 
-/// Whether the lists of these receipts account for the log of so many nodes.
-fn account(alloc: Global, nodes: u8, lists: &[&[(u32, u32)]]) -> Result<bool, AllocError> {
-    let log = falling_log(alloc, u32::from(nodes))?;
+/// The lists of these receipts.
+fn lists_of(alloc: Global, lists: &[&[(u32, u32)]]) -> Result<Vec<Vec<Receipt>>, AllocError> {
     let mut receipts = Vec::new(alloc);
     'lists: for list in lists {
         receipts.push(receipts_of(alloc, list)?)?;
     }
-    is_account(alloc, &log, receipts.as_slice())
+    Ok(receipts)
+}
+
+/// Whether lists of receipts account for the log of so many nodes.
+fn account_for(alloc: Global, nodes: u8, receipts: &[Vec<Receipt>]) -> Result<bool, AllocError> {
+    let log = falling_log(alloc, u32::from(nodes))?;
+    is_account(alloc, &log, receipts)
+}
+
+/// Whether the lists of these receipts account for the log of so many nodes, or don't, as is wanted.
+fn is_as_wanted(
+    alloc: Global,
+    nodes: u8,
+    lists: &[&[(u32, u32)]],
+    want: bool,
+) -> Result<bool, AllocError> {
+    let receipts = lists_of(alloc, lists)?;
+    Ok(account_for(alloc, nodes, &receipts)? == want)
 }
 
 /// Nodes of a log, the nodes and ranks of receipts, list by list, and whether they account for the log. That of three
@@ -67,8 +83,8 @@ const ACCOUNTS: [(u8, &[&[(u32, u32)]], bool); 10] = [
 
 #[test]
 fn receipts_account_for_a_log(rt: HostRuntime) -> Result<(), Fail> {
-    for (nodes, lists, want) in ACCOUNTS {
-        assert!(rt; account(rt.alloc(), nodes, lists)? == want);
+    for (nodes, lists, want) in &ACCOUNTS {
+        assert!(rt; is_as_wanted(rt.alloc(), *nodes, lists, *want)?);
     }
     Ok(())
 }

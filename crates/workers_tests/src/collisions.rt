@@ -109,7 +109,7 @@ fn make_follower(
 }
 
 /// No estimator for worker 0, and this one for worker 1.
-fn lists_of(alloc: Global, second: Box<dyn Estimator + Send>) -> Result<Lists, AllocError>
+fn second_alone(alloc: Global, second: Box<dyn Estimator + Send>) -> Result<Lists, AllocError>
     requires { heard second ≡ [] }
     ensures untold { IfOk result (λ lists. All (λ list. All (λ estimator. heard estimator ≡ []) list.items) lists.items) }
 {
@@ -154,19 +154,26 @@ fn neighbours(alloc: Global) -> Result<Graph, Fail> {
     Ok(Graph::checked(2, vec![in alloc; there, back]?)?)
 }
 
+/// No estimator for worker 0, and for worker 1 one that waits for the first proposal of worker 0.
+fn lists_of(alloc: Global, leases: &mut Leases, meeting: &Arc<Meeting>) -> Result<Lists, AllocError>
+    ensures untold { IfOk result (λ lists. All (λ list. All (λ estimator. heard estimator ≡ []) list.items) lists.items) }
+{
+    let follower = make_follower(alloc, leases.lease()?, meeting)?;
+    second_alone(alloc, Box::new(alloc, follower)?)
+}
+
 /// Builds the two neighbours by two workers, who meet at their first proposals.
 fn built_by_two<R: Threads + Wait + Sync>(
     rt: &R,
     alloc: Global,
     meeting: &Arc<Meeting>,
 ) -> Result<Built, Fail> {
-    let mut leases = Leases::new(alloc)?;
-    let follower = make_follower(alloc, leases.lease()?, meeting)?;
-    let lists = lists_of(alloc, Box::new(alloc, follower)?)?;
-    let graph = neighbours(alloc)?;
     let gate = Collision {
         meeting: Arc::try_clone(meeting)?,
     };
+    let mut leases = Leases::new(alloc)?;
+    let lists = lists_of(alloc, &mut leases, meeting)?;
+    let graph = neighbours(alloc)?;
     let built = build(rt, alloc, graph, TWO, lists, &mut leases, &gate)?;
     Ok(built)
 }
@@ -186,8 +193,8 @@ fn two_workers_propose_neighbours(rt: HostRuntime) -> Result<(), Fail> {
     let alloc = rt.alloc();
     let meeting = Meeting::new(alloc)?;
     let built = built_by_two(&rt, alloc, &meeting)?;
-    assert!(rt; meeting.late.load(Ordering::SeqCst) == 0);
-    assert!(rt; meeting.refused.load(Ordering::SeqCst) == 1);
-    assert!(rt; is_of_neighbours(&built.hierarchy) && is_by_workers(&built));
+    let is_met = (meeting.late.load(Ordering::SeqCst) == 0)
+        & (meeting.refused.load(Ordering::SeqCst) == 1);
+    assert!(rt; is_met & is_of_neighbours(&built.hierarchy) & is_by_workers(&built));
     Ok(())
 }

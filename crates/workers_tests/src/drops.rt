@@ -215,9 +215,8 @@ fn one_worker_hears_of_the_log(rt: HostRuntime) -> Result<(), Fail> {
     let alloc = rt.alloc();
     let traces = Traces::new(alloc)?;
     let built = built_by_one(&rt, alloc, &traces)?;
-    let told = traces.told(&rt, built.log.as_slice());
-    assert!(rt; told == Some([3, 0, 0, 0, 0]));
-    assert!(rt; traces.dropped.load(Ordering::SeqCst) == 2);
+    let are_dropped = traces.dropped.load(Ordering::SeqCst) == 2;
+    assert!(rt; are_dropped & (traces.told(&rt, built.log.as_slice()) == Some([3, 0, 0, 0, 0])));
     Ok(())
 }
 
@@ -238,10 +237,9 @@ fn two_workers_hear_of_each_other(rt: HostRuntime) -> Result<(), Fail> {
         second: Overtaken::at(Point::Took),
     };
     let built = built_by(&rt, alloc, tie(alloc)?, TWO, &traces, &gate)??;
-    assert!(rt; gate.first.was_met() && gate.second.was_met());
+    let is_met = gate.first.was_met() & gate.second.was_met();
     let told = traces.told(&rt, built.log.as_slice());
-    assert!(rt; told.is_some_and(|told| told[0] > 0));
-    assert!(rt; is_first_of(1, &built));
+    assert!(rt; is_met & told.is_some_and(|told| told[0] > 0) & is_first_of(1, &built));
     Ok(())
 }
 
@@ -252,9 +250,8 @@ fn five_workers_hear_of_the_log(rt: HostRuntime) -> Result<(), Fail> {
     let options = Options { workers: 5, ..TWO };
     let gate = Together::new(5);
     let built = built_by(&rt, alloc, grid(alloc)?, options, &traces, &gate)??;
-    assert!(rt; gate.was_met());
-    assert!(rt; traces.told(&rt, built.log.as_slice()).is_some());
-    assert!(rt; traces.dropped.load(Ordering::SeqCst) == 5);
+    let holds = gate.was_met() & (traces.dropped.load(Ordering::SeqCst) == 5);
+    assert!(rt; holds & traces.told(&rt, built.log.as_slice()).is_some());
     Ok(())
 }
 
@@ -312,6 +309,19 @@ fn three_stubborn(
     )
 }
 
+/// Two lists of three estimators each that leave traces.
+fn lists_of_six(
+    alloc: Global,
+    leases: &mut Leases,
+    traces: &Arc<Traces>,
+) -> Result<Lists, AllocError>
+    ensures untold { IfOk result (λ lists. All (λ list. All (λ estimator. heard estimator ≡ []) list.items) lists.items) }
+{
+    let first = three_stubborn(alloc, leases, traces)?;
+    let second = three_stubborn(alloc, leases, traces)?;
+    two_lists(alloc, first, second)
+}
+
 /// Builds the tie by two workers, who have three estimators each that leave traces.
 fn built_with_six<R: Threads + Wait + Sync>(
     rt: &R,
@@ -320,22 +330,27 @@ fn built_with_six<R: Threads + Wait + Sync>(
     traces: &Arc<Traces>,
 ) -> Result<Result<Built, BuildError>, Fail> {
     let mut leases = Leases::new(alloc)?;
-    let first = three_stubborn(alloc, &mut leases, traces)?;
-    let second = three_stubborn(alloc, &mut leases, traces)?;
-    let lists = two_lists(alloc, first, second)?;
+    let lists = lists_of_six(alloc, &mut leases, traces)?;
     let graph = tie(alloc)?;
     Ok(build(rt, alloc, graph, options, lists, &mut leases, &OpenGate))
 }
 
+/// Whether a build with six estimators ends so, and has dropped each.
+fn drops_six<R: Threads + Wait + Sync>(
+    rt: &R,
+    alloc: Global,
+    options: Options,
+    want: Option<BuildError>,
+) -> Result<bool, Fail> {
+    let traces = Traces::new(alloc)?;
+    let refused = built_with_six(rt, alloc, options, &traces)?.err();
+    Ok((refused == want) & (traces.dropped.load(Ordering::SeqCst) == 6))
+}
+
 #[test]
 fn estimators_are_dropped(rt: HostRuntime) -> Result<(), Fail> {
-    let alloc = rt.alloc();
     for (settle, want) in [(64, None), (0, Some(BuildError::BadOptions))] {
-        let traces = Traces::new(alloc)?;
-        let options = Options { settle, ..TWO };
-        let built = built_with_six(&rt, alloc, options, &traces)?;
-        assert!(rt; built.err() == want);
-        assert!(rt; traces.dropped.load(Ordering::SeqCst) == 6);
+        assert!(rt; drops_six(&rt, rt.alloc(), Options { settle, ..TWO }, want)?);
     }
     Ok(())
 }
@@ -345,8 +360,8 @@ fn estimators_are_dropped(rt: HostRuntime) -> Result<(), Fail> {
 fn estimators_are_dropped_on_any_answer(rt: HostRuntime) -> Result<(), Fail> {
     let alloc = rt.alloc();
     let traces = Traces::new(alloc)?;
-    let built = built_with_six(&rt, alloc, TWO, &traces)?;
-    assert!(rt; matches!(built, Ok(_) | Err(BuildError::OutOfMemory)));
-    assert!(rt; traces.dropped.load(Ordering::SeqCst) == 6);
+    let refused = built_with_six(&rt, alloc, TWO, &traces)?.err();
+    let are_dropped = traces.dropped.load(Ordering::SeqCst) == 6;
+    assert!(rt; are_dropped & matches!(refused, None | Some(BuildError::OutOfMemory)));
     Ok(())
 }

@@ -52,8 +52,7 @@ fn a_build_waits_for_leases(rt: HostRuntime) -> Result<(), Fail> {
     let lists = empty_lists(alloc, 1)?;
     let graph = row(alloc)?;
     let built = build(&rt, alloc, graph, ONE, lists, &mut leases, &gate);
-    assert!(rt; given.load(Ordering::SeqCst) == 1);
-    assert!(rt; built.is_ok());
+    assert!(rt; (given.load(Ordering::SeqCst) == 1) & built.is_ok());
     keeper.join(&rt);
     Ok(())
 }

@@ -103,7 +103,9 @@ const LIMITS: [(Options, usize, bool); 24] = [
 
 #[test]
 fn numbers_have_limits(rt: HostRuntime) {
-    for (options, lists, want) in LIMITS {
-        assert!(rt; options.are_bad(lists) == want);
-    }
+    assert!(rt;
+        LIMITS
+            .iter()
+            .all(|(options, lists, want)| options.are_bad(*lists) == *want)
+    );
 }

@@ -122,16 +122,29 @@ fn a_tie_by_one_worker_and_the_sweep(rt: HostRuntime) -> Result<(), Fail> {
     Ok(())
 }
 
-#[test]
-fn a_worker_without_estimators(rt: HostRuntime) -> Result<(), Fail> {
-    let alloc = rt.alloc();
+/// Builds the row of three nodes by one worker, who has no estimator.
+fn built_without_estimators<R: Threads + Wait + Sync>(
+    rt: &R,
+    alloc: Global,
+) -> Result<Built, Fail> {
     let mut leases = Leases::new(alloc)?;
     let lists = empty_lists(alloc, 1)?;
     let graph = row(alloc)?;
-    let built = build(&rt, alloc, graph, ONE, lists, &mut leases, &OpenGate)?;
+    let built = build(rt, alloc, graph, ONE, lists, &mut leases, &OpenGate)?;
+    Ok(built)
+}
+
+/// Whether the worker contracted the row of three nodes by their numbers.
+fn is_by_numbers(built: &Built) -> bool {
     let order = [receipt(0, 0), receipt(1, 1), receipt(2, 2)];
-    assert!(rt; are_receipts(&built, order.as_slice(), [].as_slice()));
     let links = [link(0, 2, 3), link(1, 0, 2), shortcut(1, 2, 5)];
-    assert!(rt; built.hierarchy.links() == links.as_slice());
+    are_receipts(built, order.as_slice(), [].as_slice())
+        && built.hierarchy.links() == links.as_slice()
+}
+
+#[test]
+fn a_worker_without_estimators(rt: HostRuntime) -> Result<(), Fail> {
+    let built = built_without_estimators(&rt, rt.alloc())?;
+    assert!(rt; is_by_numbers(&built));
     Ok(())
 }

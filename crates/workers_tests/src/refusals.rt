@@ -60,8 +60,8 @@ const OPTIONS: [(Options, u32, bool); 13] = [
 
 #[test]
 fn bad_options_are_refused(rt: HostRuntime) -> Result<(), Fail> {
-    for (options, lists, want) in OPTIONS {
-        assert!(rt; is_refused(&rt, rt.alloc(), options, lists)? == want);
+    for (options, lists, want) in &OPTIONS {
+        assert!(rt; is_refused(&rt, rt.alloc(), *options, *lists)? == *want);
     }
     Ok(())
 }

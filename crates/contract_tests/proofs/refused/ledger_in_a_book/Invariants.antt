@@ -1,7 +1,7 @@
 use Rattle.ch_rowbook.specs.Blanks.{name_of}
 use Rattle.contract_tests.proofs.refused.ledger_in_a_book.Given as goal
 
--- each book is the blank's, and the graph the ledger's
+-- the book is the blank's, and the graph the ledger's
 abbrev pub ghosts-goes_on-S-Book : goal.ghosts-goes_on-S-Book
 ghosts-goes_on-S-Book g a = record { book = name_of a.blank }
 

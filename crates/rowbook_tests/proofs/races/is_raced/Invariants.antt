@@ -1,5 +1,5 @@
 use Rattle.ch_rowbook.specs.Blanks.{name_of}
-use Rattle.rowbook_tests.proofs.races.readers_find_what_the_pen_wrote.Given as goal
+use Rattle.rowbook_tests.proofs.races.is_raced.Given as goal
 
 -- the book is the blank's
 abbrev pub ghosts-race : goal.ghosts-race

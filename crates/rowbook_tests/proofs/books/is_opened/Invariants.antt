@@ -1,5 +1,5 @@
 use Rattle.ch_rowbook.specs.Blanks.{name_of}
-use Rattle.rowbook_tests.proofs.books.row_of_three_nodes.Given as goal
+use Rattle.rowbook_tests.proofs.books.is_opened.Given as goal
 
 -- the book is the blank's
 abbrev pub ghosts-is_read : goal.ghosts-is_read

@@ -1,5 +1,5 @@
 use Rattle.ch_rowbook.specs.Blanks.{name_of}
-use Rattle.contract_tests.proofs.boards.boards_come_to_their_hierarchies.Given as goal
+use Rattle.contract_tests.proofs.boards.comes_true.Given as goal
 
 -- the book is the blank's, and the graph the one that is handed over
 abbrev pub ghosts-comes_to-S-Book : goal.ghosts-comes_to-S-Book
