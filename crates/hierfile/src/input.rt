@@ -75,9 +75,7 @@ impl Input {
         ensures stopped { IfErr result (λ e. ReadsWithin R.step self.old.left (e ≡ HierError.Read) reader.old reader.new) }
     {
         self.need(reader, 4)?;
-        let at = self.at;
-        let bytes = &self.buffer;
-        let number = u32::from_be_bytes([bytes[at], bytes[at + 1], bytes[at + 2], bytes[at + 3]]);
+        let number = first_word(&self.buffer[self.at..self.end]);
         self.at += 4;
         Ok(number)
     }
@@ -90,18 +88,7 @@ impl Input {
         ensures stopped { IfErr result (λ e. ReadsWithin R.step self.old.left (e ≡ HierError.Read) reader.old reader.new) }
     {
         self.need(reader, 8)?;
-        let at = self.at;
-        let bytes = &self.buffer;
-        let number = u64::from_be_bytes([
-            bytes[at],
-            bytes[at + 1],
-            bytes[at + 2],
-            bytes[at + 3],
-            bytes[at + 4],
-            bytes[at + 5],
-            bytes[at + 6],
-            bytes[at + 7],
-        ]);
+        let number = first_long(&self.buffer[self.at..self.end]);
         self.at += 8;
         Ok(number)
     }
@@ -182,4 +169,22 @@ fn read_behind<R: StepRead>(
 {
     let count = calls.read(reader, &mut buffer[end..])?;
     Ok(count)
+}
+
+/// The number of the first four bytes.
+fn first_word(bytes: &[u8]) -> u32
+    requires { 4 ≤ length bytes.now }
+    ensures { take 4 bytes.now ≡ word result }
+{
+    u32::from_be_bytes([bytes[0], bytes[1], bytes[2], bytes[3]])
+}
+
+/// The number of the first eight bytes.
+fn first_long(bytes: &[u8]) -> u64
+    requires { 8 ≤ length bytes.now }
+    ensures { take 8 bytes.now ≡ long result }
+{
+    u64::from_be_bytes([
+        bytes[0], bytes[1], bytes[2], bytes[3], bytes[4], bytes[5], bytes[6], bytes[7],
+    ])
 }
