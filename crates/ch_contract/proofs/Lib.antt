@@ -1,5 +1,6 @@
 pub mod PartByPart
 pub mod Ranges
+pub mod Finds
 pub mod Search
 pub mod Drafting
 pub mod Pairing

@@ -1,5 +1,5 @@
 -- Proposals in the making.
-use Rattle.std.specs.Prelude.{ℕ, ◌≡◌, ◌≢◌, ◌<◌, ◌≤◌, ◌⊎◌, length, take, List, [], ◌∷◌, ◌++◌, Option, Some, None, AllPairs, Contains, IsSomeAnd}
+use Rattle.std.specs.Prelude.{ℕ, ◌≡◌, ◌≢◌, ◌<◌, ◌≤◌, ◌⊎◌, length, map, take, List, [], ◌∷◌, ◌++◌, Option, Some, None, All, AllPairs, Contains, IsSomeAnd, slice_index}
 use Rattle.std.specs.List.{slice_get}
 use Rattle.ch_cost.specs.declared.cost.Cost.{Cost}
 use Rattle.ch_cost.specs.Cost.{◌⊕◌, ◌≼◌, IsWithin}
@@ -11,8 +11,8 @@ use Rattle.ch_laws.specs.Verdicts.{HasWay, IsForShortcut, ListsThrough}
 use Rattle.ch_overlay.specs.declared.source.Seen.{Seen}
 use Rattle.ch_overlay.specs.Source.{row_in}
 use Rattle.ch_witness.specs.declared.way.Way.{Way}
-use Rattle.ch_witness.specs.Kept.{HasAll, Kept}
-use Rattle.ch_witness.specs.Ways.{IsFound, way_at}
+use Rattle.ch_witness.specs.Kept.{HasAll, IsKept, Kept}
+use Rattle.ch_witness.specs.Ways.{AreWays, IsFound, IsStartRow, way_at}
 use Rattle.ch_contract.specs.declared.draft.Draft.{Draft}
 use Rattle.ch_contract.specs.Listed.{AreNamed, IsNamedBy, Parts}
 use Rattle.ch_contract.specs.Proposal.{ShortcutBefore}
@@ -71,6 +71,17 @@ pub record AreJudged (pairs : List Shortcut) (ways : List (Option Way)) (n : ℕ
   pub only : (p : Shortcut) → Contains put p → (k : ℕ) × (k < n) × (slice_get pairs k ≡ Some p) × (IsFound ways k p.cost → ⊥)
   pub parts : Parts (IsJudgedBy pairs ways put) (take n pairs) more
   pub sorted : AllPairs (λ p q. p.to < q.to) pairs → AllPairs (λ p q. p.to < q.to) put
+
+-- Each of the pairs, which lead from u to other nodes, is judged by a search around v.
+pub record AreSearched (v u : ℕ) (pairs : List Shortcut) (kept : Kept) (old new : Draft) : Type 0 where
+  pub rows : List Seen
+  pub cutoff : Cost
+  pub ways : List (Option Way)
+  pub found : AreWays rows u v cutoff (map (λ p. p.to) pairs) ways
+  pub most : (p : Shortcut) → Contains pairs p → p.cost ≼ cutoff
+  pub direct : (k : ℕ) → k < length (map (λ (p : Shortcut). p.to) pairs) → slice_index (map (λ (p : Shortcut). p.to) pairs) k ≢ u → (s : Seen) × IsKept kept s × IsStartRow rows u cutoff (map (λ p. p.to) pairs) ways s
+  pub rows_kept : All (IsKept kept) rows
+  pub judged : AreJudged pairs ways (length pairs) old new
 
 -- by these rows each of the shortcuts is a verdict on a pair from u, and each other pair from u that isn't heavy has a
 -- way

@@ -7,4 +7,5 @@ pub mod Listed
 pub mod Proposal
 pub mod Commit
 pub mod Names
+pub mod Reading
 pub mod Drafts

@@ -1,21 +1,20 @@
-ghost use Rattle.std.specs.Prelude.{◌≡◌, ◌↔◌, ◌≤◌, ◌^◌, ℕ, List, [], ◌∷◌, ◌++◌, IfOk, OnOk, Contains, IsTrue, length, map};
+ghost use Rattle.std.specs.Prelude.{◌≡◌, ◌≢◌, ◌↔◌, ◌≤◌, ◌^◌, ℕ, List, [], ◌∷◌, ◌++◌, IfOk, OnOk, Contains, IsTrue, length, map};
 ghost use Rattle.ch_cost.specs.declared.cost.Cost.{Cost};
 ghost use Rattle.ch_cost.specs.Cost.{◌≼◌, IsWithin};
 ghost use Rattle.ch_laws.specs.declared.shortcut.Shortcut.{Shortcut};
 ghost use Rattle.ch_laws.specs.Rows.{Rises};
 ghost use Rattle.ch_overlay.specs.Overlay.{AreEntries};
 ghost use Rattle.ch_overlay.specs.Source.{IsBound, NamesAlone};
-ghost use Rattle.ch_witness.specs.Kept.{kept_of, AllNamed, AreKept, IsMore};
-ghost use Rattle.ch_contract.specs.Drafts.{ArePairs, AreJudged, IsPairAdded, IsPairJudged, IsPairOf, IsDraftedFrom, IsInner, Lengthens};
+ghost use Rattle.ch_witness.specs.Kept.{kept_of, AllNamed, AreKept};
+ghost use Rattle.ch_contract.specs.Drafts.{ArePairs, AreJudged, AreSearched, IsPairAdded, IsPairJudged, IsPairOf, IsDraftedFrom, IsInner, Lengthens};
 ghost use Rattle.ch_contract.specs.Listed.{LeadsOn};
-ghost use Rattle.ch_contract.specs.declared.error.ProposeError.TheVariants.{Unseen, Contracted};
+ghost use Rattle.ch_contract.specs.Reading.{FindsRows, IsReadOn};
 
-use crate::error::ProposeError;
-use crate::scratch::Desk;
+use crate::scratch::{Desk, Pairs};
 use ch_cost::Cost;
 use ch_laws::Entry;
 use ch_overlay::{Row, RowSource, Shortcut};
-use ch_witness::{Aim, Rows, Rule, Way};
+use ch_witness::{Aim, Rows, Rule, SearchError, Way};
 use std::alloc::{AllocError, Global};
 
 /// What the pairs of a proposal have in common.
@@ -104,7 +103,7 @@ pub fn draft_pairs<S: RowSource>(
     row: &Row,
     into: &Entry,
     draft: &mut Draft,
-) -> Result<(), ProposeError>
+) -> Result<(), SearchError>
     requires some { 1 ≤ task.settle }
     requires few { task.settle ≤ 2 ^ 16 }
     requires bound { task.bound ≡ S.bound_of source.old }
@@ -115,12 +114,8 @@ pub fn draft_pairs<S: RowSource>(
     requires among { Contains row.now.inn into.now }
     requires kept { AreKept S.bears (S.shows source.old) (S.bound_of source.old) (kept_of desk.old.searcher.rows) }
     ensures draft { OnOk result (IsDraftedFrom task.bound task.node row.now into.now (kept_of desk.new.searcher.rows) draft.old draft.new) }
-    ensures kept { AreKept S.bears (S.shows source.new) (S.bound_of source.new) (kept_of desk.new.searcher.rows) }
-    ensures more { IsMore (kept_of desk.old.searcher.rows) (kept_of desk.new.searcher.rows) }
-    ensures stays { S.stays source.old source.new }
-    ensures found { AllNamed (S.whole source.old) (kept_of desk.old.searcher.rows) → NamesAlone (S.whole source.old) row.now → result ≡ Err Unseen → ⊥ }
-    ensures never { result ≡ Err Contracted → ⊥ }
-    ensures names { AllNamed (S.whole source.old) (kept_of desk.old.searcher.rows) → NamesAlone (S.whole source.old) row.now → OnOk result (AllNamed (S.whole source.new) (kept_of desk.new.searcher.rows)) }
+    ensures read { IsReadOn S.bears (S.shows source.new) (S.bound_of source.new) (S.stays source.old source.new) (kept_of desk.old.searcher.rows) (kept_of desk.new.searcher.rows) }
+    ensures found { AllNamed (S.whole source.old) (kept_of desk.old.searcher.rows) → NamesAlone (S.whole source.old) row.now → FindsRows (S.whole source.new) (kept_of desk.new.searcher.rows) result }
 {
     let from = into.other;
     if !leads_on(&row.out, from) {
@@ -128,19 +123,47 @@ pub fn draft_pairs<S: RowSource>(
     }
     desk.searcher.rows.read(source, from)?;
     draft.listed.push(from)?;
-    find_light_pairs(task.bound, into, &row.out, &mut desk.pairs)?;
-    if desk.pairs.is_empty() {
+    find_pairs(task, into, &row.out, &desk.searcher.rows, &mut desk.pairs)?;
+    if desk.pairs.light.is_empty() {
         return Ok(());
     }
-    find_ends(&desk.pairs, &mut desk.targets)?;
-    find_aims(&desk.pairs, task.node, &desk.searcher.rows, &mut desk.aims)?;
+    judge_by_search(alloc, source, desk, task, from, draft)
+}
+
+/// Judges the pairs on the desk, which lead from this neighbour, by a search for ways around the node.
+fn judge_by_search<S: RowSource>(
+    alloc: Global,
+    source: &mut S,
+    desk: &mut Desk,
+    task: Task,
+    from: u32,
+    draft: &mut Draft,
+) -> Result<(), SearchError>
+    requires some { 1 ≤ task.settle }
+    requires few { task.settle ≤ 2 ^ 16 }
+    requires start { from ≢ task.node }
+    requires avoided { Contains (map (λ p. p.to) desk.old.pairs.light.items) task.node → ⊥ }
+    requires ends { desk.old.pairs.ends.items ≡ map (λ p. p.to) desk.old.pairs.light.items }
+    requires within { (p : Shortcut) → Contains desk.old.pairs.light.items p → IsWithin p.cost (S.bound_of source.old) }
+    requires kept { AreKept S.bears (S.shows source.old) (S.bound_of source.old) (kept_of desk.old.searcher.rows) }
+    ensures searched { OnOk result (AreSearched task.node from desk.old.pairs.light.items (kept_of desk.new.searcher.rows) draft.old draft.new) }
+    ensures read { IsReadOn S.bears (S.shows source.new) (S.bound_of source.new) (S.stays source.old source.new) (kept_of desk.old.searcher.rows) (kept_of desk.new.searcher.rows) }
+    ensures found { AllNamed (S.whole source.old) (kept_of desk.old.searcher.rows) → S.whole source.old from → FindsRows (S.whole source.new) (kept_of desk.new.searcher.rows) result }
+{
     let rule = Rule {
         from,
         avoid: task.node,
-        cutoff: greatest(&desk.pairs),
+        cutoff: greatest(&desk.pairs.light),
     };
-    let found = desk.searcher.search(alloc, source, rule, &desk.targets, &desk.aims, task.settle)?;
-    draft.judge(&desk.pairs, &found.ways)?;
+    let found = desk.searcher.search(
+        alloc,
+        source,
+        rule,
+        &desk.pairs.ends,
+        &desk.pairs.aims,
+        task.settle,
+    )?;
+    draft.judge(&desk.pairs.light, &found.ways)?;
     Ok(())
 }
 
@@ -149,6 +172,24 @@ pub fn leads_on(entries: &[Entry], node: u32) -> bool
     ensures { IsTrue result ↔ LeadsOn entries.now node }
 {
     entries.iter().any(|entry| node != entry.other)
+}
+
+/// The pairs from one neighbour to the others that aren't heavy, and what a search for their ways is told. They take the
+/// place of what was there.
+fn find_pairs(
+    task: Task,
+    into: &Entry,
+    outs: &[Entry],
+    rows: &Rows,
+    pairs: &mut Pairs,
+) -> Result<(), AllocError>
+    requires rises { Rises outs.now }
+    ensures light { OnOk result (ArePairs task.bound into.now outs.now pairs.new.light.items) }
+    ensures ends { OnOk result (pairs.new.ends.items ≡ map (λ p. p.to) pairs.new.light.items) }
+{
+    find_light_pairs(task.bound, into, outs, &mut pairs.light)?;
+    find_ends(&pairs.light, &mut pairs.ends)?;
+    find_aims(&pairs.light, task.node, rows, &mut pairs.aims)
 }
 
 /// The pairs from one neighbour to the others that aren't heavy, with what their two arcs cost together. They take the

@@ -4,8 +4,9 @@ ghost use Rattle.ch_overlay.specs.Source.{IsBound, NamesAlone};
 ghost use Rattle.ch_laws.specs.Rows.{Rises};
 ghost use Rattle.ch_witness.specs.Kept.{kept_of, AllNamed, AreKept, IsMore};
 ghost use Rattle.ch_contract.specs.Drafts.{IsBegun, IsDrafted};
+ghost use Rattle.ch_contract.specs.Reading.{FindsRows, IsReadOn};
 ghost use Rattle.ch_contract.specs.Proposal.{IsProposal, TellsContracted};
-ghost use Rattle.ch_contract.specs.declared.error.ProposeError.TheVariants.{Unseen, Contracted};
+ghost use Rattle.ch_contract.specs.declared.error.ProposeError.TheVariants.{Unseen};
 ghost use Rattle.ch_overlay.specs.declared.source.SeeError.TheVariants as see;
 
 use crate::draft::{Draft, Task, draft_pairs, leads_on};
@@ -13,7 +14,7 @@ use crate::error::ProposeError;
 use crate::proposal::Proposal;
 use crate::scratch::{Desk, Scratch};
 use ch_overlay::{Row, RowSource, SeeError};
-use ch_witness::Rows;
+use ch_witness::{Rows, SearchError};
 use std::alloc::Global;
 use std::sync::Arc;
 
@@ -121,7 +122,7 @@ fn draft_all<S: RowSource>(
     task: Task,
     row: &Row,
     draft: &mut Draft,
-) -> Result<(), ProposeError>
+) -> Result<(), SearchError>
     requires some { 1 ≤ task.settle }
     requires few { task.settle ≤ 2 ^ 16 }
     requires bound { task.bound ≡ S.bound_of source.old }
@@ -132,11 +133,8 @@ fn draft_all<S: RowSource>(
     requires kept { AreKept S.bears (S.shows source.old) (S.bound_of source.old) (kept_of desk.old.searcher.rows) }
     requires begun { IsBegun task.node draft.old }
     ensures draft { OnOk result (IsDrafted task.bound task.node row.now row.now.inn (kept_of desk.new.searcher.rows) draft.new) }
-    ensures kept { AreKept S.bears (S.shows source.new) (S.bound_of source.new) (kept_of desk.new.searcher.rows) }
-    ensures more { IsMore (kept_of desk.old.searcher.rows) (kept_of desk.new.searcher.rows) }
-    ensures stays { S.stays source.old source.new }
-    ensures never { result ≡ Err Contracted → ⊥ }
-    ensures found { AllNamed (S.whole source.old) (kept_of desk.old.searcher.rows) → NamesAlone (S.whole source.old) row.now → result ≡ Err Unseen → ⊥ }
+    ensures read { IsReadOn S.bears (S.shows source.new) (S.bound_of source.new) (S.stays source.old source.new) (kept_of desk.old.searcher.rows) (kept_of desk.new.searcher.rows) }
+    ensures found { AllNamed (S.whole source.old) (kept_of desk.old.searcher.rows) → NamesAlone (S.whole source.old) row.now → FindsRows (S.whole source.new) (kept_of desk.new.searcher.rows) result }
 {
     read_neighbours(source, &mut desk.searcher.rows, row)?;
     'inns: for into in &row.inn {

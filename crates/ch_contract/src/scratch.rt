@@ -20,10 +20,16 @@ impl Model for Scratch {
 #[derive(Drop)]
 pub(crate) struct Desk {
     pub(crate) searcher: Searcher,
-    /// The pairs from one neighbour that aren't heavy.
-    pub(crate) pairs: Vec<Shortcut>,
+    pub(crate) pairs: Pairs,
+}
+
+/// The pairs from one neighbour, and what a search for their ways is told.
+#[derive(Drop)]
+pub(crate) struct Pairs {
+    /// Those that aren't heavy.
+    pub(crate) light: Vec<Shortcut>,
     /// The nodes to which they lead.
-    pub(crate) targets: Vec<u32>,
+    pub(crate) ends: Vec<u32>,
     /// What the search may know of each of these.
     pub(crate) aims: Vec<Aim>,
 }
@@ -34,9 +40,11 @@ impl Scratch {
         Scratch {
             desk: Desk {
                 searcher: Searcher::new(alloc),
-                pairs: Vec::new(alloc),
-                targets: Vec::new(alloc),
-                aims: Vec::new(alloc),
+                pairs: Pairs {
+                    light: Vec::new(alloc),
+                    ends: Vec::new(alloc),
+                    aims: Vec::new(alloc),
+                },
             },
         }
     }

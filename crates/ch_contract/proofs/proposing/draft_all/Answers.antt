@@ -4,6 +4,7 @@ use Rattle.ch_laws.specs.declared.entry.Entry.{Entry}
 use Rattle.ch_laws.specs.Rows.{Row}
 use Rattle.ch_witness.specs.Kept.{kept_of}
 use Rattle.ch_contract.specs.Drafts.{IsDraftedFrom}
+use Rattle.ch_contract.proofs.Finds.{finds_unless}
 use Rattle.ch_contract.proofs.Gathering.{drafted_none, next_drafted, names_moved}
 use Rattle.ch_contract.proofs.proposing.draft_all.Goals as goal
 
@@ -12,9 +13,7 @@ inns-init g c =
     let read = c.in_ok-read_neighbours.ensures in
     record {
       draft = drafted_none c.args.task.bound c.args.task.node c.args.row.now (kept_of c.read_neighbours.new.rows) c.args.draft.now c.requires.begun;
-      kept = read.kept;
-      more = read.more;
-      stays = read.stays;
+      read = record { kept = read.kept; more = read.more; stays = read.stays };
       names = read.names;
     }
 
@@ -24,18 +23,46 @@ inns-preserved g c =
     let inv = c.inns.invariant in
     let step = c.in_ok-draft_pairs.ensures in
     record {
-      draft = next_drafted c.args.task.bound c.args.task.node c.args.row.now c.deref-into-items.result.now inns c.requires.inn_rises c.inns.into-index _ c.inns-test.true (kept_of c.inns.desk.searcher.rows) (kept_of c.draft_pairs.new.desk.searcher.rows) c.inns.draft c.draft_pairs.new.draft step.more inv.draft (subst (λ (e : Entry). IsDraftedFrom c.args.task.bound c.args.task.node c.args.row.now e (kept_of c.draft_pairs.new.desk.searcher.rows) c.inns.draft c.draft_pairs.new.draft) c.into-item.is step.draft);
+      draft = next_drafted c.args.task.bound c.args.task.node c.args.row.now c.deref-into-items.result.now inns c.requires.inn_rises c.inns.into-index _ c.inns-test.true (kept_of c.inns.desk.searcher.rows) (kept_of c.draft_pairs.new.desk.searcher.rows) c.inns.draft c.draft_pairs.new.draft step.read.more inv.draft (subst (λ (e : Entry). IsDraftedFrom c.args.task.bound c.args.task.node c.args.row.now e (kept_of c.draft_pairs.new.desk.searcher.rows) c.inns.draft c.draft_pairs.new.draft) c.into-item.is step.draft);
+      read = record {
+        kept = step.read.kept;
+        more = λ x s is. step.read.more x s (inv.read.more x s is);
+        stays = g.met.S.RowSource.stays_more c.args.source.now c.inns.source c.draft_pairs.new.source inv.read.stays step.read.stays;
+      };
+      names = λ named names. step.found (inv.names named names) (names_moved _ _ c.args.row.now (λ v h. g.met.S.RowSource.still_whole c.args.source.now c.inns.source v inv.read.stays h) names);
+    }
+
+pub returns-in_err-read_neighbours-clause-read : goal.returns-in_err-read_neighbours-clause-read
+returns-in_err-read_neighbours-clause-read g c =
+    let read = c.in_err-read_neighbours.ensures in
+    record { kept = read.kept; more = read.more; stays = read.stays }
+
+pub returns-in_err-read_neighbours-clause-found : goal.returns-in_err-read_neighbours-clause-found
+returns-in_err-read_neighbours-clause-found g c = λ named names.
+    let p = err_from_is_err_and c.from_residual.result c.from_residual.ensures.1 in
+    let was = c.in_err-read_neighbours.was in
+    finds_unless _ _ _ p.0 p.1 (λ unseen. let refused = p.2.0 unseen in c.in_err-read_neighbours.ensures.found named names (cc (was, refused)))
+
+pub returns-in_err-draft_pairs-clause-read : goal.returns-in_err-draft_pairs-clause-read
+returns-in_err-draft_pairs-clause-read g c =
+    let inv = c.inns.invariant in
+    let step = c.in_err-draft_pairs.ensures.read in
+    record {
       kept = step.kept;
-      more = λ x s is. step.more x s (inv.more x s is);
-      stays = g.met.S.RowSource.stays_more c.args.source.now c.inns.source c.draft_pairs.new.source inv.stays step.stays;
-      names = λ named names. step.names (inv.names named names) (names_moved _ _ c.args.row.now (λ v h. g.met.S.RowSource.still_whole c.args.source.now c.inns.source v inv.stays h) names);
+      more = λ x s is. step.more x s (inv.read.more x s is);
+      stays = g.met.S.RowSource.stays_more c.args.source.now c.inns.source c.draft_pairs.new.source inv.read.stays step.stays;
     }
 
 pub returns-in_err-draft_pairs-clause-found : goal.returns-in_err-draft_pairs-clause-found
-returns-in_err-draft_pairs-clause-found g c = λ named names e.
+returns-in_err-draft_pairs-clause-found g c = λ named names.
     let inv = c.inns.invariant in
     let p = err_from_is_err_and c.from_residual-in_err-draft_pairs.result c.from_residual-in_err-draft_pairs.ensures.1 in
-    let was = c.in_err-draft_pairs.was in
-    let one = p.1 in
-    let two = p.2 in
-    c.in_err-draft_pairs.ensures.found (inv.names named names) (names_moved _ _ c.args.row.now (λ v h. g.met.S.RowSource.still_whole c.args.source.now c.inns.source v inv.stays h) names) (cc (was, one, two, e))
+    let same = p.2 in
+    let other = c.in_err-draft_pairs.ensures.found (inv.names named names) (names_moved _ _ c.args.row.now (λ v h. g.met.S.RowSource.still_whole c.args.source.now c.inns.source v inv.read.stays h) names) in
+    finds_unless _ _ _ p.0 p.1 (λ unseen. other (cc (same, unseen)))
+
+pub returns-clause-read : goal.returns-clause-read
+returns-clause-read g c = c.inns.invariant.read
+
+pub returns-clause-found : goal.returns-clause-found
+returns-clause-found g c = c.inns.invariant.names
