@@ -1,6 +1,7 @@
-use Rattle.std.proofs.Common.{ap, subst, ◌∙◌}
+use Rattle.std.proofs.Common.{List, Contains, ap, sym, subst, ◌∙◌}
 use Rattle.std.proofs.lemmas.Result.{err_from_is_err_and}
 use Rattle.ch_laws.specs.declared.entry.Entry.{Entry}
+use Rattle.ch_laws.specs.Members.{contains_place}
 use Rattle.ch_laws.specs.Rows.{Row}
 use Rattle.ch_witness.specs.Kept.{kept_of}
 use Rattle.ch_contract.specs.Drafts.{IsDraftedFrom}
@@ -16,6 +17,17 @@ inns-init g c =
       read = record { kept = read.kept; more = read.more; stays = read.stays };
       names = read.names;
     }
+
+pub draft_pairs-requires-clause-bound : goal.draft_pairs-requires-clause-bound
+draft_pairs-requires-clause-bound g c = c.requires.bound ∙ sym (g.met.S.RowSource.same_bound c.args.source.now c.inns.source c.inns.invariant.read.stays)
+
+pub draft_pairs-requires-clause-among : goal.draft_pairs-requires-clause-among
+draft_pairs-requires-clause-among g c =
+    let inns = c.deref-into-items.ensures.value ∙ ap (λ (r : Row). r.inn) c.row.view_is in
+    subst (λ (es : List Entry). Contains es c.into-item.result) inns (contains_place c.deref-into-items.result.now c.inns.into-index c.into-item.result c.into-item.result c.inns-test.true (sym c.into-item.is))
+
+pub draft_pairs-requires-clause-kept : goal.draft_pairs-requires-clause-kept
+draft_pairs-requires-clause-kept g c = c.inns.invariant.read.kept
 
 pub inns-preserved : goal.inns-preserved
 inns-preserved g c =

@@ -47,6 +47,12 @@ returns-in_err-draft_all-clause-found g c = λ whole e.
     let it : p.0 ≡ Unseen = cc (one, e) in
     c.in_err-draft_all.ensures.found named (subst (NamesAlone (g.S.RowSource.whole c.read.new.source)) (sym (c.deref-2.ensures ∙ c.in_ok-row.ensures)) own) (p.2.1.0 it)
 
+pub returns-in_err-draft_all-clause-stays : goal.returns-in_err-draft_all-clause-stays
+returns-in_err-draft_all-clause-stays g c = g.met.S.RowSource.stays_more c.args.source.now c.read.new.source c.draft_all.new.source c.in_ok-place.ensures.stays c.in_err-draft_all.ensures.read.stays
+
+pub returns-clause-stays : goal.returns-clause-stays
+returns-clause-stays g c = g.met.S.RowSource.stays_more c.args.source.now c.read.new.source c.draft_all.new.source c.in_ok-place.ensures.stays c.in_ok-draft_all.ensures.read.stays
+
 pub hand_out-requires : goal.hand_out-requires
 hand_out-requires g c = record { nodes = λ x s is. (c.in_ok-draft_all.ensures.read.kept x s is).node }
 
