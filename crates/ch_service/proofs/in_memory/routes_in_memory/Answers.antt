@@ -6,3 +6,6 @@ pub returns-clause-exact : goal.returns-clause-exact
 returns-clause-exact g c =
     exact-in_memory c.args.graph.now c.args.pairs.now c.new-file.result.items c.prepare.new.out.items c.as_slice-bytes.result.now c.new-text.result.items c.route.new.out.items
     (search rules) (search rules) (search rules) c.in_ok-prepare.ensures.prepares c.in_ok-route.ensures.exact
+
+pub returns-in_err-prepare-clause-bad : goal.returns-in_err-prepare-clause-bad
+returns-in_err-prepare-clause-bad g c = search rules

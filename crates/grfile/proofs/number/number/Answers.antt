@@ -1,4 +1,4 @@
-use Rattle.std.proofs.Common.{◌≡◌, ◌∙◌, ◌<◌, ◌+◌, ◌*◌, ℕ, length, Some, sym, ap, arith}
+use Rattle.std.proofs.Common.{◌≡◌, ◌∙◌, ◌<◌, ◌+◌, ◌*◌, ℕ, length, Some, sym, ap, arith, rules}
 use Rattle.std.proofs.lemmas.Bool.{eqb-false}
 use Rattle.grfile.specs.Outcome.{capped}
 use Rattle.grfile.proofs.Digits.{capped_after-more, capped_after-stop, capped_after-end, capped_after-start}
@@ -24,3 +24,6 @@ returns c =
     let some : 0 < length field = omega (arith, eqb-false (length field) 0 (sym c.is_empty.ensures ∙ c.if-is_empty.false)) in
     let fits : c.loop-digit.value ≡ capped c.loop-digit.value = omega (arith, c.loop-digit.invariant.fits) in
     ap (λ (n : ℕ). Some n) fits ∙ sym (capped_after-end c.loop-digit.value field c.loop-digit.digit-index c.loop-digit-test.false) ∙ c.loop-digit.invariant.told ∙ sym (capped_after-start field some)
+
+pub returns-then-is_empty : goal.returns-then-is_empty
+returns-then-is_empty c = search rules

@@ -1,3 +1,4 @@
+use Rattle.std.proofs.Common.{rules}
 use Rattle.counted_io.specs.Limits.Laws.{gave_out, read_by}
 use Rattle.grfile.proofs.pieces.read_piece.Goals as goal
 
@@ -9,3 +10,6 @@ returns-in-Ok-clause-calls g c = read_by g.R.StepRead.step c.args.calls.now.left
 
 pub returns-in-Err-clause-gave_out : goal.returns-in-Err-clause-gave_out
 returns-in-Err-clause-gave_out g c = gave_out g.R.StepRead.step c.args.calls.now.left c.read.new.self.left c.in-Err.ensures.failed
+
+pub returns-in-Err-clause-refused : goal.returns-in-Err-clause-refused
+returns-in-Err-clause-refused g c = search rules

@@ -1,4 +1,4 @@
-use Rattle.std.proofs.Common.{subst}
+use Rattle.std.proofs.Common.{subst, rules}
 use Rattle.ch_contract.specs.Ledger.{Ledger}
 use Rattle.ch_contract.specs.Commit.{IsRefusal, NoneIsOld}
 use Rattle.ch_contract.proofs.Current.{stale_told, current-not_stale}
@@ -15,3 +15,6 @@ returns-in-Err-OutOfMemory-clause-stale g c node seen now front = (λ e. absurd 
 
 pub returns-in-Err-Slot-clause-stale : goal.returns-in-Err-Slot-clause-stale
 returns-in-Err-Slot-clause-stale g c node seen now front = (λ e. absurd (cc), λ stale. absurd (current-not_stale c.args.self.now c.args.proposal.now node seen now front (subst (λ (l : Ledger). NoneIsOld l c.args.proposal.now.rests_on) c.self.view_is c.in_default.ensures.up_to_date.current) stale))
+
+pub returns-in-Ok-clause-ok : goal.returns-in-Ok-clause-ok
+returns-in-Ok-clause-ok g c = search rules

@@ -1,3 +1,4 @@
+use Rattle.std.proofs.Common.{rules}
 use Rattle.ch_contract.specs.declared.contraction.Receipt.{Receipt}
 use Rattle.ch_contract.specs.declared.error.CommitError.TheVariants as commits
 use Rattle.ch_contract.proofs.Current.{done-apart, same_refusal}
@@ -11,3 +12,6 @@ returns-clause-stale g c node seen now front =
     let told = c.in-Err.ensures.stale node seen now front in
     let same = same_refusal _ Receipt c.in-Err.refused (commits.Stale node seen now front) in
     (λ e. told.0 (same.1 e), λ stale. same.0 (told.1 stale))
+
+pub returns-in-Ok-clause-seen : goal.returns-in-Ok-clause-seen
+returns-in-Ok-clause-seen g c = search rules

@@ -1,4 +1,4 @@
-use Rattle.std.proofs.Common.{◌≡◌, List, sym, subst, ap, ◌∙◌}
+use Rattle.std.proofs.Common.{◌≡◌, List, sym, subst, ap, ◌∙◌, rules}
 use Rattle.ch_cost.specs.declared.cost.Cost.{Cost}
 use Rattle.ch_laws.specs.Rows.{Row}
 use Rattle.ch_overlay.specs.Overlay.{Overlay}
@@ -19,3 +19,9 @@ open-requires-clause-sound g c =
 pub open-requires-clause-limit : goal.open-requires-clause-limit
 open-requires-clause-limit g c =
     subst (λ (b : Cost). IsBound b) (ap (λ (o : Overlay). o.bound) (sym c.overlay.ensures) ∙ bound_is g c) (ledger_bound c.bounds_fit.ensures c.args.ledger c.holds.ensures)
+
+pub invariant_of-result : goal.invariant_of-result
+invariant_of-result g c = search rules
+
+pub returns-clause-front : goal.returns-clause-front
+returns-clause-front g c = search rules

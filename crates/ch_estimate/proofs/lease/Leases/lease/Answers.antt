@@ -16,3 +16,9 @@ split_seat-seat-requires c =
     let made : ℕ = c.self-2.inside.made in
     let knows = view_of _ _ (counted c.self-2.inside.seat.me c.fetch_add.new.seat.me made c.self-2.invariant.0.knows c.fetch_add.ensures.2) in
     (search rules, search rules, handing_as _ (made + 1) _ (search rules) knows)
+
+pub invariant_of-self : goal.invariant_of-self
+invariant_of-self c = search rules
+
+pub returns-clause-one : goal.returns-clause-one
+returns-clause-one c = search rules

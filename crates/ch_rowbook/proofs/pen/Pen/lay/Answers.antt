@@ -1,5 +1,5 @@
 use Rattle.std.specs.Prelude.{◌<◌, slice_index}
-use Rattle.std.proofs.Common.{subst, arith}
+use Rattle.std.proofs.Common.{subst, arith, rules}
 use Rattle.ch_rowbook.specs.Books.{PenView, versions_of}
 use Rattle.ch_rowbook.proofs.Pens.{current_below}
 use Rattle.ch_rowbook.proofs.pen.Pen.lay.Goals as goal
@@ -11,3 +11,6 @@ returns-clause-above g c =
     let below : slice_index (versions_of pen.current.items) c.args.node < pen.next = current_below g.B.Book.book pen.seat pen.next pen.current.items c.args.node c.self.invariant c.requires.within in
     let place = c.in_ok-token.ensures.place in
     subst (λ (v : PenView). slice_index v.versions c.args.node < c.in_ok-token.token.index) c.self.view_is (omega (arith, below, place))
+
+pub returns-clause-next : goal.returns-clause-next
+returns-clause-next g c = search rules

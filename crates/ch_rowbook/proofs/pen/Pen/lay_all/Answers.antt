@@ -1,3 +1,4 @@
+use Rattle.std.proofs.lemmas.Grind.{common_steps}
 use Rattle.std.specs.Prelude.{ℕ, List, [], ◌∷◌, ◌++◌, ◌≡◌, ◌<◌, ◌≤◌, ◌+◌, length, map, slice_index_or}
 use Rattle.std.proofs.Common.{sym, subst, ◌∙◌, ap, arith, take}
 use Rattle.std.specs.Arc.{arc_value}
@@ -43,3 +44,6 @@ loop-at-preserved g c =
       rising = subst (λ (n : ℕ). IsRising low (map (λ y. y.token.index) c.push.new.self.items) n) (sym (ap (λ (v : PenView). v.next) pen))
           (subst (λ vs. IsRising low vs (x.token.index + 1)) (sym (ap (λ l. map (λ y. y.token.index) l) items ∙ map-append (λ y. y.token.index) all (x ∷ []))) rising);
     }
+
+pub returns-clause-laid : goal.returns-clause-laid
+returns-clause-laid g c = grind (arith, common_steps)

@@ -1,5 +1,5 @@
 use Rattle.std.specs.Prelude.{ℕ, List, ◌∷◌, ◌<◌, ◌+◌, length, map}
-use Rattle.std.proofs.Common.{sym, subst, ◌∙◌, ap, arith, drop, set}
+use Rattle.std.proofs.Common.{sym, subst, ◌∙◌, ap, arith, drop, set, rules}
 use Rattle.std.proofs.lemmas.Bool.Decides.{nat_tests}
 use Rattle.std.proofs.lemmas.List.{length-set}
 use Rattle.ch_laws.specs.Rows.{Row}
@@ -47,3 +47,6 @@ loop-at-preserved g c =
       next = c.show_one.ensures.next ∙ c.loop-at.invariant.next;
       showable = subst (λ (n : ℕ). IsShowable new.versions n (map (λ y. y.token.index) rest)) (sym c.show_one.ensures.next) (subst (λ (vs : List ℕ). IsShowable vs pen.next (map (λ y. y.token.index) rest)) (sym c.show_one.ensures.versions) stored);
     }
+
+pub loop-at-init : goal.loop-at-init
+loop-at-init g c = search rules

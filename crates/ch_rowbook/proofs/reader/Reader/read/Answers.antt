@@ -1,5 +1,5 @@
 use Rattle.std.specs.Prelude.{ℕ, List, ◌≡◌, ◌<◌, slice_set, refl}
-use Rattle.std.proofs.Common.{sym, ◌∙◌, ap, arith}
+use Rattle.std.proofs.Common.{sym, ◌∙◌, ap, arith, rules}
 use Rattle.std.proofs.lemmas.Bool.Decides.{nat_tests}
 use Rattle.ch_rowbook.proofs.Fronts.{here, raised}
 use Rattle.ch_rowbook.proofs.reader.Reader.read.Goals as goal
@@ -22,3 +22,9 @@ returns-clause-here g c =
     c.part-ahead.ensures.same c.part-ahead.ensures.front c.load-version.ensures.front c.meet.ensures.front c.load-version.ensures.rises in
     let less : c.args.node < g.B.Book.book.nodes = grind (arith, nat_tests, c.if-node-deref.false, c.deref.ensures, c.deref.result.now.nodes_is) in
     here inside new c.args.node c.load-version.result _ g.B.Book.book.nodes set_inside c.self.invariant.wide refl less ∙ sym c.in_ok-seen.ensures.version
+
+pub returns-clause-rises : goal.returns-clause-rises
+returns-clause-rises g c = search rules
+
+pub returns-in_err-seen-clause-err : goal.returns-in_err-seen-clause-err
+returns-in_err-seen-clause-err g c = search rules

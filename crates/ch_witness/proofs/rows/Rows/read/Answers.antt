@@ -1,4 +1,4 @@
-use Rattle.std.proofs.Common.{ℕ, ◌≡◌, Option, Some, None, sym, subst, ◌∙◌, inl, inr}
+use Rattle.std.proofs.Common.{ℕ, ◌≡◌, Option, Some, None, sym, subst, ◌∙◌, inl, inr, rules}
 use Rattle.std.proofs.lemmas.Bool.{cases_eq}
 use Rattle.ch_overlay.specs.declared.source.Seen.{Seen}
 use Rattle.ch_overlay.specs.Source.{IsBound, IsSeenRow}
@@ -43,3 +43,15 @@ pub returns-in-Some-clause-here : goal.returns-in-Some-clause-here
 returns-in-Some-clause-here g c =
     let h = c.in-Some.ensures.here in
     record { seen = h.0; there = h.1; kept = h.2; answer = c.requires.kept c.args.node h.0 h.2 }
+
+pub known-requires-clause-found : goal.known-requires-clause-found
+known-requires-clause-found g c = search rules
+
+pub known-requires-clause-absent : goal.known-requires-clause-absent
+known-requires-clause-absent g c = search rules
+
+pub put-requires-clause-found : goal.put-requires-clause-found
+put-requires-clause-found g c = search rules
+
+pub put-requires-clause-absent : goal.put-requires-clause-absent
+put-requires-clause-absent g c = search rules

@@ -1,0 +1,8 @@
+use Rattle.std.proofs.Common.{rules}
+use Rattle.ch_overlay.proofs.merge.MergeIterator.next.Goals as goal
+
+pub returns-then-old-new-clause-goes : goal.returns-then-old-new-clause-goes
+returns-then-old-new-clause-goes c = search rules
+
+pub returns-then-old-new-clause-steps : goal.returns-then-old-new-clause-steps
+returns-then-old-new-clause-steps c = search rules

@@ -1,0 +1,5 @@
+use Rattle.std.proofs.Common.{rules}
+use Rattle.ch_service.proofs.refusing.refuse.Goals as goal
+
+pub returns-clause-leases : goal.returns-clause-leases
+returns-clause-leases g c = search rules

@@ -1,0 +1,5 @@
+use Rattle.std.proofs.Common.{rules}
+use Rattle.ch_witness.proofs.error.SearchErrorFromSeeError.from.Goals as goal
+
+pub returns-in-Unseen : goal.returns-in-Unseen
+returns-in-Unseen = search rules
