@@ -1,5 +1,5 @@
 -- The bytes that wait in a buffer, and those behind them.
-use Rattle.std.proofs.Common.{ℕ, zero, suc, ◌≡◌, ◌+◌, ◌-◌, ◌<◌, ◌≤◌, List, [], ◌∷◌, ◌++◌, length, get_or, take, drop, Option, None, Some, zero-add, sym, refl, ap, ◌∙◌, subst, arith, append_assoc}
+use Rattle.std.proofs.Common.{ℕ, zero, suc, ◌≡◌, ◌+◌, ◌-◌, ◌<◌, ◌≤◌, List, [], ◌∷◌, ◌++◌, length, get_or, take, drop, Option, None, Some, zero-add, sym, refl, ap, ◌∙◌, arith, append_assoc}
 use Rattle.std.specs.Io.KnownBytes.{Consumes, Keeps}
 use Rattle.std.proofs.lemmas.List.{drop-take, take-append-le, take-append-drop, length-take-le, length-drop, get_or-drop}
 use Rattle.std.proofs.lemmas.List.Edits.{take-paste}

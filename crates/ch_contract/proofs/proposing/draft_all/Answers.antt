@@ -1,5 +1,6 @@
-use Rattle.std.proofs.Common.{List, Contains, ap, sym, subst, ◌∙◌}
+use Rattle.std.proofs.Common.{List, Contains, ap, sym, subst, ◌∙◌, arith}
 use Rattle.std.proofs.lemmas.Result.{err_from_is_err_and}
+use Rattle.std.proofs.lemmas.Grind.{common_steps}
 use Rattle.ch_laws.specs.declared.entry.Entry.{Entry}
 use Rattle.ch_laws.specs.Members.{contains_place}
 use Rattle.ch_laws.specs.Rows.{Row}
@@ -78,3 +79,21 @@ returns-clause-read g c = c.inns.invariant.read
 
 pub returns-clause-found : goal.returns-clause-found
 returns-clause-found g c = c.inns.invariant.names
+
+pub bounds-into-items-into-index : goal.bounds-into-items-into-index
+bounds-into-items-into-index c = grind (arith, common_steps) steps 200000
+
+pub draft_pairs-requires-clause-inn_rises : goal.draft_pairs-requires-clause-inn_rises
+draft_pairs-requires-clause-inn_rises c = grind (arith, common_steps) steps 200000
+
+pub draft_pairs-requires-clause-out_rises : goal.draft_pairs-requires-clause-out_rises
+draft_pairs-requires-clause-out_rises c = grind (arith, common_steps) steps 200000
+
+pub draft_pairs-requires-clause-some : goal.draft_pairs-requires-clause-some
+draft_pairs-requires-clause-some c = grind (arith, common_steps) steps 200000
+
+pub inns-smaller : goal.inns-smaller
+inns-smaller c = grind (arith, common_steps) steps 200000
+
+pub returns-clause-draft : goal.returns-clause-draft
+returns-clause-draft c = grind (arith, common_steps)

@@ -1,6 +1,7 @@
-use Rattle.std.proofs.Common.{ℕ, ◌≡◌, List, Option, Some, None, true, false, refl, ap, sym, subst, ◌∙◌}
+use Rattle.std.proofs.Common.{ℕ, ◌≡◌, List, Option, Some, None, true, false, refl, ap, sym, subst, ◌∙◌, arith}
 use Rattle.std.specs.Option.{is_some}
 use Rattle.std.proofs.lemmas.Result.{err_from_is_err_and}
+use Rattle.std.proofs.lemmas.Grind.{common_steps}
 use Rattle.ch_cost.specs.declared.cost.Cost.{Cost}
 use Rattle.ch_laws.specs.Rows.{Row}
 use Rattle.ch_overlay.specs.declared.source.Seen.{Seen}
@@ -101,3 +102,18 @@ returns-clause-contracted g c = λ memory unseen.
       shows = a.shows;
       ranked = (λ done. absurd (cc), λ some. absurd (some unranked));
     }
+
+pub draft_all-requires-clause-few : goal.draft_all-requires-clause-few
+draft_all-requires-clause-few c = grind (arith, common_steps) steps 600000
+
+pub draft_all-requires-clause-inn_rises : goal.draft_all-requires-clause-inn_rises
+draft_all-requires-clause-inn_rises c = grind (arith, common_steps)
+
+pub draft_all-requires-clause-out_rises : goal.draft_all-requires-clause-out_rises
+draft_all-requires-clause-out_rises c = grind (arith, common_steps)
+
+pub returns-clause-bound : goal.returns-clause-bound
+returns-clause-bound c = grind (arith, common_steps) steps 600000
+
+pub returns-clause-found : goal.returns-clause-found
+returns-clause-found c = grind (arith, common_steps) steps 600000

@@ -11,3 +11,6 @@ returns-clause-none c =
 
 pub returns-then-rank-ranks-clause-none : goal.returns-then-rank-ranks-clause-none
 returns-then-rank-ranks-clause-none c = grind (arith, common_steps)
+
+pub ranks-init : goal.ranks-init
+ranks-init c = grind (arith, common_steps) steps 200000

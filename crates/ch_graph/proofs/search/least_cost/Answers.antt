@@ -1,5 +1,6 @@
 use Rattle.std.proofs.Common.{ℕ, List, length, replicate, set, Some, ap, subst, sym, arith}
 use Rattle.std.proofs.lemmas.List.{length-set}
+use Rattle.std.proofs.lemmas.Grind.{common_steps}
 use Rattle.ch_cost.specs.declared.cost.Cost.{Cost}
 use Rattle.ch_cost.specs.Cost.{zero_cost}
 use Rattle.ch_cost.specs.Cost.Laws.{ZERO-is, in_limit-from_arcs}
@@ -40,3 +41,12 @@ nodes-preserved c =
 
 pub returns-clause-distance : goal.returns-clause-distance
 returns-clause-distance c = search-not_found c.args.graph.now c.args.source c.args.target c.nodes.frontier c.nodes.invariant c.in_default.ensures.none
+
+pub offer-requires : goal.offer-requires
+offer-requires c = grind (arith, common_steps) steps 200000
+
+pub follow-requires-clause-node_in : goal.follow-requires-clause-node_in
+follow-requires-clause-node_in c = grind (arith, common_steps) steps 200000
+
+pub follow-requires-clause-links : goal.follow-requires-clause-links
+follow-requires-clause-links c = grind (arith, common_steps) steps 200000

@@ -1,5 +1,6 @@
 use Rattle.std.proofs.Common.{ℕ, ◌≡◌, ◌<◌, ◌++◌, ◌∷◌, [], length, slice_index, List, Some, ap, arith, ◌∙◌, sym, subst}
 use Rattle.std.proofs.lemmas.List.{get_or_read}
+use Rattle.std.proofs.lemmas.Grind.{common_steps}
 use Rattle.ch_graph.specs.declared.link.Link.{Link}
 use Rattle.ch_graph.specs.declared.hierarchy.LinkId.{LinkId}
 use Rattle.ch_graph.specs.Hierarchy.{rank_of}
@@ -38,3 +39,6 @@ links-preserved c =
 
 pub returns : goal.returns
 returns c = descended c.requires.made c.requires.start_in c.requires.searching c.args.top c.links.rank c.links.ids.items (sym c.in_default.ensures) c.links.invariant
+
+pub rank-rank-requires : goal.rank-rank-requires
+rank-rank-requires c = grind (arith, common_steps)

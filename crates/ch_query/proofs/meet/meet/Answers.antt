@@ -1,4 +1,5 @@
 use Rattle.std.proofs.Common.{◌≡◌, ◌+◌, ◌≤◌, None, arith}
+use Rattle.std.proofs.lemmas.Grind.{common_steps}
 use Rattle.ch_query.specs.declared.side.Side.TheVariants.{Rise, Fall}
 use Rattle.ch_query.specs.Marks.{IsStopped, settled_count}
 use Rattle.ch_query.specs.Meeting.{cost_of}
@@ -67,3 +68,9 @@ turns-preserved c = record {
   down_followed = c.in_ok-fell.ensures.followed;
   best = best-flip c.in_ok-fell.ensures.best;
 }
+
+pub returns-then-not-goes_on-clause-falls : goal.returns-then-not-goes_on-clause-falls
+returns-then-not-goes_on-clause-falls c = grind (arith, common_steps) steps 200000
+
+pub returns-then-not-goes_on-clause-rises : goal.returns-then-not-goes_on-clause-rises
+returns-then-not-goes_on-clause-rises c = grind (arith, common_steps) steps 200000

@@ -1,4 +1,5 @@
 use Rattle.std.proofs.Common.{List, Option, set, sym, subst, arith}
+use Rattle.std.proofs.lemmas.Grind.{common_steps}
 use Rattle.ch_cost.specs.declared.cost.Cost.{Cost}
 use Rattle.ch_query.specs.declared.mark.Mark.{Mark}
 use Rattle.ch_query.specs.declared.mark.Mark.TheVariants.{Settled}
@@ -58,3 +59,6 @@ returns-in_default-clause-less c = no_more-refl (cost_of c.args.best.now)
 
 pub returns-in_default-clause-followed : goal.returns-in_default-clause-followed
 returns-in_default-clause-followed c = subst (λ (ms : List Mark). AreFollowed c.args.hierarchy.now c.args.climb.side (cost_of c.args.best.now) ms) (sym c.in_default.ensures.unchanged) c.requires.followed
+
+pub cost-requires : goal.cost-requires
+cost-requires c = grind (arith, common_steps) steps 200000

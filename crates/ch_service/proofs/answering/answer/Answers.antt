@@ -1,4 +1,5 @@
-use Rattle.std.proofs.Common.{rules, subst}
+use Rattle.std.proofs.Common.{rules, subst, arith}
+use Rattle.std.proofs.lemmas.Grind.{common_steps}
 use Rattle.ch_graph.specs.Graph.{Graph, IsGraph}
 use Rattle.ch_service.proofs.ByWalks.{answers-told, stops-answered, fault-answering, texts-kinds, fault-answered, no_text_fault, pairs_refused}
 use Rattle.ch_service.proofs.FromBuild.{built-good}
@@ -45,3 +46,45 @@ returns-clause-reached g c = no_text_fault _ _ c.answer_pairs.result c.answer_pa
 pub returns-in_err-hierarchy-clause-fault : goal.returns-in_err-hierarchy-clause-fault
 returns-in_err-hierarchy-clause-fault g c =
     fault-built c.in-Ok.graph c.in-Ok-read_queries.pairs.items _ _ c.in_err-hierarchy.field-0.0 c.from_residual.result (search rules) (search rules) c.from_residual.ensures.1
+
+pub returns-clause-leases : goal.returns-clause-leases
+returns-clause-leases c = grind (arith, common_steps) steps 600000
+
+pub returns-clause-untouched : goal.returns-clause-untouched
+returns-clause-untouched c = grind (arith, common_steps) steps 600000
+
+pub returns-in-Err-clause-answers : goal.returns-in-Err-clause-answers
+returns-in-Err-clause-answers c = grind (arith, common_steps) steps 200000
+
+pub returns-in-Err-clause-fault : goal.returns-in-Err-clause-fault
+returns-in-Err-clause-fault c = grind (arith, common_steps) steps 600000
+
+pub returns-in-Err-clause-good : goal.returns-in-Err-clause-good
+returns-in-Err-clause-good c = grind (arith, common_steps) steps 200000
+
+pub returns-in-Err-clause-kinds : goal.returns-in-Err-clause-kinds
+returns-in-Err-clause-kinds c = grind (arith, common_steps) steps 200000
+
+pub returns-in-Err-clause-reached : goal.returns-in-Err-clause-reached
+returns-in-Err-clause-reached c = grind (arith, common_steps) steps 200000
+
+pub returns-in-Err-clause-stops : goal.returns-in-Err-clause-stops
+returns-in-Err-clause-stops c = grind (arith, common_steps) steps 200000
+
+pub returns-in-Err-clause-untouched : goal.returns-in-Err-clause-untouched
+returns-in-Err-clause-untouched c = grind (arith, common_steps) steps 200000
+
+pub returns-in-Err-read_queries-clause-answers : goal.returns-in-Err-read_queries-clause-answers
+returns-in-Err-read_queries-clause-answers c = grind (arith, common_steps) steps 200000
+
+pub returns-in-Err-read_queries-clause-good : goal.returns-in-Err-read_queries-clause-good
+returns-in-Err-read_queries-clause-good c = grind (arith, common_steps) steps 200000
+
+pub returns-in-Err-read_queries-clause-kinds : goal.returns-in-Err-read_queries-clause-kinds
+returns-in-Err-read_queries-clause-kinds c = grind (arith, common_steps) steps 200000
+
+pub returns-in-Err-read_queries-clause-reached : goal.returns-in-Err-read_queries-clause-reached
+returns-in-Err-read_queries-clause-reached c = grind (arith, common_steps) steps 200000
+
+pub returns-in-Err-read_queries-clause-stops : goal.returns-in-Err-read_queries-clause-stops
+returns-in-Err-read_queries-clause-stops c = grind (arith, common_steps) steps 600000

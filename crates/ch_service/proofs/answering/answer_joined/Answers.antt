@@ -1,4 +1,5 @@
 use Rattle.std.proofs.Common.{rules, Some, refl, arith}
+use Rattle.std.proofs.lemmas.Grind.{common_steps}
 use Rattle.ch_workers.specs.declared.error.BuildError.TheVariants.{BadOptions}
 use Rattle.ch_service.proofs.JoinedFaults.{fault_in_joined}
 use Rattle.ch_service.proofs.LineFeeds.{stops_in_joined}
@@ -21,3 +22,15 @@ returns-clause-reached g c =
 
 pub returns-clause-fault : goal.returns-clause-fault
 returns-clause-fault g c = fault_in_joined _ c.in_ok-text.text.items c.parts.result.0.now c.parts.result.1.now c.in_ok-text.ensures.whole (search rules) (search rules) c.answer.result c.answer.ensures.fault
+
+pub returns-clause-answers : goal.returns-clause-answers
+returns-clause-answers c = grind (arith, common_steps) steps 600000
+
+pub returns-clause-kinds : goal.returns-clause-kinds
+returns-clause-kinds c = grind (arith, common_steps) steps 200000
+
+pub returns-clause-stops : goal.returns-clause-stops
+returns-clause-stops c = grind (arith, common_steps)
+
+pub returns-clause-untouched : goal.returns-clause-untouched
+returns-clause-untouched c = grind (arith, common_steps) steps 200000

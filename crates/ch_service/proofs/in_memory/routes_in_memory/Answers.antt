@@ -1,4 +1,5 @@
-use Rattle.std.proofs.Common.{rules}
+use Rattle.std.proofs.Common.{rules, arith}
+use Rattle.std.proofs.lemmas.Grind.{common_steps}
 use Rattle.ch_service.proofs.Exact.{exact-in_memory}
 use Rattle.ch_service.proofs.in_memory.routes_in_memory.Goals as goal
 
@@ -9,3 +10,6 @@ returns-clause-exact g c =
 
 pub returns-in_err-prepare-clause-bad : goal.returns-in_err-prepare-clause-bad
 returns-in_err-prepare-clause-bad g c = search rules
+
+pub returns-clause-good : goal.returns-clause-good
+returns-clause-good c = grind (arith, common_steps) steps 200000

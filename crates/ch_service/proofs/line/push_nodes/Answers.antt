@@ -1,4 +1,6 @@
 use Rattle.std.proofs.Transfers.{starts_with_trans, starts_with_of_append}
+use Rattle.std.proofs.Common.{arith}
+use Rattle.std.proofs.lemmas.Grind.{common_steps}
 use Rattle.ch_service.proofs.Naming.{named-more}
 use Rattle.ch_service.proofs.line.push_nodes.Goals as goal
 
@@ -9,3 +11,9 @@ returns-in_err-push_number-clause-err c =
 pub nodes-preserved : goal.nodes-preserved
 nodes-preserved c =
     named-more c.args.lines.now.items _ _ c.args.nodes.now c.nodes.node-index c.from.result c.nodes-test.true c.nodes.invariant c.from.ensures c.in_ok-push_number.ensures.ok
+
+pub returns-clause-err : goal.returns-clause-err
+returns-clause-err c = grind (arith, common_steps) steps 200000
+
+pub returns-clause-ok : goal.returns-clause-ok
+returns-clause-ok c = grind (arith, common_steps) steps 200000

@@ -1,6 +1,7 @@
-use Rattle.std.proofs.Common.{rules}
+use Rattle.std.proofs.Common.{rules, arith}
 use Rattle.ch_service.proofs.ByWalks.{graph_refused}
 use Rattle.std.specs.Prelude.{Ok}
+use Rattle.std.proofs.lemmas.Grind.{common_steps}
 use Rattle.ch_service.proofs.FromBuild.{built-good, refused-bad}
 use Rattle.ch_service.proofs.Prepared.{writes-prepared, breaks-prepared, fault-prepared}
 use Rattle.ch_service.proofs.preparing.prepare.Goals as goal
@@ -30,3 +31,33 @@ returns-in_err-hierarchy-clause-bad g c = refused-bad c.build.result c.in_err-hi
 
 pub returns-clause-good : goal.returns-clause-good
 returns-clause-good g c = built-good c.build.result _ _ _ (Ok tt) c.in_ok-hierarchy.was c.build.ensures.bad
+
+pub returns-clause-broken : goal.returns-clause-broken
+returns-clause-broken c = grind (arith, common_steps) steps 200000
+
+pub returns-clause-fault : goal.returns-clause-fault
+returns-clause-fault c = grind (arith, common_steps) steps 200000
+
+pub returns-clause-kinds : goal.returns-clause-kinds
+returns-clause-kinds c = grind (arith, common_steps) steps 200000
+
+pub returns-clause-leases : goal.returns-clause-leases
+returns-clause-leases c = grind (arith, common_steps) steps 600000
+
+pub returns-clause-reached : goal.returns-clause-reached
+returns-clause-reached c = grind (arith, common_steps) steps 200000
+
+pub returns-clause-untouched : goal.returns-clause-untouched
+returns-clause-untouched c = grind (arith, common_steps) steps 200000
+
+pub returns-in-Err-clause-broken : goal.returns-in-Err-clause-broken
+returns-in-Err-clause-broken c = grind (arith, common_steps) steps 200000
+
+pub returns-in-Err-clause-good : goal.returns-in-Err-clause-good
+returns-in-Err-clause-good c = grind (arith, common_steps) steps 200000
+
+pub returns-in-Err-clause-kinds : goal.returns-in-Err-clause-kinds
+returns-in-Err-clause-kinds c = grind (arith, common_steps) steps 200000
+
+pub returns-in-Err-clause-prepares : goal.returns-in-Err-clause-prepares
+returns-in-Err-clause-prepares c = grind (arith, common_steps) steps 200000

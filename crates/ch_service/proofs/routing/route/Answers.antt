@@ -1,4 +1,5 @@
-use Rattle.std.proofs.Common.{rules}
+use Rattle.std.proofs.Common.{rules, arith}
+use Rattle.std.proofs.lemmas.Grind.{common_steps}
 use Rattle.ch_service.proofs.ByWalks.{routes-told, stops-told, fault-told, fault-routed, no_text_fault, routing-kinds}
 use Rattle.ch_service.proofs.Exact.{exact-told, never_long-told}
 use Rattle.ch_service.proofs.TextFaults.{pairs-fault}
@@ -36,3 +37,6 @@ returns-in_err-pairs-clause-fault g c =
 
 pub returns-clause-reached : goal.returns-clause-reached
 returns-clause-reached g c = no_text_fault _ _ c.answer_pairs.result c.answer_pairs.ensures.fault
+
+pub returns-clause-untouched : goal.returns-clause-untouched
+returns-clause-untouched c = grind (arith, common_steps) steps 600000

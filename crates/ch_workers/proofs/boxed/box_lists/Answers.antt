@@ -1,6 +1,7 @@
-use Rattle.std.proofs.Common.{◌≡◌, [], ◌∙◌, ap, map, sym, rules}
+use Rattle.std.proofs.Common.{◌≡◌, [], ◌∙◌, ap, map, sym, rules, arith}
 use Rattle.std.proofs.lemmas.Iterator.Consumers.{YieldsList-end}
 use Rattle.std.proofs.lemmas.Iterator.Adapters.{YieldsList-from_vec}
+use Rattle.std.proofs.lemmas.Grind.{common_steps}
 use Rattle.ch_workers.proofs.Reading.{map_same, all_of_maps}
 use Rattle.ch_workers.proofs.boxed.box_lists.Goals as goal
 
@@ -10,3 +11,9 @@ returns-clause-untold g c =
     all_of_maps (λ v. v.items) (λ v. v.items) (λ b. b.inner) (λ e. (goal.Estimator-dyn g (e.vtable, e.value)).heard e.value ≡ []) c.lists.made.items c.args.lists.items
     (c.lists.invariant.0 ∙ ap (map (λ v. v.items)) (sym (map_same c.lists.yielded) ∙ done.0))
     c.requires.untold
+
+pub lists-preserved : goal.lists-preserved
+lists-preserved c = grind (arith, common_steps) steps 200000
+
+pub lists-smaller : goal.lists-smaller
+lists-smaller c = grind (arith, common_steps) steps 200000

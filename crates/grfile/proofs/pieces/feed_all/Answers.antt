@@ -1,6 +1,7 @@
 use Rattle.std.proofs.Common.{◌≤◌, [], refl, subst, ◌∙◌, length, take, ap, arith}
 use Rattle.std.proofs.lemmas.List.{length-take-le}
 use Rattle.std.proofs.lemmas.Result.{err_from_is_err_and}
+use Rattle.std.proofs.lemmas.Grind.{common_steps}
 use Rattle.grfile.specs.declared.error.GrError.{GrError}
 use Rattle.grfile.specs.Taken.{taken_of, told_with}
 use Rattle.grfile.proofs.Cuttings.{at_some, nothing_taken, stops_in_piece, taken_more, within_first, within_more}
@@ -61,3 +62,15 @@ loop-count-init g c =
 
 pub returns-clause-calls : goal.returns-clause-calls
 returns-clause-calls g c = (c.read_piece.new.calls.left, read_then g.R.StepRead.step c.loop-count.invariant.calls c.in_ok-count.ensures.calls)
+
+pub loop-count-smaller : goal.loop-count-smaller
+loop-count-smaller c = grind (arith, common_steps) steps 200000
+
+pub returns-clause-ok : goal.returns-clause-ok
+returns-clause-ok c = grind (arith, common_steps) steps 200000
+
+pub slice_bounds-feed-end : goal.slice_bounds-feed-end
+slice_bounds-feed-end c = grind (arith, common_steps) steps 600000
+
+pub slice_bounds-piece-end : goal.slice_bounds-piece-end
+slice_bounds-piece-end c = grind (arith, common_steps) steps 200000

@@ -15,6 +15,7 @@ use Rattle.hierfile.specs.declared.error.HierError.TheVariants.{OutOfMemory}
 use Rattle.hierfile.proofs.Faults.{memory_is_no_read}
 use Rattle.std.proofs.KnownBytes.{Consumes-nil}
 use Rattle.std.proofs.lemmas.List.Elements.{All-nil}
+use Rattle.std.proofs.lemmas.Grind.{common_steps}
 use Rattle.hierfile.proofs.links.read_links.Goals as goal
 
 pub returns-in_err-link-clause-err : goal.returns-in_err-link-clause-err
@@ -94,3 +95,9 @@ pub returns-in_err-push-clause-stopped : goal.returns-in_err-push-clause-stopped
 returns-in_err-push-clause-stopped g c =
     let step = g.R.StepRead.step in
     hands_on c.from_residual-in_err-push.result _ OutOfMemory c.from_residual-in_err-push.ensures.1 (refused_after step (read_then step c.links.invariant.calls c.in_ok-link.ensures.calls) memory_is_no_read)
+
+pub links-smaller : goal.links-smaller
+links-smaller c = grind (arith, common_steps) steps 200000
+
+pub returns-clause-count : goal.returns-clause-count
+returns-clause-count c = grind (arith, common_steps) steps 200000

@@ -13,6 +13,7 @@ use Rattle.hierfile.specs.declared.error.HierError.TheVariants.{OutOfMemory}
 use Rattle.hierfile.proofs.Faults.{memory_is_no_read}
 use Rattle.std.proofs.Common.{List, ℕ, rules}
 use Rattle.std.proofs.KnownBytes.{Consumes-nil}
+use Rattle.std.proofs.lemmas.Grind.{common_steps}
 use Rattle.hierfile.proofs.ranks.read_ranks.Goals as goal
 
 pub returns-in_err-rank-clause-err : goal.returns-in_err-rank-clause-err
@@ -87,3 +88,9 @@ pub returns-in_err-mark_if_many-clause-stopped : goal.returns-in_err-mark_if_man
 returns-in_err-mark_if_many-clause-stopped g c =
     let step = g.R.StepRead.step in
     hands_on c.from_residual-in_err-mark_if_many.result _ OutOfMemory c.from_residual-in_err-mark_if_many.ensures.1 (refused_after step (read_then step c.nodes.invariant.calls c.in_ok-rank.ensures.calls) memory_is_no_read)
+
+pub nodes-smaller : goal.nodes-smaller
+nodes-smaller c = grind (arith, common_steps) steps 200000
+
+pub returns-clause-count : goal.returns-clause-count
+returns-clause-count c = grind (arith, common_steps) steps 200000

@@ -1,5 +1,6 @@
 use Rattle.std.proofs.Common.{◌+◌, ◌++◌, ◌≤◌, ◌∙◌, length, arith, length-append}
 use Rattle.std.proofs.KnownBytes.{Consumes-trans}
+use Rattle.std.proofs.lemmas.Grind.{common_steps}
 use Rattle.hierfile.proofs.Faults.{hands_on, behind, found}
 use Rattle.hierfile.proofs.Spelled.{length-word, length-long}
 use Rattle.hierfile.proofs.Heads.{sizes, head_cut, head_fault-sizes}
@@ -62,3 +63,6 @@ returns-in_err-test_sizes-clause-stopped g c =
     let t2 = read_then step t1 c.in_ok-long.ensures.calls in
     let t3 = read_then step t2 c.in_ok-long-2.ensures.calls in
     hands_on c.from_residual-in_err-test_sizes.result _ _ c.from_residual-in_err-test_sizes.ensures.1 (refused_after step t3 c.in_err-test_sizes.ensures.no_read)
+
+pub returns-clause-ok : goal.returns-clause-ok
+returns-clause-ok c = grind (arith, common_steps) steps 200000

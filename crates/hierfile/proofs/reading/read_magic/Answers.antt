@@ -1,5 +1,6 @@
-use Rattle.std.proofs.Common.{rules}
+use Rattle.std.proofs.Common.{rules, arith}
 use Rattle.std.proofs.KnownBytes.{Consumes-nil}
+use Rattle.std.proofs.lemmas.Grind.{common_steps}
 use Rattle.counted_io.specs.Limits.Laws.{read_none, read_then, reads_then, refused_after}
 use Rattle.hierfile.specs.Bytes.{coming}
 use Rattle.hierfile.proofs.Faults.{hands_on, magic_is_no_read, truncated_is_no_read}
@@ -31,3 +32,9 @@ pub returns-then-byte-wanted-clause-stopped : goal.returns-then-byte-wanted-clau
 returns-then-byte-wanted-clause-stopped g c =
     let step = g.R.StepRead.step in
     refused_after step (read_then step c.bytes.invariant.calls c.in_ok-byte.ensures.calls) magic_is_no_read
+
+pub bounds-wanted-items-wanted-index : goal.bounds-wanted-items-wanted-index
+bounds-wanted-items-wanted-index c = grind (arith, common_steps) steps 200000
+
+pub bytes-smaller : goal.bytes-smaller
+bytes-smaller c = grind (arith, common_steps) steps 200000

@@ -1,6 +1,7 @@
 use Rattle.std.proofs.Common.{◌≡◌, ◌++◌, [], ap, subst, arith}
 use Rattle.std.specs.Prelude.{IfSome}
 use Rattle.std.proofs.KnownBytes.{Consumes-trans, Consumes-nil}
+use Rattle.std.proofs.lemmas.Grind.{common_steps}
 use Rattle.hierfile.specs.Spelling.{magic, bytes_of}
 use Rattle.hierfile.specs.Fault.{magic_fault, head_fault, body_fault, first_fault}
 use Rattle.hierfile.specs.Bytes.{Buffered, coming}
@@ -97,3 +98,12 @@ pub returns-in_err-input-clause-stopped : goal.returns-in_err-input-clause-stopp
 returns-in_err-input-clause-stopped g c =
     let step = g.R.StepRead.step in
     hands_on c.from_residual.result _ OutOfMemory c.from_residual.ensures.1 (refused_after step (read_none step _ c.args.reader.now) memory_is_no_read)
+
+pub returns-clause-err : goal.returns-clause-err
+returns-clause-err c = grind (arith, common_steps) steps 200000
+
+pub returns-clause-made : goal.returns-clause-made
+returns-clause-made c = grind (arith, common_steps) steps 200000
+
+pub returns-clause-stopped : goal.returns-clause-stopped
+returns-clause-stopped c = grind (arith, common_steps) steps 200000

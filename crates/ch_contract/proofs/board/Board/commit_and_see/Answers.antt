@@ -1,4 +1,5 @@
-use Rattle.std.proofs.Common.{rules}
+use Rattle.std.proofs.Common.{rules, arith}
+use Rattle.std.proofs.lemmas.Grind.{common_steps}
 use Rattle.ch_contract.specs.declared.contraction.Receipt.{Receipt}
 use Rattle.ch_contract.specs.declared.error.CommitError.TheVariants as commits
 use Rattle.ch_contract.proofs.Current.{done-apart, same_refusal}
@@ -15,3 +16,27 @@ returns-clause-stale g c node seen now front =
 
 pub returns-in-Ok-clause-seen : goal.returns-in-Ok-clause-seen
 returns-in-Ok-clause-seen g c = search rules
+
+pub returns-clause-err : goal.returns-clause-err
+returns-clause-err c = grind (arith, common_steps) steps 200000
+
+pub returns-clause-ok : goal.returns-clause-ok
+returns-clause-ok c = grind (arith, common_steps) steps 200000
+
+pub returns-clause-seen : goal.returns-clause-seen
+returns-clause-seen c = grind (arith, common_steps) steps 200000
+
+pub returns-clause-unseen : goal.returns-clause-unseen
+returns-clause-unseen c = grind (arith, common_steps) steps 200000
+
+pub returns-in-Ok-clause-err : goal.returns-in-Ok-clause-err
+returns-in-Ok-clause-err c = grind (arith, common_steps) steps 200000
+
+pub returns-in-Ok-clause-ok : goal.returns-in-Ok-clause-ok
+returns-in-Ok-clause-ok c = grind (arith, common_steps) steps 200000
+
+pub returns-in-Ok-clause-risen : goal.returns-in-Ok-clause-risen
+returns-in-Ok-clause-risen c = grind (arith, common_steps) steps 200000
+
+pub returns-in-Ok-clause-unseen : goal.returns-in-Ok-clause-unseen
+returns-in-Ok-clause-unseen c = grind (arith, common_steps) steps 200000

@@ -2,6 +2,7 @@ use Rattle.std.proofs.Common.{ℕ, ◌≡◌, ◌<◌, All, List, length, map, s
 use Rattle.std.specs.Prelude.{slice_index_or}
 use Rattle.std.specs.List.{zip}
 use Rattle.std.specs.Arc.{arc_value}
+use Rattle.std.proofs.lemmas.Grind.{common_steps}
 use Rattle.ch_cost.specs.declared.cost.Cost.{Cost}
 use Rattle.ch_laws.specs.Contraction.{State}
 use Rattle.ch_laws.specs.Rows.{Row}
@@ -72,3 +73,15 @@ invariant_of-self-2 g c =
     ∙ ap (λ (cs : List (ℕ × ℕ)). puts (versions_now l) cs) (laid_versions (λ r. r.node) (λ r. r.token.index) (λ r. row_of r.token.value) laid p.change.rows laid_are)
     ∙ ap (λ (vs : List ℕ). puts (versions_now l) (zip (changed_nodes p.change) vs)) (sym versions_are) ∙ sym c.enter-receipt.ensures.versions in
     still_in_book g.S.Site.graph g.S.Book.book l c.self.inside.pen c.self.invariant new after c.holds.ensures c.holds-2.ensures done.contracts.graph (ap (λ (s : State). s.nodes) done.state) rows versions
+
+pub enter-receipt-requires-clause-planned : goal.enter-receipt-requires-clause-planned
+enter-receipt-requires-clause-planned c = grind (arith, common_steps) steps 600000
+
+pub plan-requires : goal.plan-requires
+plan-requires c = grind (arith, common_steps) steps 200000
+
+pub returns-clause-err : goal.returns-clause-err
+returns-clause-err c = grind (arith, common_steps) steps 200000
+
+pub returns-clause-ok : goal.returns-clause-ok
+returns-clause-ok c = grind (arith, common_steps)

@@ -1,5 +1,6 @@
 use Rattle.std.proofs.Common.{◌≡◌, ◌-◌, length, arith, sym, subst, refl, ◌∙◌}
 use Rattle.std.specs.Arc.{arc_value}
+use Rattle.std.proofs.lemmas.Grind.{common_steps}
 use Rattle.ch_contract.specs.Ledger.{Ledger, AreLawful}
 use Rattle.ch_contract.specs.Planned.{Planned, IsPlanned}
 use Rattle.ch_contract.proofs.Contracting.{nodes_behind_first}
@@ -20,3 +21,9 @@ returns c =
       entry_shortcuts = refl;
     } in
     subst (λ (l : Ledger). IsPlanned l c.args.node c.args.shortcuts.now planned) c.self.view_is is
+
+pub neighbours_in-requires : goal.neighbours_in-requires
+neighbours_in-requires c = grind (arith, common_steps) steps 200000
+
+pub plan-requires : goal.plan-requires
+plan-requires c = grind (arith, common_steps) steps 200000

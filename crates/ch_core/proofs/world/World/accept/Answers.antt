@@ -1,7 +1,8 @@
-use Rattle.std.proofs.Common.{ℕ, ◌≡◌, ◌<◌, ◌++◌, List, All, length, map, ap, sym, subst, ◌∙◌}
+use Rattle.std.proofs.Common.{ℕ, ◌≡◌, ◌<◌, ◌++◌, List, All, length, map, ap, sym, subst, ◌∙◌, arith}
 use Rattle.std.specs.Arc.{arc_value}
 use Rattle.std.specs.List.{zip, range_with_len}
 use Rattle.std.proofs.lemmas.List.{length-map}
+use Rattle.std.proofs.lemmas.Grind.{common_steps}
 use Rattle.ch_overlay.specs.Change.{puts}
 use Rattle.ch_laws.specs.declared.shortcut.Shortcut.{Shortcut}
 use Rattle.ch_laws.specs.Rows.{Row}
@@ -96,3 +97,9 @@ returns-clause-accepted c = after_accepted c c.holds.ensures
 
 pub returns-clause-graph : goal.returns-clause-graph
 returns-clause-graph c = (contracts c).contracts.graph ∙ ap (λ (v : World). v.ledger.graph) c.self.view_is
+
+pub append-requires : goal.append-requires
+append-requires c = grind (arith, common_steps) steps 600000
+
+pub invariant_of-self : goal.invariant_of-self
+invariant_of-self c = grind (arith, common_steps) steps 600000

@@ -1,5 +1,6 @@
 use Rattle.std.proofs.Common.{◌≡◌, ◌<◌, List, [], length, arith, ap, sym, subst, refl, ◌∙◌}
 use Rattle.std.proofs.lemmas.List.{get_or_read}
+use Rattle.std.proofs.lemmas.Grind.{common_steps}
 use Rattle.ch_core.specs.World.{World, Version, View, Standing, IsIn, stands_at, view_of}
 use Rattle.ch_core.proofs.Views.{world_read}
 use Rattle.ch_core.proofs.world.World.read.Goals as goal
@@ -21,3 +22,6 @@ invariant_of-self-2 c =
     let view_is : c.index_mut-view.result.now ≡ view_of w c.args.worker = get_or_read w.views c.args.worker c.index_mut-view.result.now inside c.index_mut-view.ensures.value [] in
     world_read w c.args.worker c.put.new.self inside c.args.node t listed c.in_ok-put.ensures.shown
     (λ x apart. c.in_ok-put.ensures.others x apart ∙ ap (λ (v : View). stands_at v x) view_is) c.self.invariant
+
+pub invariant_of-self : goal.invariant_of-self
+invariant_of-self c = grind (arith, common_steps)

@@ -1,5 +1,6 @@
 use Rattle.std.proofs.Common.{◌≡◌, ℕ, ◌<◌, ◌∙◌, List, length, All, Option, Some, None, get_or, subst, sym, arith}
 use Rattle.std.proofs.lemmas.List.{get_or_read, length-set}
+use Rattle.std.proofs.lemmas.Grind.{common_steps}
 use Rattle.ch_graph.specs.declared.road.Road.{Road}
 use Rattle.ch_graph.specs.Graph.{IsRoad}
 use Rattle.ch_graph.specs.Outgoing.{road_at, IsLastFrom, IsLinked}
@@ -31,3 +32,6 @@ returns c =
       lasts = λ v h. subst (λ (n : ℕ). IsLastFrom arcs v n (get_or c.loop-at.last.items v None)) all (c.loop-at.invariant.lasts v h);
       befores = λ j h. c.loop-at.invariant.befores j (omega (arith, h, all));
     })
+
+pub loop-at-init : goal.loop-at-init
+loop-at-init c = grind (arith, common_steps)

@@ -3,6 +3,7 @@ use Rattle.std.specs.Arc.{arc_value}
 use Rattle.std.specs.List.{zip}
 use Rattle.std.proofs.lemmas.List.{get_or-map, length-map, with_items_is}
 use Rattle.std.proofs.lemmas.List.Elements.{All-map}
+use Rattle.std.proofs.lemmas.Grind.{common_steps}
 use Rattle.ch_cost.specs.declared.cost.Cost.{Cost}
 use Rattle.ch_laws.specs.Rows.{Row}
 use Rattle.ch_overlay.specs.Overlay.{Overlay, IsOverlay, no_arcs, state_of}
@@ -121,3 +122,6 @@ invariant_of-self c =
 
 pub returns-clause-holds : goal.returns-clause-holds
 returns-clause-holds c = (invariant_of-self c).0
+
+pub put_versions-requires-clause-count : goal.put_versions-requires-clause-count
+put_versions-requires-clause-count c = grind (arith, common_steps) steps 200000

@@ -1,4 +1,5 @@
-use Rattle.std.proofs.Common.{◌≡◌, ◌<◌, length, replicate, None, Option, Some, sym, subst}
+use Rattle.std.proofs.Common.{◌≡◌, ◌<◌, length, replicate, None, Option, Some, sym, subst, arith}
+use Rattle.std.proofs.lemmas.Grind.{common_steps}
 use Rattle.ch_cost.specs.declared.cost.Cost.{Cost}
 use Rattle.ch_graph.specs.Hierarchy.{Hierarchy, IsValue}
 use Rattle.ch_query.specs.declared.mark.Mark.TheVariants.{Unseen}
@@ -35,3 +36,21 @@ pub returns-clause-walk : goal.returns-clause-walk
 returns-clause-walk c =
     let walk : IsRiseFallAt c.self.inside.hierarchy.now c.in_ok-found.found.links.items c.args.source c.args.target c.in_ok-found.found.cost = subst (λ (d : Cost). IsRiseFallAt c.self.inside.hierarchy.now c.in_ok-found.found.links.items c.args.source c.args.target d) (sym c.in_ok-found.ensures.cost) c.in_ok-found.ensures.walk in
     subst (λ (k : Hierarchy). IsRiseFallAt k c.in_ok-found.found.links.items c.args.source c.args.target c.in_ok-found.found.cost) c.self.view_is walk
+
+pub invariant_of-self : goal.invariant_of-self
+invariant_of-self c = grind (arith, common_steps) steps 200000
+
+pub invariant_of-self-2 : goal.invariant_of-self-2
+invariant_of-self-2 c = grind (arith, common_steps) steps 600000
+
+pub invariant_of-self-in_err-found : goal.invariant_of-self-in_err-found
+invariant_of-self-in_err-found c = grind (arith, common_steps) steps 600000
+
+pub meet-requires-clause-ready : goal.meet-requires-clause-ready
+meet-requires-clause-ready c = grind (arith, common_steps) steps 200000
+
+pub walk_over-requires-clause-falls : goal.walk_over-requires-clause-falls
+walk_over-requires-clause-falls c = grind (arith, common_steps) steps 200000
+
+pub walk_over-requires-clause-rises : goal.walk_over-requires-clause-rises
+walk_over-requires-clause-rises c = grind (arith, common_steps) steps 200000

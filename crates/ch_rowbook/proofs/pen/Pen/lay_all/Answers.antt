@@ -47,3 +47,9 @@ loop-at-preserved g c =
 
 pub returns-clause-laid : goal.returns-clause-laid
 returns-clause-laid g c = grind (arith, common_steps)
+
+pub returns-in_err-laid-clause-laid : goal.returns-in_err-laid-clause-laid
+returns-in_err-laid-clause-laid c = grind (arith, common_steps) steps 200000
+
+pub returns-in_err-laid-clause-showable : goal.returns-in_err-laid-clause-showable
+returns-in_err-laid-clause-showable c = grind (arith, common_steps) steps 200000

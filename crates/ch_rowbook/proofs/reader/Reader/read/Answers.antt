@@ -1,6 +1,7 @@
 use Rattle.std.specs.Prelude.{ℕ, List, ◌≡◌, ◌<◌, slice_set, refl}
 use Rattle.std.proofs.Common.{sym, ◌∙◌, ap, arith, rules}
 use Rattle.std.proofs.lemmas.Bool.Decides.{nat_tests}
+use Rattle.std.proofs.lemmas.Grind.{common_steps}
 use Rattle.ch_rowbook.proofs.Fronts.{here, raised}
 use Rattle.ch_rowbook.proofs.reader.Reader.read.Goals as goal
 
@@ -28,3 +29,9 @@ returns-clause-rises g c = search rules
 
 pub returns-in_err-seen-clause-err : goal.returns-in_err-seen-clause-err
 returns-in_err-seen-clause-err g c = search rules
+
+pub returns-clause-record : goal.returns-clause-record
+returns-clause-record c = grind (arith, common_steps) steps 200000
+
+pub returns-clause-row : goal.returns-clause-row
+returns-clause-row c = grind (arith, common_steps) steps 200000

@@ -1,4 +1,5 @@
-use Rattle.std.proofs.Common.{List, Some, sym, subst, ap, ◌++◌, ◌∷◌, [], ◌∙◌}
+use Rattle.std.proofs.Common.{List, Some, sym, subst, ap, ◌++◌, ◌∷◌, [], ◌∙◌, arith}
+use Rattle.std.proofs.lemmas.Grind.{common_steps}
 use Rattle.ch_witness.specs.declared.label.Label.{Label}
 use Rattle.ch_witness.specs.Frontier.{Improves}
 use Rattle.ch_witness.specs.Tree.{labels_of}
@@ -15,3 +16,6 @@ returns c =
     (subst (Improves c.args.cost) (sym (value_absent nodes labels c.args.node c.requires)) tt)
     (put.0 ∙ ap (λ (l : Label). Some l) c.opened.ensures)
     put.1
+
+pub invariant_of-self-2 : goal.invariant_of-self-2
+invariant_of-self-2 c = grind (arith, common_steps) steps 200000

@@ -1,5 +1,6 @@
 use Rattle.std.proofs.Common.{ℕ, ◌≡◌, ◌<◌, List, length, Option, None, Some, false, slice_index_or, refl, sym, inl, subst, ap, ◌∙◌, arith}
 use Rattle.std.specs.Option.{is_some}
+use Rattle.std.proofs.lemmas.Grind.{common_steps}
 use Rattle.ch_cost.specs.declared.cost.Cost.{Cost}
 use Rattle.ch_cost.specs.Cost.{IsInLimit, IsOfWalks}
 use Rattle.ch_laws.specs.declared.entry.Entry.{Entry}
@@ -76,3 +77,6 @@ returns-clause-gone g c = (
     told = λ _. (followed g c).told;
   },
 )
+
+pub returns-clause-few : goal.returns-clause-few
+returns-clause-few c = grind (arith, common_steps) steps 600000

@@ -1,4 +1,5 @@
-use Rattle.std.proofs.Common.{List, None, refl, sym, subst, ap, ◌∙◌}
+use Rattle.std.proofs.Common.{List, None, refl, sym, subst, ap, ◌∙◌, arith}
+use Rattle.std.proofs.lemmas.Grind.{common_steps}
 use Rattle.ch_cost.specs.declared.cost.Cost.{Cost}
 use Rattle.ch_cost.specs.Cost.{IsWithin}
 use Rattle.ch_cost.specs.Cost.Laws.{ZERO-is}
@@ -45,3 +46,9 @@ returns-clause-names g c = λ named whole.
 
 pub returns-then-are_all-clause-start : goal.returns-then-are_all-clause-start
 returns-then-are_all-clause-start g c = λ k h other. absurd (other (c.if-are_all.ensures refl k h))
+
+pub returns-in_err-grow-clause-stays : goal.returns-in_err-grow-clause-stays
+returns-in_err-grow-clause-stays c = grind (arith, common_steps)
+
+pub returns-in_err-grow-clause-more : goal.returns-in_err-grow-clause-more
+returns-in_err-grow-clause-more c = grind (arith, common_steps)

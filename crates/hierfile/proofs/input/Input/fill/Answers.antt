@@ -1,6 +1,7 @@
 use Rattle.std.proofs.Common.{ℕ, ◌≡◌, ◌+◌, ◌-◌, ◌≤◌, ◌++◌, List, Option, drop, sym, length, take, ◌∙◌, ap, refl, subst, arith, rules}
 use Rattle.std.specs.Io.KnownBytes.{Keeps}
 use Rattle.std.proofs.KnownBytes.{Keeps-refl, Keeps-trans}
+use Rattle.std.proofs.lemmas.Grind.{common_steps}
 use Rattle.hierfile.proofs.Buffer.{moved, kept, written_back}
 use Rattle.counted_io.specs.Limits.{IsRead}
 use Rattle.counted_io.specs.Limits.Laws.{failed_after, read_none, read_then}
@@ -46,3 +47,27 @@ loop-self-preserved g c =
       keeps = Keeps-trans _ _ _ kept.keeps (subst (λ l. Keeps (coming (take input.end items) before) (coming (take end l) later)) (sym whole) more);
       calls = read_then g.R.StepRead.step kept.calls c.in_ok-more.ensures.calls;
     }
+
+pub invariant_of-self-in_err-more : goal.invariant_of-self-in_err-more
+invariant_of-self-in_err-more c = grind (arith, common_steps) steps 200000
+
+pub invariant_of-self-then-more-eq0 : goal.invariant_of-self-then-more-eq0
+invariant_of-self-then-more-eq0 c = grind (arith, common_steps) steps 200000
+
+pub overflow_add-self : goal.overflow_add-self
+overflow_add-self c = grind (arith, common_steps) steps 200000
+
+pub returns-clause-calls : goal.returns-clause-calls
+returns-clause-calls c = grind (arith, common_steps) steps 200000
+
+pub returns-clause-ok : goal.returns-clause-ok
+returns-clause-ok c = grind (arith, common_steps) steps 200000
+
+pub returns-then-more-eq0-clause-keeps : goal.returns-then-more-eq0-clause-keeps
+returns-then-more-eq0-clause-keeps c = grind (arith, common_steps) steps 600000
+
+pub returns-then-more-eq0-clause-ok : goal.returns-then-more-eq0-clause-ok
+returns-then-more-eq0-clause-ok c = grind (arith, common_steps) steps 200000
+
+pub returns-then-more-eq0-clause-stopped : goal.returns-then-more-eq0-clause-stopped
+returns-then-more-eq0-clause-stopped c = grind (arith, common_steps) steps 200000

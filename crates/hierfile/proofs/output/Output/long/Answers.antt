@@ -1,4 +1,5 @@
 use Rattle.std.proofs.Common.{ℕ, ◌≡◌, ◌-◌, ◌≤◌, ◌++◌, List, length, take, ap, ◌∙◌, arith}
+use Rattle.std.proofs.lemmas.Grind.{common_steps}
 use Rattle.hierfile.specs.Spelling.{long}
 use Rattle.hierfile.specs.Bytes.{Gathered}
 use Rattle.hierfile.proofs.Buffer.{put_behind}
@@ -19,3 +20,9 @@ returns-clause-ok g c =
     let put = put_behind (8192 - output.end) output.buffer new output.end 8 within room in
     hands_on_more _ _ c.args.self.now.waiting mid.waiting (long c.args.number) _ c.args.self.now.written mid.written output.calls.written c.in_ok-make_room.ensures.ok
     (put ∙ ap (λ l. l ++ take 8 new) waits ∙ ap (λ l. mid.waiting ++ l) number) count
+
+pub invariant_of-self : goal.invariant_of-self
+invariant_of-self c = grind (arith, common_steps) steps 200000
+
+pub returns-clause-calls : goal.returns-clause-calls
+returns-clause-calls c = grind (arith, common_steps) steps 200000

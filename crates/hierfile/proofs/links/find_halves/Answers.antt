@@ -1,0 +1,9 @@
+use Rattle.std.proofs.Common.{arith}
+use Rattle.std.proofs.lemmas.Grind.{common_steps}
+use Rattle.hierfile.proofs.links.find_halves.Goals as goal
+
+pub links-preserved : goal.links-preserved
+links-preserved c = grind (arith, common_steps)
+
+pub returns-clause-faultless : goal.returns-clause-faultless
+returns-clause-faultless c = grind (arith, common_steps) steps 200000
