@@ -1,7 +1,7 @@
 -- What other crates may rest on: the laws of costs, as one statement.
-use Rattle.std.specs.Prelude.{ℕ, ◌≡◌, ◌+◌, ◌^◌, ◌≤◌, ◌⊎◌, Some, None}
+use Rattle.std.specs.Prelude.{ℕ, ◌≡◌, ◌+◌, ◌^◌, ◌<◌, ◌≤◌, ◌⊎◌, Some, None}
 use Rattle.ch_cost.specs.declared.cost.Cost.{Cost}
-use Rattle.ch_cost.specs.Cost.{zero_cost, ◌⊕◌, of_weight, cost_of_arcs, length_of, IsWeight, ◌≼◌, ◌≺◌, IsWithin, IsNoLonger, IsInLimit, IsOfArcs}
+use Rattle.ch_cost.specs.Cost.{zero_cost, ◌⊕◌, of_weight, cost_of_arcs, of_walk, length_of, arcs_of, ◌≼◌, ◌≺◌, IsWithin, IsNoLonger, IsInLimit, IsOfArcs}
 use Rattle.ch_cost.specs.ShortCost.{no_short, short_of, kept_in}
 
 -- Sums associate and commute, and the cost of no arc adds nothing.
@@ -21,12 +21,18 @@ pub record OrderLaws : Type 0 where
   pub kept_strictly : (a b c d : Cost) → a ≺ b → c ≼ d → a ⊕ c ≺ b ⊕ d
   pub founded : (f : ℕ → Cost) → ((n : ℕ) → f (n + 1) ≺ f n) → ⊥
 
--- An arc costs more than nothing, and its length is its weight; lengths add up, and follow the order.
+-- An arc costs more than nothing, its length is its weight, and it is one arc. Lengths and arcs add up; the order goes
+-- by lengths, and where these are equal by arcs.
 pub record ArcLaws : Type 0 where
-  pub above : (w : ℕ) → IsWeight w → zero_cost ≺ of_weight w
+  pub above : (w : ℕ) → zero_cost ≺ of_weight w
   pub length : (w : ℕ) → length_of (of_weight w) ≡ w
+  pub one : (w : ℕ) → arcs_of (of_weight w) ≡ 1
   pub lengths_add : (a b : Cost) → length_of (a ⊕ b) ≡ length_of a + length_of b
+  pub arcs_add : (a b : Cost) → arcs_of (a ⊕ b) ≡ arcs_of a + arcs_of b
   pub lengths_follow : (a b : Cost) → a ≼ b → length_of a ≤ length_of b
+  pub arcs_follow : (a b : Cost) → a ≼ b → length_of a ≡ length_of b → arcs_of a ≤ arcs_of b
+  pub shorter : (a b : Cost) → length_of a < length_of b → a ≺ b
+  pub two_numbers : (c : Cost) → of_walk (length_of c) (arcs_of c) ≡ c
 
 -- Both parts of a sum within a bound are within it, and so many arcs of at most a weight are within what they can cost.
 pub record BoundLaws : Type 0 where

@@ -1,20 +1,29 @@
 ghost use Rattle.std.specs.Prelude.{◌≡◌, ◌↔◌, IsTrue, Some, SomeIff, refl};
-ghost use Rattle.ch_cost.specs.Cost.{◌⊕◌, of_weight, cost_of_arcs, length_of, of_length, ◌≼◌, ◌≺◌, compare, same, IsWithin, IsNoLonger, IsInLimit};
+ghost use Rattle.ch_cost.specs.Cost.{◌⊕◌, of_weight, cost_of_arcs, of_walk, length_of, arcs_of, ◌≼◌, ◌≺◌, compare, same, FitsWords, IsWithin, IsNoLonger, IsInLimit};
 ghost use Rattle.ch_cost.specs.Cost.Laws.{same-laws, same-partial, same-compare, compare-total, compare-partial};
 
 use std::cmp::Ordering;
 
-/// What a walk costs: the sum of the weights of its arcs, in the unit of the graph's text.
+/// What a walk costs: the sum of the weights of its arcs, in the unit of the graph's text, and how many arcs it has.
 ///
-/// Costs are compared by the methods here and by `Ord`, which agree. No call takes memory or fails.
+/// Costs are compared by their weights, and those of equal weight by their arcs: so of all least walks one of least cost
+/// has the fewest arcs, and an arc costs more than nothing even where its weight is 0. The methods here and `Ord`
+/// compare alike. No call takes memory or fails.
 #[derive(Clone, Copy, Debug)]
 pub struct Cost {
     weight: u64,
+    arcs: u64,
 }
 
 impl Cost {
     /// The cost of no arc.
-    pub const ZERO: Cost = Cost { weight: 0 };
+    pub const ZERO: Cost = Cost { weight: 0, arcs: 0 };
+
+    /// The greatest cost that can be written, for where nothing is known yet.
+    pub const GREATEST: Cost = Cost {
+        weight: u64::MAX,
+        arcs: u64::MAX,
+    };
 
     /// The cost of one arc of this weight.
     pub fn of_weight(weight: u32) -> Cost
@@ -22,6 +31,7 @@ impl Cost {
     {
         Cost {
             weight: u64::from(weight),
+            arcs: 1,
         }
     }
 
@@ -29,19 +39,24 @@ impl Cost {
     pub fn of_arcs(count: u32, heaviest: u32) -> Cost
         ensures { result ≡ cost_of_arcs count heaviest }
     {
+        let arcs = u64::from(count);
         Cost {
-            weight: u64::from(count) * u64::from(heaviest),
+            weight: arcs * u64::from(heaviest),
+            arcs,
         }
     }
 
-    /// The cost whose length is this number.
-    pub fn of_length(length: u64) -> Cost
-        ensures { result ≡ of_length length }
+    /// The cost of a walk of this length and of so many arcs, as they are written in a file.
+    pub fn of_walk(length: u64, arcs: u64) -> Cost
+        ensures { result ≡ of_walk length arcs }
     {
-        Cost { weight: length }
+        Cost {
+            weight: length,
+            arcs,
+        }
     }
 
-    /// The cost of two walks, one after the other. Both are at most 2^57, so the sum fits.
+    /// The cost of two walks, one after the other. Each number of both is at most 2^57, so the sums fit.
     pub fn plus(self, other: Cost) -> Cost
         requires first { IsInLimit self }
         requires second { IsInLimit other }
@@ -49,42 +64,52 @@ impl Cost {
     {
         Cost {
             weight: self.weight + other.weight,
+            arcs: self.arcs + other.arcs,
         }
+    }
+
+    /// The sum of two costs, or none where a number of it doesn't fit 64 bits. The costs may be of any size.
+    pub fn checked_plus(self, other: Cost) -> Option<Cost>
+        ensures { SomeIff result (FitsWords (self ⊕ other)) (self ⊕ other) }
+    {
+        let weight = self.weight.checked_add(other.weight)?;
+        let arcs = self.arcs.checked_add(other.arcs)?;
+        Some(Cost { weight, arcs })
     }
 
     /// The sum of two costs, or none where it isn't within the bound. The costs may be of any size.
     pub fn plus_within(self, other: Cost, bound: Cost) -> Option<Cost>
         ensures { SomeIff result (IsWithin (self ⊕ other) bound) (self ⊕ other) }
     {
-        let weight = self.weight.checked_add(other.weight)?;
-        if weight > bound.weight {
+        let sum = self.checked_plus(other)?;
+        if !sum.is_within(bound) {
             return None;
         }
-        Some(Cost { weight })
+        Some(sum)
     }
 
     /// Whether this cost is at most the other.
     pub fn is_at_most(self, other: Cost) -> bool
         ensures { IsTrue result ↔ (self ≼ other) }
     {
-        self.weight <= other.weight
+        (self.weight < other.weight) | ((self.weight == other.weight) & (self.arcs <= other.arcs))
     }
 
     /// Whether this cost is below the other.
     pub fn is_below(self, other: Cost) -> bool
         ensures { IsTrue result ↔ (self ≺ other) }
     {
-        self.weight < other.weight
+        (self.weight < other.weight) | ((self.weight == other.weight) & (self.arcs < other.arcs))
     }
 
     /// Whether each number of this cost is at most the bound's. A cost that isn't within the bound is heavy.
     pub fn is_within(self, bound: Cost) -> bool
         ensures { IsTrue result ↔ IsWithin self bound }
     {
-        self.weight <= bound.weight
+        (self.weight <= bound.weight) & (self.arcs <= bound.arcs)
     }
 
-    /// Whether the length is at most the bound's.
+    /// Whether the length is at most the bound's, whatever the arcs.
     pub fn is_no_longer(self, bound: Cost) -> bool
         ensures { IsTrue result ↔ IsNoLonger self bound }
     {
@@ -95,15 +120,21 @@ impl Cost {
     pub fn is_in_limit(self) -> bool
         ensures { IsTrue result ↔ IsInLimit self }
     {
-        self.weight <= 1 << 57
+        (self.weight <= 1 << 57) & (self.arcs <= 1 << 57)
     }
 
     /// The sum of the weights, in the unit of the graph's text.
     pub fn length(self) -> u64
         ensures { result ≡ length_of self }
     {
-        let Cost { weight } = self;
-        weight
+        self.weight
+    }
+
+    /// How many arcs the walk has.
+    pub fn arcs(self) -> u64
+        ensures { result ≡ arcs_of self }
+    {
+        self.arcs
     }
 }
 
@@ -113,7 +144,7 @@ impl PartialEq for Cost {
     ghost laws = { same-partial };
 
     fn eq(&self, other: &Cost) -> bool {
-        self.weight == other.weight
+        (self.weight == other.weight) & (self.arcs == other.arcs)
     }
 }
 
@@ -131,7 +162,9 @@ impl Ord for Cost {
     ghost matches_eq = { same-compare };
 
     fn cmp(&self, other: &Cost) -> Ordering {
-        self.weight.cmp(&other.weight)
+        self.weight
+            .cmp(&other.weight)
+            .then(self.arcs.cmp(&other.arcs))
     }
 }
 

@@ -9,8 +9,10 @@ use crate::cost::Cost;
 /// fails.
 #[derive(Clone, Copy, Debug)]
 pub struct ShortCost {
-    // The length, or the greatest number for any that doesn't fit.
+    // The length, or the greatest number for any cost that doesn't fit.
     length: u32,
+    // How many arcs.
+    arcs: u32,
 }
 
 impl ShortCost {
@@ -18,17 +20,25 @@ impl ShortCost {
     pub fn none() -> ShortCost
         ensures { result ≡ no_short }
     {
-        ShortCost { length: u32::MAX }
+        ShortCost {
+            length: u32::MAX,
+            arcs: 0,
+        }
     }
 
     /// The short form of a cost.
     pub fn of(cost: Cost) -> ShortCost
         ensures { result ≡ short_of cost }
     {
-        let length = cost.length().min(u64::from(u32::MAX));
-        ShortCost {
-            length: length as u32,
+        let most = u64::from(u32::MAX);
+        let (length, arcs) = (cost.length(), cost.arcs());
+        if (length < most) & (arcs <= most) {
+            return ShortCost {
+                length: length as u32,
+                arcs: arcs as u32,
+            };
         }
+        ShortCost::none()
     }
 
     /// The cost that it was made of, or none where that didn't fit.
@@ -38,6 +48,6 @@ impl ShortCost {
         if self.length == u32::MAX {
             return None;
         }
-        Some(Cost::of_length(u64::from(self.length)))
+        Some(Cost::of_walk(u64::from(self.length), u64::from(self.arcs)))
     }
 }

@@ -3,6 +3,7 @@ use Rattle.std.proofs.Common.{◌≡◌, ℕ, ◌+◌, refl, subst}
 use Rattle.ch_cost.specs.declared.cost.Cost.{Cost}
 use Rattle.ch_cost.specs.Cost.{◌≺◌}
 use Rattle.ch_cost.specs.Cost.Laws as laws
+use Rattle.ch_cost.specs.Cost.Numbers.{of_walk-numbers}
 use Rattle.ch_cost.specs.ShortCost.Laws.{kept, kept_not}
 use Rattle.ch_cost.proofs.laws.cost_laws.Goals as goal
 
@@ -25,10 +26,15 @@ returns c = record {
     founded = ends;
   };
   arcs = record {
-    above = λ _ h. laws.arc_above h;
+    above = laws.arc_above;
     length = laws.length_of-of_weight;
+    one = laws.arcs_of-of_weight;
     lengths_add = laws.length_of-sum;
+    arcs_add = laws.arcs_of-sum;
     lengths_follow = λ _ _ h. laws.length_of-at_most h;
+    arcs_follow = λ _ _ h e. laws.arcs_of-at_most h e;
+    shorter = laws.below-from_lengths;
+    two_numbers = of_walk-numbers;
   };
   bounds = record {
     zero = laws.zero_cost_within;

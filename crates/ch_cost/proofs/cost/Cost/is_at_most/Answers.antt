@@ -1,5 +1,10 @@
-use Rattle.ch_cost.specs.Cost.Fields.{at_most-test}
+use Rattle.std.proofs.Common.{arith}
+use Rattle.std.proofs.lemmas.Bool.Decides.{nat_tests}
+use Rattle.ch_cost.specs.Cost.Fields.{at_most-from_fields, fields-from_at_most}
 use Rattle.ch_cost.proofs.cost.Cost.is_at_most.Goals as goal
 
 pub returns : goal.returns
-returns c = at_most-test c.args.self c.args.other
+returns c = (
+  λ e. at_most-from_fields c.args.self c.args.other (grind (arith, nat_tests, e)) (λ d. grind (arith, nat_tests, e, d)),
+  λ h. let f = fields-from_at_most c.args.self c.args.other h in grind (arith, nat_tests, f.0, f.1),
+)

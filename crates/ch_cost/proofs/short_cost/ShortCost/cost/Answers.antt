@@ -5,4 +5,4 @@ pub returns-then-self-eq4294967295 : goal.returns-then-self-eq4294967295
 returns-then-self-eq4294967295 c = kept-none c.args.self c.if-self-eq4294967295.true
 
 pub returns : goal.returns
-returns c = rw (c.of_length.ensures, c.from.ensures) (kept-some c.args.self c.if-self-eq4294967295.false)
+returns c = rw (c.of_walk.ensures, c.from.ensures, c.from-2.ensures) (kept-some c.args.self c.if-self-eq4294967295.false)
