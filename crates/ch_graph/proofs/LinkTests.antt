@@ -107,12 +107,12 @@ halves_of h l m low have =
       },
     )
 
-pub well_made : (h : Hierarchy) (l : Link) → IsAllowed (length h.ranks) h.bound l → AreTested h l → IsLinkWellMade h l
+pub well_made : (h : Hierarchy) (l : Link) → IsAllowed h.version (length h.ranks) h.bound l → AreTested h l → IsLinkWellMade h l
 well_made h l allowed tested = record {
   from_in = allowed.from_in;
   to_in = allowed.to_in;
   apart = allowed.apart;
-  above = allowed.above;
+  counts = allowed.counts;
   within = allowed.within;
   middle = λ m is. halves_of h l m (tested m is).0 (tested m is).1;
 }
@@ -132,8 +132,8 @@ sum_of_halves h l m a b halves = record {
       halves.sum ∙ ap (λ (k : Link). k.cost ⊕ b.cost) (sym first) ∙ ap (λ (k : Link). (get_or h.links halves.first.among.0 d).cost ⊕ k.cost) (sym second);
 }
 
-pub allowed-from_made : (h : Hierarchy) (l : Link) → IsLinkWellMade h l → IsAllowed (length h.ranks) h.bound l
-allowed-from_made h l made = record { from_in = made.from_in; to_in = made.to_in; apart = made.apart; above = made.above; within = made.within }
+pub allowed-from_made : (h : Hierarchy) (l : Link) → IsLinkWellMade h l → IsAllowed h.version (length h.ranks) h.bound l
+allowed-from_made h l made = record { from_in = made.from_in; to_in = made.to_in; apart = made.apart; counts = made.counts; within = made.within }
 
 pub tested-from_made : (h : Hierarchy) (l : Link) → IsLinkWellMade h l → AreTested h l
 tested-from_made h l made m is =

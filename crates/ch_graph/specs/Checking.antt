@@ -1,11 +1,12 @@
 -- Why ranks, links and a bound make no hierarchy.
 use Rattle.std.specs.Prelude.{ℕ, ◌≡◌, ◌≢◌, ◌+◌, ◌-◌, ◌^◌, ◌<◌, ⊤, List, length, slice_index, slice_index_or}
 use Rattle.ch_cost.specs.declared.cost.Cost.{Cost}
-use Rattle.ch_cost.specs.Cost.{zero_cost, ◌⊕◌, ◌≺◌, cost_of_arcs, IsWithin}
+use Rattle.ch_cost.specs.Cost.{◌⊕◌, cost_of_arcs, arcs_of, IsWithin}
 use Rattle.ch_graph.specs.declared.error.HierarchyError.{HierarchyError}
-use Rattle.ch_graph.specs.declared.error.HierarchyError.TheVariants.{TooManyNodes, BoundTooBig, BadRank, LinkOutOfOrder, BadLink, OutOfMemory}
+use Rattle.ch_graph.specs.declared.error.HierarchyError.TheVariants.{TooManyNodes, BadBound, BadRank, LinkOutOfOrder, BadLink, OutOfMemory}
 use Rattle.ch_graph.specs.declared.link.Link.{Link}
-use Rattle.ch_graph.specs.Hierarchy.{Hierarchy, ComesBefore, IsLinkAt, IsLinkWellMade}
+use Rattle.ch_graph.specs.declared.version.Version.{Version}
+use Rattle.ch_graph.specs.Hierarchy.{Hierarchy, ComesBefore, Counts, IsLinkAt, IsLinkWellMade, bound_arcs}
 
 -- something holds of each place before this one and not of this one, of so many places
 pub record IsFirstWithout (Holds : ℕ → Type 0) (count place : ℕ) : Type 0 where
@@ -26,14 +27,14 @@ ComesNext links place = (k : ℕ) (d : Link) → k + 1 ≡ place → ComesBefore
 abbrev pub IsWellMadeAt : Hierarchy → ℕ → Type 0
 IsWellMadeAt h place = (d : Link) → IsLinkWellMade h (slice_index_or h.links place d)
 
--- the bound is one that some graph of so many nodes can have
+-- the bound is one that some graph of so many nodes can have, and counts the arcs that the version wants
 abbrev pub IsBoundOf : Hierarchy → Type 0
-IsBoundOf h = IsWithin h.bound (cost_of_arcs (length h.ranks - 1) (2 ^ 32 - 1))
+IsBoundOf h = IsWithin h.bound (cost_of_arcs (length h.ranks - 1) (2 ^ 32 - 1)) × (arcs_of h.bound ≡ bound_arcs h.version (length h.ranks))
 
 -- why these ranks, these links and this bound are refused
 abbrev pub IsHierarchyRefusal : Hierarchy → HierarchyError → Type 0
 IsHierarchyRefusal h TooManyNodes = 2 ^ 25 < length h.ranks
-IsHierarchyRefusal h BoundTooBig = IsBoundOf h → ⊥
+IsHierarchyRefusal h BadBound = IsBoundOf h → ⊥
 IsHierarchyRefusal h (BadRank place) = IsFirstWithout (IsNewRank h.ranks) (length h.ranks) place
 IsHierarchyRefusal h (LinkOutOfOrder place) = IsFirstWithout (ComesNext h.links) (length h.links) place
 IsHierarchyRefusal h (BadLink place) = IsFirstWithout (IsWellMadeAt h) (length h.links) place
@@ -42,11 +43,11 @@ IsHierarchyRefusal h OutOfMemory = ⊤
 -- The tests of a link
 
 -- a link between two different ones of so many nodes, not free and not heavy
-pub record IsAllowed (nodes : ℕ) (bound : Cost) (l : Link) : Type 0 where
+pub record IsAllowed (v : Version) (nodes : ℕ) (bound : Cost) (l : Link) : Type 0 where
   pub from_in : l.from < nodes
   pub to_in : l.to < nodes
   pub apart : l.from ≢ l.to
-  pub above : zero_cost ≺ l.cost
+  pub counts : Counts v l
   pub within : IsWithin l.cost bound
 
 -- a middle ranks below both ends of a link

@@ -1,7 +1,7 @@
 -- Directed graphs with weights, and distance.
-use Rattle.std.specs.Prelude.{ℕ, ◌≡◌, ◌-◌, ◌^◌, ◌<◌, ◌≤◌, List, [], ◌∷◌, length, Option, Some, max, All, Contains, slice_index_or}
+use Rattle.std.specs.Prelude.{ℕ, ◌≡◌, ◌-◌, ◌^◌, ◌<◌, ◌≤◌, List, [], ◌∷◌, length, Option, Some, None, max, All, Contains, slice_index_or}
 use Rattle.ch_cost.specs.declared.cost.Cost.{Cost}
-use Rattle.ch_cost.specs.Cost.{of_weight, cost_of_arcs, IsWeight, IsWithin}
+use Rattle.ch_cost.specs.Cost.{of_weight, cost_of_arcs, length_of, IsWeight, IsWithin}
 use Rattle.ch_graph.specs.declared.error.GraphError.{GraphError}
 use Rattle.ch_graph.specs.declared.error.GraphError.TheVariants.{TooManyNodes, TooManyArcs, BadArc}
 use Rattle.ch_graph.specs.declared.road.Road.{Road}
@@ -57,6 +57,11 @@ bound_of g = cost_of_arcs (g.nodes - 1) (heaviest g.arcs)
 -- the least cost over all walks from s to t, or none where there is no walk
 abbrev pub IsDistance : Graph → ℕ → ℕ → Option Cost → Type 0
 IsDistance g s t = IsLeastOrNone (Walk (ArcOf g) s t)
+
+-- the least length over all walks from s to t, which some walk has, or none where there is no walk
+abbrev pub IsLeastLength : Graph → ℕ → ℕ → Option ℕ → Type 0
+IsLeastLength g s t (Some n) = (c : Cost) × Walk (ArcOf g) s t c × (length_of c ≡ n) × ((d : Cost) → Walk (ArcOf g) s t d → n ≤ length_of d)
+IsLeastLength g s t None = (c : Cost) → Walk (ArcOf g) s t c → ⊥
 
 -- the least arc of the graph from x to y costs c
 abbrev pub IsLeastArc : Graph → ℕ → ℕ → Cost → Type 0

@@ -1,14 +1,17 @@
 -- Contraction hierarchies: their least rise-fall walks, and the arcs that a link stands for.
 use Rattle.std.specs.Prelude.{ℕ, ◌≡◌, ◌≢◌, ◌-◌, ◌^◌, ◌<◌, ◌≤◌, ◌⊎◌, ◌↔◌, List, [], ◌∷◌, ◌++◌, length, Option, Some, None, All, AllPairs, Contains, slice_index, slice_index_or}
 use Rattle.ch_cost.specs.declared.cost.Cost.{Cost}
-use Rattle.ch_cost.specs.Cost.{zero_cost, ◌⊕◌, ◌≺◌, cost_of_arcs, IsWithin, IsNoLonger}
+use Rattle.ch_cost.specs.Cost.{zero_cost, ◌⊕◌, cost_of_arcs, length_of, arcs_of, IsWithin, IsNoLonger}
 use Rattle.ch_graph.specs.declared.link.Link.{Link}
+use Rattle.ch_graph.specs.declared.version.Version.{Version}
+use Rattle.ch_graph.specs.declared.version.Version.TheVariants.{One, Two}
 use Rattle.ch_graph.specs.Walk.{IsLeastOrNone}
 use Rattle.ch_graph.specs.Graph.{Graph, ArcOf, IsDistance}
 pub mod Chains
 
--- the rank of each node, the links, and the greatest length that a query answers
+-- the version, the rank of each node, the links, and the greatest length that a query answers
 pub record Hierarchy : Type 0 where
+  pub version : Version
   pub ranks : List ℕ
   pub links : List Link
   pub bound : Cost
@@ -84,12 +87,37 @@ pub record AreHalves (h : Hierarchy) (l : Link) (m : ℕ) (a b : Link) : Type 0 
   pub below_from : rank_of h m < rank_of h l.from
   pub below_to : rank_of h m < rank_of h l.to
 
+-- What differs between the versions is what costs count. In version 2 a link counts some arcs, exactly one where it has
+-- no middle, and the bound one arc fewer than there are nodes.
+pub record CountsArcs (l : Link) : Type 0 where
+  pub some : 0 < arcs_of l.cost
+  pub one : l.middle ≡ None → arcs_of l.cost ≡ 1
+
+-- In version 1 a link weighs something, and no cost counts arcs.
+pub record CountsWeight (l : Link) : Type 0 where
+  pub some : 0 < length_of l.cost
+  pub none : arcs_of l.cost ≡ 0
+
+abbrev pub Counts : Version → Link → Type 0
+Counts One l = CountsWeight l
+Counts Two l = CountsArcs l
+
+-- how many arcs the bound counts, over so many nodes
+abbrev pub bound_arcs : Version → ℕ → ℕ
+bound_arcs One nodes = 0
+bound_arcs Two nodes = nodes - 1
+
+-- the number of a version
+abbrev pub version_number : Version → ℕ
+version_number One = 1
+version_number Two = 2
+
 -- a link between two different nodes, not free and not heavy, which has halves where it has a middle
 pub record IsLinkWellMade (h : Hierarchy) (l : Link) : Type 0 where
   pub from_in : l.from < length h.ranks
   pub to_in : l.to < length h.ranks
   pub apart : l.from ≢ l.to
-  pub above : zero_cost ≺ l.cost
+  pub counts : Counts h.version l
   pub within : IsWithin l.cost h.bound
   pub middle : (m : ℕ) → l.middle ≡ Some m → (a : Link) × (b : Link) × AreHalves h l m a b
 
@@ -108,6 +136,7 @@ pub record IsLinkAt (links : List Link) (x y place : ℕ) : Type 0 where
 pub record IsWellMade (h : Hierarchy) : Type 0 where
   pub few_nodes : length h.ranks ≤ 2 ^ 25
   pub bound : IsWithin h.bound (cost_of_arcs (length h.ranks - 1) (2 ^ 32 - 1))
+  pub bound_arcs : arcs_of h.bound ≡ bound_arcs h.version (length h.ranks)
   pub in_range : All (λ r. r < length h.ranks) h.ranks
   pub once : AllPairs (λ q r. q ≢ r) h.ranks
   pub sorted : AllPairs ComesBefore h.links

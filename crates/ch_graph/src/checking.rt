@@ -1,32 +1,34 @@
 ghost use Rattle.std.specs.Prelude.{◌≡◌, ◌≢◌, ◌<◌, ◌↔◌, ℕ, length, slice_index, All, AllPairs, Some, ◌-◌, ◌^◌, ◌≤◌, IfErr, IfNone, IfOk, IfSome, IsTrue, OnOk};
-ghost use Rattle.ch_cost.specs.Cost.{◌⊕◌, cost_of_arcs};
+ghost use Rattle.ch_cost.specs.Cost.{◌⊕◌, cost_of_arcs, arcs_of, IsWithin};
 ghost use Rattle.ch_graph.specs.declared.link.Link.{Link};
-ghost use Rattle.ch_graph.specs.Hierarchy.{ComesBefore, IsLinkWellMade, IsWellMade};
+ghost use Rattle.ch_graph.specs.Hierarchy.{ComesBefore, Counts, CountsArcs, CountsWeight, IsLinkWellMade, IsWellMade, bound_arcs};
 ghost use Rattle.ch_graph.specs.Checking.{ComesNext, HaveSum, IsAllowed, IsFirstWithout, IsHierarchyRefusal, IsLow, IsNewRank, IsWellMadeAt};
 
 use crate::error::HierarchyError;
 use crate::hierarchy::find_link;
 use crate::link::Link;
+use crate::version::Version;
 use ch_cost::Cost;
 use std::alloc::{AllocError, Global};
 
-/// Tests whether these ranks, these links and this bound make a hierarchy, and else tells why they don't.
+/// Tests whether these ranks, these links and this bound make a hierarchy of a version, and else tells why they don't.
 ///
 /// Takes a byte a node. It looks at each rank and each link once, and looks for the halves of each link.
 pub fn check(
     alloc: Global,
+    version: Version,
     ranks: &[u32],
     links: &[Link],
     bound: Cost,
 ) -> Result<(), HierarchyError>
-    ensures made { OnOk result (IsWellMade (record { ranks = ranks.now; links = links.now; bound = bound })) }
-    ensures refused { IfErr result (IsHierarchyRefusal (record { ranks = ranks.now; links = links.now; bound = bound })) }
+    ensures made { OnOk result (IsWellMade (record { version = version; ranks = ranks.now; links = links.now; bound = bound })) }
+    ensures refused { IfErr result (IsHierarchyRefusal (record { version = version; ranks = ranks.now; links = links.now; bound = bound })) }
 {
     if ranks.len() > 1 << 25 {
         return Err(HierarchyError::TooManyNodes);
     }
-    if !bound.is_within(greatest_bound(ranks)) {
-        return Err(HierarchyError::BoundTooBig);
+    if !is_bound(version, ranks, bound) {
+        return Err(HierarchyError::BadBound);
     }
     if let Some(place) = first_bad_rank(alloc, ranks)? {
         return Err(HierarchyError::BadRank(place));
@@ -34,10 +36,29 @@ pub fn check(
     if let Some(place) = first_out_of_order(links) {
         return Err(HierarchyError::LinkOutOfOrder(place));
     }
-    if let Some(place) = first_bad_link(ranks, links, bound) {
+    if let Some(place) = first_bad_link(version, ranks, links, bound) {
         return Err(HierarchyError::BadLink(place));
     }
     Ok(())
+}
+
+// Whether a hierarchy of so many nodes as there are ranks can have this bound.
+fn is_bound(version: Version, ranks: &[u32], bound: Cost) -> bool
+    requires { length ranks.now ≤ 2 ^ 25 }
+    ensures { IsTrue result ↔ (IsWithin bound (cost_of_arcs (length ranks.now - 1) (2 ^ 32 - 1)) × (arcs_of bound ≡ bound_arcs version (length ranks.now))) }
+{
+    let greatest = greatest_bound(ranks);
+    bound.is_within(greatest) & (bound.arcs() == bound_arcs(version, greatest))
+}
+
+// How many arcs the bound counts, where the greatest bound is this.
+fn bound_arcs(version: Version, greatest: Cost) -> u64
+    ensures { (nodes : ℕ) → arcs_of greatest ≡ nodes - 1 → result ≡ bound_arcs version nodes }
+{
+    match version {
+        Version::One => 0,
+        Version::Two => greatest.arcs(),
+    }
 }
 
 // The greatest bound that a hierarchy of so many nodes as there are ranks can have.
@@ -87,13 +108,13 @@ fn comes_before(link: Link, later: Link) -> bool
 }
 
 // The place of the first link that isn't well made, or none where each is.
-fn first_bad_link(ranks: &[u32], links: &[Link], bound: Cost) -> Option<usize>
+fn first_bad_link(version: Version, ranks: &[u32], links: &[Link], bound: Cost) -> Option<usize>
     requires { AllPairs ComesBefore links.now }
-    ensures found { IfSome result (IsFirstWithout (IsWellMadeAt (record { ranks = ranks.now; links = links.now; bound = bound })) (length links.now)) }
-    ensures none { IfNone result (All (IsLinkWellMade (record { ranks = ranks.now; links = links.now; bound = bound })) links.now) }
+    ensures found { IfSome result (IsFirstWithout (IsWellMadeAt (record { version = version; ranks = ranks.now; links = links.now; bound = bound })) (length links.now)) }
+    ensures none { IfNone result (All (IsLinkWellMade (record { version = version; ranks = ranks.now; links = links.now; bound = bound })) links.now) }
 {
     'links: for place in 0..links.len() {
-        if !is_link_well_made(ranks, links, bound, links[place]) {
+        if !is_link_well_made(version, ranks, links, bound, links[place]) {
             return Some(place);
         }
     }
@@ -101,22 +122,53 @@ fn first_bad_link(ranks: &[u32], links: &[Link], bound: Cost) -> Option<usize>
 }
 
 // Whether a link is well made in the hierarchy of these ranks, these links and this bound.
-fn is_link_well_made(ranks: &[u32], links: &[Link], bound: Cost, link: Link) -> bool
+fn is_link_well_made(
+    version: Version,
+    ranks: &[u32],
+    links: &[Link],
+    bound: Cost,
+    link: Link,
+) -> bool
     requires { AllPairs ComesBefore links.now }
-    ensures { IsTrue result ↔ IsLinkWellMade (record { ranks = ranks.now; links = links.now; bound = bound }) link }
+    ensures { IsTrue result ↔ IsLinkWellMade (record { version = version; ranks = ranks.now; links = links.now; bound = bound }) link }
 {
-    is_allowed(ranks.len(), bound, link) & has_halves(ranks, links, link)
+    is_allowed(version, ranks.len(), bound, link) & has_halves(ranks, links, link)
 }
 
-// Whether a link is between two different ones of so many nodes, and costs something and no more than the bound.
-fn is_allowed(nodes: usize, bound: Cost, link: Link) -> bool
-    ensures { IsTrue result ↔ IsAllowed nodes bound link }
+// Whether a link is between two different ones of so many nodes, and its cost counts what the version wants and is within
+// the bound.
+fn is_allowed(version: Version, nodes: usize, bound: Cost, link: Link) -> bool
+    ensures { IsTrue result ↔ IsAllowed version nodes bound link }
 {
     let from = link.from as usize;
     let to = link.to as usize;
     let has_ends = (from < nodes) & (to < nodes) & (from != to);
-    let has_cost = Cost::ZERO.is_below(link.cost) & link.cost.is_within(bound);
-    has_ends & has_cost
+    has_ends & counts(version, link) & link.cost.is_within(bound)
+}
+
+// Whether a link's cost counts what the version wants.
+fn counts(version: Version, link: Link) -> bool
+    ensures { IsTrue result ↔ Counts version link }
+{
+    match version {
+        Version::One => counts_weight(link),
+        Version::Two => counts_arcs(link),
+    }
+}
+
+// Whether a link weighs something and counts no arcs.
+fn counts_weight(link: Link) -> bool
+    ensures { IsTrue result ↔ CountsWeight link }
+{
+    (link.cost.length() > 0) & (link.cost.arcs() == 0)
+}
+
+// Whether a link counts some arcs, and exactly one where it has no middle.
+fn counts_arcs(link: Link) -> bool
+    ensures { IsTrue result ↔ CountsArcs link }
+{
+    let arcs = link.cost.arcs();
+    (arcs > 0) & (link.middle.is_some() | (arcs == 1))
 }
 
 // Whether a link has halves where it has a middle.

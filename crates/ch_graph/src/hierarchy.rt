@@ -1,7 +1,8 @@
 ghost use Rattle.std.specs.Prelude.{◌≡◌, ◌<◌, ℕ, length, slice_index, slice_index_or, AllPairs, None, IfErr, IfOk, IfSome, IfNone};
 ghost use Rattle.ch_cost.specs.Cost.{of_weight};
-ghost use Rattle.ch_graph.specs.Hierarchy.{IsWellMade, IsLinkAt, ComesBefore};
+ghost use Rattle.ch_graph.specs.Hierarchy.{IsWellMade, IsLinkAt, ComesBefore, version_number};
 ghost use Rattle.ch_graph.specs.declared.error.HierarchyError.TheVariants.{OutOfMemory};
+ghost use Rattle.ch_graph.specs.declared.version.Version.TheVariants.{One, Two};
 ghost use Rattle.ch_graph.specs.Checking.{IsHierarchyRefusal};
 ghost use Rattle.ch_graph.specs.LinkIndex.{IsIndexOf};
 ghost use Rattle.ch_graph.specs.LinkHalves.{AreHalvesOf, ArePartsOf};
@@ -12,6 +13,7 @@ use crate::error::HierarchyError;
 use crate::link::Link;
 use crate::link_halves::{LinkHalves, Parts};
 use crate::link_index::LinkIndex;
+use crate::version::Version;
 use ch_cost::Cost;
 use std::alloc::{AllocError, Global};
 use std::marker::Model;
@@ -24,10 +26,12 @@ pub struct LinkId(pub usize);
 /// arcs of a graph and shortcuts for two links by way of a node of lower rank.
 ///
 /// Every hierarchy is well made, so that a file can hold it. Whether it is right for a graph is said where it is
-/// made. It holds 4 bytes a node and 24 a link, with an index 8 bytes a node and 8 a link more, and no call takes memory
-/// but [`Hierarchy::checked`] while it runs, [`Hierarchy::indexed`] and [`Hierarchy::into_indexed`].
+/// made. It holds 4 bytes a node and 32 a link, with an index 8 bytes a node and 8 a link more, and no call takes memory
+/// but [`Hierarchy::checked`] and [`Hierarchy::checked_v1`] while they run, [`Hierarchy::indexed`] and
+/// [`Hierarchy::into_indexed`].
 #[derive(Drop)]
 pub struct Hierarchy {
+    version: Version,
     ranks: Vec<u32>,
     links: Vec<Link>,
     bound: Cost,
@@ -44,23 +48,35 @@ impl Model for Hierarchy {
 
     ghost Value = { hierarchies.Hierarchy };
 
-    ghost view = { λ h. record { ranks = h.ranks.items; links = h.links.items; bound = h.bound } };
+    ghost view = { λ h. record { version = h.version; ranks = h.ranks.items; links = h.links.items; bound = h.bound } };
 
-    ghost invariant = { λ h. hierarchies.IsWellMade (record { ranks = h.ranks.items; links = h.links.items; bound = h.bound }) × IsIndexOf h.links.items h.index × AreHalvesOf h.links.items h.halves };
+    ghost invariant = { λ h. hierarchies.IsWellMade (record { version = h.version; ranks = h.ranks.items; links = h.links.items; bound = h.bound }) × IsIndexOf h.links.items h.index × AreHalvesOf h.links.items h.halves };
 }
 
 impl Hierarchy {
-    /// The hierarchy of these ranks, one for each node, these links, in rising order of their ends, and this bound.
+    /// The hierarchy of version 2 of these ranks, one for each node, these links, in rising order of their ends, and this
+    /// bound.
     ///
     /// It has no index: a link is looked for among all, and so are its halves. Takes no memory.
     pub fn new(ranks: Vec<u32>, links: Vec<Link>, bound: Cost) -> Hierarchy
-        requires { IsWellMade (record { ranks = ranks.items; links = links.items; bound = bound }) }
-        ensures { result ≡ record { ranks = ranks.items; links = links.items; bound = bound } }
+        requires { IsWellMade (record { version = Two; ranks = ranks.items; links = links.items; bound = bound }) }
+        ensures { result ≡ record { version = Two; ranks = ranks.items; links = links.items; bound = bound } }
     {
         let alloc = *ranks.allocator();
         let index = LinkIndex::none(alloc);
         let halves = LinkHalves::none(alloc);
-        Hierarchy::with_index(ranks, links, bound, index, halves)
+        Hierarchy::with_index(Version::Two, ranks, links, bound, index, halves)
+    }
+
+    /// The same of version 1, whose costs count no arcs.
+    pub fn new_v1(ranks: Vec<u32>, links: Vec<Link>, bound: Cost) -> Hierarchy
+        requires { IsWellMade (record { version = One; ranks = ranks.items; links = links.items; bound = bound }) }
+        ensures { result ≡ record { version = One; ranks = ranks.items; links = links.items; bound = bound } }
+    {
+        let alloc = *ranks.allocator();
+        let index = LinkIndex::none(alloc);
+        let halves = LinkHalves::none(alloc);
+        Hierarchy::with_index(Version::One, ranks, links, bound, index, halves)
     }
 
     /// The hierarchy of these ranks, links and bound, as [`Hierarchy::new`] makes it, where they are well made, and else
@@ -75,12 +91,39 @@ impl Hierarchy {
         links: Vec<Link>,
         bound: Cost,
     ) -> Result<Hierarchy, HierarchyError>
-        ensures hierarchy { IfOk result (λ h. h ≡ record { ranks = ranks.items; links = links.items; bound = bound }) }
-        ensures refused { IfErr result (IsHierarchyRefusal (record { ranks = ranks.items; links = links.items; bound = bound })) }
-        ensures accepted { IsWellMade (record { ranks = ranks.items; links = links.items; bound = bound }) → IfErr result (λ e. e ≡ OutOfMemory) }
+        ensures hierarchy { IfOk result (λ h. h ≡ record { version = Two; ranks = ranks.items; links = links.items; bound = bound }) }
+        ensures refused { IfErr result (IsHierarchyRefusal (record { version = Two; ranks = ranks.items; links = links.items; bound = bound })) }
+        ensures accepted { IsWellMade (record { version = Two; ranks = ranks.items; links = links.items; bound = bound }) → IfErr result (λ e. e ≡ OutOfMemory) }
     {
-        checking::check(alloc, ranks.as_slice(), links.as_slice(), bound)?;
+        checking::check(
+            alloc,
+            Version::Two,
+            ranks.as_slice(),
+            links.as_slice(),
+            bound,
+        )?;
         Ok(Hierarchy::new(ranks, links, bound))
+    }
+
+    /// The same of version 1, as [`Hierarchy::new_v1`] makes it.
+    pub fn checked_v1(
+        alloc: Global,
+        ranks: Vec<u32>,
+        links: Vec<Link>,
+        bound: Cost,
+    ) -> Result<Hierarchy, HierarchyError>
+        ensures hierarchy { IfOk result (λ h. h ≡ record { version = One; ranks = ranks.items; links = links.items; bound = bound }) }
+        ensures refused { IfErr result (IsHierarchyRefusal (record { version = One; ranks = ranks.items; links = links.items; bound = bound })) }
+        ensures accepted { IsWellMade (record { version = One; ranks = ranks.items; links = links.items; bound = bound }) → IfErr result (λ e. e ≡ OutOfMemory) }
+    {
+        checking::check(
+            alloc,
+            Version::One,
+            ranks.as_slice(),
+            links.as_slice(),
+            bound,
+        )?;
+        Ok(Hierarchy::new_v1(ranks, links, bound))
     }
 
     /// The same hierarchy as by [`Hierarchy::new`], with an index, so that a link is looked for among those that leave
@@ -94,12 +137,12 @@ impl Hierarchy {
         links: Vec<Link>,
         bound: Cost,
     ) -> Result<Hierarchy, AllocError>
-        requires { IsWellMade (record { ranks = ranks.items; links = links.items; bound = bound }) }
-        ensures { IfOk result (λ h. h ≡ record { ranks = ranks.items; links = links.items; bound = bound }) }
+        requires { IsWellMade (record { version = Two; ranks = ranks.items; links = links.items; bound = bound }) }
+        ensures { IfOk result (λ h. h ≡ record { version = Two; ranks = ranks.items; links = links.items; bound = bound }) }
     {
         let index = LinkIndex::new(alloc, ranks.len() as u32, links.as_slice())?;
         let none = LinkHalves::none(alloc);
-        let mut hierarchy = Hierarchy::with_index(ranks, links, bound, index, none);
+        let mut hierarchy = Hierarchy::with_index(Version::Two, ranks, links, bound, index, none);
         hierarchy.halves = hierarchy.find_all_halves(alloc)?;
         Ok(hierarchy)
     }
@@ -115,27 +158,35 @@ impl Hierarchy {
         Ok(self)
     }
 
-    /// The same hierarchy as by [`Hierarchy::new`], with this index of its links and these places of their halves. Takes
-    /// no memory.
+    /// The hierarchy of this version, with this index of its links and these places of their halves. Takes no memory.
     pub fn with_index(
+        version: Version,
         ranks: Vec<u32>,
         links: Vec<Link>,
         bound: Cost,
         index: LinkIndex,
         halves: LinkHalves,
     ) -> Hierarchy
-        requires made { IsWellMade (record { ranks = ranks.items; links = links.items; bound = bound }) }
+        requires made { IsWellMade (record { version = version; ranks = ranks.items; links = links.items; bound = bound }) }
         requires index { IsIndexOf links.items index }
         requires halves { AreHalvesOf links.items halves }
-        ensures { result ≡ record { ranks = ranks.items; links = links.items; bound = bound } }
+        ensures { result ≡ record { version = version; ranks = ranks.items; links = links.items; bound = bound } }
     {
         Hierarchy {
+            version,
             ranks,
             links,
             bound,
             index,
             halves,
         }
+    }
+
+    /// The version of the file that it is of: 1 or 2. Costs of version 1 count no arcs.
+    pub fn version(&self) -> u8
+        ensures { result ≡ version_number self.now.version }
+    {
+        self.version.number()
     }
 
     /// How many nodes there are.
@@ -163,7 +214,8 @@ impl Hierarchy {
 
     /// The links, by the node that they leave and then by the one that they come to; at most one for each pair.
     pub fn links(&self) -> &[Link]
-        ensures { result.now ≡ self.now.links }
+        ensures links { result.now ≡ self.now.links }
+        ensures made { IsWellMade self.now }
     {
         self.links.as_slice()
     }

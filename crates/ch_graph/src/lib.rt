@@ -23,6 +23,7 @@ mod outgoing;
 mod road;
 mod search;
 mod step;
+mod version;
 
 pub use error::{GraphError, HierarchyError};
 pub use graph::Graph;
@@ -35,3 +36,4 @@ pub use link::Link;
 pub use link_halves::{LinkHalves, Parts};
 pub use link_index::LinkIndex;
 pub use road::Road;
+pub use version::Version;

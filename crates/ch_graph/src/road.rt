@@ -8,15 +8,15 @@ pub struct Road {
     pub from: u32,
     /// The node that it comes to, numbered from 0.
     pub to: u32,
-    /// Its weight, in the unit of the graph's text, from 1.
+    /// Its weight, in the unit of the graph's text; 0 for an arc that takes nothing.
     pub weight: u32,
 }
 
 impl Road {
-    /// Whether it may be an arc of a graph of so many nodes: both ends are nodes, and its weight is from 1.
+    /// Whether it may be an arc of a graph of so many nodes: both ends are nodes.
     pub fn is_allowed(self, nodes: u32) -> bool
         ensures { IsTrue result ↔ IsRoad nodes self }
     {
-        (self.from < nodes) & (self.to < nodes) & (self.weight > 0)
+        (self.from < nodes) & (self.to < nodes)
     }
 }

@@ -1,9 +1,9 @@
 -- Laws of graphs within the limits: what their arcs are, and that a walk is within the bound or there is a cheaper one.
-use Rattle.std.proofs.Common.{ℕ, ◌≢◌, ◌+◌, ◌-◌, ◌^◌, ◌<◌, ◌≤◌, ◌⊎◌, List, [], ◌∷◌, length, max, All, arith, add-one, subst, inl, inr}
+use Rattle.std.proofs.Common.{ℕ, ◌≡◌, ◌≢◌, ◌+◌, ◌-◌, ◌^◌, ◌<◌, ◌≤◌, ◌⊎◌, List, [], ◌∷◌, length, max, All, arith, add-one, ap, refl, sym, subst, ◌∙◌, inl, inr}
 use Rattle.std.proofs.lemmas.List.Elements.{All-nil, All-cons, All-head, All-tail, All-weaker, All-contains}
 use Rattle.ch_cost.specs.declared.cost.Cost.{Cost}
-use Rattle.ch_cost.specs.Cost.{zero_cost, ◌⊕◌, of_weight, cost_of_arcs, ◌≺◌, IsWithin}
-use Rattle.ch_cost.specs.Cost.Laws.{arc_above, arc_and_arcs_within, heavier_arcs_within, more_arcs_within, weight_fits, sum-zero_cost, within_trans, zero_cost_within}
+use Rattle.ch_cost.specs.Cost.{zero_cost, ◌⊕◌, of_weight, cost_of_arcs, arcs_of, ◌≺◌, IsWithin}
+use Rattle.ch_cost.specs.Cost.Laws.{arc_above, arc_and_arcs_within, heavier_arcs_within, more_arcs_within, weight_fits, arcs_of-zero_cost, arcs_of-of_weight, arcs_of-sum, sum-zero_cost, within_trans, zero_cost_within}
 use Rattle.ch_graph.specs.declared.road.Road.{Road}
 use Rattle.ch_graph.specs.Walk.{Walk, Walk.stay, Walk.go, visited}
 use Rattle.ch_graph.specs.Graph.{Graph, IsRoad, IsGraph, ArcOf, heaviest, bound_of}
@@ -38,10 +38,24 @@ pub arc-sound : (g : Graph) → IsGraph g → (x y : ℕ) (c : Cost) → ArcOf g
 arc-sound g is x y c arc =
     let road : IsRoad g.nodes arc.road = All-contains (IsRoad g.nodes) g.arcs arc.road is.roads arc.among in
     record {
-      above = subst (λ (d : Cost). zero_cost ≺ d) arc.costs (arc_above road.weighs);
+      above = subst (λ (d : Cost). zero_cost ≺ d) arc.costs (arc_above arc.road.weight);
       from_in = subst (λ n. n < g.nodes) arc.from road.from_in;
       to_in = subst (λ n. n < g.nodes) arc.to road.to_in;
     }
+
+-- an arc counts one
+pub arc-one : (g : Graph) (x y : ℕ) (c : Cost) → ArcOf g x y c → arcs_of c ≡ 1
+arc-one g x y c arc = ap arcs_of (sym arc.costs) ∙ arcs_of-of_weight arc.road.weight
+
+-- the arcs of a walk's cost are those of the walk
+pub walk-arcs : (g : Graph) {x z : ℕ} {c : Cost} (w : Walk (ArcOf g) x z c) → arcs_of c ≡ length (visited w)
+walk-arcs g stay = arcs_of-zero_cost
+walk-arcs g (go {x = x} {y = y} {c = c} {d = d} arc rest) = omega (arith, arcs_of-sum c d, arc-one g x y c arc, walk-arcs g rest)
+
+-- so a walk between two nodes counts some
+pub walk-some : (g : Graph) {x z : ℕ} {c : Cost} → Walk (ArcOf g) x z c → x ≢ z → 0 < arcs_of c
+walk-some g stay apart = absurd (apart refl)
+walk-some g (go {x = x} {y = y} {c = c} {d = d} arc rest) apart = omega (arith, arcs_of-sum c d, arc-one g x y c arc)
 
 -- a walk costs at most its number of arcs at the greatest weight
 walk-within : (g : Graph) {x z : ℕ} {c : Cost} (w : Walk (ArcOf g) x z c) → IsWithin c (cost_of_arcs (length (visited w)) (heaviest g.arcs))

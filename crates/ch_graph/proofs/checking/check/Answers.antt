@@ -1,6 +1,4 @@
-use Rattle.std.proofs.Common.{ℕ, ◌≡◌, Option, None, Some, IfNone, arith, subst}
-use Rattle.ch_cost.specs.declared.cost.Cost.{Cost}
-use Rattle.ch_cost.specs.Cost.{IsWithin}
+use Rattle.std.proofs.Common.{ℕ, ◌≡◌, Option, None, Some, IfNone, arith}
 use Rattle.ch_graph.proofs.checking.check.Goals as goal
 
 when_none : {P : Type 0} (o : Option ℕ) → o ≡ None → IfNone o P → P
@@ -10,7 +8,8 @@ when_none (Some k) is p = absurd (cc)
 pub returns-clause-made : goal.returns-clause-made
 returns-clause-made c = record {
   few_nodes = omega (arith, c.if-ranks.false);
-  bound = subst (λ (b : Cost). IsWithin c.args.bound b) c.greatest_bound.ensures (c.is_within.ensures.0 c.if-not-is_within.false);
+  bound = (c.is_bound.ensures.0 c.if-not-is_bound.false).0;
+  bound_arcs = (c.is_bound.ensures.0 c.if-not-is_bound.false).1;
   in_range = (when_none c.in_ok-place.field-0 c.in_default.is c.in_ok-place.ensures.none).0;
   once = (when_none c.in_ok-place.field-0 c.in_default.is c.in_ok-place.ensures.none).1;
   sorted = c.in_default-first_out_of_order.ensures.none;

@@ -6,7 +6,7 @@ use Rattle.ch_graph.proofs.checking.is_link_well_made.Goals as goal
 
 pub returns : goal.returns
 returns c =
-    let h : Hierarchy = record { ranks = c.args.ranks.now; links = c.args.links.now; bound = c.args.bound } in (
+    let h : Hierarchy = record { version = c.args.version; ranks = c.args.ranks.now; links = c.args.links.now; bound = c.args.bound } in (
       λ test.
           let allowed : c.is_allowed.result ≡ true = grind (arith, nat_tests, test) in
           let tested : c.has_halves.result ≡ true = grind (arith, nat_tests, test) in
