@@ -8,11 +8,13 @@ use Rattle.std.proofs.lemmas.List.Folds.{Any-from_list_any}
 use Rattle.std.proofs.lemmas.Map.Made.{IsDistinct-from_AllPairs}
 use Rattle.std.proofs.lemmas.Map.Steps.{length-le_from_distinct_below}
 use Rattle.ch_cost.specs.declared.cost.Cost.{Cost}
-use Rattle.ch_cost.specs.Cost.{◌⊕◌, cost_of_arcs, IsWithin}
+use Rattle.ch_cost.specs.Cost.{◌⊕◌, cost_of_arcs, arcs_of, IsWithin}
+use Rattle.ch_cost.specs.Cost.Numbers.{arcs_of-cost_of_arcs}
 use Rattle.ch_graph.specs.declared.link.Link.{Link}
-use Rattle.ch_graph.specs.Graph.{Graph, IsGraph, bound_of}
-use Rattle.ch_graph.specs.Hierarchy.{Hierarchy, rank_of, IsLink, AreHalves, IsLinkWellMade, IsWellMade}
-use Rattle.ch_graph.specs.Graph.Laws.{bound-within}
+use Rattle.ch_graph.specs.declared.version.Version.{Version}
+use Rattle.ch_graph.specs.Graph.{Graph, IsGraph, heaviest, bound_of}
+use Rattle.ch_graph.specs.Hierarchy.{Hierarchy, rank_of, IsLink, AreHalves, Counts, IsLinkWellMade, IsWellMade, bound_arcs}
+use Rattle.ch_graph.specs.Graph.Laws.{arc-one, bound-within, walk-some}
 use Rattle.ch_laws.specs.Contraction.{State, StateArc, Before, HasArc, IsOver, IsMade}
 use Rattle.ch_laws.specs.Members.{place_of}
 use Rattle.ch_laws.proofs.Sound.{IsSound, IsSoundArc, IsSplit}
@@ -119,7 +121,7 @@ module _ {g : Graph} {s : State} {h : Hierarchy} (sound : IsSound g s) (over : I
         from_in = omega (arith, from_in, made.nodes);
         to_in = omega (arith, to_in, made.nodes);
         apart = is.apart;
-        above = is.above;
+        counts = subst (λ (v : Version). Counts v l) (sym made.version) (record { some = walk-some g is.walk is.apart; one = λ none. arc-one g l.from l.to l.cost (is.whole none) });
         within = subst (λ (b : Cost). IsWithin l.cost b) (sym made.bound) is.within;
         middle = λ m some. link-halves l m from_in to_in (is.split m some);
       }
@@ -132,6 +134,8 @@ module _ {g : Graph} {s : State} {h : Hierarchy} (sound : IsSound g s) (over : I
         few_nodes = omega (arith, nodes, is.few_nodes);
         bound = subst (λ (b : Cost). IsWithin b (cost_of_arcs (length h.ranks - 1) (2 ^ 32 - 1))) (sym made.bound)
             (subst (λ n. IsWithin (bound_of g) (cost_of_arcs (n - 1) (2 ^ 32 - 1))) (sym nodes) (bound-within g is));
+        bound_arcs = subst (λ (v : Version). arcs_of h.bound ≡ bound_arcs v (length h.ranks)) (sym made.version)
+            (ap arcs_of made.bound ∙ arcs_of-cost_of_arcs (g.nodes - 1) (heaviest g.arcs) ∙ ap (λ n. n - 1) (sym nodes));
         in_range = All-from_get_or (λ r. r < length h.ranks) h.ranks 0 rank-in_range;
         once = λ i j d less low same. rank-once i j less low (get_or_default h.ranks i 0 d (lt_trans less low) ∙ same ∙ get_or_default h.ranks j d 0 low);
         sorted = made.sorted;

@@ -55,7 +55,7 @@ one_made {g} {s} {h} {k} sound over first second =
     let at_x : get_or s.order place.0 0 ≡ x = place_of s.order x place in
     rank-place sound over first x place.0 place.1 at_x ∙ sym (rank-place sound over second x place.0 place.1 at_x)) in
     let links : h.links ≡ k.links = same_sorted h.links k.links first.sorted second.sorted (λ l among. (second.links l).1 ((first.links l).0 among)) (λ l among. (first.links l).1 ((second.links l).0 among)) in
-    λ i. record { ranks = ranks i; links = links i; bound = (first.bound ∙ sym second.bound) i }
+    λ i. record { version = (first.version ∙ sym second.version) i; ranks = ranks i; links = links i; bound = (first.bound ∙ sym second.bound) i }
 
 -- the law that there is one
 pub made_is_unique : MadeIsUnique

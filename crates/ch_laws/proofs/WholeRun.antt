@@ -6,6 +6,7 @@ use Rattle.std.proofs.lemmas.List.{get_or_append_left, get_or_push, length_push}
 use Rattle.std.proofs.lemmas.List.Elements.{Contains-append_left, Contains-push, Contains-push_cases, Contains-get_or}
 use Rattle.std.proofs.lemmas.List.Quantifiers.{all_pairs_push}
 use Rattle.ch_graph.specs.declared.link.Link.{Link}
+use Rattle.ch_graph.specs.declared.version.Version.TheVariants.{Two}
 use Rattle.ch_graph.specs.Graph.{Graph, IsGraph, bound_of}
 use Rattle.ch_graph.specs.Hierarchy.{Hierarchy, ComesBefore}
 use Rattle.ch_laws.specs.Contraction.{State, StateArc, IsAlive, Contraction, Step, Run.rest, IsReached, IsOver, IsMade}
@@ -217,8 +218,9 @@ pub has_made : {g : Graph} {s : State} → IsSound g s → IsOver s → (h : Hie
 has_made {g} {s} sound over =
     let below = ranks_below sound over s.nodes (omega arith) in
     let all = link_rows sound s.nodes in (
-      record { ranks = below.ranks; links = all.links; bound = bound_of g },
+      record { version = Two; ranks = below.ranks; links = all.links; bound = bound_of g },
       record {
+        version = refl;
         nodes = below.many;
         ranks = λ k low. below.are (get_or s.order k 0) k (omega (arith, sound.in_range (get_or s.order k 0) (Contains-get_or s.order k 0 low), sound.nodes)) low refl;
         sorted = all.sorted;

@@ -3,6 +3,7 @@ use Rattle.std.specs.Prelude.{ℕ, ◌≡◌, ◌≢◌, ◌<◌, ◌≤◌, ◌
 use Rattle.ch_cost.specs.declared.cost.Cost.{Cost}
 use Rattle.ch_cost.specs.Cost.{◌⊕◌, ◌≼◌, ◌≺◌, IsWithin}
 use Rattle.ch_graph.specs.declared.link.Link.{Link}
+use Rattle.ch_graph.specs.declared.version.Version.TheVariants.{Two}
 use Rattle.ch_graph.specs.Walk.{Walk}
 pub use Rattle.ch_laws.specs.declared.shortcut.Shortcut.{Shortcut}
 use Rattle.ch_graph.specs.Graph.{Graph, ArcOf, IsLeastArc, bound_of}
@@ -169,6 +170,7 @@ IsOver s = (x : ℕ) → x < s.nodes → Contains s.order x
 
 -- the hierarchy of a state that is over: a node's rank is its place in the order, and the links are all of the arcs
 pub record IsMade (g : Graph) (s : State) (h : Hierarchy) : Type 0 where
+  pub version : h.version ≡ Two
   pub nodes : length h.ranks ≡ s.nodes
   pub ranks : (k : ℕ) → k < length s.order → rank_of h (slice_index s.order k) ≡ k
   pub sorted : AllPairs ComesBefore h.links

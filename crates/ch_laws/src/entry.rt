@@ -1,7 +1,7 @@
 use crate::middle::Middle;
 use ch_cost::Cost;
 
-/// An entry of a row: an arc between the row's node and another. It takes 16 bytes.
+/// An entry of a row: an arc between the row's node and another. It takes 24 bytes.
 #[derive(Clone, Copy, Debug, PartialEq, Eq)]
 pub struct Entry {
     /// The other node, numbered from 0.
