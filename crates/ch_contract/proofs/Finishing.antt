@@ -4,6 +4,7 @@ use Rattle.std.specs.Result.{IsErrOf}
 use Rattle.ch_cost.specs.declared.cost.Cost.{Cost}
 use Rattle.ch_graph.specs.declared.link.Link.{Link}
 use Rattle.ch_graph.specs.Graph.{bound_of}
+use Rattle.ch_graph.specs.declared.version.Version.TheVariants.{Two}
 use Rattle.ch_graph.specs.Hierarchy.{Hierarchy, IsWellMade, IsRight}
 use Rattle.ch_laws.specs.Contraction.{IsOver, IsMade}
 use Rattle.ch_laws.specs.Theorems.{AlwaysRight, AlwaysWellMade}
@@ -20,9 +21,9 @@ pub record IsFinished (l : Ledger) (h : Hierarchy) : Type 0 where
   pub well : IsWellMade h
   pub right : IsRight l.graph h
 
-pub finished : AlwaysRight → AlwaysWellMade → (l : Ledger) (ranks : List ℕ) (links : List Link) (bound : Cost) → IsLedger l → IsOver (state_of l.overlay) → AreRanks l.overlay ranks → AreLinks l.overlay links → bound ≡ bound_of l.graph → IsFinished l (record { ranks = ranks; links = links; bound = bound })
+pub finished : AlwaysRight → AlwaysWellMade → (l : Ledger) (ranks : List ℕ) (links : List Link) (bound : Cost) → IsLedger l → IsOver (state_of l.overlay) → AreRanks l.overlay ranks → AreLinks l.overlay links → bound ≡ bound_of l.graph → IsFinished l (record { version = Two; ranks = ranks; links = links; bound = bound })
 finished always_right always_well_made l ranks links bound is over ranked linked bound_is =
-    let h : Hierarchy = record { ranks = ranks; links = links; bound = bound } in
+    let h : Hierarchy = record { version = Two; ranks = ranks; links = links; bound = bound } in
     let made : IsMade l.graph (state_of l.overlay) h = made_of_parts l.overlay l.graph ranks links bound is.overlay over ranked linked bound_is in
     record {
       made = made;

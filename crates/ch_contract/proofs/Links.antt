@@ -11,6 +11,7 @@ use Rattle.std.proofs.lemmas.List.Sorted.{Contains-permutation, IsPermutation-sy
 use Rattle.ch_cost.specs.declared.cost.Cost.{Cost}
 use Rattle.ch_graph.specs.declared.link.Link.{Link}
 use Rattle.ch_graph.specs.Graph.{Graph, bound_of}
+use Rattle.ch_graph.specs.declared.version.Version.TheVariants.{Two}
 use Rattle.ch_graph.specs.Hierarchy.{ComesBefore}
 use Rattle.ch_laws.specs.declared.entry.Entry.{Entry}
 use Rattle.ch_laws.specs.Contraction.{Before, IsOver, IsMade}
@@ -232,8 +233,9 @@ module _ (o : Overlay) (is : IsOverlay o) (over : IsOver (state_of o)) where
 -- The hierarchy
 
 -- the ranks and the links of the rows make the hierarchy of the state
-pub made_of_parts : (o : Overlay) (g : Graph) (ranks : List ℕ) (links : List Link) (bound : Cost) → IsOverlay o → IsOver (state_of o) → AreRanks o ranks → AreLinks o links → bound ≡ bound_of g → IsMade g (state_of o) (record { ranks = ranks; links = links; bound = bound })
+pub made_of_parts : (o : Overlay) (g : Graph) (ranks : List ℕ) (links : List Link) (bound : Cost) → IsOverlay o → IsOver (state_of o) → AreRanks o ranks → AreLinks o links → bound ≡ bound_of g → IsMade g (state_of o) (record { version = Two; ranks = ranks; links = links; bound = bound })
 made_of_parts o g ranks links bound is over ranked linked bound_is = record {
+  version = refl;
   nodes = ranked.count;
   ranks = λ k low.
       let x = slice_index o.order k in

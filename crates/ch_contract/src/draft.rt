@@ -276,7 +276,7 @@ fn least_last_arc(rows: &Rows, pair: Shortcut, avoid: u32) -> Cost {
     let Some(seen) = rows.get(pair.to) else {
         return Cost::ZERO;
     };
-    let mut least = Cost::of_length(u64::MAX);
+    let mut least = Cost::GREATEST;
     'inns: for arc in &seen.row.inn {
         if arc.other != avoid && arc.other != pair.from && arc.cost.is_below(least) {
             least = arc.cost;

@@ -3,7 +3,7 @@ use Rattle.std.specs.Prelude.{ℕ, ◌≡◌, ◌^◌, ◌<◌, List, [], ◌∷
 use Rattle.std.specs.Arc.{arc_value}
 use Rattle.boxcar.specs.Table.{Shelves, Where, Shows}
 use Rattle.ch_cost.specs.declared.cost.Cost.{Cost}
-use Rattle.ch_cost.specs.Cost.{length_of, of_length}
+use Rattle.ch_cost.specs.Cost.{zero_cost, length_of, arcs_of, of_walk}
 use Rattle.ch_laws.specs.Rows.{Row, Rises}
 use Rattle.ch_overlay.specs.Overlay.{Overlay, IsOverlay, AreEntries, row_at}
 use Rattle.ch_overlay.specs.Change.{Change, IsOf}
@@ -27,13 +27,14 @@ AreSoundRows bound rows = (x : ℕ) → x < length rows → IsSoundRow bound x (
 abbrev pub ChangesAreSound : Type 0
 ChangesAreSound = (o : Overlay) (c : Change) → IsOverlay o → IsOf o c → All (λ a. (a.0 < length o.rows) × IsSoundRow o.bound a.0 a.1) c.rows
 
--- how a list of records is marked with the bound of its rows, and the bound of a mark
+-- how a list of records is marked with the bound of its rows, by its two numbers, and the bound of a mark
 abbrev pub mark_of : Cost → List ℕ
-mark_of bound = length_of bound ∷ []
+mark_of bound = length_of bound ∷ arcs_of bound ∷ []
 
 abbrev pub marked : List ℕ → Cost
-marked [] = of_length 0
-marked (n ∷ rest) = of_length n
+marked [] = zero_cost
+marked (n ∷ []) = zero_cost
+marked (n ∷ m ∷ rest) = of_walk n m
 
 -- the row of a record
 abbrev pub row_of : Record → Row

@@ -2,7 +2,7 @@
 use Rattle.std.specs.Prelude.{ℕ, ◌≡◌, List}
 use Rattle.std.proofs.Common.{◌∙◌, ap, subst, sym}
 use Rattle.ch_cost.specs.declared.cost.Cost.{Cost}
-use Rattle.ch_cost.specs.Cost.Lengths.{of_length-length_of}
+use Rattle.ch_cost.specs.Cost.Numbers.{of_walk-numbers}
 use Rattle.ch_laws.specs.Rows.{Row}
 use Rattle.ch_overlay.specs.declared.source.Seen.{Seen}
 use Rattle.ch_overlay.specs.Source.{IsSeenRow, row_in}
@@ -10,7 +10,7 @@ use Rattle.ch_overlay.specs.Records.{IsSoundRow, mark_of, marked}
 
 -- the bound of a mark
 pub marked_is : (mark : List ℕ) (own bound : Cost) → mark ≡ mark_of own → own ≡ bound → marked mark ≡ bound
-marked_is mark own bound is same = ap (λ (m : List ℕ). marked m) is ∙ of_length-length_of own ∙ same
+marked_is mark own bound is same = ap (λ (m : List ℕ). marked m) is ∙ of_walk-numbers own ∙ same
 
 -- a record's row as an answer
 pub seen_sound : (bound : Cost) (s : Seen) (row : Row) → row_in s ≡ row → IsSoundRow bound s.node row → IsSeenRow bound s

@@ -1,46 +1,67 @@
 -- Why answers by routes of a right hierarchy are answers by least walks of its graph.
-use Rattle.std.proofs.Common.{ℕ, suc, ◌≡◌, ◌-◌, ◌<◌, ◌≤◌, List, [], ◌∷◌, ◌++◌, length, take, Option, inl, inr, refl, sym, subst, arith}
+use Rattle.std.proofs.Common.{ℕ, suc, ◌≡◌, ◌-◌, ◌<◌, ◌≤◌, List, [], ◌∷◌, ◌++◌, length, take, Option, inl, inr, ap, refl, sym, subst, arith}
 use Rattle.std.specs.Prelude.{⊤, Some, None, IfSome, All, Result, OnOk, Ok, Err, IfErr, IsErrAnd, MatchResult}
 use Rattle.std.proofs.lemmas.List.Elements.{All-take}
-use Rattle.ch_graph.specs.Walk.{Along}
+use Rattle.ch_cost.specs.declared.cost.Cost.{Cost}
+use Rattle.ch_cost.specs.Cost.{length_of, arcs_of}
+use Rattle.ch_cost.specs.Cost.Laws.{length_of-at_most, arcs_of-at_most}
+use Rattle.ch_graph.specs.Walk.{Walk, visited, Along}
 use Rattle.ch_graph.specs.Graph.{Graph, IsGraph, ArcOf}
+use Rattle.ch_graph.specs.Graph.Laws.{walk-arcs}
 use Rattle.ch_graph.specs.Hierarchy.{Hierarchy, IsRight}
 use Rattle.ch_laws.specs.Theorems.{RouteIsLeast, NeverTooLong}
 use Rattle.grfile.specs.Outcome.{FromText}
 use Rattle.grfile.specs.declared.error.GrError.{GrError}
 use Rattle.grfile.specs.Reading.{IsPair, graph_of, pairs_of}
-use Rattle.ch_service.specs.Answer.{Route, IsAnswer, AreAnswers, nothing, one_more, IsLeastWalk, Answered, Answers, AnswersFirst}
+use Rattle.ch_service.specs.Answer.{Route, IsAnswer, AreAnswers, nothing, one_more, IsLeastWalk, IsFewestWalk, AnswersBy, AnswersFirst}
 use Rattle.ch_service.specs.Outcome.{IfTold, IfTextFault, Writes, IsFaultOf, IsRoutingFault, StopsShort, ComesOfTexts, ComesOfRouting, ComesOfAnswering}
 use Rattle.ch_unpack.specs.declared.error.UnpackError.TheVariants as unpacking
-use Rattle.ch_service.specs.Route.{Spells, IsRouteBy, Routed, StopsAtTooLong, Routes, RoutesFirst, RoutesToTooLong, RightRoutesAreLeast}
+use Rattle.ch_service.specs.Route.{Spells, IsRouteBy, Routed, StopsAtTooLong, Routes, RoutesFirst, RoutesToTooLong}
 use Rattle.ch_workers.specs.declared.error.BuildError.{BuildError}
 use Rattle.ch_service.specs.declared.error.ServiceError.{ServiceError}
 use Rattle.ch_service.specs.declared.error.ServiceError.TheVariants.{Graph as GraphFault, Queries, Hierarchy as HierarchyFault, Build, Unpack, Write, OutOfMemory}
 
--- a route of a right hierarchy is a least walk
-walk-right : RouteIsLeast → (g : Graph) (h : Hierarchy) (s t : ℕ) (r : Option Route) → IsGraph g → IsRight g h → s < g.nodes → t < g.nodes → IsRouteBy h s t r → IsLeastWalk g s t r
-walk-right law g h s t None graph right source target none = (right.value s t None source target).1 none
-walk-right law g h s t (Some r) graph right source target found =
+-- a kind of route over a graph that each route of a hierarchy is of which is right for it
+abbrev pub RightRoutesAre : (Graph → ℕ → ℕ → Option Route → Type 0) → Type 0
+RightRoutesAre Is = (g : Graph) (h : Hierarchy) (s t : ℕ) (r : Option Route) → IsGraph g → IsRight g h → s < g.nodes → t < g.nodes → IsRouteBy h s t r → Is g s t r
+
+-- it is a least walk with the fewest arcs, since its cost is the distance, which counts arcs
+pub fewest-right : RouteIsLeast → RightRoutesAre IsFewestWalk
+fewest-right law g h s t None graph right source target none = (right.value s t None source target).1 none
+fewest-right law g h s t (Some r) graph right source target found =
     let least = law g h s t r.cost found.links found.arcs graph right source target found.least in
-    (least.1, subst (λ (ns : List ℕ). Along (ArcOf g) ns s t r.cost) (sym found.along) least.0)
+    let along : Along (ArcOf g) r.nodes s t r.cost = subst (λ (ns : List ℕ). Along (ArcOf g) ns s t r.cost) (sym found.along) least.0 in
+    let no_shorter : (d : Cost) → Walk (ArcOf g) s t d → length_of r.cost ≤ length_of d = λ d w. length_of-at_most (least.1.1 d w) in
+    let count : length r.nodes ≡ suc (length (visited along.0)) = ap (λ (ns : List ℕ). length ns) along.1 in (
+      ((r.cost, along.0, refl, no_shorter), (r.cost, along, refl)),
+      λ d w same.
+          let no_fewer : arcs_of r.cost ≤ arcs_of d = arcs_of-at_most (least.1.1 d w) (sym same) in
+          omega (arith, no_fewer, walk-arcs g w, walk-arcs g along.0, count),
+    )
 
-answer-right : RouteIsLeast → (g : Graph) (h : Hierarchy) (pair : ℕ × ℕ) (line : List ℕ) → IsGraph g → IsRight g h → IsPair (length h.ranks) pair → IsAnswer (IsRouteBy h) pair line → IsAnswer (IsLeastWalk g) pair line
-answer-right law g h pair line graph right within a =
-    let source : pair.0 < g.nodes = subst (λ n. pair.0 < n) right.nodes within.0 in
-    let target : pair.1 < g.nodes = subst (λ n. pair.1 < n) right.nodes within.1 in
-    record {
-      route = a.route;
-      leads = walk-right law g h pair.0 pair.1 a.route graph right source target a.leads;
-      tells = a.tells;
-    }
+-- and so a least walk
+pub walk-right : RouteIsLeast → RightRoutesAre IsLeastWalk
+walk-right law g h s t None graph right source target none = fewest-right law g h s t None graph right source target none
+walk-right law g h s t (Some r) graph right source target found = (fewest-right law g h s t (Some r) graph right source target found).0
 
-answered-right : RouteIsLeast → (g : Graph) (h : Hierarchy) {pairs : List (ℕ × ℕ)} {text : List ℕ} → IsGraph g → IsRight g h → All (IsPair (length h.ranks)) pairs → AreAnswers (IsRouteBy h) pairs text → Answered g pairs text
-answered-right law g h graph right within nothing = nothing
-answered-right law g h graph right within (one_more {pair = p} {line = l} first rest) =
-    one_more (answer-right law g h p l graph right (within 0 p (omega arith)) first) (answered-right law g h graph right (λ k d less. within (suc k) d (omega arith)) rest)
+module _ {Is : Graph → ℕ → ℕ → Option Route → Type 0} (are : RightRoutesAre Is) where
+  answer-right : (g : Graph) (h : Hierarchy) (pair : ℕ × ℕ) (line : List ℕ) → IsGraph g → IsRight g h → IsPair (length h.ranks) pair → IsAnswer (IsRouteBy h) pair line → IsAnswer (Is g) pair line
+  answer-right g h pair line graph right within a =
+      let source : pair.0 < g.nodes = subst (λ n. pair.0 < n) right.nodes within.0 in
+      let target : pair.1 < g.nodes = subst (λ n. pair.1 < n) right.nodes within.1 in
+      record {
+        route = a.route;
+        leads = are g h pair.0 pair.1 a.route graph right source target a.leads;
+        tells = a.tells;
+      }
 
-pub right-routes : RouteIsLeast → RightRoutesAreLeast
-right-routes law g h pairs text graph right within answers = answered-right law g h graph right (subst (λ n. All (IsPair n) pairs) (sym right.nodes) within) answers
+  answered-right : (g : Graph) (h : Hierarchy) {pairs : List (ℕ × ℕ)} {text : List ℕ} → IsGraph g → IsRight g h → All (IsPair (length h.ranks)) pairs → AreAnswers (IsRouteBy h) pairs text → AreAnswers (Is g) pairs text
+  answered-right g h graph right within nothing = nothing
+  answered-right g h graph right within (one_more {pair = p} {line = l} first rest) =
+      one_more (answer-right g h p l graph right (within 0 p (omega arith)) first) (answered-right g h graph right (λ k d less. within (suc k) d (omega arith)) rest)
+
+  pub right-routes : (g : Graph) (h : Hierarchy) (pairs : List (ℕ × ℕ)) (text : List ℕ) → IsGraph g → IsRight g h → All (IsPair g.nodes) pairs → Routed h pairs text → AreAnswers (Is g) pairs text
+  right-routes g h pairs text graph right within answers = answered-right g h graph right (subst (λ n. All (IsPair n) pairs) (sym right.nodes) within) answers
 
 -- a refused call wrote texts of these kinds, so of these others
 stops-weaker : (P P' Q Q' : List ℕ → Type 0) (old new : Option (List ℕ)) (e : ServiceError) → ((text : List ℕ) → P text → P' text) → ((text : List ℕ) → Q text → Q' text) → StopsShort P Q old new e → StopsShort P' Q' old new e
@@ -150,13 +171,13 @@ no_text_fault P Q (Err (Write fault)) f = tt
 no_text_fault P Q (Err OutOfMemory) f = tt
 
 -- answers by a hierarchy that is right for the graph that the reader told
-pub answers-told : RouteIsLeast → (g : Graph) (h : Hierarchy) (pairs : List (ℕ × ℕ)) (gr queries old new : Option (List ℕ)) (r : Result ⊤ ServiceError) → IfSome gr (λ text. graph_of text ≡ Ok g) → IfSome queries (λ text. pairs_of g.nodes text ≡ Ok pairs)
-    → IsGraph g → IsRight g h → All (IsPair g.nodes) pairs → OnOk r (Writes (Routed h pairs) old new) → OnOk r (IfTold gr queries (λ graph_text pairs_text. Writes (Answers graph_text pairs_text) old new))
-answers-told law g h pairs gr queries old new (Err e) reads read graph right within w = tt
-answers-told law g h pairs None queries old new (Ok x) reads read graph right within w = tt
-answers-told law g h pairs (Some text) None old new (Ok x) reads read graph right within w = tt
-answers-told law g h pairs (Some text) (Some pairs_text) old new (Ok x) reads read graph right within w =
-    (w.0, record { graph = g; pairs = pairs; graph_reads = reads; pairs_read = read; answered = right-routes law g h pairs w.0 graph right within w.1 }, w.2)
+pub answers-told : {Is : Graph → ℕ → ℕ → Option Route → Type 0} → RightRoutesAre Is → (g : Graph) (h : Hierarchy) (pairs : List (ℕ × ℕ)) (gr queries old new : Option (List ℕ)) (r : Result ⊤ ServiceError) → IfSome gr (λ text. graph_of text ≡ Ok g) → IfSome queries (λ text. pairs_of g.nodes text ≡ Ok pairs)
+    → IsGraph g → IsRight g h → All (IsPair g.nodes) pairs → OnOk r (Writes (Routed h pairs) old new) → OnOk r (IfTold gr queries (λ graph_text pairs_text. Writes (AnswersBy Is graph_text pairs_text) old new))
+answers-told are g h pairs gr queries old new (Err e) reads read graph right within w = tt
+answers-told are g h pairs None queries old new (Ok x) reads read graph right within w = tt
+answers-told are g h pairs (Some text) None old new (Ok x) reads read graph right within w = tt
+answers-told are g h pairs (Some text) (Some pairs_text) old new (Ok x) reads read graph right within w =
+    (w.0, record { graph = g; pairs = pairs; graph_reads = reads; pairs_read = read; answered = right-routes are g h pairs w.0 graph right within w.1 }, w.2)
 
 first-answered : RouteIsLeast → (g : Graph) (h : Hierarchy) (pairs : List (ℕ × ℕ)) (graph_text pairs_text text : List ℕ) → graph_of graph_text ≡ Ok g → pairs_of g.nodes pairs_text ≡ Ok pairs → IsGraph g → IsRight g h → All (IsPair g.nodes) pairs
     → ((count : ℕ) × Routed h (take count pairs) text) → AnswersFirst graph_text pairs_text text
@@ -166,7 +187,7 @@ first-answered law g h pairs graph_text pairs_text text reads read graph right w
   graph_reads = reads;
   pairs_read = read;
   count = first.0;
-  answered = right-routes law g h (take first.0 pairs) text graph right (All-take (IsPair g.nodes) first.0 pairs within) first.1;
+  answered = right-routes (walk-right law) g h (take first.0 pairs) text graph right (All-take (IsPair g.nodes) first.0 pairs within) first.1;
 }
 
 pub stops-answered : RouteIsLeast → NeverTooLong → (g : Graph) (h : Hierarchy) (pairs : List (ℕ × ℕ)) (gr queries old new : Option (List ℕ)) (r : Result ⊤ ServiceError) → IfSome gr (λ text. graph_of text ≡ Ok g) → IfSome queries (λ text. pairs_of g.nodes text ≡ Ok pairs)

@@ -7,13 +7,13 @@ use Rattle.ch_graph.specs.Hierarchy.{Hierarchy, IsRight}
 use Rattle.grfile.specs.Reading.{IsPair, graph_of, pairs_of, SpelledGraphsAreInRange, SpelledPairsAreInRange}
 use Rattle.hierfile.specs.Laws.{HierarchiesHaveOneSpelling}
 use Rattle.ch_laws.specs.Theorems.{RouteIsLeast, NeverTooLong}
-use Rattle.ch_service.specs.Answer.{Answers}
+use Rattle.ch_service.specs.Answer.{Route, AnswersBy}
 use Rattle.ch_service.specs.Outcome.{IfTold, Writes, StopsShort}
-use Rattle.ch_service.specs.Route.{Spells, Prepares, Routed, StopsAtTooLong, RoutesAreExact, FirstRoutesAreExact}
+use Rattle.ch_service.specs.Route.{Spells, Prepares, Routed, Routes, StopsAtTooLong, FirstRoutesAreExact}
 use Rattle.ch_service.specs.declared.error.ServiceError.{ServiceError}
 use Rattle.ch_service.specs.declared.error.ServiceError.TheVariants.{Unpack}
 use Rattle.ch_unpack.specs.declared.error.UnpackError.TheVariants.{TooLong}
-use Rattle.ch_service.proofs.ByWalks.{right-routes, right_for_none}
+use Rattle.ch_service.proofs.ByWalks.{RightRoutesAre, walk-right, right-routes, right_for_none}
 
 -- what was prepared, where the bytes are the file of this hierarchy
 record IsPrepared (graph_text bytes : List ℕ) (h : Hierarchy) : Type 0 where
@@ -30,8 +30,12 @@ is_prepared one graphs graph_text bytes h p spells = record {
   right = subst (λ (k : Hierarchy). IsRight p.graph k) (one p.hierarchy h p.spells.made spells.made (sym p.spells.spelled ∙ spells.spelled)) p.right;
 }
 
-pub routes-exact : HierarchiesHaveOneSpelling → SpelledGraphsAreInRange → SpelledPairsAreInRange → RouteIsLeast → RoutesAreExact
-routes-exact one graphs pairs_fit law graph_text bytes pairs_text text p r =
+-- what routes by prepared bytes are answers by
+abbrev pub PreparedRoutesAre : (Graph → ℕ → ℕ → Option Route → Type 0) → Type 0
+PreparedRoutesAre Is = (graph_text bytes pairs_text text : List ℕ) → Prepares graph_text bytes → Routes bytes pairs_text text → AnswersBy Is graph_text pairs_text text
+
+pub prepared-routes : {Is : Graph → ℕ → ℕ → Option Route → Type 0} → HierarchiesHaveOneSpelling → SpelledGraphsAreInRange → SpelledPairsAreInRange → RightRoutesAre Is → PreparedRoutesAre Is
+prepared-routes one graphs pairs_fit are graph_text bytes pairs_text text p r =
     let q = is_prepared one graphs graph_text bytes r.hierarchy p r.spells in
     let read : pairs_of q.graph.nodes pairs_text ≡ Ok r.pairs = subst (λ (n : ℕ). pairs_of n pairs_text ≡ Ok r.pairs) q.right.nodes r.pairs_read in
     record {
@@ -39,7 +43,7 @@ routes-exact one graphs pairs_fit law graph_text bytes pairs_text text p r =
       pairs = r.pairs;
       graph_reads = q.reads;
       pairs_read = read;
-      answered = right-routes law q.graph r.hierarchy r.pairs text q.within q.right (pairs_fit q.graph.nodes pairs_text r.pairs read) r.routed;
+      answered = right-routes are q.graph r.hierarchy r.pairs text q.within q.right (pairs_fit q.graph.nodes pairs_text r.pairs read) r.routed;
     }
 
 pub first-routes-exact : HierarchiesHaveOneSpelling → SpelledGraphsAreInRange → SpelledPairsAreInRange → RouteIsLeast → FirstRoutesAreExact
@@ -52,18 +56,18 @@ first-routes-exact one graphs pairs_fit law graph_text bytes pairs_text text p r
       graph_reads = q.reads;
       pairs_read = read;
       count = r.count;
-      answered = right-routes law q.graph r.hierarchy (take r.count r.pairs) text q.within q.right (All-take (IsPair q.graph.nodes) r.count r.pairs (pairs_fit q.graph.nodes pairs_text r.pairs read)) r.routed;
+      answered = right-routes (walk-right law) q.graph r.hierarchy (take r.count r.pairs) text q.within q.right (All-take (IsPair q.graph.nodes) r.count r.pairs (pairs_fit q.graph.nodes pairs_text r.pairs read)) r.routed;
     }
 
 -- what a call wrote by bytes that were prepared
 
-pub exact-told : RoutesAreExact → (h : Hierarchy) (pairs : List (ℕ × ℕ)) (hier queries old new : Option (List ℕ)) (r : Result ⊤ ServiceError) → IfSome hier (λ bytes. Spells bytes h) → IfSome queries (λ text. pairs_of (length h.ranks) text ≡ Ok pairs)
-    → OnOk r (Writes (Routed h pairs) old new) → OnOk r (IfTold hier queries (λ bytes pairs_text. (graph_text : List ℕ) → Prepares graph_text bytes → Writes (Answers graph_text pairs_text) old new))
-exact-told exact h pairs hier queries old new (Err e) spells read w = tt
-exact-told exact h pairs None queries old new (Ok x) spells read w = tt
-exact-told exact h pairs (Some bytes) None old new (Ok x) spells read w = tt
-exact-told exact h pairs (Some bytes) (Some pairs_text) old new (Ok x) spells read w = λ graph_text p.
-    (w.0, exact graph_text bytes pairs_text w.0 p (record { hierarchy = h; pairs = pairs; spells = spells; pairs_read = read; routed = w.1 }), w.2)
+pub prepared-told : {Is : Graph → ℕ → ℕ → Option Route → Type 0} → PreparedRoutesAre Is → (h : Hierarchy) (pairs : List (ℕ × ℕ)) (hier queries old new : Option (List ℕ)) (r : Result ⊤ ServiceError) → IfSome hier (λ bytes. Spells bytes h) → IfSome queries (λ text. pairs_of (length h.ranks) text ≡ Ok pairs)
+    → OnOk r (Writes (Routed h pairs) old new) → OnOk r (IfTold hier queries (λ bytes pairs_text. (graph_text : List ℕ) → Prepares graph_text bytes → Writes (AnswersBy Is graph_text pairs_text) old new))
+prepared-told are h pairs hier queries old new (Err e) spells read w = tt
+prepared-told are h pairs None queries old new (Ok x) spells read w = tt
+prepared-told are h pairs (Some bytes) None old new (Ok x) spells read w = tt
+prepared-told are h pairs (Some bytes) (Some pairs_text) old new (Ok x) spells read w = λ graph_text p.
+    (w.0, are graph_text bytes pairs_text w.0 p (record { hierarchy = h; pairs = pairs; spells = spells; pairs_read = read; routed = w.1 }), w.2)
 
 -- no route by them is too long
 
@@ -85,8 +89,8 @@ never_long-told one graphs law h pairs hier old new P r spells within stops is =
 all_of : (P : List ℕ → Type 0) (old new : List ℕ) → old ≡ [] → Writes P (Some old) (Some new) → P new
 all_of P old new none w = subst P (sym (w.2 ∙ ap (λ (l : List ℕ). l ++ w.0) none)) w.1
 
-pub exact-in_memory : (graph_text pairs_text none bytes slice empty text : List ℕ) → none ≡ [] → empty ≡ [] → slice ≡ bytes → Writes (Prepares graph_text) (Some none) (Some bytes)
-    → ((graph : List ℕ) → Prepares graph slice → Writes (Answers graph pairs_text) (Some empty) (Some text)) → Answers graph_text pairs_text text
-exact-in_memory graph_text pairs_text none bytes slice empty text no_byte no_text same prepared routed =
+pub prepared-in_memory : (Is : Graph → ℕ → ℕ → Option Route → Type 0) (graph_text pairs_text none bytes slice empty text : List ℕ) → none ≡ [] → empty ≡ [] → slice ≡ bytes → Writes (Prepares graph_text) (Some none) (Some bytes)
+    → ((graph : List ℕ) → Prepares graph slice → Writes (AnswersBy Is graph pairs_text) (Some empty) (Some text)) → AnswersBy Is graph_text pairs_text text
+prepared-in_memory Is graph_text pairs_text none bytes slice empty text no_byte no_text same prepared routed =
     let file : Prepares graph_text slice = subst (Prepares graph_text) (sym same) (all_of (Prepares graph_text) none bytes no_byte prepared) in
-    all_of (Answers graph_text pairs_text) empty text no_text (routed graph_text file)
+    all_of (AnswersBy Is graph_text pairs_text) empty text no_text (routed graph_text file)

@@ -1,10 +1,10 @@
 -- Answered texts: one line for each pair of nodes, in their order.
-use Rattle.std.specs.Prelude.{ℕ, ◌≡◌, ◌+◌, ◌-◌, List, [], ◌∷◌, ◌++◌, length, map, take, codes, decimal, Option, Some, None, Ok}
+use Rattle.std.specs.Prelude.{ℕ, ◌≡◌, ◌+◌, ◌-◌, ◌≤◌, List, [], ◌∷◌, ◌++◌, length, map, take, codes, decimal, Option, Some, None, Ok}
 use Rattle.std.specs.List.{concat}
 use Rattle.ch_cost.specs.declared.cost.Cost.{Cost}
 use Rattle.ch_cost.specs.Cost.{length_of}
-use Rattle.ch_graph.specs.Walk.{Along}
-use Rattle.ch_graph.specs.Graph.{Graph, ArcOf, IsDistance}
+use Rattle.ch_graph.specs.Walk.{Walk, visited, Along}
+use Rattle.ch_graph.specs.Graph.{Graph, ArcOf, IsLeastLength}
 use Rattle.grfile.specs.Reading.{graph_of, pairs_of}
 
 -- what a way from one node to another costs, and the nodes along it, both ends among them
@@ -36,23 +36,40 @@ pub data AreAnswers (IsRoute : ℕ → ℕ → Option Route → Type 0) : List (
   nothing : AreAnswers IsRoute [] []
   one_more : {pair : ℕ × ℕ} {pairs : List (ℕ × ℕ)} {line rest : List ℕ} → IsAnswer IsRoute pair line → AreAnswers IsRoute pairs rest → AreAnswers IsRoute (pair ∷ pairs) (line ++ rest)
 
--- the cost is the least over all walks of the graph, and some walk of exactly that cost goes along the nodes; or there
--- is no walk
+-- the length is the least over all walks of the graph, and some walk of exactly that length goes along the nodes; or
+-- there is no walk
 abbrev pub IsLeastWalk : Graph → ℕ → ℕ → Option Route → Type 0
-IsLeastWalk g s t (Some r) = IsDistance g s t (Some r.cost) × Along (ArcOf g) r.nodes s t r.cost
-IsLeastWalk g s t None = IsDistance g s t None
+IsLeastWalk g s t (Some r) = IsLeastLength g s t (Some (length_of r.cost)) × ((c : Cost) × Along (ArcOf g) r.nodes s t c × (length_of c ≡ length_of r.cost))
+IsLeastWalk g s t None = IsLeastLength g s t None
+
+-- no walk of the same length has fewer arcs than there are from node to node
+abbrev pub HasFewestArcs : Graph → ℕ → ℕ → Route → Type 0
+HasFewestArcs g s t r = (c : Cost) (w : Walk (ArcOf g) s t c) → length_of c ≡ length_of r.cost → length r.nodes - 1 ≤ length (visited w)
+
+-- a least walk, and of all least walks one with the fewest arcs; or there is no walk
+abbrev pub IsFewestWalk : Graph → ℕ → ℕ → Option Route → Type 0
+IsFewestWalk g s t (Some r) = IsLeastWalk g s t (Some r) × HasFewestArcs g s t r
+IsFewestWalk g s t None = IsLeastLength g s t None
 
 -- answers by least walks of a graph
 abbrev pub Answered : Graph → List (ℕ × ℕ) → List ℕ → Type 0
 Answered g = AreAnswers (IsLeastWalk g)
 
--- the text answers all pairs of the second text over the graph of the first
-pub record Answers (graph_text pairs_text text : List ℕ) : Type 0 where
+-- the text answers all pairs of the second text over the graph of the first, by routes of a kind
+pub record AnswersBy (IsRoute : Graph → ℕ → ℕ → Option Route → Type 0) (graph_text pairs_text text : List ℕ) : Type 0 where
   pub graph : Graph
   pub pairs : List (ℕ × ℕ)
   pub graph_reads : graph_of graph_text ≡ Ok graph
   pub pairs_read : pairs_of graph.nodes pairs_text ≡ Ok pairs
-  pub answered : Answered graph pairs text
+  pub answered : AreAnswers (IsRoute graph) pairs text
+
+-- by least walks
+abbrev pub Answers : List ℕ → List ℕ → List ℕ → Type 0
+Answers = AnswersBy IsLeastWalk
+
+-- and by least walks with the fewest arcs
+abbrev pub AnswersByFewest : List ℕ → List ℕ → List ℕ → Type 0
+AnswersByFewest = AnswersBy IsFewestWalk
 
 -- the text answers the first of them, as many as `count` says, and no others
 pub record AnswersFirst (graph_text pairs_text text : List ℕ) : Type 0 where

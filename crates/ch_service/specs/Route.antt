@@ -7,7 +7,7 @@ use Rattle.ch_graph.specs.Hierarchy.{Hierarchy, IsWellMade, IsRight, IsValue}
 use Rattle.ch_laws.specs.Theorems.{IsLeastRoute}
 use Rattle.grfile.specs.Reading.{graph_of, pairs_of, IsPair}
 use Rattle.hierfile.specs.Spelling.{bytes_of}
-use Rattle.ch_service.specs.Answer.{Route, AreAnswers, Answered, Answers, AnswersFirst}
+use Rattle.ch_service.specs.Answer.{Route, AreAnswers, Answered, Answers, AnswersByFewest, AnswersFirst}
 
 -- the bytes are the file of the hierarchy
 pub record Spells (bytes : List ℕ) (h : Hierarchy) : Type 0 where
@@ -94,3 +94,7 @@ RoutesAreExact = (graph_text bytes pairs_text text : List ℕ) → Prepares grap
 -- and so are the first of them
 abbrev pub FirstRoutesAreExact : Type 0
 FirstRoutesAreExact = (graph_text bytes pairs_text text : List ℕ) → Prepares graph_text bytes → RoutesFirst bytes pairs_text text → AnswersFirst graph_text pairs_text text
+
+-- Of all least walks each route by bytes that were prepared is one with the fewest arcs.
+abbrev pub RoutesHaveFewestArcs : Type 0
+RoutesHaveFewestArcs = (graph_text bytes pairs_text text : List ℕ) → Prepares graph_text bytes → Routes bytes pairs_text text → AnswersByFewest graph_text pairs_text text

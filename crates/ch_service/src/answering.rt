@@ -1,6 +1,6 @@
 ghost use Rattle.std.specs.Prelude.{◌≡◌, ◌↔◌, [], All, OnOk, IfErr, IfSome, vec_len};
 ghost use Rattle.grfile.specs.Taken.{StopsAtReached};
-ghost use Rattle.ch_service.specs.Answer.{Answers, AnswersFirst};
+ghost use Rattle.ch_service.specs.Answer.{Answers, AnswersByFewest, AnswersFirst};
 ghost use Rattle.ch_service.specs.Joined.{graph_part, pairs_part};
 ghost use Rattle.ch_service.specs.Outcome.{IfTold, IfTextFault, Writes, ComesOfTexts, IsFaultOf, IsFaultOfJoined, KeepsAtFault, StopsInJoined, StopsShort};
 ghost use Rattle.ch_service.specs.declared.error.ServiceError.TheVariants.{Build};
@@ -25,7 +25,8 @@ use std::thread::Threads;
 /// Answers pairs of nodes over a graph, by a hierarchy that is built of it for this call.
 ///
 /// `gr` gives the text of the graph, `queries` the text of the pairs, and `out` gets one line for each pair, in
-/// order: its least length, how many arcs its route has, and the nodes of the route. The texts are read first, the
+/// order: its least length, how many arcs its route has, and the nodes of the route; of all least routes it is one with
+/// the fewest arcs. The texts are read first, the
 /// graph's before the pairs', and the hierarchy is built next, as [`prepare`](crate::prepare) does; where one of them
 /// is refused nothing is written. Where memory is refused while pairs are answered, the lines of the pairs before are
 /// written first. On every answer the estimators were dropped, and no lease of `leases` is out. Takes the time and memory
@@ -44,6 +45,8 @@ pub fn answer<G: Read, Q: Read, W: Write, P: Gate, R: Threads + Wait + Sync>(
     requires untold { All (λ list. All (λ estimator. heard estimator ≡ []) list.items) lists.items }
     ensures answers { OnOk result (IfTold (G.remaining gr.old) (Q.remaining queries.old)
         (λ graph pairs. Writes (Answers graph pairs) (W.contents out.old) (W.contents out.new))) }
+    ensures fewest { OnOk result (IfTold (G.remaining gr.old) (Q.remaining queries.old)
+        (λ graph pairs. Writes (AnswersByFewest graph pairs) (W.contents out.old) (W.contents out.new))) }
     ensures good { OnOk result (AreGood options (vec_len lists)) }
     ensures leases { leases.new ≡ record leases.old { out = 0 } }
 
@@ -99,6 +102,8 @@ pub fn answer_joined<I: Read, W: Write, R: Threads + Wait + Sync>(
 ) -> Result<(), ServiceError>
     ensures answers { OnOk result (IfSome (I.remaining input.old)
         (λ text. Writes (Answers (graph_part text) (pairs_part text)) (W.contents out.old) (W.contents out.new))) }
+    ensures fewest { OnOk result (IfSome (I.remaining input.old)
+        (λ text. Writes (AnswersByFewest (graph_part text) (pairs_part text)) (W.contents out.old) (W.contents out.new))) }
 
     // At a refusal.
     ensures good { result ≡ Err (Build BadOptions) → ⊥ }

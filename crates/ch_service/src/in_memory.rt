@@ -1,5 +1,5 @@
 ghost use Rattle.std.specs.Prelude.{◌≡◌, ◌↔◌, [], All, IfOk, OnOk, vec_len};
-ghost use Rattle.ch_service.specs.Answer.{Answers};
+ghost use Rattle.ch_service.specs.Answer.{Answers, AnswersByFewest};
 ghost use Rattle.ch_service.specs.declared.error.ServiceError.TheVariants.{Build};
 ghost use Rattle.ch_workers.specs.Options.{AreBad, AreGood};
 ghost use Rattle.ch_workers.specs.declared.error.BuildError.{BuildError};
@@ -18,7 +18,7 @@ use std::thread::Threads;
 ///
 /// [`prepare`] writes the file from the text of the graph, and [`route`] reads it and answers the pairs: what a user does
 /// by two commands. The answers have one line for each pair, in order: the least length over all walks in the graph and
-/// the nodes along a walk of exactly that length, or that there is no walk. This holds for all options and estimators,
+/// the nodes along a walk of exactly that length, of all such walks one with the fewest arcs, or that there is no walk. This holds for all options and estimators,
 /// and however the workers' reads and commits fall. On every answer the estimators were dropped, and no lease of
 /// `leases` is out. Refusals, time and memory are those of the two calls, with the bytes of the file and of the answers.
 pub fn routes_in_memory<P: Gate, R: Threads + Wait + Sync>(
@@ -33,6 +33,7 @@ pub fn routes_in_memory<P: Gate, R: Threads + Wait + Sync>(
 ) -> Result<Vec<u8>, ServiceError>
     requires untold { All (λ list. All (λ estimator. heard estimator ≡ []) list.items) lists.items }
     ensures exact { IfOk result (λ text. Answers graph.now pairs.now text.items) }
+    ensures fewest { IfOk result (λ text. AnswersByFewest graph.now pairs.now text.items) }
     ensures good { OnOk result (AreGood options (vec_len lists)) }
     ensures bad { (e : BuildError) → result ≡ Err (Build e) → (e ≡ BadOptions) ↔ AreBad options (vec_len lists) }
     ensures leases { leases.new ≡ record leases.old { out = 0 } }

@@ -1,5 +1,5 @@
 ghost use Rattle.ch_service.specs.Refusals.{AnswersTell, JoinedAnswersTell, PreparationsTell, RoutesTell};
-ghost use Rattle.ch_service.specs.Route.{RightRoutesAreLeast, RoutesAreExact, FirstRoutesAreExact};
+ghost use Rattle.ch_service.specs.Route.{RightRoutesAreLeast, RoutesAreExact, RoutesHaveFewestArcs, FirstRoutesAreExact};
 
 use ch_laws::least_route_is_a_least_walk;
 use grfile::{spelled_graphs_are_in_range, spelled_pairs_are_in_range};
@@ -14,10 +14,11 @@ pub fn right_routes_are_least()
 
 /// Routes are exact: whenever [`prepare`](crate::prepare) has written a hierarchy from the text of a graph,
 /// [`route`](crate::route), reading those bytes, answers each pair with the least length of a walk in that graph and the
-/// nodes along a walk of exactly that length, and answers none exactly where there is no walk. It does nothing when it
-/// runs.
+/// nodes along a walk of exactly that length, and answers none exactly where there is no walk. Of all least walks it tells
+/// one with the fewest arcs. It does nothing when it runs.
 pub fn routes_are_exact()
-    ensures { RoutesAreExact }
+    ensures exact { RoutesAreExact }
+    ensures fewest { RoutesHaveFewestArcs }
 {
     hierarchies_have_one_spelling();
     spelled_graphs_are_in_range();

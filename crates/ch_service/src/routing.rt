@@ -1,6 +1,6 @@
 ghost use Rattle.std.specs.Prelude.{◌≡◌, ℕ, List, Err, OnOk, IfErr, IfSome};
 ghost use Rattle.grfile.specs.Taken.{StopsAtReached};
-ghost use Rattle.ch_service.specs.Answer.{Answers};
+ghost use Rattle.ch_service.specs.Answer.{Answers, AnswersByFewest};
 ghost use Rattle.ch_service.specs.Outcome.{IfTold, IfTextFault, Writes, ComesOfRouting, IsRoutingFault, KeepsAtFault, StopsShort};
 ghost use Rattle.ch_service.specs.Route.{Prepares, Routes, RoutesFirst, RoutesToTooLong};
 ghost use Rattle.ch_service.specs.declared.error.ServiceError.TheVariants.{Unpack};
@@ -18,7 +18,8 @@ use std::io::{Read, Write};
 /// Answers pairs of nodes by a hierarchy.
 ///
 /// `hier` gives the file of the hierarchy, `queries` the text of the pairs, and `out` gets one line for each pair, in
-/// order: its least length, how many arcs its route has, and the nodes of the route. The hierarchy is read before the
+/// order: its least length, how many arcs its route has, and the nodes of the route; of all least routes it is one with the
+/// fewest arcs, where the file was prepared from a graph. The hierarchy is read before the
 /// pairs, and where one is refused nothing is written. Where a pair is refused, for want of memory or since its route is
 /// too long, the lines of the pairs before are written first; no route is too long where the hierarchy is right for
 /// some graph. Takes memory for the hierarchy and once more for its links by their ends, for the pairs, one query at a
@@ -35,6 +36,8 @@ pub fn route<H: Read, Q: Read, W: Write>(
     // Where the bytes were prepared from the text of a graph.
     ensures exact { OnOk result (IfTold (H.remaining hier.old) (Q.remaining queries.old)
         (λ bytes pairs. (graph_text : List ℕ) → Prepares graph_text bytes → Writes (Answers graph_text pairs) (W.contents out.old) (W.contents out.new))) }
+    ensures fewest { OnOk result (IfTold (H.remaining hier.old) (Q.remaining queries.old)
+        (λ bytes pairs. (graph_text : List ℕ) → Prepares graph_text bytes → Writes (AnswersByFewest graph_text pairs) (W.contents out.old) (W.contents out.new))) }
     ensures never_long { result ≡ Err (Unpack TooLong) → IfSome (H.remaining hier.old)
         (λ bytes. (graph_text : List ℕ) → Prepares graph_text bytes → ⊥) }
 

@@ -130,10 +130,10 @@ impl Tree {
         let Some(aim) = aim else {
             return false;
         };
-        let Some(least) = cost.plus_within(aim.last_arc, aim.enough) else {
+        let Some(least) = cost.checked_plus(aim.last_arc) else {
             return true;
         };
-        label.is_some_and(|label| label.cost.is_at_most(least))
+        !least.is_at_most(aim.enough) || label.is_some_and(|label| label.cost.is_at_most(least))
     }
 
     /// Goes on from a node that was settled: reads its row and, where that has no rank, makes it a step and follows

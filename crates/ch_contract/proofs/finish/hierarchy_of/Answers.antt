@@ -2,6 +2,7 @@ use Rattle.std.proofs.Common.{◌≡◌, ◌<◌, ◌≤◌, ◌+◌, ℕ, List,
 use Rattle.ch_cost.specs.declared.cost.Cost.{Cost}
 use Rattle.ch_graph.specs.declared.link.Link.{Link}
 use Rattle.ch_graph.specs.Graph.{bound_of}
+use Rattle.ch_graph.specs.declared.version.Version.TheVariants.{Two}
 use Rattle.ch_graph.specs.Hierarchy.{Hierarchy, IsRight}
 use Rattle.ch_laws.specs.Contraction.{IsMade, IsOver}
 use Rattle.ch_laws.specs.Theorems.{AlwaysRight, AlwaysWellMade}
@@ -36,7 +37,7 @@ returns-in_default-links_of-clause-left c =
     (λ e. absurd (cc), λ left. absurd (over-leaves_none c.args.ledger.now all left))
 
 module _ (right : AlwaysRight) (well : AlwaysWellMade) (l : Ledger) (o : Overlay) (ranks : List ℕ) (links : List Link) (bound : Cost) (is : IsLedger l) (same : o ≡ l.overlay) (all : IsOver (state_of l.overlay)) where
-  done : AreRanks o ranks → AreLinks o links → bound ≡ bound_of l.graph → IsFinished l (record { ranks = ranks; links = links; bound = bound })
+  done : AreRanks o ranks → AreLinks o links → bound ≡ bound_of l.graph → IsFinished l (record { version = Two; ranks = ranks; links = links; bound = bound })
   done are_ranks are_links bound_is = finished right well l ranks links bound is all (subst (λ (q : Overlay). AreRanks q ranks) same are_ranks) (subst (λ (q : Overlay). AreLinks q links) same are_links) bound_is
 
 pub indexed-requires : goal.indexed-requires

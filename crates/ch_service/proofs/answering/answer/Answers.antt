@@ -1,14 +1,20 @@
 use Rattle.std.proofs.Common.{rules, subst, arith}
 use Rattle.std.proofs.lemmas.Grind.{common_steps}
 use Rattle.ch_graph.specs.Graph.{Graph, IsGraph}
-use Rattle.ch_service.proofs.ByWalks.{answers-told, stops-answered, fault-answering, texts-kinds, fault-answered, no_text_fault, pairs_refused}
+use Rattle.ch_service.specs.Answer.{IsLeastWalk, IsFewestWalk}
+use Rattle.ch_service.proofs.ByWalks.{walk-right, fewest-right, answers-told, stops-answered, fault-answering, texts-kinds, fault-answered, no_text_fault, pairs_refused}
 use Rattle.ch_service.proofs.FromBuild.{built-good}
 use Rattle.ch_service.proofs.TextFaults.{fault-built}
 use Rattle.ch_service.proofs.answering.answer.Goals as goal
 
 pub returns-clause-answers : goal.returns-clause-answers
 returns-clause-answers g c =
-    answers-told c.least_route_is_a_least_walk.ensures c.in-Ok.graph c.in_ok-hierarchy.field-0.hierarchy c.as_slice.result.now _ _ _ _ c.answer_pairs.result (search rules) (search rules)
+    answers-told {Is = IsLeastWalk} (walk-right c.least_route_is_a_least_walk.ensures) c.in-Ok.graph c.in_ok-hierarchy.field-0.hierarchy c.as_slice.result.now _ _ _ _ c.answer_pairs.result (search rules) (search rules)
+    (subst (λ (g : Graph). IsGraph g) c.graph.view_is c.graph.invariant.0) c.in_ok-hierarchy.ensures.right (search rules) c.answer_pairs.ensures.routed
+
+pub returns-clause-fewest : goal.returns-clause-fewest
+returns-clause-fewest g c =
+    answers-told {Is = IsFewestWalk} (fewest-right c.least_route_is_a_least_walk.ensures) c.in-Ok.graph c.in_ok-hierarchy.field-0.hierarchy c.as_slice.result.now _ _ _ _ c.answer_pairs.result (search rules) (search rules)
     (subst (λ (g : Graph). IsGraph g) c.graph.view_is c.graph.invariant.0) c.in_ok-hierarchy.ensures.right (search rules) c.answer_pairs.ensures.routed
 
 pub returns-clause-stops : goal.returns-clause-stops
@@ -56,6 +62,9 @@ returns-clause-untouched c = grind (arith, common_steps) steps 600000
 pub returns-in-Err-clause-answers : goal.returns-in-Err-clause-answers
 returns-in-Err-clause-answers c = grind (arith, common_steps) steps 200000
 
+pub returns-in-Err-clause-fewest : goal.returns-in-Err-clause-fewest
+returns-in-Err-clause-fewest c = grind (arith, common_steps) steps 200000
+
 pub returns-in-Err-clause-fault : goal.returns-in-Err-clause-fault
 returns-in-Err-clause-fault c = grind (arith, common_steps) steps 600000
 
@@ -76,6 +85,9 @@ returns-in-Err-clause-untouched c = grind (arith, common_steps) steps 200000
 
 pub returns-in-Err-read_queries-clause-answers : goal.returns-in-Err-read_queries-clause-answers
 returns-in-Err-read_queries-clause-answers c = grind (arith, common_steps) steps 200000
+
+pub returns-in-Err-read_queries-clause-fewest : goal.returns-in-Err-read_queries-clause-fewest
+returns-in-Err-read_queries-clause-fewest c = grind (arith, common_steps) steps 200000
 
 pub returns-in-Err-read_queries-clause-good : goal.returns-in-Err-read_queries-clause-good
 returns-in-Err-read_queries-clause-good c = grind (arith, common_steps) steps 200000

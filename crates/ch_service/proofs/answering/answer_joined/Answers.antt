@@ -26,6 +26,9 @@ returns-clause-fault g c = fault_in_joined _ c.in_ok-text.text.items c.parts.res
 pub returns-clause-answers : goal.returns-clause-answers
 returns-clause-answers c = grind (arith, common_steps) steps 600000
 
+pub returns-clause-fewest : goal.returns-clause-fewest
+returns-clause-fewest c = grind (arith, common_steps) steps 600000
+
 pub returns-clause-kinds : goal.returns-clause-kinds
 returns-clause-kinds c = grind (arith, common_steps) steps 200000
 

@@ -1,7 +1,8 @@
 use Rattle.std.proofs.Common.{rules, arith}
 use Rattle.std.proofs.lemmas.Grind.{common_steps}
+use Rattle.ch_service.specs.Answer.{IsLeastWalk, IsFewestWalk}
 use Rattle.ch_service.proofs.ByWalks.{routes-told, stops-told, fault-told, fault-routed, no_text_fault, routing-kinds}
-use Rattle.ch_service.proofs.Exact.{exact-told, never_long-told}
+use Rattle.ch_service.proofs.Exact.{prepared-told, never_long-told}
 use Rattle.ch_service.proofs.TextFaults.{pairs-fault}
 use Rattle.ch_service.proofs.routing.route.Goals as goal
 
@@ -18,7 +19,12 @@ returns-clause-routes g c =
 
 pub returns-clause-exact : goal.returns-clause-exact
 returns-clause-exact g c =
-    exact-told c.routes_are_exact.ensures c.in_ok-hierarchy.hierarchy c.as_slice.result.now _ _ _ _ c.answer_pairs.result (search rules) (search rules)
+    prepared-told {Is = IsLeastWalk} c.routes_are_exact.ensures.exact c.in_ok-hierarchy.hierarchy c.as_slice.result.now _ _ _ _ c.answer_pairs.result (search rules) (search rules)
+    c.answer_pairs.ensures.routed
+
+pub returns-clause-fewest : goal.returns-clause-fewest
+returns-clause-fewest g c =
+    prepared-told {Is = IsFewestWalk} c.routes_are_exact.ensures.fewest c.in_ok-hierarchy.hierarchy c.as_slice.result.now _ _ _ _ c.answer_pairs.result (search rules) (search rules)
     c.answer_pairs.ensures.routed
 
 pub returns-clause-never_long : goal.returns-clause-never_long

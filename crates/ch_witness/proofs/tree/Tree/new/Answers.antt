@@ -33,7 +33,7 @@ returns-clause-start g c = λ k h other.
     let gone = c.in_ok-go_on_from.ensures.gone in (
       gone.0,
       kept_still (kept_of c.go_on_from.new.rows) (kept_of c.grow.new.rows) gone.0 c.in_ok-grow.ensures.more gone.1,
-      start_seen c.args.rule _ ZERO-is gone.0 _ _ (labels_of c.start.new.self) _ _ c.in_ok-start.ensures (subst (λ (ss : List Step). IsLater ss c.go_on_from.new.self.steps.items (labels_of c.start.new.self) (labels_of c.go_on_from.new.self.frontier)) c.in_ok-steps.ensures.items c.in_ok-go_on_from.ensures.later) (subst (λ (ss : List Step). IsGoneOn c.args.rule (record { node = c.args.rule.from; cost = record { weight = 0 }; before = None }) gone.0 ss c.go_on_from.new.self.steps.items (labels_of c.start.new.self) (labels_of c.go_on_from.new.self.frontier)) c.in_ok-steps.ensures.items gone.2) c.in_ok-grow.ensures.later,
+      start_seen c.args.rule _ ZERO-is gone.0 _ _ (labels_of c.start.new.self) _ _ c.in_ok-start.ensures (subst (λ (ss : List Step). IsLater ss c.go_on_from.new.self.steps.items (labels_of c.start.new.self) (labels_of c.go_on_from.new.self.frontier)) c.in_ok-steps.ensures.items c.in_ok-go_on_from.ensures.later) (subst (λ (ss : List Step). IsGoneOn c.args.rule (record { node = c.args.rule.from; cost = record { weight = 0; arcs = 0 }; before = None }) gone.0 ss c.go_on_from.new.self.steps.items (labels_of c.start.new.self) (labels_of c.go_on_from.new.self.frontier)) c.in_ok-steps.ensures.items gone.2) c.in_ok-grow.ensures.later,
     )
 
 pub returns-clause-stays : goal.returns-clause-stays
