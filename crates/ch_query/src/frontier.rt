@@ -17,7 +17,7 @@ use std::marker::Model;
 /// The marks of one side of a query, one for each rank, and which open node has the least label.
 ///
 /// The marks are made once. The costs of the labels stand beside them, in half their memory, so that a climb to a node is
-/// compared with what is known of it by 4 bytes; only where these keep no cost the mark itself is read. The queue may
+/// compared with what is known of it by 8 bytes; only where these keep no cost the mark itself is read. The queue may
 /// hold older, dearer entries of a node; they are passed over when they come up. The list of touched ranks tells which
 /// marks to take back before the next query.
 #[derive(Drop)]

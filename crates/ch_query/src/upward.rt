@@ -24,7 +24,7 @@ pub struct Step {
 ///
 /// Those from one node lie together, and so do those from the nodes of high rank, where all queries come by. The
 /// links lie apart, since a query reads those of the steps of its walk alone, and of the steps whose cost doesn't fit.
-/// It holds 8 bytes a node and 16 a link that climbs.
+/// It holds 8 bytes a node and 20 a link that climbs.
 #[derive(Drop)]
 pub struct UpwardSteps {
     /// For each rank the place of the first step from the node of that rank, and then the number of steps.
@@ -38,7 +38,7 @@ pub struct UpwardSteps {
 impl UpwardSteps {
     /// Room for the steps of a side over the links that are counted, and none of them put in.
     ///
-    /// The counts become the places of the ranks. Takes 16 bytes a link that climbs.
+    /// The counts become the places of the ranks. Takes 20 bytes a link that climbs.
     pub fn with_room(
         alloc: Global,
         hierarchy: &Hierarchy,
