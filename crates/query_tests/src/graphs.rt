@@ -1,5 +1,6 @@
 ghost use Rattle.std.specs.Prelude.{◌≡◌, IfOk};
 
+use crate::costs::{Numbers, cost_of};
 use ch_cost::Cost;
 use ch_graph::{Graph, GraphError, Road};
 use std::alloc::{AllocError, Global};
@@ -25,6 +26,9 @@ const AROUND: [(u32, u32, u32); 6] = [
     (3, 0, 1),
 ];
 
+/// Walks of length 5 from 0 to 3: the arc by itself, and longer ones over arcs of weight 0.
+const TIED: [(u32, u32, u32); 5] = [(0, 1, 0), (1, 2, 0), (2, 3, 5), (0, 3, 5), (0, 2, 0)];
+
 /// Arcs of the greatest weight.
 const HEAVIEST: [(u32, u32, u32); 4] = [(2, 0, HEAVY), (0, 1, HEAVY), (1, 0, HEAVY), (0, 3, HEAVY)];
 
@@ -49,38 +53,38 @@ fn graph_of(alloc: Global, nodes: u32, arcs: &[(u32, u32, u32)]) -> Result<Graph
     Ok(graph)
 }
 
-/// Two nodes, and the least length between them, if there is a walk.
-type Least = (u32, u32, Option<u64>);
+/// Two nodes, and the least cost between them, if there is a walk.
+type Least = (u32, u32, Option<Numbers>);
 
-/// Whether this is the least length between two nodes.
-fn is_least(graph: &Graph, (source, target, length): Least) -> Result<bool, AllocError> {
+/// Whether this is the least cost between two nodes.
+fn is_least(graph: &Graph, (source, target, cost): Least) -> Result<bool, AllocError> {
     if source >= graph.nodes() || target >= graph.nodes() {
         return Ok(false);
     }
     let least = graph.least(source, target)?;
-    Ok(least.map(Cost::length) == length)
+    Ok(least == cost.map(cost_of))
 }
 
-/// Whether a graph has this bound and these least lengths.
-fn answers(graph: &Graph, bound: u64, lengths: &[Least]) -> Result<bool, Fail> {
-    let mut holds = graph.bound().length() == bound;
-    for length in lengths {
-        holds &= is_least(graph, *length)?;
+/// Whether a graph has this bound and these least costs.
+fn answers(graph: &Graph, bound: Numbers, costs: &[Least]) -> Result<bool, Fail> {
+    let mut holds = graph.bound() == cost_of(bound);
+    for cost in costs {
+        holds &= is_least(graph, *cost)?;
     }
     Ok(holds)
 }
 
-/// Nodes, arcs, a bound and least lengths.
-type Case = (u32, &'static [(u32, u32, u32)], u64, &'static [Least]);
+/// Nodes, arcs, a bound and least costs.
+type Case = (u32, &'static [(u32, u32, u32)], Numbers, &'static [Least]);
 
-/// Whether the graph of a case has its bound and its least lengths.
-fn holds_so(alloc: Global, (nodes, arcs, bound, lengths): Case) -> Result<bool, Fail> {
+/// Whether the graph of a case has its bound and its least costs.
+fn holds_so(alloc: Global, (nodes, arcs, bound, costs): Case) -> Result<bool, Fail> {
     let graph = graph_of(alloc, nodes, arcs)?;
-    answers(&graph, bound, lengths)
+    answers(&graph, bound, costs)
 }
 
 /// What arcs of these weights cost together.
-fn cost_of(rt: &impl Abort, weights: &[u32]) -> Cost {
+fn sum_of(rt: &impl Abort, weights: &[u32]) -> Cost {
     let limit = Cost::of_arcs(4, HEAVY);
     let mut cost = Cost::ZERO;
     for weight in weights {
@@ -94,7 +98,7 @@ fn cost_of(rt: &impl Abort, weights: &[u32]) -> Cost {
 /// Tells lists of nodes from walks, each given with the weights that cost as much and whether it is a walk.
 fn check_walks(rt: &impl Abort, graph: &Graph, walks: &[(&[u32], &[u32], bool)]) {
     for (nodes, weights, expected) in walks {
-        let is_walk = graph.is_walk(nodes, cost_of(rt, weights));
+        let is_walk = graph.is_walk(nodes, sum_of(rt, weights));
         assert!(rt; is_walk == *expected);
     }
 }
@@ -124,11 +128,10 @@ fn keeps_what_it_is_made_of(rt: HostRuntime) -> Result<(), Fail> {
 
 #[test]
 fn refuses_arcs_that_are_not_allowed(rt: HostRuntime) -> Result<(), Fail> {
-    let cases: [(u32, &[(u32, u32, u32)], GraphError); 4] = [
+    let cases: [(u32, &[(u32, u32, u32)], GraphError); 3] = [
         (33554433, &[], GraphError::TooManyNodes),
         (2, &[(2, 0, 1)], GraphError::BadArc(0)),
         (2, &[(0, 1, 1), (0, 2, 1), (5, 0, 1)], GraphError::BadArc(1)),
-        (2, &[(0, 1, 1), (0, 1, 0)], GraphError::BadArc(1)),
     ];
     for (nodes, arcs, error) in cases {
         let roads = roads_of(rt.alloc(), arcs)?;
@@ -139,34 +142,59 @@ fn refuses_arcs_that_are_not_allowed(rt: HostRuntime) -> Result<(), Fail> {
 }
 
 #[test]
-fn answers_least_lengths(rt: HostRuntime) -> Result<(), Fail> {
-    let cases: [Case; 6] = [
+fn answers_least_costs(rt: HostRuntime) -> Result<(), Fail> {
+    let cases: [Case; 8] = [
         (
             3,
             &ROW,
-            6,
-            &[(1, 2, Some(5)), (2, 1, None), (1, 1, Some(0))],
+            (6, 2),
+            &[(1, 2, Some((5, 2))), (2, 1, None), (1, 1, Some((0, 0)))],
         ),
         (
             2,
             &PARALLEL,
-            12,
-            &[(0, 1, Some(4)), (0, 0, Some(0)), (1, 0, None)],
+            (12, 1),
+            &[(0, 1, Some((4, 1))), (0, 0, Some((0, 0))), (1, 0, None)],
         ),
         (
             4,
             &AROUND,
-            30,
-            &[(0, 3, Some(7)), (0, 1, Some(2)), (2, 0, Some(7))],
+            (30, 3),
+            &[
+                (0, 3, Some((7, 3))),
+                (0, 1, Some((2, 2))),
+                (2, 0, Some((7, 3))),
+            ],
+        ),
+        (
+            4,
+            &TIED,
+            (15, 3),
+            &[
+                (0, 3, Some((5, 1))),
+                (0, 2, Some((0, 1))),
+                (1, 3, Some((5, 2))),
+            ],
+        ),
+        (
+            2,
+            &[(0, 1, 0), (1, 0, 0)],
+            (0, 1),
+            &[(0, 1, Some((0, 1))), (0, 0, Some((0, 0)))],
         ),
         (
             4,
             &HEAVIEST,
-            12884901885,
-            &[(2, 3, Some(8589934590)), (3, 2, None)],
+            (12884901885, 3),
+            &[(2, 3, Some((8589934590, 2))), (3, 2, None)],
         ),
-        (2, &[(0, 1, HEAVY)], 4294967295, &[(0, 1, Some(4294967295))]),
-        (1, &[], 0, &[(0, 0, Some(0))]),
+        (
+            2,
+            &[(0, 1, HEAVY)],
+            (4294967295, 1),
+            &[(0, 1, Some((4294967295, 1)))],
+        ),
+        (1, &[], (0, 0), &[(0, 0, Some((0, 0)))]),
     ];
     for case in cases {
         assert!(rt; holds_so(rt.alloc(), case)?);
@@ -184,6 +212,8 @@ fn tells_walks(rt: HostRuntime) -> Result<(), Fail> {
             (&[1, 0, 2], &[2, 3], true),
             (&[1, 0, 2], &[2, 2], false),
             (&[1, 0, 2], &[3, 3], false),
+            (&[1, 0, 2], &[5], false),
+            (&[1, 0, 2], &[2, 3, 0], false),
             (&[1, 2], &[2, 3], false),
             (&[2, 0, 1], &[2, 3], false),
             (&[1, 0, 3], &[2, 3], false),

@@ -29,7 +29,7 @@ fn least(rt: HostRuntime) -> Result<(), Fail> {
         Ok(found) => found,
         Err(AllocError) => graph.least(2, 1)?,
     };
-    assert!(rt; there.map(Cost::length) == Some(5) && back.is_none());
+    assert!(rt; there == Some(Cost::of_walk(5, 2)) && back.is_none());
     Ok(())
 }
 

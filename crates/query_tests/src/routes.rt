@@ -1,55 +1,37 @@
-use crate::checked::{is_route, is_too_long, route};
-use ch_cost::Cost;
-use ch_graph::{Hierarchy, Link};
+use crate::checked::{BY_WAY_OF_0, ROW, hierarchy_of, is_route, is_too_long, route};
+use ch_graph::Hierarchy;
 use ch_unpack::{UnpackError, unpack};
 use std::alloc::Global;
 use std::test::Fail;
 
-fn link(from: u32, to: u32, length: u64, middle: Option<u32>) -> Link {
-    Link {
-        from,
-        to,
-        cost: Cost::of_length(length),
-        middle,
-    }
-}
-
 /// Two nodes with a link each way.
 fn two_nodes(alloc: Global) -> Result<Hierarchy, Fail> {
-    let ranks = vec![in alloc; 0u32, 1]?;
-    let links = vec![in alloc; link(0, 1, 7, None), link(1, 0, 7, None)]?;
-    let hierarchy = Hierarchy::checked(alloc, ranks, links, Cost::of_length(7))?;
-    Ok(hierarchy)
+    let links = [(0, 1, (7, 1), None), (1, 0, (7, 1), None)];
+    hierarchy_of(alloc, &[0, 1], &links, (7, 1))
 }
 
 /// Three nodes and a link from 1 to 2 by way of 0; with an index, the places of its halves are kept.
 fn three_nodes(alloc: Global, is_indexed: bool) -> Result<Hierarchy, Fail> {
-    let ranks = vec![in alloc; 0u32, 1, 2]?;
-    let links = vec![in alloc;
-        link(0, 2, 3, None),
-        link(1, 0, 2, None),
-        link(1, 2, 5, Some(0)),
-    ]?;
-    let hierarchy = Hierarchy::checked(alloc, ranks, links, Cost::of_length(6))?;
+    let hierarchy = hierarchy_of(alloc, &[0, 1, 2], &ROW, (6, 2))?;
     if is_indexed {
         return Ok(hierarchy.into_indexed(alloc)?);
     }
     Ok(hierarchy)
 }
 
-/// The nodes of the route along the link from one node to another and the link back, or none where one isn't there.
-fn route_and_back(
+/// The nodes of the route along the link from one node to another and the link that goes on from there, or none where one
+/// isn't there.
+fn route_over(
     alloc: Global,
     hierarchy: &Hierarchy,
-    from: u32,
-    to: u32,
+    (from, over, to): (u32, u32, u32),
 ) -> Option<Result<Vec<u32>, UnpackError>> {
     if from >= hierarchy.nodes() {
         return None;
     }
-    let there = hierarchy.find(from, to)?;
-    let back = hierarchy.find(to, from)?;
-    Some(unpack(alloc, hierarchy, from, &[there, back]))
+    let there = hierarchy.find(from, over)?;
+    let on = hierarchy.find(over, to)?;
+    Some(unpack(alloc, hierarchy, from, &[there, on]))
 }
 
 /// Whether the routes of no link and of one are unpacked, and the route there and back is too long.
@@ -59,7 +41,7 @@ fn unpacks_one_way(alloc: Global, hierarchy: &Hierarchy) -> bool {
     }
     is_route(Some(unpack(alloc, hierarchy, 1, &[])), &[1])
         & is_route(route(alloc, hierarchy, 0, 1), &[0, 1])
-        & is_too_long(route_and_back(alloc, hierarchy, 0, 1))
+        & is_too_long(route_over(alloc, hierarchy, (0, 1, 0)))
 }
 
 #[test]
@@ -75,5 +57,14 @@ fn by_way_of_a_middle(rt: HostRuntime) -> Result<(), Fail> {
         let hierarchy = three_nodes(rt.alloc(), is_indexed)?;
         assert!(rt; is_route(route(rt.alloc(), &hierarchy, 1, 2), &[1, 0, 2]));
     }
+    Ok(())
+}
+
+/// The only rise-fall walk from 1 to 3 goes over 0 twice, so it has as many arcs as there are nodes.
+#[test]
+fn twice_by_way_of_a_middle(rt: HostRuntime) -> Result<(), Fail> {
+    let hierarchy = hierarchy_of(rt.alloc(), &[0, 1, 2, 3], &BY_WAY_OF_0, (4, 3))?;
+    assert!(rt; is_route(route(rt.alloc(), &hierarchy, 1, 2), &[1, 0, 2]));
+    assert!(rt; is_too_long(route_over(rt.alloc(), &hierarchy, (1, 2, 3))));
     Ok(())
 }

@@ -1,50 +1,43 @@
 ghost use Rattle.std.specs.Prelude.{◌≡◌, length, IfOk};
 
-use ch_cost::Cost;
-use ch_graph::{Hierarchy, Link, LinkId};
+use crate::checked::{BY_WAY_OF_0, Given, hierarchy_of};
+use crate::costs::{Numbers, cost_of};
+use ch_graph::{Hierarchy, LinkId};
 use ch_query::{Found, Search};
 use std::alloc::{AllocError, Global};
 use std::test::Fail;
 
-/// The hierarchy of nodes of these ranks and of these arcs, each given by its ends and its weight.
-fn hierarchy_of(
-    alloc: Global,
-    ranks: &[u32],
-    arcs: &[(u32, u32, u32)],
-    bound: Cost,
-) -> Result<Hierarchy, Fail>
-    ensures { IfOk result (λ h. h.ranks ≡ ranks.now) }
-{
-    let mut links = Vec::new(alloc);
-    for (from, to, weight) in arcs {
-        links.push(Link {
-            from: *from,
-            to: *to,
-            cost: Cost::of_weight(*weight),
-            middle: None,
-        })?;
-    }
-    let ranks = Vec::from_slice(alloc, ranks)?;
-    let hierarchy = Hierarchy::checked(alloc, ranks, links, bound)?;
-    Ok(hierarchy)
-}
-
 /// Four nodes, ranked in their order. The walk from 0 to 1 over 3 costs 6, and that over 2, where the sides meet
 /// first, costs 8.
-const TWO_TOPS: [(u32, u32, u32); 4] = [(0, 2, 4), (0, 3, 5), (2, 1, 4), (3, 1, 1)];
+const TWO_TOPS: [Given; 4] = [
+    (0, 2, (4, 1), None),
+    (0, 3, (5, 1), None),
+    (2, 1, (4, 1), None),
+    (3, 1, (1, 1), None),
+];
 
 fn two_tops(alloc: Global) -> Result<Hierarchy, Fail>
     ensures { IfOk result (λ h. length h.ranks ≡ 4) }
 {
-    hierarchy_of(alloc, &[0, 1, 2, 3], &TWO_TOPS, Cost::of_arcs(3, 5))
+    hierarchy_of(alloc, &[0, 1, 2, 3], &TWO_TOPS, (15, 3))
 }
 
 /// What a walk between two of these nodes costs at least, found by hand.
-const LENGTHS: [[Option<u64>; 4]; 4] = [
-    [Some(0), Some(6), Some(4), Some(5)],
-    [None, Some(0), None, None],
-    [None, Some(4), Some(0), None],
-    [None, Some(1), None, Some(0)],
+const COSTS: [[Option<Numbers>; 4]; 4] = [
+    [Some((0, 0)), Some((6, 2)), Some((4, 1)), Some((5, 1))],
+    [None, Some((0, 0)), None, None],
+    [None, Some((4, 1)), Some((0, 0)), None],
+    [None, Some((1, 1)), None, Some((0, 0))],
+];
+
+/// Two rise-fall walks from 0 to 1 of length 4: over 2, where the sides meet first, of three arcs, and over 3 of two.
+const TIED: [Given; 6] = [
+    (0, 2, (1, 1), None),
+    (0, 3, (4, 1), None),
+    (2, 1, (3, 2), Some(4)),
+    (2, 4, (3, 1), None),
+    (3, 1, (0, 1), None),
+    (4, 1, (0, 1), None),
 ];
 
 /// Makes a search of a hierarchy and lets it go.
@@ -55,14 +48,14 @@ fn make_search(alloc: Global, hierarchy: &Hierarchy) -> Result<(), Fail> {
 
 #[test]
 fn no_node(rt: HostRuntime) -> Result<(), Fail> {
-    let hierarchy = hierarchy_of(rt.alloc(), &[], &[], Cost::ZERO)?;
+    let hierarchy = hierarchy_of(rt.alloc(), &[], &[], (0, 0))?;
     make_search(rt.alloc(), &hierarchy)?;
     assert!(rt; hierarchy.nodes() == 0);
     Ok(())
 }
 
-/// Two nodes, and the length and the links of the walk that is found between them, or none.
-type Question = (u32, u32, Option<(u64, &'static [LinkId])>);
+/// Two nodes, and the cost and the links of the walk that is found between them, or none.
+type Question = (u32, u32, Option<(Numbers, &'static [LinkId])>);
 
 /// Whether a search of a hierarchy of so many nodes gives this answer.
 fn answers(search: &mut Search, nodes: u32, question: Question) -> Result<bool, AllocError>
@@ -100,57 +93,82 @@ fn are_answered(
     Ok(holds)
 }
 
-/// Whether a walk is of this length and these links, or there is neither.
-fn is_found(found: Option<Found>, expected: Option<(u64, &[LinkId])>) -> bool {
+/// Whether a walk has this cost and these links, or there is neither.
+fn is_found(found: Option<Found>, expected: Option<(Numbers, &[LinkId])>) -> bool {
     match (found, expected) {
-        (Some(walk), Some((length, links))) => {
-            walk.cost.length() == length && walk.links.as_slice() == links
+        (Some(walk), Some((cost, links))) => {
+            walk.cost == cost_of(cost) && walk.links.as_slice() == links
         }
         (found, expected) => found.is_none() && expected.is_none(),
     }
 }
 
-/// Ranks, arcs, what so many arcs of a weight cost at most, and what is asked.
+/// Ranks, links, a bound and what is asked.
 type Case = (
     &'static [u32],
-    &'static [(u32, u32, u32)],
-    (u32, u32),
+    &'static [Given],
+    Numbers,
     &'static [Question],
 );
 
-const CASES: [Case; 4] = [
+const CASES: [Case; 8] = [
     // A node and itself.
-    (&[0], &[], (0, 0), &[(0, 0, Some((0, &[])))]),
+    (&[0], &[], (0, 0), &[(0, 0, Some(((0, 0), &[])))]),
     // One arc, with and against it.
     (
         &[0, 1],
-        &[(0, 1, 7)],
-        (1, 7),
+        &[(0, 1, (7, 1), None)],
+        (7, 1),
         &[
-            (0, 1, Some((7, &[LinkId(0)]))),
+            (0, 1, Some(((7, 1), &[LinkId(0)]))),
             (1, 0, None),
-            (0, 0, Some((0, &[]))),
+            (0, 0, Some(((0, 0), &[]))),
         ],
     ),
     // The heaviest arc.
     (
         &[0, 1],
-        &[(0, 1, u32::MAX)],
-        (1, u32::MAX),
-        &[(0, 1, Some((4_294_967_295, &[LinkId(0)])))],
+        &[(0, 1, (4_294_967_295, 1), None)],
+        (4_294_967_295, 1),
+        &[(0, 1, Some(((4_294_967_295, 1), &[LinkId(0)])))],
+    ),
+    // Arcs of weight 0, which count all the same.
+    (
+        &[0, 1],
+        &[(0, 1, (0, 1), None), (1, 0, (0, 1), None)],
+        (0, 1),
+        &[
+            (0, 1, Some(((0, 1), &[LinkId(0)]))),
+            (1, 1, Some(((0, 0), &[]))),
+        ],
     ),
     // A search goes on after the first meeting.
     (
         &[0, 1, 2, 3],
         &TWO_TOPS,
-        (3, 5),
-        &[(0, 1, Some((6, &[LinkId(1), LinkId(3)])))],
+        (15, 3),
+        &[(0, 1, Some(((6, 2), &[LinkId(1), LinkId(3)])))],
     ),
+    // Of walks of one length that of fewest arcs is found.
+    (
+        &[1, 2, 3, 4, 0],
+        &TIED,
+        (16, 4),
+        &[(0, 1, Some(((4, 2), &[LinkId(1), LinkId(4)])))],
+    ),
+    // The limit is that of the length alone.
+    (
+        &[0, 1, 2, 3],
+        &BY_WAY_OF_0,
+        (4, 3),
+        &[(1, 3, Some(((4, 4), &[LinkId(3), LinkId(5)])))],
+    ),
+    (&[0, 1, 2, 3], &BY_WAY_OF_0, (3, 3), &[(1, 3, None)]),
 ];
 
 /// Whether searches of the hierarchy of a case give its answers.
-fn holds_so(alloc: Global, (ranks, arcs, (count, weight), questions): Case) -> Result<bool, Fail> {
-    let hierarchy = hierarchy_of(alloc, ranks, arcs, Cost::of_arcs(count, weight))?;
+fn holds_so(alloc: Global, (ranks, links, bound, questions): Case) -> Result<bool, Fail> {
+    let hierarchy = hierarchy_of(alloc, ranks, links, bound)?;
     are_answered(alloc, &hierarchy, questions)
 }
 
@@ -162,7 +180,7 @@ fn least_walks(rt: HostRuntime) -> Result<(), Fail> {
     Ok(())
 }
 
-/// Whether a thousand calls of a search give the lengths that were found by hand.
+/// Whether a thousand calls of a search give the costs that were found by hand.
 fn answers_a_thousand(search: &mut Search) -> Result<bool, Fail>
     requires { length search.old.ranks ≡ 4 }
 {
@@ -171,8 +189,8 @@ fn answers_a_thousand(search: &mut Search) -> Result<bool, Fail>
         let source = (call / 4) % 4;
         let target = call % 4;
         let found = search.distance(source, target)?;
-        let length = found.map(|walk| walk.cost.length());
-        holds &= length == LENGTHS[source as usize][target as usize];
+        let cost = found.map(|walk| walk.cost);
+        holds &= cost == COSTS[source as usize][target as usize].map(cost_of);
     }
     Ok(holds)
 }

@@ -14,13 +14,13 @@ use std::test::Fail;
 
 /// The opening rows of three nodes: 1 leads to 0, and 0 to 2.
 const ROWS: [(Entries<'static>, Entries<'static>); 3] = [
-    (&[(2, 3)], &[(1, 2)]),
-    (&[(0, 2)], &[]),
-    (&[], &[(0, 3)]),
+    (&[(2, (3, 1))], &[(1, (2, 1))]),
+    (&[(0, (2, 1))], &[]),
+    (&[], &[(0, (3, 1))]),
 ];
 
 /// The row of node 1 once node 0 is contracted.
-const LATER: Entries<'static> = &[(2, 5)];
+const LATER: Entries<'static> = &[(2, (5, 2))];
 
 /// Whether an answer is of this node and has these entries.
 fn shows(seen: &Seen, node: u32, out: Entries<'_>, inn: Entries<'_>) -> bool {

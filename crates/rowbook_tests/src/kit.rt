@@ -10,8 +10,11 @@ use ch_overlay::{Entry, Middle, Row};
 use std::alloc::{AllocError, Global};
 use std::sync::Arc;
 
-/// Entries of a row: the other node and the weight of each.
-pub type Entries<'a> = &'a [(u32, u32)];
+/// An entry of a row as a test gives it: the other node, and the length and the arcs that it costs.
+pub type Given = (u32, (u64, u64));
+
+/// Entries of a row.
+pub type Entries<'a> = &'a [Given];
 
 /// The bound of every book here: that of the largest graph.
 pub fn bound() -> Cost
@@ -22,10 +25,10 @@ pub fn bound() -> Cost
 
 fn entries(alloc: Global, all: Entries<'_>) -> Result<Vec<Entry>, AllocError> {
     let mut list = Vec::new(alloc);
-    for (other, weight) in all {
+    for (other, (length, arcs)) in all {
         list.push(Entry {
             other: *other,
-            cost: Cost::of_weight(*weight),
+            cost: Cost::of_walk(*length, *arcs),
             middle: Middle::NONE,
         })?;
     }
@@ -111,7 +114,7 @@ pub fn are_sound(rows: &[Arc<Row>], bound: Cost) -> bool
 /// Whether the entries are these.
 pub fn are(entries: &[Entry], expected: Entries<'_>) -> bool {
     entries.len() == expected.len()
-        && entries.iter().zip(expected).all(|(entry, (other, weight))| {
-            (entry.other == *other) & (entry.cost == Cost::of_weight(*weight))
+        && entries.iter().zip(expected).all(|(entry, (other, (length, arcs)))| {
+            (entry.other == *other) & (entry.cost == Cost::of_walk(*length, *arcs))
         })
 }

@@ -2,7 +2,7 @@ ghost use Rattle.std.specs.Prelude.{◌≡◌};
 ghost use Rattle.ch_overlay.specs.Source.{IsBound};
 ghost use Rattle.ch_rowbook.specs.Blanks.{name_of};
 
-use crate::kit::{are, are_sound, bound, is_sound, row};
+use crate::kit::{Given, are, are_sound, bound, is_sound, row};
 use ch_cost::Cost;
 use ch_overlay::{Row, SeeError, Seen};
 use ch_rowbook::{Blank, Book, BookError, Pen, Reader, open};
@@ -49,9 +49,14 @@ fn next(node: u32) -> u32 {
     if node < NODES - 1 { node + 1 } else { 0 }
 }
 
+/// The one entry of the row of a node. Its arcs change with its weight, and are another number.
+fn entry(node: u32, weight: u32) -> Given {
+    (next(node), (u64::from(weight), u64::from(1 + weight % 7)))
+}
+
 /// The row of a node, with one entry.
 fn weighted(alloc: Global, node: u32, weight: u32) -> Result<Arc<Row>, AllocError> {
-    row(alloc, &[(next(node), weight)], &[])
+    row(alloc, &[entry(node, weight)], &[])
 }
 
 /// Waits until both readers have begun.
@@ -148,7 +153,7 @@ fn was_written(log: &[Written], read: &Seen) -> bool {
         return false;
     };
     let Written { node, weight, .. } = log[place];
-    (read.node == node) & are(&read.row.out, &[(next(node), weight)]) & read.row.inn.is_empty()
+    (read.node == node) & are(&read.row.out, &[entry(node, weight)]) & read.row.inn.is_empty()
 }
 
 /// Whether all that was read was written.

@@ -9,7 +9,7 @@ ghost use Rattle.ch_overlay.specs.Source.{IsBound};
 ghost use Rattle.ch_overlay.specs.Records.{AreSoundRows, IsSoundRow};
 ghost use Rattle.ch_rowbook.specs.Blanks.{name_of};
 
-use crate::kit::{are, are_sound, bound, is_sound, row};
+use crate::kit::{Given, are, are_sound, bound, is_sound, row};
 use ch_cost::Cost;
 use ch_overlay::{Row, SeeError, Seen};
 use ch_rowbook::{Blank, Book, BookError, Pen, Reader, open};
@@ -22,7 +22,7 @@ use std::test::Fail;
 fn later(alloc: Global, limit: Cost) -> Result<Arc<Row>, Fail>
     ensures { IfOk result (λ row. IsSoundRow limit 1 (arc_value row)) }
 {
-    let row = row(alloc, &[(2, 5)], &[])?;
+    let row = row(alloc, &[(2, (5, 2))], &[])?;
     if !is_sound(1, &row, limit) {
         return Err(Fail::new("the row can be relied on"));
     }
@@ -130,7 +130,7 @@ fn is_found<B: Book, R: Wait>(
     'rows: for _ in 0..40 {
         last = written(rt, alloc, pen, limit, true)?;
     }
-    Ok((opening < version) & (version < last) & finds(other, last, (2, 5))?)
+    Ok((opening < version) & (version < last) & finds(other, last, (2, (5, 2)))?)
 }
 
 fn split<B: Book>(reader: &mut Reader<B>) -> Result<Reader<B>, AllocError> {
@@ -153,14 +153,14 @@ fn laid_in_vain<B: Book, R: Wait>(
 {
     let opening = read(reader)?.version;
     let version = written(rt, alloc, pen, limit, false)?;
-    if !finds(reader, opening, (0, 2))? {
+    if !finds(reader, opening, (0, (2, 1)))? {
         return Err(Fail::new("a row that isn't shown is read"));
     }
     Ok((opening, version))
 }
 
 /// Whether a reader finds the row of this version, whose one arc is this.
-fn finds<B: Book>(reader: &mut Reader<B>, version: u64, arc: (u32, u32)) -> Result<bool, SeeError> {
+fn finds<B: Book>(reader: &mut Reader<B>, version: u64, arc: Given) -> Result<bool, SeeError> {
     let seen = read(reader)?;
     Ok((seen.version == version) & are(&seen.row.out, &[arc]))
 }
@@ -168,9 +168,9 @@ fn finds<B: Book>(reader: &mut Reader<B>, version: u64, arc: (u32, u32)) -> Resu
 /// The opening rows of three nodes: 1 leads to 0, and 0 to 2.
 fn opening(alloc: Global) -> Result<Vec<Arc<Row>>, AllocError> {
     let rows = vec![in alloc;
-        row(alloc, &[(2, 3)], &[(1, 2)])?,
-        row(alloc, &[(0, 2)], &[])?,
-        row(alloc, &[], &[(0, 3)])?,
+        row(alloc, &[(2, (3, 1))], &[(1, (2, 1))])?,
+        row(alloc, &[(0, (2, 1))], &[])?,
+        row(alloc, &[], &[(0, (3, 1))])?,
     ]?;
     Ok(rows)
 }
