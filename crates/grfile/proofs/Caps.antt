@@ -1,7 +1,7 @@
 -- The lines of a text are read alike from numbers and from numbers with the cap, since each test of a range is
 -- blind to the cap.
 use Rattle.std.proofs.Common.{ℕ, ◌≡◌, ◌≢◌, ◌-◌, ◌^◌, ◌<◌, false, if◌then◌else◌, eqb, ltb, ◌&&◌, List, [], ◌∷◌, length, codes, Option, Some, None, Result, Ok, arith, refl, ap, sym, ◌∙◌, inl, inr}
-use Rattle.std.proofs.lemmas.Bool.{cases_lt, cases_Bool, lt-ltb, le-ltb, ltb-false, ne_eqb, or_parts}
+use Rattle.std.proofs.lemmas.Bool.{cases_lt, cases_Bool, lt-ltb, le-ltb, ltb-false, or_parts}
 use Rattle.std.proofs.lemmas.Bool.Decides.{nat_tests}
 use Rattle.std.specs.Str.{bytes_eq}
 use Rattle.ch_graph.specs.declared.road.Road.{Road}
