@@ -1,26 +1,26 @@
 -- The queue of a side and its list of touched ranks, as entries come and go.
-use Rattle.std.proofs.Common.{ℕ, ◌≡◌, ◌<◌, ◌⊎◌, false, List, [], ◌∷◌, ◌++◌, length, set, replicate, zero, suc, Option, Some, None, refl, sym, subst, ap, ◌∙◌, inl, inr, arith}
+use Rattle.std.proofs.Common.{ℕ, ◌≡◌, ◌<◌, ◌≤◌, ◌⊎◌, false, List, [], ◌∷◌, ◌++◌, length, set, replicate, zero, suc, Option, Some, None, refl, sym, subst, ap, ◌∙◌, inl, inr, arith}
 use Rattle.std.proofs.lemmas.Bool.{cases_eq}
 use Rattle.std.proofs.lemmas.List.{length-set, length-replicate, ext_get_or, get_or-replicate}
 use Rattle.std.proofs.lemmas.List.Elements.{All-nil, All-cons, All-head, All-tail, All-weaker, All-contains, All-pop, All-from_recursion, Contains-push_cases}
 use Rattle.std.proofs.lemmas.List.Sorted.{All-permutation, Contains-permutation}
 use Rattle.std.specs.List.{All, Contains}
 use Rattle.std.specs.List.Sorted.{IsPermutation}
-use Rattle.std.specs.Ordering.{is_lt, ordering_then, nat_cmp}
+use Rattle.std.specs.Ordering.{is_lt, ordering_then, nat_cmp, MatchOrdering}
+use Rattle.std.specs.Cmp.{ranks}
 use Rattle.std.specs.declared.cmp.Ordering.{Ordering}
 use Rattle.std.specs.declared.cmp.Ordering.TheVariants.{Less, Equal, Greater}
 use Rattle.std.specs.BinaryHeap.{IsHeap, IsUpperBound}
 use Rattle.ch_cost.specs.declared.cost.Cost.{Cost}
-use Rattle.ch_cost.specs.Cost.{◌≼◌, compare}
-use Rattle.ch_cost.specs.Cost.Laws.{at_most_refl, at_most_trans, at_most-from_not_less, at_most_trans_below}
-use Rattle.ch_graph.specs.Queue.{Entry, entry, entry_cmp}
+use Rattle.ch_cost.specs.Cost.{◌≼◌, length_of}
+use Rattle.ch_cost.specs.Cost.Laws.{at_most_refl, length_of-at_most}
 use Rattle.ch_query.specs.declared.label.Label.{Label}
 use Rattle.ch_query.specs.declared.mark.Mark.{Mark}
 use Rattle.ch_query.specs.declared.mark.Mark.TheVariants.{Unseen, Open, Settled}
 use Rattle.ch_query.specs.Labels.{HasAtMost}
-use Rattle.ch_query.specs.Marks.{mark_at, option_cost, costs_of, Improves, IsBelow, IsLeastOpen, IsStopped}
-use Rattle.ch_query.specs.Front.{IsEntryOf, IsFront}
-use Rattle.ch_query.proofs.Marking.{limit-given, unseen-at, unseen-open, cases_write, open-settled, open-open, label-open, cost_is, open-kept, open-here, settle-label}
+use Rattle.ch_query.specs.Marks.{mark_at, option_cost, costs_of, Improves, IsUpTo, IsLeastOpen, IsStopped}
+use Rattle.ch_query.specs.Front.{Entry, entry, entry_cmp, IsEntryOf, IsFront}
+use Rattle.ch_query.proofs.Marking.{limit-longer, unseen-at, unseen-open, cases_write, open-settled, open-open, label-open, cost_is, open-kept, open-here, settle-label}
 
 -- Membership
 
@@ -39,34 +39,42 @@ contains_none r xs none_is (k, h, e) = omega (arith, h, none_is)
 
 -- The order of entries
 
-not_less-first : (a b : Ordering) → is_lt (ordering_then a b) ≡ false → is_lt a ≡ false
-not_less-first Less b e = e
-not_less-first Equal b e = refl
-not_less-first Greater b e = refl
+-- the one entry is shorter than the other, or as long and of no higher rank
+pub record IsFirst (x e : Entry) : Type 0 where
+  pub length : x.0.0 ≤ e.0.0
+  pub rank : x.0.0 ≡ e.0.0 → x.0.1 ≤ e.0.1
 
--- the greatest entry of the heap has the least cost
-pub greatest-least : (x : Entry) (xs : List Entry) → IsUpperBound entry_cmp x xs → All (λ e. x.0.0 ≼ e.0.0) xs
-greatest-least x xs top = All-weaker (λ e. is_lt (entry_cmp x e) ≡ false) (λ e. x.0.0 ≼ e.0.0) (λ e h. at_most-from_not_less e.0.0 x.0.0 (not_less-first (compare e.0.0 x.0.0) (nat_cmp e.0.1 x.0.1) h)) xs (All-from_recursion (λ e. is_lt (entry_cmp x e) ≡ false) xs top)
+-- what the two comparisons say, where an entry isn't less
+not_less : (x e : Entry) (first second : Ordering) → MatchOrdering first (e.0.0 < x.0.0) (e.0.0 ≡ x.0.0) (x.0.0 < e.0.0) → MatchOrdering second (e.0.1 < x.0.1) (e.0.1 ≡ x.0.1) (x.0.1 < e.0.1) → is_lt (ordering_then first second) ≡ false → IsFirst x e
+not_less x e Less second h k is = absurd (cc)
+not_less x e Equal Less h k is = absurd (cc)
+not_less x e Equal Equal h k is = record { length = omega (arith, h); rank = λ d. omega (arith, k) }
+not_less x e Equal Greater h k is = record { length = omega (arith, h); rank = λ d. omega (arith, k) }
+not_less x e Greater second h k is = record { length = omega (arith, h); rank = λ d. absurd (omega (arith, h, d)) }
 
--- a cost that is at least another is no more below a limit than that
-not_below : (c d : Cost) (limit : Option Cost) → c ≼ d → IsBelow d limit → IsBelow c limit
-not_below c d None most below = tt
-not_below c d (Some b) most below = at_most_trans_below most below
+-- the greatest entry of the heap comes first
+pub greatest-first : (x : Entry) (xs : List Entry) → IsUpperBound entry_cmp x xs → All (λ e. IsFirst x e) xs
+greatest-first x xs top = All-weaker (λ e. is_lt (entry_cmp x e) ≡ false) (λ e. IsFirst x e) (λ e h. not_less x e (nat_cmp e.0.0 x.0.0) (nat_cmp e.0.1 x.0.1) (ranks e.0.0 x.0.0) (ranks e.0.1 x.0.1) h) xs (All-from_recursion (λ e. is_lt (entry_cmp x e) ≡ false) xs top)
 
--- where the greatest entry isn't below the limit, none is
-pub none_below : (x : Entry) (xs : List Entry) (limit : Option Cost) → IsUpperBound entry_cmp x xs → (IsBelow x.0.0 limit → ⊥) → All (λ (e : Entry). IsBelow e.0.0 limit → ⊥) xs
-none_below x xs limit top never = All-weaker (λ (e : Entry). x.0.0 ≼ e.0.0) (λ (e : Entry). IsBelow e.0.0 limit → ⊥) (λ e most below. never (not_below x.0.0 e.0.0 limit most below)) xs (greatest-least x xs top)
+-- what is no shorter than another is no more up to a limit than that
+up_to-shorter : (m n : ℕ) (limit : Option Cost) → m ≤ n → IsUpTo n limit → IsUpTo m limit
+up_to-shorter m n None most up = tt
+up_to-shorter m n (Some b) most up = omega (arith, most, up)
 
--- where no entry is below the limit, no open node is
-pub front-stopped : (marks : List Mark) (entries : List Entry) (touched : List ℕ) (limit : Option Cost) → IsFront marks entries touched → All (λ (e : Entry). IsBelow e.0.0 limit → ⊥) entries → IsStopped marks limit
+-- where the greatest entry isn't up to the limit, none is
+pub none_up_to : (x : Entry) (xs : List Entry) (limit : Option Cost) → IsUpperBound entry_cmp x xs → (IsUpTo x.0.0 limit → ⊥) → All (λ (e : Entry). IsUpTo e.0.0 limit → ⊥) xs
+none_up_to x xs limit top never = All-weaker (λ (e : Entry). IsFirst x e) (λ (e : Entry). IsUpTo e.0.0 limit → ⊥) (λ e first up. never (up_to-shorter x.0.0 e.0.0 limit first.length up)) xs (greatest-first x xs top)
+
+-- where no entry is up to the limit, no open node is below it
+pub front-stopped : (marks : List Mark) (entries : List Entry) (touched : List ℕ) (limit : Option Cost) → IsFront marks entries touched → All (λ (e : Entry). IsUpTo e.0.0 limit → ⊥) entries → IsStopped marks limit
 front-stopped marks entries touched limit front none r e opens =
-    limit-given e.cost limit (All-contains (λ (x : Entry). IsBelow x.0.0 limit → ⊥) entries (entry e.cost r) none (front.waits r e opens))
+    limit-longer e.cost limit (All-contains (λ (x : Entry). IsUpTo x.0.0 limit → ⊥) entries (entry e.cost r) none (front.waits r e opens))
 
 -- Steps
 
--- an entry's rank keeps a label of at most its cost
+-- an entry's rank keeps a label of at most its length
 entry-more : (old new : List Mark) → length new ≡ length old → ((q : ℕ) (c : Cost) → HasAtMost (costs_of old) q c → HasAtMost (costs_of new) q c) → (x : Entry) → IsEntryOf old x → IsEntryOf new x
-entry-more old new nodes kept x known = (omega (arith, nodes, known.0), kept x.0.1 x.0.0 known.1)
+entry-more old new nodes kept x known = (omega (arith, nodes, known.0), (known.1.0, kept x.0.1 known.1.0 known.1.1, known.1.2))
 
 -- more ranks are in the list
 pub front-touched : (marks : List Mark) (entries : List Entry) (old new : List ℕ) → IsFront marks entries old → ((r : ℕ) → Contains old r → Contains new r) → All (λ r. r < length marks) new → IsFront marks entries new
@@ -104,7 +112,7 @@ module _ (marks : List Mark) (entries new : List Entry) (old_touched touched : L
   front-open = record {
     heap = heap;
     waits = λ q d opens. Contains-permutation (entry e.cost r ∷ entries) new (entry d.cost q) moved (waits q d opens);
-    known = All-permutation (IsEntryOf (set marks r (Open e))) (entry e.cost r ∷ entries) new moved (All-cons (IsEntryOf (set marks r (Open e))) (entry e.cost r) entries (omega (arith, within, nodes), first) (All-weaker (IsEntryOf marks) (IsEntryOf (set marks r (Open e))) stays entries front.known));
+    known = All-permutation (IsEntryOf (set marks r (Open e))) (entry e.cost r ∷ entries) new moved (All-cons (IsEntryOf (set marks r (Open e))) (entry e.cost r) entries (omega (arith, within, nodes), (e.cost, first, omega arith)) (All-weaker (IsEntryOf marks) (IsEntryOf (set marks r (Open e))) stays entries front.known));
     places = All-weaker (λ q. q < length marks) (λ q. q < length (set marks r (Open e))) (λ q low. omega (arith, low, nodes)) touched places;
     others = λ q never. elim (cases_eq q r) [
       | inl same ↦
@@ -130,16 +138,19 @@ front-pass marks entries new touched x front moved heap closed = record {
   others = front.others;
 }
 
+-- what is popped is of a rank in range, with a label
+popped : (marks : List Mark) (entries new : List Entry) (touched : List ℕ) (x : Entry) → IsFront marks entries touched → IsPermutation entries (x ∷ new) → IsEntryOf marks x
+popped marks entries new touched x front moved = All-head (IsEntryOf marks) x new (All-permutation (IsEntryOf marks) entries (x ∷ new) moved front.known)
+
+pub front-in : (marks : List Mark) (entries new : List Entry) (touched : List ℕ) (x : Entry) → IsFront marks entries touched → IsPermutation entries (x ∷ new) → x.0.1 < length marks
+front-in marks entries new touched x front moved = (popped marks entries new touched x front moved).0
+
 -- an open node is taken out of the queue and settled
 module _ (marks : List Mark) (entries new : List Entry) (touched : List ℕ) (x : Entry) (e : Label) (front : IsFront marks entries touched) (moved : IsPermutation entries (x ∷ new)) where
-  -- what is popped is in range
-  pub front-in : x.0.1 < length marks
-  front-in = (All-head (IsEntryOf marks) x new (All-permutation (IsEntryOf marks) entries (x ∷ new) moved front.known)).0
-
   pub front-settle : IsHeap entry_cmp new → mark_at marks x.0.1 ≡ Open e → IsFront (set marks x.0.1 (Settled e)) new touched
   front-settle heap opens = record {
     heap = heap;
-    waits = λ r d is. elim (cases_write marks x.0.1 (Settled e) r front-in) [
+    waits = λ r d is. elim (cases_write marks x.0.1 (Settled e) r (front-in marks entries new touched x front moved)) [
       | inl w ↦ absurd (open-settled (sym is ∙ w.reads))
       | inr k ↦ elim (contains_cases x (entry d.cost r) new (Contains-permutation entries (x ∷ new) (entry d.cost r) moved (front.waits r d (sym k.reads ∙ is)))) [
         | inl this ↦ absurd (k.other (ap (λ (y : Entry). y.0.1) (sym this)))
@@ -148,7 +159,7 @@ module _ (marks : List Mark) (entries new : List Entry) (touched : List ℕ) (x 
     ];
     known = All-weaker (IsEntryOf marks) (IsEntryOf (set marks x.0.1 (Settled e))) (λ y known. entry-more marks (set marks x.0.1 (Settled e)) (length-set marks x.0.1 (Settled e)) same y known) new (All-tail (IsEntryOf marks) x new (All-permutation (IsEntryOf marks) entries (x ∷ new) moved front.known));
     places = All-weaker (λ q. q < length marks) (λ q. q < length (set marks x.0.1 (Settled e))) (λ q low. omega (arith, low, length-set marks x.0.1 (Settled e))) touched front.places;
-    others = λ q never. elim (cases_write marks x.0.1 (Settled e) q front-in) [
+    others = λ q never. elim (cases_write marks x.0.1 (Settled e) q (front-in marks entries new touched x front moved)) [
       | inl w ↦ absurd (unseen_open (mark_at marks x.0.1) e (front.others x.0.1 (λ among. never (subst (λ p. Contains touched p) (sym w.at) among))) opens)
       | inr k ↦ k.reads ∙ front.others q never
     ];
@@ -160,16 +171,20 @@ module _ (marks : List Mark) (entries new : List Entry) (touched : List ℕ) (x 
       unseen_open : (m : Mark) (d : Label) → m ≡ Unseen → m ≡ Open d → ⊥
       unseen_open m d first second = cc
 
-  -- an open node whose entry is the greatest has the least label of all open nodes
+  -- an open node whose entry is the greatest comes before all open nodes
   pub front-least : IsUpperBound entry_cmp x entries → mark_at marks x.0.1 ≡ Open e → IsLeastOpen marks x.0.1 e
   front-least top opens = record {
     opens = opens;
     least = λ q d is.
-        let known : HasAtMost (costs_of marks) x.0.1 x.0.0 = (All-head (IsEntryOf marks) x new (All-permutation (IsEntryOf marks) entries (x ∷ new) moved front.known)).1 in
+        let known = (popped marks entries new touched x front moved).1 in
         let own : costs_of marks x.0.1 ≡ Some e.cost = cost_is marks x.0.1 e (label-open _ e opens) in
-        let same : known.cost ≡ e.cost = one_cost (costs_of marks x.0.1) known.cost e.cost known.labelled own in
-        let below : x.0.0 ≼ d.cost = All-contains (λ y. x.0.0 ≼ y.0.0) entries (entry d.cost q) (greatest-least x entries top) (front.waits q d is) in
-        at_most_trans (subst (λ (c : Cost). c ≼ x.0.0) same known.at_most) below;
+        let same : known.1.cost ≡ e.cost = one_cost (costs_of marks x.0.1) known.1.cost e.cost known.1.labelled own in
+        let most : length_of e.cost ≤ length_of known.0 = length_of-at_most (subst (λ (c : Cost). c ≼ known.0) same known.1.at_most) in
+        let first : IsFirst x (entry d.cost q) = All-contains (λ y. IsFirst x y) entries (entry d.cost q) (greatest-first x entries top) (front.waits q d is) in
+        record {
+          length = omega (arith, most, known.2, first.length);
+          rank = λ alike. first.rank (omega (arith, most, known.2, first.length, alike));
+        };
   }
     where
       one_cost : (o : Option Cost) (c d : Cost) → o ≡ Some c → o ≡ Some d → c ≡ d

@@ -4,7 +4,7 @@ use Rattle.std.proofs.lemmas.Bool.{cases_lt}
 use Rattle.std.proofs.lemmas.List.{length-set}
 use Rattle.ch_cost.specs.declared.cost.Cost.{Cost}
 use Rattle.ch_cost.specs.Cost.{◌⊕◌, ◌≼◌, ◌≺◌, IsNoLonger}
-use Rattle.ch_cost.specs.Cost.Laws.{at_most_refl, at_most_trans, at_most-from_below, at_most_sum_left, below_trans_at_most, no_longer_at_most}
+use Rattle.ch_cost.specs.Cost.Laws.{at_most_refl, at_most-from_below, below_trans_at_most, no_longer_at_most}
 use Rattle.ch_graph.specs.Hierarchy.{Hierarchy, IsWellMade, rank_of}
 use Rattle.ch_query.specs.declared.label.Label.{Label}
 use Rattle.ch_query.specs.declared.mark.Mark.{Mark}
@@ -16,11 +16,11 @@ use Rattle.ch_query.specs.Climb.{foot_at, foot_rank, head_rank, cost_at, Climbs,
 use Rattle.ch_query.specs.Upward.{IsLaidOut}
 use Rattle.ch_query.specs.Marks.{mark_at, costs_of, Improves, IsNoMore}
 use Rattle.ch_query.specs.Searching.{IsStepAt, IsFollowed, ClimbsTo, IsOpenedBy, ArePassed}
-use Rattle.ch_query.specs.Marks.{IsLatest}
+use Rattle.ch_query.specs.Marks.{IsLatest, IsSettledAtMost}
 use Rattle.ch_query.proofs.Sides.{foot_in}
 use Rattle.ch_query.proofs.Ranks.{same_node, rank_taken}
 use Rattle.ch_query.proofs.Laying.{links_are, step_at, as_many}
-use Rattle.ch_query.proofs.Marking.{cases_write, open-settled, open-open, not_improves, improves-unsettled, improves-not_settled, count-open, open-here, open-kept}
+use Rattle.ch_query.proofs.Marking.{cases_write, open-settled, open-open, not_improves, improves-unsettled, improves-not_settled, no_later-settled, count-open, open-here, open-kept}
 
 pub opened-none : (h : Hierarchy) (side : Side) (links : List ℕ) (r : ℕ) (c : Cost) (marks : List Mark) → IsOpenedBy h side links r c marks marks
 opened-none h side links r c marks = record {
@@ -75,10 +75,14 @@ followed-put h side c limit marks k head e within improves at sum counts =
     } in
     subst (λ x. HasAtMost (costs_of (set marks head (Open e))) x (c ⊕ cost_at h k)) at here
 
+-- if the head is settled, its label costs at most the climb: it is of a higher rank than the foot
+pub climb-settled : (h : Hierarchy) (side : Side) (c : Cost) (marks : List Mark) (k : ℕ) (head : ℕ) (sum : Cost) → Climbs h side k → IsLatest marks c (foot_rank h side k) → head ≡ head_rank h side k → sum ≡ c ⊕ cost_at h k → IsSettledAtMost marks head sum
+climb-settled h side c marks k head sum climbs latest at is_sum e closed =
+    subst (λ (d : Cost). e.cost ≼ d) (sym is_sum) (no_later-settled (cost_at h k) (latest head e closed) (omega (arith, climbs.rises, at)))
+
 -- or it had one of no more
-pub followed-kept : (h : Hierarchy) (side : Side) (c : Cost) (limit : Option Cost) (marks : List Mark) (k : ℕ) (head : ℕ) (sum : Cost) → (Improves sum (mark_at marks head) → ⊥) → IsLatest marks c → head ≡ head_rank h side k → sum ≡ c ⊕ cost_at h k → IsFollowed h side c limit marks k
-followed-kept h side c limit marks k head sum never latest at is_sum counts =
-    let above : (e : Label) → mark_at marks head ≡ Settled e → e.cost ≼ sum = λ e closed. at_most_trans (latest head e closed) (subst (λ (d : Cost). c ≼ d) (sym is_sum) (at_most_sum_left c (cost_at h k))) in
+pub followed-kept : (h : Hierarchy) (side : Side) (c : Cost) (limit : Option Cost) (marks : List Mark) (k : ℕ) (head : ℕ) (sum : Cost) → (Improves sum (mark_at marks head) → ⊥) → IsSettledAtMost marks head sum → head ≡ head_rank h side k → sum ≡ c ⊕ cost_at h k → IsFollowed h side c limit marks k
+followed-kept h side c limit marks k head sum never above at is_sum counts =
     let label = not_improves (mark_at marks head) sum never above in
     let here : HasAtMost (costs_of marks) head (c ⊕ cost_at h k) = record { cost = label.0; labelled = label.1; at_most = subst (λ (d : Cost). label.0 ≼ d) is_sum label.2 } in
     subst (λ x. HasAtMost (costs_of marks) x (c ⊕ cost_at h k)) at here
@@ -112,8 +116,8 @@ counts-short h c = (λ short. record { short = short; below = λ a is. absurd (n
 pub followed-more : {h : Hierarchy} {side : Side} {links : List ℕ} {r : ℕ} {c : Cost} {limit : Option Cost} {mid new : List Mark} → IsOpenedBy h side links r c mid new → (k : ℕ) → IsFollowed h side c limit mid k → IsFollowed h side c limit new k
 followed-more {h} {side} {c = c} opened k done counts = opened.kept (head_rank h side k) (c ⊕ cost_at h k) (done counts)
 
--- settled labels are above none that is followed
-pub latest-more : {h : Hierarchy} {side : Side} {links : List ℕ} {r : ℕ} {c : Cost} {old new : List Mark} → IsOpenedBy h side links r c old new → IsLatest old c → IsLatest new c
+-- no more is settled by opening nodes
+pub latest-more : {h : Hierarchy} {side : Side} {links : List ℕ} {r : ℕ} {c : Cost} {old new : List Mark} → IsOpenedBy h side links r c old new → IsLatest old c r → IsLatest new c r
 latest-more opened latest q d closed = latest q d (opened.settled q d closed)
 
 -- Links by their feet

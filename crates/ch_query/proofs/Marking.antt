@@ -6,15 +6,15 @@ use Rattle.std.proofs.lemmas.List.Elements.{All-from_get_or}
 use Rattle.std.proofs.lemmas.List.Sums.{sum_by-set, sum_by-le}
 use Rattle.ch_cost.specs.declared.cost.Cost.{Cost}
 use Rattle.ch_cost.specs.declared.short_cost.ShortCost.{ShortCost}
-use Rattle.ch_cost.specs.Cost.{◌≼◌, ◌≺◌}
+use Rattle.ch_cost.specs.Cost.{◌⊕◌, ◌≼◌, ◌≺◌, length_of}
 use Rattle.ch_cost.specs.ShortCost.{no_short, short_of, kept_in}
 use Rattle.ch_cost.specs.ShortCost.Laws.{kept, kept_not}
-use Rattle.ch_cost.specs.Cost.Laws.{at_most_refl, at_most_trans, at_most-from_below, below_not_at_most, cases_cost}
+use Rattle.ch_cost.specs.Cost.Laws.{at_most_refl, at_most_trans, at_most-from_below, below_not_at_most, below-from_lengths, cases_cost, length_of-sum}
 use Rattle.ch_query.specs.declared.label.Label.{Label}
 use Rattle.ch_query.specs.declared.mark.Mark.{Mark}
 use Rattle.ch_query.specs.declared.mark.Mark.TheVariants.{Unseen, Open, Settled}
 use Rattle.ch_query.specs.Labels.{HasAtMost}
-use Rattle.ch_query.specs.Marks.{mark_at, label_in, label_at, option_cost, costs_of, short_in, settled_in, settled_costs, Improves, IsBelow, HasLimit, settled, settled_count}
+use Rattle.ch_query.specs.Marks.{mark_at, label_in, label_at, option_cost, costs_of, short_in, settled_in, settled_costs, IsNoLater, Improves, IsBelow, IsUpTo, HasLimit, settled, settled_count}
 
 -- the mark that is read after one was written: the new one, or that of another rank
 pub record IsWritten (marks : List Mark) (r : ℕ) (m : Mark) (q : ℕ) : Type 0 where
@@ -113,6 +113,11 @@ pub limit-given : (c : Cost) (limit : Option Cost) → (IsBelow c limit → ⊥)
 limit-given c None never = absurd (never tt)
 limit-given c (Some b) never = (b, refl, elim (cases_cost c b) [ inl below ↦ absurd (never below) | inr most ↦ most ])
 
+-- what is longer than a limit is at least that
+pub limit-longer : (c : Cost) (limit : Option Cost) → (IsUpTo (length_of c) limit → ⊥) → HasLimit limit c
+limit-longer c None never = absurd (never tt)
+limit-longer c (Some b) never = (b, refl, elim (cases_lt (length_of b) (length_of c)) [ inl longer ↦ at_most-from_below (below-from_lengths b c longer) | inr most ↦ absurd (never most) ])
+
 pub has_own : (marks : List Mark) (r : ℕ) (e : Label) → label_at marks r ≡ Some e → HasAtMost (costs_of marks) r e.cost
 has_own marks r e is = record { cost = e.cost; labelled = cost_is marks r e is; at_most = at_most_refl e.cost }
 
@@ -139,6 +144,31 @@ pub improves-not_settled : (m : Mark) (c : Cost) (e : Label) → Improves c m �
 improves-not_settled Unseen c e improves is = unseen-settled is
 improves-not_settled (Open d) c e improves is = open-settled is
 improves-not_settled (Settled d) c e improves is = improves
+
+-- The order in which nodes are settled
+
+pub no_later-refl : (c : Cost) (r : ℕ) → IsNoLater c r c r
+no_later-refl c r = record { length = omega arith; rank = λ alike. omega arith }
+
+pub no_later-trans : {c d e : Cost} {p q r : ℕ} → IsNoLater c p d q → IsNoLater d q e r → IsNoLater c p e r
+no_later-trans {c} {d} {e} first second = record {
+  length = omega (arith, first.length, second.length);
+  rank = λ alike.
+      let same : length_of c ≡ length_of d = omega (arith, first.length, second.length, alike) in
+      let other : length_of d ≡ length_of e = omega (arith, first.length, second.length, alike) in
+      omega (arith, first.rank same, second.rank other);
+}
+
+-- where a climb leads on to comes later
+pub no_later-climb : (c w : Cost) {q r : ℕ} → r < q → IsNoLater c r (c ⊕ w) q
+no_later-climb c w higher = record { length = omega (arith, length_of-sum c w); rank = λ alike. omega (arith, higher) }
+
+-- and if it was settled before, its label is shorter than the climb
+pub no_later-settled : {d c : Cost} {q r : ℕ} (w : Cost) → IsNoLater d q c r → r < q → d ≼ c ⊕ w
+no_later-settled {d} {c} w before higher = at_most-from_below (below-from_lengths d (c ⊕ w) (elim (cases_lt (length_of d) (length_of c)) [
+  | inl shorter ↦ omega (arith, shorter, length_of-sum c w)
+  | inr as_long ↦ absurd (omega (arith, higher, before.rank (omega (arith, as_long, before.length))))
+]))
 
 -- A climb is better than what is known where it costs less, or nothing is known
 pub better_than : (m : Mark) (c known : Cost) → ((e : Label) → m ≡ Settled e → e.cost ≼ c) → Some known ≡ option_cost (label_in m) → (c ≺ known) ↔ Improves c m

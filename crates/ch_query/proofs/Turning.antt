@@ -3,8 +3,8 @@ use Rattle.std.proofs.Common.{ℕ, ◌≡◌, ◌+◌, ◌-◌, ◌<◌, ◌≤�
 use Rattle.std.proofs.lemmas.Bool.{cases_lt}
 use Rattle.std.proofs.lemmas.List.{get_or_past, length-set, length-replicate}
 use Rattle.ch_cost.specs.declared.cost.Cost.{Cost}
-use Rattle.ch_cost.specs.Cost.{zero_cost, ◌⊕◌, ◌≼◌, IsNoLonger, IsInLimit, IsOfWalks}
-use Rattle.ch_cost.specs.Cost.Laws.{at_most_refl, at_most_trans, at_most_antisym, at_most_sum_left, zero_cost_at_most, zero_cost_within, no_longer-from_within, of_walks_zero_cost, of_walks_one, of_walks_sum, of_walks_more, in_limit-from_walks, cost_of_arcs_in_limit, in_limit-from_within, within_trans}
+use Rattle.ch_cost.specs.Cost.{zero_cost, ◌⊕◌, IsNoLonger, IsInLimit, IsOfWalks}
+use Rattle.ch_cost.specs.Cost.Laws.{at_most_refl, at_most_antisym, zero_cost_at_most, zero_cost_within, no_longer-from_within, of_walks_zero_cost, of_walks_one, of_walks_sum, of_walks_more, in_limit-from_walks, cost_of_arcs_in_limit, in_limit-from_within, within_trans}
 use Rattle.ch_graph.specs.Hierarchy.{Hierarchy, IsWellMade, rank_of}
 use Rattle.ch_query.specs.declared.label.Label.{Label}
 use Rattle.ch_query.specs.declared.mark.Mark.{Mark}
@@ -15,13 +15,13 @@ use Rattle.ch_query.specs.Labels.{HasAtMost, AreShort, Meets}
 use Rattle.ch_query.specs.Climb.{foot_rank, head_rank, cost_at, Climbs}
 use Rattle.ch_query.specs.Marks.{mark_at, label_at, option_cost, costs_of, settled_in, IsLeastOpen, IsNoMore, FitAll, settled_count}
 use Rattle.ch_query.specs.Searching.{IsFrom, IsFollowed, AreFollowed, IsSearching, ClimbsTo, IsOpenedBy, ArePassed}
-use Rattle.ch_query.specs.Marks.{IsLatest}
+use Rattle.ch_query.specs.Marks.{IsLatest, IsNoLater}
 use Rattle.ch_query.specs.Meeting.{IsBestSoFar, IsLooked}
 use Rattle.ch_query.proofs.Sides.{link-made}
 use Rattle.ch_query.proofs.Ranks.{rank_below}
 use Rattle.ch_query.proofs.Following.{counts-more}
 use Rattle.ch_query.proofs.BestMeetings.{limit-less, met-kept, met-from}
-use Rattle.ch_query.proofs.Marking.{from_cost, settled_is, settled-cost, cases_write, write_here, unseen-open, unseen-settled, open-settled, open-open, settled-settled, unseen-at, open-in, label_cases, label-open, label-settled, label-in, cost_is, settle-label, count-settle}
+use Rattle.ch_query.proofs.Marking.{from_cost, settled_is, settled-cost, cases_write, write_here, unseen-open, unseen-settled, open-settled, open-open, settled-settled, unseen-at, open-in, label_cases, label-open, label-settled, label-in, cost_is, settle-label, no_later-refl, no_later-trans, no_later-climb, count-settle}
 
 module _ (h : Hierarchy) (made : IsWellMade h) where
   -- the bound of a well made hierarchy is small enough to be a summand
@@ -141,9 +141,9 @@ module _ (h : Hierarchy) (side : Side) (links : List ℕ) (start : ℕ) (old : L
     | inr k ↦ k.reads ∙ closed
   ]
 
-  pub turn-latest : IsLatest (set old r (Settled e)) e.cost
+  pub turn-latest : IsLatest (set old r (Settled e)) e.cost r
   turn-latest q d closed = elim (turn-settled q d closed) [
-    | inl this ↦ subst (λ (l : Label). l.cost ≼ e.cost) this.1 (at_most_refl e.cost)
+    | inl this ↦ subst (λ p. IsNoLater d.cost p e.cost r) (sym this.0) (subst (λ (l : Label). IsNoLater l.cost r e.cost r) this.1 (no_later-refl e.cost r))
     | inr before ↦ is.ordered q r d e before next.opens
   ]
 
@@ -208,11 +208,11 @@ module _ (h : Hierarchy) (side : Side) (links : List ℕ) (start : ℕ) (old : L
         let has : HasAtMost (costs_of new) (rank_of h start) zero_cost = opened.kept (rank_of h start) zero_cost (turn-kept (rank_of h start) zero_cost (record { cost = zero_cost; labelled = is.first; at_most = at_most_refl zero_cost })) in
         subst (λ (c : Cost). costs_of new (rank_of h start) ≡ Some c) (at_most_antisym has.at_most (zero_cost_at_most has.cost)) has.labelled
 
-    -- an open label is at least that of the node that was settled
-    turn-above : (q : ℕ) (d : Label) → mark_at new q ≡ Open d → e.cost ≼ d.cost
+    -- no open node comes before the node that was settled
+    turn-above : (q : ℕ) (d : Label) → mark_at new q ≡ Open d → IsNoLater e.cost r d.cost q
     turn-above q d opens = elim (opened.opened q d opens) [
       | inl there ↦ next.least q d (turn-open q d there)
-      | inr climbs ↦ subst (λ (c : Cost). e.cost ≼ c) (sym climbs.sum) (at_most_sum_left e.cost (cost_at h (slice_index links climbs.place)))
+      | inr climbs ↦ subst (λ (c : Cost). IsNoLater e.cost r c q) (sym climbs.sum) (no_later-climb e.cost (cost_at h (slice_index links climbs.place)) (omega (arith, climbs.climbs.rises, climbs.foot, climbs.head)))
     ]
 
     pub followed-turn : (limit found : Option Cost) → IsNoMore found limit → AreFollowed h side limit old → ArePassed h side r e.cost found new → AreFollowed h side found new
@@ -280,7 +280,7 @@ module _ (h : Hierarchy) (side : Side) (links : List ℕ) (start : ℕ) (old : L
         | inl there ↦ is.short q d there
         | inr climbs ↦ climbs.short
       ];
-      ordered = λ q s d f closed opens. at_most_trans (turn-latest q d (opened.settled q d closed)) (turn-above s f opens);
+      ordered = λ q s d f closed opens. no_later-trans (turn-latest q d (opened.settled q d closed)) (turn-above s f opens);
     }
 
     pub turn-count : settled_count new ≡ settled_count old + 1

@@ -1,8 +1,8 @@
 -- What a side of a query knows of the nodes: a list of marks, one for each rank.
-use Rattle.std.specs.Prelude.{ℕ, ◌≡◌, List, slice_index_or, sum_by, Option, Some, None}
+use Rattle.std.specs.Prelude.{ℕ, ◌≡◌, ◌≤◌, List, slice_index_or, sum_by, Option, Some, None}
 use Rattle.ch_cost.specs.declared.cost.Cost.{Cost}
 use Rattle.ch_cost.specs.declared.short_cost.ShortCost.{ShortCost}
-use Rattle.ch_cost.specs.Cost.{◌≼◌, ◌≺◌, IsInLimit}
+use Rattle.ch_cost.specs.Cost.{◌≼◌, ◌≺◌, length_of, IsInLimit}
 use Rattle.ch_cost.specs.ShortCost.{no_short, short_of}
 use Rattle.ch_query.specs.declared.label.Label.{Label}
 use Rattle.ch_query.specs.declared.mark.Mark.{Mark}
@@ -54,14 +54,29 @@ Improves c Unseen = Unit {0}
 Improves c (Open e) = c ≺ e.cost
 Improves c (Settled e) = ⊥
 
--- no settled node has a label above this cost
-abbrev pub IsLatest : List Mark → Cost → Type 0
-IsLatest marks c = (r : ℕ) (e : Label) → mark_at marks r ≡ Settled e → e.cost ≼ c
+-- Nodes are settled in the order of the lengths of their labels, and where these are equal in that of their ranks: the
+-- node of rank q, whose label costs c, comes no later than that of rank r, whose label costs d.
+pub record IsNoLater (c : Cost) (q : ℕ) (d : Cost) (r : ℕ) : Type 0 where
+  pub length : length_of c ≤ length_of d
+  pub rank : length_of c ≡ length_of d → q ≤ r
+
+-- no settled node comes later than that of rank r with a label of cost c
+abbrev pub IsLatest : List Mark → Cost → ℕ → Type 0
+IsLatest marks c r = (q : ℕ) (e : Label) → mark_at marks q ≡ Settled e → IsNoLater e.cost q c r
+
+-- if the node of rank r is settled, its label costs at most c
+abbrev pub IsSettledAtMost : List Mark → ℕ → Cost → Type 0
+IsSettledAtMost marks r c = (e : Label) → mark_at marks r ≡ Settled e → e.cost ≼ c
 
 -- the cost is below the limit, where there is one
 abbrev pub IsBelow : Cost → Option Cost → Type 0
 IsBelow c None = Unit {0}
 IsBelow c (Some b) = c ≺ b
+
+-- the length is no more than that of the limit, where there is one
+abbrev pub IsUpTo : ℕ → Option Cost → Type 0
+IsUpTo n None = Unit {0}
+IsUpTo n (Some b) = n ≤ length_of b
 
 -- there is a limit, and it is at most this cost
 abbrev pub HasLimit : Option Cost → Cost → Type 0
@@ -71,10 +86,10 @@ HasLimit limit c = (b : Cost) × (limit ≡ Some b) × (b ≼ c)
 abbrev pub IsNoMore : Option Cost → Option Cost → Type 0
 IsNoMore new old = (a : Cost) → old ≡ Some a → HasLimit new a
 
--- the node of rank r is open with the label e, and no open node has one that costs less
+-- the node of rank r is open with the label e, and no open node comes before it
 pub record IsLeastOpen (marks : List Mark) (r : ℕ) (e : Label) : Type 0 where
   pub opens : mark_at marks r ≡ Open e
-  pub least : (q : ℕ) (d : Label) → mark_at marks q ≡ Open d → e.cost ≼ d.cost
+  pub least : (q : ℕ) (d : Label) → mark_at marks q ≡ Open d → IsNoLater e.cost r d.cost q
 
 -- no open node has a label below the limit
 abbrev pub IsStopped : List Mark → Option Cost → Type 0

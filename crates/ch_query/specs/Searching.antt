@@ -1,7 +1,7 @@
 -- One side of a query, as its marks tell it.
 use Rattle.std.specs.Prelude.{ℕ, ◌≡◌, ◌+◌, ◌<◌, ◌⊎◌, true, false, Bool, List, length, slice_index, slice_index_or, Option, Some, None}
 use Rattle.ch_cost.specs.declared.cost.Cost.{Cost}
-use Rattle.ch_cost.specs.Cost.{zero_cost, ◌⊕◌, ◌≼◌, IsNoLonger, IsOfWalks}
+use Rattle.ch_cost.specs.Cost.{zero_cost, ◌⊕◌, IsNoLonger, IsOfWalks}
 use Rattle.ch_graph.specs.Hierarchy.{Hierarchy, rank_of}
 use Rattle.ch_query.specs.declared.label.Label.{Label}
 use Rattle.ch_query.specs.declared.mark.Mark.{Mark}
@@ -11,7 +11,7 @@ use Rattle.ch_query.specs.declared.upward.Step.{Step}
 use Rattle.ch_query.specs.Climb.{foot_rank, head_rank, cost_at, Climbs}
 use Rattle.ch_query.specs.Labels.{HasAtMost, CountsBelow}
 use Rattle.ch_query.specs.Upward.{step_along}
-use Rattle.ch_query.specs.Marks.{mark_at, label_at, costs_of, IsStopped, settled_count}
+use Rattle.ch_query.specs.Marks.{mark_at, label_at, costs_of, IsNoLater, IsStopped, settled_count}
 
 -- the label of cost c came to the rank r by the link at k, from a node that is settled
 pub record ComesFrom (h : Hierarchy) (side : Side) (marks : List Mark) (r : ℕ) (c : Cost) (k : ℕ) : Type 0 where
@@ -34,15 +34,15 @@ IsFollowed h side c limit marks k = CountsBelow h limit (c ⊕ cost_at h k) → 
 abbrev pub AreFollowed : Hierarchy → Side → Option Cost → List Mark → Type 0
 AreFollowed h side limit marks = (k : ℕ) (e : Label) → Climbs h side k → mark_at marks (foot_rank h side k) ≡ Settled e → IsFollowed h side e.cost limit marks k
 
--- The marks between two turns of a side: each label is the cost of a climb from the start, and those of settled nodes
--- are at most those of open ones.
+-- The marks between two turns of a side: each label is the cost of a climb from the start, and no settled node comes
+-- later than an open one.
 pub record IsSearching (h : Hierarchy) (side : Side) (links : List ℕ) (start : ℕ) (marks : List Mark) : Type 0 where
   pub nodes : length marks ≡ length h.ranks
   pub first : costs_of marks (rank_of h start) ≡ Some zero_cost
   pub origin : (r : ℕ) (e : Label) → label_at marks r ≡ Some e → IsFrom h side links start marks r e.cost e.place
   pub fits : (r : ℕ) (e : Label) → label_at marks r ≡ Some e → IsOfWalks r e.cost
   pub short : (r : ℕ) (e : Label) → label_at marks r ≡ Some e → IsNoLonger e.cost h.bound
-  pub ordered : (q r : ℕ) (d e : Label) → mark_at marks q ≡ Settled d → mark_at marks r ≡ Open e → d.cost ≼ e.cost
+  pub ordered : (q r : ℕ) (d e : Label) → mark_at marks q ≡ Settled d → mark_at marks r ≡ Open e → IsNoLater d.cost q e.cost r
 
 -- One turn
 

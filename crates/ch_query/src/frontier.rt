@@ -1,12 +1,12 @@
 ghost use Rattle.std.specs.Prelude.{◌≡◌, ◌<◌, ◌+◌, ◌↔◌, ℕ, ◌∷◌, length, replicate, slice_set, All, Contains, IfOk, OnOk, IfSome, IfNone, IsTrue, OnSome};
 ghost use Rattle.std.specs.BinaryHeap.{heap_items, heap_len, IsHeap, IsUpperBound};
 ghost use Rattle.std.specs.List.Sorted.{IsPermutation};
-ghost use Rattle.ch_graph.specs.Queue.{entry_cmp};
-ghost use Rattle.ch_query.specs.Marks.{mark_at, label_at, costs_of, IsLatest, Improves, IsBelow, IsLeastOpen, IsStopped};
+ghost use Rattle.ch_query.specs.Front.{entry_cmp};
+ghost use Rattle.ch_query.specs.Marks.{mark_at, label_at, costs_of, IsSettledAtMost, Improves, IsUpTo, IsLeastOpen, IsStopped};
 ghost use Rattle.ch_query.specs.declared.mark.Mark.TheVariants.{Unseen, Open, Settled};
 
 use crate::label::Label;
-use crate::limit::is_below;
+use crate::limit::is_up_to;
 use crate::mark::Mark;
 use ch_cost::{Cost, ShortCost};
 use std::alloc::{AllocError, Global};
@@ -14,17 +14,19 @@ use std::cmp::Reverse;
 use std::collections::BinaryHeap;
 use std::marker::Model;
 
-/// The marks of one side of a query, one for each rank, and which open node has the least label.
+/// The marks of one side of a query, one for each rank, and which open node is the next to be settled.
 ///
 /// The marks are made once. The costs of the labels stand beside them, in half their memory, so that a climb to a node is
-/// compared with what is known of it by 8 bytes; only where these keep no cost the mark itself is read. The queue may
-/// hold older, dearer entries of a node; they are passed over when they come up. The list of touched ranks tells which
-/// marks to take back before the next query.
+/// compared with what is known of it by 8 bytes; only where these keep no cost the mark itself is read. The queue goes
+/// by the lengths of the labels, and where these are equal by the ranks. That is enough: a side climbs, so of two nodes
+/// with labels of one length only that of the lower rank can lead on to the other. The queue may hold older, longer
+/// entries of a node; they are passed over when they come up. The list of touched ranks tells which marks to take back
+/// before the next query.
 #[derive(Drop)]
 pub struct Frontier {
     marks: Vec<Mark>,
     costs: Vec<ShortCost>,
-    queue: BinaryHeap<Reverse<(Cost, u32)>>,
+    queue: BinaryHeap<Reverse<(u64, u32)>>,
     touched: Vec<u32>,
 }
 
@@ -104,11 +106,11 @@ impl Frontier {
         }
     }
 
-    /// Whether a climb to the node of a rank is better than what is known of it. It costs at least what each settled node
-    /// does.
+    /// Whether a climb to the node of a rank is better than what is known of it. If the node is settled, the climb costs
+    /// at least what its label does.
     pub fn is_improved_by(&self, rank: u32, cost: Cost) -> bool
         requires rank_in { rank < length self.now }
-        requires latest { IsLatest self.now cost }
+        requires settled { IsSettledAtMost self.now rank cost }
         ensures { IsTrue result ↔ Improves cost (mark_at self.now rank) }
     {
         match self.cost(rank) {
@@ -127,21 +129,21 @@ impl Frontier {
         ensures opened { OnOk result (self.new ≡ slice_set self.old rank (Open label)) }
     {
         touch(&mut self.touched, rank, self.marks[rank as usize])?;
-        self.queue.push(Reverse((label.cost, rank)))?;
+        self.queue.push(Reverse((label.cost.length(), rank)))?;
         self.marks[rank as usize] = Mark::Open(label);
         self.costs[rank as usize] = ShortCost::of(label.cost);
         Ok(())
     }
 
-    /// Settles an open node of the least label, of equal ones that of the lowest rank. None where no open node has a
-    /// label below the limit.
-    pub fn settle_below(&mut self, limit: Option<Cost>) -> Option<Reached>
+    /// Settles an open node of the least length, of equal ones that of the lowest rank. None where no open node has a
+    /// label of at most the limit's length: then none has one below the limit.
+    pub fn settle_next(&mut self, limit: Option<Cost>) -> Option<Reached>
         ensures none { IfNone result (IsStopped self.old limit) }
         ensures unchanged { IfNone result (self.new ≡ self.old) }
         ensures least { IfSome result (λ r. IsLeastOpen self.old r.rank r.label) }
         ensures settled { IfSome result (λ r. self.new ≡ slice_set self.old r.rank (Settled r.label)) }
     {
-        'entries: while let Some(Reverse((_, rank))) = pop_below(&mut self.queue, limit) {
+        'entries: while let Some(Reverse((_, rank))) = pop_up_to(&mut self.queue, limit) {
             if let Mark::Open(label) = self.marks[rank as usize] {
                 self.marks[rank as usize] = Mark::Settled(label);
                 return Some(Reached { rank, label });
@@ -163,21 +165,21 @@ fn touch(touched: &mut Vec<u32>, rank: u32, mark: Mark) -> Result<(), AllocError
     Ok(())
 }
 
-/// Takes the least entry out of a queue, if it is below the limit. None where no entry is.
-fn pop_below(
-    queue: &mut BinaryHeap<Reverse<(Cost, u32)>>,
+/// Takes the least entry out of a queue, if its length is at most the limit's. None where no entry's is.
+fn pop_up_to(
+    queue: &mut BinaryHeap<Reverse<(u64, u32)>>,
     limit: Option<Cost>,
-) -> Option<Reverse<(Cost, u32)>>
+) -> Option<Reverse<(u64, u32)>>
     requires { IsHeap entry_cmp (heap_items queue.old) }
-    ensures none { IfNone result (All (λ e. IsBelow e.0.0 limit → ⊥) (heap_items queue.old)) }
+    ensures none { IfNone result (All (λ e. IsUpTo e.0.0 limit → ⊥) (heap_items queue.old)) }
     ensures unchanged { IfNone result (heap_items queue.new ≡ heap_items queue.old) }
     ensures moved { IfSome result (λ e. IsPermutation (heap_items queue.old) (e ∷ heap_items queue.new)) }
     ensures heap { IsHeap entry_cmp (heap_items queue.new) }
     ensures top { IfSome result (λ e. IsUpperBound entry_cmp e (heap_items queue.old)) }
     ensures len { OnSome result (heap_len queue.new + 1 ≡ heap_len queue.old) }
 {
-    let Reverse((cost, _)) = *queue.peek()?;
-    if !is_below(cost, limit) {
+    let Reverse((length, _)) = *queue.peek()?;
+    if !is_up_to(length, limit) {
         return None;
     }
     queue.pop()

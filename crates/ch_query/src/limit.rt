@@ -1,7 +1,7 @@
 ghost use Rattle.std.specs.Prelude.{◌↔◌, IsTrue};
 ghost use Rattle.ch_cost.specs.Cost.{IsNoLonger};
 ghost use Rattle.ch_query.specs.Labels.{IsShortLimit, CountsBelow};
-ghost use Rattle.ch_query.specs.Marks.{IsBelow};
+ghost use Rattle.ch_query.specs.Marks.{IsBelow, IsUpTo};
 
 use ch_cost::Cost;
 use ch_graph::Hierarchy;
@@ -12,6 +12,16 @@ pub fn is_below(cost: Cost, limit: Option<Cost>) -> bool
 {
     match limit {
         Some(limit) => cost.is_below(limit),
+        None => true,
+    }
+}
+
+/// Whether a length is at most that of a limit, if there is one.
+pub fn is_up_to(length: u64, limit: Option<Cost>) -> bool
+    ensures { IsTrue result ↔ IsUpTo length limit }
+{
+    match limit {
+        Some(limit) => length <= limit.length(),
         None => true,
     }
 }

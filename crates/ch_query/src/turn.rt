@@ -19,8 +19,8 @@ use ch_cost::Cost;
 use ch_graph::Hierarchy;
 use std::alloc::AllocError;
 
-/// A turn of one side: it settles its least open node, looks whether the other side has a label there, and follows the
-/// links that climb from it. False where no open node is below the best meeting so far: the side has stopped.
+/// A turn of one side: it settles its first open node, looks whether the other side has a label there, and follows the
+/// links that climb from it. False where each open node is longer than the best meeting so far: the side has stopped.
 pub fn turn(
     hierarchy: &Hierarchy,
     upward: &UpwardSteps,
@@ -43,7 +43,7 @@ pub fn turn(
     ensures best { OnOk result (IsBestSoFar hierarchy.now here.new there.now best.new) }
     ensures turned { IfOk result (λ goes_on. IsTurned goes_on here.old here.new (cost_of best.old) (cost_of best.new)) }
 {
-    let Some(reached) = here.settle_below(cost_of(*best)) else {
+    let Some(reached) = here.settle_next(cost_of(*best)) else {
         return Ok(false);
     };
     let rank = reached.rank;
@@ -69,7 +69,7 @@ fn pass_over(
     requires rank_in { rank < length hierarchy.now.ranks }
     requires laid { IsLaidOut hierarchy.now side upward.now.first.items upward.now.links.items upward.now.steps.items }
     requires here_nodes { length here.old ≡ length hierarchy.now.ranks }
-    requires latest { IsLatest here.old cost }
+    requires latest { IsLatest here.old cost rank }
     requires fits { IsOfWalks rank cost }
     requires short { IsNoLonger cost hierarchy.now.bound }
     requires limit { IsShortLimit hierarchy.now limit }
@@ -99,7 +99,7 @@ fn follow(
     requires made { IsWellMade hierarchy.now }
     requires step { IsStepAt hierarchy.now side upward.now.links.items upward.now.steps.items place }
     requires here_nodes { length here.old ≡ length hierarchy.now.ranks }
-    requires latest { IsLatest here.old cost }
+    requires latest { IsLatest here.old cost (foot_rank hierarchy.now side (slice_index upward.now.links.items place)) }
     requires fits { IsOfWalks (foot_rank hierarchy.now side (slice_index upward.now.links.items place)) cost }
     requires short { IsNoLonger cost hierarchy.now.bound }
     requires limit { IsShortLimit hierarchy.now limit }

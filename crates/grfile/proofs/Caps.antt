@@ -1,12 +1,12 @@
 -- The lines of a text are read alike from numbers and from numbers with the cap, since each test of a range is
 -- blind to the cap.
 use Rattle.std.proofs.Common.{ℕ, ◌≡◌, ◌≢◌, ◌-◌, ◌^◌, ◌<◌, false, if◌then◌else◌, eqb, ltb, ◌&&◌, List, [], ◌∷◌, length, codes, Option, Some, None, Result, Ok, arith, refl, ap, sym, ◌∙◌, inl, inr}
-use Rattle.std.proofs.lemmas.Bool.{cases_lt, cases_Bool, lt-ltb, le-ltb, ltb-false, ne_eqb, or_parts}
+use Rattle.std.proofs.lemmas.Bool.{cases_lt, cases_Bool, lt-ltb, le-ltb, ltb-false, or_parts}
 use Rattle.std.proofs.lemmas.Bool.Decides.{nat_tests}
 use Rattle.std.specs.Str.{bytes_eq}
 use Rattle.ch_graph.specs.declared.road.Road.{Road}
 use Rattle.grfile.specs.declared.error.GrError.{GrError}
-use Rattle.grfile.specs.declared.error.GrErrorKind.TheVariants.{UnknownLine, FieldCount, NotANumber, NodeRange, ZeroWeight, WeightTooBig}
+use Rattle.grfile.specs.declared.error.GrErrorKind.TheVariants.{UnknownLine, FieldCount, NotANumber, NodeRange, WeightTooBig}
 use Rattle.grfile.specs.declared.form.Size.{Size}
 use Rattle.grfile.specs.Lines.{number_of}
 use Rattle.grfile.specs.Outcome.{◌>>=◌, fault, capped}
@@ -53,14 +53,13 @@ node-capped nodes line n f g h same = elim (cases_Bool (is_outside nodes n)) [
 -- the tests of a road after those of its nodes
 abbrev road_weighed : ℕ → ℕ → ℕ → ℕ → Result Road GrError
 road_weighed line from to weight =
-    if eqb weight 0 then fault ZeroWeight line
-    else if ltb (2 ^ 32 - 1) weight then fault WeightTooBig line
+    if ltb (2 ^ 32 - 1) weight then fault WeightTooBig line
     else Ok (record { from = from - 1; to = to - 1; weight = weight })
 
 weight-capped : (line from to weight : ℕ) → road_weighed line from to weight ≡ road_weighed line from to (capped weight)
 weight-capped line from to weight = elim (cases_lt (2 ^ 32 - 1) weight) [
   | inl heavy ↦ let still : 2 ^ 32 - 1 < capped weight = omega arith in
-      rw (ne_eqb weight 0 (omega arith), ne_eqb (capped weight) 0 (omega arith), lt-ltb (2 ^ 32 - 1) weight heavy, lt-ltb (2 ^ 32 - 1) (capped weight) still) refl
+      rw (lt-ltb (2 ^ 32 - 1) weight heavy, lt-ltb (2 ^ 32 - 1) (capped weight) still) refl
   | inr light ↦ let same : capped weight ≡ weight = omega arith in
       rw same refl
 ]

@@ -9,7 +9,7 @@ use Rattle.std.specs.declared.io.Error.{Error}
 use Rattle.counted_io.specs.Limits.{IsReadWithin, ReadsWithin}
 use Rattle.grfile.specs.declared.error.GrError.{GrError}
 use Rattle.grfile.specs.declared.error.GrErrorKind.{GrErrorKind}
-use Rattle.grfile.specs.declared.error.GrErrorKind.TheVariants.{OutOfMemory, Read, UnknownLine, NoProblemLine, SecondProblemLine, FieldCount, NotANumber, NodeRange, ZeroWeight, WeightTooBig, TooManyNodes, TooManyArcs, ArcCount}
+use Rattle.grfile.specs.declared.error.GrErrorKind.TheVariants.{OutOfMemory, Read, UnknownLine, NoProblemLine, SecondProblemLine, FieldCount, NotANumber, NodeRange, WeightTooBig, TooManyNodes, TooManyArcs, ArcCount}
 use Rattle.grfile.specs.Lines.{lines_of}
 use Rattle.grfile.specs.Outcome.{◌>>=◌, IsReading, FromText, IsOfLine, SaysNothing, Takes, capped, next_line}
 use Rattle.grfile.specs.Grammar.{Grammar, Listing, listing_after}
@@ -120,7 +120,6 @@ wants_memory SecondProblemLine nothing no_read = absurd nothing
 wants_memory FieldCount nothing no_read = absurd nothing
 wants_memory NotANumber nothing no_read = absurd nothing
 wants_memory NodeRange nothing no_read = absurd nothing
-wants_memory ZeroWeight nothing no_read = absurd nothing
 wants_memory WeightTooBig nothing no_read = absurd nothing
 wants_memory TooManyNodes nothing no_read = absurd nothing
 wants_memory TooManyArcs nothing no_read = absurd nothing

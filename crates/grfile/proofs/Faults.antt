@@ -44,7 +44,7 @@ module _ (line : ℕ) where
   outside = λ h. absurd (cc)
 
   roads_at : (nodes from to weight : ℕ) → IfErr (road_in_range nodes line from to weight) (IsOfLine line)
-  roads_at nodes from to weight = test_err (is_outside nodes from) _ _ (IsOfLine line) (refl, outside) (test_err (is_outside nodes to) _ _ (IsOfLine line) (refl, outside) (test_err (eqb weight 0) _ _ (IsOfLine line) (refl, λ h. absurd (cc)) (test_err (ltb (2 ^ 32 - 1) weight) _ _ (IsOfLine line) (refl, λ h. absurd (cc)) tt)))
+  roads_at nodes from to weight = test_err (is_outside nodes from) _ _ (IsOfLine line) (refl, outside) (test_err (is_outside nodes to) _ _ (IsOfLine line) (refl, outside) (test_err (ltb (2 ^ 32 - 1) weight) _ _ (IsOfLine line) (refl, λ h. absurd (cc)) tt))
 
   pub road_of-at : (nodes : ℕ) (fields : List (List ℕ)) → IfErr (road_of nodes line fields) (IsOfLine line)
   unfolding road_of

@@ -5,7 +5,7 @@ use Rattle.ch_graph.specs.Graph.{Graph, IsGraph}
 use Rattle.ch_graph.specs.declared.road.Road.{Road}
 use Rattle.grfile.specs.declared.error.GrError.{GrError}
 use Rattle.grfile.specs.declared.error.GrErrorKind.{GrErrorKind}
-use Rattle.grfile.specs.declared.error.GrErrorKind.TheVariants.{OutOfMemory, Read, UnknownLine, NoProblemLine, SecondProblemLine, FieldCount, NotANumber, NodeRange, ZeroWeight, WeightTooBig, TooManyNodes, TooManyArcs, ArcCount}
+use Rattle.grfile.specs.declared.error.GrErrorKind.TheVariants.{OutOfMemory, Read, UnknownLine, NoProblemLine, SecondProblemLine, FieldCount, NotANumber, NodeRange, WeightTooBig, TooManyNodes, TooManyArcs, ArcCount}
 use Rattle.grfile.specs.Lines.{lines_of}
 use Rattle.grfile.specs.Outcome.{◌>>=◌, FromText, SaysNothing}
 use Rattle.grfile.specs.Grammar.{Listing, listing_after}
@@ -23,7 +23,6 @@ from_text_map SecondProblemLine f p = f p
 from_text_map FieldCount f p = f p
 from_text_map NotANumber f p = f p
 from_text_map NodeRange f p = f p
-from_text_map ZeroWeight f p = f p
 from_text_map WeightTooBig f p = f p
 from_text_map TooManyNodes f p = f p
 from_text_map TooManyArcs f p = f p

@@ -95,11 +95,11 @@ below nodes n within =
 
 road_in_range_ok : (nodes line from to weight : ℕ) → IfOk (road_in_range nodes line from to weight) (IsRoad nodes)
 road_in_range_ok nodes line from to weight =
-    test_ok (is_outside nodes from) _ _ (IsRoad nodes) (λ from_in. test_ok (is_outside nodes to) _ _ (IsRoad nodes) (λ to_in. test_ok (eqb weight 0) _ _ (IsRoad nodes) (λ some. test_ok (ltb (2 ^ 32 - 1) weight) _ _ (IsRoad nodes) (λ light. record {
+    test_ok (is_outside nodes from) _ _ (IsRoad nodes) (λ from_in. test_ok (is_outside nodes to) _ _ (IsRoad nodes) (λ to_in. test_ok (ltb (2 ^ 32 - 1) weight) _ _ (IsRoad nodes) (λ light. record {
       from_in = below nodes from from_in;
       to_in = below nodes to to_in;
-      weighs = let above = eqb-false weight 0 some in weight-from weight (omega arith) (omega (arith, ltb-false (2 ^ 32 - 1) weight light));
-    }))))
+      weighs = weight-from weight (omega (arith, ltb-false (2 ^ 32 - 1) weight light));
+    })))
 
 road_ok : (size : Size) (line : ℕ) (fields : List (List ℕ)) → IfOk (road_of size.nodes line fields) (IsRoad size.nodes)
 unfolding road_of

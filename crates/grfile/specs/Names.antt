@@ -2,7 +2,7 @@
 use Rattle.std.specs.Prelude.{ℕ, List, ◌++◌, codes, decimal}
 use Rattle.grfile.specs.declared.error.GrError.{GrError}
 use Rattle.grfile.specs.declared.error.GrErrorKind.{GrErrorKind}
-use Rattle.grfile.specs.declared.error.GrErrorKind.TheVariants.{OutOfMemory, Read, UnknownLine, NoProblemLine, SecondProblemLine, FieldCount, NotANumber, NodeRange, ZeroWeight, WeightTooBig, TooManyNodes, TooManyArcs, ArcCount}
+use Rattle.grfile.specs.declared.error.GrErrorKind.TheVariants.{OutOfMemory, Read, UnknownLine, NoProblemLine, SecondProblemLine, FieldCount, NotANumber, NodeRange, WeightTooBig, TooManyNodes, TooManyArcs, ArcCount}
 
 -- the variant's name
 abbrev pub kind_name : GrErrorKind → List ℕ
@@ -14,7 +14,6 @@ kind_name SecondProblemLine = codes "SecondProblemLine"
 kind_name FieldCount = codes "FieldCount"
 kind_name NotANumber = codes "NotANumber"
 kind_name NodeRange = codes "NodeRange"
-kind_name ZeroWeight = codes "ZeroWeight"
 kind_name WeightTooBig = codes "WeightTooBig"
 kind_name TooManyNodes = codes "TooManyNodes"
 kind_name TooManyArcs = codes "TooManyArcs"

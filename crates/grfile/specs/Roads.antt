@@ -3,7 +3,7 @@ use Rattle.std.specs.Prelude.{ℕ, ◌-◌, ◌^◌, ◌==◌, Bool, ◌||◌, i
 use Rattle.std.specs.Str.{bytes_eq}
 use Rattle.ch_graph.specs.declared.road.Road.{Road}
 use Rattle.grfile.specs.declared.error.GrError.{GrError}
-use Rattle.grfile.specs.declared.error.GrErrorKind.TheVariants.{UnknownLine, FieldCount, NodeRange, ZeroWeight, WeightTooBig, TooManyNodes, TooManyArcs}
+use Rattle.grfile.specs.declared.error.GrErrorKind.TheVariants.{UnknownLine, FieldCount, NodeRange, WeightTooBig, TooManyNodes, TooManyArcs}
 use Rattle.grfile.specs.declared.form.Size.{Size}
 use Rattle.grfile.specs.Outcome.{◌>>=◌, fault}
 use Rattle.grfile.specs.Grammar.{Grammar, number_in}
@@ -29,7 +29,6 @@ abbrev pub road_in_range : ℕ → ℕ → ℕ → ℕ → ℕ → Result Road G
 road_in_range nodes line from to weight =
     if is_outside nodes from then fault NodeRange line
     else if is_outside nodes to then fault NodeRange line
-    else if weight == 0 then fault ZeroWeight line
     else if nat_lt (2 ^ 32 - 1) weight then fault WeightTooBig line
     else Ok (record { from = from - 1; to = to - 1; weight = weight })
 

@@ -23,10 +23,8 @@ pub enum GrErrorKind {
     NotANumber,
     /// A node that is 0, or above the number of nodes.
     NodeRange,
-    /// An arc of weight 0.
-    ZeroWeight,
     /// A weight above 4,294,967,295.
-    WeightTooBig,
+    WeightTooBig = 10,
     /// More than 33,554,432 nodes.
     TooManyNodes,
     /// More than 134,217,728 arcs or pairs.
@@ -68,7 +66,6 @@ impl fmt::Display for GrErrorKind {
             GrErrorKind::FieldCount => "FieldCount",
             GrErrorKind::NotANumber => "NotANumber",
             GrErrorKind::NodeRange => "NodeRange",
-            GrErrorKind::ZeroWeight => "ZeroWeight",
             GrErrorKind::WeightTooBig => "WeightTooBig",
             GrErrorKind::TooManyNodes => "TooManyNodes",
             GrErrorKind::TooManyArcs => "TooManyArcs",

@@ -82,9 +82,6 @@ fn road_in_range(nodes: u32, line: u64, from: u64, to: u64, weight: u64) -> Resu
     if from == 0 || from > u64::from(nodes) || to == 0 || to > u64::from(nodes) {
         return Err(GrErrorKind::NodeRange.at(line));
     }
-    if weight == 0 {
-        return Err(GrErrorKind::ZeroWeight.at(line));
-    }
     if weight > u64::from(u32::MAX) {
         return Err(GrErrorKind::WeightTooBig.at(line));
     }

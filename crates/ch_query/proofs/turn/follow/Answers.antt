@@ -3,18 +3,18 @@ use Rattle.std.proofs.lemmas.Bool.{iff_false}
 use Rattle.ch_query.specs.declared.upward.Step.{Step}
 use Rattle.ch_query.specs.Upward.{step_along}
 use Rattle.ch_cost.specs.declared.cost.Cost.{Cost}
-use Rattle.ch_cost.specs.Cost.{◌⊕◌, ◌≼◌, IsInLimit, IsNoLonger}
-use Rattle.ch_cost.specs.Cost.Laws.{in_limit-from_walks, at_most_trans, at_most_sum_left}
+use Rattle.ch_cost.specs.Cost.{◌⊕◌, IsInLimit, IsNoLonger}
+use Rattle.ch_cost.specs.Cost.Laws.{in_limit-from_walks}
 use Rattle.ch_query.specs.declared.label.Label.{Label}
 use Rattle.ch_query.specs.declared.mark.Mark.{Mark}
 use Rattle.ch_query.specs.Labels.{CountsBelow}
 use Rattle.ch_query.specs.Climb.{foot_at, foot_rank, head_at, head_rank, cost_at}
-use Rattle.ch_query.specs.Marks.{mark_at, IsLatest, Improves}
+use Rattle.ch_query.specs.Marks.{mark_at, IsSettledAtMost, Improves}
 use Rattle.ch_query.specs.Searching.{IsOpenedBy, IsFollowed, ClimbsTo}
 use Rattle.ch_query.proofs.Sides.{head_in}
 use Rattle.ch_query.proofs.Ranks.{rank_below}
 use Rattle.ch_query.proofs.Turning.{bound_in_limit, link_in_limit, rank_few}
-use Rattle.ch_query.proofs.Following.{opened-one, followed-put, followed-kept}
+use Rattle.ch_query.proofs.Following.{opened-one, followed-put, followed-kept, climb-settled}
 use Rattle.ch_query.proofs.turn.follow.Goals as goal
 
 pub step_cost-requires : goal.step_cost-requires
@@ -31,8 +31,15 @@ plus-sum-requires-clause-second c =
     let k : ℕ = slice_index c.args.upward.now.links.items c.args.place in
     subst (λ (d : Cost). IsInLimit d) (sym c.step_cost.ensures) (link_in_limit h c.requires.made k c.requires.step.climbs.within)
 
-latest-sum : (c : goal.After-plus-sum) → IsLatest c.args.here.now c.plus-sum.result
-latest-sum c q e closed = subst (λ (d : Cost). e.cost ≼ d) (sym c.plus-sum.ensures) (at_most_trans (c.requires.latest q e closed) (at_most_sum_left c.args.cost c.step_cost.result))
+pub is_improved_by-requires-clause-settled : goal.is_improved_by-requires-clause-settled
+is_improved_by-requires-clause-settled c =
+    let h = c.args.hierarchy.now in
+    let k : ℕ = slice_index c.args.upward.now.links.items c.args.place in
+    let step : Step = c.index-step.result.now in
+    let is : step ≡ step_along h c.args.side k = c.index-step.ensures ∙ c.requires.step.along step in
+    let head : step.head ≡ head_rank h c.args.side k = ap (λ (s : Step). s.head) is in
+    let sum : c.plus-sum.result ≡ c.args.cost ⊕ cost_at h k = c.plus-sum.ensures ∙ ap (λ (d : Cost). c.args.cost ⊕ d) c.step_cost.ensures in
+    climb-settled h c.args.side c.args.cost c.args.here.now k step.head c.plus-sum.result c.requires.step.climbs c.requires.latest head sum
 
 true_false : {b : Bool} → b ≡ true → b ≡ false → ⊥
 true_false first second = cc
@@ -44,9 +51,6 @@ returns-then-not-counts-clause-followed c counted =
     let sum : c.plus-sum.result ≡ c.args.cost ⊕ cost_at h k = c.plus-sum.ensures ∙ ap (λ (d : Cost). c.args.cost ⊕ d) c.step_cost.ensures in
     absurd (iff_false c.counts.ensures c.if-not-counts.true (subst (λ (d : Cost). CountsBelow h c.args.limit d) (sym sum) counted))
 
-pub is_improved_by-requires-clause-latest : goal.is_improved_by-requires-clause-latest
-is_improved_by-requires-clause-latest c = latest-sum c
-
 pub returns-then-not-is_improved_by-clause-followed : goal.returns-then-not-is_improved_by-clause-followed
 returns-then-not-is_improved_by-clause-followed c counted =
     let h = c.args.hierarchy.now in
@@ -56,7 +60,8 @@ returns-then-not-is_improved_by-clause-followed c counted =
     let head : step.head ≡ head_rank h c.args.side k = ap (λ (s : Step). s.head) is in
     let sum : c.plus-sum.result ≡ c.args.cost ⊕ cost_at h k = c.plus-sum.ensures ∙ ap (λ (d : Cost). c.args.cost ⊕ d) c.step_cost.ensures in
     let never : Improves c.plus-sum.result (mark_at c.args.here.now step.head) → ⊥ = λ improves. true_false (c.is_improved_by.ensures.1 improves) c.if-not-is_improved_by.true in
-    followed-kept h c.args.side c.args.cost c.args.limit c.args.here.now k step.head c.plus-sum.result never c.requires.latest head sum counted
+    let above : IsSettledAtMost c.args.here.now step.head c.plus-sum.result = climb-settled h c.args.side c.args.cost c.args.here.now k step.head c.plus-sum.result c.requires.step.climbs c.requires.latest head sum in
+    followed-kept h c.args.side c.args.cost c.args.limit c.args.here.now k step.head c.plus-sum.result never above head sum counted
 
 pub returns-clause-opened : goal.returns-clause-opened
 returns-clause-opened c =

@@ -1,6 +1,7 @@
 use Rattle.std.proofs.Common.{ℕ, ◌≡◌, ◌+◌, ◌<◌, length, slice_index, sym, subst, arith}
 use Rattle.std.proofs.lemmas.List.{get_or_read}
 use Rattle.ch_cost.specs.Cost.{IsOfWalks}
+use Rattle.ch_query.specs.Marks.{IsLatest}
 use Rattle.ch_query.specs.Searching.{IsOpenedBy}
 use Rattle.ch_query.proofs.Following.{IsPassing, passing-none, passing-more, passed_over, latest-more, step-made, foot-made}
 use Rattle.ch_query.proofs.turn.pass_over.Goals as goal
@@ -25,7 +26,10 @@ follow-requires-clause-step c =
     step-made h c.requires.made c.args.side c.args.upward.now.first.items c.args.upward.now.links.items c.args.upward.now.steps.items c.requires.laid c.args.rank c.requires.rank_in c.loop-place.place c.loop-place.invariant.from (omega (arith, c.loop-place.invariant.end, c.loop-place-test.true))
 
 pub follow-requires-clause-latest : goal.follow-requires-clause-latest
-follow-requires-clause-latest c = latest-more c.loop-place.invariant.passing.opened c.requires.latest
+follow-requires-clause-latest c =
+    let h = c.args.hierarchy.now in
+    let foot = foot-made h c.requires.made c.args.side c.args.upward.now.first.items c.args.upward.now.links.items c.args.upward.now.steps.items c.requires.laid c.args.rank c.requires.rank_in c.loop-place.place c.loop-place.invariant.from (omega (arith, c.loop-place.invariant.end, c.loop-place-test.true)) in
+    subst (λ q. IsLatest c.loop-place.here c.args.cost q) (sym foot) (latest-more c.loop-place.invariant.passing.opened c.requires.latest)
 
 pub follow-requires-clause-fits : goal.follow-requires-clause-fits
 follow-requires-clause-fits c =

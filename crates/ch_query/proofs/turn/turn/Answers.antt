@@ -23,7 +23,7 @@ pub pass_over-requires-clause-limit : goal.pass_over-requires-clause-limit
 pass_over-requires-clause-limit c = subst (λ (o : Option Cost). IsShortLimit c.args.hierarchy.now o) (sym c.cost_of-limit.ensures) (looked-short c.args.hierarchy.now c.args.here.now c.args.there.now c.in-Some.reached.rank c.in-Some.reached.label.cost c.cost.result c.args.best.now c.look_at-found.result c.requires.best c.look_at-found.ensures)
 
 pub pass_over-requires-clause-latest : goal.pass_over-requires-clause-latest
-pass_over-requires-clause-latest c = subst (λ (ms : List Mark). IsLatest ms c.in-Some.reached.label.cost) (sym c.in-Some.ensures.settled) (turn-latest c.args.hierarchy.now c.args.climb.side c.args.upward.now.links.items c.args.climb.start c.args.here.now c.in-Some.reached.rank c.in-Some.reached.label c.requires.searching c.in-Some.ensures.least)
+pass_over-requires-clause-latest c = subst (λ (ms : List Mark). IsLatest ms c.in-Some.reached.label.cost c.in-Some.reached.rank) (sym c.in-Some.ensures.settled) (turn-latest c.args.hierarchy.now c.args.climb.side c.args.upward.now.links.items c.args.climb.start c.args.here.now c.in-Some.reached.rank c.in-Some.reached.label c.requires.searching c.in-Some.ensures.least)
 
 pub pass_over-requires-clause-rank_in : goal.pass_over-requires-clause-rank_in
 pass_over-requires-clause-rank_in c = omega (arith, open-in c.args.here.now c.in-Some.reached.rank c.in-Some.reached.label c.in-Some.ensures.least.opens, c.requires.searching.nodes)

@@ -4,8 +4,5 @@ use Rattle.grfile.proofs.roads.road_in_range.Goals as goal
 pub returns : goal.returns
 returns c = search rules
 
-pub returns-then-weight-eq0 : goal.returns-then-weight-eq0
-returns-then-weight-eq0 c = search rules
-
 pub returns-then-weight-from : goal.returns-then-weight-from
 returns-then-weight-from c = search rules

@@ -1,7 +1,7 @@
 use Rattle.std.proofs.Common.{◌≡◌, [], length, map}
 use Rattle.std.specs.BinaryHeap.{heap_items, IsHeap}
-use Rattle.ch_graph.specs.Queue.{entry_cmp}
 use Rattle.ch_query.specs.Marks.{short_in}
+use Rattle.ch_query.specs.Front.{entry_cmp}
 use Rattle.ch_query.proofs.Entries.{IsClearing}
 use Rattle.ch_query.proofs.frontier.Frontier.clear.Given as goal
 

@@ -1,9 +1,9 @@
-use Rattle.std.proofs.Common.{◌≡◌, ◌<◌, ◌∙◌, List, length, set, ap, subst, sym, arith}
+use Rattle.std.proofs.Common.{◌≡◌, ◌<◌, ◌∙◌, List, ◌∷◌, length, set, ap, subst, sym, arith}
 use Rattle.std.proofs.lemmas.List.{get_or_read}
 use Rattle.std.specs.BinaryHeap.{heap_items}
+use Rattle.std.specs.List.Sorted.{IsPermutation}
 use Rattle.ch_cost.specs.declared.short_cost.ShortCost.{ShortCost}
-use Rattle.ch_graph.specs.Queue.{Entry}
-use Rattle.ch_query.specs.Front.{IsFront}
+use Rattle.ch_query.specs.Front.{Entry, entry, IsFront}
 use Rattle.ch_query.specs.declared.mark.Mark.{Mark}
 use Rattle.ch_query.specs.declared.mark.Mark.TheVariants.{Unseen, Open}
 use Rattle.ch_query.specs.Marks.{mark_at, Improves}
@@ -32,8 +32,9 @@ invariant_of-self-2 c =
     let marks : List Mark = c.self.inside.marks.items in
     let read : c.index.result.now ≡ mark_at marks c.args.rank = get_or_read marks c.args.rank c.index.result.now within c.index.ensures Unseen in
     let improves : Improves c.args.label.cost (mark_at marks c.args.rank) = subst (λ (xs : List Mark). Improves c.args.label.cost (mark_at xs c.args.rank)) (sym c.self.view_is) c.requires.improves in
+    let moved : IsPermutation (entry c.args.label.cost c.args.rank ∷ heap_items c.self.inside.queue) (heap_items c.push.new.self) = subst (λ n. IsPermutation (record { 0 = (n, c.args.rank) } ∷ heap_items c.self.inside.queue) (heap_items c.push.new.self)) c.length.ensures c.in_ok-push.ensures.permutation in
     record {
-      front = front-open marks (heap_items c.self.inside.queue) (heap_items c.push.new.self) c.self.inside.touched.items c.touch.new.touched.items c.args.rank c.args.label c.self.invariant.front within improves c.in_ok-push.ensures.permutation (c.in_ok-push.ensures.heap_order c.self.invariant.front.heap) c.touch.ensures.kept (c.touch.ensures.within (length marks) within c.self.invariant.front.places) (λ unseen. c.in_ok-touch.ensures.put (read ∙ unseen));
+      front = front-open marks (heap_items c.self.inside.queue) (heap_items c.push.new.self) c.self.inside.touched.items c.touch.new.touched.items c.args.rank c.args.label c.self.invariant.front within improves moved (c.in_ok-push.ensures.heap_order c.self.invariant.front.heap) c.touch.ensures.kept (c.touch.ensures.within (length marks) within c.self.invariant.front.places) (λ unseen. c.in_ok-touch.ensures.put (read ∙ unseen));
       known = ap (λ (d : ShortCost). set c.self.inside.costs.items c.args.rank d) c.of.ensures ∙ cost_written marks c.self.inside.costs.items c.args.rank (Open c.args.label) c.self.invariant.known;
     }
 

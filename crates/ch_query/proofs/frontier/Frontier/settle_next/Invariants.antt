@@ -2,7 +2,7 @@ use Rattle.std.proofs.Common.{◌≡◌, map}
 use Rattle.std.specs.BinaryHeap.{heap_items, heap_len}
 use Rattle.ch_query.specs.Marks.{short_in}
 use Rattle.ch_query.specs.Front.{IsFront}
-use Rattle.ch_query.proofs.frontier.Frontier.settle_below.Given as goal
+use Rattle.ch_query.proofs.frontier.Frontier.settle_next.Given as goal
 
 -- entries were passed over, and no mark was written
 abbrev pub invariant-entries : goal.invariant-entries
