@@ -1,16 +1,17 @@
 -- Bytes without a fault spell a well made hierarchy.
-use Rattle.std.proofs.Common.{ℕ, zero, suc, ◌≡◌, ◌+◌, ◌*◌, ◌^◌, ◌<◌, ◌≤◌, ◌==◌, not, false, List, [], ◌++◌, length, get_or, take, drop, Option, None, All, sym, refl, ap, ◌∙◌, arith, append-nil}
+use Rattle.std.proofs.Common.{ℕ, zero, suc, ◌≡◌, ◌+◌, ◌-◌, ◌*◌, ◌^◌, ◌<◌, ◌≤◌, ◌==◌, not, false, List, [], ◌++◌, length, get_or, take, drop, Option, None, All, sym, refl, ap, ◌∙◌, arith, append-nil}
 use Rattle.std.specs.Prelude.{nat_lt, slice_index}
 use Rattle.std.specs.List.{flat_map}
 use Rattle.std.proofs.lemmas.Bool.Decides.{nat_tests}
 use Rattle.std.proofs.lemmas.List.{take-append-drop, nil_from_length}
 use Rattle.ch_cost.specs.declared.cost.Cost.{Cost}
-use Rattle.ch_cost.specs.Cost.{length_of, of_length}
-use Rattle.ch_cost.specs.Cost.Lengths.{length_of-of_length}
+use Rattle.ch_cost.specs.Cost.{length_of}
+use Rattle.ch_cost.specs.Cost.Numbers.{length_of-of_walk}
+use Rattle.ch_graph.specs.declared.version.Version.TheVariants.{Two}
 use Rattle.ch_graph.specs.Hierarchy.{Hierarchy, IsWellMade}
 use Rattle.hierfile.specs.declared.error.HierError.{HierError}
 use Rattle.hierfile.specs.declared.error.HierError.TheVariants.{BadMagic, Trailing}
-use Rattle.hierfile.specs.Spelling.{magic, word, word_in, long_in, link_bytes, words_in, links_in, bytes_of}
+use Rattle.hierfile.specs.Spelling.{magic, word, word_in, long_in, link_bytes, bound_in, words_in, links_in, bytes_of}
 use Rattle.hierfile.specs.Fault.{◌otherwise◌, fault_if, cut, magic_fault, head_fault, size_fault, rank_fault, ranks_fault, link_fault_at, links_fault, half_fault, first_along, end_fault, body_fault, first_fault}
 use Rattle.hierfile.specs.Laws.{IsSpelling}
 use Rattle.hierfile.specs.Bytes.{NoneBelow}
@@ -63,17 +64,17 @@ module _ (ranks : List ℕ) (bound : Cost) (n : ℕ) (bytes : List ℕ) (none : 
   link_at = below_none n (at_link ranks bound n bytes) none
 
   pub no_link : NoneBelow n (link_fault_at ranks bound (links_in n bytes))
-  no_link k less = second_none (cut (20 * (k + 1)) bytes) (link_fault_at ranks bound (links_in n bytes) k) (link_at k less)
+  no_link k less = second_none (cut (24 * (k + 1)) bytes) (link_fault_at ranks bound (links_in n bytes) k) (link_at k less)
 
-  cut_at_link : (k : ℕ) → k < n → 20 * (k + 1) ≤ length bytes
-  cut_at_link k less = none_cut (20 * (k + 1)) bytes (first_none (cut (20 * (k + 1)) bytes) (link_fault_at ranks bound (links_in n bytes) k) (link_at k less))
+  cut_at_link : (k : ℕ) → k < n → 24 * (k + 1) ≤ length bytes
+  cut_at_link k less = none_cut (24 * (k + 1)) bytes (first_none (cut (24 * (k + 1)) bytes) (link_fault_at ranks bound (links_in n bytes) k) (link_at k less))
 
 -- the last of them is there, so all are
 all_words : (n : ℕ) (bytes : List ℕ) → ((k : ℕ) → k < n → 4 * (k + 1) ≤ length bytes) → 4 * n ≤ length bytes
 all_words zero bytes each = omega arith
 all_words (suc n) bytes each = omega (arith, each n (omega arith))
 
-all_links : (n : ℕ) (bytes : List ℕ) → ((k : ℕ) → k < n → 20 * (k + 1) ≤ length bytes) → 20 * n ≤ length bytes
+all_links : (n : ℕ) (bytes : List ℕ) → ((k : ℕ) → k < n → 24 * (k + 1) ≤ length bytes) → 24 * n ≤ length bytes
 all_links zero bytes each = omega arith
 all_links (suc n) bytes each = omega (arith, each n (omega arith))
 
@@ -89,31 +90,35 @@ ends bytes none = nil_from_length bytes (no_more (length bytes) (untrue _ Traili
 record AreFaultless (n k b : ℕ) (bytes : List ℕ) : Type 0 where
   sizes : size_fault n k b ≡ None
   ranks : ranks_fault n bytes ≡ None
-  links : links_fault (words_in n bytes) (of_length b) k (drop (4 * n) bytes) ≡ None
+  links : links_fault (words_in n bytes) (bound_in n b) k (drop (4 * n) bytes) ≡ None
   halves : first_along (half_fault (links_in k (drop (4 * n) bytes))) (links_in k (drop (4 * n) bytes)) ≡ None
-  end : end_fault (drop (20 * k) (drop (4 * n) bytes)) ≡ None
+  end : end_fault (drop (24 * k) (drop (4 * n) bytes)) ≡ None
 
 faultless_body : (n k b : ℕ) (bytes : List ℕ) → size_fault n k b ≡ None → body_fault n k b bytes ≡ None → AreFaultless n k b bytes
 unfolding body_fault
 faultless_body n k b bytes sizes none =
     let rest : List ℕ = drop (4 * n) bytes in
     let ranks : Option HierError = ranks_fault n bytes in
-    let links : Option HierError = links_fault (words_in n bytes) (of_length b) k rest in
+    let links : Option HierError = links_fault (words_in n bytes) (bound_in n b) k rest in
     let halves : Option HierError = first_along (half_fault (links_in k rest)) (links_in k rest) in
-    let end : Option HierError = end_fault (drop (20 * k) rest) in
+    let end : Option HierError = end_fault (drop (24 * k) rest) in
     let three : ranks otherwise links otherwise halves ≡ None = first_none (ranks otherwise links otherwise halves) end none in
     let two : ranks otherwise links ≡ None = first_none (ranks otherwise links) halves three in
     record { sizes = sizes; ranks = first_none ranks links two; links = second_none ranks links two; halves = second_none (ranks otherwise links) halves three; end = second_none (ranks otherwise links otherwise halves) end none }
 
 -- the hierarchy that bytes of so many nodes and links say
 said : ℕ → ℕ → ℕ → List ℕ → Hierarchy
-said n k b bytes = record { ranks = words_in n bytes; links = links_in k (drop (4 * n) bytes); bound = of_length b }
+said n k b bytes = record { version = Two; ranks = words_in n bytes; links = links_in k (drop (4 * n) bytes); bound = bound_in n b }
+
+said_version : (n k b : ℕ) (bytes : List ℕ) → (said n k b bytes).version ≡ Two
+unfolding said
+said_version n k b bytes = refl
 
 said_well : (n k b : ℕ) (bytes : List ℕ) → AreFaultless n k b bytes → IsWellMade (said n k b bytes)
 unfolding said
 said_well n k b bytes is =
     let rest : List ℕ = drop (4 * n) bytes in
-    well_made n k b (words_in n bytes) (links_in k rest) is.sizes (length-words_in n bytes) (no_rank n bytes is.ranks) (length-links_in k rest) (no_link (words_in n bytes) (of_length b) k rest is.links) is.halves
+    well_made n k b (words_in n bytes) (links_in k rest) is.sizes (length-words_in n bytes) (no_rank n bytes is.ranks) (length-links_in k rest) (no_link (words_in n bytes) (bound_in n b) k rest is.links) is.halves
 
 -- its ranks and links are spelled by the bytes
 said_body : (n k b : ℕ) (bytes : List ℕ) → AreBytes bytes → AreFaultless n k b bytes → flat_map word (said n k b bytes).ranks ++ flat_map link_bytes (said n k b bytes).links ≡ bytes
@@ -123,13 +128,13 @@ said_body n k b bytes all is =
     let ranks : List ℕ = flat_map word (words_in n bytes) in
     let links : List ℕ = flat_map link_bytes (links_in k rest) in
     let words_room : 4 * n ≤ length bytes = all_words n bytes (cut_at_rank n bytes is.ranks) in
-    let links_room : 20 * k ≤ length rest = all_links k rest (cut_at_link (words_in n bytes) (of_length b) k rest is.links) in
-    let whole_links : links ≡ rest = sym (append-nil links) ∙ ap (λ l. links ++ l) (sym (ends (drop (20 * k) rest) is.end)) ∙ respelled_links k rest links_room (behind_bytes (4 * n) bytes all) in
+    let links_room : 24 * k ≤ length rest = all_links k rest (cut_at_link (words_in n bytes) (bound_in n b) k rest is.links) in
+    let whole_links : links ≡ rest = sym (append-nil links) ∙ ap (λ l. links ++ l) (sym (ends (drop (24 * k) rest) is.end)) ∙ respelled_links k rest links_room (behind_bytes (4 * n) bytes all) in
     ap (λ l. ranks ++ l) whole_links ∙ respelled_words n bytes words_room all
 
 said_sizes : (n k b : ℕ) (bytes : List ℕ) → sizes (length (said n k b bytes).ranks) (length (said n k b bytes).links) (length_of (said n k b bytes).bound) ≡ sizes n k b
 unfolding said
-said_sizes n k b bytes = same_head (length-words_in n bytes) (length-links_in k (drop (4 * n) bytes)) (length_of-of_length b)
+said_sizes n k b bytes = same_head (length-words_in n bytes) (length-links_in k (drop (4 * n) bytes)) (length_of-of_walk b (n - 1))
 
 spelled : (n k b : ℕ) (head bytes rest : List ℕ) → magic ++ head ≡ bytes → sizes n k b ++ rest ≡ head → AreBytes rest → AreFaultless n k b rest → bytes ≡ bytes_of (said n k b rest)
 spelled n k b head bytes rest begin numbers all is =
@@ -153,4 +158,4 @@ is_spelling bytes all none =
     let room : 20 ≤ length head = none_cut 20 head (first_none (cut 20 head) (size_fault n k b) second) in
     let of_head : AreBytes head = behind_bytes 4 bytes all in
     let is : AreFaultless n k b rest = faultless_body n k b rest (second_none (cut 20 head) (size_fault n k b) second) (second_none (magic_fault bytes otherwise head_fault head) (body_fault n k b rest) none) in
-    (said n k b rest, said_well n k b rest is, spelled n k b head bytes rest (begins bytes first) (respelled_sizes head room of_head) (behind_bytes 20 head of_head) is)
+    (said n k b rest, record { made = said_well n k b rest is; version = said_version n k b rest }, spelled n k b head bytes rest (begins bytes first) (respelled_sizes head room of_head) (behind_bytes 20 head of_head) is)

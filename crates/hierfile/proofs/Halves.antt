@@ -1,8 +1,8 @@
 -- Links by their ends, and the halves of a link.
-use Rattle.std.proofs.Common.{ℕ, zero, suc, ◌≡◌, ◌+◌, ◌==◌, ◌<◌, length, drop, Bool, true, false, cond, not, List, [], ◌∷◌, get_or, Option, None, Some, AllPairs, inl, inr, sym, refl, ap, ◌∙◌, subst, arith}
+use Rattle.std.proofs.Common.{ℕ, zero, suc, ◌≡◌, ◌+◌, ◌<◌, length, drop, Bool, true, false, cond, not, List, [], ◌∷◌, get_or, Option, None, Some, AllPairs, inl, inr, sym, refl, ap, ◌∙◌, subst, arith}
 use Rattle.std.specs.List.{find}
 use Rattle.std.proofs.lemmas.Bool.Decides.{nat_tests}
-use Rattle.ch_cost.specs.Cost.{length_of}
+use Rattle.ch_cost.specs.Cost.{◌⊕◌, same}
 use Rattle.ch_graph.specs.declared.link.Link.{Link}
 use Rattle.ch_graph.specs.Hierarchy.{ComesBefore, IsLinkAt}
 use Rattle.hierfile.specs.declared.error.HierError.TheVariants.{HalfMissing, HalfSum}
@@ -63,11 +63,11 @@ module _ (links : List Link) (l : Link) (m : ℕ) (by_way : l.middle ≡ Some m)
       missing None = refl
       missing (Some a) = refl
 
-  pub both_found : AllPairs ComesBefore links → (first second : ℕ) (d : Link) (same : Bool) → IsLinkAt links l.from m first → IsLinkAt links m l.to second → same ≡ (length_of l.cost == length_of (get_or links first d).cost + length_of (get_or links second d).cost) → half_fault links l ≡ fault_if (not same) HalfSum
-  both_found sorted first second d same at_first at_second is =
+  pub both_found : AllPairs ComesBefore links → (first second : ℕ) (d : Link) (is_sum : Bool) → IsLinkAt links l.from m first → IsLinkAt links m l.to second → is_sum ≡ same l.cost ((get_or links first d).cost ⊕ (get_or links second d).cost) → half_fault links l ≡ fault_if (not is_sum) HalfSum
+  both_found sorted first second d is_sum at_first at_second is =
       let a : Link = get_or links first d in
       let b : Link = get_or links second d in
-      by_middle (fault_if (not same) HalfSum)
+      by_middle (fault_if (not is_sum) HalfSum)
       (ap (λ (o : Option Link). sum_fault o (find (leads m l.to) links) l.cost) (find-at l.from m links first d sorted at_first)
       ∙ ap (λ (o : Option Link). sum_fault (Some a) o l.cost) (find-at m l.to links second d sorted at_second)
       ∙ ap (λ (e : Bool). fault_if (not e) HalfSum) (sym is))

@@ -44,13 +44,13 @@ none-push ranks bound l i ls len before is k h = elim (cases_lt k i) [
 
 -- the fault of the bytes at a place of a link
 abbrev pub at_link : List ℕ → Cost → ℕ → List ℕ → ℕ → Option HierError
-at_link ranks bound n bytes k = cut (20 * (k + 1)) bytes otherwise link_fault_at ranks bound (links_in n bytes) k
+at_link ranks bound n bytes k = cut (24 * (k + 1)) bytes otherwise link_fault_at ranks bound (links_in n bytes) k
 
 spelled : (ranks : List ℕ) (bound : Cost) (n : ℕ) (ls : List Link) (rest : List ℕ) → length ls ≤ n → All IsWritable ls → (k : ℕ) → k < length ls → at_link ranks bound n (flat_map link_bytes ls ++ rest) k ≡ link_fault_at ranks bound ls k
 spelled ranks bound n ls rest h fits k less =
     let bytes : List ℕ = flat_map link_bytes ls ++ rest in
-    let long : length bytes ≡ 20 * length ls + length rest = length-append (flat_map link_bytes ls) rest ∙ ap (λ m. m + length rest) (length-links ls) in
-    let whole : cut (20 * (k + 1)) bytes ≡ None = cut_none (20 * (k + 1)) bytes (omega arith) in
+    let long : length bytes ≡ 24 * length ls + length rest = length-append (flat_map link_bytes ls) rest ∙ ap (λ m. m + length rest) (length-links ls) in
+    let whole : cut (24 * (k + 1)) bytes ≡ None = cut_none (24 * (k + 1)) bytes (omega arith) in
     let links = links_in-front n (n - length ls) ls rest (omega arith) fits in
     subst (λ (o : Option HierError). o otherwise link_fault_at ranks bound (links_in n bytes) k ≡ link_fault_at ranks bound ls k) (sym whole)
     (ap (λ (l : List Link). link_fault_at ranks bound l k) links ∙ link_fault-front ranks bound k ls (links_in (n - length ls) rest) less)
@@ -60,12 +60,12 @@ none_spelled : (ranks : List ℕ) (bound : Cost) (n i : ℕ) (ls : List Link) (r
 none_spelled ranks bound n i ls rest h k fits none m less = spelled ranks bound n ls rest h fits m (omega arith) ∙ none m less
 
 -- the bytes end within the next link
-pub links_cut : (ranks : List ℕ) (bound : Cost) (n : ℕ) (ls : List Link) (rest : List ℕ) (e : HierError) → All IsWritable ls → length ls < n → NoneBelow (length ls) (link_fault_at ranks bound ls) → cut 20 rest ≡ Some e
+pub links_cut : (ranks : List ℕ) (bound : Cost) (n : ℕ) (ls : List Link) (rest : List ℕ) (e : HierError) → All IsWritable ls → length ls < n → NoneBelow (length ls) (link_fault_at ranks bound ls) → cut 24 rest ≡ Some e
     → links_fault ranks bound n (flat_map link_bytes ls ++ rest) ≡ Some e
 links_cut ranks bound n ls rest e fits h none is =
-    let short : length (flat_map link_bytes ls) + 20 ≤ 20 * (length ls + 1) = omega (arith, length-links ls) in
+    let short : length (flat_map link_bytes ls) + 24 ≤ 24 * (length ls + 1) = omega (arith, length-links ls) in
     first_at n (length ls) (at_link ranks bound n (flat_map link_bytes ls ++ rest)) h (none_spelled ranks bound n (length ls) ls rest (omega arith) (omega arith) fits none)
-    (earlier _ (cut_behind (20 * (length ls + 1)) 20 (flat_map link_bytes ls) rest short is))
+    (earlier _ (cut_behind (24 * (length ls + 1)) 24 (flat_map link_bytes ls) rest short is))
 
 -- the next link has a fault
 pub links_stop : (ranks : List ℕ) (bound : Cost) (n : ℕ) (l : Link) (ls : List Link) (rest : List ℕ) (e : HierError) → All IsWritable ls → IsWritable l → length ls < n → NoneBelow (length ls) (link_fault_at ranks bound ls)

@@ -3,11 +3,12 @@ use Rattle.std.proofs.Common.{ℕ, ◌≡◌, ◌+◌, ◌-◌, ◌*◌, ◌^◌
 use Rattle.std.specs.Prelude.{IfSome}
 use Rattle.std.specs.List.{flat_map}
 use Rattle.ch_cost.specs.declared.cost.Cost.{Cost}
-use Rattle.ch_cost.specs.Cost.{length_of, of_length, cost_of_arcs}
-use Rattle.ch_cost.specs.Cost.Lengths.{of_length-length_of, length_of-cost_of_arcs, lengths-from_within}
+use Rattle.ch_cost.specs.Cost.{length_of, arcs_of, of_walk, cost_of_arcs}
+use Rattle.ch_cost.specs.Cost.Numbers.{of_walk-numbers, length_of-cost_of_arcs, arcs_of-cost_of_arcs, lengths-from_within, arcs-from_within}
 use Rattle.ch_graph.specs.declared.link.Link.{Link}
-use Rattle.ch_graph.specs.Hierarchy.{Hierarchy, IsWellMade, IsLinkWellMade}
-use Rattle.hierfile.specs.Spelling.{magic, word, word_in, long_in, link_bytes, head_bytes, words_in, links_in, bytes_of}
+use Rattle.ch_graph.specs.declared.version.Version.{Version}
+use Rattle.ch_graph.specs.Hierarchy.{Hierarchy, IsWellMade, IsLinkWellMade, bound_arcs}
+use Rattle.hierfile.specs.Spelling.{magic, word, word_in, long_in, link_bytes, head_bytes, bound_in, words_in, links_in, bytes_of, IsOfFile}
 use Rattle.hierfile.specs.Bytes.{IsWritable}
 use Rattle.hierfile.proofs.Heads.{sizes, nodes-sizes, bound-sizes, drop-sizes}
 use Rattle.hierfile.proofs.Bodies.{words-all, links-all, drop-words}
@@ -18,6 +19,18 @@ pub bound_fits : (h : Hierarchy) → IsWellMade h → length_of h.bound < 2 ^ 57
 bound_fits h made =
     let most : length_of h.bound ≤ (length h.ranks - 1) * (2 ^ 32 - 1) = subst (λ m. length_of h.bound ≤ m) (length_of-cost_of_arcs (length h.ranks - 1) (2 ^ 32 - 1)) (lengths-from_within h.bound (cost_of_arcs (length h.ranks - 1) (2 ^ 32 - 1)) made.bound) in
     omega (arith, most, made.few_nodes)
+
+-- and their arcs four
+arcs_fit : (h : Hierarchy) → IsWellMade h → arcs_of h.bound ≤ 2 ^ 25
+arcs_fit h made =
+    let greatest : Cost = cost_of_arcs (length h.ranks - 1) (2 ^ 32 - 1) in
+    omega (arith, arcs-from_within h.bound greatest made.bound, arcs_of-cost_of_arcs (length h.ranks - 1) (2 ^ 32 - 1), made.few_nodes)
+
+-- the bound is told by its length
+pub bound_is : (h : Hierarchy) → IsOfFile h → bound_in (length h.ranks) (length_of h.bound) ≡ h.bound
+bound_is h of_file =
+    let arcs : arcs_of h.bound ≡ length h.ranks - 1 = subst (λ (v : Version). arcs_of h.bound ≡ bound_arcs v (length h.ranks)) of_file.version of_file.made.bound_arcs in
+    ap (λ (n : ℕ). of_walk (length_of h.bound) n) (sym arcs) ∙ of_walk-numbers h.bound
 
 middle_fits : (h : Hierarchy) (l : Link) (o : Option ℕ) → l.middle ≡ o → IsWellMade h → IsLinkWellMade h l → IfSome o (λ m. m < 2 ^ 32 - 1)
 middle_fits h l None is made fine = tt
@@ -37,6 +50,7 @@ links_fit h made k d less =
       from = omega (arith, fine.from_in, made.few_nodes);
       to = omega (arith, fine.to_in, made.few_nodes);
       cost = omega (arith, lengths-from_within l.cost h.bound fine.within, bound_fits h made);
+      arcs = omega (arith, arcs-from_within l.cost h.bound fine.within, arcs_fit h made);
       middle = middle_fits h l l.middle refl made fine;
     }
 
@@ -67,7 +81,7 @@ bound_of h made = ap (λ l. long_in (drop 12 l)) (tail_of h) ∙ bound-sizes (le
 body_of : (h : Hierarchy) → drop 20 (drop 4 (bytes_of h)) ≡ body h
 body_of h = ap (drop 20) (tail_of h) ∙ drop-sizes (length h.ranks) (length h.links) (length_of h.bound) (body h)
 
-length-body : (h : Hierarchy) → length (body h) ≡ 4 * length h.ranks + 20 * length h.links
+length-body : (h : Hierarchy) → length (body h) ≡ 4 * length h.ranks + 24 * length h.links
 length-body h = omega (arith, length-append (flat_map word h.ranks) (flat_map link_bytes h.links), length-words h.ranks, length-links h.links)
 
 ranks_of : (h : Hierarchy) (n : ℕ) → IsWellMade h → length h.ranks ≡ n → words_in n (body h) ≡ h.ranks
@@ -76,14 +90,18 @@ ranks_of h n made e = words-all n h.ranks (flat_map link_bytes h.links) e (ranks
 links_of : (h : Hierarchy) (n k : ℕ) → IsWellMade h → length h.ranks ≡ n → length h.links ≡ k → links_in k (drop (4 * n) (body h)) ≡ h.links
 links_of h n k made e f = ap (links_in k) (drop-words n h.ranks (flat_map link_bytes h.links) e ∙ sym (append-nil (flat_map link_bytes h.links))) ∙ links-all k h.links [] f (links_fit h made)
 
-abbrev made_of : List ℕ → List Link → Cost → Hierarchy
-made_of r l b = record { ranks = r; links = l; bound = b }
+abbrev made_of : Version → List ℕ → List Link → Cost → Hierarchy
+made_of v r l b = record { version = v; ranks = r; links = l; bound = b }
 
-same : (g h : Hierarchy) → g.ranks ≡ h.ranks → g.links ≡ h.links → g.bound ≡ h.bound → g ≡ h
-same g h p q r = ap (λ (x : List ℕ). made_of x g.links g.bound) p ∙ ap (λ (x : List Link). made_of h.ranks x g.bound) q ∙ ap (λ (x : Cost). made_of h.ranks h.links x) r
+same : (g h : Hierarchy) → g.version ≡ h.version → g.ranks ≡ h.ranks → g.links ≡ h.links → g.bound ≡ h.bound → g ≡ h
+same g h v p q r =
+    ap (λ (x : Version). made_of x g.ranks g.links g.bound) v ∙ ap (λ (x : List ℕ). made_of h.version x g.links g.bound) p
+    ∙ ap (λ (x : List Link). made_of h.version h.ranks x g.bound) q ∙ ap (λ (x : Cost). made_of h.version h.ranks h.links x) r
 
-pub one_spelling : (g h : Hierarchy) → IsWellMade g → IsWellMade h → bytes_of g ≡ bytes_of h → g ≡ h
-one_spelling g h made_g made_h e =
+pub one_spelling : (g h : Hierarchy) → IsOfFile g → IsOfFile h → bytes_of g ≡ bytes_of h → g ≡ h
+one_spelling g h of_g of_h e =
+    let made_g : IsWellMade g = of_g.made in
+    let made_h : IsWellMade h = of_h.made in
     let nodes : length g.ranks ≡ length h.ranks = sym (nodes_of g made_g) ∙ ap (λ l. word_in (drop 4 l)) e ∙ nodes_of h made_h in
     let bodies : body g ≡ body h = sym (body_of g) ∙ ap (λ l. drop 20 (drop 4 l)) e ∙ body_of h in
     let count : length g.links ≡ length h.links = omega (arith, nodes, ap length bodies, length-body g, length-body h) in
@@ -92,4 +110,5 @@ one_spelling g h made_g made_h e =
     let ranks : g.ranks ≡ h.ranks = sym (ranks_of g n made_g nodes) ∙ ap (words_in n) bodies ∙ ranks_of h n made_h refl in
     let links : g.links ≡ h.links = sym (links_of g n k made_g nodes count) ∙ ap (λ l. links_in k (drop (4 * n) l)) bodies ∙ links_of h n k made_h refl refl in
     let lengths : length_of g.bound ≡ length_of h.bound = sym (bound_of g made_g) ∙ ap (λ l. long_in (drop 12 (drop 4 l))) e ∙ bound_of h made_h in
-    same g h ranks links (sym (of_length-length_of g.bound) ∙ ap of_length lengths ∙ of_length-length_of h.bound)
+    let bounds : bound_in (length g.ranks) (length_of g.bound) ≡ bound_in (length h.ranks) (length_of h.bound) = ap (λ m. bound_in m (length_of g.bound)) nodes ∙ ap (bound_in n) lengths in
+    same g h (of_g.version ∙ sym of_h.version) ranks links (sym (bound_is g of_g) ∙ bounds ∙ bound_is h of_h)

@@ -6,8 +6,9 @@ use Rattle.std.proofs.lemmas.Bool.Decides.{nat_tests}
 use Rattle.std.proofs.lemmas.List.{take-append-drop, drop-drop}
 use Rattle.std.proofs.lemmas.List.Elements.{All-drop}
 use Rattle.std.proofs.lemmas.Nat.{be_bytes_4, be_bytes_8}
-use Rattle.ch_cost.specs.Cost.{length_of, of_length}
-use Rattle.ch_cost.specs.Cost.Lengths.{length_of-of_length}
+use Rattle.ch_cost.specs.declared.cost.Cost.{Cost}
+use Rattle.ch_cost.specs.Cost.{length_of, arcs_of, of_walk}
+use Rattle.ch_cost.specs.Cost.Numbers.{length_of-of_walk, arcs_of-of_walk}
 use Rattle.hierfile.specs.Spelling.{word, long, link_bytes, middle_number, middle_in, word_in, long_in, link_in, words_in, links_in}
 use Rattle.hierfile.proofs.Buffer.{first_four, first_eight, four_fit, eight_fit}
 use Rattle.hierfile.proofs.Heads.{sizes}
@@ -71,20 +72,29 @@ number_in-middle m =
     same : (m : ℕ) → (m == 2 ^ 32 - 1) ≡ true → 2 ^ 32 - 1 ≡ m
     same m is = grind (arith, nat_tests)
 
+four : (a b c d rest : List ℕ) → (((a ++ b) ++ c) ++ d) ++ rest ≡ a ++ (b ++ (c ++ (d ++ rest)))
+four a b c d rest = append_assoc ((a ++ b) ++ c) d rest ∙ three a b c (d ++ rest)
+
 -- a link
-respelled_link : (bytes : List ℕ) → 20 ≤ length bytes → AreBytes bytes → link_bytes (link_in bytes) ++ drop 20 bytes ≡ bytes
+respelled_link : (bytes : List ℕ) → 24 ≤ length bytes → AreBytes bytes → link_bytes (link_in bytes) ++ drop 24 bytes ≡ bytes
 unfolding link_bytes link_in
 respelled_link bytes room all =
     let a : List ℕ = word (word_in bytes) in
     let b : List ℕ = word (word_in (drop 4 bytes)) in
     let c : List ℕ = long (long_in (drop 8 bytes)) in
-    let cost : long (length_of (of_length (long_in (drop 8 bytes)))) ≡ c = ap long (length_of-of_length (long_in (drop 8 bytes))) in
-    let middle : word (middle_number (middle_in (word_in (drop 16 bytes)))) ≡ word (word_in (drop 16 bytes)) = ap word (number_in-middle (word_in (drop 16 bytes))) in
-    ap (λ l. (((a ++ b) ++ l) ++ word (middle_number (middle_in (word_in (drop 16 bytes))))) ++ drop 20 bytes) cost
-    ∙ ap (λ l. (((a ++ b) ++ c) ++ l) ++ drop 20 bytes) middle
-    ∙ append_assoc ((a ++ b) ++ c) (word (word_in (drop 16 bytes))) (drop 20 bytes)
-    ∙ ap (λ l. ((a ++ b) ++ c) ++ l) (word_front 16 bytes (drop 20 bytes) (omega arith) all refl)
-    ∙ three a b c (drop 16 bytes)
+    let d : List ℕ = word (word_in (drop 16 bytes)) in
+    let cost : Cost = of_walk (long_in (drop 8 bytes)) (word_in (drop 16 bytes)) in
+    let end : List ℕ = word (middle_number (middle_in (word_in (drop 20 bytes)))) in
+    let length : long (length_of cost) ≡ c = ap long (length_of-of_walk (long_in (drop 8 bytes)) (word_in (drop 16 bytes))) in
+    let arcs : word (arcs_of cost) ≡ d = ap word (arcs_of-of_walk (long_in (drop 8 bytes)) (word_in (drop 16 bytes))) in
+    let middle : end ≡ word (word_in (drop 20 bytes)) = ap word (number_in-middle (word_in (drop 20 bytes))) in
+    ap (λ l. ((((a ++ b) ++ l) ++ word (arcs_of cost)) ++ end) ++ drop 24 bytes) length
+    ∙ ap (λ l. ((((a ++ b) ++ c) ++ l) ++ end) ++ drop 24 bytes) arcs
+    ∙ ap (λ l. ((((a ++ b) ++ c) ++ d) ++ l) ++ drop 24 bytes) middle
+    ∙ append_assoc (((a ++ b) ++ c) ++ d) (word (word_in (drop 20 bytes))) (drop 24 bytes)
+    ∙ ap (λ l. (((a ++ b) ++ c) ++ d) ++ l) (word_front 20 bytes (drop 24 bytes) (omega arith) all refl)
+    ∙ four a b c d (drop 20 bytes)
+    ∙ ap (λ l. a ++ (b ++ (c ++ l))) (word_front 16 bytes (drop 20 bytes) (omega arith) all refl)
     ∙ ap (λ l. a ++ (b ++ l)) (long_front 8 bytes (drop 16 bytes) (omega arith) all refl)
     ∙ ap (λ l. a ++ l) (word_front 4 bytes (drop 8 bytes) (omega arith) all refl)
     ∙ word_front 0 bytes (drop 4 bytes) (omega arith) all refl
@@ -97,7 +107,7 @@ length-words_in (suc n) bytes = omega (arith, length-words_in n (drop 4 bytes))
 
 pub length-links_in : (n : ℕ) (bytes : List ℕ) → length (links_in n bytes) ≡ n
 length-links_in zero bytes = refl
-length-links_in (suc n) bytes = omega (arith, length-links_in n (drop 20 bytes))
+length-links_in (suc n) bytes = omega (arith, length-links_in n (drop 24 bytes))
 
 behind : (m n total : ℕ) (bytes : List ℕ) → total ≡ m + n → drop total bytes ≡ drop n (drop m bytes)
 behind m n total bytes e = ap (λ k. drop k bytes) e ∙ sym (drop-drop n m bytes)
@@ -113,13 +123,13 @@ respelled_words (suc n) bytes room all =
     ∙ ap (λ l. w ++ l) (respelled_words n more (omega (arith, length-drop 4 bytes)) (behind_bytes 4 bytes all))
     ∙ word_front 0 bytes more (omega arith) all refl
 
-pub respelled_links : (n : ℕ) (bytes : List ℕ) → 20 * n ≤ length bytes → AreBytes bytes → flat_map link_bytes (links_in n bytes) ++ drop (20 * n) bytes ≡ bytes
+pub respelled_links : (n : ℕ) (bytes : List ℕ) → 24 * n ≤ length bytes → AreBytes bytes → flat_map link_bytes (links_in n bytes) ++ drop (24 * n) bytes ≡ bytes
 respelled_links zero bytes room all = refl
 respelled_links (suc n) bytes room all =
     let l : List ℕ = link_bytes (link_in bytes) in
-    let more : List ℕ = drop 20 bytes in
+    let more : List ℕ = drop 24 bytes in
     let links : List ℕ = flat_map link_bytes (links_in n more) in
-    append_assoc l links (drop (20 * suc n) bytes)
-    ∙ ap (λ r. l ++ (links ++ r)) (behind 20 (20 * n) (20 * suc n) bytes (omega arith))
-    ∙ ap (λ r. l ++ r) (respelled_links n more (omega (arith, length-drop 20 bytes)) (behind_bytes 20 bytes all))
+    append_assoc l links (drop (24 * suc n) bytes)
+    ∙ ap (λ r. l ++ (links ++ r)) (behind 24 (24 * n) (24 * suc n) bytes (omega arith))
+    ∙ ap (λ r. l ++ r) (respelled_links n more (omega (arith, length-drop 24 bytes)) (behind_bytes 24 bytes all))
     ∙ respelled_link bytes (omega arith) all

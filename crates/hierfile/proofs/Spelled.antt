@@ -1,13 +1,14 @@
 -- What spelled bytes say.
 use Rattle.std.proofs.Common.{ℕ, zero, suc, ◌≡◌, ◌+◌, ◌-◌, ◌*◌, ◌^◌, ◌<◌, List, [], ◌∷◌, ◌++◌, length, drop, Option, None, Some, refl, ap, ◌∙◌, arith, append_assoc, length-append, zero-add, All}
 use Rattle.std.specs.Prelude.{IfSome}
+use Rattle.std.specs.Int.{w32, w64, to_be_bytes, from_be_bytes}
 use Rattle.std.proofs.lemmas.Bool.Decides.{nat_tests}
 use Rattle.hierfile.specs.Bytes.{IsWritable}
 use Rattle.std.specs.List.{flat_map}
 use Rattle.std.proofs.lemmas.Nat.{from_be_bytes-to_be_bytes_4, from_be_bytes-to_be_bytes_8}
 use Rattle.ch_cost.specs.declared.cost.Cost.{Cost}
-use Rattle.ch_cost.specs.Cost.{length_of, of_length}
-use Rattle.ch_cost.specs.Cost.Lengths.{of_length-length_of}
+use Rattle.ch_cost.specs.Cost.{length_of, arcs_of, of_walk}
+use Rattle.ch_cost.specs.Cost.Numbers.{of_walk-numbers}
 use Rattle.ch_graph.specs.declared.link.Link.{Link}
 use Rattle.hierfile.specs.Spelling.{word, long, link_bytes, middle_number, middle_in, word_in, long_in, link_in, words_in, links_in}
 
@@ -49,19 +50,21 @@ same_link l {a} {b} {c} {m} p q r s =
 pub link_in-bytes : (l : Link) (rest : List ℕ) → IsWritable l → link_in (link_bytes l ++ rest) ≡ l
 unfolding link_in link_bytes word long word_in long_in
 link_in-bytes l rest h =
-    let length = ap of_length (from_be_bytes-to_be_bytes_8 (length_of l.cost) h.cost) ∙ of_length-length_of l.cost in
+    let length : from_be_bytes w64 (to_be_bytes w64 (length_of l.cost)) ≡ length_of l.cost = from_be_bytes-to_be_bytes_8 (length_of l.cost) h.cost in
+    let arcs : from_be_bytes w32 (to_be_bytes w32 (arcs_of l.cost)) ≡ arcs_of l.cost = from_be_bytes-to_be_bytes_4 (arcs_of l.cost) h.arcs in
+    let cost = ap (λ (n : ℕ). of_walk n (from_be_bytes w32 (to_be_bytes w32 (arcs_of l.cost)))) length ∙ ap (λ (n : ℕ). of_walk (length_of l.cost) n) arcs ∙ of_walk-numbers l.cost in
     let fits : middle_number l.middle < 2 ^ 32 = number_fits l.middle h.middle in
-    same_link l (from_be_bytes-to_be_bytes_4 l.from h.from) (from_be_bytes-to_be_bytes_4 l.to h.to) length (ap middle_in (from_be_bytes-to_be_bytes_4 (middle_number l.middle) fits) ∙ middle_in-number l.middle h.middle)
+    same_link l (from_be_bytes-to_be_bytes_4 l.from h.from) (from_be_bytes-to_be_bytes_4 l.to h.to) cost (ap middle_in (from_be_bytes-to_be_bytes_4 (middle_number l.middle) fits) ∙ middle_in-number l.middle h.middle)
   where
     number_fits : (m : Option ℕ) → IfSome m (λ n. n < 2 ^ 32 - 1) → middle_number m < 2 ^ 32
     number_fits None h = omega arith
     number_fits (Some n) h = omega (arith, h)
 
-pub length-link_bytes : (l : Link) → length (link_bytes l) ≡ 20
+pub length-link_bytes : (l : Link) → length (link_bytes l) ≡ 24
 unfolding link_bytes word long
 length-link_bytes l = refl
 
-pub drop-link_bytes : (l : Link) (rest : List ℕ) → drop 20 (link_bytes l ++ rest) ≡ rest
+pub drop-link_bytes : (l : Link) (rest : List ℕ) → drop 24 (link_bytes l ++ rest) ≡ rest
 unfolding link_bytes word long
 drop-link_bytes l rest = refl
 
@@ -97,6 +100,6 @@ pub length-words : (ns : List ℕ) → length (flat_map word ns) ≡ 4 * length 
 length-words [] = refl
 length-words (x ∷ ns) = omega (arith, length-append (word x) (flat_map word ns), length-word x, length-words ns)
 
-pub length-links : (ls : List Link) → length (flat_map link_bytes ls) ≡ 20 * length ls
+pub length-links : (ls : List Link) → length (flat_map link_bytes ls) ≡ 24 * length ls
 length-links [] = refl
 length-links (l ∷ ls) = omega (arith, length-append (link_bytes l) (flat_map link_bytes ls), length-link_bytes l, length-links ls)

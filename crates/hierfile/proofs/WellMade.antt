@@ -1,6 +1,6 @@
 -- Without faults a hierarchy is well made.
-use Rattle.std.proofs.Common.{ℕ, zero, suc, ◌≡◌, ◌≢◌, ◌+◌, ◌-◌, ◌*◌, ◌^◌, ◌<◌, ◌≤◌, ◌==◌, ◌||◌, ◌&&◌, not, Bool, true, false, cond, List, [], ◌∷◌, length, get_or, take, Option, None, Some, All, AllPairs, Contains, inl, inr, sym, refl, ap, ◌∙◌, subst, arith}
-use Rattle.std.specs.Prelude.{nat_lt, nat_le, slice_index, slice_get, option_and_then}
+use Rattle.std.proofs.Common.{ℕ, zero, suc, ◌≡◌, ◌≢◌, ◌-◌, ◌*◌, ◌^◌, ◌<◌, ◌≤◌, ◌==◌, ◌||◌, ◌&&◌, not, Bool, true, false, cond, List, [], ◌∷◌, length, get_or, take, Option, None, Some, All, AllPairs, Contains, inl, inr, sym, refl, ap, ◌∙◌, subst, arith}
+use Rattle.std.specs.Prelude.{nat_lt, nat_le, slice_index, slice_get, option_and_then, is_some}
 use Rattle.std.specs.List.{list_any, find}
 use Rattle.std.proofs.lemmas.Bool.{cases_lt}
 use Rattle.std.proofs.lemmas.Bool.Decides.{nat_tests}
@@ -8,14 +8,16 @@ use Rattle.std.proofs.lemmas.Grind.{get_or_default_zero}
 use Rattle.std.proofs.lemmas.List.{length-take-le, get_or-take}
 use Rattle.std.proofs.lemmas.List.Folds.{list_any_at}
 use Rattle.ch_cost.specs.declared.cost.Cost.{Cost}
-use Rattle.ch_cost.specs.Cost.{zero_cost, ◌⊕◌, cost_of_arcs, length_of, of_length}
-use Rattle.ch_cost.specs.Cost.Laws.{length_of-zero_cost, length_of-sum}
-use Rattle.ch_cost.specs.Cost.Lengths.{length_of-of_length, of_length-length_of, length_of-cost_of_arcs, below-from_lengths, within-from_lengths}
+use Rattle.ch_cost.specs.Cost.{◌⊕◌, cost_of_arcs, length_of, arcs_of, same}
+use Rattle.ch_cost.specs.Cost.Laws.{equal-from_same}
+use Rattle.ch_cost.specs.Cost.Numbers.{length_of-of_walk, arcs_of-of_walk, length_of-cost_of_arcs, arcs_of-cost_of_arcs, within-from_numbers}
 use Rattle.ch_graph.specs.declared.link.Link.{Link}
-use Rattle.ch_graph.specs.Hierarchy.{Hierarchy, IsWellMade, AreHalves, ComesBefore}
+use Rattle.ch_graph.specs.declared.version.Version.TheVariants.{Two}
+use Rattle.ch_graph.specs.Hierarchy.{Hierarchy, IsWellMade, AreHalves, ComesBefore, CountsArcs}
 use Rattle.hierfile.specs.declared.error.HierError.{HierError}
 use Rattle.hierfile.specs.declared.error.HierError.TheVariants.{RankTwice, RankRange, LinkEnds, LinkOrder, LinkWeight, MiddleRange, MiddleRank, HalfSum, TooBig, BoundTooBig}
-use Rattle.hierfile.specs.Fault.{◌otherwise◌, fault_if, size_fault, rank_test, rank_fault, link_fault, link_fault_at, middle_fault, is_before, is_in_order, half_fault, halves_fault, sum_fault, leads, first_along}
+use Rattle.hierfile.specs.Spelling.{bound_in}
+use Rattle.hierfile.specs.Fault.{◌otherwise◌, fault_if, size_fault, rank_test, rank_fault, has_weight, link_fault, link_fault_at, middle_fault, is_before, is_in_order, half_fault, halves_fault, sum_fault, leads, first_along}
 use Rattle.hierfile.specs.Bytes.{NoneBelow}
 use Rattle.hierfile.proofs.Faults.{first_none, second_none}
 use Rattle.hierfile.proofs.RankFaults.{rank_in}
@@ -73,8 +75,9 @@ pub record LinkFacts (ranks : List ℕ) (bound : Cost) (earlier : Option Link) (
   pub to_in : l.to < length ranks
   pub apart : l.from ≢ l.to
   pub ordered : is_in_order earlier l ≡ true
-  pub above : 0 < length_of l.cost
   pub within : length_of l.cost ≤ length_of bound
+  pub few_arcs : arcs_of l.cost ≤ arcs_of bound
+  pub counts : CountsArcs l
   pub middle : middle_fault ranks l.from l.to l.middle ≡ None
 
 ends_from : (n a b : ℕ) → (nat_le n a || nat_le n b || a == b) ≡ false → a < n
@@ -86,36 +89,47 @@ ends_to n a b h = grind (arith, nat_tests)
 ends_apart : (n a b : ℕ) → (nat_le n a || nat_le n b || a == b) ≡ false → a ≢ b
 ends_apart n a b h e = grind (arith, nat_tests)
 
-weight_above : (w b : ℕ) → (w == 0 || nat_lt b w) ≡ false → 0 < w
-weight_above w b h = grind (arith, nat_tests)
+-- what the test of a cost finds
+weighs : (w b a n : ℕ) (m : Bool) → (nat_le w b && nat_le a n && nat_lt 0 a && (m || a == 1)) ≡ true → w ≤ b
+weighs w b a n m h = grind (arith, nat_tests)
 
-weight_within : (w b : ℕ) → (w == 0 || nat_lt b w) ≡ false → w ≤ b
-weight_within w b h = grind (arith, nat_tests)
+has_few : (w b a n : ℕ) (m : Bool) → (nat_le w b && nat_le a n && nat_lt 0 a && (m || a == 1)) ≡ true → a ≤ n
+has_few w b a n m h = grind (arith, nat_tests)
+
+has_some : (w b a n : ℕ) (m : Bool) → (nat_le w b && nat_le a n && nat_lt 0 a && (m || a == 1)) ≡ true → 0 < a
+has_some w b a n m h = grind (arith, nat_tests)
+
+has_one : (w b a n : ℕ) (m : Bool) → (nat_le w b && nat_le a n && nat_lt 0 a && (m || a == 1)) ≡ true → m ≡ false → a ≡ 1
+has_one w b a n m h none = grind (arith, nat_tests)
 
 not_false : (b : Bool) → not b ≡ false → b ≡ true
 not_false true h = refl
 not_false false h = absurd (cc)
 
 pub link_facts : (ranks : List ℕ) (bound : Cost) (earlier : Option Link) (l : Link) → link_fault ranks bound earlier l ≡ None → LinkFacts ranks bound earlier l
-unfolding link_fault
+unfolding link_fault has_weight
 link_facts ranks bound earlier l h =
     let n : ℕ = length ranks in
     let ends : Option HierError = fault_if (nat_le n l.from || nat_le n l.to || l.from == l.to) LinkEnds in
     let order : Option HierError = fault_if (not (is_in_order earlier l)) LinkOrder in
-    let weight : Option HierError = fault_if (length_of l.cost == 0 || nat_lt (length_of bound) (length_of l.cost)) LinkWeight in
+    let weight : Option HierError = fault_if (not (has_weight bound l)) LinkWeight in
     let middle : Option HierError = middle_fault ranks l.from l.to l.middle in
     let three : ends otherwise order otherwise weight ≡ None = first_none (ends otherwise order otherwise weight) middle h in
     let two : ends otherwise order ≡ None = first_none (ends otherwise order) weight three in
     let ends_ok = untrue _ LinkEnds (first_none ends order two) in
     let order_ok = untrue _ LinkOrder (second_none ends order two) in
-    let weight_ok = untrue _ LinkWeight (second_none (ends otherwise order) weight three) in
+    let weight_ok = not_false (has_weight bound l) (untrue _ LinkWeight (second_none (ends otherwise order) weight three)) in
     record {
       from_in = ends_from n l.from l.to ends_ok;
       to_in = ends_to n l.from l.to ends_ok;
       apart = ends_apart n l.from l.to ends_ok;
       ordered = not_false (is_in_order earlier l) order_ok;
-      above = weight_above (length_of l.cost) (length_of bound) weight_ok;
-      within = weight_within (length_of l.cost) (length_of bound) weight_ok;
+      within = weighs (length_of l.cost) (length_of bound) (arcs_of l.cost) (arcs_of bound) (is_some l.middle) weight_ok;
+      few_arcs = has_few (length_of l.cost) (length_of bound) (arcs_of l.cost) (arcs_of bound) (is_some l.middle) weight_ok;
+      counts = record {
+        some = has_some (length_of l.cost) (length_of bound) (arcs_of l.cost) (arcs_of bound) (is_some l.middle) weight_ok;
+        one = λ none. has_one (length_of l.cost) (length_of bound) (arcs_of l.cost) (arcs_of bound) (is_some l.middle) weight_ok (ap is_some none);
+      };
       middle = second_none (ends otherwise order otherwise weight) middle h;
     }
 
@@ -183,12 +197,6 @@ find-some x y (l ∷ ls) a h =
       | false ↦ λ is there. let f = find-some x y ls a there in record { among = (suc f.among.0, omega (arith, f.among.1), f.among.2); from = f.from; to = f.to }
     ] refl h
 
-equal_numbers : (a b : ℕ) → (a == b) ≡ true → a ≡ b
-equal_numbers a b h = grind (arith, nat_tests)
-
-sum_of : (c a b : Cost) → length_of c ≡ length_of a + length_of b → c ≡ a ⊕ b
-sum_of c a b h = sym (of_length-length_of c) ∙ ap of_length (h ∙ sym (length_of-sum a b)) ∙ of_length-length_of (a ⊕ b)
-
 -- two halves that were found and sum
 record HaveSum (ls : List Link) (x y m : ℕ) (cost : Cost) : Type 0 where
   one : Link
@@ -205,7 +213,7 @@ halves_found ls x y m cost (Some a) (Some b) p q h = record {
   other = b;
   one_found = find-some x m ls a p;
   other_found = find-some m y ls b q;
-  sum = sum_of cost a.cost b.cost (equal_numbers _ _ (not_false _ (untrue _ HalfSum h)));
+  sum = equal-from_same cost (a.cost ⊕ b.cost) (not_false _ (untrue _ HalfSum h));
 }
 
 middle_low : (r x y : ℕ) → not (nat_lt r x && nat_lt r y) ≡ false → (r < x) × (r < y)
@@ -238,37 +246,41 @@ has_halves h l middle half m is =
 
 -- The whole
 
-pub well_made : (n k b : ℕ) (ranks : List ℕ) (links : List Link) → size_fault n k b ≡ None → length ranks ≡ n → NoneBelow n (rank_fault n ranks) → length links ≡ k → NoneBelow k (link_fault_at ranks (of_length b) links)
-    → first_along (half_fault links) links ≡ None → IsWellMade (record { ranks = ranks; links = links; bound = of_length b })
+pub well_made : (n k b : ℕ) (ranks : List ℕ) (links : List Link) → size_fault n k b ≡ None → length ranks ≡ n → NoneBelow n (rank_fault n ranks) → length links ≡ k → NoneBelow k (link_fault_at ranks (bound_in n b) links)
+    → first_along (half_fault links) links ≡ None → IsWellMade (record { version = Two; ranks = ranks; links = links; bound = bound_in n b })
 well_made n k b ranks links sizes count_ranks ranks_ok count_links links_ok halves_ok =
-    let h : Hierarchy = record { ranks = ranks; links = links; bound = of_length b } in
+    let bound : Cost = bound_in n b in
+    let h : Hierarchy = record { version = Two; ranks = ranks; links = links; bound = bound } in
+    let greatest : Cost = cost_of_arcs (length ranks - 1) (2 ^ 32 - 1) in
     let all_ranks : NoneBelow (length ranks) (rank_fault n ranks) = λ i less. ranks_ok i (omega arith) in
-    let all_links : NoneBelow (length links) (link_fault_at ranks (of_length b) links) = λ i less. links_ok i (omega arith) in
-    let most : length_of (of_length b) ≤ length_of (cost_of_arcs (length ranks - 1) (2 ^ 32 - 1)) =
-    subst (λ m. m ≤ length_of (cost_of_arcs (length ranks - 1) (2 ^ 32 - 1))) (sym (length_of-of_length b)) (subst (λ m. b ≤ m) (sym (length_of-cost_of_arcs (length ranks - 1) (2 ^ 32 - 1))) (subst (λ m. b ≤ (m - 1) * (2 ^ 32 - 1)) (sym count_ranks) (low_bound n k b sizes))) in
+    let all_links : NoneBelow (length links) (link_fault_at ranks bound links) = λ i less. links_ok i (omega arith) in
+    let most : length_of bound ≤ length_of greatest =
+    subst (λ m. m ≤ length_of greatest) (sym (length_of-of_walk b (n - 1))) (subst (λ m. b ≤ m) (sym (length_of-cost_of_arcs (length ranks - 1) (2 ^ 32 - 1))) (subst (λ m. b ≤ (m - 1) * (2 ^ 32 - 1)) (sym count_ranks) (low_bound n k b sizes))) in
+    let arcs : arcs_of bound ≡ length ranks - 1 = arcs_of-of_walk b (n - 1) ∙ ap (λ m. m - 1) (sym count_ranks) in
     record {
       few_nodes = subst (λ m. m ≤ 2 ^ 25) (sym count_ranks) (few_nodes n k b sizes);
-      bound = within-from_lengths (of_length b) (cost_of_arcs (length ranks - 1) (2 ^ 32 - 1)) most;
+      bound = within-from_numbers bound greatest most (omega (arith, arcs, arcs_of-cost_of_arcs (length ranks - 1) (2 ^ 32 - 1)));
+      bound_arcs = arcs;
       in_range = subst (λ m. All (λ r. r < m) ranks) (sym count_ranks) (ranks_in n ranks all_ranks);
       once = ranks_once n ranks all_ranks;
-      sorted = links_sorted ranks (of_length b) links all_links;
+      sorted = links_sorted ranks bound links all_links;
       links = λ i d less.
-          let facts = facts_at ranks (of_length b) links i d less (all_links i less) in
+          let facts = facts_at ranks bound links i d less (all_links i less) in
           record {
             from_in = facts.from_in;
             to_in = facts.to_in;
             apart = facts.apart;
-            above = below-from_lengths zero_cost (get_or links i d).cost (subst (λ m. m < length_of (get_or links i d).cost) (sym length_of-zero_cost) facts.above);
-            within = within-from_lengths (get_or links i d).cost (of_length b) facts.within;
+            counts = facts.counts;
+            within = within-from_numbers (get_or links i d).cost bound facts.within facts.few_arcs;
             middle = has_halves h (get_or links i d) facts.middle (along_none (half_fault links) links halves_ok i d less);
           };
     }
 
 -- the same of parts that go by other names
 pub well_made_of : (n k b : ℕ) (ranks seen : List ℕ) (links tested : List Link) (bound : Cost) → size_fault n k b ≡ None → length ranks ≡ n → NoneBelow n (rank_fault n ranks) → length links ≡ k
-    → NoneBelow k (link_fault_at seen bound links) → first_along (half_fault tested) tested ≡ None → seen ≡ ranks → tested ≡ links → bound ≡ of_length b → IsWellMade (record { ranks = ranks; links = links; bound = bound })
+    → NoneBelow k (link_fault_at seen bound links) → first_along (half_fault tested) tested ≡ None → seen ≡ ranks → tested ≡ links → bound ≡ bound_in n b → IsWellMade (record { version = Two; ranks = ranks; links = links; bound = bound })
 well_made_of n k b ranks seen links tested bound sizes count_ranks ranks_ok count_links links_ok halves_ok same_ranks same_links same_bound =
     let at_ranks : NoneBelow k (link_fault_at ranks bound links) = subst (λ (r : List ℕ). NoneBelow k (link_fault_at r bound links)) same_ranks links_ok in
-    let at_bound : NoneBelow k (link_fault_at ranks (of_length b) links) = subst (λ (c : Cost). NoneBelow k (link_fault_at ranks c links)) same_bound at_ranks in
+    let at_bound : NoneBelow k (link_fault_at ranks (bound_in n b) links) = subst (λ (c : Cost). NoneBelow k (link_fault_at ranks c links)) same_bound at_ranks in
     let halves : first_along (half_fault links) links ≡ None = subst (λ (l : List Link). first_along (half_fault l) l ≡ None) same_links halves_ok in
-    subst (λ (c : Cost). IsWellMade (record { ranks = ranks; links = links; bound = c })) (sym same_bound) (well_made n k b ranks links sizes count_ranks ranks_ok count_links at_bound halves)
+    subst (λ (c : Cost). IsWellMade (record { version = Two; ranks = ranks; links = links; bound = c })) (sym same_bound) (well_made n k b ranks links sizes count_ranks ranks_ok count_links at_bound halves)

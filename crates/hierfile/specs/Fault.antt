@@ -1,12 +1,12 @@
 -- The first fault of the bytes of a file, in the order in which faults are told.
-use Rattle.std.specs.Prelude.{ℕ, zero, suc, ◌+◌, ◌-◌, ◌*◌, ◌^◌, ◌==◌, Bool, not, ◌||◌, ◌&&◌, nat_lt, nat_le, List, [], ◌∷◌, length, drop, take, Option, Some, None, if◌then◌else◌, slice_index, slice_get, option_and_then, true}
+use Rattle.std.specs.Prelude.{ℕ, zero, suc, ◌+◌, ◌-◌, ◌*◌, ◌^◌, ◌==◌, Bool, not, ◌||◌, ◌&&◌, nat_lt, nat_le, List, [], ◌∷◌, length, drop, take, Option, Some, None, if◌then◌else◌, slice_index, slice_get, option_and_then, is_some, true}
 use Rattle.std.specs.List.{list_any, find}
 use Rattle.ch_cost.specs.declared.cost.Cost.{Cost}
-use Rattle.ch_cost.specs.Cost.{length_of, of_length}
+use Rattle.ch_cost.specs.Cost.{◌⊕◌, length_of, arcs_of, same}
 use Rattle.ch_graph.specs.declared.link.Link.{Link}
 use Rattle.hierfile.specs.declared.error.HierError.{HierError}
 use Rattle.hierfile.specs.declared.error.HierError.TheVariants.{BadMagic, Truncated, TooBig, BoundTooBig, RankRange, RankTwice, LinkEnds, LinkOrder, LinkWeight, MiddleRange, MiddleRank, HalfMissing, HalfSum, Trailing}
-use Rattle.hierfile.specs.Spelling.{magic, word_in, long_in, words_in, links_in}
+use Rattle.hierfile.specs.Spelling.{magic, link_size, word_in, long_in, bound_in, words_in, links_in}
 
 infixl 20 ◌otherwise◌
 -- the first of two faults
@@ -66,12 +66,17 @@ middle_fault ranks x y None = None
 middle_fault ranks x y (Some m) = fault_if (nat_le (length ranks) m) MiddleRange
     otherwise fault_if (not (nat_lt (slice_index ranks m) (slice_index ranks x) && nat_lt (slice_index ranks m) (slice_index ranks y))) MiddleRank
 
+-- What a link's cost may be, by the link alone: within the bound, and of some arcs, of exactly one where there is no
+-- middle.
+unfoldable pub has_weight : Cost → Link → Bool
+has_weight bound l = nat_le (length_of l.cost) (length_of bound) && nat_le (arcs_of l.cost) (arcs_of bound) && nat_lt 0 (arcs_of l.cost) && (is_some l.middle || arcs_of l.cost == 1)
+
 -- a link by itself, beside the one before it
 unfoldable pub link_fault : List ℕ → Cost → Option Link → Link → Option HierError
 link_fault ranks bound earlier l =
     fault_if (nat_le (length ranks) l.from || nat_le (length ranks) l.to || l.from == l.to) LinkEnds
     otherwise fault_if (not (is_in_order earlier l)) LinkOrder
-    otherwise fault_if (length_of l.cost == 0 || nat_lt (length_of bound) (length_of l.cost)) LinkWeight
+    otherwise fault_if (not (has_weight bound l)) LinkWeight
     otherwise middle_fault ranks l.from l.to l.middle
 
 -- the link at this place
@@ -80,7 +85,7 @@ link_fault_at ranks bound links k = option_and_then (link_fault ranks bound (sli
 
 -- the links that the bytes begin with
 abbrev pub links_fault : List ℕ → Cost → ℕ → List ℕ → Option HierError
-links_fault ranks bound count bytes = first_below count (λ k. cut (20 * (k + 1)) bytes otherwise link_fault_at ranks bound (links_in count bytes) k)
+links_fault ranks bound count bytes = first_below count (λ k. cut (link_size * (k + 1)) bytes otherwise link_fault_at ranks bound (links_in count bytes) k)
 
 abbrev pub leads : ℕ → ℕ → Link → Bool
 leads x y l = l.from == x && l.to == y
@@ -89,7 +94,7 @@ leads x y l = l.from == x && l.to == y
 abbrev pub sum_fault : Option Link → Option Link → Cost → Option HierError
 sum_fault None b cost = Some HalfMissing
 sum_fault (Some a) None cost = Some HalfMissing
-sum_fault (Some a) (Some b) cost = fault_if (not (length_of cost == length_of a.cost + length_of b.cost)) HalfSum
+sum_fault (Some a) (Some b) cost = fault_if (not (same cost (a.cost ⊕ b.cost))) HalfSum
 
 abbrev pub halves_fault : List Link → ℕ → ℕ → Cost → Option ℕ → Option HierError
 halves_fault links x y cost None = None
@@ -113,7 +118,7 @@ unfoldable pub body_fault : ℕ → ℕ → ℕ → List ℕ → Option HierErro
 body_fault nodes count bound bytes =
     let rest = drop (4 * nodes) bytes in
     let links = links_in count rest in
-    ranks_fault nodes bytes otherwise links_fault (words_in nodes bytes) (of_length bound) count rest otherwise first_along (half_fault links) links otherwise end_fault (drop (20 * count) rest)
+    ranks_fault nodes bytes otherwise links_fault (words_in nodes bytes) (bound_in nodes bound) count rest otherwise first_along (half_fault links) links otherwise end_fault (drop (link_size * count) rest)
 
 -- the bytes of a file
 unfoldable pub first_fault : List ℕ → Option HierError

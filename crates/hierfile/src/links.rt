@@ -1,14 +1,14 @@
-ghost use Rattle.std.specs.Prelude.{◌≡◌, ◌≢◌, ◌==◌, ◌+◌, ◌-◌, ◌^◌, ◌<◌, ℕ, length, slice_index_or, None, Some, All, AllPairs, IfSome, IfOk, IfErr, OnOk};
+ghost use Rattle.std.specs.Prelude.{◌≡◌, ◌≢◌, ◌-◌, ◌^◌, ◌<◌, length, None, Some, All, AllPairs, IfSome, IfOk, IfErr, OnOk};
 ghost use Rattle.std.specs.List.{flat_map};
 ghost use Rattle.std.specs.Io.KnownBytes.{Consumes};
-ghost use Rattle.ch_cost.specs.Cost.{length_of};
+ghost use Rattle.ch_cost.specs.Cost.{◌⊕◌, same};
 ghost use Rattle.ch_graph.specs.Hierarchy.{ComesBefore};
 ghost use Rattle.ch_graph.specs.declared.link.Link.{Link};
 ghost use Rattle.ch_graph.specs.LinkIndex.{IsIndexOf};
 ghost use Rattle.ch_graph.specs.LinkHalves.{AreHalvesOf, ArePartsOf};
 ghost use Rattle.counted_io.specs.Limits.{IsRead, ReadsWithin};
-ghost use Rattle.hierfile.specs.Spelling.{link_bytes, middle_number};
-ghost use Rattle.hierfile.specs.Fault.{cut, is_in_order, link_fault, link_fault_at, links_fault, middle_fault, half_fault, first_along};
+ghost use Rattle.hierfile.specs.Spelling.{link_bytes, link_size, middle_number};
+ghost use Rattle.hierfile.specs.Fault.{cut, has_weight, is_in_order, link_fault, link_fault_at, links_fault, middle_fault, half_fault, first_along};
 ghost use Rattle.hierfile.specs.Bytes.{coming, IsFaultOf, OfBytes, Tells, NoneBelow, IsWritable};
 
 use crate::error::HierError;
@@ -51,18 +51,19 @@ pub fn read_links<R: StepRead>(
 fn read_link<R: StepRead>(input: &mut Input, reader: &mut R) -> Result<Link, HierError>
     ensures ok { IfOk result (λ link. Consumes (coming input.old.waiting (R.remaining reader.old)) (coming input.new.waiting (R.remaining reader.new)) (link_bytes link)) }
     ensures writable { IfOk result IsWritable }
-    ensures err { IfErr result (IsFaultOf (cut 20) (coming input.old.waiting (R.remaining reader.old))) }
+    ensures err { IfErr result (IsFaultOf (cut link_size) (coming input.old.waiting (R.remaining reader.old))) }
     ensures calls { OnOk result (IsRead R.step input.old.left input.new.left reader.old reader.new) }
     ensures stopped { IfErr result (λ e. ReadsWithin R.step input.old.left (e ≡ HierError.Read) reader.old reader.new) }
 {
     let from = input.word(reader)?;
     let to = input.word(reader)?;
     let weight = input.long(reader)?;
+    let arcs = input.word(reader)?;
     let middle = input.word(reader)?;
     Ok(Link {
         from,
         to,
-        cost: Cost::of_length(weight),
+        cost: Cost::of_walk(weight, u64::from(arcs)),
         middle: middle_of(middle),
     })
 }
@@ -92,11 +93,20 @@ fn test_link(ranks: &[u32], bound: Cost, earlier: Option<Link>, link: Link) -> R
     if !is_in_order(earlier, link) {
         return Err(HierError::LinkOrder);
     }
-    let length = link.cost.length();
-    if length == 0 || length > bound.length() {
+    if !has_weight(bound, link) {
         return Err(HierError::LinkWeight);
     }
     test_middle(ranks, link.from, link.to, link.middle)
+}
+
+// Whether a link's cost is within the bound, and counts some arcs, and exactly one where it has no middle.
+#[tactic(auto, unfolding(crate::specs::Fault::has_weight))]
+fn has_weight(bound: Cost, link: Link) -> bool
+    ensures { result ≡ has_weight bound link }
+{
+    let (length, arcs) = (link.cost.length(), link.cost.arcs());
+    let is_within = (length <= bound.length()) & (arcs <= bound.arcs());
+    is_within & (arcs > 0) & (link.middle.is_some() | (arcs == 1))
 }
 
 // Whether a link comes after the one before it, if there is one.
@@ -132,7 +142,7 @@ fn test_middle(ranks: &[u32], from: u32, to: u32, middle: Option<u32>) -> Result
     }
 }
 
-/// Finds the halves of each link with a middle, by the index of the links, and tests that they sum to its weight.
+/// Finds the halves of each link with a middle, by the index of the links, and tests that they sum to its cost.
 ///
 /// Takes 8 bytes a link.
 pub fn find_halves(
@@ -174,27 +184,18 @@ fn parts_of(links: &[Link], index: &LinkIndex, link: Link) -> Result<Parts, Hier
     let Some(second) = index.find(links, middle, link.to) else {
         return Err(HierError::HalfMissing);
     };
-    let lengths = (length_at(links, first), length_at(links, second));
-    if is_sum(link.cost.length(), lengths.0, lengths.1) {
+    if is_sum(link.cost, links[first.0].cost, links[second.0].cost) {
         Ok(Parts::Shortcut(first, second))
     } else {
         Err(HierError::HalfSum)
     }
 }
 
-// The length of the link at a place.
-fn length_at(links: &[Link], id: LinkId) -> u64
-    requires { id.0 < length links.now }
-    ensures { (d : Link) → result ≡ length_of (slice_index_or links.now id.0 d).cost }
+// Whether a cost is the sum of two, which may be of any size.
+fn is_sum(whole: Cost, first: Cost, second: Cost) -> bool
+    ensures { result ≡ same whole (first ⊕ second) }
 {
-    links[id.0].cost.length()
-}
-
-// Whether a number is the sum of two, which may be of any size.
-fn is_sum(whole: u64, first: u64, second: u64) -> bool
-    ensures { result ≡ (whole == first + second) }
-{
-    match first.checked_add(second) {
+    match first.plus_within(second, whole) {
         None => false,
         Some(sum) => whole == sum,
     }

@@ -1,11 +1,9 @@
 ghost use Rattle.std.specs.Prelude.{◌≡◌, ◌≢◌, ◌++◌, [], ◌*◌, length, min, None, Some, IfOk, IfErr, OnOk, IfSome};
 ghost use Rattle.std.specs.List.{flat_map};
 ghost use Rattle.std.specs.Io.KnownBytes.{Consumes, IsAtEnd};
-ghost use Rattle.ch_cost.specs.Cost.{of_length};
-ghost use Rattle.ch_graph.specs.Hierarchy.{IsWellMade};
 ghost use Rattle.counted_io.specs.Limits.{IsRead, IsReadWithin, ReadsWithin};
 ghost use Rattle.counted_io.specs.declared.TheConstants.{MOST_CALLS};
-ghost use Rattle.hierfile.specs.Spelling.{bytes_of, magic, word, long, link_bytes};
+ghost use Rattle.hierfile.specs.Spelling.{bytes_of, magic, word, long, link_bytes, bound_in, IsOfFile};
 ghost use Rattle.hierfile.specs.Fault.{first_fault, magic_fault, head_fault, size_fault, body_fault, end_fault};
 ghost use Rattle.hierfile.specs.Bytes.{coming, IsFaultOf, ReadsSpellings, Tells, IsBodyOf};
 
@@ -14,12 +12,12 @@ use crate::input::Input;
 use crate::links::{find_halves, read_links};
 use crate::ranks::read_ranks;
 use ch_cost::Cost;
-use ch_graph::{Hierarchy, LinkIndex};
+use ch_graph::{Hierarchy, LinkIndex, Version};
 use counted_io::{MOST_CALLS, StepRead};
 use std::alloc::Global;
 
 /// What every file begins with.
-const MAGIC: [u8; 4] = *b"RCH1";
+const MAGIC: [u8; 4] = *b"RCH2";
 
 /// The greatest number of nodes.
 const MOST_NODES: u32 = 1 << 25;
@@ -41,13 +39,13 @@ struct Head {
 /// how faults are ordered is told in `docs/FORMATS.md`. A spelling has no fault, so only `Read` and `OutOfMemory`
 /// refuse one. `Read` stands where the reader fails, also after 2^40 calls; an interrupted call is tried again.
 /// `OutOfMemory` stands where a growth is refused. Memory is taken as bytes come in, beside a buffer of 64 KiB: 4 bytes
-/// for each rank, and one for each node when a sixteenth of the ranks has come, about 32 for each link, and then, when all
+/// for each rank, and one for each node when a sixteenth of the ranks has come, about 40 for each link, and then, when all
 /// links have come, 8 bytes for each node and for each link. What the file announces takes none. Linear in the bytes, but
 /// for two binary searches for each link with a middle, among the links that leave one node, and one for each of the first
 /// ranks, among those before it.
 pub fn read<R: StepRead>(alloc: Global, reader: &mut R) -> Result<Hierarchy, HierError>
     ensures ok { IfOk result (λ hierarchy. IfSome (R.remaining reader.old) (λ bytes. bytes ≡ bytes_of hierarchy)) }
-    ensures made { IfOk result IsWellMade }
+    ensures made { IfOk result IsOfFile }
     ensures spelling { IfSome (R.remaining reader.old) (λ bytes. ReadsSpellings bytes result) }
     ensures err { IfErr result (IsFaultOf first_fault (R.remaining reader.old)) }
     ensures calls { OnOk result (IsReadWithin R.step MOST_CALLS reader.old reader.new) }
@@ -64,7 +62,7 @@ pub fn read_within<R: StepRead>(
     calls: u64,
 ) -> Result<Hierarchy, HierError>
     ensures ok { IfOk result (λ hierarchy. IfSome (R.remaining reader.old) (λ bytes. bytes ≡ bytes_of hierarchy)) }
-    ensures made { IfOk result IsWellMade }
+    ensures made { IfOk result IsOfFile }
     ensures spelling { IfSome (R.remaining reader.old) (λ bytes. ReadsSpellings bytes result) }
     ensures err { IfErr result (IsFaultOf first_fault (R.remaining reader.old)) }
     ensures calls { OnOk result (IsReadWithin R.step (min calls MOST_CALLS) reader.old reader.new) }
@@ -136,21 +134,29 @@ fn read_body<R: StepRead>(
     head: Head,
 ) -> Result<Hierarchy, HierError>
     requires { size_fault head.nodes head.links head.bound ≡ None }
-    ensures made { IfOk result IsWellMade }
+    ensures made { IfOk result IsOfFile }
     ensures sizes { IfOk result (λ hierarchy. IsBodyOf hierarchy head.nodes head.links head.bound) }
     ensures ok { IfOk result (λ hierarchy. IfSome (coming input.old.waiting (R.remaining reader.old)) (λ bytes. bytes ≡ flat_map word hierarchy.ranks ++ flat_map link_bytes hierarchy.links)) }
     ensures err { IfErr result (IsFaultOf (body_fault head.nodes head.links head.bound) (coming input.old.waiting (R.remaining reader.old))) }
     ensures calls { OnOk result (IsRead R.step input.old.left input.new.left reader.old reader.new) }
     ensures stopped { IfErr result (λ e. ReadsWithin R.step input.old.left (e ≡ HierError.Read) reader.old reader.new) }
 {
-    let bound = Cost::of_length(head.bound);
+    let bound = bound_of(head);
     let ranks = read_ranks(alloc, input, reader, head.nodes)?;
     let links = read_links(alloc, input, reader, ranks.as_slice(), bound, head.links)?;
     let all = links.as_slice();
     let index = LinkIndex::new(alloc, head.nodes, all)?;
     let halves = find_halves(alloc, all, &index)?;
     read_end(input, reader)?;
-    Ok(Hierarchy::with_index(ranks, links, bound, index, halves))
+    Ok(Hierarchy::with_index(Version::Two, ranks, links, bound, index, halves))
+}
+
+// The bound of a hierarchy with this head: it counts one arc fewer than there are nodes.
+fn bound_of(head: Head) -> Cost
+    ensures { result ≡ bound_in head.nodes head.bound }
+{
+    let arcs = head.nodes.saturating_sub(1);
+    Cost::of_walk(head.bound, u64::from(arcs))
 }
 
 // Sees that nothing follows.

@@ -1,11 +1,12 @@
-ghost use Rattle.std.specs.Prelude.{◌≡◌, ◌++◌, ◌≤◌, ℕ, List, length, min, OnOk, IfErr};
+ghost use Rattle.std.specs.Prelude.{◌≡◌, ◌++◌, length, min, All, OnOk, IfErr};
 ghost use Rattle.std.specs.List.{flat_map};
 ghost use Rattle.std.specs.Io.KnownBytes.{Appends};
 ghost use Rattle.hierfile.specs.Spelling.{bytes_of, word, long, head_bytes, link_bytes, middle_number};
 ghost use Rattle.counted_io.specs.Handing.{HandsOn};
 ghost use Rattle.counted_io.specs.Limits.{IsWrittenWithin, StopsWithin};
 ghost use Rattle.counted_io.specs.declared.TheConstants.{MOST_CALLS};
-ghost use Rattle.hierfile.specs.Bytes.{Hands, IsPartOf, Stops, Took};
+ghost use Rattle.ch_graph.specs.Hierarchy.{version_number};
+ghost use Rattle.hierfile.specs.Bytes.{Hands, IsPartOf, IsWritable, Stops, Took};
 
 use crate::links::NO_MIDDLE;
 use crate::output::Output;
@@ -13,14 +14,15 @@ use ch_graph::{Hierarchy, Link};
 use counted_io::{MOST_CALLS, StepWrite, WriteFault};
 
 /// The magic, as a number of four bytes.
-const MAGIC: u32 = 0x5243_4831;
+const MAGIC: u32 = 0x5243_4832;
 
-/// Writes a hierarchy to a file.
+/// Writes a hierarchy of version 2 to a file.
 ///
 /// On Ok the writer took the spelling of the hierarchy, and on a fault its first `written` bytes. An interrupted call
 /// of the writer is tried again; one that takes no byte is a failure, and so is the end of 2^40 calls. Takes no
 /// memory, beside 8 KiB of the stack; linear in the size of the hierarchy.
 pub fn write<W: StepWrite>(hierarchy: &Hierarchy, writer: &mut W) -> Result<(), WriteFault>
+    requires { version_number hierarchy.now.version ≡ 2 }
     ensures ok { OnOk result (Appends (W.contents writer.old) (W.contents writer.new) (bytes_of hierarchy.now)) }
     ensures err { IfErr result (λ fault. Took (W.contents writer.old) (W.contents writer.new) fault.written (bytes_of hierarchy.now)) }
     ensures calls { OnOk result (IsWrittenWithin W.step MOST_CALLS (length (bytes_of hierarchy.now)) writer.old writer.new) }
@@ -36,6 +38,7 @@ pub fn write_within<W: StepWrite>(
     writer: &mut W,
     calls: u64,
 ) -> Result<(), WriteFault>
+    requires { version_number hierarchy.now.version ≡ 2 }
     ensures ok { OnOk result (Appends (W.contents writer.old) (W.contents writer.new) (bytes_of hierarchy.now)) }
     ensures err { IfErr result (λ fault. Took (W.contents writer.old) (W.contents writer.new) fault.written (bytes_of hierarchy.now)) }
     ensures calls { OnOk result (IsWrittenWithin W.step (min calls MOST_CALLS) (length (bytes_of hierarchy.now)) writer.old writer.new) }
@@ -90,6 +93,7 @@ fn write_links<W: StepWrite>(
     output: &mut Output,
     writer: &mut W,
 ) -> Result<(), WriteFault>
+    requires { All IsWritable links.now }
     ensures ok { OnOk result (HandsOn (W.contents writer.old) (W.contents writer.new) (output.old.waiting ++ flat_map link_bytes links.now) output.new.waiting output.old.written output.new.written) }
     ensures err { IfErr result (λ fault. IsPartOf (W.contents writer.old) (W.contents writer.new) output.old (flat_map link_bytes links.now) fault.written) }
     ensures calls { OnOk result (Hands W.step output.old output.new writer.old writer.new) }
@@ -107,6 +111,7 @@ fn write_link<W: StepWrite>(
     output: &mut Output,
     writer: &mut W,
 ) -> Result<(), WriteFault>
+    requires { IsWritable link }
     ensures ok { OnOk result (HandsOn (W.contents writer.old) (W.contents writer.new) (output.old.waiting ++ link_bytes link) output.new.waiting output.old.written output.new.written) }
     ensures err { IfErr result (λ fault. IsPartOf (W.contents writer.old) (W.contents writer.new) output.old (link_bytes link) fault.written) }
     ensures calls { OnOk result (Hands W.step output.old output.new writer.old writer.new) }
@@ -115,6 +120,7 @@ fn write_link<W: StepWrite>(
     output.word(writer, link.from)?;
     output.word(writer, link.to)?;
     output.long(writer, link.cost.length())?;
+    output.word(writer, link.cost.arcs() as u32)?;
     output.word(writer, number_of(link.middle))?;
     Ok(())
 }

@@ -26,7 +26,7 @@ returns-in_err-link-clause-err g c =
     let before : NoneBelow (length links) (link_fault_at ranks bound links) = subst (λ m. NoneBelow m (link_fault_at ranks bound links)) (sym c.links.invariant.count) c.links.invariant.faultless in
     let less : length links < c.args.count = omega arith in
     hands_on c.from_residual.result _ _ c.from_residual.ensures.1
-    (behind (flat_map link_bytes links) (cut 20) (links_fault ranks bound c.args.count) _ _ _ c.links.invariant.taken (λ rest is. links_cut ranks bound c.args.count links rest _ c.links.invariant.writable less before is) c.in_err-link.ensures.err)
+    (behind (flat_map link_bytes links) (cut 24) (links_fault ranks bound c.args.count) _ _ _ c.links.invariant.taken (λ rest is. links_cut ranks bound c.args.count links rest _ c.links.invariant.writable less before is) c.in_err-link.ensures.err)
 
 pub returns-in_err-test_link-clause-err : goal.returns-in_err-test_link-clause-err
 returns-in_err-test_link-clause-err g c =

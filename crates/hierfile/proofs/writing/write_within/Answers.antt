@@ -1,9 +1,10 @@
-use Rattle.std.proofs.Common.{ℕ, ◌++◌, List, [], length, refl, sym, ◌∙◌, subst, append-nil, append_assoc}
+use Rattle.std.proofs.Common.{ℕ, ◌++◌, List, [], All, length, refl, sym, ◌∙◌, subst, append-nil, append_assoc}
 use Rattle.std.specs.List.{flat_map}
 use Rattle.ch_graph.specs.declared.link.Link.{Link}
 use Rattle.hierfile.specs.Spelling.{word, head_bytes, link_bytes, bytes_of}
-use Rattle.hierfile.specs.Bytes.{IsPartOf}
+use Rattle.hierfile.specs.Bytes.{IsPartOf, IsWritable}
 use Rattle.hierfile.proofs.Faults.{hands_on}
+use Rattle.hierfile.proofs.OneSpelling.{links_fit}
 use Rattle.hierfile.proofs.Handing.{Handed, handed_none, handed_then, part_then, part_none, took_part, took_all, counted_all}
 use Rattle.hierfile.proofs.HandCalls.{all_written, hands_then, stopped_at, stops_later}
 use Rattle.hierfile.proofs.writing.write_within.Goals as goal
@@ -54,7 +55,7 @@ returns-in_err-write_links-clause-err g c =
     let h2 = handed_then w0 w1 w2 start g1 g2 head ranks h1 c.in_ok-write_ranks.ensures.ok in
     let fault = c.in_err-write_links.field-0.0 in
     hands_on c.from_residual-in_err-write_links.result _ fault c.from_residual-in_err-write_links.ensures.1 (took_part w0 (contents c.write_links.new.writer) start _ (bytes_of h) fault.written c.new-output.ensures
-    (part_then w0 w2 (contents c.write_links.new.writer) start g2 (head ++ ranks) links [] (bytes_of h) fault.written h2 (subst (λ (l : List Link). IsPartOf w2 (contents c.write_links.new.writer) g2 (flat_map link_bytes l) fault.written) c.links.ensures c.in_err-write_links.ensures.err) (append-nil (bytes_of h))))
+    (part_then w0 w2 (contents c.write_links.new.writer) start g2 (head ++ ranks) links [] (bytes_of h) fault.written h2 (subst (λ (l : List Link). IsPartOf w2 (contents c.write_links.new.writer) g2 (flat_map link_bytes l) fault.written) c.links.ensures.links c.in_err-write_links.ensures.err) (append-nil (bytes_of h))))
 
 pub returns-in_err-hand_over-clause-err : goal.returns-in_err-hand_over-clause-err
 returns-in_err-hand_over-clause-err g c =
@@ -73,7 +74,7 @@ returns-in_err-hand_over-clause-err g c =
     let h2 = handed_then w0 w1 w2 start g1 g2 head ranks h1 c.in_ok-write_ranks.ensures.ok in
     let w3 = contents c.write_links.new.writer in
     let g3 = c.write_links.new.output in
-    let more : Handed w2 w3 g2 g3 links = subst (λ (l : List Link). Handed w2 w3 g2 g3 (flat_map link_bytes l)) c.links.ensures c.in_ok-write_links.ensures.ok in
+    let more : Handed w2 w3 g2 g3 links = subst (λ (l : List Link). Handed w2 w3 g2 g3 (flat_map link_bytes l)) c.links.ensures.links c.in_ok-write_links.ensures.ok in
     let h3 = handed_then w0 w2 w3 start g2 g3 (head ++ ranks) links h2 more in
     let fault = c.in_err-hand_over.field-0.0 in
     hands_on c.from_residual-in_err-hand_over.result _ fault c.from_residual-in_err-hand_over.ensures.1 (took_part w0 (contents c.hand_over.new.writer) start _ (bytes_of h) fault.written c.new-output.ensures
@@ -96,7 +97,7 @@ returns-clause-ok g c =
     let h2 = handed_then w0 w1 w2 start g1 g2 head ranks h1 c.in_ok-write_ranks.ensures.ok in
     let w3 = contents c.write_links.new.writer in
     let g3 = c.write_links.new.output in
-    let more : Handed w2 w3 g2 g3 links = subst (λ (l : List Link). Handed w2 w3 g2 g3 (flat_map link_bytes l)) c.links.ensures c.in_ok-write_links.ensures.ok in
+    let more : Handed w2 w3 g2 g3 links = subst (λ (l : List Link). Handed w2 w3 g2 g3 (flat_map link_bytes l)) c.links.ensures.links c.in_ok-write_links.ensures.ok in
     let h3 = handed_then w0 w2 w3 start g2 g3 (head ++ ranks) links h2 more in
     took_all w0 w3 (contents c.hand_over.new.writer) start g3 c.hand_over.new.self _ (bytes_of h) c.new-output.ensures h3 c.in_ok-hand_over.ensures.ok c.in_ok-hand_over.ensures.all
 
@@ -117,7 +118,7 @@ returns-clause-calls g c =
     let h2 = handed_then w0 w1 w2 start g1 g2 head ranks h1 c.in_ok-write_ranks.ensures.ok in
     let w3 = contents c.write_links.new.writer in
     let g3 = c.write_links.new.output in
-    let more : Handed w2 w3 g2 g3 links = subst (λ (l : List Link). Handed w2 w3 g2 g3 (flat_map link_bytes l)) c.links.ensures c.in_ok-write_links.ensures.ok in
+    let more : Handed w2 w3 g2 g3 links = subst (λ (l : List Link). Handed w2 w3 g2 g3 (flat_map link_bytes l)) c.links.ensures.links c.in_ok-write_links.ensures.ok in
     let h3 = handed_then w0 w2 w3 start g2 g3 (head ++ ranks) links h2 more in
     let step = g.W.StepWrite.step in
     let end = c.hand_over.new.self in
@@ -158,3 +159,6 @@ returns-in_err-hand_over-clause-stopped g c =
     let t2 = hands_then step start c.write_head.new.output c.write_ranks.new.output t1 c.in_ok-write_ranks.ensures.calls in
     let t3 = hands_then step start c.write_ranks.new.output c.write_links.new.output t2 c.in_ok-write_links.ensures.calls in
     hands_on c.from_residual-in_err-hand_over.result _ fault c.from_residual-in_err-hand_over.ensures.1 (stopped_at step start _ fault.written c.new-output.ensures (stops_later step start c.write_links.new.output fault.written t3 c.in_err-hand_over.ensures.stopped))
+
+pub write_links-requires : goal.write_links-requires
+write_links-requires g c = subst (All IsWritable) (sym c.links.ensures.links) (links_fit c.args.hierarchy.now c.links.ensures.made)
