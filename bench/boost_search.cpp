@@ -1,7 +1,7 @@
 // The search of the Boost Graph Library, to compare times with: boost_search NETWORK.gr NETWORK.pairs
 //
 // `dijkstra_shortest_paths` over a compressed graph, ended by a visitor when the target is settled. It takes
-// well-formed texts alone, and prints a line `r S T LENGTH` or `n S T` for each pair, as plain_search.cpp does.
+// well-formed texts alone, and prints a line `r S T LENGTH` or `n S T` for each pair; arcs aren't counted.
 #include <boost/graph/compressed_sparse_row_graph.hpp>
 #include <boost/graph/dijkstra_shortest_paths.hpp>
 #include <chrono>

@@ -2,25 +2,27 @@
 """Compares files of `routecli prepare`, byte for byte, with those of a plain program that is written here anew by the
 rules of docs/ALGORITHM.md and docs/FORMATS.md.
 
-    bench/by_the_rules.py [NETWORKS]        by default 100 random small networks
+    bench/by_the_rules.py [NETWORKS]        by default 200 random small networks
 
 With no worker, and with one, the rules and the seed determine the file. Each network is prepared by the sweep, and by
-one worker in each order. It needs the proved program crates/routecli/out/routecli (README.md says how to build it).
+one worker in each order. In many networks weights are 0, and walks of one length have different numbers of arcs. A cost is
+a pair (weight, arcs), which Python orders by the first number and then by the second. It needs the proved program, which is
+crates/routecli/out/routecli (README.md says how to build it) or the path in the environment variable ROUTECLI.
 """
 import heapq
 import pathlib
 import random
-import struct
 import subprocess
 import sys
 import tempfile
 
+from hierarchy_file import NONE, spelled
+from random_network import WEIGHTS, drawn_arcs, text_of
 from run import PROGRAM
 
 SETTLE, DEFER, HEAPS = 64, 16, 2
 ORDERS = ["edges", "neighbours", "depth"]
 WORD = (1 << 64) - 1
-HEAVIEST = 4_294_967_295
 
 
 class Draws:
@@ -40,6 +42,11 @@ class Draws:
         return ((word >> turn) | (word << (-turn & 31))) & 0xFFFFFFFF
 
 
+def plus(one, other):
+    """What two ways cost together."""
+    return one[0] + other[0], one[1] + other[1]
+
+
 class Rows:
     """For each node its entries out and in, as other node: (cost, middle), its rank, and the log."""
 
@@ -48,10 +55,11 @@ class Rows:
         self.inn = [{} for _ in range(nodes)]
         self.rank = [None] * nodes
         self.log = []
-        self.bound = max(nodes - 1, 0) * max((weight for _, _, weight in arcs), default=0)
+        self.most_arcs = max(nodes - 1, 0)
+        self.bound = self.most_arcs * max((weight for _, _, weight in arcs), default=0)
         for u, v, weight in arcs:
-            if u != v and weight < self.out[u].get(v, (weight + 1, None))[0]:
-                self.put(u, v, weight, None)
+            if u != v and (v not in self.out[u] or (weight, 1) < self.out[u][v][0]):
+                self.put(u, v, (weight, 1), None)
 
     def put(self, u, v, cost, middle):
         self.out[u][v] = (cost, middle)
@@ -59,7 +67,7 @@ class Rows:
 
     def search(self, start, avoid, cutoff, targets):
         """What each node costs that the search has come to."""
-        costs, settled, waiting = {start: 0}, set(), [(0, start)]
+        costs, settled, waiting = {start: (0, 0)}, set(), [((0, 0), start)]
         while waiting and len(settled) < SETTLE:
             cost, node = heapq.heappop(waiting)
             if node in settled:
@@ -68,21 +76,26 @@ class Rows:
             if targets <= settled:
                 break
             for other, (more, _) in self.out[node].items():
-                known = costs.get(other, cutoff + 1)
-                if other != avoid and other not in settled and cost + more < known:
-                    costs[other] = cost + more
-                    heapq.heappush(waiting, (cost + more, other))
+                reached = plus(cost, more)
+                if other == avoid or other in settled or reached > cutoff:
+                    continue
+                if other not in costs or reached < costs[other]:
+                    costs[other] = reached
+                    heapq.heappush(waiting, (reached, other))
         return costs
+
+    def is_heavy(self, cost):
+        return cost[0] > self.bound or cost[1] > self.most_arcs
 
     def shortcuts(self, node):
         """The shortcuts that a contraction of the node would put in."""
         found = []
         for u, (first, _) in sorted(self.inn[node].items()):
-            sums = {w: first + second for w, (second, _) in sorted(self.out[node].items()) if w != u}
-            sums = {w: cost for w, cost in sums.items() if cost <= self.bound}
+            sums = {w: plus(first, second) for w, (second, _) in sorted(self.out[node].items()) if w != u}
+            sums = {w: cost for w, cost in sums.items() if not self.is_heavy(cost)}
             if sums:
                 costs = self.search(u, node, max(sums.values()), set(sums))
-                found += [(u, w, cost) for w, cost in sums.items() if costs.get(w, cost + 1) > cost]
+                found += [(u, w, cost) for w, cost in sums.items() if w not in costs or costs[w] > cost]
         return found
 
     def contract(self, node, shortcuts):
@@ -96,13 +109,10 @@ class Rows:
             self.put(u, w, cost, node)
 
     def file(self):
-        links = [(node, w, *link) for node, out in enumerate(self.out) for w, link in out.items()]
-        links += [(u, node, *link) for node, inn in enumerate(self.inn) for u, link in inn.items()]
-        parts = [b"RCH1", struct.pack(">IQQ", len(self.rank), len(links), self.bound)]
-        parts += [struct.pack(">I", rank) for rank in self.rank]
-        for u, w, cost, middle in sorted(links):
-            parts.append(struct.pack(">IIQI", u, w, cost, 0xFFFFFFFF if middle is None else middle))
-        return b"".join(parts)
+        links = [(node, w, link) for node, out in enumerate(self.out) for w, link in out.items()]
+        links += [(u, node, link) for node, inn in enumerate(self.inn) for u, link in inn.items()]
+        links = [(u, w, *cost, NONE if middle is None else middle) for u, w, (cost, middle) in links]
+        return spelled(self.rank, sorted(links), self.bound)
 
 
 class Queue:
@@ -159,20 +169,21 @@ def work(rows, seed, order):
 
 
 def random_network(draw):
-    nodes, most = draw.choice([0, 1, 2, 3, 5, 8, 13, 30, 60, 120]), draw.choice([1, 3, 20, 1000, HEAVIEST])
+    nodes = draw.choice([0, 1, 2, 3, 5, 8, 13, 30, 60, 120])
+    if nodes == 0:
+        return 0, []
     if nodes < 9 or draw.random() < 0.5:
-        count = draw.randint(0, 4 * nodes)
-        return nodes, [(draw.randrange(nodes), draw.randrange(nodes), draw.randint(1, most)) for _ in range(count)]
-    side = int(nodes**0.5)
+        return nodes, drawn_arcs(draw, nodes, draw.randint(0, 4 * nodes))
+    side, weights = int(nodes**0.5), draw.choice(WEIGHTS)
     arcs = []
     for node in range(side * side):
         for other in [node + 1] * (node % side < side - 1) + [node + side] * (node < side * (side - 1)):
-            arcs += [(u, v, draw.randint(1, most)) for u, v in [(node, other), (other, node)] if draw.random() < 0.9]
+            arcs += [(u, v, draw.choice(weights)) for u, v in [(node, other), (other, node)] if draw.random() < 0.9]
     return side * side, arcs
 
 
 def main():
-    networks = int(sys.argv[1]) if len(sys.argv) > 1 else 100
+    networks = int(sys.argv[1]) if len(sys.argv) > 1 else 200
     if not PROGRAM.exists():
         sys.exit(f"{PROGRAM} isn't built: README.md says how")
     draw = random.Random(1)
@@ -180,8 +191,7 @@ def main():
         graph, file = pathlib.Path(folder) / "network.gr", pathlib.Path(folder) / "network.rch"
         for network in range(networks):
             nodes, arcs = random_network(draw)
-            text = "".join(f"a {u + 1} {v + 1} {weight}\n" for u, v, weight in arcs)
-            graph.write_text(f"p sp {nodes} {len(arcs)}\n{text}")
+            graph.write_text(text_of(nodes, arcs))
             seed = draw.choice([0, 1, WORD, draw.getrandbits(64)])
             for workers, order in [(0, "edges"), *((1, order) for order in ORDERS)]:
                 options = ["--workers", str(workers), "--seed", str(seed), "--order", order]
@@ -193,4 +203,5 @@ def main():
     print(f"{networks} networks: all files are equal")
 
 
-main()
+if __name__ == "__main__":
+    main()

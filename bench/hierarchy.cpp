@@ -1,8 +1,9 @@
 // A textbook contraction hierarchy, to compare with: nodes by edge difference with lazy updates, witness searches that
-// settle at most 64 nodes, and a query by two upward searches that meet.
+// settle at most 64 nodes, and a query by two upward searches that meet. Of the walks of the least length it finds one of
+// the fewest arcs, as `routecli` does: costs are pairs of both.
 //
 //     hierarchy GRAPH PAIRS [OUT]    reads both, prepares, answers, and prints the times on standard error:
-//                                    seconds to prepare, links per arc, seconds to answer. Lines `r S T LENGTH` or
+//                                    seconds to prepare, links per arc, seconds to answer. Lines `r S T LENGTH ARCS` or
 //                                    `n S T`. The hierarchy's file goes to OUT, in the form of docs/FORMATS.md.
 #include <algorithm>
 #include <chrono>
@@ -12,7 +13,15 @@
 #include <utility>
 #include <vector>
 
-using Cost = std::uint64_t;
+// What a walk costs. Of walks of one weight, one of fewer arcs costs less.
+struct Cost {
+    std::uint64_t weight, arcs;
+    Cost operator+(const Cost &more) const { return {weight + more.weight, arcs + more.arcs}; }
+    bool operator==(const Cost &other) const { return weight == other.weight && arcs == other.arcs; }
+    bool operator<(const Cost &other) const {
+        return weight < other.weight || (weight == other.weight && arcs < other.arcs);
+    }
+};
 struct Arc {
     std::uint32_t other;
     std::uint32_t middle;
@@ -21,7 +30,7 @@ struct Arc {
 using Rows = std::vector<std::vector<Arc>>;
 using Entry = std::pair<Cost, std::uint32_t>;
 using Heap = std::priority_queue<Entry, std::vector<Entry>, std::greater<Entry>>;
-static const Cost FAR = ~Cost{0};
+static const Cost NOTHING = {0, 0}, FAR = {~std::uint64_t{0}, ~std::uint64_t{0}};
 static const std::uint32_t NO_MIDDLE = 0xFFFFFFFF;
 static const int SETTLE = 64;
 
@@ -54,7 +63,7 @@ struct Hierarchy {
     std::vector<Cost> label;
     std::vector<std::uint32_t> touched, ranks;
     std::size_t links = 0;
-    Cost bound = 0;
+    Cost bound = NOTHING;
     struct Shortcut {
         std::uint32_t from, to;
         Cost cost;
@@ -63,18 +72,17 @@ struct Hierarchy {
     void search(std::uint32_t from, std::uint32_t avoid, Cost cutoff) {
         for (std::uint32_t node : touched) label[node] = FAR;
         touched.assign(1, from);
-        label[from] = 0;
+        label[from] = NOTHING;
         Heap heap;
-        heap.push({0, from});
+        heap.push({NOTHING, from});
         for (int settled = 0; !heap.empty() && settled < SETTLE;) {
             auto [cost, node] = heap.top();
             heap.pop();
-            if (cost > label[node]) continue;
-            if (cost > cutoff) break;
+            if (label[node] < cost) continue;
             settled++;
             for (const Arc &arc : out[node]) {
                 Cost sum = cost + arc.cost;
-                if (arc.other == avoid || sum > cutoff || sum >= label[arc.other]) continue;
+                if (arc.other == avoid || cutoff < sum || !(sum < label[arc.other])) continue;
                 if (label[arc.other] == FAR) touched.push_back(arc.other);
                 label[arc.other] = sum;
                 heap.push({sum, arc.other});
@@ -82,18 +90,23 @@ struct Hierarchy {
         }
     }
 
+    // Whether two arcs join different nodes and are on a walk that repeats none.
+    bool is_pair(const Arc &into, const Arc &outof) const {
+        Cost sum = into.cost + outof.cost;
+        return into.other != outof.other && sum.weight <= bound.weight && sum.arcs <= bound.arcs;
+    }
+
     std::vector<Shortcut> shortcuts(std::uint32_t node) {
         std::vector<Shortcut> found;
         for (const Arc &into : in[node]) {
-            Cost most = 0;
+            Cost most = NOTHING;
             for (const Arc &outof : out[node])
-                if (outof.other != into.other) most = std::max(most, into.cost + outof.cost);
-            if (most == 0) continue;
+                if (is_pair(into, outof)) most = std::max(most, into.cost + outof.cost);
+            if (most == NOTHING) continue;
             search(into.other, node, most);
             for (const Arc &outof : out[node]) {
                 Cost sum = into.cost + outof.cost;
-                if (outof.other != into.other && sum <= bound && label[outof.other] > sum)
-                    found.push_back({into.other, outof.other, sum});
+                if (is_pair(into, outof) && sum < label[outof.other]) found.push_back({into.other, outof.other, sum});
             }
         }
         return found;
@@ -141,30 +154,32 @@ struct Hierarchy {
         auto number = [file](std::uint64_t value, int bytes) {
             while (bytes > 0) std::putc(static_cast<int>(value >> 8 * --bytes & 255), file);
         };
-        std::fputs("RCH1", file);
-        number(rows.size(), 4), number(links, 8), number(bound, 8);
+        std::fputs("RCH2", file);
+        number(rows.size(), 4), number(links, 8), number(bound.weight, 8);
         for (std::uint32_t rank : ranks) number(rank, 4);
         for (std::uint32_t from = 0; from < rows.size(); from++) {
             auto is_before = [](const Arc &a, const Arc &b) { return a.other < b.other; };
             std::sort(rows[from].begin(), rows[from].end(), is_before);
-            for (const Arc &arc : rows[from])
-                number(from, 4), number(arc.other, 4), number(arc.cost, 8), number(arc.middle, 4);
+            for (const Arc &arc : rows[from]) {
+                number(from, 4), number(arc.other, 4), number(arc.cost.weight, 8), number(arc.cost.arcs, 4);
+                number(arc.middle, 4);
+            }
         }
     }
 
     static void climb(const Rows &rows, std::uint32_t start, std::vector<Cost> &costs, std::vector<std::uint32_t> &seen) {
         for (std::uint32_t node : seen) costs[node] = FAR;
         seen.assign(1, start);
-        costs[start] = 0;
+        costs[start] = NOTHING;
         Heap heap;
-        heap.push({0, start});
+        heap.push({NOTHING, start});
         while (!heap.empty()) {
             auto [cost, node] = heap.top();
             heap.pop();
-            if (cost > costs[node]) continue;
+            if (costs[node] < cost) continue;
             for (const Arc &arc : rows[node]) {
                 Cost sum = cost + arc.cost;
-                if (sum >= costs[arc.other]) continue;
+                if (!(sum < costs[arc.other])) continue;
                 if (costs[arc.other] == FAR) seen.push_back(arc.other);
                 costs[arc.other] = sum;
                 heap.push({sum, arc.other});
@@ -176,7 +191,7 @@ struct Hierarchy {
 int main(int count, char **words) {
     if (count != 3 && count != 4) return 2;
     Hierarchy h;
-    Cost heaviest = 0;
+    std::uint64_t heaviest = 0;
     std::size_t arcs = 0;
     FILE *file = std::fopen(words[1], "r");
     if (!file) return 7;
@@ -188,14 +203,14 @@ int main(int count, char **words) {
             h.in.resize(u);
         } else if (std::sscanf(line, "a %lu %lu %lu", &u, &v, &w) == 3) {
             arcs++;
-            heaviest = std::max<Cost>(heaviest, w);
+            heaviest = std::max<std::uint64_t>(heaviest, w);
             if (u == v) continue;
-            put(h.out[u - 1], v - 1, w, NO_MIDDLE);
-            put(h.in[v - 1], u - 1, w, NO_MIDDLE);
+            put(h.out[u - 1], v - 1, {w, 1}, NO_MIDDLE);
+            put(h.in[v - 1], u - 1, {w, 1}, NO_MIDDLE);
         }
     }
     std::fclose(file);
-    if (!h.out.empty()) h.bound = (h.out.size() - 1) * heaviest;
+    if (!h.out.empty()) h.bound = {(h.out.size() - 1) * heaviest, h.out.size() - 1};
     double start = now();
     h.prepare();
     double prepared = now();
@@ -221,11 +236,11 @@ int main(int count, char **words) {
         Hierarchy::climb(h.down, t - 1, back, seen_back);
         Cost best = FAR;
         for (std::uint32_t node : seen_there)
-            if (back[node] != FAR) best = std::min(best, there[node] + back[node]);
+            if (!(back[node] == FAR)) best = std::min(best, there[node] + back[node]);
         if (best == FAR)
             std::printf("n %lu %lu\n", s, t);
         else
-            std::printf("r %lu %lu %llu\n", s, t, static_cast<unsigned long long>(best));
+            std::printf("r %lu %lu %lu %lu\n", s, t, best.weight, best.arcs);
     }
     double answered = now();
     std::fprintf(stderr, "%.3f %.2f %.3f\n", prepared - start, static_cast<double>(h.links) / arcs, answered - asked);

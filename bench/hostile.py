@@ -4,33 +4,22 @@
     bench/hostile.py
 
 Each file is written, routed, and refused: the table has its bytes, the name of the refusal, which is compared, the
-greatest resident size in kB, what of it is beyond that of a file of no byte, and that for each byte of the file. It needs
+greatest resident size in kB, what of it is beyond that of a file of no byte, and that for each byte of the file. The last
+file is well made, by it walks have more arcs than 32 bits count, and one of two pairs has to be answered rightly. It needs
 g++ and the proved program, which is crates/routecli/out/routecli (README.md says how to build it) or the path in the
 environment variable ROUTECLI.
 """
+import itertools
 import pathlib
 import random
-import struct
 import subprocess
 import sys
 import tempfile
 
+from hierarchy_file import NONE, head, link, ranks, spelled
 from run import PROGRAM, ROOT
 
 MOST = 1 << 25
-NONE = 0xFFFFFFFF
-
-
-def head(nodes, links, bound=0):
-    return b"RCH1" + struct.pack(">IQQ", nodes, links, bound)
-
-
-def words(numbers):
-    return struct.pack(f">{len(numbers)}I", *numbers)
-
-
-def link(start, end, weight, middle=NONE):
-    return struct.pack(">IIQI", start, end, weight, middle)
 
 
 def files():
@@ -43,14 +32,38 @@ def files():
     yield "the greatest numbers and no more", head(MOST, most_links), "Truncated"
     yield "one node too many", head(MOST + 1, 0), "TooBig"
     yield "one link too many", head(MOST, most_links + 1), "TooBig"
-    yield "the greatest rank first", head(MOST, 0) + words([MOST - 1]), "Truncated"
-    yield "the same rank twice", head(MOST, 0) + words([MOST - 1, MOST - 1]), "RankTwice"
-    yield "8,192 ranks far apart", head(MOST, 0) + words(spread), "Truncated"
-    yield "1,000,000 ranks of 2^25, drawn", head(MOST, 0) + words(many), "Truncated"
-    yield "2,097,153 ranks of 2^25, so that marks are made", head(MOST, 0) + words(range(MOST // 16 + 1)), "Truncated"
-    yield "1,024 nodes, all ranks, no link of 1,047,552", head(1024, 1024 * 1023, 1) + words(range(1024)), "Truncated"
-    few = head(65_536, 65_536 * 65_535, 1) + words(range(65_536))
+    yield "the greatest rank first", head(MOST, 0) + ranks([MOST - 1]), "Truncated"
+    yield "the same rank twice", head(MOST, 0) + ranks([MOST - 1, MOST - 1]), "RankTwice"
+    yield "8,192 ranks far apart", head(MOST, 0) + ranks(spread), "Truncated"
+    yield "1,000,000 ranks of 2^25, drawn", head(MOST, 0) + ranks(many), "Truncated"
+    yield "2,097,153 ranks of 2^25, so that marks are made", head(MOST, 0) + ranks(range(MOST // 16 + 1)), "Truncated"
+    yield "1,024 nodes, all ranks, no link of 1,047,552", head(1024, 1024 * 1023, 1) + ranks(range(1024)), "Truncated"
+    few = head(65_536, 65_536 * 65_535, 1) + ranks(range(65_536))
     yield "65,536 nodes, all ranks, one link of 4,294,901,760", few + link(0, 1, 1), "Truncated"
+
+
+def many_arcs():
+    """A file, two pairs of nodes, and the answer of the first one.
+
+    A chain of nodes has a link from each to the next that stands for 2^16 + 2 arcs and weighs nothing. With six arcs behind
+    it, the last of which weighs 1, its links stand for 2^32 + 2 arcs. Its start and end are joined by three arcs too, the
+    first of which weighs 1, so that the chain is gone along before. From the second node on there is the chain alone.
+    """
+    below, top, steps = 16, 17, 65_534
+    doubled = [(i, j) for i in range(top + 1) for j in range(top + 1) if i != j]
+    links = [(i, j, 0, 1 << min(i, j), min(i, j) - 1 if min(i, j) else NONE) for i, j in doubled]
+    chain = range(top + 1, top + 1 + steps + 1)
+    for node in chain:
+        links += [(node, top, 0, 1, NONE), (below, node, 0, 1, NONE), (top, node, 0, (1 << below) + 1, below)]
+    links += [(node, node + 1, 0, (1 << below) + 2, top) for node in chain[:-1]]
+    behind = range(chain[-1], chain[-1] + 6)
+    first, second, end = (behind[-1] + step for step in (1, 2, 3))
+    links += [(node, node + 1, 0, 1, NONE) for node in behind[:-1]]
+    links += [(behind[-1], end, 1, 1, NONE)]
+    links += [(chain[0], first, 1, 1, NONE), (first, second, 0, 1, NONE), (second, end, 0, 1, NONE)]
+    pairs = f"p aux sp p2p 2\nq {chain[0] + 1} {end + 1}\nq {chain[1] + 1} {end + 1}\n"
+    answer = f"r {chain[0] + 1} {end + 1} 1 3 {chain[0] + 1} {first + 1} {second + 1} {end + 1}\n"
+    return spelled(range(end + 1), sorted(links), 1), pairs, answer
 
 
 def main():
@@ -59,19 +72,23 @@ def main():
     print("| File | bytes | refusal | resident, kB | beyond no byte, kB | for each byte |\n|---|---|---|---|---|---|")
     with tempfile.TemporaryDirectory() as folder:
         folder = pathlib.Path(folder)
-        resident, file = folder / "resident", folder / "hostile.rch"
+        resident, file, queries = folder / "resident", folder / "hostile.rch", folder / "hostile.pairs"
         subprocess.run(["g++", "-O2", "-std=c++17", "-o", resident, ROOT / "bench/resident.cpp"], check=True)
         least = None
-        for name, content, wanted in files():
+        last, pairs, answer = many_arcs()
+        queries.write_text(pairs)
+        cases = itertools.chain(((*each, "") for each in files()), [("2^32 + 2 arcs in a walk", last, "TooLong", answer)])
+        for name, content, wanted, written in cases:
             file.write_bytes(content)
-            command = [resident, folder / "figures", PROGRAM, "route", file, "/dev/null"]
+            command = [resident, folder / "figures", PROGRAM, "route", file, queries]
             done = subprocess.run(command, check=True, capture_output=True, text=True)
             status, size = map(int, (folder / "figures").read_text().split())
-            if (status, done.stderr) != (4, f"routecli: hierarchy: {wanted}\n"):
-                sys.exit(f"{name}: status {status}, {done.stderr!r}")
+            if (status, done.stdout, done.stderr) != (4, written, f"routecli: hierarchy: {wanted}\n"):
+                sys.exit(f"{name}: status {status}, {done.stdout[:200]!r}, {done.stderr!r}")
             least = size if least is None else least
             each = f"{(size - least) * 1024 / len(content):.1f}" if len(content) > 1 << 16 else ""
             print(f"| {name} | {len(content):,} | {wanted} | {size:,} | {size - least:,} | {each} |")
 
 
-main()
+if __name__ == "__main__":
+    main()

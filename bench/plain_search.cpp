@@ -1,15 +1,21 @@
 // The plain search in C++, to compare answers and times with: plain_search NETWORK.gr NETWORK.pairs
 //
 // Dijkstra's algorithm with std::priority_queue and lazy deletion over a compressed adjacency, made once. It takes
-// well-formed texts alone, and prints a line `r S T LENGTH` or `n S T` for each pair.
+// well-formed texts alone, and prints a line `r S T LENGTH ARCS` or `n S T` for each pair: the least length, and the
+// fewest arcs of all walks of that length.
 #include <chrono>
 #include <cstdint>
 #include <cstdio>
 #include <queue>
-#include <utility>
 #include <vector>
 
 using Clock = std::chrono::steady_clock;
+
+// A weight, a number of arcs and a node as one number, in 64, 32 and 32 bits: so costs, whose node is 0, are added and
+// compared as pairs are.
+using Entry = unsigned __int128;
+
+static Entry cost_of(uint64_t weight, uint32_t arcs) { return Entry{weight} << 64 | uint64_t{arcs} << 32; }
 
 static double seconds_since(Clock::time_point start) {
     return std::chrono::duration<double>(Clock::now() - start).count();
@@ -42,10 +48,9 @@ int main(int argc, char **argv) {
     }
     std::fprintf(stderr, "read %.3f s\n", seconds_since(start));
     start = Clock::now();
-    const uint64_t none = UINT64_MAX;
-    std::vector<uint64_t> label(nodes, none);
+    const Entry none = cost_of(UINT64_MAX, 0);
+    std::vector<Entry> label(nodes, none);
     std::vector<uint32_t> touched;
-    using Entry = std::pair<uint64_t, uint32_t>;
     size_t pairs = 0;
     while (std::fgets(line, sizeof line, queries)) {
         uint32_t s, t;
@@ -54,22 +59,24 @@ int main(int argc, char **argv) {
         for (uint32_t u : touched) label[u] = none;
         touched.clear();
         std::priority_queue<Entry, std::vector<Entry>, std::greater<Entry>> queue;
-        label[s - 1] = 0, touched.push_back(s - 1), queue.push({0, s - 1});
+        label[s - 1] = 0, touched.push_back(s - 1), queue.push(s - 1);
         while (!queue.empty()) {
-            auto [c, u] = queue.top();
+            uint32_t u = static_cast<uint32_t>(queue.top());
+            Entry c = queue.top() - u;
             queue.pop();
             if (c > label[u]) continue;
             if (u == t - 1) break;
             for (uint32_t at = first[u]; at < first[u + 1]; ++at) {
-                uint64_t d = c + cost[at];
+                Entry d = c + cost_of(cost[at], 1);
                 uint32_t v = head[at];
                 if (d >= label[v]) continue;
                 if (label[v] == none) touched.push_back(v);
-                label[v] = d, queue.push({d, v});
+                label[v] = d, queue.push(d | v);
             }
         }
-        if (label[t - 1] == none) std::printf("n %u %u\n", s, t);
-        else std::printf("r %u %u %lu\n", s, t, label[t - 1]);
+        Entry c = label[t - 1];
+        if (c == none) std::printf("n %u %u\n", s, t);
+        else std::printf("r %u %u %lu %lu\n", s, t, static_cast<uint64_t>(c >> 64), static_cast<uint64_t>(c) >> 32);
     }
     std::fprintf(stderr, "search %.6f s, %zu pairs\n", seconds_since(start), pairs);
 }

@@ -11,9 +11,9 @@ the network; and the greatest resident size, of which up to 15 MB may be this sc
 one after the other, so that a machine that is slow for a while is slow for all of them. The sweep (`--workers 0`)
 contracts in the order of the node numbers and is left out above a side of 128. With --refusals also how many proposals
 were refused for each node, in one more run, by the program of refusals.py, which counts them. Then 10,000 pairs are
-routed once by the hierarchy of one worker and the first order, and every length is compared with the textbook's; all
-other hierarchies of the network answer 100 pairs, which are compared too. It needs g++ and the proved program
-crates/routecli/out/routecli (README.md says how to build it), or the path in the environment variable ROUTECLI.
+routed once by the hierarchy of one worker and the first order, and every length and number of arcs is compared with the
+textbook's; all other hierarchies of the network answer 100 pairs, which are compared too. It needs g++ and the proved
+program crates/routecli/out/routecli (README.md says how to build it), or the path in the environment variable ROUTECLI.
 """
 import argparse
 import os
@@ -33,10 +33,10 @@ ORDERS = ["edges", "neighbours", "depth"]
 WORKERS = [1, 2, 4]
 
 
-def lengths_in(file):
-    """Of each line the pair and its length, or the pair alone."""
+def costs_in(file):
+    """Of each line the pair, its length and its number of arcs, or the pair alone."""
     with open(file) as lines:
-        return [line.split()[:4] for line in lines]
+        return [line.split()[:5] for line in lines]
 
 
 def network(side, pairs, folder):
@@ -82,8 +82,8 @@ def prepared(graph, file, workers, order):
 
 def check(file, queries, wanted, folder):
     seconds, memory = run([PROGRAM, "route", file, queries], folder / "routed", rounds=1)
-    if lengths_in(folder / "routed") != lengths_in(wanted):
-        sys.exit("the lengths differ")
+    if costs_in(folder / "routed") != costs_in(wanted):
+        sys.exit("the lengths or the numbers of arcs differ")
     return seconds, memory
 
 

@@ -12,15 +12,15 @@ apart. Three tables come out:
 - whole runs, reading included, and runs with a text of no pairs, which read the file and test it alone: seconds of the
   wall clock, or with `--processor` of the processor, which tells more where other programs run, the best of three
   rounds in which each run has its turn; and the greatest resident size, of which up to 17 MB may be this script's own;
-- what a pair takes beyond that, in millionths of a second: by `routecli`; by the C++ program; by the same with costs of
-  64 bits throughout; and by the same with stall-on-demand; and how many nodes the C++ program settled for it. Beside
-  them the plain search in C++ (plain_search.cpp) and Boost's (boost_search.cpp), of 20 of the pairs, without reading;
+- what a pair takes beyond that, in millionths of a second: by `routecli`; by the C++ program; and by the same with
+  stall-on-demand; and how many nodes the C++ program settled for it. Beside them the plain search in C++
+  (plain_search.cpp) and Boost's (boost_search.cpp), which goes by lengths alone, of 20 of the pairs, without reading;
 - reading the graph's text, which is `answer` with a text of pairs that is refused, beside a reader in C++ that is written
   by hand (read_graph.cpp).
 
-Each line of `routecli` has to have the length that the C++ program tells, and the nodes of both are followed along the
-arcs of the network: the least arcs between them have to sum to that length. The plain search and Boost's have to tell the
-same lengths.
+Each line of `routecli` has to have the length and the number of arcs that the C++ program tells, and the nodes of both are
+followed along the arcs of the network: the least arcs between them have to sum to that length. The plain search has to tell
+the same lengths and numbers of arcs, and Boost's the same lengths.
 
 It needs g++, Boost (libboost-graph-dev; without it that column stays empty), and the proved program, which is
 crates/routecli/out/routecli (README.md says how to build it) or the path in the environment variable ROUTECLI. With
@@ -45,7 +45,7 @@ PROGRAMS = ["route", "read_graph", "hierarchy", "plain_search", "boost_search"]
 
 WHOLE = ["Nodes", "Arcs", "Links", "Pairs", "`routecli route`", "C++", "ratio"]
 WHOLE += ["no pairs: `routecli route`", "C++", "ratio"]
-PAIR = ["Nodes", "Pairs", "`routecli route`", "C++", "ratio", "C++, 64 bits", "C++, stalling", "settled in C++"]
+PAIR = ["Nodes", "Pairs", "`routecli route`", "C++", "ratio", "C++, stalling", "settled in C++"]
 PAIR += ["settled, stalling", "plain search", "Boost"]
 READING = ["Nodes", "Arcs", "Text", "`routecli`", "C++ by hand", "ratio"]
 
@@ -86,12 +86,12 @@ def prepare(programs, options, graph, folder):
 
 
 def check(graph, one, other):
-    """Ends this process by 1 where the answers differ in a length, or one of their walks isn't as long."""
+    """Ends this process by 1 where the answers differ in a length or a number of arcs, or one of their walks has others."""
     least = least_arcs_of(graph)
     with open(one) as ours, open(other) as theirs:
         for line, beside in itertools.zip_longest(ours, theirs, fillvalue=""):
             line, beside = line.split(), beside.split()
-            if not (is_answer(line, beside[:4], least) and is_answer(beside, line[:4], least)):
+            if not (is_answer(line, beside, least) and is_answer(beside, line, least)):
                 sys.exit(1)
 
 
@@ -133,7 +133,7 @@ def number(value):
 
 
 def search(program, graph, queries, folder):
-    """What a search without a hierarchy takes of a pair, by the first pairs alone; it has to tell their lengths."""
+    """What a search without a hierarchy takes of a pair, by the first pairs alone; it has to begin their lines."""
     if program is None:
         return MISSING
     lines = queries.read_text().splitlines(keepends=True)[1 : FEW + 1]
@@ -141,8 +141,9 @@ def search(program, graph, queries, folder):
     few.write_text("".join([f"p aux sp p2p {len(lines)}\n", *lines]))
     said = output_of([program, graph, few], folder / "searched")
     with open(folder / "searched") as searched, open(folder / "theirs") as theirs:
-        if any(line.split() != next(theirs).split()[:4] for line in searched):
-            sys.exit(f"{program} differs")
+        for line in map(str.split, searched):
+            if line != next(theirs).split()[: len(line)]:
+                sys.exit(f"{program} differs")
     return f"{float(said[said.index('search') + 1]) * 1e6 / len(lines):,.0f}"
 
 
@@ -150,24 +151,23 @@ def routed(programs, options, graph, file, pairs, queries, folder):
     """The cells of whole runs and of a pair."""
     beside, empty = programs["route"], folder / "no.pairs"
     count = int(pairs.split()[0].replace(",", ""))
-    alone_ours, alone, whole_ours, whole, wide, stalling = in_turn(
+    alone_ours, alone, whole_ours, whole, stalling = in_turn(
         options.processor,
         ([PROGRAM, "route", file, empty], NOWHERE, 0),
         ([beside, file, empty], NOWHERE, 0),
         ([PROGRAM, "route", file, queries], folder / "ours", 0),
         ([beside, file, queries], folder / "theirs", 0),
-        ([beside, "--wide", file, queries], NOWHERE, 0),
         ([beside, "--stall", file, queries], NOWHERE, 0),
     )
     check_apart(graph, folder / ("ours" if whole_ours else "theirs"), folder / "theirs")
     pair_ours, pair = micros(whole_ours, alone_ours, count), micros(whole, alone, count)
-    others = [micros(measured, alone, count) for measured in [wide, stalling]]
     said = [output_of([beside, "--times", *more, file, queries], NOWHERE) for more in [[], ["--stall"]]]
     settled = [words[words.index("settled") + 1] for words in said]
     searches = [search(programs[name], graph, queries, folder) for name in ["plain_search", "boost_search"]]
     ratios = [ratio(seconds(a), seconds(b)) for a, b in [(whole_ours, whole), (alone_ours, alone)]]
     whole_cells = [pairs, cell(whole_ours), cell(whole), ratios[0], cell(alone_ours), cell(alone), ratios[1]]
-    pair_cells = [pairs, number(pair_ours), number(pair), ratio(pair_ours, pair), *map(number, others)]
+    stalling = micros(stalling, alone, count)
+    pair_cells = [pairs, number(pair_ours), number(pair), ratio(pair_ours, pair), number(stalling)]
     return whole_cells, [*pair_cells, *settled, *searches]
 
 

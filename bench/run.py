@@ -4,14 +4,15 @@ pairs, one after the other on this machine.
 
     bench/run.py [SIDE ..]        sides of the square networks, by default 10 32 64 100 128 316
 
-Each answer's length is compared with that of the plain search, and its nodes are followed along the arcs of the
-network: the least arcs between them have to sum to that length. It needs g++ and the proved program, which is
-crates/routecli/out/routecli (README.md says how to build it) or the path in the environment variable ROUTECLI. Times are
-of whole runs, reading included: the best of three. Memory is the greatest resident size, of which up to 15 MB may be this
-script's own. `prepare` goes by one worker here; prepare.py has the other numbers of workers and orders. `answer` prepares
-for each call in the order of the node numbers, which fills in fast: it is left out above a side of 128. Reading the graph
-is `answer` with a text of pairs that is refused. The paces count the pairs that are answered in a second, what is read
-before left out. The times of the textbook hierarchy are those of its preparation alone and of its lengths, without routes.
+Each answer's length and its number of arcs, the fewest of all walks of that length, are compared with those of the
+plain search, and its nodes are followed along the arcs of the network: the least arcs between them have to sum to that
+length. It needs g++ and the proved program, which is crates/routecli/out/routecli (README.md says how to build it) or
+the path in the environment variable ROUTECLI. Times are of whole runs, reading included: the best of three. Memory is
+the greatest resident size, of which up to 15 MB may be this script's own. `prepare` goes by one worker here;
+prepare.py has the other numbers of workers and orders. `answer` prepares for each call in the order of the node
+numbers, which fills in fast: it is left out above a side of 128. Reading the graph is `answer` with a text of pairs
+that is refused. The paces count the pairs that are answered in a second, what is read before left out. The times of
+the textbook hierarchy are those of its preparation alone and of its lengths, without routes.
 """
 import itertools
 import os
@@ -66,8 +67,9 @@ def least_arcs_of(graph):
 
 
 def is_answer(ours, theirs, least):
-    """Whether the line has the pair and the length of the plain search, and nodes along which a walk is as long."""
-    if ours[:4] != theirs:
+    """Whether the line begins as the other one, with the pair, the length and the number of arcs, and has nodes along which
+    a walk has both."""
+    if ours[:5] != theirs[:5]:
         return False
     if ours[0] == "n":
         return len(ours) == 3

@@ -134,8 +134,8 @@ struct Roads {
     struct Road {
         std::uint32_t from, to, weight;
     };
-    static const char LETTER = 'a';
-    static const std::size_t NUMBERS = 3;
+    static constexpr char LETTER = 'a';
+    static constexpr std::size_t NUMBERS = 3;
     std::uint64_t nodes = 0;
     std::vector<Road> roads;
 
@@ -154,7 +154,6 @@ struct Roads {
     void take(const std::uint64_t (&numbers)[3], std::uint64_t line) {
         std::uint64_t from = numbers[0], to = numbers[1], weight = numbers[2];
         if (from - 1 >= nodes || to - 1 >= nodes) throw Fault{"NodeRange", line};
-        if (weight == 0) throw Fault{"ZeroWeight", line};
         if (weight > HEAVIEST) throw Fault{"WeightTooBig", line};
         roads.push_back({std::uint32_t(from - 1), std::uint32_t(to - 1), std::uint32_t(weight)});
     }
@@ -165,8 +164,8 @@ struct Pairs {
     struct Pair {
         std::uint32_t source, target;
     };
-    static const char LETTER = 'q';
-    static const std::size_t NUMBERS = 2;
+    static constexpr char LETTER = 'q';
+    static constexpr std::size_t NUMBERS = 2;
     std::uint64_t nodes;
     std::vector<Pair> pairs;
 

@@ -5,7 +5,9 @@ refusal with slow and plain readers (plain.py).
     tests/fuzz.py [--seconds SECONDS] [--jobs JOBS] [--seed SEED]       by default an hour, 2 jobs and seed 1
 
 Files and texts are drawn, from small networks that `prepare` made hierarchies of, and from well made hierarchies that
-stand for no graph; then bytes, numbers, links and lines of most are changed, exchanged, repeated, cut off or left out. The
+stand for no graph; then bytes, numbers, links and lines of most are changed, exchanged, repeated, cut off or left out. Many
+weights are 0, and many walks as long as others with more arcs: each route has to have the least length and, of the walks
+of this length, the fewest arcs. By a file that stands for no graph these are the walks that its links rise and fall by. The
 output has the number of runs, how they ended, crashes, hangs (no end within 30 seconds), answers that differ, and the
 greatest resident size, also for each byte of the longest input. Each finding is kept in out/fuzz, and the exit status is 1.
 A graph of more than 2,000 nodes with pairs to answer is left out, since its memory is by its nodes.
@@ -29,6 +31,11 @@ import time
 import plain
 
 ROOT = pathlib.Path(__file__).resolve().parent.parent
+sys.path.insert(0, str(ROOT / "bench"))
+
+import random_network
+from hierarchy_file import HEAD_BYTES, LINK_BYTES, spelled
+
 PROGRAM = pathlib.Path(os.environ.get("ROUTECLI", ROOT / "crates/routecli/out/routecli"))
 KEPT = ROOT / "out/fuzz"
 SECONDS = 30
@@ -41,39 +48,37 @@ DIGITS += [b"134217729", b"18446744073709551616", b"9" * 5000, b"-1", b"x", b"1.
 # Well made hierarchies
 
 
-def spelled(ranks, links, bound):
-    words = b"".join(struct.pack(">I", rank) for rank in ranks)
-    return b"RCH1" + struct.pack(">IQQ", len(ranks), len(links), bound) + words + b"".join(map(link_bytes, links))
-
-
-def link_bytes(link):
-    return struct.pack(">IIQI", *link)
-
-
-def cascade():
-    links = [(i, j, 1 << min(i, j), min(i, j) - 1 if min(i, j) else plain.NONE) for i in range(38) for j in range(38)]
-    return spelled(range(38), [link for link in links if link[0] != link[1]], 158913789915)
+def detours(nodes):
+    """Each node but the first is joined with the next over the first, so a walk along all of them comes there often."""
+    spokes = [(0, node, 1, 1, plain.NONE) for node in range(2, nodes)]
+    spokes += [(node, 0, 1, 1, plain.NONE) for node in range(1, nodes - 1)]
+    steps = [(node, node + 1, 2, 2, 0) for node in range(1, nodes - 1)]
+    return spelled(range(nodes), sorted(spokes + steps), 2 * (nodes - 2))
 
 
 def drawn_hierarchy(draw):
-    """A well made hierarchy, most likely right for no graph."""
-    nodes = draw.choice([0, 1, 2, 3, 4, 6, 10])
+    """A well made hierarchy, most likely right for no graph. In most, many walks are as long as others with more arcs."""
+    nodes = draw.choice([0, 1, 2, 3, 4, 6, 10, 16])
     ranks = draw.sample(range(nodes), nodes)
     bound = max(nodes - 1, 0) * draw.choice([1, 7, 40, plain.HEAVIEST])
+    most = min(draw.choice([0, 1, 3, bound]), bound)
     ends = [(start, end) for start in range(nodes) for end in range(nodes) if start != end and draw.random() < 0.6]
-    weights, links = {}, []
+    costs, links = {}, []
     for start, end in sorted(ends, key=lambda pair: min(ranks[pair[0]], ranks[pair[1]])):
         lower = min(ranks[start], ranks[end])
-        middles = [m for m in range(nodes) if ranks[m] < lower and (start, m) in weights and (m, end) in weights]
-        middles = [m for m in middles if weights[start, m] + weights[m, end] <= bound]
-        if middles and draw.random() < 0.8:
-            middle = draw.choice(middles)
-            weight = weights[start, middle] + weights[middle, end]
+        sums = {
+            middle: plain.plus(costs[start, middle], costs[middle, end])
+            for middle in range(nodes)
+            if ranks[middle] < lower and (start, middle) in costs and (middle, end) in costs
+        }
+        sums = {middle: cost for middle, cost in sums.items() if cost[0] <= bound and cost[1] < nodes}
+        if sums and draw.random() < 0.8:
+            middle = draw.choice(list(sums))
         else:
-            middle, weight = plain.NONE, draw.randint(1, draw.choice([1, 3, max(bound, 1)]))
-        if weight <= bound:
-            weights[start, end] = weight
-            links.append((start, end, weight, middle))
+            middle = plain.NONE
+            sums[middle] = draw.randint(0, most), 1
+        costs[start, end] = sums[middle]
+        links.append((start, end, *sums[middle], middle))
     return spelled(ranks, sorted(links), bound)
 
 
@@ -90,13 +95,13 @@ def changed_bytes(draw, data):
         elif kind == 1 and data:
             data[at % len(data)] ^= 1 << draw.randrange(8)
         elif kind == 2:
-            del data[at : at + draw.choice([1, 4, 20])]
+            del data[at : at + draw.choice([1, 4, LINK_BYTES])]
         elif kind == 3:
-            data[at:at] = data[at : at + draw.choice([1, 4, 20])]
+            data[at:at] = data[at : at + draw.choice([1, 4, LINK_BYTES])]
         elif kind == 4:
             del data[at:]
         elif kind == 5:
-            data += bytes(draw.randrange(256) for _ in range(draw.choice([1, 4, 20])))
+            data += bytes(draw.randrange(256) for _ in range(draw.choice([1, 4, LINK_BYTES])))
         else:
             other = draw.randrange(len(data) + 1)
             data[at : at + 1], data[other : other + 1] = data[other : other + 1], data[at : at + 1]
@@ -119,17 +124,24 @@ def changed_numbers(draw, data):
             data[at : at + 4] = struct.pack(">I", near)
         elif kind == 2:
             data[at : at + 4] = data[other : other + 4]
-        elif len(data) >= 24:
-            begin = 24 + 4 * int.from_bytes(data[4:8], "big")
-            count = max((len(data) - begin) // 20, 0)
-            if count:
-                one, two = (begin + 20 * draw.randrange(count) for _ in range(2))
-                if kind == 3:
-                    data[one : one + 20], data[two : two + 20] = data[two : two + 20], data[one : one + 20]
-                else:
-                    del data[one : one + 20]
-                    data[8:16] = struct.pack(">Q", count - 1)
+        elif len(data) >= HEAD_BYTES:
+            change_links(draw, data, is_exchange=kind == 3)
     return bytes(data)
+
+
+def change_links(draw, data, is_exchange):
+    """Exchanges two whole links, or takes one out, where there are any."""
+    begin = HEAD_BYTES + 4 * int.from_bytes(data[4:8], "big")
+    count = max((len(data) - begin) // LINK_BYTES, 0)
+    if count == 0:
+        return
+    one, two = (begin + LINK_BYTES * draw.randrange(count) for _ in range(2))
+    first, second = slice(one, one + LINK_BYTES), slice(two, two + LINK_BYTES)
+    if is_exchange:
+        data[first], data[second] = data[second], data[first]
+    else:
+        del data[first]
+        data[8:16] = struct.pack(">Q", count - 1)
 
 
 def changed_text(draw, text):
@@ -161,10 +173,8 @@ def changed_text(draw, text):
 
 def drawn_graph(draw):
     nodes = draw.choice([0, 1, 2, 3, 5, 8])
-    most = draw.choice([1, 9, plain.HEAVIEST])
-    count = draw.randrange(3 * nodes + 1)
-    arcs = [(draw.randint(1, nodes), draw.randint(1, nodes), draw.randint(1, most)) for _ in range(count)]
-    return (f"p sp {nodes} {count}\n" + "".join("a %d %d %d\n" % arc for arc in arcs)).encode()
+    arcs = random_network.drawn_arcs(draw, nodes, draw.randrange(3 * nodes + 1)) if nodes else []
+    return random_network.text_of(nodes, arcs).encode()
 
 
 def drawn_pairs(draw, nodes):
@@ -210,16 +220,15 @@ def least_arcs(arcs):
     return least
 
 
-def is_line(line, source, target, length, is_walk):
-    """Whether an answer line is right where the least length is this one, or none."""
-    if length is None:
+def is_line(line, source, target, cost, is_walk):
+    """Whether an answer line is right where the least walk has this length and so many arcs, or there is none."""
+    if cost is None:
         return line == b"n %d %d" % (source, target)
     fields = line.split(b" ")
-    if fields[:4] != [b"r", b"%d" % source, b"%d" % target, b"%d" % length]:
+    if fields[:5] != [b"r", b"%d" % source, b"%d" % target, b"%d" % cost[0], b"%d" % cost[1]]:
         return False
     nodes = [int(field) for field in fields[5:]]
-    ends_fit = len(nodes) == int(fields[4]) + 1 and (nodes[0], nodes[-1]) == (source, target)
-    return ends_fit and b"%d" % (len(nodes) - 1) == fields[4] and is_walk(nodes, length)
+    return len(nodes) == cost[1] + 1 and (nodes[0], nodes[-1]) == (source, target) and is_walk(nodes, cost)
 
 
 def is_routed(hierarchy, pairs, status, written, told):
@@ -229,18 +238,17 @@ def is_routed(hierarchy, pairs, status, written, told):
     if lines.pop() != b"" or len(lines) > len(pairs):
         return False
 
-    def is_walk(nodes, length):
-        return len(nodes) <= routes.nodes and routes.is_route([node - 1 for node in nodes], length)
+    def is_walk(nodes, cost):
+        return len(nodes) <= routes.nodes and routes.is_route([node - 1 for node in nodes], cost)
 
     for line, (source, target) in zip(lines, pairs):
-        value = routes.value(source - 1, target - 1)
-        if not is_line(line, source, target, value and value[0], is_walk):
+        if not is_line(line, source, target, routes.value(source - 1, target - 1), is_walk):
             return False
     if len(lines) == len(pairs):
         return (status, told) == (0, b"")
     source, target = pairs[len(lines)]
-    value = routes.value(source - 1, target - 1)
-    is_long = value is not None and value[1] >= routes.nodes
+    cost = routes.value(source - 1, target - 1)
+    is_long = cost is not None and cost[1] >= routes.nodes
     return is_long and (status, told) == (4, b"routecli: hierarchy: TooLong\n")
 
 
@@ -269,19 +277,19 @@ def wanted_answer(first, second):
 
 
 def is_right_answer(asked, status, written, told):
-    nodes, arcs, pairs = asked
+    _, arcs, pairs = asked
     least = least_arcs(arcs)
     lines = written.split(b"\n")
 
-    def is_walk(found, length):
+    def is_walk(found, cost):
         steps = list(zip(found, found[1:]))
-        return all(step in least for step in steps) and sum(least[step] for step in steps) == length
+        return all(step in least for step in steps) and sum(least[step] for step in steps) == cost[0]
 
     if (status, told, lines.pop(), len(lines)) != (0, b"", b"", len(pairs)):
         return False
     for line, (source, target) in zip(lines, pairs):
-        length = plain.lengths_from(nodes, arcs, source).get(target)
-        if not is_line(line, source, target, length, is_walk):
+        cost = plain.least_from(arcs, source).get(target)
+        if not is_line(line, source, target, cost, is_walk):
             return False
     return True
 
@@ -354,8 +362,9 @@ def keep(command, inputs, ended):
 
 
 def corpus_in(folder):
-    """Hierarchy files: the cascade, two nodes that are linked both ways, and some that `prepare` made."""
-    files = [cascade(), spelled([0, 1], [(0, 1, 7, plain.NONE), (1, 0, 7, plain.NONE)], 7)]
+    """Hierarchy files: detours, two nodes that are linked both ways, and some that `prepare` made."""
+    files = [detours(nodes) for nodes in (4, 8, 16, 38)]
+    files.append(spelled([0, 1], [(0, 1, 7, 1, plain.NONE), (1, 0, 7, 1, plain.NONE)], 7))
     draw = random.Random(0)
     for _ in range(30):
         (folder / "graph").write_bytes(drawn_graph(draw))
@@ -390,4 +399,5 @@ def main():
     sys.exit(1 if counts["crash"] + counts["hang"] + counts["differs"] else 0)
 
 
-main()
+if __name__ == "__main__":
+    main()

@@ -1,6 +1,7 @@
 """Slow and plain readers of the formats of docs/FORMATS.md, written from that page alone, and what the answers have to be.
 
 They share no code with `routecli` and nothing of its ways: each looks at the whole file or text again for each question.
+A cost is a pair (weight, arcs); Python orders pairs by the first number and then by the second, as costs are ordered.
 """
 import heapq
 
@@ -15,9 +16,16 @@ class Refused(Exception):
 
 
 class Hierarchy:
+    """Ranks by node, the link of each pair as (cost, middle), and the greatest weight of a link."""
+
     def __init__(self, ranks, links, bound):
         self.ranks, self.bound = ranks, bound
-        self.links = {(start, end): (weight, middle) for start, end, weight, middle in links}
+        self.links = {(start, end): (cost, middle) for start, end, cost, middle in links}
+
+
+def plus(one, other):
+    """What two walks cost together."""
+    return one[0] + other[0], one[1] + other[1]
 
 
 def number(data, at, count):
@@ -28,7 +36,7 @@ def number(data, at, count):
 
 def hierarchy_of(data):
     """The hierarchy that the bytes spell, or their first fault."""
-    for place, byte in enumerate(b"RCH1"):
+    for place, byte in enumerate(b"RCH2"):
         if number(data, place, 1) != byte:
             raise Refused("BadMagic")
     if len(data) < 24:
@@ -41,15 +49,15 @@ def hierarchy_of(data):
     ranks = ranks_of(data, nodes)
     links = links_of(data, ranks, count, bound)
     hierarchy = Hierarchy(ranks, links, bound)
-    for start, end, weight, middle in links:
+    for start, end, cost, middle in links:
         if middle == NONE:
             continue
         halves = hierarchy.links.get((start, middle)), hierarchy.links.get((middle, end))
         if None in halves:
             raise Refused("HalfMissing")
-        if halves[0][0] + halves[1][0] != weight:
+        if plus(halves[0][0], halves[1][0]) != cost:
             raise Refused("HalfSum")
-    if len(data) > 24 + 4 * nodes + 20 * count:
+    if len(data) > 24 + 4 * nodes + 24 * count:
         raise Refused("Trailing")
     return hierarchy
 
@@ -70,72 +78,60 @@ def ranks_of(data, nodes):
 def links_of(data, ranks, count, bound):
     links = []
     for place in range(count):
-        at = 24 + 4 * len(ranks) + 20 * place
-        if len(data) < at + 20:
+        at = 24 + 4 * len(ranks) + 24 * place
+        if len(data) < at + 24:
             raise Refused("Truncated")
         start, end = number(data, at, 4), number(data, at + 4, 4)
-        weight, middle = number(data, at + 8, 8), number(data, at + 16, 4)
+        weight, arcs, middle = number(data, at + 8, 8), number(data, at + 16, 4), number(data, at + 20, 4)
         if start >= len(ranks) or end >= len(ranks) or start == end:
             raise Refused("LinkEnds")
         if links and (start, end) <= links[-1][:2]:
             raise Refused("LinkOrder")
-        if not 1 <= weight <= bound:
+        if weight > bound or not 1 <= arcs < len(ranks) or (middle == NONE and arcs != 1):
             raise Refused("LinkWeight")
         if middle != NONE:
             if middle >= len(ranks):
                 raise Refused("MiddleRange")
             if ranks[middle] >= min(ranks[start], ranks[end]):
                 raise Refused("MiddleRank")
-        links.append((start, end, weight, middle))
+        links.append((start, end, (weight, arcs), middle))
     return links
 
 
 class Routes:
-    """The least rise-fall walks of a hierarchy, and of these the greatest number of arcs."""
+    """The least rise-fall walks of a hierarchy."""
 
     def __init__(self, hierarchy):
         self.hierarchy, self.nodes = hierarchy, len(hierarchy.ranks)
-        ranks = hierarchy.ranks
-        self.arcs = {}
-        for start, end in sorted(hierarchy.links, key=lambda ends: min(ranks[ends[0]], ranks[ends[1]])):
-            middle = hierarchy.links[start, end][1]
-            halves = ((start, middle), (middle, end))
-            self.arcs[start, end] = 1 if middle == NONE else sum(self.arcs[half] for half in halves)
 
     def climb(self, source, is_forward):
-        """For each node that is come to by rising alone: the least cost, and the most arcs at that cost."""
+        """The least cost of each node that is come to by rising alone."""
         ranks, best = self.hierarchy.ranks, {source: (0, 0)}
         for node in sorted(range(self.nodes), key=lambda node: ranks[node]):
             if node not in best:
                 continue
-            cost, arcs = best[node]
-            for (start, end), (weight, _) in self.hierarchy.links.items():
+            for (start, end), (cost, _) in self.hierarchy.links.items():
                 here, there = (start, end) if is_forward else (end, start)
                 if here == node and ranks[there] > ranks[node]:
-                    found = cost + weight, arcs + self.arcs[start, end]
-                    known = best.get(there)
-                    if known is None or found[0] < known[0] or found[0] == known[0] and found[1] > known[1]:
-                        best[there] = found
+                    found = plus(best[node], cost)
+                    best[there] = min(found, best.get(there, found))
         return best
 
     def value(self, source, target):
-        """The least cost and the most arcs at that cost, or none."""
+        """The least cost of a walk whose weight is within the bound, or none. It may have as many arcs as it will."""
         up, down = self.climb(source, True), self.climb(target, False)
-        found = [(up[top][0] + down[top][0], -(up[top][1] + down[top][1])) for top in up if top in down]
-        found = [one for one in found if one[0] <= self.hierarchy.bound]
-        if not found:
-            return None
-        cost, arcs = min(found)
-        return cost, -arcs
+        found = [plus(up[top], down[top]) for top in up if top in down]
+        return min((cost for cost in found if cost[0] <= self.hierarchy.bound), default=None)
 
     def is_route(self, nodes, cost):
         """Whether links without a middle join these nodes, at this cost."""
+        found = (0, 0)
         for start, end in zip(nodes, nodes[1:]):
-            weight, middle = self.hierarchy.links.get((start, end), (0, None))
+            step, middle = self.hierarchy.links.get((start, end), (None, None))
             if middle != NONE:
                 return False
-            cost -= weight
-        return cost == 0
+            found = plus(found, step)
+        return found == cost
 
 
 def lines_of(text):
@@ -199,8 +195,6 @@ def graph_sizes(numbers, line):
 def arc(numbers, sizes, line):
     if not all(1 <= node <= sizes[0] for node in numbers[:2]):
         raise Refused(f"NodeRange line {line}")
-    if numbers[2] == 0:
-        raise Refused(f"ZeroWeight line {line}")
     if numbers[2] > HEAVIEST:
         raise Refused(f"WeightTooBig line {line}")
     return numbers
@@ -228,15 +222,15 @@ def pairs_of(text, nodes):
     return read(text, b"q", 3, [b"p", b"aux", b"sp", b"p2p"], pair_sizes, pair)[1]
 
 
-def lengths_from(nodes, arcs, source):
-    """The least length from a node to each that can be come to."""
-    least, queue = {}, [(0, source)]
+def least_from(arcs, source):
+    """The least cost from a node to each that can be come to, by arcs (start, end, weight)."""
+    least, queue = {}, [((0, 0), source)]
     while queue:
-        length, node = heapq.heappop(queue)
+        cost, node = heapq.heappop(queue)
         if node in least:
             continue
-        least[node] = length
+        least[node] = cost
         for start, end, weight in arcs:
             if start == node and end not in least:
-                heapq.heappush(queue, (length + weight, end))
+                heapq.heappush(queue, (plus(cost, (weight, 1)), end))
     return least

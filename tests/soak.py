@@ -4,14 +4,15 @@ plain search in C++.
 
     tests/soak.py [BUILDS [SEED]] [--first BUILD]        by default 1,000 builds and seed 1, from build 0 on
 
-Each network has up to 40 nodes and up to 200 arcs, loops and parallel arcs among them, and weights from a range that
-makes ties likely; one in ten has up to 400 nodes. Each is prepared with another seed by 2 to 64 workers, the orders in
-turn, and its pairs are routed, all of them in a small network: every length has to be that of the plain search, and
-every route a walk of that length. Meanwhile one process for each processor does nothing but count, so that workers are
-interrupted anywhere. A program that takes more than a minute is told as stuck. The network of a build is drawn by the
-seed and the build's number, so `--first` goes on where a run was ended. Each 50 builds a line on standard error says how
-far it has come. It needs g++ and the proved program, which is crates/routecli/out/routecli (README.md says how to build
-it) or the path in the environment variable ROUTECLI.
+Each network has up to 40 nodes and up to 200 arcs, loops and parallel arcs among them, and weights that make ties
+likely, 0 among them; one in ten has up to 400 nodes. Each is prepared with another seed by 2 to 64 workers, the orders
+in turn, and its pairs are routed, all of them in a small network: every length, and every number of arcs, which has to
+be the least of all walks of that length, is compared with the plain search, and every route has to be a walk of both.
+Meanwhile one process for each processor does nothing but count, so that workers are interrupted anywhere. A program
+that takes more than a minute is told as stuck. The network of a build is drawn by the seed and the build's number, so
+`--first` goes on where a run was ended. Each 50 builds a line on standard error says how far it has come. It needs g++
+and the proved program, which is crates/routecli/out/routecli (README.md says how to build it) or the path in the
+environment variable ROUTECLI.
 """
 import argparse
 import multiprocessing
@@ -25,6 +26,7 @@ import time
 
 sys.path.insert(0, str(pathlib.Path(__file__).resolve().parent.parent / "bench"))
 
+from random_network import drawn_arcs, text_of
 from run import PROGRAM, ROOT, are_answers, least_arcs_of
 
 ORDERS = ["edges", "neighbours", "depth"]
@@ -35,11 +37,7 @@ TOLD_EACH = 50
 
 def write_network(draw, graph, queries):
     nodes = draw.randint(1, 400 if draw.randrange(10) == 0 else 40)
-    most = draw.choice([1, 3, 20, 4_294_967_295])
-    arcs = [
-        (draw.randint(1, nodes), draw.randint(1, nodes), draw.randint(1, most)) for _ in range(draw.randint(0, 5 * nodes))
-    ]
-    graph.write_text(f"p sp {nodes} {len(arcs)}\n" + "".join(f"a {u} {v} {w}\n" for u, v, w in arcs))
+    graph.write_text(text_of(nodes, drawn_arcs(draw, nodes, draw.randint(0, 5 * nodes))))
     pairs = [(s, t) for s in range(1, nodes + 1) for t in range(1, nodes + 1)]
     pairs = draw.sample(pairs, min(len(pairs), MOST_PAIRS))
     queries.write_text(f"p aux sp p2p {len(pairs)}\n" + "".join(f"q {s} {t}\n" for s, t in pairs))

@@ -26,6 +26,13 @@ import time
 HERE = pathlib.Path(__file__).resolve().parent
 PROGRAM = pathlib.Path(os.environ.get("ROUTECLI", HERE.parent / "crates/routecli/out/routecli")).resolve()
 PREPARE = ["prepare", "--workers", "1"]
+# A graph of one arc, and its hierarchy's file by docs/FORMATS.md: the head, two ranks, and one link of 24 bytes.
+SMALL = b"p sp 2 1\na 1 2 7\n"
+SMALL_FILE = b"RCH2" + bytes.fromhex(
+    "00000002 0000000000000001 0000000000000007"
+    "00000000 00000001"
+    "00000000 00000001 0000000000000007 00000001 ffffffff"
+)
 NOBODY = 65534
 WRITE, MEMORY, ONE_FILE = b"routecli: write\n", b"routecli: memory\n", b"routecli: GRAPH and OUT are one file\n"
 
@@ -102,8 +109,7 @@ class Shared:
         Run([*PREPARE, self.graph, "/dev/stdout"], top, stdout=open(self.file, "wb")).ends(0)
         self.seconds = time.perf_counter() - start
         self.new = self.file.read_bytes()
-        self.small = b"p sp 2 1\na 1 2 7\n"
-        self.old = Run([*PREPARE, "/dev/stdin", "/dev/stdout"], top, input=self.small).ends(0).out
+        self.old = SMALL_FILE
         self.answers = Run(["route", self.file, self.pairs], top).ends(0).out
         self.refuse = refuse_library(top)
 
@@ -130,6 +136,13 @@ def case(*values):
 
 
 # Where nothing is refused
+
+
+@case()
+def a_file_of_one_link(bench):
+    bench.prepare(bench.put("small.gr", SMALL)).ends(0)
+    bench.left.add("x.rch")
+    bench.holds_old()
 
 
 @case()
@@ -338,7 +351,7 @@ def in_memory(limit):
 def memory_to_prepare(bench, how):
     workers, limit = int(how.split()[0]), int(how.split()[2])
     bench.put("x.rch", b"before")
-    small = bench.put("small.gr", bench.shared.small)
+    small = bench.put("small.gr", SMALL)
     graph = small if workers == 0 else bench.graph
     run = bench.run("prepare", "--workers", str(workers), graph, "x.rch", preexec_fn=in_memory(limit))
     if run.status == 6 and limit < LIMITS[-1]:
@@ -350,11 +363,12 @@ def memory_to_prepare(bench, how):
             bench.holds_old()
         else:
             answers = bench.run("route", "x.rch", bench.shared.pairs).ends(0).out
-            expect(lengths(answers) == lengths(bench.shared.answers), "other lengths")
+            expect(costs(answers) == costs(bench.shared.answers), "other lengths, or other numbers of arcs")
 
 
-def lengths(answers):
-    return [line.split()[:4] for line in answers.splitlines()]
+def costs(answers):
+    """Of each line the pair, its length and its number of arcs, or the pair alone."""
+    return [line.split()[:5] for line in answers.splitlines()]
 
 
 @case(*(f"{limit} MB" for limit in LIMITS))

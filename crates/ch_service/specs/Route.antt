@@ -3,15 +3,15 @@ use Rattle.std.specs.Prelude.{ℕ, ◌≡◌, ◌-◌, ◌<◌, ◌≤◌, List,
 use Rattle.ch_cost.specs.declared.cost.Cost.{Cost}
 use Rattle.ch_graph.specs.declared.link.Link.{Link}
 use Rattle.ch_graph.specs.Graph.{Graph, IsGraph}
-use Rattle.ch_graph.specs.Hierarchy.{Hierarchy, IsWellMade, IsRight, IsValue}
+use Rattle.ch_graph.specs.Hierarchy.{Hierarchy, IsRight, IsValue}
 use Rattle.ch_laws.specs.Theorems.{IsLeastRoute}
 use Rattle.grfile.specs.Reading.{graph_of, pairs_of, IsPair}
-use Rattle.hierfile.specs.Spelling.{bytes_of}
+use Rattle.hierfile.specs.Spelling.{bytes_of, IsOfFile}
 use Rattle.ch_service.specs.Answer.{Route, AreAnswers, Answered, Answers, AnswersByFewest, AnswersFirst}
 
 -- the bytes are the file of the hierarchy
 pub record Spells (bytes : List ℕ) (h : Hierarchy) : Type 0 where
-  pub made : IsWellMade h
+  pub made : IsOfFile h
   pub spelled : bytes ≡ bytes_of h
 
 -- the bytes are the file of a hierarchy that is right for the graph of the text
