@@ -2,14 +2,15 @@ ghost use Rattle.std.specs.Prelude.{◌≡◌};
 ghost use Rattle.ch_graph.specs.Graph.{bound_of};
 ghost use Rattle.ch_rowbook.specs.Blanks.{name_of};
 
-use crate::networks::{HEAVY, Line, MOST, PARALLEL, ROW, TIE, graph_of, with_blank};
+use crate::networks::{
+    FEWEST, FREE, HEAVY, LONGER, Line, MOST, PARALLEL, ROW, TIE, graph_of, with_blank,
+};
 use crate::proposals::{are_of, are_shortcuts};
-use crate::shelf::Arcs;
+use crate::shelf::{Lead, Numbers, cost_of};
 use ch_contract::{
     Board, CommitError, Contraction, FinishError, Proposal, ProposeError, Receipt, Site,
     SweepError, propose,
 };
-use ch_cost::Cost;
 use ch_graph::{Graph, Hierarchy, Link, Road};
 use ch_rowbook::{Blank, Reader};
 use std::alloc::Global;
@@ -20,17 +21,22 @@ use std::test::Fail;
 /// How many nodes each search settles at most.
 const SETTLE: u32 = 64;
 
-/// A proposal, and what the board answers to it: its node, the nodes of the rows that it rests on, and its shortcuts,
-/// each of so many arcs of a weight.
+/// A proposal, and what the board answers to it: its node, the nodes of the rows that it rests on, and its shortcuts.
 type Offer = (
     u32,
     &'static [u32],
-    &'static [Arcs],
+    &'static [Lead],
     Result<Receipt, CommitError>,
 );
 
-/// A link of so many arcs of the weight: its ends, their number, the weight, and the middle.
-type Linked = (u32, u32, u32, u32, Option<u32>);
+/// A link: its ends, its cost and its middle.
+pub type Linked = (u32, u32, Numbers, Option<u32>);
+
+/// The length of an arc of the greatest weight.
+const ONE: u64 = MOST as u64;
+
+/// That of two.
+const TWO: u64 = 8_589_934_590;
 
 /// A board on which each node gets the rank of its number, and what it comes to.
 #[derive(Clone, Copy)]
@@ -43,8 +49,7 @@ struct Case {
     /// By rising node its neighbours, as the log has them, and how many shortcuts were put in.
     log: &'static [(&'static [u32], u64)],
     links: &'static [Linked],
-    /// What so many arcs of this weight cost.
-    bound: (u32, u32),
+    bound: Numbers,
 }
 
 const ROW_OF_THREE: Case = Case {
@@ -53,11 +58,11 @@ const ROW_OF_THREE: Case = Case {
     turns: &[],
     log: &[(&[1, 2], 1), (&[2], 0), (&[], 0)],
     links: &[
-        (0, 2, 1, 3, None),
-        (1, 0, 1, 2, None),
-        (1, 2, 1, 5, Some(0)),
+        (0, 2, (3, 1), None),
+        (1, 0, (2, 1), None),
+        (1, 2, (5, 2), Some(0)),
     ],
-    bound: (1, 6),
+    bound: (6, 2),
 };
 
 const TIE_OF_FOUR: Case = Case {
@@ -66,13 +71,13 @@ const TIE_OF_FOUR: Case = Case {
     turns: &[],
     log: &[(&[2, 3], 0), (&[2, 3], 1), (&[3], 0), (&[], 0)],
     links: &[
-        (0, 3, 1, 1, None),
-        (1, 3, 1, 1, None),
-        (2, 0, 1, 1, None),
-        (2, 1, 1, 1, None),
-        (2, 3, 2, 1, Some(1)),
+        (0, 3, (1, 1), None),
+        (1, 3, (1, 1), None),
+        (2, 0, (1, 1), None),
+        (2, 1, (1, 1), None),
+        (2, 3, (2, 2), Some(1)),
     ],
-    bound: (1, 3),
+    bound: (3, 3),
 };
 
 const HEAVIEST_WEIGHTS: Case = Case {
@@ -81,15 +86,15 @@ const HEAVIEST_WEIGHTS: Case = Case {
     turns: &[],
     log: &[(&[1, 2, 3], 3), (&[2, 3], 0), (&[3], 0), (&[], 0)],
     links: &[
-        (0, 1, 1, MOST, None),
-        (0, 3, 1, MOST, None),
-        (1, 0, 1, MOST, None),
-        (1, 3, 2, MOST, Some(0)),
-        (2, 0, 1, MOST, None),
-        (2, 1, 2, MOST, Some(0)),
-        (2, 3, 2, MOST, Some(0)),
+        (0, 1, (ONE, 1), None),
+        (0, 3, (ONE, 1), None),
+        (1, 0, (ONE, 1), None),
+        (1, 3, (TWO, 2), Some(0)),
+        (2, 0, (ONE, 1), None),
+        (2, 1, (TWO, 2), Some(0)),
+        (2, 3, (TWO, 2), Some(0)),
     ],
-    bound: (3, MOST),
+    bound: (12_884_901_885, 3),
 };
 
 /// Of two proposals of one node the first is taken, and then the node is contracted for good.
@@ -98,10 +103,10 @@ const ROW_BY_COMMITS: Case = Case {
         (
             0,
             &[0, 1],
-            &[(1, 2, 1, 5)],
+            &[(1, 2, (5, 2))],
             Ok(Receipt { node: 0, rank: 0 }),
         ),
-        (0, &[0, 1], &[(1, 2, 1, 5)], Err(CommitError::Contracted)),
+        (0, &[0, 1], &[(1, 2, (5, 2))], Err(CommitError::Contracted)),
     ]],
     ..ROW_OF_THREE
 };
@@ -127,7 +132,7 @@ const TIE_BY_COMMITS: Case = Case {
         &[(
             1,
             &[1, 2],
-            &[(2, 3, 2, 1)],
+            &[(2, 3, (2, 2))],
             Ok(Receipt { node: 1, rank: 1 }),
         )],
     ],
@@ -140,7 +145,7 @@ const HEAVY_BY_COMMITS: Case = Case {
         &[(
             0,
             &[0, 1, 2],
-            &[(1, 3, 2, MOST), (2, 1, 2, MOST), (2, 3, 2, MOST)],
+            &[(1, 3, (TWO, 2)), (2, 1, (TWO, 2)), (2, 3, (TWO, 2))],
             Ok(Receipt { node: 0, rank: 0 }),
         )],
         &[(1, &[1, 2], &[], Ok(Receipt { node: 1, rank: 1 }))],
@@ -148,7 +153,7 @@ const HEAVY_BY_COMMITS: Case = Case {
     ..HEAVIEST_WEIGHTS
 };
 
-const CASES: [Case; 8] = [
+const CASES: [Case; 11] = [
     ROW_OF_THREE,
     TIE_OF_FOUR,
     HEAVIEST_WEIGHTS,
@@ -161,8 +166,53 @@ const CASES: [Case; 8] = [
         lines: &PARALLEL,
         turns: &[],
         log: &[(&[1], 0), (&[], 0)],
-        links: &[(0, 1, 1, 4, None)],
-        bound: (1, 12),
+        links: &[(0, 1, (4, 1), None)],
+        bound: (12, 1),
+    },
+    // No shortcut where an arc is as short.
+    Case {
+        nodes: 3,
+        lines: &FEWEST,
+        turns: &[],
+        log: &[(&[1, 2], 0), (&[2], 0), (&[], 0)],
+        links: &[
+            (0, 2, (5, 1), None),
+            (1, 0, (0, 1), None),
+            (1, 2, (5, 1), None),
+        ],
+        bound: (10, 2),
+    },
+    // A shortcut where another way is as short, but of more arcs.
+    Case {
+        nodes: 5,
+        lines: &LONGER,
+        turns: &[],
+        log: &[
+            (&[3, 4], 1),
+            (&[2, 3], 1),
+            (&[3, 4], 0),
+            (&[4], 0),
+            (&[], 0),
+        ],
+        links: &[
+            (0, 4, (1, 1), None),
+            (1, 2, (1, 1), None),
+            (2, 4, (1, 1), None),
+            (3, 0, (2, 1), None),
+            (3, 1, (1, 1), None),
+            (3, 2, (2, 2), Some(1)),
+            (3, 4, (3, 2), Some(0)),
+        ],
+        bound: (8, 4),
+    },
+    // Arcs of weight 0.
+    Case {
+        nodes: 2,
+        lines: &FREE,
+        turns: &[],
+        log: &[(&[1], 0), (&[], 0)],
+        links: &[(0, 1, (0, 1), None), (1, 0, (0, 1), None)],
+        bound: (0, 1),
     },
     // No nodes.
     Case {
@@ -290,19 +340,19 @@ fn are_expected(entries: &[Contraction], expected: &[(&[u32], u64)]) -> bool {
 
 /// Whether the hierarchy is that of the case, in which each node has the rank of its number.
 fn is_hierarchy(hierarchy: &Hierarchy, case: &Case) -> bool {
-    let (count, heaviest) = case.bound;
     (0..hierarchy.nodes()).all(|node| hierarchy.rank(node) == node)
         && hierarchy.nodes() == case.nodes
         && are_links(hierarchy.links(), case.links)
-        && hierarchy.bound() == Cost::of_arcs(count, heaviest)
+        && hierarchy.bound() == cost_of(case.bound)
 }
 
-fn are_links(links: &[Link], expected: &[Linked]) -> bool {
+/// Whether the links are these.
+pub fn are_links(links: &[Link], expected: &[Linked]) -> bool {
     links.len() == expected.len()
-        && links.iter().zip(expected).all(|(link, (from, to, count, weight, middle))| {
+        && links.iter().zip(expected).all(|(link, (from, to, numbers, middle))| {
             (link.from == *from)
                 & (link.to == *to)
-                & (link.cost == Cost::of_arcs(*count, *weight))
+                & (link.cost == cost_of(*numbers))
                 & (link.middle == *middle)
         })
 }

@@ -19,6 +19,15 @@ pub const ROW: [Line; 2] = [(1, 0, 2), (0, 2, 3)];
 /// Two ways from 2 to 3 that cost the same, over 0 and over 1.
 pub const TIE: [Line; 4] = [(2, 0, 1), (0, 3, 1), (2, 1, 1), (1, 3, 1)];
 
+/// From 1 to 2 an arc, and a way over 0 of the same length.
+pub const FEWEST: [Line; 3] = [(1, 0, 0), (0, 2, 5), (1, 2, 5)];
+
+/// Ways of length 3 from 3 to 4: one of two arcs over 0, and one of three arcs over 1 and 2.
+pub const LONGER: [Line; 5] = [(3, 0, 2), (0, 4, 1), (3, 1, 1), (1, 2, 1), (2, 4, 1)];
+
+/// Arcs of weight 0.
+pub const FREE: [Line; 2] = [(0, 1, 0), (1, 0, 0)];
+
 /// A loop, and parallel arcs.
 pub const PARALLEL: [Line; 4] = [(0, 0, 12), (0, 1, 9), (0, 1, 4), (0, 1, 6)];
 

@@ -1,6 +1,6 @@
 ghost use Rattle.std.specs.Prelude.{◌≡◌, [], IfOk};
 
-use crate::networks::{Line, PARALLEL, ROW, graph_of};
+use crate::networks::{FREE, Line, PARALLEL, ROW, graph_of};
 use ch_cost::Cost;
 use ch_overlay::{Entry, Middle, Overlay, Row};
 use std::alloc::{AllocError, Global};
@@ -19,7 +19,7 @@ struct Opening {
     bound: (u32, u32),
 }
 
-const OPENINGS: [Opening; 2] = [
+const OPENINGS: [Opening; 3] = [
     Opening {
         lines: &ROW,
         rows: &[(&[(2, 3)], &[(1, 2)]), (&[(0, 2)], &[]), (&[], &[(0, 3)])],
@@ -29,6 +29,11 @@ const OPENINGS: [Opening; 2] = [
         lines: &PARALLEL,
         rows: &[(&[(1, 4)], &[]), (&[], &[(0, 4)])],
         bound: (1, 12),
+    },
+    Opening {
+        lines: &FREE,
+        rows: &[(&[(1, 0)], &[(1, 0)]), (&[(0, 0)], &[(0, 0)])],
+        bound: (1, 0),
     },
 ];
 

@@ -1,4 +1,4 @@
-use crate::shelf::{Arcs, Shelf};
+use crate::shelf::{Lead, Shelf, cost_of};
 use ch_contract::{Facts, Proposal, ProposeError, Verdict, propose};
 use ch_cost::Cost;
 use ch_overlay::{Seen, Shortcut};
@@ -6,56 +6,80 @@ use std::alloc::Global;
 use std::test::Fail;
 
 /// Node 1 leads to node 0, and node 0 to node 2.
-const CHAIN: [Arcs; 2] = [(1, 0, 1, 2), (0, 2, 1, 3)];
+const CHAIN: [Lead; 2] = [(1, 0, (2, 1)), (0, 2, (3, 1))];
+
+/// The same, and node 1 leads to node 2 itself at the same length.
+const DIRECT: [Lead; 3] = [(1, 0, (2, 1)), (0, 2, (3, 1)), (1, 2, (5, 1))];
+
+/// The same, where that is of more arcs.
+const ROUNDABOUT: [Lead; 3] = [(1, 0, (2, 1)), (0, 2, (3, 1)), (1, 2, (5, 3))];
 
 /// Nodes 0 and 1 lead to one another alone.
-const PAIR: [Arcs; 2] = [(1, 0, 1, 2), (0, 1, 1, 3)];
+const PAIR: [Lead; 2] = [(1, 0, (2, 1)), (0, 1, (3, 1))];
 
 /// Node 3 is reached from node 2 by way of 0 or of 1, at the same cost.
-const TIE: [Arcs; 4] = [(2, 0, 1, 1), (0, 3, 1, 1), (2, 1, 1, 1), (1, 3, 1, 1)];
+const TIE: [Lead; 4] = [
+    (2, 0, (1, 1)),
+    (0, 3, (1, 1)),
+    (2, 1, (1, 1)),
+    (1, 3, (1, 1)),
+];
 
-/// Node 3 is reached from node 2 by way of 1, at more than the bound.
-const HEAVY: [Arcs; 2] = [(2, 1, 2, u32::MAX), (1, 3, 2, u32::MAX)];
+/// The same, but the way that isn't over 0 is shorter, and of five arcs.
+const SHORTER: [Lead; 6] = [
+    (2, 0, (1, 1)),
+    (0, 3, (1, 1)),
+    (2, 1, (0, 1)),
+    (1, 4, (0, 2)),
+    (4, 5, (1, 1)),
+    (5, 3, (0, 1)),
+];
+
+/// Node 3 is reached from node 2 by way of 1, at a length above the bound's.
+const HEAVY: [Lead; 2] = [(2, 1, (8_589_934_590, 1)), (1, 3, (8_589_934_590, 1))];
+
+/// The same by more arcs than the bound's.
+const MANY: [Lead; 2] = [(2, 1, (1, 2)), (1, 3, (1, 2))];
 
 /// Nodes 1 and 2 are joined both ways by node 0, and by node 3 at the same cost.
-const SQUARE: [Arcs; 8] = [
-    (0, 1, 1, 1),
-    (0, 2, 1, 1),
-    (1, 0, 1, 1),
-    (1, 3, 1, 1),
-    (2, 0, 1, 1),
-    (2, 3, 1, 1),
-    (3, 1, 1, 1),
-    (3, 2, 1, 1),
+const SQUARE: [Lead; 8] = [
+    (0, 1, (1, 1)),
+    (0, 2, (1, 1)),
+    (1, 0, (1, 1)),
+    (1, 3, (1, 1)),
+    (2, 0, (1, 1)),
+    (2, 3, (1, 1)),
+    (3, 1, (1, 1)),
+    (3, 2, (1, 1)),
 ];
 
 /// Nodes 1 and 2 lead to node 3 by way of 0, and by way of 4 at the same cost.
-const OVERLAP: [Arcs; 6] = [
-    (1, 0, 1, 1),
-    (2, 0, 1, 1),
-    (0, 3, 1, 1),
-    (1, 4, 1, 1),
-    (2, 4, 1, 1),
-    (4, 3, 1, 1),
+const OVERLAP: [Lead; 6] = [
+    (1, 0, (1, 1)),
+    (2, 0, (1, 1)),
+    (0, 3, (1, 1)),
+    (1, 4, (1, 1)),
+    (2, 4, (1, 1)),
+    (4, 3, (1, 1)),
 ];
 
 /// The proposal of a node by a shelf: each node that it rests on is asked for once, and no other.
 #[derive(Clone, Copy)]
 struct Case {
-    lines: &'static [Arcs],
+    leads: &'static [Lead],
     bound: (u16, u32),
     node: u32,
     settle: u32,
     rests_on: &'static [u32],
     verdicts: &'static [(u32, u32, Option<Verdict>)],
     ins: u32,
-    /// The ends of each shortcut, and what it costs: so many arcs of this weight.
-    shortcuts: &'static [Arcs],
+    /// The ends of each shortcut, and what it costs.
+    shortcuts: &'static [Lead],
 }
 
 /// The first middle node of the tie of four nodes.
 const TIED: Case = Case {
-    lines: &TIE,
+    leads: &TIE,
     bound: (3, 1),
     node: 0,
     settle: 64,
@@ -65,21 +89,48 @@ const TIED: Case = Case {
     shortcuts: &[],
 };
 
-const CASES: [Case; 8] = [
-    // A pair of three nodes.
+/// The middle node of three.
+const CHAINED: Case = Case {
+    leads: &CHAIN,
+    bound: (2, 3),
+    node: 0,
+    settle: 64,
+    rests_on: &[0, 1],
+    verdicts: &[(1, 2, Some(Verdict::Shortcut)), (2, 1, None), (1, 1, None)],
+    ins: 1,
+    shortcuts: &[(1, 2, (5, 2))],
+};
+
+/// The middle node of a heavy pair.
+const TOO_HEAVY: Case = Case {
+    leads: &HEAVY,
+    bound: (3, u32::MAX),
+    node: 1,
+    settle: 64,
+    rests_on: &[1, 2],
+    verdicts: &[(2, 3, Some(Verdict::Heavy))],
+    ins: 1,
+    shortcuts: &[],
+};
+
+const CASES: [Case; 12] = [
+    // A pair of three nodes, and an arc that is a witness where it isn't of more arcs.
+    CHAINED,
     Case {
-        lines: &CHAIN,
-        bound: (2, 3),
-        node: 0,
-        settle: 64,
-        rests_on: &[0, 1],
-        verdicts: &[(1, 2, Some(Verdict::Shortcut)), (2, 1, None), (1, 1, None)],
-        ins: 1,
-        shortcuts: &[(1, 2, 1, 5)],
+        leads: &DIRECT,
+        bound: (2, 5),
+        verdicts: &[(1, 2, Some(Verdict::Witness))],
+        shortcuts: &[],
+        ..CHAINED
+    },
+    Case {
+        leads: &ROUNDABOUT,
+        bound: (3, 5),
+        ..CHAINED
     },
     // No other arc leads on, so the neighbour's row isn't asked for.
     Case {
-        lines: &PAIR,
+        leads: &PAIR,
         bound: (1, 3),
         node: 0,
         settle: 64,
@@ -100,23 +151,25 @@ const CASES: [Case; 8] = [
         settle: 1,
         rests_on: &[0, 2],
         verdicts: &[(2, 3, Some(Verdict::Shortcut))],
-        shortcuts: &[(2, 3, 2, 1)],
+        shortcuts: &[(2, 3, (2, 2))],
         ..TIED
     },
-    // A heavy pair.
+    // A shorter way is a witness, whatever its arcs.
     Case {
-        lines: &HEAVY,
-        bound: (3, u32::MAX),
-        node: 1,
-        settle: 64,
-        rests_on: &[1, 2],
-        verdicts: &[(2, 3, Some(Verdict::Heavy))],
-        ins: 1,
-        shortcuts: &[],
+        leads: &SHORTER,
+        bound: (5, 1),
+        rests_on: &[0, 2, 1, 4, 5],
+        ..TIED
+    },
+    // A heavy pair, by its length and by its arcs.
+    TOO_HEAVY,
+    Case {
+        leads: &MANY,
+        ..TOO_HEAVY
     },
     // Two searches that read the same row, after those of both neighbours.
     Case {
-        lines: &OVERLAP,
+        leads: &OVERLAP,
         bound: (4, 1),
         node: 0,
         settle: 64,
@@ -145,12 +198,10 @@ fn are_the_same(asked: &[u32], nodes: &[u32]) -> bool {
 }
 
 /// Whether the shortcuts have these ends and costs.
-pub fn are_shortcuts(shortcuts: &[Shortcut], expected: &[Arcs]) -> bool {
+pub fn are_shortcuts(shortcuts: &[Shortcut], expected: &[Lead]) -> bool {
     shortcuts.len() == expected.len()
-        && shortcuts.iter().zip(expected).all(|(shortcut, (from, to, count, weight))| {
-            (shortcut.from == *from)
-                & (shortcut.to == *to)
-                & (shortcut.cost == Cost::of_arcs(*count, *weight))
+        && shortcuts.iter().zip(expected).all(|(shortcut, (from, to, numbers))| {
+            (shortcut.from == *from) & (shortcut.to == *to) & (shortcut.cost == cost_of(*numbers))
         })
 }
 
@@ -184,9 +235,9 @@ fn proposes(alloc: Global, source: &mut Shelf, case: &Case) -> Result<bool, Prop
     Ok(is_proposed(&proposal, case) & has_verdicts(&proposal, case))
 }
 
-/// Whether the case comes true by a shelf of its arcs, which is asked for each of its rows once, and for no other.
+/// Whether the case comes true by a shelf of its rows, which is asked for each that it needs once, and for no other.
 fn comes_true(alloc: Global, case: &Case) -> Result<bool, Fail> {
-    let mut shelf = Shelf::new(alloc, 5, case.lines, case.bound, None)?;
+    let mut shelf = Shelf::new(alloc, 6, case.leads, case.bound, None)?;
     let holds = proposes(alloc, &mut shelf, case)?;
     Ok(holds & are_the_same(&shelf.asked, case.rests_on))
 }

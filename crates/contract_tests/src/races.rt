@@ -53,7 +53,7 @@ fn grid(alloc: Global) -> Result<Vec<Road>, AllocError> {
         for to in [from + 1, from + WIDTH] {
             let wraps = (to == from + 1) & (to % WIDTH == 0);
             if (to < NODES) & !wraps {
-                let weight = 1 + from % 7;
+                let weight = from % 7;
                 roads.push(Road { from, to, weight })?;
                 let (from, to) = (to, from);
                 roads.push(Road { from, to, weight })?;

@@ -4,8 +4,8 @@ ghost use Rattle.ch_graph.specs.Graph.{bound_of};
 ghost use Rattle.ch_rowbook.specs.Blanks.{name_of};
 
 use crate::networks::{ROW, graph_of, with_blank, with_book};
+use crate::shelf::{Numbers, cost_of};
 use ch_contract::{Board, CommitError, Ledger, ProposeError, Receipt, Site, propose};
-use ch_cost::Cost;
 use ch_graph::Graph;
 use ch_overlay::{Entry, SeeError, Seen};
 use ch_rowbook::{Blank, Reader};
@@ -14,38 +14,38 @@ use std::marker::Brand;
 use std::sync::Wait;
 use std::test::Fail;
 
-/// Entries of a row: the other node, the weight and the middle of each.
-type Entries = &'static [(u32, u32, Option<u32>)];
+/// Entries of a row: the other node, the cost and the middle of each.
+type Entries = &'static [(u32, Numbers, Option<u32>)];
 
 /// A row of the book: its version, its arcs out of the node and into it, and the node's rank.
 type Version = (u64, Entries, Entries, Option<u32>);
 
 /// The rows of the row of three nodes, by their nodes.
 const OPENING: &[Version] = &[
-    (0, &[(2, 3, None)], &[(1, 2, None)], None),
-    (1, &[(0, 2, None)], &[], None),
-    (2, &[], &[(0, 3, None)], None),
+    (0, &[(2, (3, 1), None)], &[(1, (2, 1), None)], None),
+    (1, &[(0, (2, 1), None)], &[], None),
+    (2, &[], &[(0, (3, 1), None)], None),
 ];
 
 /// Its rows once node 0 is contracted, which were laid behind the others.
 const LATER: &[Version] = &[
-    (3, &[(2, 3, None)], &[(1, 2, None)], Some(0)),
-    (4, &[(2, 5, Some(0))], &[], None),
-    (5, &[], &[(1, 5, Some(0))], None),
+    (3, &[(2, (3, 1), None)], &[(1, (2, 1), None)], Some(0)),
+    (4, &[(2, (5, 2), Some(0))], &[], None),
+    (5, &[], &[(1, (5, 2), Some(0))], None),
 ];
 
 /// The same rows in a book that was opened then.
 const ANEW: &[Version] = &[
-    (0, &[(2, 3, None)], &[(1, 2, None)], Some(0)),
-    (1, &[(2, 5, Some(0))], &[], None),
-    (2, &[], &[(1, 5, Some(0))], None),
+    (0, &[(2, (3, 1), None)], &[(1, (2, 1), None)], Some(0)),
+    (1, &[(2, (5, 2), Some(0))], &[], None),
+    (2, &[], &[(1, (5, 2), Some(0))], None),
 ];
 
 fn are(entries: &[Entry], expected: Entries) -> bool {
     entries.len() == expected.len()
-        && entries.iter().zip(expected).all(|(entry, (other, weight, middle))| {
+        && entries.iter().zip(expected).all(|(entry, (other, numbers, middle))| {
             (entry.other == *other)
-                & (entry.cost == Cost::of_weight(*weight))
+                & (entry.cost == cost_of(*numbers))
                 & (entry.middle.node() == *middle)
         })
 }

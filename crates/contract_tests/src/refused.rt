@@ -8,11 +8,11 @@ ghost use Rattle.std.specs.Prelude.{◌≡◌, [], IfOk, length};
 ghost use Rattle.ch_graph.specs.Graph.{bound_of};
 ghost use Rattle.ch_rowbook.specs.Blanks.{name_of};
 
-use crate::boards::finished;
+use crate::boards::{Linked, are_links, finished};
 use crate::networks::{ROW, TIE, graph_of, with_blank, with_book};
 use crate::proposals::are_of;
 use crate::searches::is_one_way;
-use crate::shelf::{Arcs, Shelf};
+use crate::shelf::{Lead, Shelf};
 use ch_contract::{
     Board, CommitError, FinishError, Ledger, Proposal, ProposeError, Receipt, Site, SweepError,
     propose,
@@ -63,16 +63,21 @@ fn start_and_plan(rt: HostRuntime) -> Result<(), Fail> {
 }
 
 /// Node 3 is reached from node 2 by way of 0 or of 1, at the same cost.
-const TIED: [Arcs; 4] = [(2, 0, 1, 1), (0, 3, 1, 1), (2, 1, 1, 1), (1, 3, 1, 1)];
+const TIED: [Lead; 4] = [
+    (2, 0, (1, 1)),
+    (0, 3, (1, 1)),
+    (2, 1, (1, 1)),
+    (1, 3, (1, 1)),
+];
 
 /// Whether the one way from node 2 to node 3 that a search round node 0 finds is that by way of 1.
 fn finds_way(alloc: Global, shelf: &mut Shelf) -> Result<bool, SearchError> {
-    let cutoff = Cost::of_weight(2);
+    let cutoff = Cost::of_walk(2, 2);
     if !shelf.allows(cutoff) {
         return Ok(false);
     }
     let found = search(alloc, shelf, 2, 0, cutoff, &[3], SETTLE)?;
-    Ok(is_one_way(&found.ways, &[2, 1, 3]))
+    Ok(is_one_way(&found.ways, Some((&[2, 1, 3], (2, 2)))))
 }
 
 #[test]
@@ -203,21 +208,12 @@ fn hierarchy_of<S: Site>(board: Board<S>) -> Result<Hierarchy, FinishError> {
     }
 }
 
-/// The links of the row of three nodes with node 0 at the bottom: their ends, lengths and middles.
-const LINKS: [(u32, u32, u64, Option<u32>); 3] = [
-    (0, 2, 3, None),
-    (1, 0, 2, None),
-    (1, 2, 5, Some(0)),
+/// The links of the row of three nodes with node 0 at the bottom.
+const LINKS: [Linked; 3] = [
+    (0, 2, (3, 1), None),
+    (1, 0, (2, 1), None),
+    (1, 2, (5, 2), Some(0)),
 ];
-
-/// Whether the links have these ends, lengths and middles.
-fn are_links(hierarchy: &Hierarchy, expected: &[(u32, u32, u64, Option<u32>)]) -> bool {
-    hierarchy
-        .links()
-        .iter()
-        .map(|link| (link.from, link.to, link.cost.length(), link.middle))
-        .eq(expected.iter().copied())
-}
 
 /// Whether the nodes of a board of the row of three nodes are all contracted, node 0 by a commit.
 fn is_contracted<S: Site, R: Wait>(
@@ -255,7 +251,7 @@ fn comes_to<S: Site, R: Wait>(
 
 /// Whether the hierarchy of a board has the links of the row of three nodes.
 fn has_links<S: Site>(board: Board<S>) -> Result<bool, FinishError> {
-    Ok(are_links(&hierarchy_of(board)?, &LINKS))
+    Ok(are_links(hierarchy_of(board)?.links(), &LINKS))
 }
 
 #[test]

@@ -1,64 +1,117 @@
 ghost use Rattle.ch_witness.specs.Kept.{AreKept, OfTheirNodes, kept_of};
 
 use crate::proposals::are_of;
-use crate::shelf::{Arcs, Shelf};
+use crate::shelf::{Lead, Numbers, Shelf, cost_of};
 use ch_cost::Cost;
 use ch_witness::{Aim, Rule, SearchError, Searcher, Way, search};
 use std::alloc::{AllocError, Global};
 use std::test::Fail;
 
 /// Node 3 is reached from node 2 by way of 0 or of 1, at the same cost.
-const TIE: [Arcs; 4] = [(2, 0, 1, 1), (0, 3, 1, 1), (2, 1, 1, 1), (1, 3, 1, 1)];
+const TIE: [Lead; 4] = [
+    (2, 0, (1, 1)),
+    (0, 3, (1, 1)),
+    (2, 1, (1, 1)),
+    (1, 3, (1, 1)),
+];
+
+/// The same, but the way over 0 is of more arcs.
+const FEWEST: [Lead; 4] = [
+    (2, 0, (1, 1)),
+    (0, 3, (1, 2)),
+    (2, 1, (1, 1)),
+    (1, 3, (1, 1)),
+];
 
 /// Node 3 is reached from node 2 over three arcs.
-const CHAIN: [Arcs; 3] = [(2, 1, 1, 1), (1, 0, 1, 1), (0, 3, 1, 1)];
+const CHAIN: [Lead; 3] = [(2, 1, (1, 1)), (1, 0, (1, 1)), (0, 3, (1, 1))];
 
-/// A search from node 2 to node 3: the arcs and the one node that has a rank, the node to avoid, the cutoff and how many
-/// nodes are settled; the nodes of the way, none where there is no way, and the nodes that are asked for.
+/// The same with two arcs of weight 0.
+const SHORT_CHAIN: [Lead; 3] = [(2, 1, (0, 1)), (1, 0, (1, 1)), (0, 3, (0, 1))];
+
+/// A way as a test gives it: its nodes and its cost.
+type Wanted = (&'static [u32], Numbers);
+
+/// A search from node 2 to node 3: what leads from node to node and the one node that has a rank, the node to avoid, the
+/// cutoff and how many nodes are settled; the way, if there is one, and the nodes that are asked for.
 type Case = (
-    &'static [Arcs],
+    &'static [Lead],
     Option<u32>,
-    (u32, u32, u32),
-    &'static [u32],
+    (u32, Numbers, u32),
+    Option<Wanted>,
     &'static [u32],
 );
 
-const CASES: [Case; 9] = [
+const BY_1: Option<Wanted> = Some((&[2, 1, 3], (2, 2)));
+
+const CASES: [Case; 13] = [
     // The target is settled third, and its row isn't read.
-    (&TIE, None, (0, 2, 64), &[2, 1, 3], &[2, 1]),
-    (&TIE, None, (0, 2, 2), &[2, 1, 3], &[2, 1]),
-    (&TIE, None, (0, 2, 1), &[], &[2]),
-    (&TIE, None, (0, 1, 64), &[], &[2, 1]),
+    (&TIE, None, (0, (2, 2), 64), BY_1, &[2, 1]),
+    (&TIE, None, (0, (2, 2), 2), BY_1, &[2, 1]),
+    (&TIE, None, (0, (2, 2), 1), None, &[2]),
+    (&TIE, None, (0, (1, 2), 64), None, &[2, 1]),
+    (&TIE, None, (0, (2, 1), 64), None, &[2, 1]),
     // Node 9 isn't there: of the two ways of equal cost the first is kept, and each row is read once.
-    (&TIE, None, (9, 2, 64), &[2, 0, 3], &[2, 0, 1]),
+    (
+        &TIE,
+        None,
+        (9, (2, 2), 64),
+        Some((&[2, 0, 3], (2, 2))),
+        &[2, 0, 1],
+    ),
+    // Of two ways of one length that of fewer arcs is found.
+    (&FEWEST, None, (9, (2, 3), 64), BY_1, &[2, 0, 1]),
     // A direct arc to a target that isn't settled.
-    (&[(2, 3, 1, 1)], None, (0, 1, 1), &[2, 3], &[2]),
+    (
+        &[(2, 3, (1, 1))],
+        None,
+        (0, (1, 1), 1),
+        Some((&[2, 3], (1, 1))),
+        &[2],
+    ),
     // Over three arcs, and not where one of their nodes is avoided.
-    (&CHAIN, None, (9, 3, 64), &[2, 1, 0, 3], &[2, 1, 0]),
-    (&CHAIN, None, (0, 3, 64), &[], &[2, 1]),
+    (
+        &CHAIN,
+        None,
+        (9, (3, 3), 64),
+        Some((&[2, 1, 0, 3], (3, 3))),
+        &[2, 1, 0],
+    ),
+    (&CHAIN, None, (0, (3, 3), 64), None, &[2, 1]),
+    // A shorter way than the cutoff may be of more arcs.
+    (
+        &SHORT_CHAIN,
+        None,
+        (9, (2, 2), 64),
+        Some((&[2, 1, 0, 3], (1, 3))),
+        &[2, 1, 0],
+    ),
+    (&SHORT_CHAIN, None, (9, (1, 2), 64), None, &[2, 1, 0]),
     // A search doesn't go on from a ranked row.
-    (&TIE, Some(1), (0, 2, 64), &[], &[2, 1]),
+    (&TIE, Some(1), (0, (2, 2), 64), None, &[2, 1]),
 ];
 
-/// Whether the one way is this, or there is none where no nodes are given.
-pub fn is_one_way(ways: &[Option<Way>], nodes: &[u32]) -> bool {
+/// Whether the one way is this, or there is none where none is given.
+pub fn is_one_way(ways: &[Option<Way>], expected: Option<(&[u32], Numbers)>) -> bool {
     if ways.len() != 1 {
         return false;
     }
-    match &ways[0] {
-        Some(way) => way.nodes.as_slice() == nodes,
-        None => nodes.is_empty(),
+    match (&ways[0], expected) {
+        (Some(way), Some((nodes, numbers))) => {
+            (way.nodes.as_slice() == nodes) & (way.cost == cost_of(numbers))
+        }
+        (way, expected) => way.is_none() & expected.is_none(),
     }
 }
 
-/// Whether a search that avoids a node finds the way within the cutoff, or none where no nodes are given.
+/// Whether a search that avoids a node finds the way within the cutoff, or none where none is given.
 fn finds_round(
     alloc: Global,
     shelf: &mut Shelf,
-    (avoid, cutoff, settle): (u32, u32, u32),
-    way: &[u32],
+    (avoid, cutoff, settle): (u32, Numbers, u32),
+    way: Option<Wanted>,
 ) -> Result<bool, SearchError> {
-    let cutoff = Cost::of_weight(cutoff);
+    let cutoff = cost_of(cutoff);
     if avoid == 2 || avoid == 3 || settle == 0 || settle > 64 || !shelf.allows(cutoff) {
         return Ok(false);
     }
@@ -66,10 +119,10 @@ fn finds_round(
     Ok(is_one_way(&found.ways, way))
 }
 
-/// Whether a search by a shelf of the case's arcs finds its way, and asks for its rows.
-fn comes_true(alloc: Global, (lines, ranked, rule, way, asked): &Case) -> Result<bool, Fail> {
-    let mut shelf = Shelf::new(alloc, 4, lines, (3, 1), *ranked)?;
-    let holds = finds_round(alloc, &mut shelf, *rule, way)?;
+/// Whether a search by a shelf of the case's rows finds its way, and asks for those that it needs.
+fn comes_true(alloc: Global, (leads, ranked, rule, way, asked): &Case) -> Result<bool, Fail> {
+    let mut shelf = Shelf::new(alloc, 4, leads, (3, 1), *ranked)?;
+    let holds = finds_round(alloc, &mut shelf, *rule, *way)?;
     Ok(holds & (shelf.asked.as_slice() == *asked))
 }
 
@@ -94,7 +147,7 @@ fn finds_by(alloc: Global, searcher: &mut Searcher, shelf: &mut Shelf) -> Result
     requires { AreKept (λ _. Unit {0}) (λ _. Unit {0}) shelf.old (kept_of searcher.old.rows) }
     ensures { AreKept (λ _. Unit {0}) (λ _. Unit {0}) shelf.new (kept_of searcher.new.rows) }
 {
-    let (from, avoid, cutoff) = (2, 0, Cost::of_weight(2));
+    let (from, avoid, cutoff) = (2, 0, Cost::of_walk(2, 2));
     if !shelf.allows(cutoff) {
         return Ok(false);
     }
@@ -104,7 +157,7 @@ fn finds_by(alloc: Global, searcher: &mut Searcher, shelf: &mut Shelf) -> Result
         cutoff,
     };
     let found = searcher.search(alloc, shelf, rule, &[3], &[], 64)?;
-    Ok(is_one_way(&found.ways, &[2, 1, 3]))
+    Ok(is_one_way(&found.ways, BY_1))
 }
 
 /// Whether two searches of one searcher find the same way, and it hands out what they have read.
@@ -124,23 +177,45 @@ fn two_searches_ask_for_a_row_once(rt: HostRuntime) -> Result<(), Fail> {
     Ok(())
 }
 
-/// A search from node 2 to node 3 that knows something of it: the arcs, what a way is to cost at most, and what the last
-/// arc costs at least; the nodes of the way, none where there is no way, and the nodes that are asked for.
-type AimCase = (&'static [Arcs], (u32, u32), &'static [u32], &'static [u32]);
+/// A search from node 2 to node 3 that knows something of it: what leads from node to node, what a way is to cost at most,
+/// and what the last arc costs at least; the way, if there is one, and the nodes that are asked for.
+type AimCase = (
+    &'static [Lead],
+    (Numbers, Numbers),
+    Option<Wanted>,
+    &'static [u32],
+);
 
-const AIM_CASES: [AimCase; 4] = [
+const AIM_CASES: [AimCase; 5] = [
     // The second way costs no less than the first, so the row of its node isn't read.
-    (&TIE, (2, 1), &[2, 0, 3], &[2, 0]),
-    (&CHAIN, (3, 1), &[2, 1, 0, 3], &[2, 1, 0]),
+    (&TIE, ((2, 2), (1, 1)), Some((&[2, 0, 3], (2, 2))), &[2, 0]),
+    (
+        &CHAIN,
+        ((3, 3), (1, 1)),
+        Some((&[2, 1, 0, 3], (3, 3))),
+        &[2, 1, 0],
+    ),
     // What is settled third is too far off for the last arc.
-    (&CHAIN, (2, 1), &[], &[2, 1]),
+    (&CHAIN, ((2, 2), (1, 1)), None, &[2, 1]),
+    // It isn't where a shorter way of more arcs is enough.
+    (
+        &SHORT_CHAIN,
+        ((2, 2), (0, 1)),
+        Some((&[2, 1, 0, 3], (1, 3))),
+        &[2, 1, 0],
+    ),
     // What is wrong of an aim may cost the way.
-    (&CHAIN, (3, 3), &[], &[2]),
+    (&CHAIN, ((3, 3), (3, 1)), None, &[2]),
 ];
 
-/// Whether a search that has this aim finds the way, or none where no nodes are given.
-fn finds(alloc: Global, shelf: &mut Shelf, aim: Aim, way: &[u32]) -> Result<bool, SearchError> {
-    let cutoff = Cost::of_weight(3);
+/// Whether a search that has this aim finds the way, or none where none is given.
+fn finds(
+    alloc: Global,
+    shelf: &mut Shelf,
+    aim: Aim,
+    way: Option<Wanted>,
+) -> Result<bool, SearchError> {
+    let cutoff = Cost::of_walk(3, 3);
     if !shelf.allows(cutoff) {
         return Ok(false);
     }
@@ -154,14 +229,14 @@ fn finds(alloc: Global, shelf: &mut Shelf, aim: Aim, way: &[u32]) -> Result<bool
     Ok(is_one_way(&found.ways, way))
 }
 
-/// Whether a search with its aim, by a shelf of the case's arcs, finds its way, and asks for its rows.
-fn is_aimed(alloc: Global, (lines, aim, way, asked): &AimCase) -> Result<bool, Fail> {
+/// Whether a search with its aim, by a shelf of the case's rows, finds its way, and asks for those that it needs.
+fn is_aimed(alloc: Global, (leads, aim, way, asked): &AimCase) -> Result<bool, Fail> {
     let aim = Aim {
-        enough: Cost::of_weight(aim.0),
-        last_arc: Cost::of_weight(aim.1),
+        enough: cost_of(aim.0),
+        last_arc: cost_of(aim.1),
     };
-    let mut shelf = Shelf::new(alloc, 4, lines, (3, 1), None)?;
-    let holds = finds(alloc, &mut shelf, aim, way)?;
+    let mut shelf = Shelf::new(alloc, 4, leads, (3, 1), None)?;
+    let holds = finds(alloc, &mut shelf, aim, *way)?;
     Ok(holds & (shelf.asked.as_slice() == *asked))
 }
 

@@ -10,8 +10,16 @@ use std::alloc::{AllocError, Global};
 use std::marker::Model;
 use std::sync::Arc;
 
-/// An arc between two nodes, and what it costs: so many arcs of this weight.
-pub type Arcs = (u32, u32, u32, u32);
+/// A length and a number of arcs.
+pub type Numbers = (u64, u64);
+
+/// What leads from one node to another, and its cost: that of an arc, or of the arcs for which a shortcut stands.
+pub type Lead = (u32, u32, Numbers);
+
+/// The cost of these numbers.
+pub fn cost_of((length, arcs): Numbers) -> Cost {
+    Cost::of_walk(length, arcs)
+}
 
 /// The rows of a few nodes, by their numbers, and which nodes were asked for.
 #[derive(Drop)]
@@ -34,18 +42,18 @@ impl Model for Shelf {
 }
 
 impl Shelf {
-    /// So many rows, by the arcs between their nodes; a node may have a rank.
+    /// So many rows, by what leads from one of their nodes to another; a node may have a rank.
     pub fn new(
         alloc: Global,
         nodes: u32,
-        lines: &[Arcs],
+        leads: &[Lead],
         (count, heaviest): (u16, u32),
         ranked: Option<u32>,
     ) -> Result<Shelf, AllocError> {
         let mut rows = Vec::new(alloc);
         for node in 0..nodes {
             let rank = if ranked == Some(node) { Some(0) } else { None };
-            rows.push(Arc::new(alloc, row_of(alloc, node, lines, rank)?)?)?;
+            rows.push(Arc::new(alloc, row_of(alloc, node, leads, rank)?)?)?;
         }
         Ok(Shelf {
             rows,
@@ -174,27 +182,27 @@ impl RowSource for Shelf {
     ghost same_bound = { λ a b h. h };
 }
 
-fn entry(other: u32, count: u32, weight: u32) -> Entry {
+fn entry(other: u32, numbers: Numbers) -> Entry {
     Entry {
         other,
-        cost: Cost::of_arcs(count, weight),
+        cost: cost_of(numbers),
         middle: Middle::NONE,
     }
 }
 
 /// The row of a node.
-fn row_of(alloc: Global, node: u32, lines: &[Arcs], rank: Option<u32>) -> Result<Row, AllocError> {
+fn row_of(alloc: Global, node: u32, leads: &[Lead], rank: Option<u32>) -> Result<Row, AllocError> {
     let mut row = Row {
         out: Vec::new(alloc),
         inn: Vec::new(alloc),
         rank,
     };
-    for (from, to, count, weight) in lines {
+    for (from, to, numbers) in leads {
         if *from == node {
-            row.out.push(entry(*to, *count, *weight))?;
+            row.out.push(entry(*to, *numbers))?;
         }
         if *to == node {
-            row.inn.push(entry(*from, *count, *weight))?;
+            row.inn.push(entry(*from, *numbers))?;
         }
     }
     Ok(row)

@@ -1,5 +1,5 @@
+use crate::costs::are_least;
 use crate::kit::{Keys, TWO, built_by, grid, tie};
-use crate::lengths::are_least;
 use crate::stations::{Overtaken, Together};
 use ch_graph::Graph;
 use ch_workers::{Built, Gate, Options, Point};
@@ -16,7 +16,7 @@ fn is_unswept(built: &Built) -> bool {
     }
 }
 
-/// Whether workers who pass a gate contract a graph whole, and all lengths are those of the same graph.
+/// Whether workers who pass a gate contract a graph whole, and all costs are those of the same graph.
 fn do_all<G: Gate, R: Threads + Wait + Sync>(
     rt: &R,
     alloc: Global,
@@ -39,7 +39,7 @@ fn a_worker_is_overtaken(rt: HostRuntime) -> Result<(), Fail> {
     Ok(())
 }
 
-/// Whether so many workers are at their first items at the same time, and contract the graph whole, with its lengths.
+/// Whether so many workers are at their first items at the same time, and contract the graph whole, with its costs.
 fn meet<R: Threads + Wait + Sync>(
     rt: &R,
     alloc: Global,

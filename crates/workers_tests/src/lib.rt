@@ -1,5 +1,5 @@
 //! Tests of the workers from without, as a program calls them: options and what is refused, the order of one worker,
-//! workers who overtake each other, throngs, estimators and their leases, receipts and the lengths of hierarchies.
+//! workers who overtake each other, throngs, estimators and their leases, receipts and the costs of hierarchies.
 //!
 //! A crate of its own, so that `ch_workers` is proved once and nothing waits for its tests. It has no code but tests.
 #![tactic(auto)]
@@ -9,6 +9,8 @@ mod accounts;
 #[cfg(test)]
 mod collisions;
 #[cfg(test)]
+mod costs;
+#[cfg(test)]
 mod drops;
 #[cfg(test)]
 mod gates;
@@ -16,8 +18,6 @@ mod gates;
 mod kit;
 #[cfg(test)]
 mod leases;
-#[cfg(test)]
-mod lengths;
 #[cfg(test)]
 mod limits;
 #[cfg(test)]

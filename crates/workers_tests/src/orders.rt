@@ -20,12 +20,12 @@ fn link(from: u32, to: u32, weight: u32) -> Link {
     }
 }
 
-/// A link by way of node 0.
-fn shortcut(from: u32, to: u32, weight: u32) -> Link {
+/// A link of this length and two arcs, by way of node 0.
+fn shortcut(from: u32, to: u32, length: u64) -> Link {
     Link {
         from,
         to,
-        cost: Cost::of_weight(weight),
+        cost: Cost::of_walk(length, 2),
         middle: Some(0),
     }
 }
@@ -56,7 +56,7 @@ fn are_receipts(built: &Built, worker: &[Receipt], sweep: &[Receipt]) -> bool {
     }
 }
 
-/// Whether so many workers make a hierarchy of the star that has these ranks and links, and the bound 4.
+/// Whether so many workers make a hierarchy of the star that has these ranks and links, and the bound of four arcs.
 fn makes_of_a_star<R: Threads + Wait + Sync>(
     rt: &R,
     alloc: Global,
@@ -74,7 +74,11 @@ fn makes_of_a_star<R: Threads + Wait + Sync>(
         &OpenGate,
     )?;
     let hierarchy = &built.hierarchy;
-    Ok(are_ranks(hierarchy, ranks) && hierarchy.bound().length() == 4 && hierarchy.links() == links)
+    Ok(
+        are_ranks(hierarchy, ranks)
+            && hierarchy.bound() == Cost::of_arcs(4, 1)
+            && hierarchy.links() == links,
+    )
 }
 
 #[test]

@@ -1,12 +1,12 @@
 //! What builds answer where one growth is refused: `tests/refusals` runs each test once for each of its growths.
 //!
-//! A build that is refused memory is made again. The lengths of what is built are those of the plain search, whichever
+//! A build that is refused memory is made again. The costs of what is built are those of the plain search, whichever
 //! growth was refused: a worker that is refused memory leaves its work to the others and to the sweep. A growth of what a
 //! test sets up ends the test with that error.
 mod drops;
 
+use crate::costs::are_least;
 use crate::kit::{Keys, ONE, TWO, built_by, grid, tie};
-use crate::lengths::are_least;
 use ch_graph::Graph;
 use ch_workers::{Built, OpenGate, Options};
 use std::alloc::Global;
@@ -19,7 +19,7 @@ fn network(alloc: Global, is_grid: bool) -> Result<Graph, Fail> {
     if is_grid { grid(alloc) } else { tie(alloc) }
 }
 
-/// Whether what is built by these options has the lengths of the plain search.
+/// Whether what is built by these options has the costs of the plain search.
 fn is_least<R: Threads + Wait + Sync>(
     rt: &R,
     alloc: Global,

@@ -1,5 +1,5 @@
-use crate::kit::{Keys, TWO, built_by, grid, tie};
-use crate::lengths::are_least;
+use crate::costs::are_least;
+use crate::kit::{Keys, TWO, built_by, flat_grid, grid, tie};
 use crate::stations::Tally;
 use ch_graph::Graph;
 use ch_workers::Options;
@@ -9,7 +9,7 @@ use std::test::Fail;
 use std::thread::Threads;
 
 /// Whether so many workers contract a graph whole: each has the receipts of its commits, nothing is left to the sweep,
-/// and all lengths are those of the same graph.
+/// and all costs are those of the same graph.
 fn do_all<R: Threads + Wait + Sync>(
     rt: &R,
     alloc: Global,
@@ -24,15 +24,24 @@ fn do_all<R: Threads + Wait + Sync>(
     Ok(tally.is_of(&built) && are_least(alloc, same, &built.hierarchy)?)
 }
 
-/// Whether so many workers contract the tie and the grid whole.
-fn do_both<R: Threads + Wait + Sync>(
+/// Whether so many workers contract the tie and both grids whole.
+fn do_three<R: Threads + Wait + Sync>(
     rt: &R,
     alloc: Global,
     workers: u32,
     keys: Keys,
 ) -> Result<bool, Fail> {
     let ties = do_all(rt, alloc, tie(alloc)?, &tie(alloc)?, workers, keys)?;
-    Ok(ties && do_all(rt, alloc, grid(alloc)?, &grid(alloc)?, workers, keys)?)
+    let grids = do_all(rt, alloc, grid(alloc)?, &grid(alloc)?, workers, keys)?;
+    let flat = do_all(
+        rt,
+        alloc,
+        flat_grid(alloc)?,
+        &flat_grid(alloc)?,
+        workers,
+        keys,
+    )?;
+    Ok(ties & grids & flat)
 }
 
 #[test]
@@ -47,7 +56,7 @@ fn ties_and_grids_by_throngs(rt: HostRuntime) -> Result<(), Fail> {
         (2, Keys::Drawn(7)),
         (8, Keys::Drawn(7)),
     ] {
-        assert!(rt; do_both(&rt, rt.alloc(), workers, keys)?);
+        assert!(rt; do_three(&rt, rt.alloc(), workers, keys)?);
     }
     Ok(())
 }
