@@ -25,10 +25,6 @@ abbrev pub option_cost : Option Label → Option Cost
 option_cost None = None
 option_cost (Some e) = Some e.cost
 
-abbrev pub option_place : Option Label → Option ℕ
-option_place None = None
-option_place (Some e) = e.place
-
 -- the labels as costs
 abbrev pub costs_of : List Mark → ℕ → Option Cost
 costs_of marks r = option_cost (label_at marks r)
