@@ -14,6 +14,7 @@
 
 mod descent;
 mod frontier;
+mod kept_mark;
 mod label;
 mod laws;
 mod layout;

@@ -33,7 +33,7 @@ pub struct Found {
 /// Answers queries of one hierarchy.
 ///
 /// It keeps for either side the steps over the links that it climbs, apart from them the places of those links, and
-/// a mark for each node and its cost, all by rank: about 96 bytes a node and 20 a link. The marks, queues and lists of
+/// a mark for each node, all by rank: about 64 bytes a node and 20 a link. The marks, queues and lists of
 /// one call are kept for the next, which takes back what the one before it touched. So after a call that ran out of
 /// memory it answers as a new one.
 #[derive(Drop)]
