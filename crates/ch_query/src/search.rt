@@ -78,8 +78,8 @@ impl<'a> Search<'a> {
     /// within the hierarchy's bound. None where there is no such walk.
     ///
     /// From a node to itself it is the walk of no link, at no cost. Both nodes are numbered from 0. A call costs what
-    /// it touches: each side settles its nodes in the order of their costs, by a heap, and stops where the next one
-    /// costs as much as the best walk so far. Memory is taken by the number of nodes that a call comes to, and kept.
+    /// it touches: each side settles its nodes in the order of their lengths, by a heap, and stops where the next one
+    /// is longer than the best walk so far. Memory is taken by the number of nodes that a call comes to, and kept.
     pub fn distance(&mut self, source: u32, target: u32) -> Result<Option<Found>, AllocError>
         requires source_in { source < length self.old.ranks }
         requires target_in { target < length self.old.ranks }
