@@ -45,7 +45,7 @@ link_is h l among = get_or_default h.links among.0 _ l among.1 ∙ among.2
 link_from : (h : Hierarchy) → IsWellMade h → (l : Link) → Contains h.links l → IsLinkWellMade h l
 link_from h made l among = All-contains (IsLinkWellMade h) h.links l made.links among
 
-module _ (h : Hierarchy) (made : IsWellMade h) (side : Side) (links : List ℕ) (start : ℕ) (start_in : start < length h.ranks) (marks : List Mark) (is : IsSearching h side links start marks) where
+module _ (h : Hierarchy) (made : IsWellMade h) (side : Side) (start : ℕ) (start_in : start < length h.ranks) (marks : List Mark) (is : IsSearching h side start marks) where
   -- only nodes have labels
   node_in : (x : ℕ) (a : Cost) → named h marks x ≡ Some a → x < length h.ranks
   node_in x a label = elim (cases_lt x (length h.ranks)) [
@@ -63,7 +63,7 @@ module _ (h : Hierarchy) (made : IsWellMade h) (side : Side) (links : List ℕ) 
   first = subst (λ q. costs_of marks q ≡ Some zero_cost) (sym (place-rank h start start_in)) is.first
 
   descent : (x : ℕ) (a : Cost) → named h marks x ≡ Some a → (ids : List LinkId) × Descends h side start ids x a
-  descent x a label = descent_to h made side links start start_in marks is x a (node_in x a label) (rank_label x a label)
+  descent x a label = descent_to h made side start start_in marks is x a (node_in x a label) (rank_label x a label)
 
   -- a link that leads on below the best sum was followed: its foot isn't open
   module _ (best : Option Cost) (stopped : IsStopped marks best) (followed : AreFollowed h side best marks) where
@@ -93,35 +93,35 @@ module _ (h : Hierarchy) (made : IsWellMade h) (side : Side) (links : List ℕ) 
               }
         ]
 
-pub up_labels : (h : Hierarchy) → IsWellMade h → (links : List ℕ) (start : ℕ) → start < length h.ranks → (marks : List Mark) → IsSearching h Rise links start marks → (best : Option Cost) → IsStopped marks best → AreFollowed h Rise best marks → AreUpLabels h (CountsBelow h best) start (named h marks)
-up_labels h made links start start_in marks is best stopped followed = record {
-  start = first h made Rise links start start_in marks is;
-  reached = λ x a label. let back = descent h made Rise links start start_in marks is x a label in (links_at h (reverse back.0), rise-chain h start back.1);
-  closed = λ l a rising label counts. closed_over h made Rise links start start_in marks is best stopped followed l a rising.among rising.rises (link_from h made l rising.among).to_in label counts;
+pub up_labels : (h : Hierarchy) → IsWellMade h → (start : ℕ) → start < length h.ranks → (marks : List Mark) → IsSearching h Rise start marks → (best : Option Cost) → IsStopped marks best → AreFollowed h Rise best marks → AreUpLabels h (CountsBelow h best) start (named h marks)
+up_labels h made start start_in marks is best stopped followed = record {
+  start = first h made Rise start start_in marks is;
+  reached = λ x a label. let back = descent h made Rise start start_in marks is x a label in (links_at h (reverse back.0), rise-chain h start back.1);
+  closed = λ l a rising label counts. closed_over h made Rise start start_in marks is best stopped followed l a rising.among rising.rises (link_from h made l rising.among).to_in label counts;
 }
 
-pub down_labels : (h : Hierarchy) → IsWellMade h → (links : List ℕ) (start : ℕ) → start < length h.ranks → (marks : List Mark) → IsSearching h Fall links start marks → (best : Option Cost) → IsStopped marks best → AreFollowed h Fall best marks → AreDownLabels h (CountsBelow h best) start (named h marks)
-down_labels h made links start start_in marks is best stopped followed = record {
-  start = first h made Fall links start start_in marks is;
-  reached = λ x a label. let back = descent h made Fall links start start_in marks is x a label in (links_at h back.0, fall-chain h start back.1);
+pub down_labels : (h : Hierarchy) → IsWellMade h → (start : ℕ) → start < length h.ranks → (marks : List Mark) → IsSearching h Fall start marks → (best : Option Cost) → IsStopped marks best → AreFollowed h Fall best marks → AreDownLabels h (CountsBelow h best) start (named h marks)
+down_labels h made start start_in marks is best stopped followed = record {
+  start = first h made Fall start start_in marks is;
+  reached = λ x a label. let back = descent h made Fall start start_in marks is x a label in (links_at h back.0, fall-chain h start back.1);
   closed = λ l a falling label counts.
-      let over = closed_over h made Fall links start start_in marks is best stopped followed l a falling.among falling.falls (link_from h made l falling.among).from_in label (subst (λ (c : Cost). CountsBelow h best c) (sum_comm l.cost a) counts) in
+      let over = closed_over h made Fall start start_in marks is best stopped followed l a falling.among falling.falls (link_from h made l falling.among).from_in label (subst (λ (c : Cost). CountsBelow h best c) (sum_comm l.cost a) counts) in
       subst (λ (c : Cost). HasAtMost (named h marks) l.from c) (sum_comm a l.cost) over;
 }
 
-module _ (h : Hierarchy) (made : IsWellMade h) (s t : ℕ) (s_in : s < length h.ranks) (t_in : t < length h.ranks) (ups downs : List ℕ) (up down : List Mark) (rises : IsSearching h Rise ups s up) (falls : IsSearching h Fall downs t down) where
+module _ (h : Hierarchy) (made : IsWellMade h) (s t : ℕ) (s_in : s < length h.ranks) (t_in : t < length h.ranks) (up down : List Mark) (rises : IsSearching h Rise s up) (falls : IsSearching h Fall t down) where
   -- the best meeting by rank is that by node
   best-named : (best : Option Meeting) → IsBestMeeting h (costs_of up) (costs_of down) best → IsBest h (named h up) (named h down) (cost_of best)
   best-named None is = λ c meets. is (place_of h meets.0) c meets.1
   best-named (Some m) is =
-      let node = node_of h made Rise ups s s_in up rises m.rank is.meets.rise is.meets.risen in
+      let node = node_of h made Rise s s_in up rises m.rank is.meets.rise is.meets.risen in
       let place : m.rank ≡ place_of h node.0 = sym node.2 ∙ sym (place-rank h node.0 node.1) in (
         (node.0, subst (λ q. Meets h (costs_of up) (costs_of down) q m.cost) place is.meets),
         λ d meets. is.least (place_of h meets.0) d meets.1,
       )
 
   pub answered : (best : Option Meeting) → IsBestMeeting h (costs_of up) (costs_of down) best → IsStopped up (cost_of best) → IsStopped down (cost_of best) → AreFollowed h Rise (cost_of best) up → AreFollowed h Fall (cost_of best) down → IsValue h s t (cost_of best)
-  answered best is up_stopped down_stopped up_followed down_followed = stop_right h s t (named h up) (named h down) (cost_of best) (up_labels h made ups s s_in up rises (cost_of best) up_stopped up_followed) (down_labels h made downs t t_in down falls (cost_of best) down_stopped down_followed) (best-named best is)
+  answered best is up_stopped down_stopped up_followed down_followed = stop_right h s t (named h up) (named h down) (cost_of best) (up_labels h made s s_in up rises (cost_of best) up_stopped up_followed) (down_labels h made t t_in down falls (cost_of best) down_stopped down_followed) (best-named best is)
 
 -- at places of links are the links that are read there
 are_at-places : (h : Hierarchy) (ids : List LinkId) → All (IsPlace h) ids → AreAt h ids (links_at h ids)

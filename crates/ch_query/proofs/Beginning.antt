@@ -14,22 +14,22 @@ use Rattle.ch_query.proofs.BestMeetings.{best-none}
 use Rattle.ch_query.proofs.Turning.{first_marks, no_settled, searching-start, followed-start}
 use Rattle.ch_query.proofs.Following.{counts-more}
 
-pub searching-begun : (h : Hierarchy) → IsWellMade h → (side : Side) (links : List ℕ) (start : ℕ) → start < length h.ranks → (old new : List Mark) → old ≡ replicate (length h.ranks) Unseen → new ≡ set old (rank_of h start) (Open (record { cost = zero_cost; place = None })) → IsSearching h side links start new
-searching-begun h made side links start start_in old new unseen begun =
-    subst (λ (ms : List Mark). IsSearching h side links start ms) (sym (begun ∙ ap (λ (ms : List Mark). set ms (rank_of h start) (Open (record { cost = zero_cost; place = None }))) unseen)) (searching-start h made side start start_in links)
+pub searching-begun : (h : Hierarchy) → IsWellMade h → (side : Side) (start : ℕ) → start < length h.ranks → (old new : List Mark) → old ≡ replicate (length h.ranks) Unseen → new ≡ set old (rank_of h start) (Open (record { cost = zero_cost; foot = rank_of h start })) → IsSearching h side start new
+searching-begun h made side start start_in old new unseen begun =
+    subst (λ (ms : List Mark). IsSearching h side start ms) (sym (begun ∙ ap (λ (ms : List Mark). set ms (rank_of h start) (Open (record { cost = zero_cost; foot = rank_of h start }))) unseen)) (searching-start h made side start start_in)
 
-pub followed-begun : (h : Hierarchy) → IsWellMade h → (side : Side) (start : ℕ) → start < length h.ranks → (old new : List Mark) → old ≡ replicate (length h.ranks) Unseen → new ≡ set old (rank_of h start) (Open (record { cost = zero_cost; place = None })) → (limit : Option Cost) → AreFollowed h side limit new
+pub followed-begun : (h : Hierarchy) → IsWellMade h → (side : Side) (start : ℕ) → start < length h.ranks → (old new : List Mark) → old ≡ replicate (length h.ranks) Unseen → new ≡ set old (rank_of h start) (Open (record { cost = zero_cost; foot = rank_of h start })) → (limit : Option Cost) → AreFollowed h side limit new
 followed-begun h made side start start_in old new unseen begun limit =
-    subst (λ (ms : List Mark). AreFollowed h side limit ms) (sym (begun ∙ ap (λ (ms : List Mark). set ms (rank_of h start) (Open (record { cost = zero_cost; place = None }))) unseen)) (followed-start h made side start start_in limit)
+    subst (λ (ms : List Mark). AreFollowed h side limit ms) (sym (begun ∙ ap (λ (ms : List Mark). set ms (rank_of h start) (Open (record { cost = zero_cost; foot = rank_of h start }))) unseen)) (followed-start h made side start start_in limit)
 
 -- the other side's turn may make the limit less
 pub followed-less : (h : Hierarchy) (side : Side) (limit found : Option Cost) (marks : List Mark) → IsNoMore found limit → AreFollowed h side limit marks → AreFollowed h side found marks
 followed-less h side limit found marks less were k e climbs closed counts = were k e climbs closed (counts-more h less counts)
 
 -- the sides haven't met yet
-pub best-begun : (h : Hierarchy) → IsWellMade h → (start : ℕ) → start < length h.ranks → (old new : List Mark) → old ≡ replicate (length h.ranks) Unseen → new ≡ set old (rank_of h start) (Open (record { cost = zero_cost; place = None })) → (down : List Mark) → IsBestSoFar h new down None
+pub best-begun : (h : Hierarchy) → IsWellMade h → (start : ℕ) → start < length h.ranks → (old new : List Mark) → old ≡ replicate (length h.ranks) Unseen → new ≡ set old (rank_of h start) (Open (record { cost = zero_cost; foot = rank_of h start })) → (down : List Mark) → IsBestSoFar h new down None
 best-begun h made start start_in old new unseen begun down =
-    subst (λ (ms : List Mark). IsBestSoFar h ms down None) (sym (begun ∙ ap (λ (ms : List Mark). set ms (rank_of h start) (Open (record { cost = zero_cost; place = None }))) unseen)) (best-none h (first_marks h made Rise start start_in) down (no_settled h made Rise start start_in))
+    subst (λ (ms : List Mark). IsBestSoFar h ms down None) (sym (begun ∙ ap (λ (ms : List Mark). set ms (rank_of h start) (Open (record { cost = zero_cost; foot = rank_of h start }))) unseen)) (best-none h (first_marks h made Rise start start_in) down (no_settled h made Rise start start_in))
 
 -- Turns
 

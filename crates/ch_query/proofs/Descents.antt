@@ -1,5 +1,6 @@
 -- The links of a climb, from its top back to its start.
-use Rattle.std.proofs.Common.{ℕ, zero, suc, ◌≡◌, ◌+◌, ◌<◌, arith, List, [], ◌∷◌, ◌++◌, length, slice_index, map, reverse, Option, Some, None, All, ap, refl, sym, subst, ◌∙◌, append_assoc}
+use Rattle.std.proofs.Common.{ℕ, zero, suc, ◌≡◌, ◌≢◌, ◌+◌, ◌<◌, arith, List, [], ◌∷◌, ◌++◌, length, map, reverse, Option, Some, inl, inr, All, ap, refl, sym, subst, ◌∙◌, append_assoc}
+use Rattle.std.proofs.lemmas.Bool.{cases_eq, cases_lt}
 use Rattle.std.proofs.lemmas.List.{append-nil, map-append, reverse-append}
 use Rattle.std.proofs.lemmas.List.Elements.{All-nil, All-cons, All-same, All-push, All-head, All-tail}
 use Rattle.ch_cost.specs.declared.cost.Cost.{Cost}
@@ -7,15 +8,16 @@ use Rattle.ch_cost.specs.Cost.{◌⊕◌}
 use Rattle.ch_cost.specs.Cost.Laws.{sum_assoc, sum_comm, zero_cost-sum, sum-zero_cost}
 use Rattle.ch_graph.specs.declared.link.Link.{Link}
 use Rattle.ch_graph.specs.declared.hierarchy.LinkId.{LinkId}
-use Rattle.ch_graph.specs.Hierarchy.{Hierarchy, Chain, Chain.nothing, Chain.then, IsWellMade, IsRising, IsFalling, rank_of}
+use Rattle.ch_graph.specs.Hierarchy.{Hierarchy, Chain, Chain.nothing, Chain.then, ComesBefore, IsWellMade, IsRising, IsFalling, rank_of}
 use Rattle.ch_query.specs.declared.label.Label.{Label}
 use Rattle.ch_query.specs.declared.mark.Mark.{Mark}
+use Rattle.ch_query.specs.declared.mark.Mark.TheVariants.{Settled}
 use Rattle.ch_query.specs.declared.side.Side.{Side}
 use Rattle.ch_query.specs.declared.side.Side.TheVariants.{Rise, Fall}
 use Rattle.ch_query.specs.Places.{link_at}
-use Rattle.ch_query.specs.Climb.{foot_at, head_at, foot_rank, cost_at, Climbs, ClimbsFrom, Descends, Descends.there, Descends.down}
-use Rattle.ch_query.specs.Marks.{label_at, option_place, costs_of}
-use Rattle.ch_query.specs.Searching.{ComesFrom, IsFrom, IsSearching}
+use Rattle.ch_query.specs.Climb.{foot_of, head_of, foot_at, head_at, cost_at, Climbs, LeadsUp, ClimbsFrom, Descends, Descends.there, Descends.down}
+use Rattle.ch_query.specs.Marks.{mark_at, label_at, costs_of}
+use Rattle.ch_query.specs.Searching.{IsOfStart, ComesFrom, IsFrom, IsSearching}
 use Rattle.ch_query.proofs.Sides.{link-among, foot_in, head_in}
 use Rattle.ch_query.proofs.Ranks.{rank_below, same_node}
 use Rattle.ch_query.proofs.Marking.{from_cost, cost_is, label-settled}
@@ -58,15 +60,44 @@ pub all-reverse : (P : LinkId → Type 0) (ids : List LinkId) → All P ids → 
 all-reverse P [] all = All-nil P
 all-reverse P (id ∷ ids) all = All-same P (reverse (id ∷ ids)) (reverse ids ++ id ∷ []) (reverse-append (id ∷ []) ids) (All-push P (reverse ids) id (all-reverse P ids (All-tail P id ids all)) (All-head P id ids all))
 
--- a label that came by the link at a place is that of the node below and of the link
-pub came_from : {h : Hierarchy} {side : Side} {links : List ℕ} {start : ℕ} {marks : List Mark} → IsSearching h side links start marks → (r i : ℕ) → option_place (label_at marks r) ≡ Some i → (e : Label) × (label_at marks r ≡ Some e) × (i < length links) × ComesFrom h side marks r e.cost (slice_index links i)
-came_from {h} {side} {links} {start} {marks} is r i by = pick (label_at marks r) refl by
+-- a label that names another rank came from there, and one that names its own is that of the start
+pub came_from : {h : Hierarchy} {side : Side} {start : ℕ} {marks : List Mark} → IsSearching h side start marks → (r : ℕ) (e : Label) → label_at marks r ≡ Some e → e.foot ≢ r → ComesFrom h side marks r e
+came_from is r e label other = elim (is.origin r e label) [
+  | inl first ↦ absurd (other first.foot)
+  | inr comes ↦ comes
+]
+
+came_first : {h : Hierarchy} {side : Side} {start : ℕ} {marks : List Mark} → IsSearching h side start marks → (r : ℕ) (e : Label) → label_at marks r ≡ Some e → e.foot ≡ r → IsOfStart h start r e
+came_first is r e label own = elim (is.origin r e label) [
+  | inl first ↦ first
+  | inr comes ↦ absurd (omega (arith, own, comes.leads.climbs.rises, comes.leads.foot, comes.leads.head))
+]
+
+-- two links of one side with the same ends are one
+one_link : (h : Hierarchy) → IsWellMade h → (side : Side) (f r k j : ℕ) → LeadsUp h side f r k → LeadsUp h side f r j → k ≡ j
+one_link h made side f r k j first second = elim (cases_eq k j) [
+  | inl e ↦ e
+  | inr other ↦ elim (cases_lt k j) [
+    | inl before ↦ absurd (no_pair side (link_at h k) (link_at h j) (made.sorted k j _ before second.climbs.within) feet heads)
+    | inr after ↦ absurd (no_pair side (link_at h j) (link_at h k) (made.sorted j k _ (omega (arith, after, other)) first.climbs.within) (sym feet) (sym heads))
+  ]
+]
   where
-    pick : (o : Option Label) → label_at marks r ≡ o → option_place o ≡ Some i → (e : Label) × (label_at marks r ≡ Some e) × (i < length links) × ComesFrom h side marks r e.cost (slice_index links i)
-    pick None e by = absurd (cc)
-    pick (Some l) e by =
-        let from = subst (λ (o : Option ℕ). IsFrom h side links start marks r l.cost o) by (is.origin r l e) in
-        (l, e, from.0, from.1)
+    feet : foot_at h side k ≡ foot_at h side j
+    feet = same_node h made (foot_at h side k) (foot_at h side j) (foot_in h made side k first.climbs.within) (foot_in h made side j second.climbs.within) (first.foot ∙ sym second.foot)
+
+    heads : head_at h side k ≡ head_at h side j
+    heads = same_node h made (head_at h side k) (head_at h side j) (head_in h made side k first.climbs.within) (head_in h made side j second.climbs.within) (first.head ∙ sym second.head)
+
+    no_pair : (side : Side) (a b : Link) → ComesBefore a b → foot_of side a ≡ foot_of side b → head_of side a ≡ head_of side b → ⊥
+    no_pair Rise a b before foot head = elim before [
+      | inl lower ↦ omega (arith, lower, foot)
+      | inr same ↦ omega (arith, same.1, head)
+    ]
+    no_pair Fall a b before foot head = elim before [
+      | inl lower ↦ omega (arith, lower, head)
+      | inr same ↦ omega (arith, same.1, foot)
+    ]
 
 -- the link at k climbs from its own foot
 own-foot : (h : Hierarchy) (side : Side) (k : ℕ) → Climbs h side k → ClimbsFrom h side (foot_at h side k) k
@@ -76,25 +107,26 @@ own-foot h side k climbs = record { within = climbs.within; foot = refl; climbs 
 abbrev HasDescent : Hierarchy → Side → ℕ → ℕ → Cost → Type 0
 HasDescent h side start x c = (ids : List LinkId) × Descends h side start ids x c
 
-module _ (h : Hierarchy) (made : IsWellMade h) (side : Side) (links : List ℕ) (start : ℕ) (start_in : start < length h.ranks) (marks : List Mark) (is : IsSearching h side links start marks) where
-  descent_from : (x : ℕ) (c : Cost) (place : Option ℕ) → x < length h.ranks → ((y : ℕ) (e : Label) → y < length h.ranks → rank_of h y < rank_of h x → label_at marks (rank_of h y) ≡ Some e → HasDescent h side start y e.cost) → IsFrom h side links start marks (rank_of h x) c place → HasDescent h side start x c
-  descent_from x c None x_in below from = ([], subst (λ y. Descends h side start [] y c) (sym (same_node h made x start x_in start_in from.0)) (subst (λ (d : Cost). Descends h side start [] start d) (sym from.1) there))
-  descent_from x c (Some i) x_in below came =
-      let k : ℕ = slice_index links i in
-      let from : ComesFrom h side marks (rank_of h x) c k = came.1 in
-      let id : LinkId = record { 0 = k } in
-      let foot : ℕ = foot_at h side k in
-      let within : k < length h.links = from.climbs.within in
-      let low : rank_of h foot < rank_of h x = subst (λ q. rank_of h foot < q) from.head from.climbs.rises in
-      let label = label-settled _ from.foot from.settled in
-      let rest : HasDescent h side start foot from.foot.cost = below foot from.foot (foot_in h made side k within) low label in
-      let step : Descends h side start (id ∷ rest.0) (head_at h side k) (from.foot.cost ⊕ cost_at h k) = down (own-foot h side k from.climbs) rest.1 in
-      let same : head_at h side k ≡ x = same_node h made (head_at h side k) x (head_in h made side k within) x_in from.head in
-      (id ∷ rest.0, subst (λ (d : Cost). Descends h side start (id ∷ rest.0) x d) (sym from.sum) (subst (λ y. Descends h side start (id ∷ rest.0) y (from.foot.cost ⊕ cost_at h k)) same step))
+module _ (h : Hierarchy) (made : IsWellMade h) (side : Side) (start : ℕ) (start_in : start < length h.ranks) (marks : List Mark) (is : IsSearching h side start marks) where
+  descent_from : (x : ℕ) (e : Label) → x < length h.ranks → ((y : ℕ) (d : Label) → y < length h.ranks → rank_of h y < rank_of h x → label_at marks (rank_of h y) ≡ Some d → HasDescent h side start y d.cost) → IsFrom h side start marks (rank_of h x) e → HasDescent h side start x e.cost
+  descent_from x e x_in below from = elim from [
+    | inl first ↦ ([], subst (λ y. Descends h side start [] y e.cost) (sym (same_node h made x start x_in start_in first.rank)) (subst (λ (d : Cost). Descends h side start [] start d) (sym first.cost) there))
+    | inr comes ↦
+        let k : ℕ = comes.link in
+        let id : LinkId = record { 0 = k } in
+        let foot : ℕ = foot_at h side k in
+        let within : k < length h.links = comes.leads.climbs.within in
+        let low : rank_of h foot < rank_of h x = subst (λ q. rank_of h foot < q) comes.leads.head comes.leads.climbs.rises in
+        let label : label_at marks (rank_of h foot) ≡ Some comes.foot = label-settled _ comes.foot (subst (λ q. mark_at marks q ≡ Settled comes.foot) (sym comes.leads.foot) comes.settled) in
+        let rest : HasDescent h side start foot comes.foot.cost = below foot comes.foot (foot_in h made side k within) low label in
+        let step : Descends h side start (id ∷ rest.0) (head_at h side k) (comes.foot.cost ⊕ cost_at h k) = down (own-foot h side k comes.leads.climbs) rest.1 in
+        let same : head_at h side k ≡ x = same_node h made (head_at h side k) x (head_in h made side k within) x_in comes.leads.head in
+        (id ∷ rest.0, subst (λ (d : Cost). Descends h side start (id ∷ rest.0) x d) (sym comes.sum) (subst (λ y. Descends h side start (id ∷ rest.0) y (comes.foot.cost ⊕ cost_at h k)) same step))
+  ]
 
   descent_within : (n x : ℕ) (e : Label) → x < length h.ranks → rank_of h x < n → label_at marks (rank_of h x) ≡ Some e → HasDescent h side start x e.cost
   descent_within zero x e x_in low label = absurd (omega (arith, low))
-  descent_within (suc n) x e x_in low label = descent_from x e.cost e.place x_in (λ y d y_in lower at_y. descent_within n y d y_in (omega (arith, low, lower)) at_y) (is.origin (rank_of h x) e label)
+  descent_within (suc n) x e x_in low label = descent_from x e x_in (λ y d y_in lower at_y. descent_within n y d y_in (omega (arith, low, lower)) at_y) (is.origin (rank_of h x) e label)
 
   pub descent_to : (x : ℕ) (c : Cost) → x < length h.ranks → costs_of marks (rank_of h x) ≡ Some c → (ids : List LinkId) × Descends h side start ids x c
   descent_to x c x_in label =
@@ -105,11 +137,10 @@ module _ (h : Hierarchy) (made : IsWellMade h) (side : Side) (links : List ℕ) 
   pub node_of : (r : ℕ) (c : Cost) → costs_of marks r ≡ Some c → (x : ℕ) × (x < length h.ranks) × (rank_of h x ≡ r)
   node_of r c label =
       let l = from_cost (label_at marks r) c label in
-      pick l.0.cost l.0.place (is.origin r l.0 l.1)
-    where
-      pick : (d : Cost) (place : Option ℕ) → IsFrom h side links start marks r d place → (x : ℕ) × (x < length h.ranks) × (rank_of h x ≡ r)
-      pick d None from = (start, start_in, sym from.0)
-      pick d (Some i) from = (head_at h side (slice_index links i), head_in h made side (slice_index links i) from.1.climbs.within, from.1.head)
+      elim (is.origin r l.0 l.1) [
+        | inl first ↦ (start, start_in, sym first.rank)
+        | inr comes ↦ (head_at h side comes.link, head_in h made side comes.link comes.leads.climbs.within, comes.leads.head)
+      ]
 
 -- The links so far lead from a node of the top rank down to one of this rank.
 pub record IsDescending (h : Hierarchy) (side : Side) (start : ℕ) (marks : List Mark) (top rank : ℕ) (ids : List LinkId) : Type 0 where
@@ -125,45 +156,40 @@ descending-none top top_in = record {
 one_cost : (o : Option Cost) (c d : Cost) → o ≡ Some c → o ≡ Some d → c ≡ d
 one_cost o c d first second = cc
 
-pub descending-more : {h : Hierarchy} {side : Side} {links : List ℕ} {start : ℕ} {marks : List Mark} (made : IsWellMade h) → IsSearching h side links start marks → (top rank i : ℕ) (ids : List LinkId) → option_place (label_at marks rank) ≡ Some i → IsDescending h side start marks top rank ids → IsDescending h side start marks top (foot_rank h side (slice_index links i)) (ids ++ record { 0 = slice_index links i } ∷ [])
-descending-more {h} {side} {links} {start} {marks} made is top rank i ids by so_far =
-    let k : ℕ = slice_index links i in
-    let from = came_from is rank i by in
-    let comes = from.3 in
-    let within : k < length h.links = comes.climbs.within in
+pub descending-more : {h : Hierarchy} {side : Side} {start : ℕ} {marks : List Mark} (made : IsWellMade h) → IsSearching h side start marks → (top rank : ℕ) (e : Label) (k : ℕ) (ids : List LinkId) → label_at marks rank ≡ Some e → e.foot ≢ rank → LeadsUp h side e.foot rank k → IsDescending h side start marks top rank ids → IsDescending h side start marks top e.foot (ids ++ record { 0 = k } ∷ [])
+descending-more {h} {side} {start} {marks} made is top rank e k ids label other leads so_far =
+    let comes : ComesFrom h side marks rank e = came_from is rank e label other in
+    let link : comes.link ≡ k = one_link h made side e.foot rank comes.link k comes.leads leads in
+    let sum : e.cost ≡ comes.foot.cost ⊕ cost_at h k = subst (λ j. e.cost ≡ comes.foot.cost ⊕ cost_at h j) link comes.sum in
+    let within : k < length h.links = leads.climbs.within in
     record {
-      rank_in = rank_below h made (foot_at h side k) (foot_in h made side k within);
-      joins = λ x c x_in at label.
-          let old = so_far.joins x c x_in at label in
+      rank_in = subst (λ q. q < length h.ranks) leads.foot (rank_below h made (foot_at h side k) (foot_in h made side k within));
+      joins = λ x c x_in at own.
+          let old = so_far.joins x c x_in at own in
           let y : ℕ = old.0 in
           let d : Cost = old.3 in
-          let same : d ≡ comes.foot.cost ⊕ cost_at h k = one_cost (costs_of marks rank) d from.0.cost old.4 (cost_is marks rank from.0 from.1) ∙ comes.sum in
-          let head : head_at h side k ≡ y = same_node h made (head_at h side k) y (head_in h made side k within) old.1 (comes.head ∙ sym old.2) in (
+          let same : d ≡ comes.foot.cost ⊕ cost_at h k = one_cost (costs_of marks rank) d e.cost old.4 (cost_is marks rank e label) ∙ sum in
+          let head : head_at h side k ≡ y = same_node h made (head_at h side k) y (head_in h made side k within) old.1 (leads.head ∙ sym old.2) in (
             foot_at h side k,
             foot_in h made side k within,
-            refl,
+            leads.foot,
             comes.foot.cost,
-            cost_is marks (foot_rank h side k) comes.foot (label-settled _ comes.foot comes.settled),
+            cost_is marks e.foot comes.foot (label-settled _ comes.foot comes.settled),
             λ rest below.
                 let id : LinkId = record { 0 = k } in
-                let step : Descends h side start (id ∷ rest) (head_at h side k) (comes.foot.cost ⊕ cost_at h k) = down (own-foot h side k comes.climbs) below in
-                let here : Descends h side start (id ∷ rest) y d = subst (λ (e : Cost). Descends h side start (id ∷ rest) y e) (sym same) (subst (λ z. Descends h side start (id ∷ rest) z (comes.foot.cost ⊕ cost_at h k)) head step) in
+                let step : Descends h side start (id ∷ rest) (head_at h side k) (comes.foot.cost ⊕ cost_at h k) = down (own-foot h side k leads.climbs) below in
+                let here : Descends h side start (id ∷ rest) y d = subst (λ (b : Cost). Descends h side start (id ∷ rest) y b) (sym same) (subst (λ z. Descends h side start (id ∷ rest) z (comes.foot.cost ⊕ cost_at h k)) head step) in
                 subst (λ (is : List LinkId). Descends h side start is x c) (sym (append_assoc ids (id ∷ []) rest)) (old.5 (id ∷ rest) here),
           );
     }
 
--- the foot of the link has a lower rank
-pub foot_lower : {h : Hierarchy} {side : Side} {links : List ℕ} {start : ℕ} {marks : List Mark} → IsSearching h side links start marks → (r i : ℕ) → option_place (label_at marks r) ≡ Some i → foot_rank h side (slice_index links i) < r
-foot_lower {h} {side} {links} is r i by = let comes = (came_from is r i by).3 in subst (λ q. foot_rank h side (slice_index links i) < q) comes.head comes.climbs.rises
-
-pub descended : {h : Hierarchy} {side : Side} {links : List ℕ} {start : ℕ} {marks : List Mark} (made : IsWellMade h) → start < length h.ranks → IsSearching h side links start marks → (top rank : ℕ) (ids : List LinkId) → option_place (label_at marks rank) ≡ None → IsDescending h side start marks top rank ids → (x : ℕ) (c : Cost) → x < length h.ranks → rank_of h x ≡ top → costs_of marks top ≡ Some c → Descends h side start ids x c
-descended {h} {side} {links} {start} {marks} made start_in is top rank ids by so_far x c x_in at label =
+pub descended : {h : Hierarchy} {side : Side} {start : ℕ} {marks : List Mark} (made : IsWellMade h) → start < length h.ranks → IsSearching h side start marks → (top rank : ℕ) (ids : List LinkId) → ((e : Label) → label_at marks rank ≡ Some e → e.foot ≡ rank) → IsDescending h side start marks top rank ids → (x : ℕ) (c : Cost) → x < length h.ranks → rank_of h x ≡ top → costs_of marks top ≡ Some c → Descends h side start ids x c
+descended {h} {side} {start} {marks} made start_in is top rank ids own so_far x c x_in at label =
     let old = so_far.joins x c x_in at label in
     let y : ℕ = old.0 in
     let d : Cost = old.3 in
     let l = from_cost (label_at marks rank) d old.4 in
-    let no_link : l.0.place ≡ None = sym (ap option_place l.1) ∙ by in
-    let first = subst (λ (o : Option ℕ). IsFrom h side links start marks rank l.0.cost o) no_link (is.origin rank l.0 l.1) in
-    let same : y ≡ start = same_node h made y start old.1 start_in (old.2 ∙ first.0) in
-    let here : Descends h side start [] y d = subst (λ z. Descends h side start [] z d) (sym same) (subst (λ (e : Cost). Descends h side start [] start e) (sym first.1 ∙ l.2) there) in
+    let first : IsOfStart h start rank l.0 = came_first is rank l.0 l.1 (own l.0 l.1) in
+    let same : y ≡ start = same_node h made y start old.1 start_in (old.2 ∙ first.rank) in
+    let here : Descends h side start [] y d = subst (λ z. Descends h side start [] z d) (sym same) (subst (λ (e : Cost). Descends h side start [] start e) (sym first.cost ∙ l.2) there) in
     subst (λ (is : List LinkId). Descends h side start is x c) (append-nil ids) (old.5 [] here)

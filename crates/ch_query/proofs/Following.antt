@@ -12,7 +12,7 @@ use Rattle.ch_query.specs.declared.mark.Mark.TheVariants.{Open, Settled}
 use Rattle.ch_query.specs.declared.side.Side.{Side}
 use Rattle.ch_query.specs.declared.upward.Step.{Step}
 use Rattle.ch_query.specs.Labels.{HasAtMost, CountsBelow}
-use Rattle.ch_query.specs.Climb.{foot_at, foot_rank, head_rank, cost_at, Climbs, ClimbsFrom}
+use Rattle.ch_query.specs.Climb.{foot_at, foot_rank, head_rank, cost_at, Climbs, LeadsUp, ClimbsFrom}
 use Rattle.ch_query.specs.Upward.{IsLaidOut}
 use Rattle.ch_query.specs.Marks.{mark_at, costs_of, Improves, IsNoMore}
 use Rattle.ch_query.specs.Searching.{IsStepAt, IsFollowed, ClimbsTo, IsOpenedBy, ArePassed}
@@ -22,8 +22,8 @@ use Rattle.ch_query.proofs.Ranks.{same_node, rank_taken}
 use Rattle.ch_query.proofs.Laying.{links_are, step_at, as_many}
 use Rattle.ch_query.proofs.Marking.{cases_write, open-settled, open-open, not_improves, improves-unsettled, improves-not_settled, no_later-settled, count-open, open-here, open-kept}
 
-pub opened-none : (h : Hierarchy) (side : Side) (links : List ℕ) (r : ℕ) (c : Cost) (marks : List Mark) → IsOpenedBy h side links r c marks marks
-opened-none h side links r c marks = record {
+pub opened-none : (h : Hierarchy) (side : Side) (r : ℕ) (c : Cost) (marks : List Mark) → IsOpenedBy h side r c marks marks
+opened-none h side r c marks = record {
   nodes = refl;
   count = refl;
   stays = λ q d is. is;
@@ -32,7 +32,7 @@ opened-none h side links r c marks = record {
   kept = λ q a has. has;
 }
 
-pub opened-more : {h : Hierarchy} {side : Side} {links : List ℕ} {r : ℕ} {c : Cost} {old mid new : List Mark} → IsOpenedBy h side links r c old mid → IsOpenedBy h side links r c mid new → IsOpenedBy h side links r c old new
+pub opened-more : {h : Hierarchy} {side : Side} {r : ℕ} {c : Cost} {old mid new : List Mark} → IsOpenedBy h side r c old mid → IsOpenedBy h side r c mid new → IsOpenedBy h side r c old new
 opened-more first second = record {
   nodes = second.nodes ∙ first.nodes;
   count = second.count ∙ first.count;
@@ -46,8 +46,8 @@ opened-more first second = record {
 }
 
 -- the node of rank q is opened with the label e, to which a link leads
-pub opened-one : (h : Hierarchy) (side : Side) (links : List ℕ) (r : ℕ) (c : Cost) (marks : List Mark) (q : ℕ) (e : Label) → q < length marks → Improves e.cost (mark_at marks q) → ClimbsTo h side links r c q e → IsOpenedBy h side links r c marks (set marks q (Open e))
-opened-one h side links r c marks q e within improves climbs = record {
+pub opened-one : (h : Hierarchy) (side : Side) (r : ℕ) (c : Cost) (marks : List Mark) (q : ℕ) (e : Label) → q < length marks → Improves e.cost (mark_at marks q) → ClimbsTo h side r c q e → IsOpenedBy h side r c marks (set marks q (Open e))
+opened-one h side r c marks q e within improves climbs = record {
   nodes = length-set marks q (Open e);
   count = count-open marks q e within (improves-unsettled (mark_at marks q) e.cost improves);
   stays = λ p d closed. elim (cases_write marks q (Open e) p within) [
@@ -59,7 +59,7 @@ opened-one h side links r c marks q e within improves climbs = record {
     | inr k ↦ sym k.reads ∙ closed
   ];
   opened = λ p d opens. elim (cases_write marks q (Open e) p within) [
-    | inl w ↦ inr (subst (λ x. ClimbsTo h side links r c x d) (sym w.at) (subst (λ (l : Label). ClimbsTo h side links r c q l) (open-open (sym w.reads ∙ opens)) climbs))
+    | inl w ↦ inr (subst (λ x. ClimbsTo h side r c x d) (sym w.at) (subst (λ (l : Label). ClimbsTo h side r c q l) (open-open (sym w.reads ∙ opens)) climbs))
     | inr k ↦ inl (sym k.reads ∙ opens)
   ];
   kept = open-kept marks q e within improves;
@@ -76,9 +76,9 @@ followed-put h side c limit marks k head e within improves at sum counts =
     subst (λ x. HasAtMost (costs_of (set marks head (Open e))) x (c ⊕ cost_at h k)) at here
 
 -- if the head is settled, its label costs at most the climb: it is of a higher rank than the foot
-pub climb-settled : (h : Hierarchy) (side : Side) (c : Cost) (marks : List Mark) (k : ℕ) (head : ℕ) (sum : Cost) → Climbs h side k → IsLatest marks c (foot_rank h side k) → head ≡ head_rank h side k → sum ≡ c ⊕ cost_at h k → IsSettledAtMost marks head sum
-climb-settled h side c marks k head sum climbs latest at is_sum e closed =
-    subst (λ (d : Cost). e.cost ≼ d) (sym is_sum) (no_later-settled (cost_at h k) (latest head e closed) (omega (arith, climbs.rises, at)))
+pub climb-settled : (h : Hierarchy) (side : Side) (c : Cost) (marks : List Mark) (r : ℕ) (k : ℕ) (head : ℕ) (sum : Cost) → LeadsUp h side r head k → IsLatest marks c r → sum ≡ c ⊕ cost_at h k → IsSettledAtMost marks head sum
+climb-settled h side c marks r k head sum leads latest is_sum e closed =
+    subst (λ (d : Cost). e.cost ≼ d) (sym is_sum) (no_later-settled (cost_at h k) (latest head e closed) (omega (arith, leads.climbs.rises, leads.foot, leads.head)))
 
 -- or it had one of no more
 pub followed-kept : (h : Hierarchy) (side : Side) (c : Cost) (limit : Option Cost) (marks : List Mark) (k : ℕ) (head : ℕ) (sum : Cost) → (Improves sum (mark_at marks head) → ⊥) → IsSettledAtMost marks head sum → head ≡ head_rank h side k → sum ≡ c ⊕ cost_at h k → IsFollowed h side c limit marks k
@@ -113,11 +113,11 @@ counts-short h c = (λ short. record { short = short; below = λ a is. absurd (n
     never : (a : Cost) → None ≡ Some a → ⊥
     never a e = cc
 
-pub followed-more : {h : Hierarchy} {side : Side} {links : List ℕ} {r : ℕ} {c : Cost} {limit : Option Cost} {mid new : List Mark} → IsOpenedBy h side links r c mid new → (k : ℕ) → IsFollowed h side c limit mid k → IsFollowed h side c limit new k
+pub followed-more : {h : Hierarchy} {side : Side} {r : ℕ} {c : Cost} {limit : Option Cost} {mid new : List Mark} → IsOpenedBy h side r c mid new → (k : ℕ) → IsFollowed h side c limit mid k → IsFollowed h side c limit new k
 followed-more {h} {side} {c = c} opened k done counts = opened.kept (head_rank h side k) (c ⊕ cost_at h k) (done counts)
 
 -- no more is settled by opening nodes
-pub latest-more : {h : Hierarchy} {side : Side} {links : List ℕ} {r : ℕ} {c : Cost} {old new : List Mark} → IsOpenedBy h side links r c old new → IsLatest old c r → IsLatest new c r
+pub latest-more : {h : Hierarchy} {side : Side} {r : ℕ} {c : Cost} {old new : List Mark} → IsOpenedBy h side r c old new → IsLatest old c r → IsLatest new c r
 latest-more opened latest q d closed = latest q d (opened.settled q d closed)
 
 -- Links by their feet
@@ -138,17 +138,17 @@ from-climbs h made side v k v_in climbs foot = record {
 
 -- The links from one place on are followed one by one: those before the next one were.
 pub record IsPassing (h : Hierarchy) (side : Side) (r : ℕ) (c : Cost) (links : List ℕ) (begin next : ℕ) (limit : Option Cost) (old new : List Mark) : Type 0 where
-  pub opened : IsOpenedBy h side links r c old new
+  pub opened : IsOpenedBy h side r c old new
   pub followed : (i : ℕ) → begin ≤ i → i < next → IsFollowed h side c limit new (slice_index links i)
 
 pub passing-none : (h : Hierarchy) (side : Side) (r : ℕ) (c : Cost) (links : List ℕ) (begin : ℕ) (limit : Option Cost) (marks : List Mark) → IsPassing h side r c links begin begin limit marks marks
 passing-none h side r c links begin limit marks = record {
-  opened = opened-none h side links r c marks;
+  opened = opened-none h side r c marks;
   followed = λ i from low. absurd (omega (arith, from, low));
 }
 
 -- one more link was followed
-pub passing-more : {h : Hierarchy} {side : Side} {r : ℕ} {c : Cost} {links : List ℕ} {begin : ℕ} {limit : Option Cost} {old mid new : List Mark} (next : ℕ) → IsPassing h side r c links begin next limit old mid → IsOpenedBy h side links r c mid new → IsFollowed h side c limit new (slice_index links next) → IsPassing h side r c links begin (next + 1) limit old new
+pub passing-more : {h : Hierarchy} {side : Side} {r : ℕ} {c : Cost} {links : List ℕ} {begin : ℕ} {limit : Option Cost} {old mid new : List Mark} (next : ℕ) → IsPassing h side r c links begin next limit old mid → IsOpenedBy h side r c mid new → IsFollowed h side c limit new (slice_index links next) → IsPassing h side r c links begin (next + 1) limit old new
 passing-more {h} {side} {r} {c} {links} {limit = limit} {new = new} next is opened done = record {
   opened = opened-more is.opened opened;
   followed = λ i from low. elim (cases_lt i next) [

@@ -11,3 +11,4 @@ pub mod Following
 pub mod Descents
 pub mod Answering
 pub mod Beginning
+pub mod Between

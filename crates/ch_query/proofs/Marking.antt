@@ -1,20 +1,18 @@
 -- Marks, one of which is written.
-use Rattle.std.proofs.Common.{ℕ, ◌≡◌, ◌+◌, ◌<◌, ◌≤◌, ◌⊎◌, ◌↔◌, List, ◌∷◌, zero, suc, get_or, map, length, set, replicate, Option, Some, None, ap, refl, sym, subst, ◌∙◌, inl, inr, arith}
+use Rattle.std.proofs.Common.{ℕ, ◌≡◌, ◌+◌, ◌<◌, ◌≤◌, ◌⊎◌, ◌↔◌, List, zero, suc, get_or, length, set, replicate, Option, Some, None, ap, refl, sym, subst, ◌∙◌, inl, inr, arith}
 use Rattle.std.proofs.lemmas.Bool.{cases_eq, cases_lt}
-use Rattle.std.proofs.lemmas.List.{get_or-set_same, get_or-set_other, get_or-replicate, get_or_past, length-replicate, length-map, map-set, get_or-map, set-get_or}
+use Rattle.std.proofs.lemmas.List.{get_or-set_same, get_or-set_other, get_or-replicate, get_or_past, length-replicate, length-map, map-set, get_or-map}
 use Rattle.std.proofs.lemmas.List.Elements.{All-from_get_or}
 use Rattle.std.proofs.lemmas.List.Sums.{sum_by-set, sum_by-le}
 use Rattle.ch_cost.specs.declared.cost.Cost.{Cost}
-use Rattle.ch_cost.specs.declared.short_cost.ShortCost.{ShortCost}
 use Rattle.ch_cost.specs.Cost.{◌⊕◌, ◌≼◌, ◌≺◌, length_of}
-use Rattle.ch_cost.specs.ShortCost.{no_short, short_of, kept_in}
-use Rattle.ch_cost.specs.ShortCost.Laws.{kept, kept_not}
 use Rattle.ch_cost.specs.Cost.Laws.{at_most_refl, at_most_trans, at_most-from_below, below_not_at_most, below-from_lengths, cases_cost, length_of-sum}
+use Rattle.ch_query.specs.declared.kept_mark.KeptMark.{KeptMark}
 use Rattle.ch_query.specs.declared.label.Label.{Label}
 use Rattle.ch_query.specs.declared.mark.Mark.{Mark}
 use Rattle.ch_query.specs.declared.mark.Mark.TheVariants.{Unseen, Open, Settled}
 use Rattle.ch_query.specs.Labels.{HasAtMost}
-use Rattle.ch_query.specs.Marks.{mark_at, label_in, label_at, option_cost, costs_of, short_in, settled_in, settled_costs, IsNoLater, Improves, IsBelow, IsUpTo, HasLimit, settled, settled_count}
+use Rattle.ch_query.specs.Marks.{mark_at, label_in, label_at, option_cost, costs_of, mark_in, marks_in, settled_in, settled_costs, IsNoLater, Improves, IsBelow, IsUpTo, HasLimit, settled, settled_count}
 
 -- the mark that is read after one was written: the new one, or that of another rank
 pub record IsWritten (marks : List Mark) (r : ℕ) (m : Mark) (q : ℕ) : Type 0 where
@@ -185,32 +183,20 @@ better_than_none Unseen c is = tt
 better_than_none (Open e) c is = absurd (cc)
 better_than_none (Settled e) c is = absurd (cc)
 
--- The costs of labels in the short form
+-- Marks as they are kept
 
--- what is kept there is the cost of the label
-pub kept_cost : (m : Mark) (c : Cost) → kept_in (short_in m) ≡ Some c → Some c ≡ option_cost (label_in m)
-kept_cost Unseen c is = let none : kept_in no_short ≡ None = kept_not in absurd (cc)
-kept_cost (Open e) c is = ap (λ (d : Cost). Some d) (kept e.cost c is)
-kept_cost (Settled e) c is = ap (λ (d : Cost). Some d) (kept e.cost c is)
+pub as_many : (kept : List KeptMark) → length (marks_in kept) ≡ length kept
+as_many kept = length-map kept mark_in
 
-pub cost_read : (marks : List Mark) (costs : List ShortCost) (r : ℕ) (d : ShortCost) → costs ≡ map short_in marks → r < length marks → get_or costs r d ≡ short_in (mark_at marks r)
-cost_read marks costs r d are within = ap (λ (cs : List ShortCost). get_or cs r d) are ∙ get_or-map short_in marks r Unseen d within
+pub mark_read : (kept : List KeptMark) (r : ℕ) (k : KeptMark) → r < length kept → k ≡ get_or kept r k → mark_in k ≡ mark_at (marks_in kept) r
+mark_read kept r k within read = ap mark_in read ∙ sym (get_or-map mark_in kept r k Unseen within)
 
-pub cost_written : (marks : List Mark) (costs : List ShortCost) (r : ℕ) (m : Mark) → costs ≡ map short_in marks → set costs r (short_in m) ≡ map short_in (set marks r m)
-cost_written marks costs r m are = ap (λ (cs : List ShortCost). set cs r (short_in m)) are ∙ sym (map-set short_in marks r m)
+pub mark_written : (kept : List KeptMark) (r : ℕ) (k : KeptMark) (m : Mark) → mark_in k ≡ m → marks_in (set kept r k) ≡ set (marks_in kept) r m
+mark_written kept r k m is = map-set mark_in kept r k ∙ ap (λ (n : Mark). set (marks_in kept) r n) is
 
--- a node that is settled keeps its cost
-pub cost_settled : (marks : List Mark) (costs : List ShortCost) (r : ℕ) (e : Label) → mark_at marks r ≡ Open e → costs ≡ map short_in marks → costs ≡ map short_in (set marks r (Settled e))
-cost_settled marks costs r e is are =
-    let same : get_or costs r no_short ≡ short_of e.cost = cost_read marks costs r no_short are (open-in marks r e is) ∙ ap short_in is in
-    sym (set-get_or costs r no_short) ∙ (ap (λ (c : ShortCost). set costs r c) same ∙ cost_written marks costs r (Settled e) are)
-
-pub as_many_costs : (marks : List Mark) (costs : List ShortCost) → costs ≡ map short_in marks → length costs ≡ length marks
-as_many_costs marks costs are = ap length are ∙ length-map marks short_in
-
-pub first_costs : (nodes : ℕ) → replicate nodes no_short ≡ map short_in (replicate nodes Unseen)
-first_costs zero = refl
-first_costs (suc n) = ap (λ (cs : List ShortCost). no_short ∷ cs) (first_costs n)
+pub first_marks : (nodes : ℕ) (k : KeptMark) → mark_in k ≡ Unseen → marks_in (replicate nodes k) ≡ replicate nodes Unseen
+first_marks zero k is = refl
+first_marks (suc n) k is = cc (is, first_marks n k is)
 
 -- How many nodes are settled
 

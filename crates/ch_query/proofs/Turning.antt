@@ -1,5 +1,5 @@
 -- One side of a query: its start, and a turn.
-use Rattle.std.proofs.Common.{ℕ, ◌≡◌, ◌+◌, ◌-◌, ◌<◌, ◌≤◌, ◌^◌, ◌⊎◌, List, length, slice_index, set, replicate, Option, Some, None, IfSome, ap, refl, sym, subst, ◌∙◌, inl, inr, arith}
+use Rattle.std.proofs.Common.{ℕ, ◌≡◌, ◌+◌, ◌-◌, ◌<◌, ◌≤◌, ◌^◌, ◌⊎◌, List, length, set, replicate, Option, Some, None, IfSome, ap, refl, sym, subst, ◌∙◌, inl, inr, arith}
 use Rattle.std.proofs.lemmas.Bool.{cases_lt}
 use Rattle.std.proofs.lemmas.List.{get_or_past, length-set, length-replicate}
 use Rattle.ch_cost.specs.declared.cost.Cost.{Cost}
@@ -12,7 +12,7 @@ use Rattle.ch_query.specs.declared.mark.Mark.TheVariants.{Unseen, Open, Settled}
 use Rattle.ch_query.specs.declared.side.Side.{Side}
 use Rattle.ch_query.specs.declared.meeting.Meeting.{Meeting}
 use Rattle.ch_query.specs.Labels.{HasAtMost, AreShort, Meets}
-use Rattle.ch_query.specs.Climb.{foot_rank, head_rank, cost_at, Climbs}
+use Rattle.ch_query.specs.Climb.{foot_rank, head_rank, cost_at, Climbs, LeadsUp}
 use Rattle.ch_query.specs.Marks.{mark_at, label_at, option_cost, costs_of, settled_in, IsLeastOpen, IsNoMore, FitAll, settled_count}
 use Rattle.ch_query.specs.Searching.{IsFrom, IsFollowed, AreFollowed, IsSearching, ClimbsTo, IsOpenedBy, ArePassed}
 use Rattle.ch_query.specs.Marks.{IsLatest, IsNoLater}
@@ -45,7 +45,7 @@ module _ (h : Hierarchy) (made : IsWellMade h) where
   pub climb_of_walks : (side : Side) (k : ℕ) (c : Cost) → Climbs h side k → IsOfWalks (foot_rank h side k) c → IsOfWalks (head_rank h side k) (c ⊕ cost_at h k)
   climb_of_walks side k c climbs fits = of_walks_more (omega (arith, climbs.rises)) (of_walks_sum fits (link_of_walks k climbs.within))
 
-  module _ {side : Side} {links : List ℕ} {start : ℕ} {marks : List Mark} (is : IsSearching h side links start marks) where
+  module _ {side : Side} {start : ℕ} {marks : List Mark} (is : IsSearching h side start marks) where
     pub label_in_limit : (r : ℕ) (e : Label) → label_at marks r ≡ Some e → IsInLimit e.cost
     label_in_limit r e label = in_limit-from_walks (omega (arith, label-in marks r e label, is.nodes, made.few_nodes)) (is.fits r e label) (is.short r e label) bound_in_limit
 
@@ -63,19 +63,19 @@ fits-cost marks fit r (Some d) is =
 
 module _ (h : Hierarchy) (made : IsWellMade h) (side : Side) (start : ℕ) (start_in : start < length h.ranks) where
   abbrev zero_label : Label
-  zero_label = record { cost = zero_cost; place = None }
+  zero_label = record { cost = zero_cost; foot = rank_of h start }
 
   abbrev pub first_marks : List Mark
-  first_marks = set (replicate (length h.ranks) Unseen) (rank_of h start) (Open (record { cost = zero_cost; place = None }))
+  first_marks = set (replicate (length h.ranks) Unseen) (rank_of h start) (Open (record { cost = zero_cost; foot = rank_of h start }))
 
   room : rank_of h start < length (replicate (length h.ranks) Unseen)
   room = omega (arith, rank_below h made start start_in, length-replicate (length h.ranks) Unseen)
 
-  here : mark_at first_marks (rank_of h start) ≡ Open (record { cost = zero_cost; place = None })
-  here = write_here (replicate (length h.ranks) Unseen) (rank_of h start) (Open (record { cost = zero_cost; place = None })) room
+  here : mark_at first_marks (rank_of h start) ≡ Open (record { cost = zero_cost; foot = rank_of h start })
+  here = write_here (replicate (length h.ranks) Unseen) (rank_of h start) (Open (record { cost = zero_cost; foot = rank_of h start })) room
 
-  only_mark : (r : ℕ) (m : Mark) → mark_at first_marks r ≡ m → ((r ≡ rank_of h start) × (Open (record { cost = zero_cost; place = None }) ≡ m)) ⊎ (Unseen ≡ m)
-  only_mark r m is = elim (cases_write (replicate (length h.ranks) Unseen) (rank_of h start) (Open (record { cost = zero_cost; place = None })) r room) [
+  only_mark : (r : ℕ) (m : Mark) → mark_at first_marks r ≡ m → ((r ≡ rank_of h start) × (Open (record { cost = zero_cost; foot = rank_of h start }) ≡ m)) ⊎ (Unseen ≡ m)
+  only_mark r m is = elim (cases_write (replicate (length h.ranks) Unseen) (rank_of h start) (Open (record { cost = zero_cost; foot = rank_of h start })) r room) [
     | inl w ↦ inl (w.at, sym w.reads ∙ is)
     | inr k ↦ inr (sym (unseen-at (length h.ranks) r) ∙ (sym k.reads ∙ is))
   ]
@@ -101,14 +101,14 @@ module _ (h : Hierarchy) (made : IsWellMade h) (side : Side) (start : ℕ) (star
     | inr unseen ↦ unseen-settled unseen
   ]
 
-  first_from : (links : List ℕ) (r : ℕ) (e : Label) → r ≡ rank_of h start → zero_label ≡ e → IsFrom h side links start first_marks r e.cost e.place
-  first_from links r e at same = subst (λ (l : Label). IsFrom h side links start first_marks r l.cost l.place) same (at, refl)
+  first_from : (r : ℕ) (e : Label) → r ≡ rank_of h start → zero_label ≡ e → IsFrom h side start first_marks r e
+  first_from r e at same = subst (λ (l : Label). IsFrom h side start first_marks r l) same (inl (record { rank = at; cost = refl; foot = sym at }))
 
-  pub searching-start : (links : List ℕ) → IsSearching h side links start first_marks
-  searching-start links = record {
-    nodes = length-set (replicate (length h.ranks) Unseen) (rank_of h start) (Open (record { cost = zero_cost; place = None })) ∙ length-replicate (length h.ranks) Unseen;
+  pub searching-start : IsSearching h side start first_marks
+  searching-start = record {
+    nodes = length-set (replicate (length h.ranks) Unseen) (rank_of h start) (Open (record { cost = zero_cost; foot = rank_of h start })) ∙ length-replicate (length h.ranks) Unseen;
     first = cost_is first_marks (rank_of h start) zero_label (label-open _ zero_label here);
-    origin = λ r e is. let only = only_label r e is in first_from links r e only.0 only.1;
+    origin = λ r e is. let only = only_label r e is in first_from r e only.0 only.1;
     fits = λ r e is. subst (λ (l : Label). IsOfWalks r l.cost) (only_label r e is).1 (of_walks_zero_cost r);
     short = λ r e is. subst (λ (l : Label). IsNoLonger l.cost h.bound) (only_label r e is).1 (no_longer-from_within (zero_cost_within h.bound));
     ordered = λ q r d e closed opens. absurd (no_settled q d closed);
@@ -119,7 +119,7 @@ module _ (h : Hierarchy) (made : IsWellMade h) (side : Side) (start : ℕ) (star
 
 -- A turn: the node of rank r is settled, and then its links are followed
 
-module _ (h : Hierarchy) (side : Side) (links : List ℕ) (start : ℕ) (old : List Mark) (r : ℕ) (e : Label) (is : IsSearching h side links start old) (next : IsLeastOpen old r e) where
+module _ (h : Hierarchy) (side : Side) (start : ℕ) (old : List Mark) (r : ℕ) (e : Label) (is : IsSearching h side start old) (next : IsLeastOpen old r e) where
   place : r < length old
   place = open-in old r e next.opens
 
@@ -156,9 +156,9 @@ module _ (h : Hierarchy) (side : Side) (links : List ℕ) (start : ℕ) (old : L
   turn-kept : (q : ℕ) (c : Cost) → HasAtMost (costs_of old) q c → HasAtMost (costs_of (set old r (Settled e))) q c
   turn-kept q c has = record { cost = has.cost; labelled = ap (λ (o : Option Label). option_cost o) (settle-label old r e next.opens q) ∙ has.labelled; at_most = has.at_most }
 
-  module _ (new : List Mark) (opened : IsOpenedBy h side links r e.cost (set old r (Settled e)) new) where
+  module _ (new : List Mark) (opened : IsOpenedBy h side r e.cost (set old r (Settled e)) new) where
     -- where a label comes from: it was there, or a link from the node led to it
-    came : (q : ℕ) (d : Label) → label_at new q ≡ Some d → (label_at old q ≡ Some d) ⊎ ClimbsTo h side links r e.cost q d
+    came : (q : ℕ) (d : Label) → label_at new q ≡ Some d → (label_at old q ≡ Some d) ⊎ ClimbsTo h side r e.cost q d
     came q d label = elim (label_cases (mark_at new q) d label) [
       | inl opens ↦ elim (opened.opened q d opens) [
         | inl there ↦ inl (label-open _ d (turn-open q d there))
@@ -167,41 +167,36 @@ module _ (h : Hierarchy) (side : Side) (links : List ℕ) (start : ℕ) (old : L
       | inr closed ↦ inl (sym (settle-label old r e next.opens q) ∙ label-settled _ d (opened.settled q d closed))
     ]
 
-    from-more : (q : ℕ) (c : Cost) (place : Option ℕ) → IsFrom h side links start old q c place → IsFrom h side links start new q c place
-    from-more q c None from = from
-    from-more q c (Some i) from =
-        let k : ℕ = slice_index links i in (
-          from.0,
-          record {
-            foot = from.1.foot;
-            climbs = from.1.climbs;
-            head = from.1.head;
-            settled = opened.stays (foot_rank h side k) from.1.foot (turn-stays (foot_rank h side k) from.1.foot from.1.settled);
-            sum = from.1.sum;
-          },
-        )
+    from-more : (q : ℕ) (d : Label) → IsFrom h side start old q d → IsFrom h side start new q d
+    from-more q d from = elim from [
+      | inl first ↦ inl first
+      | inr comes ↦ inr (record {
+        link = comes.link;
+        leads = comes.leads;
+        foot = comes.foot;
+        settled = opened.stays d.foot comes.foot (turn-stays d.foot comes.foot comes.settled);
+        sum = comes.sum;
+      })
+    ]
 
     here_settled : mark_at new r ≡ Settled e
     here_settled = opened.stays r e (write_here old r (Settled e) place)
 
-    climbed-from : (q : ℕ) (d : Label) → ClimbsTo h side links r e.cost q d → IsFrom h side links start new q d.cost d.place
-    climbed-from q d climbs = subst (λ (o : Option ℕ). IsFrom h side links start new q d.cost o) (sym climbs.known) (
-      climbs.within,
-      record {
-        foot = e;
-        climbs = climbs.climbs;
-        head = climbs.head;
-        settled = subst (λ p. mark_at new p ≡ Settled e) (sym climbs.foot) here_settled;
-        sum = climbs.sum;
-      },
-    )
+    climbed-from : (q : ℕ) (d : Label) → ClimbsTo h side r e.cost q d → IsFrom h side start new q d
+    climbed-from q d climbs = inr (record {
+      link = climbs.link;
+      leads = subst (λ p. LeadsUp h side p q climbs.link) (sym climbs.foot) climbs.leads;
+      foot = e;
+      settled = subst (λ p. mark_at new p ≡ Settled e) (sym climbs.foot) here_settled;
+      sum = climbs.sum;
+    })
 
-    climbed-fits : IsWellMade h → (q : ℕ) (d : Label) → ClimbsTo h side links r e.cost q d → IsOfWalks q d.cost
+    climbed-fits : IsWellMade h → (q : ℕ) (d : Label) → ClimbsTo h side r e.cost q d → IsOfWalks q d.cost
     climbed-fits made q d climbs =
-        let k : ℕ = slice_index links climbs.place in
-        let from : IsOfWalks (foot_rank h side k) e.cost = subst (λ p. IsOfWalks p e.cost) (sym climbs.foot) turn-fits in
-        let to : IsOfWalks (head_rank h side k) (e.cost ⊕ cost_at h k) = climb_of_walks h made side k e.cost climbs.climbs from in
-        subst (λ p. IsOfWalks p d.cost) climbs.head (subst (λ (c : Cost). IsOfWalks (head_rank h side k) c) (sym climbs.sum) to)
+        let k : ℕ = climbs.link in
+        let from : IsOfWalks (foot_rank h side k) e.cost = subst (λ p. IsOfWalks p e.cost) (sym climbs.leads.foot) turn-fits in
+        let to : IsOfWalks (head_rank h side k) (e.cost ⊕ cost_at h k) = climb_of_walks h made side k e.cost climbs.leads.climbs from in
+        subst (λ p. IsOfWalks p d.cost) climbs.leads.head (subst (λ (c : Cost). IsOfWalks (head_rank h side k) c) (sym climbs.sum) to)
 
     turn-first : costs_of new (rank_of h start) ≡ Some zero_cost
     turn-first =
@@ -212,7 +207,7 @@ module _ (h : Hierarchy) (side : Side) (links : List ℕ) (start : ℕ) (old : L
     turn-above : (q : ℕ) (d : Label) → mark_at new q ≡ Open d → IsNoLater e.cost r d.cost q
     turn-above q d opens = elim (opened.opened q d opens) [
       | inl there ↦ next.least q d (turn-open q d there)
-      | inr climbs ↦ subst (λ (c : Cost). IsNoLater e.cost r c q) (sym climbs.sum) (no_later-climb e.cost (cost_at h (slice_index links climbs.place)) (omega (arith, climbs.climbs.rises, climbs.foot, climbs.head)))
+      | inr climbs ↦ subst (λ (c : Cost). IsNoLater e.cost r c q) (sym climbs.sum) (no_later-climb e.cost (cost_at h climbs.link) (omega (arith, climbs.leads.climbs.rises, climbs.leads.foot, climbs.leads.head)))
     ]
 
     pub followed-turn : (limit found : Option Cost) → IsNoMore found limit → AreFollowed h side limit old → ArePassed h side r e.cost found new → AreFollowed h side found new
@@ -264,12 +259,12 @@ module _ (h : Hierarchy) (side : Side) (links : List ℕ) (start : ℕ) (old : L
           short = short.short;
         })
 
-    pub searching-turn : IsWellMade h → IsSearching h side links start new
+    pub searching-turn : IsWellMade h → IsSearching h side start new
     searching-turn made = record {
       nodes = opened.nodes ∙ (length-set old r (Settled e) ∙ is.nodes);
       first = turn-first;
       origin = λ q d label. elim (came q d label) [
-        | inl there ↦ from-more q d.cost d.place (is.origin q d there)
+        | inl there ↦ from-more q d (is.origin q d there)
         | inr climbs ↦ climbed-from q d climbs
       ];
       fits = λ q d label. elim (came q d label) [

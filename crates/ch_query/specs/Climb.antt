@@ -41,6 +41,12 @@ pub record Climbs (h : Hierarchy) (side : Side) (k : ℕ) : Type 0 where
   pub within : k < length h.links
   pub rises : foot_rank h side k < head_rank h side k
 
+-- the link at this place leads up from one rank to another
+pub record LeadsUp (h : Hierarchy) (side : Side) (q r k : ℕ) : Type 0 where
+  pub climbs : Climbs h side k
+  pub foot : foot_rank h side k ≡ q
+  pub head : head_rank h side k ≡ r
+
 -- the link at this place leads from the node v to one of higher rank
 pub record ClimbsFrom (h : Hierarchy) (side : Side) (v k : ℕ) : Type 0 where
   pub within : k < length h.links

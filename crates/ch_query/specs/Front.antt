@@ -1,17 +1,16 @@
 -- What the queue of a side and its list of the nodes that it touched have to do with the marks.
-use Rattle.std.specs.Prelude.{ℕ, ◌≡◌, ◌<◌, ◌≤◌, List, length, map, All, Contains}
+use Rattle.std.specs.Prelude.{ℕ, ◌≡◌, ◌<◌, ◌≤◌, List, length, All, Contains}
 use Rattle.std.specs.declared.cmp.Ordering.{Ordering}
 use Rattle.std.specs.declared.cmp.Reverse.{Reverse}
 use Rattle.std.specs.Ordering.{nat_cmp, ordering_then}
 use Rattle.std.specs.BinaryHeap.{IsHeap}
 use Rattle.ch_cost.specs.declared.cost.Cost.{Cost}
-use Rattle.ch_cost.specs.declared.short_cost.ShortCost.{ShortCost}
 use Rattle.ch_cost.specs.Cost.{length_of}
 use Rattle.ch_query.specs.declared.label.Label.{Label}
 use Rattle.ch_query.specs.declared.mark.Mark.{Mark}
 use Rattle.ch_query.specs.declared.mark.Mark.TheVariants.{Unseen, Open}
 use Rattle.ch_query.specs.Labels.{HasAtMost}
-use Rattle.ch_query.specs.Marks.{mark_at, costs_of, short_in}
+use Rattle.ch_query.specs.Marks.{mark_at, costs_of}
 
 -- a length and a rank
 abbrev pub Entry : Type 0
@@ -41,8 +40,3 @@ pub record IsFront (marks : List Mark) (entries : List Entry) (touched : List �
   pub known : All (IsEntryOf marks) entries
   pub places : All (λ r. r < length marks) touched
   pub others : (r : ℕ) → (Contains touched r → ⊥) → mark_at marks r ≡ Unseen
-
--- Beside it the costs of the labels stand in a list of their own, in the short form.
-pub record IsFrontier (marks : List Mark) (costs : List ShortCost) (entries : List Entry) (touched : List ℕ) : Type 0 where
-  pub front : IsFront marks entries touched
-  pub known : costs ≡ map short_in marks

@@ -1,12 +1,25 @@
 -- What a side of a query knows of the nodes: a list of marks, one for each rank.
-use Rattle.std.specs.Prelude.{ℕ, ◌≡◌, ◌≤◌, List, slice_index_or, sum_by, Option, Some, None}
+use Rattle.std.specs.Prelude.{ℕ, ◌≡◌, ◌≤◌, List, map, slice_index_or, sum_by, Option, Some, None}
 use Rattle.ch_cost.specs.declared.cost.Cost.{Cost}
-use Rattle.ch_cost.specs.declared.short_cost.ShortCost.{ShortCost}
 use Rattle.ch_cost.specs.Cost.{◌≼◌, ◌≺◌, length_of, IsInLimit}
-use Rattle.ch_cost.specs.ShortCost.{no_short, short_of}
+use Rattle.ch_query.specs.declared.kept_mark.KeptMark.{KeptMark}
+use Rattle.ch_query.specs.declared.kept_mark.State.{State}
+use Rattle.ch_query.specs.declared.kept_mark.State.TheVariants.{Unseen as not_seen, Open as is_open, Settled as is_settled}
 use Rattle.ch_query.specs.declared.label.Label.{Label}
 use Rattle.ch_query.specs.declared.mark.Mark.{Mark}
 use Rattle.ch_query.specs.declared.mark.Mark.TheVariants.{Unseen, Open, Settled}
+
+-- the mark that is kept as a state and a label
+abbrev pub mark_of : State → Label → Mark
+mark_of not_seen e = Unseen
+mark_of is_open e = Open e
+mark_of is_settled e = Settled e
+
+abbrev pub mark_in : KeptMark → Mark
+mark_in k = mark_of k.state (record { cost = k.cost; foot = k.foot })
+
+abbrev pub marks_in : List KeptMark → List Mark
+marks_in kept = map mark_in kept
 
 -- the mark of the node of a rank; past the last rank nothing is seen
 abbrev pub mark_at : List Mark → ℕ → Mark
@@ -25,19 +38,9 @@ abbrev pub option_cost : Option Label → Option Cost
 option_cost None = None
 option_cost (Some e) = Some e.cost
 
-abbrev pub option_place : Option Label → Option ℕ
-option_place None = None
-option_place (Some e) = e.place
-
 -- the labels as costs
 abbrev pub costs_of : List Mark → ℕ → Option Cost
 costs_of marks r = option_cost (label_at marks r)
-
--- the short form of what the label of a mark costs, if there is one
-abbrev pub short_in : Mark → ShortCost
-short_in Unseen = no_short
-short_in (Open e) = short_of e.cost
-short_in (Settled e) = short_of e.cost
 
 -- the costs of the settled nodes alone
 abbrev pub settled_in : Mark → Option Cost

@@ -1,5 +1,5 @@
 -- One side of a query, as its marks tell it.
-use Rattle.std.specs.Prelude.{ℕ, ◌≡◌, ◌+◌, ◌<◌, ◌⊎◌, true, false, Bool, List, length, slice_index, slice_index_or, Option, Some, None}
+use Rattle.std.specs.Prelude.{ℕ, ◌≡◌, ◌+◌, ◌<◌, ◌⊎◌, true, false, Bool, List, length, slice_index, slice_index_or, Option, Some}
 use Rattle.ch_cost.specs.declared.cost.Cost.{Cost}
 use Rattle.ch_cost.specs.Cost.{zero_cost, ◌⊕◌, IsNoLonger, IsOfWalks}
 use Rattle.ch_graph.specs.Hierarchy.{Hierarchy, rank_of}
@@ -8,23 +8,28 @@ use Rattle.ch_query.specs.declared.mark.Mark.{Mark}
 use Rattle.ch_query.specs.declared.mark.Mark.TheVariants.{Open, Settled}
 use Rattle.ch_query.specs.declared.side.Side.{Side}
 use Rattle.ch_query.specs.declared.upward.Step.{Step}
-use Rattle.ch_query.specs.Climb.{foot_rank, head_rank, cost_at, Climbs}
+use Rattle.ch_query.specs.Climb.{foot_rank, head_rank, cost_at, Climbs, LeadsUp}
 use Rattle.ch_query.specs.Labels.{HasAtMost, CountsBelow}
 use Rattle.ch_query.specs.Upward.{step_along}
 use Rattle.ch_query.specs.Marks.{mark_at, label_at, costs_of, IsNoLater, IsStopped, settled_count}
 
--- the label of cost c came to the rank r by the link at k, from a node that is settled
-pub record ComesFrom (h : Hierarchy) (side : Side) (marks : List Mark) (r : ℕ) (c : Cost) (k : ℕ) : Type 0 where
-  pub foot : Label
-  pub climbs : Climbs h side k
-  pub head : head_rank h side k ≡ r
-  pub settled : mark_at marks (foot_rank h side k) ≡ Settled foot
-  pub sum : c ≡ foot.cost ⊕ cost_at h k
+-- the label e of the rank r is that of the start
+pub record IsOfStart (h : Hierarchy) (start r : ℕ) (e : Label) : Type 0 where
+  pub rank : r ≡ rank_of h start
+  pub cost : e.cost ≡ zero_cost
+  pub foot : e.foot ≡ r
 
--- where a label is from: it came by the link at a place of the side's links, or it is that of the start
-abbrev pub IsFrom : Hierarchy → Side → List ℕ → ℕ → List Mark → ℕ → Cost → Option ℕ → Type 0
-IsFrom h side links start marks r c (Some i) = (i < length links) × ComesFrom h side marks r c (slice_index links i)
-IsFrom h side links start marks r c None = (r ≡ rank_of h start) × (c ≡ zero_cost)
+-- the label e came to the rank r by a link from the rank that it names, whose node is settled
+pub record ComesFrom (h : Hierarchy) (side : Side) (marks : List Mark) (r : ℕ) (e : Label) : Type 0 where
+  pub link : ℕ
+  pub leads : LeadsUp h side e.foot r link
+  pub foot : Label
+  pub settled : mark_at marks e.foot ≡ Settled foot
+  pub sum : e.cost ≡ foot.cost ⊕ cost_at h link
+
+-- where a label is from
+abbrev pub IsFrom : Hierarchy → Side → ℕ → List Mark → ℕ → Label → Type 0
+IsFrom h side start marks r e = IsOfStart h start r e ⊎ ComesFrom h side marks r e
 
 -- the link at k was followed from a foot of cost c, where the sum counts below the limit
 abbrev pub IsFollowed : Hierarchy → Side → Cost → Option Cost → List Mark → ℕ → Type 0
@@ -36,10 +41,10 @@ AreFollowed h side limit marks = (k : ℕ) (e : Label) → Climbs h side k → m
 
 -- The marks between two turns of a side: each label is the cost of a climb from the start, and no settled node comes
 -- later than an open one.
-pub record IsSearching (h : Hierarchy) (side : Side) (links : List ℕ) (start : ℕ) (marks : List Mark) : Type 0 where
+pub record IsSearching (h : Hierarchy) (side : Side) (start : ℕ) (marks : List Mark) : Type 0 where
   pub nodes : length marks ≡ length h.ranks
   pub first : costs_of marks (rank_of h start) ≡ Some zero_cost
-  pub origin : (r : ℕ) (e : Label) → label_at marks r ≡ Some e → IsFrom h side links start marks r e.cost e.place
+  pub origin : (r : ℕ) (e : Label) → label_at marks r ≡ Some e → IsFrom h side start marks r e
   pub fits : (r : ℕ) (e : Label) → label_at marks r ≡ Some e → IsOfWalks r e.cost
   pub short : (r : ℕ) (e : Label) → label_at marks r ≡ Some e → IsNoLonger e.cost h.bound
   pub ordered : (q r : ℕ) (d e : Label) → mark_at marks q ≡ Settled d → mark_at marks r ≡ Open e → IsNoLater d.cost q e.cost r
@@ -58,23 +63,20 @@ abbrev pub IsOneStepAt : Hierarchy → List ℕ → List Step → ℕ → Type 0
 IsOneStepAt h links steps place = (side : Side) × IsStepAt h side links steps place
 
 -- the label e of the rank q, to which some link leads from the rank r, whose own cost is c
-pub record ClimbsTo (h : Hierarchy) (side : Side) (links : List ℕ) (r : ℕ) (c : Cost) (q : ℕ) (e : Label) : Type 0 where
-  pub place : ℕ
-  pub known : e.place ≡ Some place
-  pub within : place < length links
-  pub climbs : Climbs h side (slice_index links place)
-  pub foot : foot_rank h side (slice_index links place) ≡ r
-  pub head : head_rank h side (slice_index links place) ≡ q
-  pub sum : e.cost ≡ c ⊕ cost_at h (slice_index links place)
+pub record ClimbsTo (h : Hierarchy) (side : Side) (r : ℕ) (c : Cost) (q : ℕ) (e : Label) : Type 0 where
+  pub link : ℕ
+  pub leads : LeadsUp h side r q link
+  pub foot : e.foot ≡ r
+  pub sum : e.cost ≡ c ⊕ cost_at h link
   pub short : IsNoLonger e.cost h.bound
 
 -- Marks that come of others by opening nodes over links from the rank r, whose cost is c. No label grows.
-pub record IsOpenedBy (h : Hierarchy) (side : Side) (links : List ℕ) (r : ℕ) (c : Cost) (old new : List Mark) : Type 0 where
+pub record IsOpenedBy (h : Hierarchy) (side : Side) (r : ℕ) (c : Cost) (old new : List Mark) : Type 0 where
   pub nodes : length new ≡ length old
   pub count : settled_count new ≡ settled_count old
   pub stays : (q : ℕ) (d : Label) → mark_at old q ≡ Settled d → mark_at new q ≡ Settled d
   pub settled : (q : ℕ) (d : Label) → mark_at new q ≡ Settled d → mark_at old q ≡ Settled d
-  pub opened : (q : ℕ) (d : Label) → mark_at new q ≡ Open d → (mark_at old q ≡ Open d) ⊎ ClimbsTo h side links r c q d
+  pub opened : (q : ℕ) (d : Label) → mark_at new q ≡ Open d → (mark_at old q ≡ Open d) ⊎ ClimbsTo h side r c q d
   pub kept : (q : ℕ) (a : Cost) → HasAtMost (costs_of old) q a → HasAtMost (costs_of new) q a
 
 -- each link that climbs from the rank r was followed

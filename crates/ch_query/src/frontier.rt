@@ -5,10 +5,11 @@ ghost use Rattle.ch_query.specs.Front.{entry_cmp};
 ghost use Rattle.ch_query.specs.Marks.{mark_at, label_at, costs_of, IsSettledAtMost, Improves, IsUpTo, IsLeastOpen, IsStopped};
 ghost use Rattle.ch_query.specs.declared.mark.Mark.TheVariants.{Unseen, Open, Settled};
 
+use crate::kept_mark::KeptMark;
 use crate::label::Label;
-use crate::limit::is_up_to;
+use crate::limit::{is_cheaper, is_up_to};
 use crate::mark::Mark;
-use ch_cost::{Cost, ShortCost};
+use ch_cost::Cost;
 use std::alloc::{AllocError, Global};
 use std::cmp::Reverse;
 use std::collections::BinaryHeap;
@@ -16,16 +17,14 @@ use std::marker::Model;
 
 /// The marks of one side of a query, one for each rank, and which open node is the next to be settled.
 ///
-/// The marks are made once. The costs of the labels stand beside them, in half their memory, so that a climb to a node is
-/// compared with what is known of it by 8 bytes; only where these keep no cost the mark itself is read. The queue goes
-/// by the lengths of the labels, and where these are equal by the ranks. That is enough: a side climbs, so of two nodes
-/// with labels of one length only that of the lower rank can lead on to the other. The queue may hold older, longer
-/// entries of a node; they are passed over when they come up. The list of touched ranks tells which marks to take back
-/// before the next query.
+/// The marks are made once, and take 24 bytes a node: what a climb to a node is compared with stands in one place. The
+/// queue goes by the lengths of the labels, and where these are equal by the ranks. That is enough: a side climbs, so of
+/// two nodes with labels of one length only that of the lower rank can lead on to the other. The queue may hold older,
+/// longer entries of a node; they are passed over when they come up. The list of touched ranks tells which marks to take
+/// back before the next query.
 #[derive(Drop)]
 pub struct Frontier {
-    marks: Vec<Mark>,
-    costs: Vec<ShortCost>,
+    marks: Vec<KeptMark>,
     queue: BinaryHeap<Reverse<(u64, u32)>>,
     touched: Vec<u32>,
 }
@@ -34,13 +33,14 @@ impl Model for Frontier {
     ghost use Rattle.std.specs.Prelude.{List};
     ghost use Rattle.std.specs.BinaryHeap.{heap_items};
     ghost use Rattle.ch_query.specs.declared.mark.Mark.{Mark};
-    ghost use Rattle.ch_query.specs.Front.{IsFrontier};
+    ghost use Rattle.ch_query.specs.Marks.{marks_in};
+    ghost use Rattle.ch_query.specs.Front.{IsFront};
 
     ghost Value = { List Mark };
 
-    ghost view = { λ f. f.marks.items };
+    ghost view = { λ f. marks_in f.marks.items };
 
-    ghost invariant = { λ f. IsFrontier f.marks.items f.costs.items (heap_items f.queue) f.touched.items };
+    ghost invariant = { λ f. IsFront (marks_in f.marks.items) (heap_items f.queue) f.touched.items };
 }
 
 /// A node that was settled.
@@ -58,8 +58,7 @@ impl Frontier {
         ensures { IfOk result (λ f. f ≡ replicate nodes Unseen) }
     {
         Ok(Frontier {
-            marks: vec![in alloc; Mark::Unseen; nodes as usize]?,
-            costs: vec![in alloc; ShortCost::none(); nodes as usize]?,
+            marks: vec![in alloc; KeptMark::unseen(); nodes as usize]?,
             queue: BinaryHeap::new(alloc),
             touched: Vec::new(alloc),
         })
@@ -71,9 +70,16 @@ impl Frontier {
     {
         self.queue.clear();
         'touched: while let Some(rank) = self.touched.pop() {
-            self.marks[rank as usize] = Mark::Unseen;
-            self.costs[rank as usize] = ShortCost::none();
+            self.marks[rank as usize] = KeptMark::unseen();
         }
+    }
+
+    /// The mark of the node of a rank.
+    fn mark(&self, rank: u32) -> Mark
+        requires { rank < length self.now }
+        ensures { result ≡ mark_at self.now rank }
+    {
+        self.marks[rank as usize].mark()
     }
 
     /// The label of the node of a rank, if it has one.
@@ -81,22 +87,11 @@ impl Frontier {
         requires { rank < length self.now }
         ensures { result ≡ label_at self.now rank }
     {
-        self.marks[rank as usize].label()
+        self.mark(rank).label()
     }
 
     /// What the label of the node of a rank costs, if it has one.
     pub fn cost(&self, rank: u32) -> Option<Cost>
-        requires { rank < length self.now }
-        ensures { result ≡ costs_of self.now rank }
-    {
-        match self.costs[rank as usize].cost() {
-            Some(cost) => Some(cost),
-            None => self.marked_cost(rank),
-        }
-    }
-
-    /// The same, as the mark has it.
-    fn marked_cost(&self, rank: u32) -> Option<Cost>
         requires { rank < length self.now }
         ensures { result ≡ costs_of self.now rank }
     {
@@ -114,7 +109,7 @@ impl Frontier {
         ensures { IsTrue result ↔ Improves cost (mark_at self.now rank) }
     {
         match self.cost(rank) {
-            Some(known) => cost.is_below(known),
+            Some(known) => is_cheaper(cost, known),
             None => true,
         }
     }
@@ -128,10 +123,10 @@ impl Frontier {
         ensures nodes { length self.new ≡ length self.old }
         ensures opened { OnOk result (self.new ≡ slice_set self.old rank (Open label)) }
     {
-        touch(&mut self.touched, rank, self.marks[rank as usize])?;
+        let known = self.mark(rank);
+        touch(&mut self.touched, rank, known)?;
         self.queue.push(Reverse((label.cost.length(), rank)))?;
-        self.marks[rank as usize] = Mark::Open(label);
-        self.costs[rank as usize] = ShortCost::of(label.cost);
+        self.marks[rank as usize] = KeptMark::open(label);
         Ok(())
     }
 
@@ -144,8 +139,8 @@ impl Frontier {
         ensures settled { IfSome result (λ r. self.new ≡ slice_set self.old r.rank (Settled r.label)) }
     {
         'entries: while let Some(Reverse((_, rank))) = pop_up_to(&mut self.queue, limit) {
-            if let Mark::Open(label) = self.marks[rank as usize] {
-                self.marks[rank as usize] = Mark::Settled(label);
+            if let Mark::Open(label) = self.marks[rank as usize].mark() {
+                self.marks[rank as usize] = KeptMark::settled(label);
                 return Some(Reached { rank, label });
             }
         }

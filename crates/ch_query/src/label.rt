@@ -5,6 +5,6 @@ use ch_cost::Cost;
 pub struct Label {
     /// The least cost of a climb to the node that was found.
     pub cost: Cost,
-    /// The place of the step that it came by, or none at the side's start.
-    pub place: Option<usize>,
+    /// The rank of the node that the climb came from last. At the side's start its own.
+    pub foot: u32,
 }

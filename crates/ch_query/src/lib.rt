@@ -5,15 +5,17 @@
 //! of the hierarchy for the two nodes, none exactly where it has none, and the links are a rise-fall walk of that
 //! cost. A query has two sides, one from the source along links that rise, and one from the target against links
 //! that fall. Both climb in rank, so one program serves them: [`upward::UpwardSteps`] are the links that a side
-//! climbs, by the rank of their feet, and [`layout::Layout`] has those of both; a [`frontier::Frontier`] holds what a side knows of the nodes, and settles the
-//! least open one; [`turn::turn`] looks whether the sides meet there, and follows its links; and
-//! [`meet::meet`] lets the sides take turns, until neither has an open node below the best meeting. Why that gives
+//! climbs, by the rank of their feet, and [`layout::Layout`] has those of both; a [`frontier::Frontier`] holds what a
+//! side knows of the nodes, and settles the first open one, by length and rank; [`turn::turn`] looks whether the sides
+//! meet there, and follows its links; and [`meet::meet`] lets the sides take turns, until neither has an open node that
+//! is no longer than the best meeting. [`descent::descent`] finds the links of the walk. Why that gives
 //! the value is the law [`labels_are_right`], which any other way to label has to meet too. A call costs what it
 //! touches: marks and queues are kept between calls.
 #![tactic(auto)]
 
 mod descent;
 mod frontier;
+mod kept_mark;
 mod label;
 mod laws;
 mod layout;

@@ -37,8 +37,8 @@ pub fn meet(
     requires target_in { target < length hierarchy.now.ranks }
     ensures ups { length up.new ≡ length up.old }
     ensures downs { length down.new ≡ length down.old }
-    ensures rises { OnOk result (IsSearching hierarchy.now Rise rising.now.links.items source up.new) }
-    ensures falls { OnOk result (IsSearching hierarchy.now Fall falling.now.links.items target down.new) }
+    ensures rises { OnOk result (IsSearching hierarchy.now Rise source up.new) }
+    ensures falls { OnOk result (IsSearching hierarchy.now Fall target down.new) }
     ensures up_followed { IfOk result (λ best. AreFollowed hierarchy.now Rise (cost_of best) up.new) }
     ensures down_followed { IfOk result (λ best. AreFollowed hierarchy.now Fall (cost_of best) down.new) }
     ensures best { IfOk result (λ best. IsBestMeeting hierarchy.now (costs_of up.new) (costs_of down.new) best) }
@@ -72,11 +72,12 @@ fn begin(hierarchy: &Hierarchy, climb: Climb, frontier: &mut Frontier) -> Result
     requires start_in { climb.start < length hierarchy.now.ranks }
     requires unseen { frontier.old ≡ replicate (length hierarchy.now.ranks) Unseen }
     ensures nodes { length frontier.new ≡ length frontier.old }
-    ensures begun { OnOk result (frontier.new ≡ slice_set frontier.old (rank_of hierarchy.now climb.start) (Open (record { cost = zero_cost; place = None }))) }
+    ensures begun { OnOk result (frontier.new ≡ slice_set frontier.old (rank_of hierarchy.now climb.start) (Open (record { cost = zero_cost; foot = rank_of hierarchy.now climb.start }))) }
 {
+    let rank = hierarchy.rank(climb.start);
     let label = Label {
         cost: Cost::ZERO,
-        place: None,
+        foot: rank,
     };
-    frontier.open(hierarchy.rank(climb.start), label)
+    frontier.open(rank, label)
 }

@@ -6,6 +6,7 @@ ghost use Rattle.ch_query.specs.Labels.{Meets};
 ghost use Rattle.ch_query.specs.Marks.{costs_of};
 ghost use Rattle.ch_query.specs.Searching.{IsSearching};
 ghost use Rattle.ch_query.specs.Places.{IsRiseFallAt};
+ghost use Rattle.ch_query.specs.Upward.{IsLaidOut};
 
 use crate::descent::descent;
 use crate::frontier::Frontier;
@@ -32,7 +33,7 @@ pub struct Found {
 /// Answers queries of one hierarchy.
 ///
 /// It keeps for either side the steps over the links that it climbs, apart from them the places of those links, and
-/// a mark for each node and its cost, all by rank: about 112 bytes a node and 20 a link. The marks, queues and lists of
+/// a mark for each node, all by rank: about 64 bytes a node and 20 a link. The marks, queues and lists of
 /// one call are kept for the next, which takes back what the one before it touched. So after a call that ran out of
 /// memory it answers as a new one.
 #[derive(Drop)]
@@ -77,8 +78,8 @@ impl<'a> Search<'a> {
     /// within the hierarchy's bound. None where there is no such walk.
     ///
     /// From a node to itself it is the walk of no link, at no cost. Both nodes are numbered from 0. A call costs what
-    /// it touches: each side settles its nodes in the order of their costs, by a heap, and stops where the next one
-    /// costs as much as the best walk so far. Memory is taken by the number of nodes that a call comes to, and kept.
+    /// it touches: each side settles its nodes in the order of their lengths, by a heap, and stops where the next one
+    /// is longer than the best walk so far. Memory is taken by the number of nodes that a call comes to, and kept.
     pub fn distance(&mut self, source: u32, target: u32) -> Result<Option<Found>, AllocError>
         requires source_in { source < length self.old.ranks }
         requires target_in { target < length self.old.ranks }
@@ -133,8 +134,10 @@ fn walk_over(
     requires made { IsWellMade hierarchy.now }
     requires source_in { source < length hierarchy.now.ranks }
     requires target_in { target < length hierarchy.now.ranks }
-    requires rises { IsSearching hierarchy.now Rise rising.now.links.items source up.now }
-    requires falls { IsSearching hierarchy.now Fall falling.now.links.items target down.now }
+    requires rising { IsLaidOut hierarchy.now Rise rising.now.first.items rising.now.links.items rising.now.steps.items }
+    requires falling { IsLaidOut hierarchy.now Fall falling.now.first.items falling.now.links.items falling.now.steps.items }
+    requires rises { IsSearching hierarchy.now Rise source up.now }
+    requires falls { IsSearching hierarchy.now Fall target down.now }
     requires meets { Meets hierarchy.now (costs_of up.now) (costs_of down.now) meeting.rank meeting.cost }
     ensures cost { IfOk result (λ f. f.cost ≡ meeting.cost) }
     ensures walk { IfOk result (λ f. IsRiseFallAt hierarchy.now f.links.items source target meeting.cost) }

@@ -31,13 +31,13 @@ pub fn turn(
 ) -> Result<bool, AllocError>
     requires made { IsWellMade hierarchy.now }
     requires laid { IsLaidOut hierarchy.now climb.side upward.now.first.items upward.now.links.items upward.now.steps.items }
-    requires searching { IsSearching hierarchy.now climb.side upward.now.links.items climb.start here.old }
+    requires searching { IsSearching hierarchy.now climb.side climb.start here.old }
     requires followed { AreFollowed hierarchy.now climb.side (cost_of best.old) here.old }
     requires there_nodes { length there.now ≡ length hierarchy.now.ranks }
     requires there_fits { FitAll there.now }
     requires best { IsBestSoFar hierarchy.now here.old there.now best.old }
     ensures nodes { length here.new ≡ length here.old }
-    ensures searching { OnOk result (IsSearching hierarchy.now climb.side upward.now.links.items climb.start here.new) }
+    ensures searching { OnOk result (IsSearching hierarchy.now climb.side climb.start here.new) }
     ensures followed { OnOk result (AreFollowed hierarchy.now climb.side (cost_of best.new) here.new) }
     ensures less { OnOk result (IsNoMore (cost_of best.new) (cost_of best.old)) }
     ensures best { OnOk result (IsBestSoFar hierarchy.now here.new there.now best.new) }
@@ -74,37 +74,39 @@ fn pass_over(
     requires short { IsNoLonger cost hierarchy.now.bound }
     requires limit { IsShortLimit hierarchy.now limit }
     ensures nodes { length here.new ≡ length here.old }
-    ensures opened { OnOk result (IsOpenedBy hierarchy.now side upward.now.links.items rank cost here.old here.new) }
+    ensures opened { OnOk result (IsOpenedBy hierarchy.now side rank cost here.old here.new) }
     ensures passed { OnOk result (ArePassed hierarchy.now side rank cost limit here.new) }
 {
     let begin = upward.first[rank as usize];
     let end = upward.first[rank as usize + 1];
     for place in begin..end {
-        follow(hierarchy, upward, side, place, cost, limit, here)?;
+        follow(hierarchy, upward, side, rank, place, cost, limit, here)?;
     }
     Ok(())
 }
 
-/// Follows the link at a place, from a foot whose label has this cost: the node at its head is opened, if the sum is
-/// better than what is known of it and counts. Few are better, so that is asked first.
+/// Follows the link of the step at a place, from the node of a rank, whose label has this cost: the node at its head is
+/// opened, if the sum is better than what is known of it and counts. Few are better, so that is asked first.
 fn follow(
     hierarchy: &Hierarchy,
     upward: &UpwardSteps,
     side: Side,
+    rank: u32,
     place: usize,
     cost: Cost,
     limit: Option<Cost>,
     here: &mut Frontier,
 ) -> Result<(), AllocError>
     requires made { IsWellMade hierarchy.now }
+    requires foot { foot_rank hierarchy.now side (slice_index upward.now.links.items place) ≡ rank }
     requires step { IsStepAt hierarchy.now side upward.now.links.items upward.now.steps.items place }
     requires here_nodes { length here.old ≡ length hierarchy.now.ranks }
-    requires latest { IsLatest here.old cost (foot_rank hierarchy.now side (slice_index upward.now.links.items place)) }
-    requires fits { IsOfWalks (foot_rank hierarchy.now side (slice_index upward.now.links.items place)) cost }
+    requires latest { IsLatest here.old cost rank }
+    requires fits { IsOfWalks rank cost }
     requires short { IsNoLonger cost hierarchy.now.bound }
     requires limit { IsShortLimit hierarchy.now limit }
     ensures nodes { length here.new ≡ length here.old }
-    ensures opened { OnOk result (IsOpenedBy hierarchy.now side upward.now.links.items (foot_rank hierarchy.now side (slice_index upward.now.links.items place)) cost here.old here.new) }
+    ensures opened { OnOk result (IsOpenedBy hierarchy.now side rank cost here.old here.new) }
     ensures followed { OnOk result (IsFollowed hierarchy.now side cost limit here.new (slice_index upward.now.links.items place)) }
 {
     let step = upward.steps[place];
@@ -117,7 +119,7 @@ fn follow(
     }
     let label = Label {
         cost: sum,
-        place: Some(place),
+        foot: rank,
     };
     here.open(step.head, label)?;
     Ok(())

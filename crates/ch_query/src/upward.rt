@@ -1,8 +1,8 @@
-ghost use Rattle.std.specs.Prelude.{◌≡◌, ◌+◌, ◌^◌, ◌<◌, length, slice_index, IfOk};
+ghost use Rattle.std.specs.Prelude.{◌≡◌, ◌+◌, ◌^◌, ◌<◌, ℕ, length, slice_index, IfOk};
 ghost use Rattle.ch_graph.specs.Hierarchy.{IsWellMade};
-ghost use Rattle.ch_query.specs.Climb.{cost_at, Climbs};
+ghost use Rattle.ch_query.specs.Climb.{cost_at, Climbs, LeadsUp};
 ghost use Rattle.ch_query.specs.Counting.{all_below, IsCounted, IsSummed, IsFilled};
-ghost use Rattle.ch_query.specs.Upward.{step_along};
+ghost use Rattle.ch_query.specs.Upward.{step_along, IsLaidOut};
 ghost use Rattle.ch_query.specs.Searching.{IsOneStepAt};
 
 use crate::place::link_at;
@@ -74,6 +74,22 @@ impl UpwardSteps {
         self.first[foot] = place;
         self.links[place] = at;
         self.steps[place] = step;
+    }
+
+    /// The place in the hierarchy of the link that leads up from the node of one rank to that of another. There is one.
+    ///
+    /// Takes time by the number of steps from the lower node.
+    pub fn link_between(&self, hierarchy: &Hierarchy, side: Side, foot: u32, head: u32) -> usize
+        requires made { IsWellMade hierarchy.now }
+        requires laid { IsLaidOut hierarchy.now side self.now.first.items self.now.links.items self.now.steps.items }
+        requires link { (k : ℕ) × LeadsUp hierarchy.now side foot head k }
+        ensures { LeadsUp hierarchy.now side foot head result }
+    {
+        let mut place = self.first[foot as usize];
+        'steps: while self.steps[place].head != head {
+            place += 1;
+        }
+        self.links[place]
     }
 }
 

@@ -13,8 +13,8 @@ pub turns-init : goal.turns-init
 turns-init c =
     let h = c.args.hierarchy.now in
     record {
-      rises = searching-begun h c.requires.made Rise c.args.rising.now.links.items c.args.source c.requires.source_in c.args.up.now c.begin.new.frontier c.requires.up c.in_ok-begin.ensures.begun;
-      falls = searching-begun h c.requires.made Fall c.args.falling.now.links.items c.args.target c.requires.target_in c.args.down.now c.begin-2.new.frontier c.requires.down c.in_ok-begin-2.ensures.begun;
+      rises = searching-begun h c.requires.made Rise c.args.source c.requires.source_in c.args.up.now c.begin.new.frontier c.requires.up c.in_ok-begin.ensures.begun;
+      falls = searching-begun h c.requires.made Fall c.args.target c.requires.target_in c.args.down.now c.begin-2.new.frontier c.requires.down c.in_ok-begin-2.ensures.begun;
       up_followed = followed-begun h c.requires.made Rise c.args.source c.requires.source_in c.args.up.now c.begin.new.frontier c.requires.up c.in_ok-begin.ensures.begun None;
       down_followed = followed-begun h c.requires.made Fall c.args.target c.requires.target_in c.args.down.now c.begin-2.new.frontier c.requires.down c.in_ok-begin-2.ensures.begun None;
       best = best-begun h c.requires.made c.args.source c.requires.source_in c.args.up.now c.begin.new.frontier c.requires.up c.in_ok-begin.ensures.begun c.begin-2.new.frontier;

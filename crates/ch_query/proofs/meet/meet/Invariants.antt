@@ -7,8 +7,8 @@ use Rattle.ch_query.proofs.meet.meet.Given as goal
 
 abbrev pub invariant-turns : goal.invariant-turns
 invariant-turns l = record {
-  rises : IsSearching l.hierarchy Rise l.rising.links.items l.source l.up;
-  falls : IsSearching l.hierarchy Fall l.falling.links.items l.target l.down;
+  rises : IsSearching l.hierarchy Rise l.source l.up;
+  falls : IsSearching l.hierarchy Fall l.target l.down;
   up_followed : AreFollowed l.hierarchy Rise (cost_of l.best) l.up;
   down_followed : AreFollowed l.hierarchy Fall (cost_of l.best) l.down;
   best : IsBestSoFar l.hierarchy l.up l.down l.best;

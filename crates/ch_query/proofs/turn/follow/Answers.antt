@@ -1,4 +1,4 @@
-use Rattle.std.proofs.Common.{Bool, true, false, ℕ, slice_index, ◌≡◌, ◌<◌, ◌∙◌, List, length, Some, ap, refl, subst, sym, arith}
+use Rattle.std.proofs.Common.{Bool, true, false, ℕ, slice_index, ◌≡◌, ◌<◌, ◌≤◌, ◌^◌, ◌∙◌, List, length, ap, refl, subst, sym, arith}
 use Rattle.std.proofs.lemmas.Bool.{iff_false}
 use Rattle.ch_query.specs.declared.upward.Step.{Step}
 use Rattle.ch_query.specs.Upward.{step_along}
@@ -8,7 +8,7 @@ use Rattle.ch_cost.specs.Cost.Laws.{in_limit-from_walks}
 use Rattle.ch_query.specs.declared.label.Label.{Label}
 use Rattle.ch_query.specs.declared.mark.Mark.{Mark}
 use Rattle.ch_query.specs.Labels.{CountsBelow}
-use Rattle.ch_query.specs.Climb.{foot_at, foot_rank, head_at, head_rank, cost_at}
+use Rattle.ch_query.specs.Climb.{foot_at, head_at, head_rank, cost_at}
 use Rattle.ch_query.specs.Marks.{mark_at, IsSettledAtMost, Improves}
 use Rattle.ch_query.specs.Searching.{IsOpenedBy, IsFollowed, ClimbsTo}
 use Rattle.ch_query.proofs.Sides.{head_in}
@@ -23,7 +23,7 @@ step_cost-requires c = (c.args.side, c.requires.step)
 pub plus-sum-requires-clause-first : goal.plus-sum-requires-clause-first
 plus-sum-requires-clause-first c =
     let h = c.args.hierarchy.now in
-    in_limit-from_walks (rank_few h c.requires.made (foot_at h c.args.side (slice_index c.args.upward.now.links.items c.args.place))) c.requires.fits c.requires.short (bound_in_limit h c.requires.made)
+    in_limit-from_walks (subst (λ q. q ≤ 2 ^ 25) c.requires.foot (rank_few h c.requires.made (foot_at h c.args.side (slice_index c.args.upward.now.links.items c.args.place)))) c.requires.fits c.requires.short (bound_in_limit h c.requires.made)
 
 pub plus-sum-requires-clause-second : goal.plus-sum-requires-clause-second
 plus-sum-requires-clause-second c =
@@ -39,7 +39,7 @@ is_improved_by-requires-clause-settled c =
     let is : step ≡ step_along h c.args.side k = c.index-step.ensures ∙ c.requires.step.along step in
     let head : step.head ≡ head_rank h c.args.side k = ap (λ (s : Step). s.head) is in
     let sum : c.plus-sum.result ≡ c.args.cost ⊕ cost_at h k = c.plus-sum.ensures ∙ ap (λ (d : Cost). c.args.cost ⊕ d) c.step_cost.ensures in
-    climb-settled h c.args.side c.args.cost c.args.here.now k step.head c.plus-sum.result c.requires.step.climbs c.requires.latest head sum
+    climb-settled h c.args.side c.args.cost c.args.here.now c.args.rank k step.head c.plus-sum.result (record { climbs = c.requires.step.climbs; foot = c.requires.foot; head = sym head }) c.requires.latest sum
 
 true_false : {b : Bool} → b ≡ true → b ≡ false → ⊥
 true_false first second = cc
@@ -60,7 +60,7 @@ returns-then-not-is_improved_by-clause-followed c counted =
     let head : step.head ≡ head_rank h c.args.side k = ap (λ (s : Step). s.head) is in
     let sum : c.plus-sum.result ≡ c.args.cost ⊕ cost_at h k = c.plus-sum.ensures ∙ ap (λ (d : Cost). c.args.cost ⊕ d) c.step_cost.ensures in
     let never : Improves c.plus-sum.result (mark_at c.args.here.now step.head) → ⊥ = λ improves. true_false (c.is_improved_by.ensures.1 improves) c.if-not-is_improved_by.true in
-    let above : IsSettledAtMost c.args.here.now step.head c.plus-sum.result = climb-settled h c.args.side c.args.cost c.args.here.now k step.head c.plus-sum.result c.requires.step.climbs c.requires.latest head sum in
+    let above : IsSettledAtMost c.args.here.now step.head c.plus-sum.result = climb-settled h c.args.side c.args.cost c.args.here.now c.args.rank k step.head c.plus-sum.result (record { climbs = c.requires.step.climbs; foot = c.requires.foot; head = sym head }) c.requires.latest sum in
     followed-kept h c.args.side c.args.cost c.args.limit c.args.here.now k step.head c.plus-sum.result never above head sum counted
 
 pub returns-clause-opened : goal.returns-clause-opened
@@ -76,9 +76,9 @@ returns-clause-opened c =
     let short : IsNoLonger c.plus-sum.result h.bound = (c.counts.ensures.0 c.if-not-counts.false).short in
     let improves : Improves c.plus-sum.result (mark_at marks step.head) = c.is_improved_by.ensures.0 c.if-not-is_improved_by.false in
     let within : step.head < length marks = omega (arith, c.requires.here_nodes, head, rank_below h c.requires.made (head_at h side k) (head_in h c.requires.made side k c.requires.step.climbs.within)) in
-    let e : Label = record { cost = c.plus-sum.result; place = Some c.args.place } in
-    let climbs : ClimbsTo h side c.args.upward.now.links.items (foot_rank h side k) c.args.cost step.head e = record { place = c.args.place; known = refl; within = c.requires.step.link_in; climbs = c.requires.step.climbs; foot = refl; head = sym head; sum = sum; short = short } in
-    subst (λ (ms : List Mark). IsOpenedBy h side c.args.upward.now.links.items (foot_rank h side k) c.args.cost marks ms) (sym c.in_ok-open.ensures.opened) (opened-one h side c.args.upward.now.links.items (foot_rank h side k) c.args.cost marks step.head e within improves climbs)
+    let e : Label = record { cost = c.plus-sum.result; foot = c.args.rank } in
+    let climbs : ClimbsTo h side c.args.rank c.args.cost step.head e = record { link = k; leads = record { climbs = c.requires.step.climbs; foot = c.requires.foot; head = sym head }; foot = refl; sum = sum; short = short } in
+    subst (λ (ms : List Mark). IsOpenedBy h side c.args.rank c.args.cost marks ms) (sym c.in_ok-open.ensures.opened) (opened-one h side c.args.rank c.args.cost marks step.head e within improves climbs)
 
 pub returns-clause-followed : goal.returns-clause-followed
 returns-clause-followed c =
@@ -92,5 +92,5 @@ returns-clause-followed c =
     let sum : c.plus-sum.result ≡ c.args.cost ⊕ cost_at h k = c.plus-sum.ensures ∙ ap (λ (d : Cost). c.args.cost ⊕ d) c.step_cost.ensures in
     let improves : Improves c.plus-sum.result (mark_at marks step.head) = c.is_improved_by.ensures.0 c.if-not-is_improved_by.false in
     let within : step.head < length marks = omega (arith, c.requires.here_nodes, head, rank_below h c.requires.made (head_at h side k) (head_in h c.requires.made side k c.requires.step.climbs.within)) in
-    let e : Label = record { cost = c.plus-sum.result; place = Some c.args.place } in
+    let e : Label = record { cost = c.plus-sum.result; foot = c.args.rank } in
     subst (λ (ms : List Mark). IsFollowed h side c.args.cost c.args.limit ms k) (sym c.in_ok-open.ensures.opened) (followed-put h side c.args.cost c.args.limit marks k step.head e within improves head sum)

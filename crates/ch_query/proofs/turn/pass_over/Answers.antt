@@ -1,8 +1,5 @@
 use Rattle.std.proofs.Common.{ℕ, ◌≡◌, ◌+◌, ◌<◌, length, slice_index, sym, subst, arith}
 use Rattle.std.proofs.lemmas.List.{get_or_read}
-use Rattle.ch_cost.specs.Cost.{IsOfWalks}
-use Rattle.ch_query.specs.Marks.{IsLatest}
-use Rattle.ch_query.specs.Searching.{IsOpenedBy}
 use Rattle.ch_query.proofs.Following.{IsPassing, passing-none, passing-more, passed_over, latest-more, step-made, foot-made}
 use Rattle.ch_query.proofs.turn.pass_over.Goals as goal
 
@@ -25,28 +22,20 @@ follow-requires-clause-step c =
     let h = c.args.hierarchy.now in
     step-made h c.requires.made c.args.side c.args.upward.now.first.items c.args.upward.now.links.items c.args.upward.now.steps.items c.requires.laid c.args.rank c.requires.rank_in c.loop-place.place c.loop-place.invariant.from (omega (arith, c.loop-place.invariant.end, c.loop-place-test.true))
 
-pub follow-requires-clause-latest : goal.follow-requires-clause-latest
-follow-requires-clause-latest c =
+pub follow-requires-clause-foot : goal.follow-requires-clause-foot
+follow-requires-clause-foot c =
     let h = c.args.hierarchy.now in
-    let foot = foot-made h c.requires.made c.args.side c.args.upward.now.first.items c.args.upward.now.links.items c.args.upward.now.steps.items c.requires.laid c.args.rank c.requires.rank_in c.loop-place.place c.loop-place.invariant.from (omega (arith, c.loop-place.invariant.end, c.loop-place-test.true)) in
-    subst (λ q. IsLatest c.loop-place.here c.args.cost q) (sym foot) (latest-more c.loop-place.invariant.passing.opened c.requires.latest)
+    foot-made h c.requires.made c.args.side c.args.upward.now.first.items c.args.upward.now.links.items c.args.upward.now.steps.items c.requires.laid c.args.rank c.requires.rank_in c.loop-place.place c.loop-place.invariant.from (omega (arith, c.loop-place.invariant.end, c.loop-place-test.true))
 
-pub follow-requires-clause-fits : goal.follow-requires-clause-fits
-follow-requires-clause-fits c =
-    let h = c.args.hierarchy.now in
-    let foot = foot-made h c.requires.made c.args.side c.args.upward.now.first.items c.args.upward.now.links.items c.args.upward.now.steps.items c.requires.laid c.args.rank c.requires.rank_in c.loop-place.place c.loop-place.invariant.from (omega (arith, c.loop-place.invariant.end, c.loop-place-test.true)) in
-    subst (λ q. IsOfWalks q c.args.cost) (sym foot) c.requires.fits
+pub follow-requires-clause-latest : goal.follow-requires-clause-latest
+follow-requires-clause-latest c = latest-more c.loop-place.invariant.passing.opened c.requires.latest
 
 pub loop-place-preserved : goal.loop-place-preserved
-loop-place-preserved c =
-    let h = c.args.hierarchy.now in
-    let foot = foot-made h c.requires.made c.args.side c.args.upward.now.first.items c.args.upward.now.links.items c.args.upward.now.steps.items c.requires.laid c.args.rank c.requires.rank_in c.loop-place.place c.loop-place.invariant.from (omega (arith, c.loop-place.invariant.end, c.loop-place-test.true)) in
-    let opened : IsOpenedBy h c.args.side c.args.upward.now.links.items c.args.rank c.args.cost c.loop-place.here c.follow.new.here = subst (λ q. IsOpenedBy h c.args.side c.args.upward.now.links.items q c.args.cost c.loop-place.here c.follow.new.here) foot c.in_ok-follow.ensures.opened in
-    record {
-      from = omega (arith, c.loop-place.invariant.from);
-      end = c.loop-place.invariant.end;
-      passing = passing-more c.loop-place.place c.loop-place.invariant.passing opened c.in_ok-follow.ensures.followed;
-    }
+loop-place-preserved c = record {
+  from = omega (arith, c.loop-place.invariant.from);
+  end = c.loop-place.invariant.end;
+  passing = passing-more c.loop-place.place c.loop-place.invariant.passing c.in_ok-follow.ensures.opened c.in_ok-follow.ensures.followed;
+}
 
 pub returns-clause-passed : goal.returns-clause-passed
 returns-clause-passed c =

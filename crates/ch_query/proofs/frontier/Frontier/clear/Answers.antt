@@ -1,26 +1,24 @@
-use Rattle.std.proofs.Common.{◌≡◌, ◌<◌, List, Some, None, replicate, length, map, set, refl, sym, subst, arith}
+use Rattle.std.proofs.Common.{◌≡◌, ◌<◌, List, Some, None, replicate, length, refl, sym, subst, arith}
 use Rattle.std.proofs.lemmas.List.Elements.{All-pop}
 use Rattle.std.specs.BinaryHeap.{heap_items}
-use Rattle.ch_cost.specs.declared.short_cost.ShortCost.{ShortCost}
 use Rattle.ch_query.specs.declared.mark.Mark.{Mark}
 use Rattle.ch_query.specs.declared.mark.Mark.TheVariants.{Unseen}
-use Rattle.ch_query.specs.Marks.{short_in}
-use Rattle.ch_query.proofs.Marking.{cost_written, as_many_costs}
-use Rattle.ch_query.proofs.Entries.{cleared, clearing-more, front-cleared}
+use Rattle.ch_query.specs.Marks.{marks_in}
+use Rattle.ch_query.proofs.Marking.{mark_written, as_many}
+use Rattle.ch_query.proofs.Entries.{IsClearing, cleared, clearing-more, front-cleared}
 use Rattle.ch_query.proofs.frontier.Frontier.clear.Goals as goal
 
 pub touched-init : goal.touched-init
 touched-init c = record {
-  clearing = record { count = refl; places = c.self.invariant.front.places; others = c.self.invariant.front.others };
-  costs = c.self.invariant.known;
+  clearing = record { count = refl; places = c.self.invariant.places; others = c.self.invariant.others };
   no_entry = c.clear.ensures.items;
   heap = c.clear.ensures.heap_order;
 }
 
 pub touched-preserved : goal.touched-preserved
 touched-preserved c = record {
-  clearing = clearing-more _ c.touched.self-inside.marks.items c.touched.self-inside.touched.items c.pop.new.self.items c.in-Some.rank c.touched.invariant.clearing c.in-Some.ensures.items;
-  costs = subst (λ (d : ShortCost). set c.touched.self-inside.costs.items c.in-Some.rank d ≡ map short_in (set c.touched.self-inside.marks.items c.in-Some.rank Unseen)) (sym c.none.ensures) (cost_written c.touched.self-inside.marks.items c.touched.self-inside.costs.items c.in-Some.rank Unseen c.touched.invariant.costs);
+  clearing = subst (λ (ms : List Mark). IsClearing (length (marks_in c.self.inside.marks.items)) ms c.pop.new.self.items) (sym (mark_written c.touched.self-inside.marks.items c.in-Some.rank c.unseen.result Unseen c.unseen.ensures))
+      (clearing-more _ (marks_in c.touched.self-inside.marks.items) c.touched.self-inside.touched.items c.pop.new.self.items c.in-Some.rank c.touched.invariant.clearing c.in-Some.ensures.items);
   no_entry = c.touched.invariant.no_entry;
   heap = c.touched.invariant.heap;
 }
@@ -28,18 +26,15 @@ touched-preserved c = record {
 pub invariant_of-self : goal.invariant_of-self
 invariant_of-self c =
     let none_left : length c.touched.self-inside.touched.items ≡ 0 = omega (arith, c.in_default.ensures.cases, c.touched.self-inside.touched.ok) in
-    let rest = All-pop (λ q. q < length c.touched.self-inside.marks.items) c.touched.self-inside.touched.items c.pop.new.self.items None c.in_default.ensures.items c.touched.invariant.clearing.places in
-    record {
-      front = front-cleared _ c.touched.self-inside.marks.items (heap_items c.touched.self-inside.queue) c.touched.self-inside.touched.items c.pop.new.self.items c.touched.invariant.clearing none_left rest.0 c.touched.invariant.no_entry c.touched.invariant.heap;
-      known = c.touched.invariant.costs;
-    }
+    let rest = All-pop (λ q. q < length (marks_in c.touched.self-inside.marks.items)) c.touched.self-inside.touched.items c.pop.new.self.items None c.in_default.ensures.items c.touched.invariant.clearing.places in
+    front-cleared _ (marks_in c.touched.self-inside.marks.items) (heap_items c.touched.self-inside.queue) c.touched.self-inside.touched.items c.pop.new.self.items c.touched.invariant.clearing none_left rest.0 c.touched.invariant.no_entry c.touched.invariant.heap
 
 pub returns : goal.returns
 returns c =
     let none_left : length c.touched.self-inside.touched.items ≡ 0 = omega (arith, c.in_default.ensures.cases, c.touched.self-inside.touched.ok) in
-    subst (λ (xs : List Mark). c.touched.self-inside.marks.items ≡ replicate (length xs) Unseen) c.self.view_is (cleared _ c.touched.self-inside.marks.items c.touched.self-inside.touched.items c.touched.invariant.clearing none_left)
+    subst (λ (xs : List Mark). marks_in c.touched.self-inside.marks.items ≡ replicate (length xs) Unseen) c.self.view_is (cleared _ (marks_in c.touched.self-inside.marks.items) c.touched.self-inside.touched.items c.touched.invariant.clearing none_left)
 
-pub index_mut-requires-in-Some : goal.index_mut-requires-in-Some
-index_mut-requires-in-Some c =
-    let popped = All-pop (λ q. q < length c.touched.self-inside.marks.items) c.touched.self-inside.touched.items c.pop.new.self.items (Some c.in-Some.rank) c.in-Some.ensures.items c.touched.invariant.clearing.places in
-    omega (arith, popped.1, as_many_costs c.touched.self-inside.marks.items c.touched.self-inside.costs.items c.touched.invariant.costs, c.touched.self-inside.costs.ok)
+pub index_mut-requires : goal.index_mut-requires
+index_mut-requires c =
+    let popped = All-pop (λ q. q < length (marks_in c.touched.self-inside.marks.items)) c.touched.self-inside.touched.items c.pop.new.self.items (Some c.in-Some.rank) c.in-Some.ensures.items c.touched.invariant.clearing.places in
+    omega (arith, popped.1, as_many c.touched.self-inside.marks.items, c.touched.self-inside.marks.ok)

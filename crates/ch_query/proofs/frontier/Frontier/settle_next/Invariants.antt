@@ -1,6 +1,6 @@
-use Rattle.std.proofs.Common.{◌≡◌, map}
+use Rattle.std.proofs.Common.{◌≡◌}
 use Rattle.std.specs.BinaryHeap.{heap_items, heap_len}
-use Rattle.ch_query.specs.Marks.{short_in}
+use Rattle.ch_query.specs.Marks.{marks_in}
 use Rattle.ch_query.specs.Front.{IsFront}
 use Rattle.ch_query.proofs.frontier.Frontier.settle_next.Given as goal
 
@@ -8,8 +8,7 @@ use Rattle.ch_query.proofs.frontier.Frontier.settle_next.Given as goal
 abbrev pub invariant-entries : goal.invariant-entries
 invariant-entries l = record {
   same : l.self-inside.marks.items ≡ l.initial.self-inside.marks.items;
-  costs : l.self-inside.costs.items ≡ map short_in l.self-inside.marks.items;
-  front : IsFront l.self-inside.marks.items (heap_items l.self-inside.queue) l.self-inside.touched.items;
+  front : IsFront (marks_in l.self-inside.marks.items) (heap_items l.self-inside.queue) l.self-inside.touched.items;
 }
 
 abbrev pub decreases-entries : goal.decreases-entries
