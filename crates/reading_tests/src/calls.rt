@@ -29,8 +29,11 @@ impl Write for Interrupted {
     }
 }
 
-/// Whether a hierarchy isn't written in three calls.
+/// Whether a hierarchy, which has to be of version 2, isn't written in three calls.
 fn is_not_written(hierarchy: &Hierarchy, always: &mut Interrupted) -> bool {
+    if hierarchy.version() != 2 {
+        return false;
+    }
     write_within(hierarchy, always, 3) == Err(WriteFault { written: 0 })
 }
 

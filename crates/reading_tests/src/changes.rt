@@ -1,6 +1,6 @@
 ghost use Rattle.std.specs.Prelude.{◌<◌};
 
-use crate::files::{HEAVY, MAGIC, ROW, bytes, refusal};
+use crate::files::{BY_WAY_OF_0, HEAVY, MAGIC, ROW, bytes, refusal};
 use crate::plain::first_fault;
 use std::alloc::{AllocError, Global};
 use std::process::Abort;
@@ -79,7 +79,7 @@ fn is_each_front_told(alloc: Global, file: &[u8]) -> bool {
 
 #[test]
 fn each_cut(rt: HostRuntime) -> Result<(), AllocError> {
-    let files: [&[u32]; 2] = [&ROW, &HEAVY];
+    let files: [&[u32]; 3] = [&ROW, &HEAVY, &BY_WAY_OF_0];
     for words in files {
         let file = bytes(rt.alloc(), words)?;
         assert!(rt; is_each_front_told(rt.alloc(), file.as_slice()));

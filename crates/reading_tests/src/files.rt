@@ -1,12 +1,13 @@
 ghost use Rattle.std.specs.Prelude.{◌<◌, length};
 
+use ch_cost::Cost;
 use ch_graph::Hierarchy;
 use ch_query::Search;
 use hierfile::{HierError, WriteFault, read, read_within, write, write_within};
 use std::alloc::{AllocError, Global};
 use std::io::{self, ErrorKind, Read, Write};
 
-pub(crate) const MAGIC: u32 = 0x5243_4831;
+pub(crate) const MAGIC: u32 = 0x5243_4832;
 
 const NONE: u32 = u32::MAX;
 
@@ -17,25 +18,39 @@ const MANY: u64 = 1 << 40;
 
 const NO_NODE: [u32; 6] = [MAGIC, 0, 0, 0, 0, 0];
 
-const ONE_ARC: [u32; 13] = [MAGIC, 2, 0, 1, 0, 7, 0, 1, 0, 1, 0, 7, NONE];
+const ONE_ARC: [u32; 14] = [MAGIC, 2, 0, 1, 0, 7, 0, 1, 0, 1, 0, 7, 1, NONE];
+
+/// The same file in its first form, which told no arcs.
+const FIRST_FORM: [u32; 13] = [0x5243_4831, 2, 0, 1, 0, 7, 0, 1, 0, 1, 0, 7, NONE];
+
+/// Two nodes, joined both ways by arcs of weight 0.
+const FREE: [u32; 20] = [
+    MAGIC, 2, 0, 2, 0, 0, 0, 1, 0, 1, 0, 0, 1, NONE, 1, 0, 0, 0, 1, NONE,
+];
 
 /// A row of three nodes, with a shortcut by way of the first.
-pub(crate) const ROW: [u32; 24] = [
-    MAGIC, 3, 0, 3, 0, 6, 0, 1, 2, 0, 2, 0, 3, NONE, 1, 0, 0, 2, NONE, 1, 2, 0, 5, 0,
+pub(crate) const ROW: [u32; 27] = [
+    MAGIC, 3, 0, 3, 0, 6, 0, 1, 2, 0, 2, 0, 3, 1, NONE, 1, 0, 0, 2, 1, NONE, 1, 2, 0, 5, 2, 0,
 ];
 
 /// The row with its first two links exchanged.
-const EXCHANGED: [u32; 24] = [
-    MAGIC, 3, 0, 3, 0, 6, 0, 1, 2, 1, 0, 0, 2, NONE, 0, 2, 0, 3, NONE, 1, 2, 0, 5, 0,
+const EXCHANGED: [u32; 27] = [
+    MAGIC, 3, 0, 3, 0, 6, 0, 1, 2, 1, 0, 0, 2, 1, NONE, 0, 2, 0, 3, 1, NONE, 1, 2, 0, 5, 2, 0,
 ];
 
 /// The row without the link from its first node to its last.
-const WITHOUT_HALF: [u32; 19] = [
-    MAGIC, 3, 0, 2, 0, 6, 0, 1, 2, 1, 0, 0, 2, NONE, 1, 2, 0, 5, 0,
+const WITHOUT_HALF: [u32; 21] = [
+    MAGIC, 3, 0, 2, 0, 6, 0, 1, 2, 1, 0, 0, 2, 1, NONE, 1, 2, 0, 5, 2, 0,
+];
+
+/// Nodes 1 to 3, each joined to the next by way of node 0.
+pub(crate) const BY_WAY_OF_0: [u32; 46] = [
+    MAGIC, 4, 0, 6, 0, 4, 0, 1, 2, 3, 0, 2, 0, 1, 1, NONE, 0, 3, 0, 1, 1, NONE, 1, 0, 0, 1, 1,
+    NONE, 1, 2, 0, 2, 2, 0, 2, 0, 0, 1, 1, NONE, 2, 3, 0, 2, 2, 0,
 ];
 
 /// Four nodes, with arcs of the greatest weight.
-pub(crate) const HEAVY: [u32; 45] = [
+pub(crate) const HEAVY: [u32; 52] = [
     MAGIC,
     4,
     0,
@@ -50,36 +65,43 @@ pub(crate) const HEAVY: [u32; 45] = [
     1,
     0,
     NONE,
+    1,
     NONE,
     0,
     3,
     0,
     NONE,
+    1,
     NONE,
     1,
     0,
     0,
     NONE,
+    1,
     NONE,
     1,
     3,
     1,
     0xffff_fffe,
+    2,
     0,
     2,
     0,
     0,
     NONE,
+    1,
     NONE,
     2,
     1,
     1,
     0xffff_fffe,
+    2,
     0,
     2,
     3,
     1,
     0xffff_fffe,
+    2,
     0,
 ];
 
@@ -99,8 +121,11 @@ pub(crate) fn refusal(alloc: Global, mut bytes: &[u8]) -> Option<HierError> {
     read(alloc, &mut bytes).err()
 }
 
-/// Whether a hierarchy is written as these bytes.
+/// Whether a hierarchy, which has to be of version 2, is written as these bytes.
 fn is_written_as(alloc: Global, hierarchy: &Hierarchy, bytes: &[u8]) -> bool {
+    if hierarchy.version() != 2 {
+        return false;
+    }
     let mut written = Vec::new(alloc);
     write(hierarchy, &mut written).is_ok() & (written.as_slice() == bytes)
 }
@@ -123,20 +148,26 @@ fn is_kept(alloc: Global, words: &[u32]) -> Result<bool, AllocError> {
 type Change = (&'static [(usize, u32)], HierError);
 
 /// Changes of the row.
-const CHANGES: [Change; 13] = [
+const CHANGES: [Change; 18] = [
     (&[(1, 33_554_433), (2, 0)], HierError::TooBig),
     (&[(2, 0), (3, 7)], HierError::TooBig),
     (&[(4, 1), (5, NONE)], HierError::BoundTooBig),
     (&[(6, 3), (7, 1)], HierError::RankRange),
     (&[(6, 0), (7, 0)], HierError::RankTwice),
-    (&[(19, 1), (20, 1)], HierError::LinkEnds),
-    (&[(19, 1), (20, 3)], HierError::LinkEnds),
-    (&[(19, 1), (20, 0)], HierError::LinkOrder),
-    (&[(21, 0), (22, 0)], HierError::LinkWeight),
-    (&[(21, 0), (22, 7)], HierError::LinkWeight),
-    (&[(22, 5), (23, 3)], HierError::MiddleRange),
-    (&[(22, 5), (23, 2)], HierError::MiddleRank),
-    (&[(21, 0), (22, 4)], HierError::HalfSum),
+    (&[(21, 1), (22, 1)], HierError::LinkEnds),
+    (&[(21, 1), (22, 3)], HierError::LinkEnds),
+    (&[(21, 1), (22, 0)], HierError::LinkOrder),
+    (&[(23, 0), (24, 7)], HierError::LinkWeight),
+    // Arcs: none, as many as there are nodes, and two or none of a link without a middle.
+    (&[(25, 0)], HierError::LinkWeight),
+    (&[(25, 3)], HierError::LinkWeight),
+    (&[(13, 2)], HierError::LinkWeight),
+    (&[(13, 0)], HierError::LinkWeight),
+    (&[(24, 5), (26, 3)], HierError::MiddleRange),
+    (&[(24, 5), (26, 2)], HierError::MiddleRank),
+    (&[(23, 0), (24, 4)], HierError::HalfSum),
+    (&[(23, 0), (24, 0)], HierError::HalfSum),
+    (&[(25, 1)], HierError::HalfSum),
 ];
 
 // Why a file is refused with other numbers at some places, or none.
@@ -158,7 +189,7 @@ fn refusal_of(
 
 #[test]
 fn keeps_files(rt: HostRuntime) -> Result<(), AllocError> {
-    let files: [&[u32]; 4] = [&NO_NODE, &ONE_ARC, &ROW, &HEAVY];
+    let files: [&[u32]; 6] = [&NO_NODE, &ONE_ARC, &FREE, &ROW, &HEAVY, &BY_WAY_OF_0];
     for file in files {
         assert!(rt; is_kept(rt.alloc(), file)?);
     }
@@ -172,9 +203,10 @@ fn has_numbers(hierarchy: &Hierarchy) -> bool {
         return false;
     };
     (hierarchy.nodes() == 3)
-        & (hierarchy.bound().length() == 6)
+        & (hierarchy.version() == 2)
+        & (hierarchy.bound() == Cost::of_walk(6, 2))
         & (links.len() == 3)
-        & (last.cost.length() == 5)
+        & (last.cost == Cost::of_walk(5, 2))
         & (last.middle == Some(0))
 }
 
@@ -199,15 +231,17 @@ fn fronts_are_cut(alloc: Global, row: &[u8]) -> bool {
             return false;
         }
     }
-    row.len() == 96
+    row.len() == 108
 }
 
 /// Whether bytes that are too long, and bytes with another magic, are refused.
 fn others_are_refused(alloc: Global, longer: &[u8]) -> bool {
-    let others: [(&[u8], HierError); 3] = [
+    let others: [(&[u8], HierError); 5] = [
         (longer, HierError::Trailing),
-        (b"SCH1", HierError::BadMagic),
+        (b"SCH2", HierError::BadMagic),
         (b"RX", HierError::BadMagic),
+        (b"RCH3", HierError::BadMagic),
+        (b"RCH", HierError::Truncated),
     ];
     for (bytes, expected) in others {
         if refusal(alloc, bytes) != Some(expected) {
@@ -253,9 +287,10 @@ fn other_files_are_refused(alloc: Global) -> Result<bool, AllocError> {
         (&[(3, 0xfe00_0001)], HierError::TooBig),
         (&[(1, 0x0200_0001)], HierError::TooBig),
     ];
+    let first_form = are_refused(alloc, &FIRST_FORM, &[(&[], HierError::BadMagic)])?;
     let exchanged = are_refused(alloc, &EXCHANGED, &[(&[], HierError::LinkOrder)])?;
     let without_half = are_refused(alloc, &WITHOUT_HALF, &[(&[], HierError::HalfMissing)])?;
-    Ok(exchanged & without_half & are_refused(alloc, &GREATEST, &greatest)?)
+    Ok(first_form & exchanged & without_half & are_refused(alloc, &GREATEST, &greatest)?)
 }
 
 #[test]
@@ -265,8 +300,9 @@ fn refuses_files(rt: HostRuntime) -> Result<(), AllocError> {
     Ok(())
 }
 
-// Of 38 nodes each two are linked, by way of the node below the lower one.
-pub(crate) fn cascade(alloc: Global) -> Result<Vec<u32>, AllocError> {
+// Of 38 nodes each two are linked, by way of the node below the lower one. A link has as many arcs as it is long, or the
+// greatest number that is told.
+fn cascade(alloc: Global) -> Result<Vec<u32>, AllocError> {
     let mut words = Vec::new(alloc);
     words.extend_from_slice(&[MAGIC, 38, 0, 1406, 36, 0xffff_ffdb])?;
     for rank in 0..38u32 {
@@ -285,39 +321,64 @@ pub(crate) fn cascade(alloc: Global) -> Result<Vec<u32>, AllocError> {
 fn push_link(words: &mut Vec<u32>, from: u32, to: u32) -> Result<(), AllocError> {
     let lower = from.min(to);
     let weight = 1u64.wrapping_shl(lower);
+    let low = (weight & 0xffff_ffff) as u32;
+    let high = (weight >> 32) as u32;
+    let arcs = if high == 0 { low } else { u32::MAX };
     let middle = lower.checked_sub(1).unwrap_or(NONE);
-    words.extend_from_slice(&[
-        from,
-        to,
-        (weight >> 32) as u32,
-        (weight & 0xffff_ffff) as u32,
-        middle,
-    ])
+    words.extend_from_slice(&[from, to, high, low, arcs, middle])
 }
 
-/// Whether the least walk from 37 to 36 is one link, of this length.
-fn goes_by_a_link(search: &mut Search) -> Result<bool, AllocError>
-    requires all { 37 < length search.old.ranks }
+/// Whether a file is refused with its first link of more than 37 arcs, that from 6 to 7, which is the 229th, and not before
+/// it.
+fn is_refused_at_its_229th(alloc: Global, words: &[u32]) -> Result<bool, AllocError> {
+    let file = bytes(alloc, words)?;
+    let begins = 24 + 4 * 38 + 24 * 228;
+    let Some((before, link)) = file.as_slice().split_at_checked(begins) else {
+        return Ok(false);
+    };
+    let ends = begins + 24;
+    Ok(
+        (refusal(alloc, before) == Some(HierError::Truncated))
+            & (link.get(..8) == Some(b"\0\0\0\x06\0\0\0\x07".as_slice()))
+            & (file
+                .as_slice()
+                .get(..ends)
+                .map(|front| refusal(alloc, front))
+                == Some(Some(HierError::LinkWeight)))
+            & (refusal(alloc, file.as_slice()) == Some(HierError::LinkWeight)),
+    )
+}
+
+#[test]
+fn refuses_a_cascade(rt: HostRuntime) -> Result<(), AllocError> {
+    let words = cascade(rt.alloc())?;
+    assert!(rt; is_refused_at_its_229th(rt.alloc(), words.as_slice())?);
+    Ok(())
+}
+
+/// Whether the least rise-fall walk from 1 to 3 is of two links, of two arcs each.
+fn goes_by_two_links(search: &mut Search) -> Result<bool, AllocError>
+    requires all { 3 < length search.old.ranks }
 {
-    match search.distance(37, 36)? {
-        Some(found) => Ok((found.cost.length() == 68_719_476_736) & (found.links.len() == 1)),
+    match search.distance(1, 3)? {
+        Some(found) => Ok((found.cost == Cost::of_walk(4, 4)) & (found.links.len() == 2)),
         None => Ok(false),
     }
 }
 
-/// Whether the least walk between the last two of 38 nodes is their link.
-fn joins_the_last(alloc: Global, hierarchy: &Hierarchy) -> Result<bool, AllocError> {
-    if hierarchy.nodes() <= 37 {
+/// Whether the least walk from 1 to 3 goes so.
+fn joins_1_and_3(alloc: Global, hierarchy: &Hierarchy) -> Result<bool, AllocError> {
+    if hierarchy.nodes() <= 3 {
         return Ok(false);
     }
     let mut search = Search::new(alloc, hierarchy)?;
-    goes_by_a_link(&mut search)
+    goes_by_two_links(&mut search)
 }
 
-/// Whether a file is read, and its last two nodes of 38 are joined so.
+/// Whether a file is read, and nodes 1 and 3 of it are joined so.
 fn is_joined(alloc: Global, words: &[u32]) -> Result<bool, AllocError> {
     match hierarchy_of(alloc, words)? {
-        Some(hierarchy) => joins_the_last(alloc, &hierarchy),
+        Some(hierarchy) => joins_1_and_3(alloc, &hierarchy),
         None => Ok(false),
     }
 }
@@ -329,16 +390,9 @@ fn hierarchy_of(alloc: Global, words: &[u32]) -> Result<Option<Hierarchy>, Alloc
     Ok(read(alloc, &mut rest).ok())
 }
 
-/// Whether the words of a cascade are kept, and join its last two nodes.
-fn is_a_cascade(alloc: Global, words: &[u32]) -> Result<bool, AllocError> {
-    let are_all = words.len() == 6 + 38 + 5 * 1406;
-    Ok(are_all & is_kept(alloc, words)? & is_joined(alloc, words)?)
-}
-
 #[test]
-fn keeps_a_cascade(rt: HostRuntime) -> Result<(), AllocError> {
-    let words = cascade(rt.alloc())?;
-    assert!(rt; is_a_cascade(rt.alloc(), words.as_slice())?);
+fn answers_by_a_file(rt: HostRuntime) -> Result<(), AllocError> {
+    assert!(rt; is_joined(rt.alloc(), &BY_WAY_OF_0)?);
     Ok(())
 }
 
@@ -372,8 +426,8 @@ impl Read for Pieces<'_> {
 /// Whether a file in pieces is read, or refused, as it is said.
 fn is_read_in_pieces(alloc: Global, bytes: &[u8]) -> bool {
     let table = [
-        (1, 1000, 194, None),
-        (1, 1000, 193, Some(HierError::Read)),
+        (1, 1000, 218, None),
+        (1, 1000, 217, Some(HierError::Read)),
         (7, 1000, MANY, None),
         (40, 1, MANY, Some(HierError::Read)),
     ];
@@ -428,16 +482,24 @@ pub(crate) fn row(alloc: Global) -> Result<Option<Hierarchy>, AllocError> {
     hierarchy_of(alloc, &ROW)
 }
 
+// How a hierarchy is written in so many calls, if it is of version 2.
+fn writes(hierarchy: &Hierarchy, taker: &mut Taker, limit: u64) -> Option<Result<(), WriteFault>> {
+    if hierarchy.version() != 2 {
+        return None;
+    }
+    Some(write_within(hierarchy, taker, limit))
+}
+
 // How the row is written in so many calls, if it is read.
 fn writes_row(
     alloc: Global,
     taker: &mut Taker,
     limit: u64,
 ) -> Result<Option<Result<(), WriteFault>>, AllocError> {
-    let Some(hierarchy) = row(alloc)? else {
-        return Ok(None);
-    };
-    Ok(Some(write_within(&hierarchy, taker, limit)))
+    match row(alloc)? {
+        Some(hierarchy) => Ok(writes(&hierarchy, taker, limit)),
+        None => Ok(None),
+    }
 }
 
 /// How many bytes a writer takes at a call and in all, the limit of the calls, the answer, and how many bytes are taken.
@@ -462,8 +524,8 @@ fn is_taken(
 /// Whether the row, of these bytes, is written in pieces as it is said.
 fn is_written_in_pieces(alloc: Global, bytes: &[u8]) -> Result<bool, AllocError> {
     let table = [
-        (1, 1000, 192, Ok(()), 96),
-        (1, 1000, 191, Err(WriteFault { written: 95 }), 95),
+        (1, 1000, 216, Ok(()), 108),
+        (1, 1000, 215, Err(WriteFault { written: 107 }), 107),
         (1000, 30, MANY, Err(WriteFault { written: 30 }), 30),
         (7, 30, MANY, Err(WriteFault { written: 30 }), 30),
         (7, 0, MANY, Err(WriteFault { written: 0 }), 0),

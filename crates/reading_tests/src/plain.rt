@@ -19,6 +19,7 @@ struct Told {
     from: u64,
     to: u64,
     weight: u64,
+    arcs: u64,
     middle: u64,
 }
 
@@ -42,14 +43,14 @@ pub(crate) fn first_fault(bytes: &[u8]) -> Option<HierError> {
     if let Some(fault) = file.halves_fault() {
         return Some(fault);
     }
-    if bytes.len() as u64 > place_of(file.links_begin(), file.links, 20) {
+    if bytes.len() as u64 > place_of(file.links_begin(), file.links, 24) {
         return Some(HierError::Trailing);
     }
     None
 }
 
 fn magic_fault(bytes: &[u8]) -> Option<HierError> {
-    for (place, wanted) in b"RCH1".iter().enumerate() {
+    for (place, wanted) in b"RCH2".iter().enumerate() {
         match bytes.get(place) {
             None => return Some(HierError::Truncated),
             Some(byte) => {
@@ -84,6 +85,12 @@ fn number(bytes: &[u8], at: u64, count: u64) -> Option<u64> {
         number = number.wrapping_mul(256).wrapping_add(u64::from(*byte));
     }
     Some(number)
+}
+
+// Whether a link is as long as its halves together, and has as many arcs.
+fn is_sum(link: Told, first: Told, second: Told) -> bool {
+    (first.weight.checked_add(second.weight) == Some(link.weight))
+        & (first.arcs.checked_add(second.arcs) == Some(link.arcs))
 }
 
 impl File<'_> {
@@ -122,12 +129,13 @@ impl File<'_> {
     }
 
     fn link(&self, place: u64) -> Option<Told> {
-        let at = place_of(self.links_begin(), place, 20);
+        let at = place_of(self.links_begin(), place, 24);
         Some(Told {
             from: number(self.bytes, at, 4)?,
             to: number(self.bytes, at.saturating_add(4), 4)?,
             weight: number(self.bytes, at.saturating_add(8), 8)?,
-            middle: number(self.bytes, at.saturating_add(16), 4)?,
+            arcs: number(self.bytes, at.saturating_add(16), 4)?,
+            middle: number(self.bytes, at.saturating_add(20), 4)?,
         })
     }
 
@@ -154,7 +162,7 @@ impl File<'_> {
                 return Some(HierError::LinkOrder);
             }
         }
-        if link.weight == 0 || link.weight > self.bound {
+        if link.weight > self.bound || !self.has_arcs(link) {
             return Some(HierError::LinkWeight);
         }
         if link.middle == NONE {
@@ -170,12 +178,20 @@ impl File<'_> {
         None
     }
 
-    // The weight of the link from one node to another, if there is one.
-    fn weight(&self, from: u64, to: u64) -> Option<u64> {
+    // Whether a link has arcs, fewer than there are nodes, and one where it has no middle.
+    fn has_arcs(&self, link: Told) -> bool {
+        if link.middle == NONE {
+            return link.arcs == 1;
+        }
+        link.arcs > 0 && link.arcs < self.nodes
+    }
+
+    // The link from one node to another, if there is one.
+    fn link_of(&self, from: u64, to: u64) -> Option<Told> {
         for place in 0..self.links {
             let link = self.link(place)?;
             if link.from == from && link.to == to {
-                return Some(link.weight);
+                return Some(link);
             }
         }
         None
@@ -187,13 +203,13 @@ impl File<'_> {
             if link.middle == NONE {
                 continue;
             }
-            let Some(first) = self.weight(link.from, link.middle) else {
+            let Some(first) = self.link_of(link.from, link.middle) else {
                 return Some(HierError::HalfMissing);
             };
-            let Some(second) = self.weight(link.middle, link.to) else {
+            let Some(second) = self.link_of(link.middle, link.to) else {
                 return Some(HierError::HalfMissing);
             };
-            if first.checked_add(second) != Some(link.weight) {
+            if !is_sum(link, first, second) {
                 return Some(HierError::HalfSum);
             }
         }

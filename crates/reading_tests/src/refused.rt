@@ -6,7 +6,8 @@
 ghost use Rattle.std.specs.Prelude.{◌≡◌, ◌<◌, length, IfOk, IfSome};
 ghost use Rattle.ch_graph.specs.Unfolding.{Joined};
 
-use crate::files::{ROW, bytes, cascade};
+use crate::files::{BY_WAY_OF_0, MAGIC, ROW, bytes};
+use ch_cost::Cost;
 use ch_graph::{Graph, Hierarchy, LinkId, Road};
 use ch_query::{Found, Search};
 use ch_unpack::{UnpackError, unpack};
@@ -42,7 +43,7 @@ const FILES: [(&[u32], Option<HierError>); 3] = [
     (&ROW, None),
     (
         &[
-            0x5243_4831,
+            MAGIC,
             3,
             0,
             3,
@@ -55,24 +56,24 @@ const FILES: [(&[u32], Option<HierError>); 3] = [
             2,
             0,
             3,
+            1,
             u32::MAX,
             1,
             0,
             0,
             2,
+            1,
             u32::MAX,
             1,
             2,
             0,
             4,
+            2,
             0,
         ],
         Some(HierError::HalfSum),
     ),
-    (
-        &[0x5243_4831, 3, 0, 3, 0, 6, 0, 1, 2],
-        Some(HierError::Truncated),
-    ),
+    (&[MAGIC, 3, 0, 3, 0, 6, 0, 1, 2], Some(HierError::Truncated)),
 ];
 
 /// Whether memory was refused.
@@ -262,7 +263,9 @@ fn goes_round(alloc: Global, hierarchy: &Hierarchy, search: &mut Search) -> Resu
     ensures kept { search.new ≡ search.old }
 {
     match found(search, 1, 2)? {
-        Some(walk) => Ok((walk.cost.length() == 5) & are_round(alloc, hierarchy, &walk.links)?),
+        Some(walk) => Ok(
+            (walk.cost == Cost::of_walk(5, 2)) & are_round(alloc, hierarchy, &walk.links)?,
+        ),
         None => Ok(false),
     }
 }
@@ -305,40 +308,34 @@ fn query_and_route(rt: HostRuntime) -> Result<(), Fail> {
     Ok(())
 }
 
-/// Whether a walk between the last two of 38 nodes is found, and has too many arcs for a route.
+/// Whether a walk from 1 to 3 of four nodes is found, and has too many arcs for a route.
 fn is_too_long(alloc: Global, hierarchy: &Hierarchy, search: &mut Search) -> Result<bool, Fail>
     requires same { search.old ≡ hierarchy.now }
-    requires all { length hierarchy.now.ranks ≡ 38 }
+    requires all { length hierarchy.now.ranks ≡ 4 }
 {
-    let Some(walk) = found(search, 37, 36)? else {
+    let Some(walk) = found(search, 1, 3)? else {
         return Ok(false);
     };
-    Ok(nodes_of(alloc, hierarchy, 37, &walk.links).err() == Some(UnpackError::TooLong))
+    Ok(nodes_of(alloc, hierarchy, 1, &walk.links).err() == Some(UnpackError::TooLong))
 }
 
-/// Whether there are 38 nodes, and a search finds such a walk.
+/// Whether there are four nodes, and a search finds such a walk.
 fn goes_too_far(alloc: Global, hierarchy: &Hierarchy) -> Result<bool, Fail> {
-    if hierarchy.nodes() != 38 {
+    if hierarchy.nodes() != 4 {
         return Ok(false);
     }
     let mut search = Search::new(alloc, hierarchy)?;
     is_too_long(alloc, hierarchy, &mut search)
 }
 
-/// The hierarchy of the cascade.
-fn hierarchy_of_cascade(alloc: Global) -> Result<Hierarchy, Fail> {
-    let words = cascade(alloc)?;
-    hierarchy_of(alloc, &words)
-}
-
-/// Whether a walk of the cascade is too long.
-fn cascade_goes_too_far(alloc: Global) -> Result<bool, Fail> {
-    let hierarchy = hierarchy_of_cascade(alloc)?;
+/// Whether a walk that goes over node 0 twice is too long.
+fn goes_over_0_twice(alloc: Global) -> Result<bool, Fail> {
+    let hierarchy = hierarchy_of(alloc, &BY_WAY_OF_0)?;
     goes_too_far(alloc, &hierarchy)
 }
 
 #[test]
 fn too_long_a_route(rt: HostRuntime) -> Result<(), Fail> {
-    assert!(rt; cascade_goes_too_far(rt.alloc())?);
+    assert!(rt; goes_over_0_twice(rt.alloc())?);
     Ok(())
 }

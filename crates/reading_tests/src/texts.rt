@@ -24,6 +24,12 @@ const SEVEN: &[Road] = &[Road {
     weight: 7,
 }];
 
+const FREE: &[Road] = &[Road {
+    from: 0,
+    to: 1,
+    weight: 0,
+}];
+
 const PARALLEL: &[Road] = &[
     Road {
         from: 0,
@@ -47,8 +53,8 @@ const PARALLEL: &[Road] = &[
     },
 ];
 
-/// Blanks and line ends, then loops and parallel arcs in order, then no arcs.
-const GRAPHS: [Case; 10] = [
+/// Blanks and line ends, then a weight of 0, loops and parallel arcs in order, then no arcs.
+const GRAPHS: [Case; 11] = [
     (
         b"c x\r\n\r\np\tsp 02 01\r\na  1\t2 007 ",
         Wanted::Graph(2, SEVEN),
@@ -64,6 +70,8 @@ const GRAPHS: [Case; 10] = [
         b"p sp 000000000000000000000000000002 1\na 01 02 00000000000000000000000000000007",
         Wanted::Graph(2, SEVEN),
     ),
+    // A weight of 0.
+    (b"p sp 2 1\na 1 2 000", Wanted::Graph(2, FREE)),
     // Loops and parallel arcs, in order.
     (
         b"p sp 2 4\na 1 1 12\na 1 2 9\na 1 2 4\nc\na 1 2 4294967295\n",
@@ -169,7 +177,7 @@ const PROBLEMS: [Case; 7] = [
 ];
 
 /// Numbers and ranges of an arc line.
-const ARCS: [Case; 10] = [
+const ARCS: [Case; 9] = [
     (
         b"p sp 2 1\na 1 3 7",
         Wanted::Fault(GrErrorKind::NodeRange, 2),
@@ -197,10 +205,6 @@ const ARCS: [Case; 10] = [
     (
         b"p sp 2 1\na 1 2 +7",
         Wanted::Fault(GrErrorKind::NotANumber, 2),
-    ),
-    (
-        b"p sp 2 1\na 1 2 0",
-        Wanted::Fault(GrErrorKind::ZeroWeight, 2),
     ),
     (
         b"p sp 2 1\na 1 2 4294967296",
@@ -502,6 +506,12 @@ fn printed_refusals(rt: HostRuntime) -> io::Result<()> {
     };
     assert!(rt; e.to_string(rt.alloc())?.as_str() == "WeightTooBig line 12");
     assert!(rt; e.kind.to_string(rt.alloc())?.as_str() == "WeightTooBig");
-    assert!(rt; GrErrorKind::OutOfMemory as u8 == 1 && GrErrorKind::ArcCount as u8 == 13);
+    let numbers = (
+        GrErrorKind::OutOfMemory as u8,
+        GrErrorKind::NodeRange as u8,
+        GrErrorKind::WeightTooBig as u8,
+        GrErrorKind::ArcCount as u8,
+    );
+    assert!(rt; numbers == (1, 8, 10, 13));
     Ok(())
 }

@@ -254,7 +254,7 @@ impl Walk {
 fn random_roads(alloc: Global, dice: &mut Dice) -> Result<Vec<Road>, AllocError> {
     let mut roads = Vec::new(alloc);
     for _ in 0..8 {
-        let weight = dice.below(3).min(2) + 1;
+        let weight = dice.below(3);
         let (from, to) = (dice.below(NODES), dice.below(NODES));
         roads.push(Road { from, to, weight })?;
     }
