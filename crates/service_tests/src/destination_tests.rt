@@ -156,7 +156,7 @@ fn a_file_comes_where_nothing_stood(rt: HostRuntime) {
 
 #[test]
 fn a_draft_that_is_cut_is_thrown_away(rt: HostRuntime) {
-    for room in [0, 1, 51, 52] {
+    for room in [0, 1, 55, 56] {
         let mut graph = ONE_ARC_TEXT;
         let mut bench = Bench {
             room,

@@ -1,4 +1,4 @@
-use crate::examples::{ONE_ARC, ONE_ARC_TEXT};
+use crate::examples::{FIRST_FORM, ONE_ARC, ONE_ARC_TEXT, TWICE};
 use crate::kit::joined;
 use jobs::Job;
 use performing::perform;
@@ -141,10 +141,23 @@ type Routed = (
     &'static [u8],
 );
 
-const ROUTED: [Routed; 4] = [
+const ROUTED: [Routed; 5] = [
     (ONE_ARC, PAIRS, 0, b"r 1 2 7 1 1 2\nn 2 1\n", b""),
-    (b"RCH2", b"", 4, b"", b"routecli: hierarchy: BadMagic\n"),
+    (
+        FIRST_FORM,
+        PAIRS,
+        4,
+        b"",
+        b"routecli: hierarchy: BadMagic\n",
+    ),
     (b"RCH", b"", 4, b"", b"routecli: hierarchy: Truncated\n"),
+    (
+        TWICE,
+        b"p aux sp p2p 1\nq 2 4\n",
+        4,
+        b"",
+        b"routecli: hierarchy: TooLong\n",
+    ),
     (
         ONE_ARC,
         b"",

@@ -1,11 +1,9 @@
-use crate::examples::{NO_NODE, ONE_ARC, ROW};
+use crate::examples::{FIRST_FORM, NO_NODE, ONE_ARC, ROW, TWICE};
 use crate::kit::is_routed;
 use ch_service::{ServiceError, WriteFault, route};
 use ch_unpack::UnpackError;
 use grfile::{GrError, GrErrorKind};
 use hierfile::HierError;
-use std::alloc::{AllocError, Global};
-use std::test::Fail;
 
 /// A file, pairs, how `route` ends, and what it writes.
 #[derive(Clone, Copy)]
@@ -16,7 +14,7 @@ struct Case {
     answers: &'static [u8],
 }
 
-const CASES: [Case; 7] = [
+const CASES: [Case; 9] = [
     Case {
         hier: NO_NODE,
         pairs: b"p aux sp p2p 0\n",
@@ -42,16 +40,16 @@ const CASES: [Case; 7] = [
         answers: b"",
     },
     Case {
-        hier: b"RCH2",
+        hier: FIRST_FORM,
         pairs: b"p max\n",
         end: Err(ServiceError::Hierarchy(HierError::BadMagic)),
         answers: b"",
     },
     Case {
-        hier: b"RCH1\0\0\0\x03\0\0\0\0\0\0\0\x03\0\0\0\0\0\0\0\x06\0\0\0\0\0\0\0\x01\0\0\0\x02\
-\0\0\0\0\0\0\0\x02\0\0\0\0\0\0\0\x03\xff\xff\xff\xff\
-\0\0\0\x01\0\0\0\0\0\0\0\0\0\0\0\x02\xff\xff\xff\xff\
-\0\0\0\x01\0\0\0\x02\0\0\0\0\0\0\0\x05\0\0\0",
+        hier: b"RCH2\0\0\0\x03\0\0\0\0\0\0\0\x03\0\0\0\0\0\0\0\x06\0\0\0\0\0\0\0\x01\0\0\0\x02\
+\0\0\0\0\0\0\0\x02\0\0\0\0\0\0\0\x03\0\0\0\x01\xff\xff\xff\xff\
+\0\0\0\x01\0\0\0\0\0\0\0\0\0\0\0\x02\0\0\0\x01\xff\xff\xff\xff\
+\0\0\0\x01\0\0\0\x02\0\0\0\0\0\0\0\x05\0\0\0\x02\0\0\0",
         pairs: b"p max\n",
         end: Err(ServiceError::Hierarchy(HierError::Truncated)),
         answers: b"",
@@ -65,6 +63,19 @@ const CASES: [Case; 7] = [
         })),
         answers: b"",
     },
+    // A walk of as many arcs as there are nodes, and the lines before it.
+    Case {
+        hier: TWICE,
+        pairs: b"p aux sp p2p 1\nq 2 4\n",
+        end: Err(ServiceError::Unpack(UnpackError::TooLong)),
+        answers: b"",
+    },
+    Case {
+        hier: TWICE,
+        pairs: b"p aux sp p2p 4\nq 1 3\nq 2 3\nq 2 4\nq 1 3\n",
+        end: Err(ServiceError::Unpack(UnpackError::TooLong)),
+        answers: b"r 1 3 1 1 1 3\nr 2 3 2 2 2 1 3\n",
+    },
 ];
 
 #[test]
@@ -72,56 +83,6 @@ fn routes_by_written_files(rt: HostRuntime) {
     for case in CASES {
         assert!(rt; is_routed(rt.alloc(), case.hier, case.pairs, case.end, case.answers));
     }
-}
-
-/// The file of 38 nodes, each of the rank of its number: for each two of them a link, of the weight that two to the
-/// lesser number is, by way of the node before the lesser.
-fn cascade(alloc: Global) -> Result<Vec<u8>, AllocError> {
-    let mut file = Vec::from_slice(alloc, b"RCH1")?;
-    file.extend_from_slice(&38u32.to_be_bytes())?;
-    file.extend_from_slice(&1406u64.to_be_bytes())?;
-    file.extend_from_slice(&158_913_789_915u64.to_be_bytes())?;
-    for rank in 0..38u32 {
-        file.extend_from_slice(&rank.to_be_bytes())?;
-    }
-    for from in 0..38u32 {
-        push_links(&mut file, from)?;
-    }
-    Ok(file)
-}
-
-/// The links of the cascade that leave a node.
-fn push_links(file: &mut Vec<u8>, from: u32) -> Result<(), AllocError> {
-    for to in 0..38u32 {
-        let least = from.min(to);
-        let middle = least.checked_sub(1).unwrap_or(u32::MAX);
-        if from != to {
-            file.extend_from_slice(&from.to_be_bytes())?;
-            file.extend_from_slice(&to.to_be_bytes())?;
-            file.extend_from_slice(&(1u64.wrapping_shl(least)).to_be_bytes())?;
-            file.extend_from_slice(&middle.to_be_bytes())?;
-        }
-    }
-    Ok(())
-}
-
-/// Pairs of the cascade, the last but one or the only one of which has too long a route, and the lines before it.
-const TOO_LONG: [(&[u8], &[u8]); 2] = [
-    (b"p aux sp p2p 1\nq 38 37\n", b""),
-    (
-        b"p aux sp p2p 4\nq 1 2\nq 2 3\nq 38 37\nq 1 2\n",
-        b"r 1 2 1 1 1 2\nr 2 3 2 2 2 1 3\n",
-    ),
-];
-
-#[test]
-fn the_cascade_of_shortcuts(rt: HostRuntime) -> Result<(), Fail> {
-    let file = cascade(rt.alloc())?;
-    for (pairs, lines) in TOO_LONG {
-        let end = Err(ServiceError::Unpack(UnpackError::TooLong));
-        assert!(rt; is_routed(rt.alloc(), file.as_slice(), pairs, end, lines));
-    }
-    Ok(())
 }
 
 #[test]

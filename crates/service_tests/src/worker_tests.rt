@@ -1,6 +1,6 @@
 ghost use Rattle.std.specs.Prelude.{◌≡◌, [], All, IfOk};
 
-use crate::examples::{EXAMPLES, Example, ROW, ROW_TEXT, UNTIED};
+use crate::examples::{EXAMPLES, ROW, ROW_TEXT, UNTIED};
 use crate::kit::{Lists, add_list, one_list, options};
 use ch_contract::{Contraction, Facts};
 use ch_estimate::{Depth, EdgeDifference, Estimator, Leases, Neighbours, Note};
@@ -27,19 +27,19 @@ impl Gate for Commits {
     }
 }
 
-/// The answers to the pairs of an example, by a hierarchy that one worker builds by this estimator.
-fn answers_by_one<R: Threads + Wait + Sync>(
+/// The answers to the pairs of a graph, by a hierarchy that one worker builds by this estimator.
+fn answers_by_one<G: Gate, R: Threads + Wait + Sync>(
     rt: &R,
     alloc: Global,
-    example: &Example,
+    mut graph: &[u8],
+    mut pairs: &[u8],
     estimator: Box<dyn Estimator + Send>,
     leases: &mut Leases,
-    gate: &Commits,
+    gate: &G,
 ) -> Result<Vec<u8>, ServiceError>
     requires { heard estimator ≡ [] }
 {
     let lists = one_list(alloc, estimator)?;
-    let (mut graph, mut pairs) = (example.graph, example.pairs);
     let mut out = Vec::new(alloc);
     answer(
         rt,
@@ -55,11 +55,12 @@ fn answers_by_one<R: Threads + Wait + Sync>(
     Ok(out)
 }
 
-/// The answers to the pairs of an example in memory, by a file that two workers prepare by these estimators.
+/// The answers to the pairs of a graph in memory, by a file that two workers prepare by these estimators.
 fn routes_by_two<R: Threads + Wait + Sync>(
     rt: &R,
     alloc: Global,
-    example: &Example,
+    graph: &[u8],
+    pairs: &[u8],
     first: Box<dyn Estimator + Send>,
     second: Box<dyn Estimator + Send>,
     leases: &mut Leases,
@@ -72,13 +73,41 @@ fn routes_by_two<R: Threads + Wait + Sync>(
     routes_in_memory(
         rt,
         alloc,
-        example.graph,
-        example.pairs,
+        graph,
+        pairs,
         options(2),
         lists,
         leases,
         &OpenGate,
     )
+}
+
+/// The answers to the pairs of a graph, by a hierarchy that one worker builds by the edge difference.
+pub(crate) fn answers_by_edges<G: Gate, R: Threads + Wait + Sync>(
+    rt: &R,
+    alloc: Global,
+    graph: &[u8],
+    pairs: &[u8],
+    leases: &mut Leases,
+    gate: &G,
+) -> Result<Vec<u8>, Fail> {
+    let lease = leases.lease()?;
+    let edges: Box<dyn Estimator + Send> = Box::new(alloc, EdgeDifference::new(alloc, lease))?;
+    Ok(answers_by_one(rt, alloc, graph, pairs, edges, leases, gate)?)
+}
+
+/// The answers to the pairs of a graph in memory, by a file that two workers prepare, each by a kind of its own.
+pub(crate) fn routes_by_two_kinds<R: Threads + Wait + Sync>(
+    rt: &R,
+    alloc: Global,
+    graph: &[u8],
+    pairs: &[u8],
+    leases: &mut Leases,
+) -> Result<Vec<u8>, Fail> {
+    let (first, second) = (leases.lease()?, leases.lease()?);
+    let neighbours: Box<dyn Estimator + Send> = Box::new(alloc, Neighbours::new(alloc, first))?;
+    let depth: Box<dyn Estimator + Send> = Box::new(alloc, Depth::new(alloc, second))?;
+    Ok(routes_by_two(rt, alloc, graph, pairs, neighbours, depth, leases)?)
 }
 
 #[test]
@@ -89,13 +118,11 @@ fn worked_examples_by_one_worker(rt: HostRuntime) -> Result<(), Fail> {
         seen: AtomicU64::new(0),
     };
     for example in &EXAMPLES[..UNTIED] {
-        let lease = leases.lease()?;
-        let edges: Box<dyn Estimator + Send> = Box::new(alloc, EdgeDifference::new(alloc, lease))?;
-        let out = answers_by_one(&rt, alloc, example, edges, &mut leases, &gate)?;
+        let out = answers_by_edges(&rt, alloc, example.graph, example.pairs, &mut leases, &gate)?;
         assert!(rt; out.as_slice() == example.answers);
     }
     // All nodes of all examples.
-    assert!(rt; gate.seen.load(Ordering::SeqCst) == 17);
+    assert!(rt; gate.seen.load(Ordering::SeqCst) == 29);
     Ok(())
 }
 
@@ -104,10 +131,7 @@ fn worked_examples_by_two_workers(rt: HostRuntime) -> Result<(), Fail> {
     let alloc = rt.alloc();
     let mut leases = Leases::new(alloc)?;
     for example in &EXAMPLES[..UNTIED] {
-        let (first, second) = (leases.lease()?, leases.lease()?);
-        let neighbours: Box<dyn Estimator + Send> = Box::new(alloc, Neighbours::new(alloc, first))?;
-        let depth: Box<dyn Estimator + Send> = Box::new(alloc, Depth::new(alloc, second))?;
-        let out = routes_by_two(&rt, alloc, example, neighbours, depth, &mut leases)?;
+        let out = routes_by_two_kinds(&rt, alloc, example.graph, example.pairs, &mut leases)?;
         assert!(rt; out.as_slice() == example.answers);
     }
     Ok(())
@@ -293,7 +317,11 @@ const REFUSED_GRAPHS: [(&[u8], GrErrorKind, u64); 4] = [
     (b"", GrErrorKind::NoProblemLine, 0),
     (b"x\n", GrErrorKind::UnknownLine, 1),
     (b"p sp 2 1\na 1 3 7\n", GrErrorKind::NodeRange, 2),
-    (b"p sp 2 1\na 1 2 0\n", GrErrorKind::ZeroWeight, 2),
+    (
+        b"p sp 2 1\na 1 2 4294967296\n",
+        GrErrorKind::WeightTooBig,
+        2,
+    ),
 ];
 
 /// Pairs that are refused over three nodes, likewise.
