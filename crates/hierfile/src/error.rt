@@ -30,7 +30,7 @@ pub enum HierError {
     LinkEnds,
     /// A link that doesn't come after the one before it.
     LinkOrder,
-    /// A link of weight 0, or of a weight above the bound.
+    /// A link whose weight is above the bound, or whose arcs are 0, above the bound's, or not 1 where it has no middle.
     LinkWeight,
     /// A middle that isn't a node.
     MiddleRange,
@@ -38,7 +38,7 @@ pub enum HierError {
     MiddleRank,
     /// A link with a middle, one of whose halves is no link.
     HalfMissing,
-    /// A link whose halves don't sum to its weight.
+    /// A link whose halves don't sum to its weight, or to its arcs.
     HalfSum,
     /// Bytes behind the last link.
     Trailing,
