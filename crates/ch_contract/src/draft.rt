@@ -1,6 +1,6 @@
-ghost use Rattle.std.specs.Prelude.{◌≡◌, ◌≢◌, ◌↔◌, ◌≤◌, ◌^◌, ℕ, List, [], ◌∷◌, ◌++◌, IfOk, OnOk, Contains, IsTrue, length, map};
+ghost use Rattle.std.specs.Prelude.{◌≡◌, ◌≢◌, ◌↔◌, ◌≤◌, ◌^◌, ℕ, List, [], ◌∷◌, ◌++◌, IfOk, OnOk, Contains, IsTrue, SomeIff, length, map};
 ghost use Rattle.ch_cost.specs.declared.cost.Cost.{Cost};
-ghost use Rattle.ch_cost.specs.Cost.{◌≼◌, IsWithin};
+ghost use Rattle.ch_cost.specs.Cost.{◌⊕◌, ◌≼◌, IsWithin};
 ghost use Rattle.ch_laws.specs.declared.shortcut.Shortcut.{Shortcut};
 ghost use Rattle.ch_laws.specs.Rows.{Rises};
 ghost use Rattle.ch_overlay.specs.Overlay.{AreEntries};
@@ -11,7 +11,7 @@ ghost use Rattle.ch_contract.specs.Listed.{LeadsOn};
 ghost use Rattle.ch_contract.specs.Reading.{FindsRows, IsReadOn};
 
 use crate::scratch::{Desk, Pairs};
-use ch_cost::Cost;
+use ch_cost::{Cost, NarrowCost};
 use ch_laws::Entry;
 use ch_overlay::{Row, RowSource, Shortcut};
 use ch_witness::{Aim, Rows, Rule, SearchError, Way};
@@ -67,8 +67,9 @@ impl Draft {
     fn judge_pair(&mut self, pair: Shortcut, way: &Option<Way>) -> Result<(), AllocError>
         ensures { OnOk result (IsPairJudged pair way.now self.old self.new) }
     {
+        let cost = pair.cost.cost();
         if let Some(way) = way {
-            if way.cost.is_at_most(pair.cost) {
+            if way.cost.is_at_most(cost) {
                 return self.list_inner(&way.nodes);
             }
         }
@@ -184,6 +185,7 @@ fn find_pairs(
     pairs: &mut Pairs,
 ) -> Result<(), AllocError>
     requires rises { Rises outs.now }
+    requires limit { IsBound task.bound }
     ensures light { OnOk result (ArePairs task.bound into.now outs.now pairs.new.light.items) }
     ensures ends { OnOk result (pairs.new.ends.items ≡ map (λ p. p.to) pairs.new.light.items) }
 {
@@ -201,6 +203,7 @@ fn find_light_pairs(
     pairs: &mut Vec<Shortcut>,
 ) -> Result<(), AllocError>
     requires rises { Rises outs.now }
+    requires limit { IsBound bound }
     ensures { OnOk result (ArePairs bound into.now outs.now pairs.new.items) }
 {
     pairs.clear();
@@ -217,6 +220,7 @@ fn add_pair(
     out: &Entry,
     pairs: &mut Vec<Shortcut>,
 ) -> Result<(), AllocError>
+    requires limit { IsBound bound }
     ensures { OnOk result (IsPairAdded bound into.now out.now pairs.old.items pairs.new.items) }
 {
     if let Some(pair) = light_pair(bound, into, out) {
@@ -227,19 +231,27 @@ fn add_pair(
 
 /// The pair of two arcs, unless it is heavy or they join a node with itself.
 fn light_pair(bound: Cost, into: &Entry, out: &Entry) -> Option<Shortcut>
+    requires limit { IsBound bound }
     ensures { IsPairOf bound into.now out.now result }
 {
     if into.other == out.other {
         return None;
     }
-    let Some(cost) = into.cost.plus_within(out.cost, bound) else {
+    let Some(cost) = light_cost(bound, into, out) else {
         return None;
     };
     Some(Shortcut {
         from: into.other,
         to: out.other,
-        cost,
+        cost: NarrowCost::of(cost),
     })
+}
+
+/// What two arcs cost together, unless that is heavy.
+fn light_cost(bound: Cost, into: &Entry, out: &Entry) -> Option<Cost>
+    ensures { SomeIff result (IsWithin (into.now.cost ⊕ out.now.cost) bound) (into.now.cost ⊕ out.now.cost) }
+{
+    into.cost.cost().plus_within(out.cost.cost(), bound)
 }
 
 /// The nodes to which the pairs lead. They take the place of what the list had.
@@ -263,7 +275,7 @@ fn find_aims(
     aims.clear();
     'pairs: for pair in pairs {
         aims.push(Aim {
-            enough: pair.cost,
+            enough: pair.cost.cost(),
             last_arc: least_last_arc(rows, *pair, avoid),
         })?;
     }
@@ -278,8 +290,9 @@ fn least_last_arc(rows: &Rows, pair: Shortcut, avoid: u32) -> Cost {
     };
     let mut least = Cost::GREATEST;
     'inns: for arc in &seen.row.inn {
-        if arc.other != avoid && arc.other != pair.from && arc.cost.is_below(least) {
-            least = arc.cost;
+        let cost = arc.cost.cost();
+        if arc.other != avoid && arc.other != pair.from && cost.is_below(least) {
+            least = cost;
         }
     }
     least
@@ -292,7 +305,7 @@ fn greatest(pairs: &[Shortcut]) -> Cost
 {
     let mut most = Cost::ZERO;
     'pairs: for pair in pairs {
-        most = greater(most, pair.cost);
+        most = greater(most, pair.cost.cost());
     }
     most
 }

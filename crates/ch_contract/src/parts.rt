@@ -50,7 +50,7 @@ fn push_out(links: &mut Vec<Link>, node: u32, entries: &[Entry]) -> Result<(), A
         links.push(Link {
             from: node,
             to: entry.other,
-            cost: entry.cost,
+            cost: entry.cost.cost(),
             middle: entry.middle.node(),
         })?;
     }
@@ -64,7 +64,7 @@ fn push_in(links: &mut Vec<Link>, node: u32, entries: &[Entry]) -> Result<(), Al
         links.push(Link {
             from: entry.other,
             to: node,
-            cost: entry.cost,
+            cost: entry.cost.cost(),
             middle: entry.middle.node(),
         })?;
     }

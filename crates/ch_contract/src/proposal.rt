@@ -124,7 +124,7 @@ fn cost_of(entries: &[Entry], other: u32) -> Option<Cost>
     let Ok(place) = entries.binary_search_by_key(&other, |entry| entry.other) else {
         return None;
     };
-    Some(entries[place].cost)
+    Some(entries[place].cost.cost())
 }
 
 /// Whether one of the shortcuts joins these nodes.

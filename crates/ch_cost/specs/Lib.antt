@@ -1,3 +1,4 @@
 pub mod Cost
 pub mod CostLaws
+pub mod NarrowCost
 pub mod ShortCost

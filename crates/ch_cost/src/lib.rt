@@ -1,14 +1,16 @@
 //! Costs of walks in a road graph: sums, and their order.
 //!
-//! The lowest layer, which stands on std alone. Its main type is [`Cost`], and a [`ShortCost`] keeps one in half its
-//! memory, where it fits. What the layers above may know of a cost are the laws that [`cost_laws`] ensures, and the
-//! clauses of the methods; none of them looks inside.
+//! The lowest layer, which stands on std alone. Its main type is [`Cost`]; a [`NarrowCost`] keeps one of few arcs in three
+//! quarters of its memory, and a [`ShortCost`] keeps one in half of it, where it fits. What the layers above may know of a
+//! cost are the laws that [`cost_laws`] ensures, and the clauses of the methods; none of them looks inside.
 #![tactic(auto)]
 
 mod cost;
 mod laws;
+mod narrow_cost;
 mod short_cost;
 
 pub use cost::Cost;
 pub use laws::cost_laws;
+pub use narrow_cost::NarrowCost;
 pub use short_cost::ShortCost;

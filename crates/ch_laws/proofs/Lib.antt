@@ -17,3 +17,4 @@ pub mod AliveRows
 pub mod StartRows
 pub mod OneMade
 pub mod ByVerdicts
+pub mod ByWeight

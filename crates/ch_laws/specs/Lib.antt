@@ -1,3 +1,4 @@
+pub mod ByWeight
 pub mod Contraction
 pub mod Members
 pub mod Middle

@@ -1,7 +1,7 @@
 use crate::middle::Middle;
-use ch_cost::Cost;
+use ch_cost::NarrowCost;
 
-/// An entry of a row: an arc between the row's node and another. It takes 24 bytes.
+/// An entry of a row: an arc between the row's node and another. It takes 20 bytes.
 #[derive(Clone, Copy, Debug, PartialEq, Eq)]
 pub struct Entry {
     /// The other node, numbered from 0.
@@ -9,5 +9,5 @@ pub struct Entry {
     /// The node where its two halves meet, or none for an arc of the graph.
     pub middle: Middle,
     /// What the arc costs.
-    pub cost: Cost,
+    pub cost: NarrowCost,
 }

@@ -5,6 +5,7 @@
 //! only code that does anything keeps an entry's middle in four bytes ([`Middle`]).
 #![tactic(auto)]
 
+mod by_weight;
 mod contraction;
 mod entry;
 mod middle;
@@ -13,6 +14,9 @@ mod routes;
 mod rows;
 mod shortcut;
 
+pub use by_weight::{
+    right_is_right_by_weight, route_by_weight_is_never_too_long, route_is_a_shortest_walk,
+};
 pub use contraction::{
     alive_nodes_can_be_contracted, each_graph_has_a_run, plan_is_lawful, reached_goes_on,
     verdicts_are_lawful,

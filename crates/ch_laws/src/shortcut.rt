@@ -1,4 +1,4 @@
-use ch_cost::Cost;
+use ch_cost::NarrowCost;
 
 /// An arc that a contraction puts in, between an in-neighbour and an out-neighbour of the contracted node.
 #[derive(Clone, Copy, Debug, PartialEq, Eq)]
@@ -8,5 +8,5 @@ pub struct Shortcut {
     /// The node that it comes to, numbered from 0.
     pub to: u32,
     /// What its two halves cost together.
-    pub cost: Cost,
+    pub cost: NarrowCost,
 }

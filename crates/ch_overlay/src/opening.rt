@@ -5,7 +5,7 @@ ghost use Rattle.ch_overlay.specs.Overlay.{no_arcs, row_at};
 ghost use Rattle.ch_overlay.specs.Opening.{opening_row, with_arc};
 
 use crate::row::Row;
-use ch_cost::Cost;
+use ch_cost::NarrowCost;
 use ch_graph::Road;
 use ch_laws::{Entry, Middle};
 use std::alloc::{AllocError, Global};
@@ -42,7 +42,7 @@ fn add_arc(rows: &mut [Row], arc: Road) -> Result<(), AllocError>
     ensures count { IfOk result (λ _. length rows.new ≡ length rows.old) }
     ensures rows { IfOk result (λ _. (x : ℕ) → x < length rows.old → row_at rows.new x ≡ with_arc arc x (row_at rows.old x)) }
 {
-    let cost = Cost::of_weight(arc.weight);
+    let cost = NarrowCost::of_weight(arc.weight);
     let from = &mut rows[arc.from as usize];
     from.add_out(Entry {
         other: arc.to,

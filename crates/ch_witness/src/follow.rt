@@ -40,7 +40,7 @@ fn follow_arc(
     requires entry { IsInLimit entry.cost }
     ensures { OnOk result (IsFollowed rule entry cost place (labels_of frontier.old) (labels_of frontier.new)) }
 {
-    let sum = cost.plus(entry.cost);
+    let sum = cost.plus(entry.cost.cost());
     if entry.other == rule.avoid {
         return Ok(());
     }

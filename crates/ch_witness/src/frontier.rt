@@ -17,8 +17,8 @@ pub struct Frontier {
     pub nodes: NodeIndex,
     /// What is known of each of them, in their order.
     pub labels: Vec<Label>,
-    /// Of each offer the cost, and the node.
-    pub queue: BinaryHeap<Reverse<(Cost, u32)>>,
+    /// Of each offer the cost and the node, as one number.
+    pub queue: BinaryHeap<Reverse<u128>>,
     ghost paired: { length labels.items ≡ length nodes },
 }
 
@@ -92,7 +92,7 @@ impl Frontier {
         if !self.labels[at].is_improved_by(cost) {
             return Ok(());
         }
-        self.queue.push(Reverse((cost, node)))?;
+        self.queue.push(Reverse(key(cost, node)))?;
         self.labels[at] = opened(cost, place);
         Ok(())
     }
@@ -102,7 +102,7 @@ impl Frontier {
         requires { (k : ℕ) → k < length self.old.nodes → slice_index self.old.nodes k ≢ node }
         ensures { OnOk result (IsOffered (labels_of self.old) node cost place (labels_of self.new)) }
     {
-        self.queue.push(Reverse((cost, node)))?;
+        self.queue.push(Reverse(key(cost, node)))?;
         self.labels.reserve(1)?;
         self.nodes.push(node)?;
         self.labels.push_reserved(opened(cost, place));
@@ -115,8 +115,8 @@ impl Frontier {
         ensures settled { IfSome result (λ r. IsSettledNow (labels_of self.old) r (labels_of self.new)) }
         ensures stays { IfNone result ((v : ℕ) → labels_of self.new v ≡ labels_of self.old v) }
     {
-        'entries: while let Some(Reverse((_, node))) = self.queue.pop() {
-            let reached = self.settle(node);
+        'entries: while let Some(Reverse(key)) = self.queue.pop() {
+            let reached = self.settle(node_of(key));
             if reached.is_some() {
                 return reached;
             }
@@ -142,6 +142,23 @@ impl Frontier {
             before: label.before,
         })
     }
+}
+
+/// How many bits the number of a node has in a key, and how many its arcs have.
+const NODE_BITS: u32 = 25;
+
+const ARCS_BITS: u32 = 42;
+
+/// The number by which an offer is taken: by its cost, and of equal costs by the node. Its length is at most the bound's,
+/// and a way of fewer than 2^16 entries, each of which stands for fewer than 2^25 arcs, has fewer than 2^42.
+fn key(cost: Cost, node: u32) -> u128 {
+    let by_cost = (u128::from(cost.length()) << ARCS_BITS) | u128::from(cost.arcs());
+    (by_cost << NODE_BITS) | u128::from(node)
+}
+
+/// The node of a key.
+fn node_of(key: u128) -> u32 {
+    (key % (1 << NODE_BITS)) as u32
 }
 
 /// The label of a node that is open, by a way of this cost that goes on from the step at a place.

@@ -51,7 +51,7 @@ fn are_entries(entries: &[Entry], expected: Entries) -> bool {
     entries.len() == expected.len()
         && entries.iter().zip(expected).all(|(entry, (other, weight))| {
             (entry.other == *other)
-                & (entry.cost == Cost::of_weight(*weight))
+                & (entry.cost.cost() == Cost::of_weight(*weight))
                 & (entry.middle == Middle::NONE)
         })
 }

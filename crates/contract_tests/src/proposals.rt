@@ -201,7 +201,9 @@ fn are_the_same(asked: &[u32], nodes: &[u32]) -> bool {
 pub fn are_shortcuts(shortcuts: &[Shortcut], expected: &[Lead]) -> bool {
     shortcuts.len() == expected.len()
         && shortcuts.iter().zip(expected).all(|(shortcut, (from, to, numbers))| {
-            (shortcut.from == *from) & (shortcut.to == *to) & (shortcut.cost == cost_of(*numbers))
+            (shortcut.from == *from)
+                & (shortcut.to == *to)
+                & (shortcut.cost.cost() == cost_of(*numbers))
         })
 }
 

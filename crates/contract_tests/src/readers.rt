@@ -45,7 +45,7 @@ fn are(entries: &[Entry], expected: Entries) -> bool {
     entries.len() == expected.len()
         && entries.iter().zip(expected).all(|(entry, (other, numbers, middle))| {
             (entry.other == *other)
-                & (entry.cost == cost_of(*numbers))
+                & (entry.cost.cost() == cost_of(*numbers))
                 & (entry.middle.node() == *middle)
         })
 }

@@ -4,21 +4,21 @@ ghost use Rattle.ch_laws.specs.Rows.{Rises};
 ghost use Rattle.ch_overlay.specs.Overlay.{IsEntry};
 ghost use Rattle.ch_overlay.specs.Source.{IsSeenRow};
 
-use ch_cost::Cost;
+use ch_cost::{Cost, NarrowCost};
 use ch_overlay::{Entry, Middle, Row, RowSource, SeeError, Seen};
 use std::alloc::{AllocError, Global};
 use std::marker::Model;
 use std::sync::Arc;
 
 /// A length and a number of arcs.
-pub type Numbers = (u64, u64);
+pub type Numbers = (u64, u32);
 
 /// What leads from one node to another, and its cost: that of an arc, or of the arcs for which a shortcut stands.
 pub type Lead = (u32, u32, Numbers);
 
 /// The cost of these numbers.
 pub fn cost_of((length, arcs): Numbers) -> Cost {
-    Cost::of_walk(length, arcs)
+    Cost::of_walk(length, u64::from(arcs))
 }
 
 /// The rows of a few nodes, by their numbers, and which nodes were asked for.
@@ -74,16 +74,17 @@ impl Shelf {
 fn is_entry(entry: &Entry, node: u32, bound: Cost) -> bool
     ensures { IsTrue result → IsEntry (2 ^ 25) bound node entry.now }
 {
+    let cost = entry.cost.cost();
     if entry.other >= 1 << 25 {
         return false;
     }
     if entry.other == node {
         return false;
     }
-    if !Cost::ZERO.is_below(entry.cost) {
+    if !Cost::ZERO.is_below(cost) {
         return false;
     }
-    entry.cost.is_within(bound)
+    cost.is_within(bound)
 }
 
 fn are_entries(entries: &[Entry], node: u32, bound: Cost) -> bool
@@ -182,10 +183,15 @@ impl RowSource for Shelf {
     ghost same_bound = { λ a b h. h };
 }
 
+/// The same, as a row keeps it.
+fn narrow((length, arcs): Numbers) -> NarrowCost {
+    NarrowCost::of(Cost::of_walk(length, u64::from(arcs)))
+}
+
 fn entry(other: u32, numbers: Numbers) -> Entry {
     Entry {
         other,
-        cost: cost_of(numbers),
+        cost: narrow(numbers),
         middle: Middle::NONE,
     }
 }

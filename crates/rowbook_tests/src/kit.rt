@@ -5,13 +5,13 @@ ghost use Rattle.ch_overlay.specs.Overlay.{IsEntry};
 ghost use Rattle.ch_overlay.specs.Source.{IsBound};
 ghost use Rattle.ch_overlay.specs.Records.{AreSoundRows, IsSoundRow};
 
-use ch_cost::Cost;
+use ch_cost::{Cost, NarrowCost};
 use ch_overlay::{Entry, Middle, Row};
 use std::alloc::{AllocError, Global};
 use std::sync::Arc;
 
 /// An entry of a row as a test gives it: the other node, and the length and the arcs that it costs.
-pub type Given = (u32, (u64, u64));
+pub type Given = (u32, (u64, u32));
 
 /// Entries of a row.
 pub type Entries<'a> = &'a [Given];
@@ -23,12 +23,17 @@ pub fn bound() -> Cost
     Cost::of_arcs((1 << 25) - 1, u32::MAX)
 }
 
+/// The cost of a walk of this length and so many arcs.
+fn cost_of(length: u64, arcs: u32) -> NarrowCost {
+    NarrowCost::of(Cost::of_walk(length, u64::from(arcs)))
+}
+
 fn entries(alloc: Global, all: Entries<'_>) -> Result<Vec<Entry>, AllocError> {
     let mut list = Vec::new(alloc);
     for (other, (length, arcs)) in all {
         list.push(Entry {
             other: *other,
-            cost: Cost::of_walk(*length, *arcs),
+            cost: cost_of(*length, *arcs),
             middle: Middle::NONE,
         })?;
     }
@@ -48,16 +53,17 @@ pub fn row(alloc: Global, out: Entries<'_>, inn: Entries<'_>) -> Result<Arc<Row>
 fn is_entry(entry: &Entry, node: u32, bound: Cost) -> bool
     ensures { IsTrue result → IsEntry (2 ^ 25) bound node entry.now }
 {
+    let cost = entry.cost.cost();
     if entry.other >= 1 << 25 {
         return false;
     }
     if entry.other == node {
         return false;
     }
-    if !Cost::ZERO.is_below(entry.cost) {
+    if !Cost::ZERO.is_below(cost) {
         return false;
     }
-    entry.cost.is_within(bound)
+    cost.is_within(bound)
 }
 
 fn are_entries(entries: &[Entry], node: u32, bound: Cost) -> bool
@@ -115,6 +121,6 @@ pub fn are_sound(rows: &[Arc<Row>], bound: Cost) -> bool
 pub fn are(entries: &[Entry], expected: Entries<'_>) -> bool {
     entries.len() == expected.len()
         && entries.iter().zip(expected).all(|(entry, (other, (length, arcs)))| {
-            (entry.other == *other) & (entry.cost == Cost::of_walk(*length, *arcs))
+            (entry.other == *other) & (entry.cost == cost_of(*length, *arcs))
         })
 }

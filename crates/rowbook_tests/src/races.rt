@@ -51,7 +51,7 @@ fn next(node: u32) -> u32 {
 
 /// The one entry of the row of a node. Its arcs change with its weight, and are another number.
 fn entry(node: u32, weight: u32) -> Given {
-    (next(node), (u64::from(weight), u64::from(1 + weight % 7)))
+    (next(node), (u64::from(weight), 1 + weight % 7))
 }
 
 /// The row of a node, with one entry.

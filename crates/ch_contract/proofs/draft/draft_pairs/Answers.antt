@@ -82,7 +82,7 @@ returns-in_err-find_pairs-clause-found g c = λ named names.
     finds_short _ _ _ p.0 p.1 p.2
 
 pub find_pairs-requires : goal.find_pairs-requires
-find_pairs-requires g c = record { rises = subst Rises (sym (c.deref-2.ensures.value ∙ ap (λ (r : Row). r.out) c.row.view_is)) c.requires.out_rises }
+find_pairs-requires g c = record { rises = subst Rises (sym (c.deref-2.ensures.value ∙ ap (λ (r : Row). r.out) c.row.view_is)) c.requires.out_rises; limit = c.requires.limit }
 
 pub returns-then-is_empty-clause-draft : goal.returns-then-is_empty-clause-draft
 returns-then-is_empty-clause-draft g c =

@@ -4,7 +4,7 @@ use Rattle.ch_contract.proofs.Finds.{on_ok}
 use Rattle.ch_contract.proofs.draft.find_pairs.Goals as goal
 
 pub find_light_pairs-requires : goal.find_light_pairs-requires
-find_light_pairs-requires c = record { rises = c.requires.rises }
+find_light_pairs-requires c = record { rises = c.requires.rises; limit = c.requires.limit }
 
 pub returns-clause-light : goal.returns-clause-light
 returns-clause-light c = on_ok c.find_aims.result c.in_ok-find_light_pairs.ensures

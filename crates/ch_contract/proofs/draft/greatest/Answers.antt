@@ -23,9 +23,9 @@ pairs-preserved c =
     record {
       most = λ p among. elim (Contains-push_cases (take k pairs) _ p (subst (λ (ps : List Shortcut). Contains ps p) (take_more pairs k p c.pairs-test.true) among)) [
         | inl old ↦ at_most_trans (c.pairs.invariant.most p old) c.greater-most.ensures.first
-        | inr here ↦ subst (λ (q : Shortcut). q.cost ≼ c.greater-most.result) (get_or_default pairs k _ p c.pairs-test.true ∙ here) c.greater-most.ensures.second
+        | inr here ↦ subst (λ (q : Shortcut). q.cost ≼ c.greater-most.result) (c.pair-item.is ∙ (get_or_default pairs k _ p c.pairs-test.true ∙ here)) (subst (λ (k : Cost). k ≼ c.greater-most.result) c.cost.ensures c.greater-most.ensures.second)
       ];
-      within = λ bound all. c.greater-most.ensures.within bound (c.pairs.invariant.within bound all) (all _ (Contains-get_or pairs k _ c.pairs-test.true));
+      within = λ bound all. c.greater-most.ensures.within bound (c.pairs.invariant.within bound all) (subst (λ (k : Cost). IsWithin k bound) (sym c.cost.ensures) (subst (λ (q : Shortcut). IsWithin q.cost bound) (sym c.pair-item.is) (all _ (Contains-get_or pairs k _ c.pairs-test.true))));
     }
 
 pub returns-clause-most : goal.returns-clause-most

@@ -1,4 +1,4 @@
-use Rattle.std.proofs.Common.{rules, refl}
+use Rattle.std.proofs.Common.{rules, sym}
 use Rattle.std.proofs.lemmas.List.Elements.{Contains-get_or}
 use Rattle.std.proofs.lemmas.List.Sorted.{answers_always}
 use Rattle.ch_laws.specs.declared.entry.Entry.{Entry}
@@ -17,5 +17,5 @@ returns c =
       entry = _;
       among = Contains-get_or c.args.entries.now c.in-Ok.place _ c.in-Ok.ensures.bound;
       other = found_there c.args.entries.now c.requires c.args.other c.in-Ok.place found _;
-      costs = refl;
+      costs = sym c.cost.ensures;
     }
