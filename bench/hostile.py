@@ -4,8 +4,9 @@
     bench/hostile.py
 
 Each file is written, routed, and refused: the table has its bytes, the name of the refusal, which is compared, the
-greatest resident size in kB, what of it is beyond that of a file of no byte, and that for each byte of the file. The last
-file is well made, by it walks have more arcs than 32 bits count, and one of two pairs has to be answered rightly. It needs
+greatest resident size in kB, what of it is beyond that of a file of no byte, and that for each byte of the file. Some files
+are of version 1. The last two files are well made, and by them walks have more arcs than 32 bits count: of two pairs by the
+one the first has to be answered rightly, and by the other, of version 1, none can be. It needs
 g++ and the proved program, which is crates/routecli/out/routecli (README.md says how to build it) or the path in the
 environment variable ROUTECLI.
 """
@@ -32,6 +33,8 @@ def files():
     yield "the greatest numbers and no more", head(MOST, most_links), "Truncated"
     yield "one node too many", head(MOST + 1, 0), "TooBig"
     yield "one link too many", head(MOST, most_links + 1), "TooBig"
+    yield "the greatest numbers and no more, version 1", head(MOST, most_links, version=1), "Truncated"
+    yield "one link too many, version 1", head(MOST, most_links + 1, version=1), "TooBig"
     yield "the greatest rank first", head(MOST, 0) + ranks([MOST - 1]), "Truncated"
     yield "the same rank twice", head(MOST, 0) + ranks([MOST - 1, MOST - 1]), "RankTwice"
     yield "8,192 ranks far apart", head(MOST, 0) + ranks(spread), "Truncated"
@@ -40,6 +43,8 @@ def files():
     yield "1,024 nodes, all ranks, no link of 1,047,552", head(1024, 1024 * 1023, 1) + ranks(range(1024)), "Truncated"
     few = head(65_536, 65_536 * 65_535, 1) + ranks(range(65_536))
     yield "65,536 nodes, all ranks, one link of 4,294,901,760", few + link(0, 1, 1), "Truncated"
+    few = head(65_536, 65_536 * 65_535, 1, version=1) + ranks(range(65_536))
+    yield "the same in version 1", few + link(0, 1, 1, version=1), "Truncated"
 
 
 def many_arcs():
@@ -66,6 +71,16 @@ def many_arcs():
     return spelled(range(end + 1), sorted(links), 1), pairs, answer
 
 
+def cascade():
+    """A file of version 1, and a pair of nodes.
+
+    Of 38 nodes each two are linked, by way of the node below the lower one, so a link of the last two stands for 2^36 arcs.
+    """
+    ends = [(i, j) for i in range(38) for j in range(38) if i != j]
+    links = [(i, j, 1 << min(i, j), 0, min(i, j) - 1 if min(i, j) else NONE) for i, j in ends]
+    return spelled(range(38), links, 37 * NONE, version=1), "p aux sp p2p 1\nq 38 37\n"
+
+
 def main():
     if not PROGRAM.exists():
         sys.exit(f"{PROGRAM} isn't built: README.md says how")
@@ -76,10 +91,13 @@ def main():
         subprocess.run(["g++", "-O2", "-std=c++17", "-o", resident, ROOT / "bench/resident.cpp"], check=True)
         least = None
         last, pairs, answer = many_arcs()
-        queries.write_text(pairs)
-        cases = itertools.chain(((*each, "") for each in files()), [("2^32 + 2 arcs in a walk", last, "TooLong", answer)])
-        for name, content, wanted, written in cases:
+        very_last, pair = cascade()
+        long = [("2^32 + 2 arcs in a walk", last, "TooLong", pairs, answer)]
+        long += [("2^36 arcs in a walk, version 1", very_last, "TooLong", pair, "")]
+        cases = itertools.chain(((*each, pairs, "") for each in files()), long)
+        for name, content, wanted, asked, written in cases:
             file.write_bytes(content)
+            queries.write_text(asked)
             command = [resident, folder / "figures", PROGRAM, "route", file, queries]
             done = subprocess.run(command, check=True, capture_output=True, text=True)
             status, size = map(int, (folder / "figures").read_text().split())

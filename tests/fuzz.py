@@ -4,11 +4,11 @@ refusal with slow and plain readers (plain.py).
 
     tests/fuzz.py [--seconds SECONDS] [--jobs JOBS] [--seed SEED]       by default an hour, 2 jobs and seed 1
 
-Files and texts are drawn, from small networks that `prepare` made hierarchies of, and from well made hierarchies that
-stand for no graph; then bytes, numbers, links and lines of most are changed, exchanged, repeated, cut off or left out. Many
-weights are 0, and many walks as long as others with more arcs: each route has to have the least length and, of the walks
-of this length, the fewest arcs. By a file that stands for no graph these are the walks that its links rise and fall by. The
-output has the number of runs, how they ended, crashes, hangs (no end within 30 seconds), answers that differ, and the
+Files and texts are drawn, from small networks that `prepare` made hierarchies of, and from well made hierarchies of both
+versions that stand for no graph; then bytes, numbers, links and lines of most are changed, exchanged, repeated, cut off or
+left out. Many weights are 0, and many walks as long as others with more arcs: each route has to have the least length and,
+of the walks of this length, the fewest arcs, by a file of version 1 any number. By a file that stands for no graph these are
+the walks that its links rise and fall by. The output has the number of runs, how they ended, crashes, hangs (no end within 30 seconds), answers that differ, and the
 greatest resident size, also for each byte of the longest input. Each finding is kept in out/fuzz, and the exit status is 1.
 A graph of more than 2,000 nodes with pairs to answer is left out, since its memory is by its nodes.
 
@@ -48,20 +48,21 @@ DIGITS += [b"134217729", b"18446744073709551616", b"9" * 5000, b"-1", b"x", b"1.
 # Well made hierarchies
 
 
-def detours(nodes):
+def detours(nodes, version):
     """Each node but the first is joined with the next over the first, so a walk along all of them comes there often."""
     spokes = [(0, node, 1, 1, plain.NONE) for node in range(2, nodes)]
     spokes += [(node, 0, 1, 1, plain.NONE) for node in range(1, nodes - 1)]
     steps = [(node, node + 1, 2, 2, 0) for node in range(1, nodes - 1)]
-    return spelled(range(nodes), sorted(spokes + steps), 2 * (nodes - 2))
+    return spelled(range(nodes), sorted(spokes + steps), 2 * (nodes - 2), version)
 
 
 def drawn_hierarchy(draw):
     """A well made hierarchy, most likely right for no graph. In most, many walks are as long as others with more arcs."""
-    nodes = draw.choice([0, 1, 2, 3, 4, 6, 10, 16])
+    nodes, version = draw.choice([0, 1, 2, 3, 4, 6, 10, 16]), draw.choice([1, 2])
     ranks = draw.sample(range(nodes), nodes)
     bound = max(nodes - 1, 0) * draw.choice([1, 7, 40, plain.HEAVIEST])
-    most = min(draw.choice([0, 1, 3, bound]), bound)
+    least = 1 if version == 1 else 0
+    most = max(min(draw.choice([0, 1, 3, bound]), bound), least)
     ends = [(start, end) for start in range(nodes) for end in range(nodes) if start != end and draw.random() < 0.6]
     costs, links = {}, []
     for start, end in sorted(ends, key=lambda pair: min(ranks[pair[0]], ranks[pair[1]])):
@@ -76,32 +77,39 @@ def drawn_hierarchy(draw):
             middle = draw.choice(list(sums))
         else:
             middle = plain.NONE
-            sums[middle] = draw.randint(0, most), 1
+            sums[middle] = draw.randint(least, most), version - 1
         costs[start, end] = sums[middle]
         links.append((start, end, *sums[middle], middle))
-    return spelled(ranks, sorted(links), bound)
+    return spelled(ranks, sorted(links), bound, version)
 
 
 # Changes
 
 
+def link_bytes(data):
+    """How many bytes a link of this file has, by the version that it tells."""
+    return LINK_BYTES[1 if data[3:4] == b"1" else 2]
+
+
 def changed_bytes(draw, data):
-    data = bytearray(data)
+    data, size = bytearray(data), link_bytes(data)
     for _ in range(draw.choice([0, 1, 1, 1, 2, 4, 8])):
         at = draw.randrange(len(data) + 1)
-        kind = draw.randrange(7)
+        kind = draw.randrange(8)
         if kind == 0:
             data[at : at + 1] = bytes([draw.randrange(256)])
         elif kind == 1 and data:
             data[at % len(data)] ^= 1 << draw.randrange(8)
         elif kind == 2:
-            del data[at : at + draw.choice([1, 4, LINK_BYTES])]
+            del data[at : at + draw.choice([1, 4, size])]
         elif kind == 3:
-            data[at:at] = data[at : at + draw.choice([1, 4, LINK_BYTES])]
+            data[at:at] = data[at : at + draw.choice([1, 4, size])]
         elif kind == 4:
             del data[at:]
         elif kind == 5:
-            data += bytes(draw.randrange(256) for _ in range(draw.choice([1, 4, LINK_BYTES])))
+            data += bytes(draw.randrange(256) for _ in range(draw.choice([1, 4, size])))
+        elif kind == 6:
+            data[3:4] = draw.choice([b"1", b"2", b"3"])
         else:
             other = draw.randrange(len(data) + 1)
             data[at : at + 1], data[other : other + 1] = data[other : other + 1], data[at : at + 1]
@@ -131,12 +139,12 @@ def changed_numbers(draw, data):
 
 def change_links(draw, data, is_exchange):
     """Exchanges two whole links, or takes one out, where there are any."""
-    begin = HEAD_BYTES + 4 * int.from_bytes(data[4:8], "big")
-    count = max((len(data) - begin) // LINK_BYTES, 0)
+    begin, size = HEAD_BYTES + 4 * int.from_bytes(data[4:8], "big"), link_bytes(data)
+    count = max((len(data) - begin) // size, 0)
     if count == 0:
         return
-    one, two = (begin + LINK_BYTES * draw.randrange(count) for _ in range(2))
-    first, second = slice(one, one + LINK_BYTES), slice(two, two + LINK_BYTES)
+    one, two = (begin + size * draw.randrange(count) for _ in range(2))
+    first, second = slice(one, one + size), slice(two, two + size)
     if is_exchange:
         data[first], data[second] = data[second], data[first]
     else:
@@ -221,14 +229,16 @@ def least_arcs(arcs):
 
 
 def is_line(line, source, target, cost, is_walk):
-    """Whether an answer line is right where the least walk has this length and so many arcs, or there is none."""
+    """Whether an answer line is right where the least walk has this length and so many arcs, or any number for none of
+    them, or where there is no walk."""
     if cost is None:
         return line == b"n %d %d" % (source, target)
     fields = line.split(b" ")
-    if fields[:5] != [b"r", b"%d" % source, b"%d" % target, b"%d" % cost[0], b"%d" % cost[1]]:
+    length, arcs = cost[0], len(fields) - 6 if cost[1] is None else cost[1]
+    if fields[:5] != [b"r", b"%d" % source, b"%d" % target, b"%d" % length, b"%d" % arcs]:
         return False
     nodes = [int(field) for field in fields[5:]]
-    return len(nodes) == cost[1] + 1 and (nodes[0], nodes[-1]) == (source, target) and is_walk(nodes, cost)
+    return len(nodes) == arcs + 1 and (nodes[0], nodes[-1]) == (source, target) and is_walk(nodes, length)
 
 
 def is_routed(hierarchy, pairs, status, written, told):
@@ -238,17 +248,21 @@ def is_routed(hierarchy, pairs, status, written, told):
     if lines.pop() != b"" or len(lines) > len(pairs):
         return False
 
-    def is_walk(nodes, cost):
-        return len(nodes) <= routes.nodes and routes.is_route([node - 1 for node in nodes], cost)
+    def is_walk(nodes, length):
+        return len(nodes) <= routes.nodes and routes.is_route([node - 1 for node in nodes], length)
+
+    def cost_of(source, target):
+        cost = routes.value(source - 1, target - 1)
+        return cost if cost is None or hierarchy.version == 2 else (cost[0], None)
 
     for line, (source, target) in zip(lines, pairs):
-        if not is_line(line, source, target, routes.value(source - 1, target - 1), is_walk):
+        if not is_line(line, source, target, cost_of(source, target), is_walk):
             return False
     if len(lines) == len(pairs):
         return (status, told) == (0, b"")
     source, target = pairs[len(lines)]
-    cost = routes.value(source - 1, target - 1)
-    is_long = cost is not None and cost[1] >= routes.nodes
+    arcs = routes.most_arcs(source - 1, target - 1)
+    is_long = arcs is not None and arcs >= routes.nodes
     return is_long and (status, told) == (4, b"routecli: hierarchy: TooLong\n")
 
 
@@ -281,9 +295,9 @@ def is_right_answer(asked, status, written, told):
     least = least_arcs(arcs)
     lines = written.split(b"\n")
 
-    def is_walk(found, cost):
+    def is_walk(found, length):
         steps = list(zip(found, found[1:]))
-        return all(step in least for step in steps) and sum(least[step] for step in steps) == cost[0]
+        return all(step in least for step in steps) and sum(least[step] for step in steps) == length
 
     if (status, told, lines.pop(), len(lines)) != (0, b"", b"", len(pairs)):
         return False
@@ -363,8 +377,9 @@ def keep(command, inputs, ended):
 
 def corpus_in(folder):
     """Hierarchy files: detours, two nodes that are linked both ways, and some that `prepare` made."""
-    files = [detours(nodes) for nodes in (4, 8, 16, 38)]
-    files.append(spelled([0, 1], [(0, 1, 7, 1, plain.NONE), (1, 0, 7, 1, plain.NONE)], 7))
+    files = [detours(nodes, version) for nodes in (4, 8, 16, 38) for version in (1, 2)]
+    both_ways = [(0, 1, 7, 1, plain.NONE), (1, 0, 7, 1, plain.NONE)]
+    files += [spelled([0, 1], both_ways, 7, version) for version in (1, 2)]
     draw = random.Random(0)
     for _ in range(30):
         (folder / "graph").write_bytes(drawn_graph(draw))

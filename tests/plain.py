@@ -1,10 +1,13 @@
 """Slow and plain readers of the formats of docs/FORMATS.md, written from that page alone, and what the answers have to be.
 
 They share no code with `routecli` and nothing of its ways: each looks at the whole file or text again for each question.
-A cost is a pair (weight, arcs); Python orders pairs by the first number and then by the second, as costs are ordered.
+A cost is a pair (weight, arcs); Python orders pairs by the first number and then by the second, as costs are ordered. In
+files of version 1 the arcs are 0.
 """
 import heapq
 
+MAGICS = {1: b"RCH1", 2: b"RCH2"}
+LINK_BYTES = {1: 20, 2: 24}
 MOST_NODES = 1 << 25
 MOST_LINES = 1 << 27
 HEAVIEST = (1 << 32) - 1
@@ -16,10 +19,10 @@ class Refused(Exception):
 
 
 class Hierarchy:
-    """Ranks by node, the link of each pair as (cost, middle), and the greatest weight of a link."""
+    """The version, ranks by node, the link of each pair as (cost, middle), and the greatest weight of a link."""
 
-    def __init__(self, ranks, links, bound):
-        self.ranks, self.bound = ranks, bound
+    def __init__(self, version, ranks, links, bound):
+        self.version, self.ranks, self.bound = version, ranks, bound
         self.links = {(start, end): (cost, middle) for start, end, cost, middle in links}
 
 
@@ -36,9 +39,7 @@ def number(data, at, count):
 
 def hierarchy_of(data):
     """The hierarchy that the bytes spell, or their first fault."""
-    for place, byte in enumerate(b"RCH2"):
-        if number(data, place, 1) != byte:
-            raise Refused("BadMagic")
+    version = version_of(data)
     if len(data) < 24:
         raise Refused("Truncated")
     nodes, count, bound = number(data, 4, 4), number(data, 8, 8), number(data, 16, 8)
@@ -47,8 +48,8 @@ def hierarchy_of(data):
     if bound > max(nodes - 1, 0) * HEAVIEST:
         raise Refused("BoundTooBig")
     ranks = ranks_of(data, nodes)
-    links = links_of(data, ranks, count, bound)
-    hierarchy = Hierarchy(ranks, links, bound)
+    links = links_of(data, version, ranks, count, bound)
+    hierarchy = Hierarchy(version, ranks, links, bound)
     for start, end, cost, middle in links:
         if middle == NONE:
             continue
@@ -57,9 +58,18 @@ def hierarchy_of(data):
             raise Refused("HalfMissing")
         if plus(halves[0][0], halves[1][0]) != cost:
             raise Refused("HalfSum")
-    if len(data) > 24 + 4 * nodes + 24 * count:
+    if len(data) > 24 + 4 * nodes + LINK_BYTES[version] * count:
         raise Refused("Trailing")
     return hierarchy
+
+
+def version_of(data):
+    for length in range(1, 5):
+        if len(data) < length:
+            raise Refused("Truncated")
+        if not any(magic.startswith(data[:length]) for magic in MAGICS.values()):
+            raise Refused("BadMagic")
+    return next(version for version, magic in MAGICS.items() if data.startswith(magic))
 
 
 def ranks_of(data, nodes):
@@ -75,19 +85,20 @@ def ranks_of(data, nodes):
     return ranks
 
 
-def links_of(data, ranks, count, bound):
-    links = []
+def links_of(data, version, ranks, count, bound):
+    links, size = [], LINK_BYTES[version]
     for place in range(count):
-        at = 24 + 4 * len(ranks) + 24 * place
-        if len(data) < at + 24:
+        at = 24 + 4 * len(ranks) + size * place
+        if len(data) < at + size:
             raise Refused("Truncated")
         start, end = number(data, at, 4), number(data, at + 4, 4)
-        weight, arcs, middle = number(data, at + 8, 8), number(data, at + 16, 4), number(data, at + 20, 4)
+        weight, middle = number(data, at + 8, 8), number(data, at + size - 4, 4)
+        arcs = number(data, at + 16, 4) if version == 2 else 0
         if start >= len(ranks) or end >= len(ranks) or start == end:
             raise Refused("LinkEnds")
         if links and (start, end) <= links[-1][:2]:
             raise Refused("LinkOrder")
-        if weight > bound or not 1 <= arcs < len(ranks) or (middle == NONE and arcs != 1):
+        if weight > bound or not does_count(version, weight, arcs, middle, len(ranks)):
             raise Refused("LinkWeight")
         if middle != NONE:
             if middle >= len(ranks):
@@ -98,40 +109,68 @@ def links_of(data, ranks, count, bound):
     return links
 
 
+def does_count(version, weight, arcs, middle, nodes):
+    """Whether a link counts what its version wants: some weight, or some arcs and one where there is no middle."""
+    if version == 1:
+        return weight >= 1
+    return 1 <= arcs < nodes and (middle != NONE or arcs == 1)
+
+
 class Routes:
     """The least rise-fall walks of a hierarchy."""
 
     def __init__(self, hierarchy):
         self.hierarchy, self.nodes = hierarchy, len(hierarchy.ranks)
 
-    def climb(self, source, is_forward):
-        """The least cost of each node that is come to by rising alone."""
+    def climb(self, source, is_forward, costs):
+        """The least cost of each node that is come to by rising alone, where links cost so much."""
         ranks, best = self.hierarchy.ranks, {source: (0, 0)}
         for node in sorted(range(self.nodes), key=lambda node: ranks[node]):
             if node not in best:
                 continue
-            for (start, end), (cost, _) in self.hierarchy.links.items():
+            for (start, end), cost in costs.items():
                 here, there = (start, end) if is_forward else (end, start)
                 if here == node and ranks[there] > ranks[node]:
                     found = plus(best[node], cost)
                     best[there] = min(found, best.get(there, found))
         return best
 
-    def value(self, source, target):
-        """The least cost of a walk whose weight is within the bound, or none. It may have as many arcs as it will."""
-        up, down = self.climb(source, True), self.climb(target, False)
+    def least(self, source, target, costs):
+        """The least cost of a walk whose weight is within the bound, where links cost so much, or none."""
+        up, down = self.climb(source, True, costs), self.climb(target, False, costs)
         found = [plus(up[top], down[top]) for top in up if top in down]
         return min((cost for cost in found if cost[0] <= self.hierarchy.bound), default=None)
 
-    def is_route(self, nodes, cost):
-        """Whether links without a middle join these nodes, at this cost."""
-        found = (0, 0)
+    def value(self, source, target):
+        """The least cost of a walk whose weight is within the bound, or none. It may have as many arcs as it will."""
+        return self.least(source, target, {ends: cost for ends, (cost, _) in self.hierarchy.links.items()})
+
+    def arcs(self):
+        """How many links without a middle each link stands for."""
+        ranks, links, arcs = self.hierarchy.ranks, self.hierarchy.links, {}
+        for start, end in sorted(links, key=lambda ends: min(ranks[ends[0]], ranks[ends[1]])):
+            _, middle = links[start, end]
+            arcs[start, end] = 1 if middle == NONE else arcs[start, middle] + arcs[middle, end]
+        return arcs
+
+    def most_arcs(self, source, target):
+        """Of all walks of the least cost, the most links without a middle that one stands for, or none."""
+        arcs, links = self.arcs(), self.hierarchy.links
+        if self.hierarchy.version == 1:
+            found = self.least(source, target, {ends: (cost[0], -arcs[ends]) for ends, (cost, _) in links.items()})
+            return None if found is None else -found[1]
+        found = self.least(source, target, {ends: (cost[0], arcs[ends]) for ends, (cost, _) in links.items()})
+        return None if found is None else found[1]
+
+    def is_route(self, nodes, length):
+        """Whether links without a middle join these nodes, at this length."""
+        found = 0
         for start, end in zip(nodes, nodes[1:]):
             step, middle = self.hierarchy.links.get((start, end), (None, None))
             if middle != NONE:
                 return False
-            found = plus(found, step)
-        return found == cost
+            found += step[0]
+        return found == length
 
 
 def lines_of(text):

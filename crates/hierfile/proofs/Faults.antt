@@ -1,12 +1,12 @@
 -- How faults of parts are faults of the whole.
-use Rattle.std.proofs.Common.{ℕ, zero, suc, ◌≡◌, ◌+◌, ◌<◌, ◌≤◌, List, ◌++◌, length, Option, None, Some, Result, Ok, Err, sym, refl, subst, arith, inl, inr, length-append}
+use Rattle.std.proofs.Common.{ℕ, zero, suc, ◌≡◌, ◌+◌, ◌<◌, ◌≤◌, Bool, true, false, List, ◌++◌, length, Option, None, Some, Result, Ok, Err, sym, refl, subst, arith, inl, inr, length-append}
 use Rattle.std.specs.Prelude.{IfErr, IfSome, IsErrAnd, OnErr}
 use Rattle.std.specs.Io.KnownBytes.{Consumes}
 use Rattle.std.proofs.lemmas.Bool.{cases_lt}
 use Rattle.std.proofs.lemmas.Bool.Decides.{nat_tests}
 use Rattle.hierfile.specs.declared.error.HierError.{HierError}
 use Rattle.hierfile.specs.declared.error.HierError.TheVariants.{OutOfMemory, Read, BadMagic, Truncated, TooBig, BoundTooBig, RankRange, RankTwice, LinkEnds, LinkOrder, LinkWeight, MiddleRange, MiddleRank, HalfMissing, HalfSum, Trailing}
-use Rattle.hierfile.specs.Fault.{◌otherwise◌, first_below, cut}
+use Rattle.hierfile.specs.Fault.{◌otherwise◌, fault_if, first_below, cut}
 use Rattle.hierfile.specs.Bytes.{OfBytes, IsFaultOf, NoneBelow}
 
 -- Parts and the whole
@@ -45,6 +45,11 @@ first_at (suc n) i fault_at {e} less before is = elim (cases_lt i n) [
   | inl l ↦ earlier (fault_at n) (first_at n i fault_at l before is)
   | inr g ↦ let same : i ≡ n = omega arith in later (none_below n fault_at (subst (λ m. NoneBelow m fault_at) same before)) (subst (λ m. fault_at m ≡ Some e) same is)
 ]
+
+-- a test that finds nothing
+pub unfound : (b : Bool) (e : HierError) → b ≡ false → fault_if b e ≡ None
+unfound true e h = absurd (cc)
+unfound false e h = refl
 
 -- Missing bytes
 

@@ -1,5 +1,5 @@
 -- Links in rising order are at most one for each pair of different nodes.
-use Rattle.std.proofs.Common.{ℕ, zero, suc, ◌≡◌, ◌≢◌, ◌+◌, ◌-◌, ◌*◌, ◌<◌, ◌≤◌, List, [], ◌∷◌, length, get_or, All, AllPairs, inl, inr, arith}
+use Rattle.std.proofs.Common.{ℕ, zero, suc, ◌≡◌, ◌≢◌, ◌+◌, ◌-◌, ◌*◌, ◌^◌, ◌<◌, ◌≤◌, List, [], ◌∷◌, length, get_or, All, AllPairs, inl, inr, arith}
 use Rattle.std.specs.Prelude.{min}
 use Rattle.std.proofs.lemmas.Nat.{mul-le}
 use Rattle.ch_graph.specs.declared.link.Link.{Link}
@@ -76,3 +76,10 @@ few_for h (suc m) made e =
 -- a well made hierarchy has at most one link for each pair of different nodes
 pub few_links : (h : Hierarchy) → IsWellMade h → length h.links ≤ length h.ranks * (length h.ranks - 1)
 few_links h made = few_for h (length h.ranks) made (omega arith)
+
+-- and eight bytes tell how many there are
+pub few_enough : (h : Hierarchy) → IsWellMade h → length h.links < 2 ^ 64
+few_enough h made =
+    let few : length h.links ≤ length h.ranks * (length h.ranks - 1) = few_links h made in
+    let most : length h.ranks * (length h.ranks - 1) ≤ 2 ^ 25 * 2 ^ 25 = mul-le (length h.ranks) (length h.ranks - 1) (2 ^ 25) (2 ^ 25) made.few_nodes (omega (arith, made.few_nodes)) in
+    omega arith

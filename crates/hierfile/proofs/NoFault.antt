@@ -6,32 +6,27 @@ use Rattle.std.proofs.lemmas.Bool.Decides.{nat_tests}
 use Rattle.std.proofs.lemmas.Grind.{get_or_default_zero}
 use Rattle.std.proofs.lemmas.List.{length-take-le, get_or-take, get_or_default}
 use Rattle.std.proofs.lemmas.List.Folds.{list_any_none}
-use Rattle.std.proofs.lemmas.Nat.{mul-le}
 use Rattle.ch_cost.specs.declared.cost.Cost.{Cost}
 use Rattle.ch_cost.specs.Cost.{zero_cost, ◌⊕◌, cost_of_arcs, length_of, arcs_of, same}
 use Rattle.ch_cost.specs.Cost.Laws.{same-from_equal}
 use Rattle.ch_cost.specs.Cost.Numbers.{length_of-cost_of_arcs, lengths-from_within, arcs-from_within}
 use Rattle.ch_graph.specs.declared.link.Link.{Link}
 use Rattle.ch_graph.specs.declared.version.Version.{Version}
-use Rattle.ch_graph.specs.Hierarchy.{Hierarchy, IsWellMade, IsLinkWellMade, Counts, CountsArcs, IsLink, IsLinkAt, ComesBefore}
+use Rattle.ch_graph.specs.declared.version.Version.TheVariants.{One, Two}
+use Rattle.ch_graph.specs.Hierarchy.{Hierarchy, IsWellMade, IsLinkWellMade, Counts, IsLink, IsLinkAt, ComesBefore}
 use Rattle.hierfile.specs.declared.error.HierError.{HierError}
 use Rattle.hierfile.specs.declared.error.HierError.TheVariants.{LinkEnds, LinkOrder, LinkWeight, MiddleRange, MiddleRank, HalfSum, TooBig, BoundTooBig, RankRange, RankTwice}
-use Rattle.hierfile.specs.Spelling.{magic, word, link_bytes, head_bytes, bound_in, bytes_of, IsOfFile}
-use Rattle.hierfile.specs.Fault.{fault_if, size_fault, rank_test, rank_fault, has_weight, link_fault, link_fault_at, middle_fault, is_before, is_in_order, half_fault, halves_fault, sum_fault, leads, first_along, body_fault, first_fault}
+use Rattle.hierfile.specs.Spelling.{magic_of, word, link_bytes, head_bytes, bound_in, bytes_of}
+use Rattle.hierfile.specs.Fault.{size_fault, rank_test, rank_fault, does_count, has_weight, link_fault, link_fault_at, middle_fault, is_before, is_in_order, half_fault, halves_fault, sum_fault, leads, first_along, body_fault, first_fault}
 use Rattle.hierfile.specs.Bytes.{NoneBelow}
-use Rattle.hierfile.proofs.Faults.{neither}
+use Rattle.hierfile.proofs.Faults.{neither, unfound}
 use Rattle.hierfile.proofs.Halves.{find-at}
 use Rattle.hierfile.proofs.Heads.{sizes}
 use Rattle.hierfile.proofs.WellMade.{slice_get-at}
 use Rattle.hierfile.proofs.Bodies.{body_after_links}
 use Rattle.hierfile.proofs.Whole.{first_fault-sizes}
 use Rattle.hierfile.proofs.OneSpelling.{bound_fits, bound_is, links_fit}
-use Rattle.hierfile.proofs.FewLinks.{few_links}
-
--- a test that finds nothing
-unfound : (b : Bool) (e : HierError) → b ≡ false → fault_if b e ≡ None
-unfound true e h = absurd (cc)
-unfound false e h = refl
+use Rattle.hierfile.proofs.FewLinks.{few_links, few_enough}
 
 -- Sizes
 
@@ -85,22 +80,32 @@ some_or_one : (m : Option ℕ) (a : ℕ) → (m ≡ None → a ≡ 1) → (is_so
 some_or_one None a one = let is : a ≡ 1 = one refl in grind (arith, nat_tests)
 some_or_one (Some m) a one = refl
 
-numbers_fine : (w b a n : ℕ) (e : Bool) → w ≤ b → a ≤ n → 0 < a → e ≡ true → (nat_le w b && nat_le a n && nat_lt 0 a && e) ≡ true
-numbers_fine w b a n e h k some is = grind (arith, nat_tests)
+-- a link that counts what the version wants
+count_fine : (v : Version) (l : Link) → Counts v l → does_count v l ≡ true
+count_fine One l counts = weighs (length_of l.cost) (arcs_of l.cost) counts.some counts.none
+  where
+    weighs : (w a : ℕ) → 0 < w → a ≡ 0 → (nat_lt 0 w && a == 0) ≡ true
+    weighs w a some none = grind (arith, nat_tests)
+count_fine Two l counts = goes (arcs_of l.cost) (is_some l.middle || arcs_of l.cost == 1) counts.some (some_or_one l.middle (arcs_of l.cost) counts.one)
+  where
+    goes : (a : ℕ) (e : Bool) → 0 < a → e ≡ true → (nat_lt 0 a && e) ≡ true
+    goes a e some is = grind (arith, nat_tests)
 
-weight_fine : (bound : Cost) (l : Link) → length_of l.cost ≤ length_of bound → arcs_of l.cost ≤ arcs_of bound → CountsArcs l → has_weight bound l ≡ true
+numbers_fine : (w b a n : ℕ) (e : Bool) → w ≤ b → a ≤ n → e ≡ true → (nat_le w b && nat_le a n && e) ≡ true
+numbers_fine w b a n e h k is = grind (arith, nat_tests)
+
+weight_fine : (v : Version) (bound : Cost) (l : Link) → length_of l.cost ≤ length_of bound → arcs_of l.cost ≤ arcs_of bound → Counts v l → has_weight v bound l ≡ true
 unfolding has_weight
-weight_fine bound l within few counts =
-    numbers_fine (length_of l.cost) (length_of bound) (arcs_of l.cost) (arcs_of bound) (is_some l.middle || arcs_of l.cost == 1) within few counts.some (some_or_one l.middle (arcs_of l.cost) counts.one)
+weight_fine v bound l within few counts = numbers_fine (length_of l.cost) (length_of bound) (arcs_of l.cost) (arcs_of bound) (does_count v l) within few (count_fine v l counts)
 
 false_from_true : (b : Bool) → b ≡ true → not b ≡ false
 false_from_true true h = refl
 false_from_true false h = absurd (cc)
 
-link_none : (ranks : List ℕ) (bound : Cost) (earlier : Option Link) (l : Link) → l.from < length ranks → l.to < length ranks → l.from ≢ l.to → is_in_order earlier l ≡ true
-    → has_weight bound l ≡ true → middle_fault ranks l.from l.to l.middle ≡ None → link_fault ranks bound earlier l ≡ None
+link_none : (v : Version) (ranks : List ℕ) (bound : Cost) (earlier : Option Link) (l : Link) → l.from < length ranks → l.to < length ranks → l.from ≢ l.to → is_in_order earlier l ≡ true
+    → has_weight v bound l ≡ true → middle_fault ranks l.from l.to l.middle ≡ None → link_fault v ranks bound earlier l ≡ None
 unfolding link_fault
-link_none ranks bound earlier l from_in to_in apart ordered weighs middle =
+link_none v ranks bound earlier l from_in to_in apart ordered weighs middle =
     neither (neither (neither (unfound _ LinkEnds (ends_fine (length ranks) l.from l.to from_in to_in apart)) (unfound _ LinkOrder (false_from_true _ ordered)))
     (unfound _ LinkWeight (false_from_true _ weighs))) middle
 
@@ -135,20 +140,18 @@ middle_none h l (Some m) is made fine =
     let rank : ℕ → ℕ = slice_index h.ranks in
     neither (unfound _ MiddleRange (not_high (length h.ranks) m low)) (unfound _ MiddleRank (middle_low (rank m) (rank l.from) (rank l.to) halves.2.below_from halves.2.below_to))
 
-link_none_at : (h : Hierarchy) (k : ℕ) (d : Link) → IsOfFile h → k < length h.links → link_fault h.ranks h.bound (slice_get (take k h.links) (k - 1)) (get_or h.links k d) ≡ None
-link_none_at h k d of_file less =
-    let made : IsWellMade h = of_file.made in
+link_none_at : (h : Hierarchy) (k : ℕ) (d : Link) → IsWellMade h → k < length h.links → link_fault h.version h.ranks h.bound (slice_get (take k h.links) (k - 1)) (get_or h.links k d) ≡ None
+link_none_at h k d made less =
     let l : Link = get_or h.links k d in
     let fine : IsLinkWellMade h l = made.links k d less in
-    let counts : CountsArcs l = subst (λ (v : Version). Counts v l) of_file.version fine.counts in
-    let weighs : has_weight h.bound l ≡ true = weight_fine h.bound l (lengths-from_within l.cost h.bound fine.within) (arcs-from_within l.cost h.bound fine.within) counts in
-    link_none h.ranks h.bound (slice_get (take k h.links) (k - 1)) l fine.from_in fine.to_in fine.apart (ordered_at h.links k d made.sorted less) weighs (middle_none h l l.middle refl made fine)
+    let weighs : has_weight h.version h.bound l ≡ true = weight_fine h.version h.bound l (lengths-from_within l.cost h.bound fine.within) (arcs-from_within l.cost h.bound fine.within) fine.counts in
+    link_none h.version h.ranks h.bound (slice_get (take k h.links) (k - 1)) l fine.from_in fine.to_in fine.apart (ordered_at h.links k d made.sorted less) weighs (middle_none h l l.middle refl made fine)
 
-links_none : (h : Hierarchy) → IsOfFile h → NoneBelow (length h.links) (link_fault_at h.ranks h.bound h.links)
-links_none h of_file k less =
+links_none : (h : Hierarchy) → IsWellMade h → NoneBelow (length h.links) (link_fault_at h.version h.ranks h.bound h.links)
+links_none h made k less =
     let d : Link = record { from = 0; to = 0; cost = zero_cost; middle = None } in
     let earlier : Option Link = slice_get (take k h.links) (k - 1) in
-    subst (λ (o : Option Link). option_and_then (link_fault h.ranks h.bound earlier) o ≡ None) (sym (slice_get-at h.links k d less)) (link_none_at h k d of_file less)
+    subst (λ (o : Option Link). option_and_then (link_fault h.version h.ranks h.bound earlier) o ≡ None) (sym (slice_get-at h.links k d less)) (link_none_at h k d made less)
 
 -- Halves
 
@@ -183,31 +186,24 @@ none_along f (l ∷ ls) all = neither (all 0 l (omega arith)) (none_along f ls (
 -- The whole
 
 body : Hierarchy → List ℕ
-body h = flat_map word h.ranks ++ flat_map link_bytes h.links
+body h = flat_map word h.ranks ++ flat_map (link_bytes h.version) h.links
 
-body_none : (h : Hierarchy) → IsOfFile h → body_fault (length h.ranks) (length h.links) (length_of h.bound) (body h) ≡ None
+body_none : (h : Hierarchy) → IsWellMade h → body_fault h.version (length h.ranks) (length h.links) (length_of h.bound) (body h) ≡ None
 unfolding body
-body_none h of_file =
-    let made : IsWellMade h = of_file.made in
+body_none h made =
+    let v : Version = h.version in
     let n : ℕ = length h.ranks in
     let k : ℕ = length h.links in
     let b : ℕ = length_of h.bound in
-    let links : NoneBelow k (link_fault_at h.ranks (bound_in n b) h.links) = subst (λ (c : Cost). NoneBelow k (link_fault_at h.ranks c h.links)) (sym (bound_is h of_file)) (links_none h of_file) in
+    let links : NoneBelow k (link_fault_at v h.ranks (bound_in v n b) h.links) = subst (λ (c : Cost). NoneBelow k (link_fault_at v h.ranks c h.links)) (sym (bound_is h made)) (links_none h made) in
     let halves : first_along (half_fault h.links) h.links ≡ None = none_along (half_fault h.links) h.links (λ i d less. half_none h (get_or h.links i d) made (made.links i d less)) in
-    ap (body_fault n k b) (sym (append-nil (body h))) ∙ body_after_links n k b h.ranks h.links [] (omega (arith, made.few_nodes)) refl (ranks_none h made) refl (links_fit h made) links ∙ neither halves refl
+    ap (body_fault v n k b) (sym (append-nil (body h))) ∙ body_after_links v n k b h.ranks h.links [] (omega (arith, made.few_nodes)) refl (ranks_none h made) refl (links_fit h made) links ∙ neither halves refl
 
-few_enough : (h : Hierarchy) → IsWellMade h → length h.links < 2 ^ 64
-few_enough h made =
-    let few : length h.links ≤ length h.ranks * (length h.ranks - 1) = few_links h made in
-    let most : length h.ranks * (length h.ranks - 1) ≤ 2 ^ 25 * 2 ^ 25 = mul-le (length h.ranks) (length h.ranks - 1) (2 ^ 25) (2 ^ 25) made.few_nodes (omega (arith, made.few_nodes)) in
-    omega arith
-
-pub no_fault : (h : Hierarchy) → IsOfFile h → first_fault (bytes_of h) ≡ None
+pub no_fault : (h : Hierarchy) → IsWellMade h → first_fault (bytes_of h) ≡ None
 unfolding body head_bytes
-no_fault h of_file =
-    let made : IsWellMade h = of_file.made in
+no_fault h made =
     let n : ℕ = length h.ranks in
     let k : ℕ = length h.links in
     let b : ℕ = length_of h.bound in
-    ap first_fault (append_assoc (magic ++ sizes n k b) (flat_map word h.ranks) (flat_map link_bytes h.links))
-    ∙ first_fault-sizes n k b (body h) (omega (arith, made.few_nodes)) (few_enough h made) (omega (arith, bound_fits h made)) ∙ neither (sizes_none h made) (body_none h of_file)
+    ap first_fault (append_assoc (magic_of h.version ++ sizes n k b) (flat_map word h.ranks) (flat_map (link_bytes h.version) h.links))
+    ∙ first_fault-sizes h.version n k b (body h) (omega (arith, made.few_nodes)) (few_enough h made) (omega (arith, bound_fits h made)) ∙ neither (sizes_none h made) (body_none h made)

@@ -6,10 +6,13 @@ use Rattle.std.proofs.lemmas.Bool.Decides.{nat_tests}
 use Rattle.std.proofs.lemmas.List.{take-append-drop, drop-drop}
 use Rattle.std.proofs.lemmas.List.Elements.{All-drop}
 use Rattle.std.proofs.lemmas.Nat.{be_bytes_4, be_bytes_8}
+use Rattle.std.proofs.Math.Nat.{mul-suc}
 use Rattle.ch_cost.specs.declared.cost.Cost.{Cost}
 use Rattle.ch_cost.specs.Cost.{length_of, arcs_of, of_walk}
 use Rattle.ch_cost.specs.Cost.Numbers.{length_of-of_walk, arcs_of-of_walk}
-use Rattle.hierfile.specs.Spelling.{word, long, link_bytes, middle_number, middle_in, word_in, long_in, link_in, words_in, links_in}
+use Rattle.ch_graph.specs.declared.version.Version.{Version}
+use Rattle.ch_graph.specs.declared.version.Version.TheVariants.{One, Two}
+use Rattle.hierfile.specs.Spelling.{word, long, arcs_bytes, arcs_size, link_bytes, link_size, middle_number, middle_in, word_in, long_in, arcs_in, link_in, words_in, links_in}
 use Rattle.hierfile.proofs.Buffer.{first_four, first_eight, four_fit, eight_fit}
 use Rattle.hierfile.proofs.Heads.{sizes}
 
@@ -75,26 +78,34 @@ number_in-middle m =
 four : (a b c d rest : List ℕ) → (((a ++ b) ++ c) ++ d) ++ rest ≡ a ++ (b ++ (c ++ (d ++ rest)))
 four a b c d rest = append_assoc ((a ++ b) ++ c) d rest ∙ three a b c (d ++ rest)
 
+-- the arcs of a link
+arcs_front : (v : Version) (bytes : List ℕ) → link_size v ≤ length bytes → AreBytes bytes → arcs_bytes v (arcs_in v (drop 16 bytes)) ++ drop (16 + arcs_size v) bytes ≡ drop 16 bytes
+arcs_front One bytes room all = refl
+arcs_front Two bytes room all = word_front 16 bytes (drop 20 bytes) (omega arith) all refl
+
 -- a link
-respelled_link : (bytes : List ℕ) → 24 ≤ length bytes → AreBytes bytes → link_bytes (link_in bytes) ++ drop 24 bytes ≡ bytes
+respelled_link : (v : Version) (bytes : List ℕ) → link_size v ≤ length bytes → AreBytes bytes → link_bytes v (link_in v bytes) ++ drop (link_size v) bytes ≡ bytes
 unfolding link_bytes link_in
-respelled_link bytes room all =
+respelled_link v bytes room all =
+    let behind : List ℕ = drop (link_size v) bytes in
+    let at : ℕ = 16 + arcs_size v in
     let a : List ℕ = word (word_in bytes) in
     let b : List ℕ = word (word_in (drop 4 bytes)) in
     let c : List ℕ = long (long_in (drop 8 bytes)) in
-    let d : List ℕ = word (word_in (drop 16 bytes)) in
-    let cost : Cost = of_walk (long_in (drop 8 bytes)) (word_in (drop 16 bytes)) in
-    let end : List ℕ = word (middle_number (middle_in (word_in (drop 20 bytes)))) in
-    let length : long (length_of cost) ≡ c = ap long (length_of-of_walk (long_in (drop 8 bytes)) (word_in (drop 16 bytes))) in
-    let arcs : word (arcs_of cost) ≡ d = ap word (arcs_of-of_walk (long_in (drop 8 bytes)) (word_in (drop 16 bytes))) in
-    let middle : end ≡ word (word_in (drop 20 bytes)) = ap word (number_in-middle (word_in (drop 20 bytes))) in
-    ap (λ l. ((((a ++ b) ++ l) ++ word (arcs_of cost)) ++ end) ++ drop 24 bytes) length
-    ∙ ap (λ l. ((((a ++ b) ++ c) ++ l) ++ end) ++ drop 24 bytes) arcs
-    ∙ ap (λ l. ((((a ++ b) ++ c) ++ d) ++ l) ++ drop 24 bytes) middle
-    ∙ append_assoc (((a ++ b) ++ c) ++ d) (word (word_in (drop 20 bytes))) (drop 24 bytes)
-    ∙ ap (λ l. (((a ++ b) ++ c) ++ d) ++ l) (word_front 20 bytes (drop 24 bytes) (omega arith) all refl)
-    ∙ four a b c d (drop 20 bytes)
-    ∙ ap (λ l. a ++ (b ++ (c ++ l))) (word_front 16 bytes (drop 20 bytes) (omega arith) all refl)
+    let d : List ℕ = arcs_bytes v (arcs_in v (drop 16 bytes)) in
+    let cost : Cost = of_walk (long_in (drop 8 bytes)) (arcs_in v (drop 16 bytes)) in
+    let end : List ℕ = word (middle_number (middle_in (word_in (drop at bytes)))) in
+    let length : long (length_of cost) ≡ c = ap long (length_of-of_walk (long_in (drop 8 bytes)) (arcs_in v (drop 16 bytes))) in
+    let arcs : arcs_bytes v (arcs_of cost) ≡ d = ap (arcs_bytes v) (arcs_of-of_walk (long_in (drop 8 bytes)) (arcs_in v (drop 16 bytes))) in
+    let middle : end ≡ word (word_in (drop at bytes)) = ap word (number_in-middle (word_in (drop at bytes))) in
+    let last : drop (at + 4) bytes ≡ behind = let whole : at + 4 ≡ link_size v = omega arith in ap (λ n. drop n bytes) whole in
+    ap (λ l. ((((a ++ b) ++ l) ++ arcs_bytes v (arcs_of cost)) ++ end) ++ behind) length
+    ∙ ap (λ l. ((((a ++ b) ++ c) ++ l) ++ end) ++ behind) arcs
+    ∙ ap (λ l. ((((a ++ b) ++ c) ++ d) ++ l) ++ behind) middle
+    ∙ append_assoc (((a ++ b) ++ c) ++ d) (word (word_in (drop at bytes))) behind
+    ∙ ap (λ l. (((a ++ b) ++ c) ++ d) ++ l) (word_front at bytes behind (omega arith) all last)
+    ∙ four a b c d (drop at bytes)
+    ∙ ap (λ l. a ++ (b ++ (c ++ l))) (arcs_front v bytes room all)
     ∙ ap (λ l. a ++ (b ++ l)) (long_front 8 bytes (drop 16 bytes) (omega arith) all refl)
     ∙ ap (λ l. a ++ l) (word_front 4 bytes (drop 8 bytes) (omega arith) all refl)
     ∙ word_front 0 bytes (drop 4 bytes) (omega arith) all refl
@@ -105,9 +116,9 @@ pub length-words_in : (n : ℕ) (bytes : List ℕ) → length (words_in n bytes)
 length-words_in zero bytes = refl
 length-words_in (suc n) bytes = omega (arith, length-words_in n (drop 4 bytes))
 
-pub length-links_in : (n : ℕ) (bytes : List ℕ) → length (links_in n bytes) ≡ n
-length-links_in zero bytes = refl
-length-links_in (suc n) bytes = omega (arith, length-links_in n (drop 24 bytes))
+pub length-links_in : (v : Version) (n : ℕ) (bytes : List ℕ) → length (links_in v n bytes) ≡ n
+length-links_in v zero bytes = refl
+length-links_in v (suc n) bytes = omega (arith, length-links_in v n (drop (link_size v) bytes))
 
 behind : (m n total : ℕ) (bytes : List ℕ) → total ≡ m + n → drop total bytes ≡ drop n (drop m bytes)
 behind m n total bytes e = ap (λ k. drop k bytes) e ∙ sym (drop-drop n m bytes)
@@ -123,13 +134,15 @@ respelled_words (suc n) bytes room all =
     ∙ ap (λ l. w ++ l) (respelled_words n more (omega (arith, length-drop 4 bytes)) (behind_bytes 4 bytes all))
     ∙ word_front 0 bytes more (omega arith) all refl
 
-pub respelled_links : (n : ℕ) (bytes : List ℕ) → 24 * n ≤ length bytes → AreBytes bytes → flat_map link_bytes (links_in n bytes) ++ drop (24 * n) bytes ≡ bytes
-respelled_links zero bytes room all = refl
-respelled_links (suc n) bytes room all =
-    let l : List ℕ = link_bytes (link_in bytes) in
-    let more : List ℕ = drop 24 bytes in
-    let links : List ℕ = flat_map link_bytes (links_in n more) in
-    append_assoc l links (drop (24 * suc n) bytes)
-    ∙ ap (λ r. l ++ (links ++ r)) (behind 24 (24 * n) (24 * suc n) bytes (omega arith))
-    ∙ ap (λ r. l ++ r) (respelled_links n more (omega (arith, length-drop 24 bytes)) (behind_bytes 24 bytes all))
-    ∙ respelled_link bytes (omega arith) all
+pub respelled_links : (v : Version) (n : ℕ) (bytes : List ℕ) → link_size v * n ≤ length bytes → AreBytes bytes → flat_map (link_bytes v) (links_in v n bytes) ++ drop (link_size v * n) bytes ≡ bytes
+respelled_links v zero bytes room all = let none : link_size v * 0 ≡ 0 = omega arith in ap (λ n. drop n bytes) none
+respelled_links v (suc n) bytes room all =
+    let size : ℕ = link_size v in
+    let l : List ℕ = link_bytes v (link_in v bytes) in
+    let more : List ℕ = drop size bytes in
+    let links : List ℕ = flat_map (link_bytes v) (links_in v n more) in
+    let whole : size * suc n ≡ size + size * n = omega (arith, mul-suc size n) in
+    append_assoc l links (drop (size * suc n) bytes)
+    ∙ ap (λ r. l ++ (links ++ r)) (behind size (size * n) (size * suc n) bytes whole)
+    ∙ ap (λ r. l ++ r) (respelled_links v n more (omega (arith, whole, length-drop size bytes)) (behind_bytes size bytes all))
+    ∙ respelled_link v bytes (omega (arith, whole)) all

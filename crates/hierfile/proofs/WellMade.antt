@@ -12,12 +12,13 @@ use Rattle.ch_cost.specs.Cost.{◌⊕◌, cost_of_arcs, length_of, arcs_of, same
 use Rattle.ch_cost.specs.Cost.Laws.{equal-from_same}
 use Rattle.ch_cost.specs.Cost.Numbers.{length_of-of_walk, arcs_of-of_walk, length_of-cost_of_arcs, arcs_of-cost_of_arcs, within-from_numbers}
 use Rattle.ch_graph.specs.declared.link.Link.{Link}
-use Rattle.ch_graph.specs.declared.version.Version.TheVariants.{Two}
-use Rattle.ch_graph.specs.Hierarchy.{Hierarchy, IsWellMade, AreHalves, ComesBefore, CountsArcs}
+use Rattle.ch_graph.specs.declared.version.Version.{Version}
+use Rattle.ch_graph.specs.declared.version.Version.TheVariants.{One, Two}
+use Rattle.ch_graph.specs.Hierarchy.{Hierarchy, IsWellMade, AreHalves, ComesBefore, Counts, bound_arcs}
 use Rattle.hierfile.specs.declared.error.HierError.{HierError}
 use Rattle.hierfile.specs.declared.error.HierError.TheVariants.{RankTwice, RankRange, LinkEnds, LinkOrder, LinkWeight, MiddleRange, MiddleRank, HalfSum, TooBig, BoundTooBig}
 use Rattle.hierfile.specs.Spelling.{bound_in}
-use Rattle.hierfile.specs.Fault.{◌otherwise◌, fault_if, size_fault, rank_test, rank_fault, has_weight, link_fault, link_fault_at, middle_fault, is_before, is_in_order, half_fault, halves_fault, sum_fault, leads, first_along}
+use Rattle.hierfile.specs.Fault.{◌otherwise◌, fault_if, size_fault, rank_test, rank_fault, does_count, has_weight, link_fault, link_fault_at, middle_fault, is_before, is_in_order, half_fault, halves_fault, sum_fault, leads, first_along}
 use Rattle.hierfile.specs.Bytes.{NoneBelow}
 use Rattle.hierfile.proofs.Faults.{first_none, second_none}
 use Rattle.hierfile.proofs.RankFaults.{rank_in}
@@ -70,14 +71,14 @@ ranks_in n ranks none k d h =
 -- Links
 
 -- what a link without a fault is
-pub record LinkFacts (ranks : List ℕ) (bound : Cost) (earlier : Option Link) (l : Link) : Type 0 where
+pub record LinkFacts (v : Version) (ranks : List ℕ) (bound : Cost) (earlier : Option Link) (l : Link) : Type 0 where
   pub from_in : l.from < length ranks
   pub to_in : l.to < length ranks
   pub apart : l.from ≢ l.to
   pub ordered : is_in_order earlier l ≡ true
   pub within : length_of l.cost ≤ length_of bound
   pub few_arcs : arcs_of l.cost ≤ arcs_of bound
-  pub counts : CountsArcs l
+  pub counts : Counts v l
   pub middle : middle_fault ranks l.from l.to l.middle ≡ None
 
 ends_from : (n a b : ℕ) → (nat_le n a || nat_le n b || a == b) ≡ false → a < n
@@ -90,46 +91,56 @@ ends_apart : (n a b : ℕ) → (nat_le n a || nat_le n b || a == b) ≡ false �
 ends_apart n a b h e = grind (arith, nat_tests)
 
 -- what the test of a cost finds
-weighs : (w b a n : ℕ) (m : Bool) → (nat_le w b && nat_le a n && nat_lt 0 a && (m || a == 1)) ≡ true → w ≤ b
-weighs w b a n m h = grind (arith, nat_tests)
+weighs : (w b a n : ℕ) (e : Bool) → (nat_le w b && nat_le a n && e) ≡ true → w ≤ b
+weighs w b a n e h = grind (arith, nat_tests)
 
-has_few : (w b a n : ℕ) (m : Bool) → (nat_le w b && nat_le a n && nat_lt 0 a && (m || a == 1)) ≡ true → a ≤ n
-has_few w b a n m h = grind (arith, nat_tests)
+has_few : (w b a n : ℕ) (e : Bool) → (nat_le w b && nat_le a n && e) ≡ true → a ≤ n
+has_few w b a n e h = grind (arith, nat_tests)
 
-has_some : (w b a n : ℕ) (m : Bool) → (nat_le w b && nat_le a n && nat_lt 0 a && (m || a == 1)) ≡ true → 0 < a
-has_some w b a n m h = grind (arith, nat_tests)
+has_count : (w b a n : ℕ) (e : Bool) → (nat_le w b && nat_le a n && e) ≡ true → e ≡ true
+has_count w b a n e h = grind (arith, nat_tests)
 
-has_one : (w b a n : ℕ) (m : Bool) → (nat_le w b && nat_le a n && nat_lt 0 a && (m || a == 1)) ≡ true → m ≡ false → a ≡ 1
-has_one w b a n m h none = grind (arith, nat_tests)
+counted : (v : Version) (l : Link) → does_count v l ≡ true → Counts v l
+counted One l h = record { some = has_weight_of (length_of l.cost) (arcs_of l.cost) h; none = has_none (length_of l.cost) (arcs_of l.cost) h }
+  where
+    has_weight_of : (w a : ℕ) → (nat_lt 0 w && a == 0) ≡ true → 0 < w
+    has_weight_of w a h = grind (arith, nat_tests)
+
+    has_none : (w a : ℕ) → (nat_lt 0 w && a == 0) ≡ true → a ≡ 0
+    has_none w a h = grind (arith, nat_tests)
+counted Two l h = record { some = has_some (arcs_of l.cost) (is_some l.middle) h; one = λ none. has_one (arcs_of l.cost) (is_some l.middle) h (ap is_some none) }
+  where
+    has_some : (a : ℕ) (m : Bool) → (nat_lt 0 a && (m || a == 1)) ≡ true → 0 < a
+    has_some a m h = grind (arith, nat_tests)
+
+    has_one : (a : ℕ) (m : Bool) → (nat_lt 0 a && (m || a == 1)) ≡ true → m ≡ false → a ≡ 1
+    has_one a m h none = grind (arith, nat_tests)
 
 not_false : (b : Bool) → not b ≡ false → b ≡ true
 not_false true h = refl
 not_false false h = absurd (cc)
 
-pub link_facts : (ranks : List ℕ) (bound : Cost) (earlier : Option Link) (l : Link) → link_fault ranks bound earlier l ≡ None → LinkFacts ranks bound earlier l
+pub link_facts : (v : Version) (ranks : List ℕ) (bound : Cost) (earlier : Option Link) (l : Link) → link_fault v ranks bound earlier l ≡ None → LinkFacts v ranks bound earlier l
 unfolding link_fault has_weight
-link_facts ranks bound earlier l h =
+link_facts v ranks bound earlier l h =
     let n : ℕ = length ranks in
     let ends : Option HierError = fault_if (nat_le n l.from || nat_le n l.to || l.from == l.to) LinkEnds in
     let order : Option HierError = fault_if (not (is_in_order earlier l)) LinkOrder in
-    let weight : Option HierError = fault_if (not (has_weight bound l)) LinkWeight in
+    let weight : Option HierError = fault_if (not (has_weight v bound l)) LinkWeight in
     let middle : Option HierError = middle_fault ranks l.from l.to l.middle in
     let three : ends otherwise order otherwise weight ≡ None = first_none (ends otherwise order otherwise weight) middle h in
     let two : ends otherwise order ≡ None = first_none (ends otherwise order) weight three in
     let ends_ok = untrue _ LinkEnds (first_none ends order two) in
     let order_ok = untrue _ LinkOrder (second_none ends order two) in
-    let weight_ok = not_false (has_weight bound l) (untrue _ LinkWeight (second_none (ends otherwise order) weight three)) in
+    let weight_ok = not_false (has_weight v bound l) (untrue _ LinkWeight (second_none (ends otherwise order) weight three)) in
     record {
       from_in = ends_from n l.from l.to ends_ok;
       to_in = ends_to n l.from l.to ends_ok;
       apart = ends_apart n l.from l.to ends_ok;
       ordered = not_false (is_in_order earlier l) order_ok;
-      within = weighs (length_of l.cost) (length_of bound) (arcs_of l.cost) (arcs_of bound) (is_some l.middle) weight_ok;
-      few_arcs = has_few (length_of l.cost) (length_of bound) (arcs_of l.cost) (arcs_of bound) (is_some l.middle) weight_ok;
-      counts = record {
-        some = has_some (length_of l.cost) (length_of bound) (arcs_of l.cost) (arcs_of bound) (is_some l.middle) weight_ok;
-        one = λ none. has_one (length_of l.cost) (length_of bound) (arcs_of l.cost) (arcs_of bound) (is_some l.middle) weight_ok (ap is_some none);
-      };
+      within = weighs (length_of l.cost) (length_of bound) (arcs_of l.cost) (arcs_of bound) (does_count v l) weight_ok;
+      few_arcs = has_few (length_of l.cost) (length_of bound) (arcs_of l.cost) (arcs_of bound) (does_count v l) weight_ok;
+      counts = counted v l (has_count (length_of l.cost) (length_of bound) (arcs_of l.cost) (arcs_of bound) (does_count v l) weight_ok);
       middle = second_none (ends otherwise order otherwise weight) middle h;
     }
 
@@ -139,9 +150,9 @@ slice_get-at (l ∷ ls) zero d h = refl
 slice_get-at (l ∷ ls) (suc k) d h = slice_get-at ls k d (omega arith)
 
 -- the facts of the link at a place
-pub facts_at : (ranks : List ℕ) (bound : Cost) (ls : List Link) (k : ℕ) (d : Link) → k < length ls → link_fault_at ranks bound ls k ≡ None → LinkFacts ranks bound (slice_get (take k ls) (k - 1)) (get_or ls k d)
-facts_at ranks bound ls k d h none =
-    link_facts ranks bound (slice_get (take k ls) (k - 1)) (get_or ls k d) (subst (λ (o : Option Link). option_and_then (link_fault ranks bound (slice_get (take k ls) (k - 1))) o ≡ None) (slice_get-at ls k d h) none)
+pub facts_at : (v : Version) (ranks : List ℕ) (bound : Cost) (ls : List Link) (k : ℕ) (d : Link) → k < length ls → link_fault_at v ranks bound ls k ≡ None → LinkFacts v ranks bound (slice_get (take k ls) (k - 1)) (get_or ls k d)
+facts_at v ranks bound ls k d h none =
+    link_facts v ranks bound (slice_get (take k ls) (k - 1)) (get_or ls k d) (subst (λ (o : Option Link). option_and_then (link_fault v ranks bound (slice_get (take k ls) (k - 1))) o ≡ None) (slice_get-at ls k d h) none)
 
 before-true : (a b : Link) → is_before a b ≡ true → ComesBefore a b
 before-true a b h = elim (cases_lt a.from b.from) [
@@ -168,9 +179,9 @@ chain ls next i (suc j) d less within = elim (cases_lt i j) [
   | inr at ↦ let e : j ≡ i = omega arith in subst (λ m. ComesBefore (get_or ls m d) (get_or ls (suc j) d)) e (next j d within)
 ]
 
-pub links_sorted : (ranks : List ℕ) (bound : Cost) (ls : List Link) → NoneBelow (length ls) (link_fault_at ranks bound ls) → AllPairs ComesBefore ls
-links_sorted ranks bound ls none = chain ls (λ k d within.
-    let facts = facts_at ranks bound ls (suc k) d within (none (suc k) within) in
+pub links_sorted : (v : Version) (ranks : List ℕ) (bound : Cost) (ls : List Link) → NoneBelow (length ls) (link_fault_at v ranks bound ls) → AllPairs ComesBefore ls
+links_sorted v ranks bound ls none = chain ls (λ k d within.
+    let facts = facts_at v ranks bound ls (suc k) d within (none (suc k) within) in
     let room : k < length (take (suc k) ls) = omega (arith, length-take-le (suc k) ls (omega arith)) in
     let back : suc k - 1 ≡ k = omega arith in
     let earlier : slice_get (take (suc k) ls) (suc k - 1) ≡ Some (get_or ls k d) = ap (slice_get (take (suc k) ls)) back ∙ slice_get-at (take (suc k) ls) k d room ∙ ap (λ (l : Link). Some l) (get_or-take (suc k) ls k d (omega arith)) in
@@ -246,26 +257,32 @@ has_halves h l middle half m is =
 
 -- The whole
 
-pub well_made : (n k b : ℕ) (ranks : List ℕ) (links : List Link) → size_fault n k b ≡ None → length ranks ≡ n → NoneBelow n (rank_fault n ranks) → length links ≡ k → NoneBelow k (link_fault_at ranks (bound_in n b) links)
-    → first_along (half_fault links) links ≡ None → IsWellMade (record { version = Two; ranks = ranks; links = links; bound = bound_in n b })
-well_made n k b ranks links sizes count_ranks ranks_ok count_links links_ok halves_ok =
-    let bound : Cost = bound_in n b in
-    let h : Hierarchy = record { version = Two; ranks = ranks; links = links; bound = bound } in
+-- no bound counts more arcs than a walk that repeats no node
+arcs_low : (v : Version) (nodes : ℕ) → bound_arcs v nodes ≤ nodes - 1
+arcs_low One nodes = omega arith
+arcs_low Two nodes = omega arith
+
+pub well_made : (v : Version) (n k b : ℕ) (ranks : List ℕ) (links : List Link) → size_fault n k b ≡ None → length ranks ≡ n → NoneBelow n (rank_fault n ranks) → length links ≡ k → NoneBelow k (link_fault_at v ranks (bound_in v n b) links)
+    → first_along (half_fault links) links ≡ None → IsWellMade (record { version = v; ranks = ranks; links = links; bound = bound_in v n b })
+well_made v n k b ranks links sizes count_ranks ranks_ok count_links links_ok halves_ok =
+    let bound : Cost = bound_in v n b in
+    let h : Hierarchy = record { version = v; ranks = ranks; links = links; bound = bound } in
     let greatest : Cost = cost_of_arcs (length ranks - 1) (2 ^ 32 - 1) in
     let all_ranks : NoneBelow (length ranks) (rank_fault n ranks) = λ i less. ranks_ok i (omega arith) in
-    let all_links : NoneBelow (length links) (link_fault_at ranks bound links) = λ i less. links_ok i (omega arith) in
+    let all_links : NoneBelow (length links) (link_fault_at v ranks bound links) = λ i less. links_ok i (omega arith) in
     let most : length_of bound ≤ length_of greatest =
-    subst (λ m. m ≤ length_of greatest) (sym (length_of-of_walk b (n - 1))) (subst (λ m. b ≤ m) (sym (length_of-cost_of_arcs (length ranks - 1) (2 ^ 32 - 1))) (subst (λ m. b ≤ (m - 1) * (2 ^ 32 - 1)) (sym count_ranks) (low_bound n k b sizes))) in
-    let arcs : arcs_of bound ≡ length ranks - 1 = arcs_of-of_walk b (n - 1) ∙ ap (λ m. m - 1) (sym count_ranks) in
+    subst (λ m. m ≤ length_of greatest) (sym (length_of-of_walk b (bound_arcs v n))) (subst (λ m. b ≤ m) (sym (length_of-cost_of_arcs (length ranks - 1) (2 ^ 32 - 1))) (subst (λ m. b ≤ (m - 1) * (2 ^ 32 - 1)) (sym count_ranks) (low_bound n k b sizes))) in
+    let arcs : arcs_of bound ≡ bound_arcs v (length ranks) = arcs_of-of_walk b (bound_arcs v n) ∙ ap (bound_arcs v) (sym count_ranks) in
+    let few : arcs_of bound ≤ length ranks - 1 = subst (λ m. m ≤ length ranks - 1) (sym arcs) (arcs_low v (length ranks)) in
     record {
       few_nodes = subst (λ m. m ≤ 2 ^ 25) (sym count_ranks) (few_nodes n k b sizes);
-      bound = within-from_numbers bound greatest most (omega (arith, arcs, arcs_of-cost_of_arcs (length ranks - 1) (2 ^ 32 - 1)));
+      bound = within-from_numbers bound greatest most (omega (arith, few, arcs_of-cost_of_arcs (length ranks - 1) (2 ^ 32 - 1)));
       bound_arcs = arcs;
       in_range = subst (λ m. All (λ r. r < m) ranks) (sym count_ranks) (ranks_in n ranks all_ranks);
       once = ranks_once n ranks all_ranks;
-      sorted = links_sorted ranks bound links all_links;
+      sorted = links_sorted v ranks bound links all_links;
       links = λ i d less.
-          let facts = facts_at ranks bound links i d less (all_links i less) in
+          let facts = facts_at v ranks bound links i d less (all_links i less) in
           record {
             from_in = facts.from_in;
             to_in = facts.to_in;
@@ -277,10 +294,10 @@ well_made n k b ranks links sizes count_ranks ranks_ok count_links links_ok halv
     }
 
 -- the same of parts that go by other names
-pub well_made_of : (n k b : ℕ) (ranks seen : List ℕ) (links tested : List Link) (bound : Cost) → size_fault n k b ≡ None → length ranks ≡ n → NoneBelow n (rank_fault n ranks) → length links ≡ k
-    → NoneBelow k (link_fault_at seen bound links) → first_along (half_fault tested) tested ≡ None → seen ≡ ranks → tested ≡ links → bound ≡ bound_in n b → IsWellMade (record { version = Two; ranks = ranks; links = links; bound = bound })
-well_made_of n k b ranks seen links tested bound sizes count_ranks ranks_ok count_links links_ok halves_ok same_ranks same_links same_bound =
-    let at_ranks : NoneBelow k (link_fault_at ranks bound links) = subst (λ (r : List ℕ). NoneBelow k (link_fault_at r bound links)) same_ranks links_ok in
-    let at_bound : NoneBelow k (link_fault_at ranks (bound_in n b) links) = subst (λ (c : Cost). NoneBelow k (link_fault_at ranks c links)) same_bound at_ranks in
+pub well_made_of : (v : Version) (n k b : ℕ) (ranks seen : List ℕ) (links tested : List Link) (bound : Cost) → size_fault n k b ≡ None → length ranks ≡ n → NoneBelow n (rank_fault n ranks) → length links ≡ k
+    → NoneBelow k (link_fault_at v seen bound links) → first_along (half_fault tested) tested ≡ None → seen ≡ ranks → tested ≡ links → bound ≡ bound_in v n b → IsWellMade (record { version = v; ranks = ranks; links = links; bound = bound })
+well_made_of v n k b ranks seen links tested bound sizes count_ranks ranks_ok count_links links_ok halves_ok same_ranks same_links same_bound =
+    let at_ranks : NoneBelow k (link_fault_at v ranks bound links) = subst (λ (r : List ℕ). NoneBelow k (link_fault_at v r bound links)) same_ranks links_ok in
+    let at_bound : NoneBelow k (link_fault_at v ranks (bound_in v n b) links) = subst (λ (c : Cost). NoneBelow k (link_fault_at v ranks c links)) same_bound at_ranks in
     let halves : first_along (half_fault links) links ≡ None = subst (λ (l : List Link). first_along (half_fault l) l ≡ None) same_links halves_ok in
-    subst (λ (c : Cost). IsWellMade (record { version = Two; ranks = ranks; links = links; bound = c })) (sym same_bound) (well_made n k b ranks links sizes count_ranks ranks_ok count_links at_bound halves)
+    subst (λ (c : Cost). IsWellMade (record { version = v; ranks = ranks; links = links; bound = c })) (sym same_bound) (well_made v n k b ranks links sizes count_ranks ranks_ok count_links at_bound halves)

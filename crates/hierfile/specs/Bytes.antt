@@ -6,8 +6,10 @@ use Rattle.counted_io.specs.Handing.{HandsOn}
 use Rattle.counted_io.specs.Limits.{IsWritten, StopsWithin}
 use Rattle.ch_cost.specs.Cost.{length_of, arcs_of}
 use Rattle.ch_graph.specs.declared.link.Link.{Link}
-use Rattle.ch_graph.specs.Hierarchy.{Hierarchy}
-use Rattle.hierfile.specs.Spelling.{bytes_of, IsOfFile}
+use Rattle.ch_graph.specs.declared.version.Version.{Version}
+use Rattle.ch_graph.specs.declared.version.Version.TheVariants.{One, Two}
+use Rattle.ch_graph.specs.Hierarchy.{Hierarchy, IsWellMade}
+use Rattle.hierfile.specs.Spelling.{bytes_of}
 use Rattle.hierfile.specs.declared.error.HierError.{HierError}
 use Rattle.hierfile.specs.declared.error.HierError.TheVariants.{OutOfMemory, Read}
 
@@ -25,9 +27,9 @@ OfBytes e P = P
 abbrev pub SaysNothing : HierError → Type 0
 SaysNothing e = OfBytes e ⊥
 
--- the spelling of a hierarchy is read as that hierarchy, and no refusal finds a fault in it
+-- the spelling of a well made hierarchy is read as that hierarchy, and no refusal finds a fault in it
 abbrev pub ReadsSpellings : List ℕ → Result Hierarchy HierError → Type 0
-ReadsSpellings bytes result = (h : Hierarchy) → IsOfFile h → bytes ≡ bytes_of h → IfOk result (λ read. read ≡ h) × IfErr result SaysNothing
+ReadsSpellings bytes result = (h : Hierarchy) → IsWellMade h → bytes ≡ bytes_of h → IfOk result (λ read. read ≡ h) × IfErr result SaysNothing
 
 -- a refusal is the fault that the coming bytes have, where they are known
 abbrev pub IsFaultOf : (List ℕ → Option HierError) → Option (List ℕ) → HierError → Type 0
@@ -42,16 +44,22 @@ Tells (Err e) fault = fault ≡ Some e
 abbrev pub NoneBelow : ℕ → (ℕ → Option HierError) → Type 0
 NoneBelow n fault_at = (k : ℕ) → k < n → fault_at k ≡ None
 
+-- so many arcs fit the bytes that they have in a version, where version 1 has none
+abbrev pub AreTold : Version → ℕ → Type 0
+AreTold One n = n ≡ 0
+AreTold Two n = n < 2 ^ 32
+
 -- a link whose numbers fit their bytes
-pub record IsWritable (l : Link) : Type 0 where
+pub record IsWritable (v : Version) (l : Link) : Type 0 where
   pub from : l.from < 2 ^ 32
   pub to : l.to < 2 ^ 32
   pub cost : length_of l.cost < 2 ^ 64
-  pub arcs : arcs_of l.cost < 2 ^ 32
+  pub arcs : AreTold v (arcs_of l.cost)
   pub middle : IfSome l.middle (λ m. m < 2 ^ 32 - 1)
 
--- a hierarchy of so many nodes and links, with a bound of this length
-pub record IsBodyOf (h : Hierarchy) (nodes count longest : ℕ) : Type 0 where
+-- a hierarchy of a version, of so many nodes and links, with a bound of this length
+pub record IsBodyOf (h : Hierarchy) (v : Version) (nodes count longest : ℕ) : Type 0 where
+  pub version : h.version ≡ v
   pub ranks : length h.ranks ≡ nodes
   pub links : length h.links ≡ count
   pub bound : length_of h.bound ≡ longest

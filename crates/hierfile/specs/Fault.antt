@@ -4,9 +4,11 @@ use Rattle.std.specs.List.{list_any, find}
 use Rattle.ch_cost.specs.declared.cost.Cost.{Cost}
 use Rattle.ch_cost.specs.Cost.{◌⊕◌, length_of, arcs_of, same}
 use Rattle.ch_graph.specs.declared.link.Link.{Link}
+use Rattle.ch_graph.specs.declared.version.Version.{Version}
+use Rattle.ch_graph.specs.declared.version.Version.TheVariants.{One, Two}
 use Rattle.hierfile.specs.declared.error.HierError.{HierError}
 use Rattle.hierfile.specs.declared.error.HierError.TheVariants.{BadMagic, Truncated, TooBig, BoundTooBig, RankRange, RankTwice, LinkEnds, LinkOrder, LinkWeight, MiddleRange, MiddleRank, HalfMissing, HalfSum, Trailing}
-use Rattle.hierfile.specs.Spelling.{magic, link_size, word_in, long_in, bound_in, words_in, links_in}
+use Rattle.hierfile.specs.Spelling.{magic_of, link_size, word_in, long_in, version_in, bound_in, words_in, links_in}
 
 infixl 20 ◌otherwise◌
 -- the first of two faults
@@ -27,9 +29,13 @@ first_below (suc n) fault_at = first_below n fault_at otherwise fault_at n
 abbrev pub cut : ℕ → List ℕ → Option HierError
 cut n bytes = fault_if (nat_lt (length bytes) n) Truncated
 
--- each byte of the magic, as it comes
+-- whether this byte stands at this place of some magic
+abbrev pub is_magic : ℕ → ℕ → Bool
+is_magic k byte = byte == slice_index (magic_of One) k || byte == slice_index (magic_of Two) k
+
+-- Each byte of the magic, as it comes. The magics differ in the last byte alone, so bytes of some magic are one.
 abbrev pub magic_fault : List ℕ → Option HierError
-magic_fault bytes = first_below 4 (λ k. cut (k + 1) bytes otherwise fault_if (not (slice_index bytes k == slice_index magic k)) BadMagic)
+magic_fault bytes = first_below 4 (λ k. cut (k + 1) bytes otherwise fault_if (not (is_magic k (slice_index bytes k))) BadMagic)
 
 -- so many nodes and links, and a bound of this length
 abbrev pub size_fault : ℕ → ℕ → ℕ → Option HierError
@@ -66,26 +72,31 @@ middle_fault ranks x y None = None
 middle_fault ranks x y (Some m) = fault_if (nat_le (length ranks) m) MiddleRange
     otherwise fault_if (not (nat_lt (slice_index ranks m) (slice_index ranks x) && nat_lt (slice_index ranks m) (slice_index ranks y))) MiddleRank
 
--- What a link's cost may be, by the link alone: within the bound, and of some arcs, of exactly one where there is no
--- middle.
-unfoldable pub has_weight : Cost → Link → Bool
-has_weight bound l = nat_le (length_of l.cost) (length_of bound) && nat_le (arcs_of l.cost) (arcs_of bound) && nat_lt 0 (arcs_of l.cost) && (is_some l.middle || arcs_of l.cost == 1)
+-- What a link's cost counts. In version 1 it is some weight and no arcs; in version 2 it is some arcs, exactly one where
+-- there is no middle.
+abbrev pub does_count : Version → Link → Bool
+does_count One l = nat_lt 0 (length_of l.cost) && arcs_of l.cost == 0
+does_count Two l = nat_lt 0 (arcs_of l.cost) && (is_some l.middle || arcs_of l.cost == 1)
+
+-- what a link's cost may be, by the link alone: within the bound, and what the version counts
+unfoldable pub has_weight : Version → Cost → Link → Bool
+has_weight v bound l = nat_le (length_of l.cost) (length_of bound) && nat_le (arcs_of l.cost) (arcs_of bound) && does_count v l
 
 -- a link by itself, beside the one before it
-unfoldable pub link_fault : List ℕ → Cost → Option Link → Link → Option HierError
-link_fault ranks bound earlier l =
+unfoldable pub link_fault : Version → List ℕ → Cost → Option Link → Link → Option HierError
+link_fault v ranks bound earlier l =
     fault_if (nat_le (length ranks) l.from || nat_le (length ranks) l.to || l.from == l.to) LinkEnds
     otherwise fault_if (not (is_in_order earlier l)) LinkOrder
-    otherwise fault_if (not (has_weight bound l)) LinkWeight
+    otherwise fault_if (not (has_weight v bound l)) LinkWeight
     otherwise middle_fault ranks l.from l.to l.middle
 
 -- the link at this place
-abbrev pub link_fault_at : List ℕ → Cost → List Link → ℕ → Option HierError
-link_fault_at ranks bound links k = option_and_then (link_fault ranks bound (slice_get (take k links) (k - 1))) (slice_get links k)
+abbrev pub link_fault_at : Version → List ℕ → Cost → List Link → ℕ → Option HierError
+link_fault_at v ranks bound links k = option_and_then (link_fault v ranks bound (slice_get (take k links) (k - 1))) (slice_get links k)
 
 -- the links that the bytes begin with
-abbrev pub links_fault : List ℕ → Cost → ℕ → List ℕ → Option HierError
-links_fault ranks bound count bytes = first_below count (λ k. cut (link_size * (k + 1)) bytes otherwise link_fault_at ranks bound (links_in count bytes) k)
+abbrev pub links_fault : Version → List ℕ → Cost → ℕ → List ℕ → Option HierError
+links_fault v ranks bound count bytes = first_below count (λ k. cut (link_size v * (k + 1)) bytes otherwise link_fault_at v ranks bound (links_in v count bytes) k)
 
 abbrev pub leads : ℕ → ℕ → Link → Bool
 leads x y l = l.from == x && l.to == y
@@ -113,15 +124,15 @@ first_along fault_of (l ∷ ls) = fault_of l otherwise first_along fault_of ls
 abbrev pub end_fault : List ℕ → Option HierError
 end_fault bytes = fault_if (nat_lt 0 (length bytes)) Trailing
 
--- the bytes behind the head, where it tells so many nodes and links and a bound of this length
-unfoldable pub body_fault : ℕ → ℕ → ℕ → List ℕ → Option HierError
-body_fault nodes count bound bytes =
+-- the bytes behind the head of a version, where it tells so many nodes and links and a bound of this length
+unfoldable pub body_fault : Version → ℕ → ℕ → ℕ → List ℕ → Option HierError
+body_fault v nodes count bound bytes =
     let rest = drop (4 * nodes) bytes in
-    let links = links_in count rest in
-    ranks_fault nodes bytes otherwise links_fault (words_in nodes bytes) (bound_in nodes bound) count rest otherwise first_along (half_fault links) links otherwise end_fault (drop (link_size * count) rest)
+    let links = links_in v count rest in
+    ranks_fault nodes bytes otherwise links_fault v (words_in nodes bytes) (bound_in v nodes bound) count rest otherwise first_along (half_fault links) links otherwise end_fault (drop (link_size v * count) rest)
 
 -- the bytes of a file
 unfoldable pub first_fault : List ℕ → Option HierError
 first_fault bytes =
     let head = drop 4 bytes in
-    magic_fault bytes otherwise head_fault head otherwise body_fault (word_in head) (long_in (drop 4 head)) (long_in (drop 12 head)) (drop 20 head)
+    magic_fault bytes otherwise head_fault head otherwise body_fault (version_in bytes) (word_in head) (long_in (drop 4 head)) (long_in (drop 12 head)) (drop 20 head)

@@ -1,20 +1,20 @@
 -- What is true of spellings.
 use Rattle.std.specs.Prelude.{ℕ, ◌≡◌, ◌^◌, ◌<◌, List, None, All}
-use Rattle.ch_graph.specs.Hierarchy.{Hierarchy}
-use Rattle.hierfile.specs.Spelling.{bytes_of, IsOfFile}
+use Rattle.ch_graph.specs.Hierarchy.{Hierarchy, IsWellMade}
+use Rattle.hierfile.specs.Spelling.{bytes_of}
 use Rattle.hierfile.specs.Fault.{first_fault}
 
--- two hierarchies that files hold are the same where their spellings are
+-- Two well made hierarchies are the same where their spellings are. So no file of one version is one of the other.
 abbrev pub HierarchiesHaveOneSpelling : Type 0
-HierarchiesHaveOneSpelling = (g h : Hierarchy) → IsOfFile g → IsOfFile h → bytes_of g ≡ bytes_of h → g ≡ h
+HierarchiesHaveOneSpelling = (g h : Hierarchy) → IsWellMade g → IsWellMade h → bytes_of g ≡ bytes_of h → g ≡ h
 
--- the spelling of a hierarchy that a file holds has no fault
+-- the spelling of a well made hierarchy has no fault
 abbrev pub SpellingsHaveNoFault : Type 0
-SpellingsHaveNoFault = (h : Hierarchy) → IsOfFile h → first_fault (bytes_of h) ≡ None
+SpellingsHaveNoFault = (h : Hierarchy) → IsWellMade h → first_fault (bytes_of h) ≡ None
 
--- bytes that spell such a hierarchy
+-- bytes that spell a well made hierarchy, of either version
 abbrev pub IsSpelling : List ℕ → Type 0
-IsSpelling bytes = (h : Hierarchy) × IsOfFile h × (bytes ≡ bytes_of h)
+IsSpelling bytes = (h : Hierarchy) × IsWellMade h × (bytes ≡ bytes_of h)
 
 -- bytes without a fault spell one
 abbrev pub FaultlessBytesAreSpellings : Type 0

@@ -14,7 +14,7 @@ pub enum HierError {
     OutOfMemory = 1,
     /// The reader failed.
     Read,
-    /// The first bytes are no magic that is known.
+    /// One of the first bytes is that of no magic.
     BadMagic,
     /// The bytes end too early.
     Truncated,
@@ -30,7 +30,8 @@ pub enum HierError {
     LinkEnds,
     /// A link that doesn't come after the one before it.
     LinkOrder,
-    /// A link whose weight is above the bound, or whose arcs are 0, above the bound's, or not 1 where it has no middle.
+    /// A link whose weight is above the bound, or in version 1 is 0, or whose arcs in version 2 are 0, above the bound's,
+    /// or not 1 where it has no middle.
     LinkWeight,
     /// A middle that isn't a node.
     MiddleRange,
@@ -38,7 +39,7 @@ pub enum HierError {
     MiddleRank,
     /// A link with a middle, one of whose halves is no link.
     HalfMissing,
-    /// A link whose halves don't sum to its weight, or to its arcs.
+    /// A link whose halves don't sum to its weight, or in version 2 to its arcs.
     HalfSum,
     /// Bytes behind the last link.
     Trailing,

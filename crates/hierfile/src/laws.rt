@@ -1,6 +1,6 @@
 ghost use Rattle.hierfile.specs.Laws.{HierarchiesHaveOneSpelling, SpellingsHaveNoFault, FaultlessBytesAreSpellings};
 
-/// Two well made hierarchies of one spelling are the same. It does nothing when it runs.
+/// Two well made hierarchies of one spelling are the same, also in their version. It does nothing when it runs.
 pub fn hierarchies_have_one_spelling()
     ensures { HierarchiesHaveOneSpelling }
 {}

@@ -7,58 +7,63 @@ ghost use Rattle.ch_graph.specs.declared.link.Link.{Link};
 ghost use Rattle.ch_graph.specs.LinkIndex.{IsIndexOf};
 ghost use Rattle.ch_graph.specs.LinkHalves.{AreHalvesOf, ArePartsOf};
 ghost use Rattle.counted_io.specs.Limits.{IsRead, ReadsWithin};
-ghost use Rattle.hierfile.specs.Spelling.{link_bytes, link_size, middle_number};
-ghost use Rattle.hierfile.specs.Fault.{cut, has_weight, is_in_order, link_fault, link_fault_at, links_fault, middle_fault, half_fault, first_along};
-ghost use Rattle.hierfile.specs.Bytes.{coming, IsFaultOf, OfBytes, Tells, NoneBelow, IsWritable};
+ghost use Rattle.hierfile.specs.Spelling.{arcs_bytes, arcs_size, link_bytes, link_size, middle_number};
+ghost use Rattle.hierfile.specs.Fault.{cut, does_count, has_weight, is_in_order, link_fault, link_fault_at, links_fault, middle_fault, half_fault, first_along};
+ghost use Rattle.hierfile.specs.Bytes.{coming, IsFaultOf, OfBytes, Tells, NoneBelow, AreTold, IsWritable};
 
 use crate::error::HierError;
 use crate::input::Input;
 use ch_cost::Cost;
-use ch_graph::{Link, LinkHalves, LinkId, LinkIndex, Parts};
+use ch_graph::{Link, LinkHalves, LinkId, LinkIndex, Parts, Version};
 use counted_io::StepRead;
 use std::alloc::Global;
 
 /// The number that is written for no middle.
 pub const NO_MIDDLE: u32 = u32::MAX;
 
-/// Reads so many links, of a hierarchy with these ranks and this bound.
+/// Reads so many links, of a hierarchy of this version with these ranks and this bound.
 pub fn read_links<R: StepRead>(
     alloc: Global,
     input: &mut Input,
     reader: &mut R,
+    version: Version,
     ranks: &[u32],
     bound: Cost,
     count: u64,
 ) -> Result<Vec<Link>, HierError>
     ensures count { IfOk result (λ links. length links.items ≡ count) }
-    ensures faultless { IfOk result (λ links. NoneBelow count (link_fault_at ranks.now bound links.items)) }
-    ensures ok { IfOk result (λ links. Consumes (coming input.old.waiting (R.remaining reader.old)) (coming input.new.waiting (R.remaining reader.new)) (flat_map link_bytes links.items)) }
-    ensures writable { IfOk result (λ links. All IsWritable links.items) }
-    ensures err { IfErr result (IsFaultOf (links_fault ranks.now bound count) (coming input.old.waiting (R.remaining reader.old))) }
+    ensures faultless { IfOk result (λ links. NoneBelow count (link_fault_at version ranks.now bound links.items)) }
+    ensures ok { IfOk result (λ links. Consumes (coming input.old.waiting (R.remaining reader.old)) (coming input.new.waiting (R.remaining reader.new)) (flat_map (link_bytes version) links.items)) }
+    ensures writable { IfOk result (λ links. All (IsWritable version) links.items) }
+    ensures err { IfErr result (IsFaultOf (links_fault version ranks.now bound count) (coming input.old.waiting (R.remaining reader.old))) }
     ensures calls { OnOk result (IsRead R.step input.old.left input.new.left reader.old reader.new) }
     ensures stopped { IfErr result (λ e. ReadsWithin R.step input.old.left (e ≡ HierError.Read) reader.old reader.new) }
 {
     let mut links = Vec::new(alloc);
     'links: for _ in 0..count {
-        let link = read_link(input, reader)?;
-        test_link(ranks, bound, links.last().copied(), link)?;
+        let link = read_link(input, reader, version)?;
+        test_link(version, ranks, bound, links.last().copied(), link)?;
         links.push(link)?;
     }
     Ok(links)
 }
 
 // Reads one link.
-fn read_link<R: StepRead>(input: &mut Input, reader: &mut R) -> Result<Link, HierError>
-    ensures ok { IfOk result (λ link. Consumes (coming input.old.waiting (R.remaining reader.old)) (coming input.new.waiting (R.remaining reader.new)) (link_bytes link)) }
-    ensures writable { IfOk result IsWritable }
-    ensures err { IfErr result (IsFaultOf (cut link_size) (coming input.old.waiting (R.remaining reader.old))) }
+fn read_link<R: StepRead>(
+    input: &mut Input,
+    reader: &mut R,
+    version: Version,
+) -> Result<Link, HierError>
+    ensures ok { IfOk result (λ link. Consumes (coming input.old.waiting (R.remaining reader.old)) (coming input.new.waiting (R.remaining reader.new)) (link_bytes version link)) }
+    ensures writable { IfOk result (IsWritable version) }
+    ensures err { IfErr result (IsFaultOf (cut (link_size version)) (coming input.old.waiting (R.remaining reader.old))) }
     ensures calls { OnOk result (IsRead R.step input.old.left input.new.left reader.old reader.new) }
     ensures stopped { IfErr result (λ e. ReadsWithin R.step input.old.left (e ≡ HierError.Read) reader.old reader.new) }
 {
     let from = input.word(reader)?;
     let to = input.word(reader)?;
     let weight = input.long(reader)?;
-    let arcs = input.word(reader)?;
+    let arcs = read_arcs(input, reader, version)?;
     let middle = input.word(reader)?;
     Ok(Link {
         from,
@@ -66,6 +71,24 @@ fn read_link<R: StepRead>(input: &mut Input, reader: &mut R) -> Result<Link, Hie
         cost: Cost::of_walk(weight, u64::from(arcs)),
         middle: middle_of(middle),
     })
+}
+
+// Reads the arcs of a link, which stand in files of version 2 alone.
+fn read_arcs<R: StepRead>(
+    input: &mut Input,
+    reader: &mut R,
+    version: Version,
+) -> Result<u32, HierError>
+    ensures ok { IfOk result (λ arcs. Consumes (coming input.old.waiting (R.remaining reader.old)) (coming input.new.waiting (R.remaining reader.new)) (arcs_bytes version arcs)) }
+    ensures told { IfOk result (AreTold version) }
+    ensures err { IfErr result (IsFaultOf (cut (arcs_size version)) (coming input.old.waiting (R.remaining reader.old))) }
+    ensures calls { OnOk result (IsRead R.step input.old.left input.new.left reader.old reader.new) }
+    ensures stopped { IfErr result (λ e. ReadsWithin R.step input.old.left (e ≡ HierError.Read) reader.old reader.new) }
+{
+    match version {
+        Version::One => Ok(0),
+        Version::Two => input.word(reader),
+    }
 }
 
 // The middle that this number stands for.
@@ -82,8 +105,14 @@ fn middle_of(number: u32) -> Option<u32>
 
 // Tests a link by itself, beside the one before it.
 #[tactic(auto, unfolding(crate::specs::Fault::link_fault))]
-fn test_link(ranks: &[u32], bound: Cost, earlier: Option<Link>, link: Link) -> Result<(), HierError>
-    ensures told { Tells result (link_fault ranks.now bound earlier link) }
+fn test_link(
+    version: Version,
+    ranks: &[u32],
+    bound: Cost,
+    earlier: Option<Link>,
+    link: Link,
+) -> Result<(), HierError>
+    ensures told { Tells result (link_fault version ranks.now bound earlier link) }
     ensures no_read { IfErr result (λ e. e ≢ HierError.Read) }
 {
     let nodes = ranks.len();
@@ -93,20 +122,30 @@ fn test_link(ranks: &[u32], bound: Cost, earlier: Option<Link>, link: Link) -> R
     if !is_in_order(earlier, link) {
         return Err(HierError::LinkOrder);
     }
-    if !has_weight(bound, link) {
+    if !has_weight(version, bound, link) {
         return Err(HierError::LinkWeight);
     }
     test_middle(ranks, link.from, link.to, link.middle)
 }
 
-// Whether a link's cost is within the bound, and counts some arcs, and exactly one where it has no middle.
+// Whether a link's cost is within the bound, and counts what the version wants.
 #[tactic(auto, unfolding(crate::specs::Fault::has_weight))]
-fn has_weight(bound: Cost, link: Link) -> bool
-    ensures { result ≡ has_weight bound link }
+fn has_weight(version: Version, bound: Cost, link: Link) -> bool
+    ensures { result ≡ has_weight version bound link }
 {
     let (length, arcs) = (link.cost.length(), link.cost.arcs());
-    let is_within = (length <= bound.length()) & (arcs <= bound.arcs());
-    is_within & (arcs > 0) & (link.middle.is_some() | (arcs == 1))
+    (length <= bound.length()) & (arcs <= bound.arcs()) & does_count(version, link)
+}
+
+// Whether a link's cost counts what the version wants.
+fn does_count(version: Version, link: Link) -> bool
+    ensures { result ≡ does_count version link }
+{
+    let (length, arcs) = (link.cost.length(), link.cost.arcs());
+    match version {
+        Version::One => (length > 0) & (arcs == 0),
+        Version::Two => (arcs > 0) & (link.middle.is_some() | (arcs == 1)),
+    }
 }
 
 // Whether a link comes after the one before it, if there is one.

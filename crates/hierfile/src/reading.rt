@@ -1,9 +1,10 @@
-ghost use Rattle.std.specs.Prelude.{◌≡◌, ◌≢◌, ◌++◌, [], ◌*◌, length, min, None, Some, IfOk, IfErr, OnOk, IfSome};
+ghost use Rattle.std.specs.Prelude.{◌≡◌, ◌≢◌, ◌++◌, [], ◌*◌, length, drop, min, None, Some, IfOk, IfErr, OnOk, IfSome};
 ghost use Rattle.std.specs.List.{flat_map};
 ghost use Rattle.std.specs.Io.KnownBytes.{Consumes, IsAtEnd};
 ghost use Rattle.counted_io.specs.Limits.{IsRead, IsReadWithin, ReadsWithin};
 ghost use Rattle.counted_io.specs.declared.TheConstants.{MOST_CALLS};
-ghost use Rattle.hierfile.specs.Spelling.{bytes_of, magic, word, long, link_bytes, bound_in, IsOfFile};
+ghost use Rattle.ch_graph.specs.Hierarchy.{IsWellMade, bound_arcs};
+ghost use Rattle.hierfile.specs.Spelling.{bytes_of, magic_of, stem, word, long, link_bytes, bound_in};
 ghost use Rattle.hierfile.specs.Fault.{first_fault, magic_fault, head_fault, size_fault, body_fault, end_fault};
 ghost use Rattle.hierfile.specs.Bytes.{coming, IsFaultOf, ReadsSpellings, Tells, IsBodyOf};
 
@@ -16,8 +17,8 @@ use ch_graph::{Hierarchy, LinkIndex, Version};
 use counted_io::{MOST_CALLS, StepRead};
 use std::alloc::Global;
 
-/// What every file begins with.
-const MAGIC: [u8; 4] = *b"RCH2";
+/// What every file begins with, before the byte that tells its version.
+const STEM: [u8; 3] = *b"RCH";
 
 /// The greatest number of nodes.
 const MOST_NODES: u32 = 1 << 25;
@@ -33,11 +34,11 @@ struct Head {
     bound: u64,
 }
 
-/// Reads a hierarchy from a file's bytes, to the end of the reader.
+/// Reads a hierarchy from a file's bytes, of version 1 or 2, to the end of the reader.
 ///
 /// On Ok the bytes were its spelling, and on an error this was their first fault: which bytes spell a hierarchy and
 /// how faults are ordered is told in `docs/FORMATS.md`. A spelling has no fault, so only `Read` and `OutOfMemory`
-/// refuse one. `Read` stands where the reader fails, also after 2^40 calls; an interrupted call is tried again.
+/// refuse one. The hierarchy is of the version that the file begins with; costs of version 1 count no arcs. `Read` stands where the reader fails, also after 2^40 calls; an interrupted call is tried again.
 /// `OutOfMemory` stands where a growth is refused. Memory is taken as bytes come in, beside a buffer of 64 KiB: 4 bytes
 /// for each rank, and one for each node when a sixteenth of the ranks has come, about 40 for each link, and then, when all
 /// links have come, 8 bytes for each node and for each link. What the file announces takes none. Linear in the bytes, but
@@ -45,7 +46,7 @@ struct Head {
 /// ranks, among those before it.
 pub fn read<R: StepRead>(alloc: Global, reader: &mut R) -> Result<Hierarchy, HierError>
     ensures ok { IfOk result (λ hierarchy. IfSome (R.remaining reader.old) (λ bytes. bytes ≡ bytes_of hierarchy)) }
-    ensures made { IfOk result IsOfFile }
+    ensures made { IfOk result IsWellMade }
     ensures spelling { IfSome (R.remaining reader.old) (λ bytes. ReadsSpellings bytes result) }
     ensures err { IfErr result (IsFaultOf first_fault (R.remaining reader.old)) }
     ensures calls { OnOk result (IsReadWithin R.step MOST_CALLS reader.old reader.new) }
@@ -62,27 +63,27 @@ pub fn read_within<R: StepRead>(
     calls: u64,
 ) -> Result<Hierarchy, HierError>
     ensures ok { IfOk result (λ hierarchy. IfSome (R.remaining reader.old) (λ bytes. bytes ≡ bytes_of hierarchy)) }
-    ensures made { IfOk result IsOfFile }
+    ensures made { IfOk result IsWellMade }
     ensures spelling { IfSome (R.remaining reader.old) (λ bytes. ReadsSpellings bytes result) }
     ensures err { IfErr result (IsFaultOf first_fault (R.remaining reader.old)) }
     ensures calls { OnOk result (IsReadWithin R.step (min calls MOST_CALLS) reader.old reader.new) }
     ensures stopped { IfErr result (λ e. ReadsWithin R.step (min calls MOST_CALLS) (e ≡ HierError.Read) reader.old reader.new) }
 {
     let mut input = Input::new(alloc, calls)?;
-    read_magic(&mut input, reader)?;
+    let version = read_magic(&mut input, reader)?;
     let head = read_head(&mut input, reader)?;
-    let hierarchy = read_body(alloc, &mut input, reader, head)?;
+    let hierarchy = read_body(alloc, &mut input, reader, version, head)?;
     Ok(hierarchy)
 }
 
-// Reads the magic, and compares each byte as it comes.
-fn read_magic<R: StepRead>(input: &mut Input, reader: &mut R) -> Result<(), HierError>
-    ensures ok { OnOk result (Consumes (coming input.old.waiting (R.remaining reader.old)) (coming input.new.waiting (R.remaining reader.new)) magic) }
+// Reads the magic, and compares each byte as it comes. The last one tells the version.
+fn read_magic<R: StepRead>(input: &mut Input, reader: &mut R) -> Result<Version, HierError>
+    ensures ok { IfOk result (λ version. Consumes (coming input.old.waiting (R.remaining reader.old)) (coming input.new.waiting (R.remaining reader.new)) (magic_of version)) }
     ensures err { IfErr result (IsFaultOf magic_fault (coming input.old.waiting (R.remaining reader.old))) }
     ensures calls { OnOk result (IsRead R.step input.old.left input.new.left reader.old reader.new) }
     ensures stopped { IfErr result (λ e. ReadsWithin R.step input.old.left (e ≡ HierError.Read) reader.old reader.new) }
 {
-    'bytes: for wanted in &MAGIC {
+    'bytes: for wanted in &STEM {
         let Some(byte) = input.byte(reader)? else {
             return Err(HierError::Truncated);
         };
@@ -90,7 +91,25 @@ fn read_magic<R: StepRead>(input: &mut Input, reader: &mut R) -> Result<(), Hier
             return Err(HierError::BadMagic);
         }
     }
-    Ok(())
+    let version = read_version(input, reader)?;
+    Ok(version)
+}
+
+// Reads the last byte of a magic.
+fn read_version<R: StepRead>(input: &mut Input, reader: &mut R) -> Result<Version, HierError>
+    ensures ok { IfOk result (λ version. Consumes (coming input.old.waiting (R.remaining reader.old)) (coming input.new.waiting (R.remaining reader.new)) (drop 3 (magic_of version))) }
+    ensures err { IfErr result (IsFaultOf (λ bytes. magic_fault (stem ++ bytes)) (coming input.old.waiting (R.remaining reader.old))) }
+    ensures calls { OnOk result (IsRead R.step input.old.left input.new.left reader.old reader.new) }
+    ensures stopped { IfErr result (λ e. ReadsWithin R.step input.old.left (e ≡ HierError.Read) reader.old reader.new) }
+{
+    let Some(byte) = input.byte(reader)? else {
+        return Err(HierError::Truncated);
+    };
+    match byte {
+        b'1' => Ok(Version::One),
+        b'2' => Ok(Version::Two),
+        _ => Err(HierError::BadMagic),
+    }
 }
 
 // Reads the numbers behind the magic.
@@ -126,37 +145,56 @@ fn test_sizes(head: Head) -> Result<(), HierError>
     Ok(())
 }
 
-// Reads what follows the head.
+// Reads what follows the head, in a file of this version.
 fn read_body<R: StepRead>(
     alloc: Global,
     input: &mut Input,
     reader: &mut R,
+    version: Version,
     head: Head,
 ) -> Result<Hierarchy, HierError>
     requires { size_fault head.nodes head.links head.bound ≡ None }
-    ensures made { IfOk result IsOfFile }
-    ensures sizes { IfOk result (λ hierarchy. IsBodyOf hierarchy head.nodes head.links head.bound) }
-    ensures ok { IfOk result (λ hierarchy. IfSome (coming input.old.waiting (R.remaining reader.old)) (λ bytes. bytes ≡ flat_map word hierarchy.ranks ++ flat_map link_bytes hierarchy.links)) }
-    ensures err { IfErr result (IsFaultOf (body_fault head.nodes head.links head.bound) (coming input.old.waiting (R.remaining reader.old))) }
+    ensures made { IfOk result IsWellMade }
+    ensures sizes { IfOk result (λ hierarchy. IsBodyOf hierarchy version head.nodes head.links head.bound) }
+    ensures ok { IfOk result (λ hierarchy. IfSome (coming input.old.waiting (R.remaining reader.old)) (λ bytes. bytes ≡ flat_map word hierarchy.ranks ++ flat_map (link_bytes version) hierarchy.links)) }
+    ensures err { IfErr result (IsFaultOf (body_fault version head.nodes head.links head.bound) (coming input.old.waiting (R.remaining reader.old))) }
     ensures calls { OnOk result (IsRead R.step input.old.left input.new.left reader.old reader.new) }
     ensures stopped { IfErr result (λ e. ReadsWithin R.step input.old.left (e ≡ HierError.Read) reader.old reader.new) }
 {
-    let bound = bound_of(head);
+    let bound = bound_of(version, head);
     let ranks = read_ranks(alloc, input, reader, head.nodes)?;
-    let links = read_links(alloc, input, reader, ranks.as_slice(), bound, head.links)?;
+    let links = read_links(
+        alloc,
+        input,
+        reader,
+        version,
+        ranks.as_slice(),
+        bound,
+        head.links,
+    )?;
     let all = links.as_slice();
     let index = LinkIndex::new(alloc, head.nodes, all)?;
     let halves = find_halves(alloc, all, &index)?;
     read_end(input, reader)?;
-    Ok(Hierarchy::with_index(Version::Two, ranks, links, bound, index, halves))
+    Ok(Hierarchy::with_index(version, ranks, links, bound, index, halves))
 }
 
-// The bound of a hierarchy with this head: it counts one arc fewer than there are nodes.
-fn bound_of(head: Head) -> Cost
-    ensures { result ≡ bound_in head.nodes head.bound }
+// The bound of a hierarchy with this head.
+fn bound_of(version: Version, head: Head) -> Cost
+    ensures { result ≡ bound_in version head.nodes head.bound }
 {
-    let arcs = head.nodes.saturating_sub(1);
+    let arcs = bound_arcs(version, head.nodes);
     Cost::of_walk(head.bound, u64::from(arcs))
+}
+
+// How many arcs the bound counts: in version 2 one fewer than there are nodes.
+fn bound_arcs(version: Version, nodes: u32) -> u32
+    ensures { result ≡ bound_arcs version nodes }
+{
+    match version {
+        Version::One => 0,
+        Version::Two => nodes.saturating_sub(1),
+    }
 }
 
 // Sees that nothing follows.

@@ -5,6 +5,7 @@ ghost use Rattle.hierfile.specs.Spelling.{bytes_of, word, long, head_bytes, link
 ghost use Rattle.counted_io.specs.Handing.{HandsOn};
 ghost use Rattle.counted_io.specs.Limits.{IsWrittenWithin, StopsWithin};
 ghost use Rattle.counted_io.specs.declared.TheConstants.{MOST_CALLS};
+ghost use Rattle.ch_graph.specs.declared.version.Version.TheVariants.{Two};
 ghost use Rattle.ch_graph.specs.Hierarchy.{version_number};
 ghost use Rattle.hierfile.specs.Bytes.{Hands, IsPartOf, IsWritable, Stops, Took};
 
@@ -13,7 +14,7 @@ use crate::output::Output;
 use ch_graph::{Hierarchy, Link};
 use counted_io::{MOST_CALLS, StepWrite, WriteFault};
 
-/// The magic, as a number of four bytes.
+/// The magic of version 2, as a number of four bytes.
 const MAGIC: u32 = 0x5243_4832;
 
 /// Writes a hierarchy of version 2 to a file.
@@ -52,14 +53,14 @@ pub fn write_within<W: StepWrite>(
     Ok(())
 }
 
-// Writes the magic, how many nodes and links there are, and the bound.
+// Writes the magic of version 2, how many nodes and links there are, and the bound.
 fn write_head<W: StepWrite>(
     hierarchy: &Hierarchy,
     output: &mut Output,
     writer: &mut W,
 ) -> Result<(), WriteFault>
-    ensures ok { OnOk result (HandsOn (W.contents writer.old) (W.contents writer.new) (output.old.waiting ++ head_bytes (length hierarchy.now.ranks) (length hierarchy.now.links) hierarchy.now.bound) output.new.waiting output.old.written output.new.written) }
-    ensures err { IfErr result (λ fault. IsPartOf (W.contents writer.old) (W.contents writer.new) output.old (head_bytes (length hierarchy.now.ranks) (length hierarchy.now.links) hierarchy.now.bound) fault.written) }
+    ensures ok { OnOk result (HandsOn (W.contents writer.old) (W.contents writer.new) (output.old.waiting ++ head_bytes Two (length hierarchy.now.ranks) (length hierarchy.now.links) hierarchy.now.bound) output.new.waiting output.old.written output.new.written) }
+    ensures err { IfErr result (λ fault. IsPartOf (W.contents writer.old) (W.contents writer.new) output.old (head_bytes Two (length hierarchy.now.ranks) (length hierarchy.now.links) hierarchy.now.bound) fault.written) }
     ensures calls { OnOk result (Hands W.step output.old output.new writer.old writer.new) }
     ensures stopped { IfErr result (λ fault. Stops W.step output.old fault.written writer.old writer.new) }
 {
@@ -87,15 +88,15 @@ fn write_ranks<W: StepWrite>(
     Ok(())
 }
 
-// Writes each link.
+// Writes each link, as version 2 has it.
 fn write_links<W: StepWrite>(
     links: &[Link],
     output: &mut Output,
     writer: &mut W,
 ) -> Result<(), WriteFault>
-    requires { All IsWritable links.now }
-    ensures ok { OnOk result (HandsOn (W.contents writer.old) (W.contents writer.new) (output.old.waiting ++ flat_map link_bytes links.now) output.new.waiting output.old.written output.new.written) }
-    ensures err { IfErr result (λ fault. IsPartOf (W.contents writer.old) (W.contents writer.new) output.old (flat_map link_bytes links.now) fault.written) }
+    requires { All (IsWritable Two) links.now }
+    ensures ok { OnOk result (HandsOn (W.contents writer.old) (W.contents writer.new) (output.old.waiting ++ flat_map (link_bytes Two) links.now) output.new.waiting output.old.written output.new.written) }
+    ensures err { IfErr result (λ fault. IsPartOf (W.contents writer.old) (W.contents writer.new) output.old (flat_map (link_bytes Two) links.now) fault.written) }
     ensures calls { OnOk result (Hands W.step output.old output.new writer.old writer.new) }
     ensures stopped { IfErr result (λ fault. Stops W.step output.old fault.written writer.old writer.new) }
 {
@@ -105,15 +106,15 @@ fn write_links<W: StepWrite>(
     Ok(())
 }
 
-// Writes one link.
+// Writes one link, as version 2 has it.
 fn write_link<W: StepWrite>(
     link: Link,
     output: &mut Output,
     writer: &mut W,
 ) -> Result<(), WriteFault>
-    requires { IsWritable link }
-    ensures ok { OnOk result (HandsOn (W.contents writer.old) (W.contents writer.new) (output.old.waiting ++ link_bytes link) output.new.waiting output.old.written output.new.written) }
-    ensures err { IfErr result (λ fault. IsPartOf (W.contents writer.old) (W.contents writer.new) output.old (link_bytes link) fault.written) }
+    requires { IsWritable Two link }
+    ensures ok { OnOk result (HandsOn (W.contents writer.old) (W.contents writer.new) (output.old.waiting ++ link_bytes Two link) output.new.waiting output.old.written output.new.written) }
+    ensures err { IfErr result (λ fault. IsPartOf (W.contents writer.old) (W.contents writer.new) output.old (link_bytes Two link) fault.written) }
     ensures calls { OnOk result (Hands W.step output.old output.new writer.old writer.new) }
     ensures stopped { IfErr result (λ fault. Stops W.step output.old fault.written writer.old writer.new) }
 {

@@ -1,7 +1,8 @@
 ghost use Rattle.std.specs.Prelude.{◌<◌};
 
-use crate::files::{BY_WAY_OF_0, HEAVY, MAGIC, ROW, bytes, refusal};
+use crate::files::{BY_WAY_OF_0, HEAVY, MAGIC, ONE_ARC, ROW, bytes, refusal};
 use crate::plain::first_fault;
+use crate::version_1::{BY_WAY_OF_0_1, HEAVY_1, ONE_ARC_1, ROW_1};
 use std::alloc::{AllocError, Global};
 use std::process::Abort;
 
@@ -59,11 +60,24 @@ fn is_told_everywhere(alloc: Global, file: &mut [u8]) -> bool {
     true
 }
 
+/// Whether a file is well made, and told with each value of each byte.
+fn is_each_change_told(alloc: Global, words: &[u32]) -> Result<bool, AllocError> {
+    let mut file = bytes(alloc, words)?;
+    let is_told = is_told_everywhere(alloc, file.as_mut_slice());
+    Ok(is_told & refusal(alloc, file.as_slice()).is_none())
+}
+
 #[test]
 fn each_byte_changed(rt: HostRuntime) -> Result<(), AllocError> {
-    let mut file = bytes(rt.alloc(), &ROW)?;
-    let is_told = is_told_everywhere(rt.alloc(), file.as_mut_slice());
-    assert!(rt; is_told & refusal(rt.alloc(), file.as_slice()).is_none());
+    assert!(rt; is_each_change_told(rt.alloc(), &ONE_ARC)?);
+    assert!(rt; is_each_change_told(rt.alloc(), &ROW)?);
+    Ok(())
+}
+
+#[test]
+fn each_byte_of_version_1_changed(rt: HostRuntime) -> Result<(), AllocError> {
+    assert!(rt; is_each_change_told(rt.alloc(), &ONE_ARC_1)?);
+    assert!(rt; is_each_change_told(rt.alloc(), &ROW_1)?);
     Ok(())
 }
 
@@ -79,7 +93,16 @@ fn is_each_front_told(alloc: Global, file: &[u8]) -> bool {
 
 #[test]
 fn each_cut(rt: HostRuntime) -> Result<(), AllocError> {
-    let files: [&[u32]; 3] = [&ROW, &HEAVY, &BY_WAY_OF_0];
+    let files: [&[u32]; 8] = [
+        &ONE_ARC,
+        &ROW,
+        &HEAVY,
+        &BY_WAY_OF_0,
+        &ONE_ARC_1,
+        &ROW_1,
+        &HEAVY_1,
+        &BY_WAY_OF_0_1,
+    ];
     for words in files {
         let file = bytes(rt.alloc(), words)?;
         assert!(rt; is_each_front_told(rt.alloc(), file.as_slice()));
@@ -99,15 +122,24 @@ fn change(draw: &mut Draw, file: &mut Vec<u8>) {
     }
 }
 
+/// Whether a file is told with some bytes changed, drawn anew so often.
+fn is_told_with_some(alloc: Global, words: &[u32]) -> Result<bool, AllocError> {
+    let mut draw = Draw { state: 1 };
+    let file = bytes(alloc, words)?;
+    for _ in 0..DRAWN {
+        let mut changed = Vec::from_slice(alloc, file.as_slice())?;
+        change(&mut draw, &mut changed);
+        if !is_told(alloc, changed.as_slice()) {
+            return Ok(false);
+        }
+    }
+    Ok(true)
+}
+
 #[test]
 fn some_bytes_changed(rt: HostRuntime) -> Result<(), AllocError> {
-    let mut draw = Draw { state: 1 };
-    let file = bytes(rt.alloc(), &ROW)?;
-    for _ in 0..DRAWN {
-        let mut changed = Vec::from_slice(rt.alloc(), file.as_slice())?;
-        change(&mut draw, &mut changed);
-        assert!(rt; is_told(rt.alloc(), changed.as_slice()));
-    }
+    assert!(rt; is_told_with_some(rt.alloc(), &ROW)?);
+    assert!(rt; is_told_with_some(rt.alloc(), &ROW_1)?);
     Ok(())
 }
 

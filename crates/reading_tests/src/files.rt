@@ -14,14 +14,11 @@ const NONE: u32 = u32::MAX;
 /// More calls than any reader or writer here gets.
 const MANY: u64 = 1 << 40;
 
-// Files as numbers of four bytes.
+// Files of version 2, as numbers of four bytes.
 
 const NO_NODE: [u32; 6] = [MAGIC, 0, 0, 0, 0, 0];
 
-const ONE_ARC: [u32; 14] = [MAGIC, 2, 0, 1, 0, 7, 0, 1, 0, 1, 0, 7, 1, NONE];
-
-/// The same file in its first form, which told no arcs.
-const FIRST_FORM: [u32; 13] = [0x5243_4831, 2, 0, 1, 0, 7, 0, 1, 0, 1, 0, 7, NONE];
+pub(crate) const ONE_ARC: [u32; 14] = [MAGIC, 2, 0, 1, 0, 7, 0, 1, 0, 1, 0, 7, 1, NONE];
 
 /// Two nodes, joined both ways by arcs of weight 0.
 const FREE: [u32; 20] = [
@@ -106,7 +103,7 @@ pub(crate) const HEAVY: [u32; 52] = [
 ];
 
 /// The greatest numbers that a head may have.
-const GREATEST: [u32; 6] = [MAGIC, 0x0200_0000, 0x0003_ffff, 0xfe00_0000, 0, 0];
+pub(crate) const GREATEST: [u32; 6] = [MAGIC, 0x0200_0000, 0x0003_ffff, 0xfe00_0000, 0, 0];
 
 pub(crate) fn bytes(alloc: Global, words: &[u32]) -> Result<Vec<u8>, AllocError> {
     let mut bytes = Vec::new(alloc);
@@ -145,7 +142,7 @@ fn is_kept(alloc: Global, words: &[u32]) -> Result<bool, AllocError> {
 }
 
 /// Other numbers at some places of a file, and what it is refused for with them.
-type Change = (&'static [(usize, u32)], HierError);
+pub(crate) type Change = (&'static [(usize, u32)], HierError);
 
 /// Changes of the row.
 const CHANGES: [Change; 18] = [
@@ -224,14 +221,14 @@ fn reads_numbers(rt: HostRuntime) -> Result<(), AllocError> {
     Ok(())
 }
 
-/// Whether each front of the row but the whole of it is refused as cut.
-fn fronts_are_cut(alloc: Global, row: &[u8]) -> bool {
-    for length in 0..row.len() {
-        if refusal(alloc, &row[..length]) != Some(HierError::Truncated) {
+/// Whether each front of a file but the whole of it is refused as cut.
+pub(crate) fn fronts_are_cut(alloc: Global, file: &[u8]) -> bool {
+    for length in 0..file.len() {
+        if refusal(alloc, &file[..length]) != Some(HierError::Truncated) {
             return false;
         }
     }
-    row.len() == 108
+    true
 }
 
 /// Whether bytes that are too long, and bytes with another magic, are refused.
@@ -254,7 +251,7 @@ fn others_are_refused(alloc: Global, longer: &[u8]) -> bool {
 /// Whether the row is refused where it is cut or longer.
 fn row_is_whole(alloc: Global) -> Result<bool, AllocError> {
     let mut row = bytes(alloc, &ROW)?;
-    let are_cut = fronts_are_cut(alloc, row.as_slice());
+    let are_cut = fronts_are_cut(alloc, row.as_slice()) & (row.len() == 108);
     row.push(0)?;
     Ok(are_cut & others_are_refused(alloc, row.as_slice()))
 }
@@ -266,7 +263,11 @@ fn refuses_cut_files(rt: HostRuntime) -> Result<(), AllocError> {
 }
 
 /// Whether a file is refused as it is said with each of these changes.
-fn are_refused(alloc: Global, file: &[u32], changes: &[Change]) -> Result<bool, AllocError> {
+pub(crate) fn are_refused(
+    alloc: Global,
+    file: &[u32],
+    changes: &[Change],
+) -> Result<bool, AllocError> {
     for (places, expected) in changes {
         if refusal_of(alloc, file, places)? != Some(*expected) {
             return Ok(false);
@@ -287,10 +288,9 @@ fn other_files_are_refused(alloc: Global) -> Result<bool, AllocError> {
         (&[(3, 0xfe00_0001)], HierError::TooBig),
         (&[(1, 0x0200_0001)], HierError::TooBig),
     ];
-    let first_form = are_refused(alloc, &FIRST_FORM, &[(&[], HierError::BadMagic)])?;
     let exchanged = are_refused(alloc, &EXCHANGED, &[(&[], HierError::LinkOrder)])?;
     let without_half = are_refused(alloc, &WITHOUT_HALF, &[(&[], HierError::HalfMissing)])?;
-    Ok(first_form & exchanged & without_half & are_refused(alloc, &GREATEST, &greatest)?)
+    Ok(exchanged & without_half & are_refused(alloc, &GREATEST, &greatest)?)
 }
 
 #[test]
@@ -300,32 +300,35 @@ fn refuses_files(rt: HostRuntime) -> Result<(), AllocError> {
     Ok(())
 }
 
-// Of 38 nodes each two are linked, by way of the node below the lower one. A link has as many arcs as it is long, or the
-// greatest number that is told.
-fn cascade(alloc: Global) -> Result<Vec<u32>, AllocError> {
+// Of 38 nodes each two are linked, by way of the node below the lower one, in the version of this magic. In version 2 a link
+// has as many arcs as it is long, or the greatest number that is told.
+pub(crate) fn cascade(alloc: Global, magic: u32) -> Result<Vec<u32>, AllocError> {
     let mut words = Vec::new(alloc);
-    words.extend_from_slice(&[MAGIC, 38, 0, 1406, 36, 0xffff_ffdb])?;
+    words.extend_from_slice(&[magic, 38, 0, 1406, 36, 0xffff_ffdb])?;
     for rank in 0..38u32 {
         words.push(rank)?;
     }
     for from in 0..38u32 {
         for to in 0..38u32 {
             if from != to {
-                push_link(&mut words, from, to)?;
+                push_link(&mut words, magic, from, to)?;
             }
         }
     }
     Ok(words)
 }
 
-fn push_link(words: &mut Vec<u32>, from: u32, to: u32) -> Result<(), AllocError> {
+fn push_link(words: &mut Vec<u32>, magic: u32, from: u32, to: u32) -> Result<(), AllocError> {
     let lower = from.min(to);
     let weight = 1u64.wrapping_shl(lower);
     let low = (weight & 0xffff_ffff) as u32;
     let high = (weight >> 32) as u32;
-    let arcs = if high == 0 { low } else { u32::MAX };
-    let middle = lower.checked_sub(1).unwrap_or(NONE);
-    words.extend_from_slice(&[from, to, high, low, arcs, middle])
+    words.extend_from_slice(&[from, to, high, low])?;
+    if magic == MAGIC {
+        words.push(if high == 0 { low } else { u32::MAX })?;
+    }
+    words.push(lower.checked_sub(1).unwrap_or(NONE))?;
+    Ok(())
 }
 
 /// Whether a file is refused with its first link of more than 37 arcs, that from 6 to 7, which is the 229th, and not before
@@ -351,7 +354,7 @@ fn is_refused_at_its_229th(alloc: Global, words: &[u32]) -> Result<bool, AllocEr
 
 #[test]
 fn refuses_a_cascade(rt: HostRuntime) -> Result<(), AllocError> {
-    let words = cascade(rt.alloc())?;
+    let words = cascade(rt.alloc(), MAGIC)?;
     assert!(rt; is_refused_at_its_229th(rt.alloc(), words.as_slice())?);
     Ok(())
 }
@@ -384,7 +387,7 @@ fn is_joined(alloc: Global, words: &[u32]) -> Result<bool, AllocError> {
 }
 
 // The hierarchy of a file of these numbers, or none.
-fn hierarchy_of(alloc: Global, words: &[u32]) -> Result<Option<Hierarchy>, AllocError> {
+pub(crate) fn hierarchy_of(alloc: Global, words: &[u32]) -> Result<Option<Hierarchy>, AllocError> {
     let bytes = bytes(alloc, words)?;
     let mut rest = bytes.as_slice();
     Ok(read(alloc, &mut rest).ok())

@@ -17,3 +17,5 @@ mod plain;
 mod refused;
 #[cfg(test)]
 mod texts;
+#[cfg(test)]
+mod version_1;

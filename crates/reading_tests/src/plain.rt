@@ -3,17 +3,22 @@ use hierfile::HierError;
 /// The number that stands for no middle.
 const NONE: u64 = 0xffff_ffff;
 
+/// What files begin with, in version 1 and in version 2.
+const MAGICS: [[u8; 4]; 2] = [*b"RCH1", *b"RCH2"];
+
 /// The bytes of a hierarchy file, and the numbers behind the magic: a slow and plain reader, written from the list of
 /// faults in `docs/FORMATS.md` and from nothing else. It keeps nothing but the bytes, and looks at them again for all.
 #[derive(Clone, Copy)]
 struct File<'a> {
     bytes: &'a [u8],
+    /// Whether links tell their arcs, as in version 2.
+    tells_arcs: bool,
     nodes: u64,
     links: u64,
     bound: u64,
 }
 
-/// A link as the bytes tell it.
+/// A link as the bytes tell it, with no arcs where they tell none.
 #[derive(Clone, Copy)]
 struct Told {
     from: u64,
@@ -43,29 +48,34 @@ pub(crate) fn first_fault(bytes: &[u8]) -> Option<HierError> {
     if let Some(fault) = file.halves_fault() {
         return Some(fault);
     }
-    if bytes.len() as u64 > place_of(file.links_begin(), file.links, 24) {
+    if bytes.len() as u64 > place_of(file.links_begin(), file.links, file.link_size()) {
         return Some(HierError::Trailing);
     }
     None
 }
 
 fn magic_fault(bytes: &[u8]) -> Option<HierError> {
-    for (place, wanted) in b"RCH2".iter().enumerate() {
-        match bytes.get(place) {
-            None => return Some(HierError::Truncated),
-            Some(byte) => {
-                if byte != wanted {
-                    return Some(HierError::BadMagic);
-                }
-            }
+    for length in 1..=4usize {
+        let Some(front) = bytes.get(..length) else {
+            return Some(HierError::Truncated);
+        };
+        if !begins_a_magic(front) {
+            return Some(HierError::BadMagic);
         }
     }
     None
 }
 
+// Whether some magic begins with these bytes.
+fn begins_a_magic(front: &[u8]) -> bool {
+    let [first, second] = MAGICS;
+    first.get(..front.len()) == Some(front) || second.get(..front.len()) == Some(front)
+}
+
 fn file_of(bytes: &[u8]) -> Option<File<'_>> {
     Some(File {
         bytes,
+        tells_arcs: bytes.get(3) == Some(&b'2'),
         nodes: number(bytes, 4, 4)?,
         links: number(bytes, 8, 8)?,
         bound: number(bytes, 16, 8)?,
@@ -128,15 +138,29 @@ impl File<'_> {
         place_of(24, self.nodes, 4)
     }
 
+    fn link_size(&self) -> u64 {
+        if self.tells_arcs { 24 } else { 20 }
+    }
+
     fn link(&self, place: u64) -> Option<Told> {
-        let at = place_of(self.links_begin(), place, 24);
+        let at = place_of(self.links_begin(), place, self.link_size());
+        let end = at.saturating_add(self.link_size());
         Some(Told {
             from: number(self.bytes, at, 4)?,
             to: number(self.bytes, at.saturating_add(4), 4)?,
             weight: number(self.bytes, at.saturating_add(8), 8)?,
-            arcs: number(self.bytes, at.saturating_add(16), 4)?,
-            middle: number(self.bytes, at.saturating_add(20), 4)?,
+            arcs: self.arcs(at)?,
+            middle: number(self.bytes, end.saturating_sub(4), 4)?,
         })
+    }
+
+    // The arcs of the link that begins here.
+    fn arcs(&self, at: u64) -> Option<u64> {
+        if self.tells_arcs {
+            number(self.bytes, at.saturating_add(16), 4)
+        } else {
+            Some(0)
+        }
     }
 
     fn links_fault(&self) -> Option<HierError> {
@@ -162,7 +186,7 @@ impl File<'_> {
                 return Some(HierError::LinkOrder);
             }
         }
-        if link.weight > self.bound || !self.has_arcs(link) {
+        if link.weight > self.bound || !self.does_count(link) {
             return Some(HierError::LinkWeight);
         }
         if link.middle == NONE {
@@ -178,8 +202,12 @@ impl File<'_> {
         None
     }
 
-    // Whether a link has arcs, fewer than there are nodes, and one where it has no middle.
-    fn has_arcs(&self, link: Told) -> bool {
+    // Whether a link has a weight, in version 1; in version 2, whether it has arcs, fewer than there are nodes, and one where
+    // it has no middle.
+    fn does_count(&self, link: Told) -> bool {
+        if !self.tells_arcs {
+            return link.weight > 0;
+        }
         if link.middle == NONE {
             return link.arcs == 1;
         }

@@ -7,6 +7,7 @@ ghost use Rattle.std.specs.Prelude.{◌≡◌, ◌<◌, length, IfOk, IfSome};
 ghost use Rattle.ch_graph.specs.Unfolding.{Joined};
 
 use crate::files::{BY_WAY_OF_0, MAGIC, ROW, bytes};
+use crate::version_1::{BY_WAY_OF_0_1, ROW_1};
 use ch_cost::Cost;
 use ch_graph::{Graph, Hierarchy, LinkId, Road};
 use ch_query::{Found, Search};
@@ -38,9 +39,10 @@ const PAIRS: [(&[u8], Option<(GrErrorKind, u64)>); 3] = [
 ];
 
 /// Files, as numbers of four bytes, each with what it is refused for or none: a row of three nodes with a shortcut by
-/// way of the first, with a wrong sum of the halves, and cut after its ranks.
-const FILES: [(&[u32], Option<HierError>); 3] = [
+/// way of the first, in both versions, with a wrong sum of the halves, and cut after its ranks.
+const FILES: [(&[u32], Option<HierError>); 4] = [
     (&ROW, None),
+    (&ROW_1, None),
     (
         &[
             MAGIC,
@@ -256,16 +258,19 @@ fn are_round(alloc: Global, hierarchy: &Hierarchy, links: &[LinkId]) -> Result<b
     Ok(nodes.as_slice() == [1u32, 0, 2].as_slice())
 }
 
-/// Whether a walk from 1 to 2 of three nodes is found, and goes by way of 0.
-fn goes_round(alloc: Global, hierarchy: &Hierarchy, search: &mut Search) -> Result<bool, Fail>
+/// Whether a walk from 1 to 2 of three nodes is found, costs this, and goes by way of 0.
+fn goes_round(
+    alloc: Global,
+    hierarchy: &Hierarchy,
+    search: &mut Search,
+    cost: Cost,
+) -> Result<bool, Fail>
     requires same { search.old ≡ hierarchy.now }
     requires three { length hierarchy.now.ranks ≡ 3 }
     ensures kept { search.new ≡ search.old }
 {
     match found(search, 1, 2)? {
-        Some(walk) => Ok(
-            (walk.cost == Cost::of_walk(5, 2)) & are_round(alloc, hierarchy, &walk.links)?,
-        ),
+        Some(walk) => { Ok((walk.cost == cost) & are_round(alloc, hierarchy, &walk.links)?) }
         None => Ok(false),
     }
 }
@@ -278,33 +283,39 @@ fn finds_none(search: &mut Search, source: u32, target: u32) -> Result<bool, All
     Ok(found(search, source, target)?.is_none())
 }
 
-/// Whether a walk is found from 1 to 2 of three nodes, and none from 2 to 1.
-fn goes_one_way(alloc: Global, hierarchy: &Hierarchy, search: &mut Search) -> Result<bool, Fail>
+/// Whether such a walk is found from 1 to 2 of three nodes, and none from 2 to 1.
+fn goes_one_way(
+    alloc: Global,
+    hierarchy: &Hierarchy,
+    search: &mut Search,
+    cost: Cost,
+) -> Result<bool, Fail>
     requires same { search.old ≡ hierarchy.now }
     requires three { length hierarchy.now.ranks ≡ 3 }
 {
-    let goes_round = goes_round(alloc, hierarchy, search)?;
+    let goes_round = goes_round(alloc, hierarchy, search, cost)?;
     Ok(goes_round & finds_none(search, 2, 1)?)
 }
 
-/// Whether there are three nodes, and a search goes one way.
-fn is_one_way(alloc: Global, hierarchy: &Hierarchy) -> Result<bool, Fail> {
+/// Whether there are three nodes, and a search goes one way, at this cost.
+fn is_one_way(alloc: Global, hierarchy: &Hierarchy, cost: Cost) -> Result<bool, Fail> {
     if hierarchy.nodes() != 3 {
         return Ok(false);
     }
     let mut search = Search::new(alloc, hierarchy)?;
-    goes_one_way(alloc, hierarchy, &mut search)
+    goes_one_way(alloc, hierarchy, &mut search, cost)
 }
 
-/// Whether the row is one way.
-fn row_is_one_way(alloc: Global) -> Result<bool, Fail> {
-    let hierarchy = hierarchy_of(alloc, &ROW)?;
-    is_one_way(alloc, &hierarchy)
+/// Whether the row of a file is one way, at this cost.
+fn row_is_one_way(alloc: Global, words: &[u32], cost: Cost) -> Result<bool, Fail> {
+    let hierarchy = hierarchy_of(alloc, words)?;
+    is_one_way(alloc, &hierarchy, cost)
 }
 
 #[test]
 fn query_and_route(rt: HostRuntime) -> Result<(), Fail> {
-    assert!(rt; row_is_one_way(rt.alloc())?);
+    assert!(rt; row_is_one_way(rt.alloc(), &ROW, Cost::of_walk(5, 2))?);
+    assert!(rt; row_is_one_way(rt.alloc(), &ROW_1, Cost::of_walk(5, 0))?);
     Ok(())
 }
 
@@ -329,13 +340,14 @@ fn goes_too_far(alloc: Global, hierarchy: &Hierarchy) -> Result<bool, Fail> {
 }
 
 /// Whether a walk that goes over node 0 twice is too long.
-fn goes_over_0_twice(alloc: Global) -> Result<bool, Fail> {
-    let hierarchy = hierarchy_of(alloc, &BY_WAY_OF_0)?;
+fn goes_over_0_twice(alloc: Global, words: &[u32]) -> Result<bool, Fail> {
+    let hierarchy = hierarchy_of(alloc, words)?;
     goes_too_far(alloc, &hierarchy)
 }
 
 #[test]
 fn too_long_a_route(rt: HostRuntime) -> Result<(), Fail> {
-    assert!(rt; goes_over_0_twice(rt.alloc())?);
+    assert!(rt; goes_over_0_twice(rt.alloc(), &BY_WAY_OF_0)?);
+    assert!(rt; goes_over_0_twice(rt.alloc(), &BY_WAY_OF_0_1)?);
     Ok(())
 }

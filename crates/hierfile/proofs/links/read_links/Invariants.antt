@@ -13,8 +13,8 @@ invariant-links g l =
     let links = l.links.items in
     record {
       count : length links ≡ l.counter;
-      faultless : NoneBelow l.counter (link_fault_at l.ranks l.bound links);
-      writable : All IsWritable links;
-      taken : Consumes (coming l.fn.input.waiting (remaining l.fn.reader)) (coming l.input.waiting (remaining l.reader)) (flat_map link_bytes links);
+      faultless : NoneBelow l.counter (link_fault_at l.version l.ranks l.bound links);
+      writable : All (IsWritable l.version) links;
+      taken : Consumes (coming l.fn.input.waiting (remaining l.fn.reader)) (coming l.input.waiting (remaining l.reader)) (flat_map (link_bytes l.version) links);
       calls : IsRead g.R.StepRead.step l.fn.input.left l.input.left l.fn.reader l.reader;
     }

@@ -1,14 +1,14 @@
-use Rattle.std.proofs.Common.{ℕ, ◌^◌, ◌++◌, [], ◌<◌, List, length, ◌-◌, refl, sym, ◌∙◌, ap, subst, arith, AllPairs}
+use Rattle.std.proofs.Common.{ℕ, ◌^◌, ◌++◌, [], ◌<◌, List, length, refl, sym, ◌∙◌, ap, subst, arith, AllPairs}
 use Rattle.std.specs.List.{flat_map}
 use Rattle.std.proofs.KnownBytes.{Consumes-trans, Consumes-nil}
 use Rattle.ch_cost.specs.declared.cost.Cost.{Cost}
 use Rattle.ch_cost.specs.Cost.{length_of}
 use Rattle.ch_cost.specs.Cost.Numbers.{length_of-of_walk}
 use Rattle.ch_graph.specs.declared.link.Link.{Link}
-use Rattle.ch_graph.specs.Hierarchy.{ComesBefore}
+use Rattle.ch_graph.specs.Hierarchy.{IsWellMade, ComesBefore, bound_arcs}
 use Rattle.ch_graph.specs.LinkIndex.{IsIndexOf}
 use Rattle.ch_graph.specs.LinkHalves.{AreHalvesOf}
-use Rattle.hierfile.specs.Spelling.{word, link_bytes, bound_in, IsOfFile}
+use Rattle.hierfile.specs.Spelling.{word, link_bytes, bound_in}
 use Rattle.hierfile.specs.Fault.{link_fault_at, links_fault, ranks_fault, half_fault, first_along, end_fault, body_fault}
 use Rattle.hierfile.specs.Bytes.{NoneBelow}
 use Rattle.hierfile.proofs.Faults.{hands_on, behind, found, earlier, later}
@@ -23,7 +23,7 @@ pub returns-in_err-ranks-clause-err : goal.returns-in_err-ranks-clause-err
 returns-in_err-ranks-clause-err g c =
     let head = c.args.head in
     hands_on c.from_residual.result _ _ c.from_residual.ensures.1
-    (behind [] (ranks_fault head.nodes) (body_fault head.nodes head.links head.bound) _ _ _ (Consumes-nil _) (λ rest is. body_ranks head.nodes head.links head.bound rest is) c.in_err-ranks.ensures.err)
+    (behind [] (ranks_fault head.nodes) (body_fault c.args.version head.nodes head.links head.bound) _ _ _ (Consumes-nil _) (λ rest is. body_ranks c.args.version head.nodes head.links head.bound rest is) c.in_err-ranks.ensures.err)
 
 pub returns-in_err-links-clause-err : goal.returns-in_err-links-clause-err
 returns-in_err-links-clause-err g c =
@@ -31,24 +31,24 @@ returns-in_err-links-clause-err g c =
     let ranks = c.in_ok-ranks.ranks.items in
     let small : head.nodes < 2 ^ 32 = omega (arith, few_nodes head.nodes head.links head.bound c.requires) in
     hands_on c.from_residual-in_err-links.result _ _ c.from_residual-in_err-links.ensures.1
-    (behind (flat_map word ranks) (links_fault c.as_slice.result.now c.bound_of-bound.result head.links) (body_fault head.nodes head.links head.bound) _ _ _ c.in_ok-ranks.ensures.ok
-    (λ rest is. body_links head.nodes head.links head.bound ranks rest small c.in_ok-ranks.ensures.count c.in_ok-ranks.ensures.faultless
-    (ap (λ (r : List ℕ). links_fault r (bound_in head.nodes head.bound) head.links rest) (sym c.as_slice.ensures.value) ∙ ap (λ (b : Cost). links_fault c.as_slice.result.now b head.links rest) (sym c.bound_of-bound.ensures) ∙ is))
+    (behind (flat_map word ranks) (links_fault c.args.version c.as_slice.result.now c.bound_of-bound.result head.links) (body_fault c.args.version head.nodes head.links head.bound) _ _ _ c.in_ok-ranks.ensures.ok
+    (λ rest is. body_links c.args.version head.nodes head.links head.bound ranks rest small c.in_ok-ranks.ensures.count c.in_ok-ranks.ensures.faultless
+    (ap (λ (r : List ℕ). links_fault c.args.version r (bound_in c.args.version head.nodes head.bound) head.links rest) (sym c.as_slice.ensures.value) ∙ ap (λ (b : Cost). links_fault c.args.version c.as_slice.result.now b head.links rest) (sym c.bound_of-bound.ensures) ∙ is))
     c.in_err-links.ensures.err)
 
 -- the links are in order, and the index is theirs
 pub new-requires : goal.new-requires
 new-requires g c =
     let links = c.in_ok-links.links.items in
-    let none : NoneBelow (length links) (link_fault_at c.as_slice.result.now c.bound_of-bound.result links) = subst (λ m. NoneBelow m (link_fault_at c.as_slice.result.now c.bound_of-bound.result links)) (sym c.in_ok-links.ensures.count) c.in_ok-links.ensures.faultless in
-    subst (AllPairs ComesBefore) (sym c.as_slice-all.ensures.value) (links_sorted c.as_slice.result.now c.bound_of-bound.result links none)
+    let none : NoneBelow (length links) (link_fault_at c.args.version c.as_slice.result.now c.bound_of-bound.result links) = subst (λ m. NoneBelow m (link_fault_at c.args.version c.as_slice.result.now c.bound_of-bound.result links)) (sym c.in_ok-links.ensures.count) c.in_ok-links.ensures.faultless in
+    subst (AllPairs ComesBefore) (sym c.as_slice-all.ensures.value) (links_sorted c.args.version c.as_slice.result.now c.bound_of-bound.result links none)
 
 pub find_halves-requires : goal.find_halves-requires
 find_halves-requires g c =
     let links = c.in_ok-links.links.items in
-    let none : NoneBelow (length links) (link_fault_at c.as_slice.result.now c.bound_of-bound.result links) = subst (λ m. NoneBelow m (link_fault_at c.as_slice.result.now c.bound_of-bound.result links)) (sym c.in_ok-links.ensures.count) c.in_ok-links.ensures.faultless in
+    let none : NoneBelow (length links) (link_fault_at c.args.version c.as_slice.result.now c.bound_of-bound.result links) = subst (λ m. NoneBelow m (link_fault_at c.args.version c.as_slice.result.now c.bound_of-bound.result links)) (sym c.in_ok-links.ensures.count) c.in_ok-links.ensures.faultless in
     record {
-      sorted = subst (AllPairs ComesBefore) (sym c.as_slice-all.ensures.value) (links_sorted c.as_slice.result.now c.bound_of-bound.result links none);
+      sorted = subst (AllPairs ComesBefore) (sym c.as_slice-all.ensures.value) (links_sorted c.args.version c.as_slice.result.now c.bound_of-bound.result links none);
       index = c.in_ok-index.ensures.index;
     }
 
@@ -59,10 +59,10 @@ returns-in_err-halves-clause-err g c =
     let links = c.in_ok-links.links.items in
     let small : head.nodes < 2 ^ 32 = omega (arith, few_nodes head.nodes head.links head.bound c.requires) in
     let so_far = Consumes-trans _ _ _ _ _ c.in_ok-ranks.ensures.ok c.in_ok-links.ensures.ok in
-    let links_ok : NoneBelow head.links (link_fault_at ranks (bound_in head.nodes head.bound) links) = λ i less. ap (λ (r : List ℕ). link_fault_at r (bound_in head.nodes head.bound) links i) (sym c.as_slice.ensures.value) ∙ ap (λ (b : Cost). link_fault_at c.as_slice.result.now b links i) (sym c.bound_of-bound.ensures) ∙ c.in_ok-links.ensures.faultless i less in
+    let links_ok : NoneBelow head.links (link_fault_at c.args.version ranks (bound_in c.args.version head.nodes head.bound) links) = λ i less. ap (λ (r : List ℕ). link_fault_at c.args.version r (bound_in c.args.version head.nodes head.bound) links i) (sym c.as_slice.ensures.value) ∙ ap (λ (b : Cost). link_fault_at c.args.version c.as_slice.result.now b links i) (sym c.bound_of-bound.ensures) ∙ c.in_ok-links.ensures.faultless i less in
     hands_on c.from_residual-in_err-halves.result _ _ c.from_residual-in_err-halves.ensures.1
-    (found (flat_map word ranks ++ flat_map link_bytes links) (body_fault head.nodes head.links head.bound) _ _ _ so_far
-    (λ is rest. body_after_links head.nodes head.links head.bound ranks links rest small c.in_ok-ranks.ensures.count c.in_ok-ranks.ensures.faultless c.in_ok-links.ensures.count c.in_ok-links.ensures.writable links_ok
+    (found (flat_map word ranks ++ flat_map (link_bytes c.args.version) links) (body_fault c.args.version head.nodes head.links head.bound) _ _ _ so_far
+    (λ is rest. body_after_links c.args.version head.nodes head.links head.bound ranks links rest small c.in_ok-ranks.ensures.count c.in_ok-ranks.ensures.faultless c.in_ok-links.ensures.count c.in_ok-links.ensures.writable links_ok
     ∙ earlier _ (ap (λ (l : List Link). first_along (half_fault l) l) (sym c.as_slice-all.ensures.value) ∙ is))
     c.in_err-halves.ensures.err)
 
@@ -73,31 +73,28 @@ returns-in_err-read_end-clause-err g c =
     let links = c.in_ok-links.links.items in
     let small : head.nodes < 2 ^ 32 = omega (arith, few_nodes head.nodes head.links head.bound c.requires) in
     let so_far = Consumes-trans _ _ _ _ _ c.in_ok-ranks.ensures.ok c.in_ok-links.ensures.ok in
-    let links_ok : NoneBelow head.links (link_fault_at ranks (bound_in head.nodes head.bound) links) = λ i less. ap (λ (r : List ℕ). link_fault_at r (bound_in head.nodes head.bound) links i) (sym c.as_slice.ensures.value) ∙ ap (λ (b : Cost). link_fault_at c.as_slice.result.now b links i) (sym c.bound_of-bound.ensures) ∙ c.in_ok-links.ensures.faultless i less in
+    let links_ok : NoneBelow head.links (link_fault_at c.args.version ranks (bound_in c.args.version head.nodes head.bound) links) = λ i less. ap (λ (r : List ℕ). link_fault_at c.args.version r (bound_in c.args.version head.nodes head.bound) links i) (sym c.as_slice.ensures.value) ∙ ap (λ (b : Cost). link_fault_at c.args.version c.as_slice.result.now b links i) (sym c.bound_of-bound.ensures) ∙ c.in_ok-links.ensures.faultless i less in
     let halves_ok = ap (λ (l : List Link). first_along (half_fault l) l) (sym c.as_slice-all.ensures.value) ∙ c.in_ok-halves.ensures.faultless in
     hands_on c.from_residual-in_err-read_end.result _ _ c.from_residual-in_err-read_end.ensures.1
-    (behind (flat_map word ranks ++ flat_map link_bytes links) end_fault (body_fault head.nodes head.links head.bound) _ _ _ so_far
-    (λ rest is. body_after_links head.nodes head.links head.bound ranks links rest small c.in_ok-ranks.ensures.count c.in_ok-ranks.ensures.faultless c.in_ok-links.ensures.count c.in_ok-links.ensures.writable links_ok
+    (behind (flat_map word ranks ++ flat_map (link_bytes c.args.version) links) end_fault (body_fault c.args.version head.nodes head.links head.bound) _ _ _ so_far
+    (λ rest is. body_after_links c.args.version head.nodes head.links head.bound ranks links rest small c.in_ok-ranks.ensures.count c.in_ok-ranks.ensures.faultless c.in_ok-links.ensures.count c.in_ok-links.ensures.writable links_ok
     ∙ later halves_ok is)
     c.in_err-read_end.ensures.err)
 
 pub with_index-requires : goal.with_index-requires
 with_index-requires g c = record {
-  made = well_made_of c.args.head.nodes c.args.head.links c.args.head.bound c.in_ok-ranks.ranks.items c.as_slice.result.now c.in_ok-links.links.items c.as_slice-all.result.now c.bound_of-bound.result c.requires c.in_ok-ranks.ensures.count c.in_ok-ranks.ensures.faultless c.in_ok-links.ensures.count c.in_ok-links.ensures.faultless c.in_ok-halves.ensures.faultless c.as_slice.ensures.value c.as_slice-all.ensures.value c.bound_of-bound.ensures;
+  made = well_made_of c.args.version c.args.head.nodes c.args.head.links c.args.head.bound c.in_ok-ranks.ranks.items c.as_slice.result.now c.in_ok-links.links.items c.as_slice-all.result.now c.bound_of-bound.result c.requires c.in_ok-ranks.ensures.count c.in_ok-ranks.ensures.faultless c.in_ok-links.ensures.count c.in_ok-links.ensures.faultless c.in_ok-halves.ensures.faultless c.as_slice.ensures.value c.as_slice-all.ensures.value c.bound_of-bound.ensures;
   index = subst (λ (ls : List Link). IsIndexOf ls c.in_ok-index.index) c.as_slice-all.ensures.value c.in_ok-index.ensures.index;
   halves = subst (λ (ls : List Link). AreHalvesOf ls c.in_ok-halves.halves) c.as_slice-all.ensures.value c.in_ok-halves.ensures.halves;
 }
 
 pub returns-clause-sizes : goal.returns-clause-sizes
 returns-clause-sizes g c =
-    rw c.with_index.ensures (record { ranks = c.in_ok-ranks.ensures.count; links = c.in_ok-links.ensures.count; bound = ap length_of c.bound_of-bound.ensures ∙ length_of-of_walk c.args.head.bound (c.args.head.nodes - 1) })
+    rw c.with_index.ensures (record { version = refl; ranks = c.in_ok-ranks.ensures.count; links = c.in_ok-links.ensures.count; bound = ap length_of c.bound_of-bound.ensures ∙ length_of-of_walk c.args.head.bound (bound_arcs c.args.version c.args.head.nodes) })
 
 pub returns-clause-made : goal.returns-clause-made
 returns-clause-made g c =
-    subst IsOfFile (sym c.with_index.ensures) (record {
-      version = refl;
-      made = well_made_of c.args.head.nodes c.args.head.links c.args.head.bound c.in_ok-ranks.ranks.items c.as_slice.result.now c.in_ok-links.links.items c.as_slice-all.result.now c.bound_of-bound.result c.requires c.in_ok-ranks.ensures.count c.in_ok-ranks.ensures.faultless c.in_ok-links.ensures.count c.in_ok-links.ensures.faultless c.in_ok-halves.ensures.faultless c.as_slice.ensures.value c.as_slice-all.ensures.value c.bound_of-bound.ensures;
-    })
+    subst IsWellMade (sym c.with_index.ensures) (well_made_of c.args.version c.args.head.nodes c.args.head.links c.args.head.bound c.in_ok-ranks.ranks.items c.as_slice.result.now c.in_ok-links.links.items c.as_slice-all.result.now c.bound_of-bound.result c.requires c.in_ok-ranks.ensures.count c.in_ok-ranks.ensures.faultless c.in_ok-links.ensures.count c.in_ok-links.ensures.faultless c.in_ok-halves.ensures.faultless c.as_slice.ensures.value c.as_slice-all.ensures.value c.bound_of-bound.ensures)
 
 pub returns-in_err-links-clause-stopped : goal.returns-in_err-links-clause-stopped
 returns-in_err-links-clause-stopped g c = hands_on c.from_residual-in_err-links.result _ _ c.from_residual-in_err-links.ensures.1 (reads_then g.R.StepRead.step c.in_ok-ranks.ensures.calls c.in_err-links.ensures.stopped)

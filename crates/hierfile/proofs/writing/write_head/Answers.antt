@@ -1,40 +1,41 @@
 use Rattle.std.proofs.Common.{ℕ, ◌++◌, List, [], length, refl, sym, ap, ◌∙◌, subst, append-nil, append_assoc}
-use Rattle.hierfile.specs.Spelling.{word, long, head_bytes, magic}
+use Rattle.hierfile.specs.Spelling.{word, long, head_bytes, magic_of}
 use Rattle.hierfile.proofs.HandCalls.{hands_then, stops_later}
 use Rattle.hierfile.proofs.Faults.{hands_on}
 use Rattle.hierfile.proofs.Handing.{Handed, handed_then, part_then, part_none}
 use Rattle.ch_cost.specs.Cost.{length_of}
 use Rattle.ch_graph.specs.declared.link.Link.{Link}
+use Rattle.ch_graph.specs.declared.version.Version.TheVariants.{Two}
 use Rattle.hierfile.proofs.writing.write_head.Goals as goal
 
 pub returns-in_err-word-clause-err : goal.returns-in_err-word-clause-err
 unfolding head_bytes word
 returns-in_err-word-clause-err g c =
     let contents = g.W.Write.contents in
-    let b0 : List ℕ = magic in
+    let b0 : List ℕ = magic_of Two in
     let b1 : List ℕ = word (length c.args.hierarchy.now.ranks) in
     let b2 : List ℕ = long (length c.args.hierarchy.now.links) in
     let b3 : List ℕ = long (length_of c.args.hierarchy.now.bound) in
     let fault = c.in_err-word.field-0.0 in
-    hands_on c.from_residual.result _ fault c.from_residual.ensures.1 (part_none (contents c.args.writer.now) (contents c.word.new.writer) c.args.output.now (head_bytes (length c.args.hierarchy.now.ranks) (length c.args.hierarchy.now.links) c.args.hierarchy.now.bound) fault.written c.in_err-word.ensures.err)
+    hands_on c.from_residual.result _ fault c.from_residual.ensures.1 (part_none (contents c.args.writer.now) (contents c.word.new.writer) c.args.output.now (head_bytes Two (length c.args.hierarchy.now.ranks) (length c.args.hierarchy.now.links) c.args.hierarchy.now.bound) fault.written c.in_err-word.ensures.err)
 
 pub returns-in_err-word-2-clause-err : goal.returns-in_err-word-2-clause-err
 unfolding head_bytes word
 returns-in_err-word-2-clause-err g c =
     let contents = g.W.Write.contents in
-    let b0 : List ℕ = magic in
+    let b0 : List ℕ = magic_of Two in
     let b1 : List ℕ = word (length c.args.hierarchy.now.ranks) in
     let b2 : List ℕ = long (length c.args.hierarchy.now.links) in
     let b3 : List ℕ = long (length_of c.args.hierarchy.now.bound) in
     let h0 : Handed (contents c.args.writer.now) (contents c.word.new.writer) c.args.output.now c.word.new.self b0 = c.in_ok-word.ensures.ok in
     let fault = c.in_err-word-2.field-0.0 in
-    hands_on c.from_residual-in_err-word-2.result _ fault c.from_residual-in_err-word-2.ensures.1 (part_then (contents c.args.writer.now) (contents c.word.new.writer) (contents c.word-2.new.writer) c.args.output.now c.word.new.self (b0) b1 (b2 ++ b3) (head_bytes (length c.args.hierarchy.now.ranks) (length c.args.hierarchy.now.links) c.args.hierarchy.now.bound) fault.written h0 (part_none (contents c.word.new.writer) (contents c.word-2.new.writer) c.word.new.self b1 fault.written c.in_err-word-2.ensures.err) (sym (append_assoc ((b0) ++ b1) b2 b3)))
+    hands_on c.from_residual-in_err-word-2.result _ fault c.from_residual-in_err-word-2.ensures.1 (part_then (contents c.args.writer.now) (contents c.word.new.writer) (contents c.word-2.new.writer) c.args.output.now c.word.new.self (b0) b1 (b2 ++ b3) (head_bytes Two (length c.args.hierarchy.now.ranks) (length c.args.hierarchy.now.links) c.args.hierarchy.now.bound) fault.written h0 (part_none (contents c.word.new.writer) (contents c.word-2.new.writer) c.word.new.self b1 fault.written c.in_err-word-2.ensures.err) (sym (append_assoc ((b0) ++ b1) b2 b3)))
 
 pub returns-in_err-long-clause-err : goal.returns-in_err-long-clause-err
 unfolding head_bytes word
 returns-in_err-long-clause-err g c =
     let contents = g.W.Write.contents in
-    let b0 : List ℕ = magic in
+    let b0 : List ℕ = magic_of Two in
     let b1 : List ℕ = word (length c.args.hierarchy.now.ranks) in
     let b2 : List ℕ = long (length c.args.hierarchy.now.links) in
     let b3 : List ℕ = long (length_of c.args.hierarchy.now.bound) in
@@ -42,13 +43,13 @@ returns-in_err-long-clause-err g c =
     let h1 : Handed (contents c.word.new.writer) (contents c.word-2.new.writer) c.word.new.self c.word-2.new.self b1 = subst (λ n. Handed (contents c.word.new.writer) (contents c.word-2.new.writer) c.word.new.self c.word-2.new.self (word n)) (c.nodes.ensures.count) c.in_ok-word-2.ensures.ok in
     let t1 = handed_then (contents c.args.writer.now) (contents c.word.new.writer) (contents c.word-2.new.writer) c.args.output.now c.word.new.self c.word-2.new.self (b0) b1 h0 h1 in
     let fault = c.in_err-long.field-0.0 in
-    hands_on c.from_residual-in_err-long.result _ fault c.from_residual-in_err-long.ensures.1 (part_then (contents c.args.writer.now) (contents c.word-2.new.writer) (contents c.long.new.writer) c.args.output.now c.word-2.new.self (b0 ++ b1) b2 b3 (head_bytes (length c.args.hierarchy.now.ranks) (length c.args.hierarchy.now.links) c.args.hierarchy.now.bound) fault.written t1 (part_none (contents c.word-2.new.writer) (contents c.long.new.writer) c.word-2.new.self b2 fault.written c.in_err-long.ensures.err) (refl))
+    hands_on c.from_residual-in_err-long.result _ fault c.from_residual-in_err-long.ensures.1 (part_then (contents c.args.writer.now) (contents c.word-2.new.writer) (contents c.long.new.writer) c.args.output.now c.word-2.new.self (b0 ++ b1) b2 b3 (head_bytes Two (length c.args.hierarchy.now.ranks) (length c.args.hierarchy.now.links) c.args.hierarchy.now.bound) fault.written t1 (part_none (contents c.word-2.new.writer) (contents c.long.new.writer) c.word-2.new.self b2 fault.written c.in_err-long.ensures.err) (refl))
 
 pub returns-in_err-long-2-clause-err : goal.returns-in_err-long-2-clause-err
 unfolding head_bytes word
 returns-in_err-long-2-clause-err g c =
     let contents = g.W.Write.contents in
-    let b0 : List ℕ = magic in
+    let b0 : List ℕ = magic_of Two in
     let b1 : List ℕ = word (length c.args.hierarchy.now.ranks) in
     let b2 : List ℕ = long (length c.args.hierarchy.now.links) in
     let b3 : List ℕ = long (length_of c.args.hierarchy.now.bound) in
@@ -58,13 +59,13 @@ returns-in_err-long-2-clause-err g c =
     let t1 = handed_then (contents c.args.writer.now) (contents c.word.new.writer) (contents c.word-2.new.writer) c.args.output.now c.word.new.self c.word-2.new.self (b0) b1 h0 h1 in
     let t2 = handed_then (contents c.args.writer.now) (contents c.word-2.new.writer) (contents c.long.new.writer) c.args.output.now c.word-2.new.self c.long.new.self (b0 ++ b1) b2 t1 h2 in
     let fault = c.in_err-long-2.field-0.0 in
-    hands_on c.from_residual-in_err-long-2.result _ fault c.from_residual-in_err-long-2.ensures.1 (part_then (contents c.args.writer.now) (contents c.long.new.writer) (contents c.long-2.new.writer) c.args.output.now c.long.new.self ((b0 ++ b1) ++ b2) b3 [] (head_bytes (length c.args.hierarchy.now.ranks) (length c.args.hierarchy.now.links) c.args.hierarchy.now.bound) fault.written t2 (part_none (contents c.long.new.writer) (contents c.long-2.new.writer) c.long.new.self b3 fault.written c.in_err-long-2.ensures.err) (append-nil (((b0 ++ b1) ++ b2) ++ b3)))
+    hands_on c.from_residual-in_err-long-2.result _ fault c.from_residual-in_err-long-2.ensures.1 (part_then (contents c.args.writer.now) (contents c.long.new.writer) (contents c.long-2.new.writer) c.args.output.now c.long.new.self ((b0 ++ b1) ++ b2) b3 [] (head_bytes Two (length c.args.hierarchy.now.ranks) (length c.args.hierarchy.now.links) c.args.hierarchy.now.bound) fault.written t2 (part_none (contents c.long.new.writer) (contents c.long-2.new.writer) c.long.new.self b3 fault.written c.in_err-long-2.ensures.err) (append-nil (((b0 ++ b1) ++ b2) ++ b3)))
 
 pub returns-clause-ok : goal.returns-clause-ok
 unfolding head_bytes word
 returns-clause-ok g c =
     let contents = g.W.Write.contents in
-    let b0 : List ℕ = magic in
+    let b0 : List ℕ = magic_of Two in
     let b1 : List ℕ = word (length c.args.hierarchy.now.ranks) in
     let b2 : List ℕ = long (length c.args.hierarchy.now.links) in
     let b3 : List ℕ = long (length_of c.args.hierarchy.now.bound) in

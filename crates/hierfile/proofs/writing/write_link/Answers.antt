@@ -4,6 +4,7 @@ use Rattle.hierfile.proofs.HandCalls.{hands_then, stops_later}
 use Rattle.hierfile.proofs.Faults.{hands_on}
 use Rattle.hierfile.proofs.Handing.{Handed, handed_then, part_then, part_none}
 use Rattle.ch_cost.specs.Cost.{length_of, arcs_of}
+use Rattle.ch_graph.specs.declared.version.Version.TheVariants.{Two}
 use Rattle.hierfile.proofs.writing.write_link.Goals as goal
 
 pub returns-in_err-word-clause-err : goal.returns-in_err-word-clause-err
@@ -16,7 +17,7 @@ returns-in_err-word-clause-err g c =
     let b3 : List ℕ = word (arcs_of c.args.link.cost) in
     let b4 : List ℕ = word (middle_number c.args.link.middle) in
     let fault = c.in_err-word.field-0.0 in
-    hands_on c.from_residual.result _ fault c.from_residual.ensures.1 (part_none (contents c.args.writer.now) (contents c.word.new.writer) c.args.output.now (link_bytes c.args.link) fault.written c.in_err-word.ensures.err)
+    hands_on c.from_residual.result _ fault c.from_residual.ensures.1 (part_none (contents c.args.writer.now) (contents c.word.new.writer) c.args.output.now (link_bytes Two c.args.link) fault.written c.in_err-word.ensures.err)
 
 pub returns-in_err-word-2-clause-err : goal.returns-in_err-word-2-clause-err
 unfolding link_bytes
@@ -29,7 +30,7 @@ returns-in_err-word-2-clause-err g c =
     let b4 : List ℕ = word (middle_number c.args.link.middle) in
     let h0 : Handed (contents c.args.writer.now) (contents c.word.new.writer) c.args.output.now c.word.new.self b0 = c.in_ok-word.ensures.ok in
     let fault = c.in_err-word-2.field-0.0 in
-    hands_on c.from_residual-in_err-word-2.result _ fault c.from_residual-in_err-word-2.ensures.1 (part_then (contents c.args.writer.now) (contents c.word.new.writer) (contents c.word-2.new.writer) c.args.output.now c.word.new.self (b0) b1 ((b2 ++ b3) ++ b4) (link_bytes c.args.link) fault.written h0 (part_none (contents c.word.new.writer) (contents c.word-2.new.writer) c.word.new.self b1 fault.written c.in_err-word-2.ensures.err) (sym (append_assoc ((b0) ++ b1) (b2 ++ b3) b4) ∙ ap (λ l. l ++ b4) (sym (append_assoc ((b0) ++ b1) b2 b3))))
+    hands_on c.from_residual-in_err-word-2.result _ fault c.from_residual-in_err-word-2.ensures.1 (part_then (contents c.args.writer.now) (contents c.word.new.writer) (contents c.word-2.new.writer) c.args.output.now c.word.new.self (b0) b1 ((b2 ++ b3) ++ b4) (link_bytes Two c.args.link) fault.written h0 (part_none (contents c.word.new.writer) (contents c.word-2.new.writer) c.word.new.self b1 fault.written c.in_err-word-2.ensures.err) (sym (append_assoc ((b0) ++ b1) (b2 ++ b3) b4) ∙ ap (λ l. l ++ b4) (sym (append_assoc ((b0) ++ b1) b2 b3))))
 
 pub returns-in_err-long-clause-err : goal.returns-in_err-long-clause-err
 unfolding link_bytes
@@ -44,7 +45,7 @@ returns-in_err-long-clause-err g c =
     let h1 : Handed (contents c.word.new.writer) (contents c.word-2.new.writer) c.word.new.self c.word-2.new.self b1 = c.in_ok-word-2.ensures.ok in
     let t1 = handed_then (contents c.args.writer.now) (contents c.word.new.writer) (contents c.word-2.new.writer) c.args.output.now c.word.new.self c.word-2.new.self (b0) b1 h0 h1 in
     let fault = c.in_err-long.field-0.0 in
-    hands_on c.from_residual-in_err-long.result _ fault c.from_residual-in_err-long.ensures.1 (part_then (contents c.args.writer.now) (contents c.word-2.new.writer) (contents c.long.new.writer) c.args.output.now c.word-2.new.self (b0 ++ b1) b2 (b3 ++ b4) (link_bytes c.args.link) fault.written t1 (part_none (contents c.word-2.new.writer) (contents c.long.new.writer) c.word-2.new.self b2 fault.written c.in_err-long.ensures.err) (sym (append_assoc ((b0 ++ b1) ++ b2) b3 b4)))
+    hands_on c.from_residual-in_err-long.result _ fault c.from_residual-in_err-long.ensures.1 (part_then (contents c.args.writer.now) (contents c.word-2.new.writer) (contents c.long.new.writer) c.args.output.now c.word-2.new.self (b0 ++ b1) b2 (b3 ++ b4) (link_bytes Two c.args.link) fault.written t1 (part_none (contents c.word-2.new.writer) (contents c.long.new.writer) c.word-2.new.self b2 fault.written c.in_err-long.ensures.err) (sym (append_assoc ((b0 ++ b1) ++ b2) b3 b4)))
 
 pub returns-in_err-word-3-clause-err : goal.returns-in_err-word-3-clause-err
 unfolding link_bytes
@@ -61,7 +62,7 @@ returns-in_err-word-3-clause-err g c =
     let t1 = handed_then (contents c.args.writer.now) (contents c.word.new.writer) (contents c.word-2.new.writer) c.args.output.now c.word.new.self c.word-2.new.self (b0) b1 h0 h1 in
     let t2 = handed_then (contents c.args.writer.now) (contents c.word-2.new.writer) (contents c.long.new.writer) c.args.output.now c.word-2.new.self c.long.new.self (b0 ++ b1) b2 t1 h2 in
     let fault = c.in_err-word-3.field-0.0 in
-    hands_on c.from_residual-in_err-word-3.result _ fault c.from_residual-in_err-word-3.ensures.1 (part_then (contents c.args.writer.now) (contents c.long.new.writer) (contents c.word-3.new.writer) c.args.output.now c.long.new.self ((b0 ++ b1) ++ b2) b3 b4 (link_bytes c.args.link) fault.written t2 (part_none (contents c.long.new.writer) (contents c.word-3.new.writer) c.long.new.self b3 fault.written c.in_err-word-3.ensures.err) (refl))
+    hands_on c.from_residual-in_err-word-3.result _ fault c.from_residual-in_err-word-3.ensures.1 (part_then (contents c.args.writer.now) (contents c.long.new.writer) (contents c.word-3.new.writer) c.args.output.now c.long.new.self ((b0 ++ b1) ++ b2) b3 b4 (link_bytes Two c.args.link) fault.written t2 (part_none (contents c.long.new.writer) (contents c.word-3.new.writer) c.long.new.self b3 fault.written c.in_err-word-3.ensures.err) (refl))
 
 pub returns-in_err-word-4-clause-err : goal.returns-in_err-word-4-clause-err
 unfolding link_bytes
@@ -80,7 +81,7 @@ returns-in_err-word-4-clause-err g c =
     let t2 = handed_then (contents c.args.writer.now) (contents c.word-2.new.writer) (contents c.long.new.writer) c.args.output.now c.word-2.new.self c.long.new.self (b0 ++ b1) b2 t1 h2 in
     let t3 = handed_then (contents c.args.writer.now) (contents c.long.new.writer) (contents c.word-3.new.writer) c.args.output.now c.long.new.self c.word-3.new.self ((b0 ++ b1) ++ b2) b3 t2 h3 in
     let fault = c.in_err-word-4.field-0.0 in
-    hands_on c.from_residual-in_err-word-4.result _ fault c.from_residual-in_err-word-4.ensures.1 (part_then (contents c.args.writer.now) (contents c.word-3.new.writer) (contents c.word-4.new.writer) c.args.output.now c.word-3.new.self (((b0 ++ b1) ++ b2) ++ b3) b4 [] (link_bytes c.args.link) fault.written t3 (part_none (contents c.word-3.new.writer) (contents c.word-4.new.writer) c.word-3.new.self b4 fault.written c.in_err-word-4.ensures.err) (append-nil ((((b0 ++ b1) ++ b2) ++ b3) ++ b4)))
+    hands_on c.from_residual-in_err-word-4.result _ fault c.from_residual-in_err-word-4.ensures.1 (part_then (contents c.args.writer.now) (contents c.word-3.new.writer) (contents c.word-4.new.writer) c.args.output.now c.word-3.new.self (((b0 ++ b1) ++ b2) ++ b3) b4 [] (link_bytes Two c.args.link) fault.written t3 (part_none (contents c.word-3.new.writer) (contents c.word-4.new.writer) c.word-3.new.self b4 fault.written c.in_err-word-4.ensures.err) (append-nil ((((b0 ++ b1) ++ b2) ++ b3) ++ b4)))
 
 pub returns-clause-ok : goal.returns-clause-ok
 unfolding link_bytes

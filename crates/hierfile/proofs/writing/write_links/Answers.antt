@@ -1,5 +1,6 @@
 use Rattle.std.proofs.Common.{ℕ, ◌+◌, ◌<◌, List, length, get_or, take, drop, subst, arith}
 use Rattle.std.specs.List.{flat_map}
+use Rattle.ch_graph.specs.declared.version.Version.TheVariants.{Two}
 use Rattle.hierfile.specs.Spelling.{link_bytes}
 use Rattle.hierfile.proofs.HandCalls.{hands_none, hands_then, stops_later}
 use Rattle.hierfile.proofs.Faults.{hands_on}
@@ -13,11 +14,11 @@ returns-in_err-write_link-clause-err g c =
     let at = c.links.link-index in
     let within : at < length items = omega arith in
     let fault = c.in_err-write_link.field-0.0 in
-    let done : List ℕ = flat_map link_bytes (take at items) in
-    let next : List ℕ = link_bytes (get_or items at _) in
+    let done : List ℕ = flat_map (link_bytes Two) (take at items) in
+    let next : List ℕ = link_bytes Two (get_or items at _) in
     hands_on c.from_residual.result _ fault c.from_residual.ensures.1
-    (part_then (contents c.args.writer.now) (contents c.links.writer) (contents c.write_link.new.writer) c.args.output.now c.links.output done next (flat_map link_bytes (drop (at + 1) items)) (flat_map link_bytes items) fault.written
-    c.links.invariant.handed c.in_err-write_link.ensures.err (spelled-parts link_bytes items at _ within))
+    (part_then (contents c.args.writer.now) (contents c.links.writer) (contents c.write_link.new.writer) c.args.output.now c.links.output done next (flat_map (link_bytes Two) (drop (at + 1) items)) (flat_map (link_bytes Two) items) fault.written
+    c.links.invariant.handed c.in_err-write_link.ensures.err (spelled-parts (link_bytes Two) items at _ within))
 
 pub links-preserved : goal.links-preserved
 links-preserved g c =
@@ -25,11 +26,11 @@ links-preserved g c =
     let items = c.args.links.now in
     let at = c.links.link-index in
     let within : at < length items = omega arith in
-    let done : List ℕ = flat_map link_bytes (take at items) in
-    let next : List ℕ = link_bytes (get_or items at _) in
+    let done : List ℕ = flat_map (link_bytes Two) (take at items) in
+    let next : List ℕ = link_bytes Two (get_or items at _) in
     let more = handed_then (contents c.args.writer.now) (contents c.links.writer) (contents c.write_link.new.writer) c.args.output.now c.links.output c.write_link.new.output done next c.links.invariant.handed c.in_ok-write_link.ensures.ok in
     record {
-      handed = subst (λ l. Handed (contents c.args.writer.now) (contents c.write_link.new.writer) c.args.output.now c.write_link.new.output l) (spelled-more link_bytes items at _ within) more;
+      handed = subst (λ l. Handed (contents c.args.writer.now) (contents c.write_link.new.writer) c.args.output.now c.write_link.new.output l) (spelled-more (link_bytes Two) items at _ within) more;
       calls = hands_then g.W.StepWrite.step c.args.output.now c.links.output c.write_link.new.output c.links.invariant.calls c.in_ok-write_link.ensures.calls;
     }
 

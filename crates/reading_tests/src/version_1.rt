@@ -1,0 +1,309 @@
+//! Files of version 1, which tell no arcs: what they say, how they answer, and what they are refused for.
+ghost use Rattle.std.specs.Prelude.{◌<◌, length};
+
+use crate::files::{
+    BY_WAY_OF_0, Change, GREATEST, MAGIC, ROW, are_refused, bytes, cascade, fronts_are_cut,
+    hierarchy_of, refusal,
+};
+use ch_cost::Cost;
+use ch_graph::{Hierarchy, Link};
+use ch_query::Search;
+use hierfile::HierError;
+use std::alloc::{AllocError, Global};
+
+const MAGIC_1: u32 = 0x5243_4831;
+
+const NONE: u32 = u32::MAX;
+
+// Files as numbers of four bytes.
+
+const NO_NODE: [u32; 6] = [MAGIC_1, 0, 0, 0, 0, 0];
+
+pub(crate) const ONE_ARC_1: [u32; 13] = [MAGIC_1, 2, 0, 1, 0, 7, 0, 1, 0, 1, 0, 7, NONE];
+
+/// A row of three nodes, with a shortcut by way of the first.
+pub(crate) const ROW_1: [u32; 24] = [
+    MAGIC_1, 3, 0, 3, 0, 6, 0, 1, 2, 0, 2, 0, 3, NONE, 1, 0, 0, 2, NONE, 1, 2, 0, 5, 0,
+];
+
+/// The row with its first two links exchanged.
+const EXCHANGED: [u32; 24] = [
+    MAGIC_1, 3, 0, 3, 0, 6, 0, 1, 2, 1, 0, 0, 2, NONE, 0, 2, 0, 3, NONE, 1, 2, 0, 5, 0,
+];
+
+/// The row without the link from its first node to its last.
+const WITHOUT_HALF: [u32; 19] = [
+    MAGIC_1, 3, 0, 2, 0, 6, 0, 1, 2, 1, 0, 0, 2, NONE, 1, 2, 0, 5, 0,
+];
+
+/// Nodes 1 to 3, each joined to the next by way of node 0.
+pub(crate) const BY_WAY_OF_0_1: [u32; 40] = [
+    MAGIC_1, 4, 0, 6, 0, 4, 0, 1, 2, 3, 0, 2, 0, 1, NONE, 0, 3, 0, 1, NONE, 1, 0, 0, 1, NONE, 1, 2,
+    0, 2, 0, 2, 0, 0, 1, NONE, 2, 3, 0, 2, 0,
+];
+
+/// Four nodes, with arcs of the greatest weight.
+pub(crate) const HEAVY_1: [u32; 45] = [
+    MAGIC_1,
+    4,
+    0,
+    7,
+    2,
+    0xffff_fffd,
+    0,
+    1,
+    2,
+    3,
+    0,
+    1,
+    0,
+    NONE,
+    NONE,
+    0,
+    3,
+    0,
+    NONE,
+    NONE,
+    1,
+    0,
+    0,
+    NONE,
+    NONE,
+    1,
+    3,
+    1,
+    0xffff_fffe,
+    0,
+    2,
+    0,
+    0,
+    NONE,
+    NONE,
+    2,
+    1,
+    1,
+    0xffff_fffe,
+    0,
+    2,
+    3,
+    1,
+    0xffff_fffe,
+    0,
+];
+
+/// A link of version 1, with no middle or one.
+fn link(from: u32, to: u32, weight: u64, middle: Option<u32>) -> Link {
+    let cost = Cost::of_walk(weight, 0);
+    Link {
+        from,
+        to,
+        cost,
+        middle,
+    }
+}
+
+/// Whether a hierarchy is of version 1, with these links and a bound of this length. No cost counts arcs.
+fn says(hierarchy: &Hierarchy, links: &[Link], bound: u64) -> bool {
+    (hierarchy.version() == 1)
+        & (hierarchy.bound() == Cost::of_walk(bound, 0))
+        & (hierarchy.links() == links)
+}
+
+/// Whether a file is read, and says these links and this bound.
+fn is_read_as(
+    alloc: Global,
+    words: &[u32],
+    links: &[Link],
+    bound: u64,
+) -> Result<bool, AllocError> {
+    match hierarchy_of(alloc, words)? {
+        Some(hierarchy) => Ok(says(&hierarchy, links, bound)),
+        None => Ok(false),
+    }
+}
+
+#[test]
+fn reads_numbers(rt: HostRuntime) -> Result<(), AllocError> {
+    let row = [
+        link(0, 2, 3, None),
+        link(1, 0, 2, None),
+        link(1, 2, 5, Some(0)),
+    ];
+    assert!(rt; is_read_as(rt.alloc(), &NO_NODE, &[], 0)?);
+    assert!(rt; is_read_as(rt.alloc(), &ONE_ARC_1, &[link(0, 1, 7, None)], 7)?);
+    assert!(rt; is_read_as(rt.alloc(), &ROW_1, &row, 6)?);
+    Ok(())
+}
+
+/// The weight of the least rise-fall walk between two nodes, or none.
+fn weight_between(search: &mut Search, source: u32, target: u32) -> Result<Option<u64>, AllocError>
+    requires source_in { source < length search.old.ranks }
+    requires target_in { target < length search.old.ranks }
+{
+    match search.distance(source, target)? {
+        Some(found) if found.cost.arcs() == 0 => Ok(Some(found.cost.length())),
+        Some(_) => Ok(Some(u64::MAX)),
+        None => Ok(None),
+    }
+}
+
+/// Whether the least walk between two nodes is of this weight, or there is none.
+fn is_answered(
+    alloc: Global,
+    hierarchy: &Hierarchy,
+    source: u32,
+    target: u32,
+    weight: Option<u64>,
+) -> Result<bool, AllocError> {
+    if source >= hierarchy.nodes() || target >= hierarchy.nodes() {
+        return Ok(false);
+    }
+    let mut search = Search::new(alloc, hierarchy)?;
+    Ok(weight_between(&mut search, source, target)? == weight)
+}
+
+/// Whether a file is read, and answers each of these pairs so.
+fn answers(
+    alloc: Global,
+    words: &[u32],
+    pairs: &[(u32, u32, Option<u64>)],
+) -> Result<bool, AllocError> {
+    let Some(hierarchy) = hierarchy_of(alloc, words)? else {
+        return Ok(false);
+    };
+    for (source, target, weight) in pairs {
+        if !is_answered(alloc, &hierarchy, *source, *target, *weight)? {
+            return Ok(false);
+        }
+    }
+    Ok(true)
+}
+
+#[test]
+fn answers_by_weights(rt: HostRuntime) -> Result<(), AllocError> {
+    let one_arc = [
+        (0, 0, Some(0)),
+        (0, 1, Some(7)),
+        (1, 0, None),
+        (1, 1, Some(0)),
+    ];
+    let row = [
+        (0, 0, Some(0)),
+        (0, 1, None),
+        (0, 2, Some(3)),
+        (1, 0, Some(2)),
+        (1, 1, Some(0)),
+        (1, 2, Some(5)),
+        (2, 0, None),
+        (2, 1, None),
+        (2, 2, Some(0)),
+    ];
+    let heavy = [
+        (2, 3, Some(8_589_934_590)),
+        (3, 2, None),
+        (2, 1, Some(8_589_934_590)),
+    ];
+    assert!(rt; answers(rt.alloc(), &ONE_ARC_1, &one_arc)?);
+    assert!(rt; answers(rt.alloc(), &ROW_1, &row)?);
+    assert!(rt; answers(rt.alloc(), &HEAVY_1, &heavy)?);
+    assert!(rt; answers(rt.alloc(), &BY_WAY_OF_0_1, &[(1, 3, Some(4))])?);
+    Ok(())
+}
+
+/// Of 38 nodes each two are linked, by way of the node below the lower one: more arcs than can be counted, which version 1
+/// doesn't ask for.
+#[test]
+fn reads_a_cascade(rt: HostRuntime) -> Result<(), AllocError> {
+    let words = cascade(rt.alloc(), MAGIC_1)?;
+    let pairs = [
+        (37, 36, Some(68_719_476_736)),
+        (0, 37, Some(1)),
+        (37, 37, Some(0)),
+    ];
+    assert!(rt; answers(rt.alloc(), words.as_slice(), &pairs)?);
+    Ok(())
+}
+
+/// Whether a file has so many bytes, and each front of it but the whole is refused as cut.
+fn is_cut(alloc: Global, words: &[u32], count: usize) -> Result<bool, AllocError> {
+    let mut file = bytes(alloc, words)?;
+    let are_cut = fronts_are_cut(alloc, file.as_slice()) & (file.len() == count);
+    file.push(0)?;
+    Ok(are_cut & (refusal(alloc, file.as_slice()) == Some(HierError::Trailing)))
+}
+
+#[test]
+fn refuses_cut_files(rt: HostRuntime) -> Result<(), AllocError> {
+    assert!(rt; is_cut(rt.alloc(), &ONE_ARC_1, 52)?);
+    assert!(rt; is_cut(rt.alloc(), &ROW_1, 96)?);
+    Ok(())
+}
+
+#[test]
+fn tells_magics(rt: HostRuntime) {
+    let fronts: [(&[u8], HierError); 10] = [
+        (b"", HierError::Truncated),
+        (b"R", HierError::Truncated),
+        (b"RCH", HierError::Truncated),
+        (b"RCH1", HierError::Truncated),
+        (b"RCH2", HierError::Truncated),
+        (b"RCH0", HierError::BadMagic),
+        (b"RCH3", HierError::BadMagic),
+        (b"RCHa", HierError::BadMagic),
+        (b"RC1", HierError::BadMagic),
+        (b"1", HierError::BadMagic),
+    ];
+    for (bytes, expected) in fronts {
+        assert!(rt; refusal(rt.alloc(), bytes) == Some(expected));
+    }
+}
+
+/// Changes of the row.
+const CHANGES: [Change; 19] = [
+    (&[(1, 33_554_433), (2, 0)], HierError::TooBig),
+    (&[(2, 0), (3, 7)], HierError::TooBig),
+    (&[(4, 1), (5, NONE)], HierError::BoundTooBig),
+    (&[(6, 3), (7, 1)], HierError::RankRange),
+    (&[(6, 0), (7, 0)], HierError::RankTwice),
+    (&[(19, 1), (20, 1)], HierError::LinkEnds),
+    (&[(19, 1), (20, 3)], HierError::LinkEnds),
+    (&[(19, 1), (20, 0)], HierError::LinkOrder),
+    // Weights: none, above the bound, and none of a link without a middle.
+    (&[(21, 0), (22, 0)], HierError::LinkWeight),
+    (&[(21, 0), (22, 7)], HierError::LinkWeight),
+    (&[(11, 0), (12, 0)], HierError::LinkWeight),
+    (&[(22, 5), (23, 3)], HierError::MiddleRange),
+    (&[(22, 5), (23, 2)], HierError::MiddleRank),
+    (&[(21, 0), (22, 4)], HierError::HalfSum),
+    // More than one fault: the first is told.
+    (&[(20, 0), (22, 0), (23, 3)], HierError::LinkOrder),
+    (&[(22, 0), (23, 3)], HierError::LinkWeight),
+    (&[(22, 4), (23, 3)], HierError::MiddleRange),
+    (&[(6, 3), (22, 0)], HierError::RankRange),
+    // The magic of version 2: where arcs would be there is no middle.
+    (&[(0, MAGIC)], HierError::LinkWeight),
+];
+
+#[test]
+fn refuses_files(rt: HostRuntime) -> Result<(), AllocError> {
+    let alloc = rt.alloc();
+    let greatest: [Change; 3] = [
+        (&[(0, MAGIC_1)], HierError::Truncated),
+        (&[(0, MAGIC_1), (3, 0xfe00_0001)], HierError::TooBig),
+        (&[(0, MAGIC_1), (1, 0x0200_0001)], HierError::TooBig),
+    ];
+    assert!(rt; are_refused(alloc, &ROW_1, &CHANGES)?);
+    assert!(rt; are_refused(alloc, &EXCHANGED, &[(&[], HierError::LinkOrder)])?);
+    assert!(rt; are_refused(alloc, &WITHOUT_HALF, &[(&[], HierError::HalfMissing)])?);
+    assert!(rt; are_refused(alloc, &GREATEST, &greatest)?);
+    // The number of arcs of a link would be its middle, whose rank isn't below those of both ends.
+    assert!(rt; are_refused(alloc, &ROW, &[(&[(0, MAGIC_1)], HierError::MiddleRank)])?);
+    assert!(rt;
+        are_refused(
+            alloc,
+            &BY_WAY_OF_0,
+            &[(&[(0, MAGIC_1)], HierError::MiddleRank)]
+        )?
+    );
+    Ok(())
+}
