@@ -5,7 +5,8 @@ rules of docs/ALGORITHM.md and docs/FORMATS.md.
     bench/by_the_rules.py [NETWORKS]        by default 200 random small networks
 
 With no worker, and with one, the rules and the seed determine the file. Each network is prepared by the sweep, and by
-one worker in each order. In many networks weights are 0, and walks of one length have different numbers of arcs. A cost is
+one worker in each order, with its estimator alone and with all three, of which one takes the place of another after a
+stint. In many networks weights are 0, and walks of one length have different numbers of arcs. A cost is
 a pair (weight, arcs), which Python orders by the first number and then by the second. It needs the proved program, which is
 crates/routecli/out/routecli (README.md says how to build it) or the path in the environment variable ROUTECLI.
 """
@@ -22,6 +23,7 @@ from run import PROGRAM
 
 SETTLE, DEFER, HEAPS = 64, 16, 2
 ORDERS = ["edges", "neighbours", "depth"]
+STINTS = [1, 2, 5, 16, 40, 1 << 40]
 WORD = (1 << 64) - 1
 
 
@@ -139,33 +141,48 @@ def sweep(rows):
         rows.contract(node, rows.shortcuts(node))
 
 
-def work(rows, seed, order):
-    """One worker's turns."""
-    queue, told, put_back = Queue(seed), 0, 0
-    depth, gone = [0] * len(rows.rank), [0] * len(rows.rank)
+class Estimator:
+    """What one kind of estimator knows of the log, and the keys that it gives."""
 
-    def key(node, shortcuts):
-        arcs = 67_108_864 + len(shortcuts) - len(rows.inn[node]) - len(rows.out[node])
-        return arcs + {"edges": 0, "neighbours": gone[node], "depth": depth[node]}[order]
+    def __init__(self, rows, order):
+        self.rows, self.order, self.told = rows, order, 0
+        self.depth, self.gone = [0] * len(rows.rank), [0] * len(rows.rank)
 
+    def hear(self):
+        for entry, neighbours in self.rows.log[self.told :]:
+            for other in neighbours:
+                self.gone[other] += 1
+                self.depth[other] = max(self.depth[other], self.depth[entry] + 1)
+        self.told = len(self.rows.log)
+
+    def key(self, node, shortcuts):
+        arcs = 67_108_864 + len(shortcuts) - len(self.rows.inn[node]) - len(self.rows.out[node])
+        return arcs + {"edges": 0, "neighbours": self.gone[node], "depth": self.depth[node]}[self.order]
+
+
+def work(rows, seed, order, stint):
+    """One worker's turns. With a stint it has all kinds of estimators, that of the order first, and goes on by the next
+    after so many of its commits."""
+    queue, put_back, commits = Queue(seed), 0, 0
+    current = Estimator(rows, order)
+    later = [kind for kind in ORDERS if kind != order] if stint else []
     for node in range(len(rows.rank)):
-        queue.push((key(node, rows.shortcuts(node)), node))
+        queue.push((current.key(node, rows.shortcuts(node)), node))
     while (item := queue.pop()) is not None:
         known, node = item
         if rows.rank[node] is not None:
             continue
         shortcuts = rows.shortcuts(node)
-        for entry, neighbours in rows.log[told:]:
-            for other in neighbours:
-                gone[other] += 1
-                depth[other] = max(depth[other], depth[entry] + 1)
-        told = len(rows.log)
-        if key(node, shortcuts) > known and put_back < DEFER:
+        current.hear()
+        key = current.key(node, shortcuts)
+        if key > known and put_back < DEFER:
             put_back += 1
-            queue.push((key(node, shortcuts), node))
-        else:
-            put_back = 0
-            rows.contract(node, shortcuts)
+            queue.push((key, node))
+            continue
+        put_back, commits = 0, commits + 1
+        rows.contract(node, shortcuts)
+        if later and commits >= stint:
+            current, commits = Estimator(rows, later.pop(0)), 0
 
 
 def random_network(draw):
@@ -193,11 +210,15 @@ def main():
             nodes, arcs = random_network(draw)
             graph.write_text(text_of(nodes, arcs))
             seed = draw.choice([0, 1, WORD, draw.getrandbits(64)])
-            for workers, order in [(0, "edges"), *((1, order) for order in ORDERS)]:
+            jobs = [(0, "edges", None)]
+            for order in ORDERS:
+                jobs += [(1, order, None), (1, order, draw.choice(STINTS))]
+            for workers, order, stint in jobs:
                 options = ["--workers", str(workers), "--seed", str(seed), "--order", order]
+                options += ["--stint", str(stint)] if stint else []
                 subprocess.run([PROGRAM, "prepare", *options, graph, file], check=True)
                 rows = Rows(nodes, arcs)
-                sweep(rows) if workers == 0 else work(rows, seed, order)
+                sweep(rows) if workers == 0 else work(rows, seed, order, stint)
                 if file.read_bytes() != rows.file():
                     sys.exit(f"network {network}, {' '.join(options)}: the files differ")
     print(f"{networks} networks: all files are equal")

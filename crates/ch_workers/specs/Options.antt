@@ -14,6 +14,7 @@ pub record AreGood (o : Options) (lists : ℕ) : Type 0 where
   pub settle : IsFrom 1 (2 ^ 16) o.settle
   pub defer : o.defer < 2 ^ 16
   pub turns : IsFrom 1 (2 ^ 40) o.turns
+  pub stint : IsFrom 1 (2 ^ 40) o.stint
   pub a_list_each : lists ≡ o.workers
 
 -- a number is outside its range, or there isn't a list for each worker

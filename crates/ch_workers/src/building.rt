@@ -22,14 +22,16 @@ use std::thread::Threads;
 
 /// Contracts the nodes of a graph by workers, each in a thread of its own, and makes a hierarchy of what they did.
 ///
-/// The workers choose nodes by their estimators, of which none was told anything: worker k by the first of list k. A
-/// worker whose thread can't be started, or who is refused memory, is done without; a sweep contracts what they leave.
+/// The workers choose nodes by their estimators, of which none was told anything: worker k by those of list k, one after
+/// the other. It goes by the first until it has made `stint` commits by it, drops it behind the gate at `Committed`, and
+/// goes on by the next, and so on; the last one stays. Each is told the log from entry 0. A worker whose thread can't be
+/// started, or who is refused memory, is done without; a sweep contracts what they leave.
 /// `BadOptions`, which is tested first, where a number of the options is outside its range or there isn't one list for
 /// each worker; `OutOfMemory` where a growth was refused; `Mixed` where the receipts and the log, or the accounts of
 /// the queue, don't agree. On every answer the estimators were dropped and no lease of `leases` is out: so it doesn't
 /// answer as long as one is out elsewhere. Takes memory for the rows of the nodes, shortcuts included, and for those
-/// that are replaced in a shift, which have a dozen entries or so for each node of the graph; for the log, the receipts and the
-/// queue.
+/// that are replaced in a shift, which have two dozen entries or so for each node of the graph; for the log, the receipts
+/// and the queue.
 pub fn build<G: Gate, R: Threads + Wait + Sync>(
     rt: &R,
     alloc: Global,

@@ -1,7 +1,7 @@
 ghost use Rattle.std.specs.Prelude.{◌≡◌, ◌<◌, ◌≤◌, ◌*◌, [], All, IfOk, vec_len};
 ghost use Rattle.ch_workers.specs.Options.{AreGood};
 
-use crate::listener::{Listener, listeners_of};
+use crate::listeners::{Listeners, listeners_of};
 use crate::options::Options;
 use crate::worker::Worker;
 use ch_contract::{Contraction, Scratch};
@@ -59,7 +59,7 @@ fn passes_of(
 fn workers_of<E: Estimator>(
     alloc: Global,
     passes: Vec<Pass>,
-    lists: Vec<Vec<Listener<E>>>,
+    lists: Vec<Listeners<E>>,
     turns: u64,
 ) -> Result<Vec<Worker<E>>, AllocError>
     requires as_many { vec_len passes ≡ vec_len lists }

@@ -18,6 +18,7 @@ mod finishing;
 mod gate;
 mod hiring;
 mod listener;
+mod listeners;
 mod options;
 mod run;
 mod shared;

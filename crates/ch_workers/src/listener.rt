@@ -1,9 +1,9 @@
-ghost use Rattle.std.specs.Prelude.{◌≡◌, ◌+◌, ◌<◌, ◌^◌, [], All, AllPairs, IfOk, length, OnOk, OnErr, vec_len};
+ghost use Rattle.std.specs.Prelude.{◌≡◌, ◌+◌, ◌<◌, ◌^◌, [], AllPairs, length, OnOk, OnErr};
 ghost use Rattle.ch_contract.specs.Proposal.{AreFacts};
 
 use ch_contract::{Contraction, Facts};
 use ch_estimate::Estimator;
-use std::alloc::{AllocError, Global};
+use std::alloc::AllocError;
 
 /// An estimator of a worker, and how many entries of the log it was told.
 #[derive(Drop)]
@@ -49,33 +49,4 @@ impl<E: Estimator> Listener<E> {
         self.told += 1;
         Ok(())
     }
-}
-
-/// The estimators of each list, with the number of entries that they were told: none.
-pub(crate) fn listeners_of<E: Estimator>(
-    alloc: Global,
-    lists: Vec<Vec<E>>,
-) -> Result<Vec<Vec<Listener<E>>>, AllocError>
-    requires untold { All (λ list. All (λ estimator. E.heard estimator ≡ []) list.items) lists.items }
-    ensures count { IfOk result (λ made. vec_len made ≡ vec_len lists) }
-{
-    let mut made = Vec::new(alloc);
-    'lists: for list in lists {
-        made.push(listeners(alloc, list)?)?;
-    }
-    Ok(made)
-}
-
-/// The estimators of a list, with the number of entries that they were told: none.
-fn listeners<E: Estimator>(
-    alloc: Global,
-    estimators: Vec<E>,
-) -> Result<Vec<Listener<E>>, AllocError>
-    requires untold { All (λ estimator. E.heard estimator ≡ []) estimators.items }
-{
-    let mut made = Vec::new(alloc);
-    'estimators: for estimator in estimators {
-        made.push(Listener::new(estimator))?;
-    }
-    Ok(made)
 }

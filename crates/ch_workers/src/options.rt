@@ -16,6 +16,8 @@ pub struct Options {
     pub defer: u32,
     /// How many turns a worker takes at most, 1 to 2^40.
     pub turns: u64,
+    /// How many commits a worker makes by an estimator before it goes on by the next of its list, 1 to 2^40.
+    pub stint: u64,
 }
 
 impl Options {
@@ -33,6 +35,21 @@ impl Options {
 
     /// The greatest number of turns.
     pub const MAX_TURNS: u64 = 1_099_511_627_776;
+
+    /// The greatest number of commits by an estimator that has a next one.
+    pub const MAX_STINT: u64 = 1_099_511_627_776;
+
+    /// Nobody works but the calling thread. All else is as the program has it where it isn't told: two heaps for each
+    /// worker, 64 nodes for a search, 16 nodes put back, 2^32 turns, and one estimator for all of a worker's commits.
+    pub const PLAIN: Options = Options {
+        workers: 0,
+        heaps: 2,
+        seed: 1,
+        settle: 64,
+        defer: 16,
+        turns: 1 << 32,
+        stint: Self::MAX_STINT,
+    };
 
     /// Whether a number is outside its range, or so many lists aren't one for each worker.
     pub fn are_bad(self, lists: usize) -> bool
@@ -52,6 +69,9 @@ impl Options {
             return true;
         }
         if self.turns < 1 || self.turns > Self::MAX_TURNS {
+            return true;
+        }
+        if self.stint < 1 || self.stint > Self::MAX_STINT {
             return true;
         }
         lists != self.workers as usize

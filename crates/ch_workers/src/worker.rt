@@ -2,7 +2,7 @@ ghost use Rattle.std.specs.Prelude.{◌≡◌, ◌<◌, All, IfOk, IfSome};
 ghost use Rattle.ch_rowbook.specs.Books.{IsOfBook};
 
 use crate::gate::{Gate, Point};
-use crate::listener::Listener;
+use crate::listeners::Listeners;
 use crate::shared::{Shared, weight};
 use ch_contract::{
     CommitError, Contraction, Proposal, ProposeError, Receipt, Scratch, Site, propose_with,
@@ -28,7 +28,7 @@ impl From<AllocError> for End {
 pub(crate) struct Worker<E: Estimator> {
     pub(crate) number: u32,
     pub(crate) pass: Pass,
-    pub(crate) listeners: Vec<Listener<E>>,
+    pub(crate) listeners: Listeners<E>,
     pub(crate) scratch: Scratch,
     pub(crate) entry: Contraction,
     pub(crate) deferred: u32,
@@ -185,7 +185,7 @@ impl<E: Estimator> Worker<E> {
 
     /// Tells its current estimator, if it has one, what it wasn't told of the log.
     fn hear<S: Site, R: Wait>(&mut self, rt: &R, shared: &Shared<S>) -> Result<(), End> {
-        if let Some(listener) = self.listeners.first_mut() {
+        if let Some(listener) = self.listeners.current() {
             shared.tell_all(rt, &mut self.entry, listener)?;
         }
         Ok(())
@@ -193,7 +193,7 @@ impl<E: Estimator> Worker<E> {
 
     /// The key that its current estimator gives, or 0 where it has none.
     fn key(&mut self, proposal: &Proposal) -> u64 {
-        match self.listeners.first_mut() {
+        match self.listeners.current() {
             Some(listener) => listener.key(&proposal.facts()),
             None => 0,
         }
@@ -218,7 +218,7 @@ impl<E: Estimator> Worker<E> {
     }
 
     /// Commits a proposal and keeps the receipt, or puts the item back where a row has changed. Answers whether it was
-    /// committed.
+    /// committed. Where that ends the stint of its estimator, it goes on by the next.
     fn commit<S: Site, G: Gate, R: Wait>(
         &mut self,
         rt: &R,
@@ -237,6 +237,7 @@ impl<E: Estimator> Worker<E> {
                 self.receipts.push_reserved(receipt);
                 self.deferred = 0;
                 gate.pass(self.number, Point::Committed);
+                self.listeners.committed(shared.options.stint);
                 Ok(true)
             }
             Err(CommitError::Stale { .. }) => {

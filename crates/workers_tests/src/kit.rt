@@ -14,18 +14,14 @@ use std::thread::Threads;
 pub(crate) const ONE: Options = Options {
     workers: 1,
     heaps: 1,
-    seed: 1,
-    settle: 64,
-    defer: 16,
     turns: 100,
+    ..Options::PLAIN
 };
 
 /// The options of two workers, with the queue and the turns that the program gives.
 pub(crate) const TWO: Options = Options {
     workers: 2,
-    heaps: 2,
-    turns: 1 << 32,
-    ..ONE
+    ..Options::PLAIN
 };
 
 /// An arc.
@@ -100,8 +96,36 @@ pub(crate) enum Keys {
     Differences,
     /// The greatest number, always.
     Greatest,
+    /// 0, always.
+    Least,
     /// Numbers that look random (Knuth's linear congruential generator), from this state.
     Drawn(u64),
+}
+
+impl Keys {
+    /// The next key, for a node of this edge difference.
+    pub(crate) fn next(&mut self, difference: u64) -> u64 {
+        match *self {
+            Keys::Differences => difference,
+            Keys::Greatest => u64::MAX,
+            Keys::Least => 0,
+            Keys::Drawn(state) => {
+                let next = state
+                    .wrapping_mul(6_364_136_223_846_793_005)
+                    .wrapping_add(1_442_695_040_888_963_407);
+                *self = Keys::Drawn(next);
+                next >> 33
+            }
+        }
+    }
+
+    /// The same keys, but other numbers for each estimator where they look random.
+    pub(crate) fn of(self, number: usize) -> Keys {
+        match self {
+            Keys::Drawn(state) => Keys::Drawn(state.wrapping_add(number as u64)),
+            same => same,
+        }
+    }
 }
 
 /// An estimator that gives the keys that it was made for.
@@ -115,17 +139,8 @@ impl Estimator for Chooser {
     ghost heard = { λ c. c.inner };
 
     fn key(&mut self, facts: &Facts) -> u64 {
-        match self.keys {
-            Keys::Differences => self.inner.key(facts),
-            Keys::Greatest => u64::MAX,
-            Keys::Drawn(state) => {
-                let next = state
-                    .wrapping_mul(6_364_136_223_846_793_005)
-                    .wrapping_add(1_442_695_040_888_963_407);
-                self.keys = Keys::Drawn(next);
-                next >> 33
-            }
-        }
+        let difference = self.inner.key(facts);
+        self.keys.next(difference)
     }
 
     fn told(&mut self, entry: &Contraction) -> Result<(), AllocError> {

@@ -8,10 +8,11 @@ const GOOD: Options = Options {
     settle: 500,
     defer: 10,
     turns: 1000,
+    stint: 1000,
 };
 
 /// Options, a number of lists, and whether they are bad.
-const LIMITS: [(Options, usize, bool); 24] = [
+const LIMITS: [(Options, usize, bool); 28] = [
     (Options { workers: 0, ..GOOD }, 0, false),
     (
         Options {
@@ -85,6 +86,24 @@ const LIMITS: [(Options, usize, bool); 24] = [
     (
         Options {
             turns: 1_099_511_627_777,
+            ..GOOD
+        },
+        2,
+        true,
+    ),
+    (Options { stint: 0, ..GOOD }, 2, true),
+    (Options { stint: 1, ..GOOD }, 2, false),
+    (
+        Options {
+            stint: 1_099_511_627_776,
+            ..GOOD
+        },
+        2,
+        false,
+    ),
+    (
+        Options {
+            stint: 1_099_511_627_777,
             ..GOOD
         },
         2,

@@ -21,7 +21,7 @@ fn is_refused<R: Threads + Wait + Sync>(
 }
 
 /// Options, a number of lists, and whether they are bad.
-const OPTIONS: [(Options, u32, bool); 13] = [
+const OPTIONS: [(Options, u32, bool); 15] = [
     (Options { workers: 0, ..ONE }, 0, false),
     (Options { workers: 0, ..ONE }, 1, true),
     (Options { workers: 1, ..ONE }, 1, false),
@@ -51,6 +51,15 @@ const OPTIONS: [(Options, u32, bool); 13] = [
     (
         Options {
             turns: 1_099_511_627_777,
+            ..ONE
+        },
+        1,
+        true,
+    ),
+    (Options { stint: 0, ..ONE }, 1, true),
+    (
+        Options {
+            stint: 1_099_511_627_777,
             ..ONE
         },
         1,

@@ -68,45 +68,135 @@ fn zeros() -> [AtomicU64; 8] {
     ]
 }
 
-/// Counts the commits of each worker.
+/// Counts the items, the commits, the refusals and the ends of each worker.
 #[derive(Drop)]
 pub(crate) struct Tally {
+    took: [AtomicU64; 8],
     committed: [AtomicU64; 8],
+    refused: [AtomicU64; 8],
+    done: [AtomicU64; 8],
+}
+
+/// The number that a worker has in a list.
+fn number_of(counts: &[AtomicU64], worker: usize) -> u64 {
+    match counts.get(worker) {
+        Some(count) => count.load(Ordering::SeqCst),
+        None => 0,
+    }
 }
 
 impl Tally {
-    /// Nobody has committed yet.
+    /// Nobody has come to any point yet.
     pub(crate) fn new() -> Tally {
-        Tally { committed: zeros() }
+        Tally {
+            took: zeros(),
+            committed: zeros(),
+            refused: zeros(),
+            done: zeros(),
+        }
     }
 
-    /// Whether each worker was handed as many receipts as it committed, and the sweep none where there is a worker.
+    /// How many items a worker took.
+    pub(crate) fn took(&self, worker: usize) -> u64 {
+        number_of(&self.took, worker)
+    }
+
+    /// How many of its proposals were refused, since a row had changed.
+    pub(crate) fn refused(&self, worker: usize) -> u64 {
+        number_of(&self.refused, worker)
+    }
+
+    /// Whether each of so many workers ended once, and has as many receipts as it committed.
+    pub(crate) fn is_of_workers(&self, built: &Built, workers: usize) -> bool {
+        let Some((_, lists)) = built.receipts.split_last() else {
+            return false;
+        };
+        lists.len() == workers
+            && lists.iter().enumerate().all(|(worker, receipts)| {
+                number_of(&self.done, worker) == 1
+                    && number_of(&self.committed, worker) == receipts.len() as u64
+            })
+    }
+
+    /// Whether each worker ended once and was handed as many receipts as it committed, and the sweep none where there is
+    /// a worker.
     pub(crate) fn is_of(&self, built: &Built) -> bool {
         let Some((swept, lists)) = built.receipts.split_last() else {
             return false;
         };
-        if !lists.is_empty() && !swept.is_empty() {
-            return false;
-        }
-        'workers: for worker in 0..lists.len() {
-            let Some(committed) = self.committed.get(worker) else {
-                return false;
-            };
-            if committed.load(Ordering::SeqCst) != lists[worker].len() as u64 {
-                return false;
-            }
-        }
-        true
+        (lists.is_empty() || swept.is_empty()) && self.is_of_workers(built, lists.len())
     }
 }
 
 impl Gate for Tally {
     fn pass(&self, worker: u32, point: Point) {
-        if point != Point::Committed {
-            return;
+        let counts = match point {
+            Point::Took => &self.took,
+            Point::Proposed => return,
+            Point::Committed => &self.committed,
+            Point::Refused => &self.refused,
+            Point::Done => &self.done,
+        };
+        if let Some(count) = counts.get(worker as usize) {
+            count.fetch_add(1, Ordering::SeqCst);
         }
-        if let Some(committed) = self.committed.get(worker as usize) {
-            committed.fetch_add(1, Ordering::SeqCst);
+    }
+}
+
+/// Lets one worker at a time be between an item that it took and its commit, its refusal or its end.
+#[derive(Drop)]
+pub(crate) struct OneAtATime {
+    /// The number of the worker who is there, counted from 1, or 0.
+    inside: AtomicU64,
+    late: AtomicU64,
+}
+
+impl OneAtATime {
+    /// Nobody is there.
+    pub(crate) fn new() -> OneAtATime {
+        OneAtATime {
+            inside: AtomicU64::new(0),
+            late: AtomicU64::new(0),
+        }
+    }
+
+    /// Whether nobody was kept to the last look.
+    pub(crate) fn was_met(&self) -> bool {
+        self.late.load(Ordering::SeqCst) == 0
+    }
+
+    /// Waits until nobody else is there. False where somebody is at the last look.
+    fn comes_in(&self, own: u64) -> bool {
+        'looks: for look in 0..LOOKS {
+            let found = self
+                .inside
+                .compare_exchange(0, own, Ordering::SeqCst, Ordering::SeqCst);
+            if found.is_ok() || found == Err(own) {
+                return true;
+            }
+            if look % 1024 == 0 {
+                thread::yield_now();
+            }
+        }
+        false
+    }
+}
+
+impl Gate for OneAtATime {
+    fn pass(&self, worker: u32, point: Point) {
+        let own = u64::from(worker).wrapping_add(1);
+        match point {
+            Point::Took => {
+                if !self.comes_in(own) {
+                    self.late.store(1, Ordering::SeqCst);
+                }
+            }
+            Point::Proposed => {}
+            Point::Committed | Point::Refused | Point::Done => {
+                let _ = self
+                    .inside
+                    .compare_exchange(own, 0, Ordering::SeqCst, Ordering::SeqCst);
+            }
         }
     }
 }

@@ -147,7 +147,8 @@ fn end_of<R: Threads + Wait + Sync>(
 
 #[test]
 fn estimators_of_two_workers(rt: HostRuntime) -> Result<(), Fail> {
-    let (end, are_dropped) = end_of(&rt, rt.alloc(), TWO)?;
+    let options = Options { stint: 1, ..TWO };
+    let (end, are_dropped) = end_of(&rt, rt.alloc(), options)?;
     assert!(rt; are_dropped);
     assert!(rt; matches!(end, Ok(()) | Err(BuildError::OutOfMemory)));
     end?;

@@ -1,15 +1,30 @@
-use Rattle.std.proofs.Common.{arith}
+use Rattle.std.proofs.Common.{ℕ, ◌*◌, ◌<◌, ◌≤◌, arith}
+use Rattle.std.proofs.Math.Nat.{mul-le-mul_left}
 use Rattle.std.proofs.lemmas.Grind.{common_steps}
 use Rattle.ch_workers.proofs.hiring.hire.Goals as goal
 
+-- the heaps of all workers are few
+few_heaps : (workers heaps : ℕ) → workers ≤ 64 → heaps ≤ 4 → workers * heaps ≤ 256
+few_heaps workers heaps few most =
+    let many : workers * heaps ≤ workers * 4 = mul-le-mul_left workers most in
+    omega (arith, many, few)
+
+-- and there are some
+some_heaps : (workers heaps : ℕ) → 0 < workers → 1 ≤ heaps → 0 < workers * heaps
+some_heaps workers heaps some least =
+    let one : workers * 1 ≤ workers * heaps = mul-le-mul_left workers least in
+    omega (arith, one, some)
+
 pub new-requires-clause-few : goal.new-requires-clause-few
-new-requires-clause-few c = grind (arith, common_steps) steps 200000
+new-requires-clause-few g c = few_heaps _ _ c.requires.good.workers c.requires.good.heaps.below
 
 pub new-requires-clause-some : goal.new-requires-clause-some
-new-requires-clause-some c = grind (arith, common_steps) steps 200000
+new-requires-clause-some g c = some_heaps _ _ c.requires.some c.requires.good.heaps.above
 
 pub overflow_mul-heaps : goal.overflow_mul-heaps
-overflow_mul-heaps c = grind (arith, common_steps) steps 200000
+overflow_mul-heaps g c =
+    let few = few_heaps _ _ c.requires.good.workers c.requires.good.heaps.below in
+    omega (arith, few)
 
 pub passes_of-requires-clause-one : goal.passes_of-requires-clause-one
 passes_of-requires-clause-one c = grind (arith, common_steps) steps 200000
