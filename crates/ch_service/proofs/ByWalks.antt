@@ -1,4 +1,4 @@
--- Why answers by routes of a right hierarchy are answers by least walks of its graph.
+-- Why answers by routes of a right hierarchy are answers by least walks of its graph, in either version.
 use Rattle.std.proofs.Common.{ℕ, suc, ◌≡◌, ◌-◌, ◌<◌, ◌≤◌, List, [], ◌∷◌, ◌++◌, length, take, Option, inl, inr, ap, refl, sym, subst, arith}
 use Rattle.std.specs.Prelude.{⊤, Some, None, IfSome, All, Result, OnOk, Ok, Err, IfErr, IsErrAnd, MatchResult}
 use Rattle.std.proofs.lemmas.List.Elements.{All-take}
@@ -8,25 +8,34 @@ use Rattle.ch_cost.specs.Cost.Laws.{length_of-at_most, arcs_of-at_most}
 use Rattle.ch_graph.specs.Walk.{Walk, visited, Along}
 use Rattle.ch_graph.specs.Graph.{Graph, IsGraph, ArcOf}
 use Rattle.ch_graph.specs.Graph.Laws.{walk-arcs}
-use Rattle.ch_graph.specs.Hierarchy.{Hierarchy, IsRight}
-use Rattle.ch_laws.specs.Theorems.{RouteIsLeast, NeverTooLong}
+use Rattle.ch_graph.specs.Hierarchy.{Hierarchy, IsWellMade, IsRight}
+use Rattle.ch_graph.specs.declared.link.Link.{Link}
+use Rattle.ch_graph.specs.declared.version.Version.{Version}
+use Rattle.ch_graph.specs.declared.version.Version.TheVariants.{One, Two}
+use Rattle.ch_laws.specs.ByWeight.{IsShortest, RouteIsShortest, NeverTooLongByWeight}
+use Rattle.ch_laws.specs.Theorems.{IsLeastRoute, RouteIsLeast, NeverTooLong}
 use Rattle.grfile.specs.Outcome.{FromText}
 use Rattle.grfile.specs.declared.error.GrError.{GrError}
 use Rattle.grfile.specs.Reading.{IsPair, graph_of, pairs_of}
 use Rattle.ch_service.specs.Answer.{Route, IsAnswer, AreAnswers, nothing, one_more, IsLeastWalk, IsFewestWalk, AnswersBy, AnswersFirst}
 use Rattle.ch_service.specs.Outcome.{IfTold, IfTextFault, Writes, IsFaultOf, IsRoutingFault, StopsShort, ComesOfTexts, ComesOfRouting, ComesOfAnswering}
 use Rattle.ch_unpack.specs.declared.error.UnpackError.TheVariants as unpacking
-use Rattle.ch_service.specs.Route.{Spells, IsRouteBy, Routed, StopsAtTooLong, Routes, RoutesFirst, RoutesToTooLong}
+use Rattle.ch_service.specs.Route.{Spells, IsRightIn, IsRouteBy, Routed, StopsAtTooLong, Routes, RoutesFirst, RoutesToTooLong}
 use Rattle.ch_workers.specs.declared.error.BuildError.{BuildError}
 use Rattle.ch_service.specs.declared.error.ServiceError.{ServiceError}
 use Rattle.ch_service.specs.declared.error.ServiceError.TheVariants.{Graph as GraphFault, Queries, Hierarchy as HierarchyFault, Build, Unpack, Write, OutOfMemory}
 
--- a kind of route over a graph that each route of a hierarchy is of which is right for it
-abbrev pub RightRoutesAre : (Graph → ℕ → ℕ → Option Route → Type 0) → Type 0
-RightRoutesAre Is = (g : Graph) (h : Hierarchy) (s t : ℕ) (r : Option Route) → IsGraph g → IsRight g h → s < g.nodes → t < g.nodes → IsRouteBy h s t r → Is g s t r
+-- a right hierarchy has the nodes of its graph
+pub right-nodes : (v : Version) (g : Graph) (h : Hierarchy) → IsRightIn v g h → length h.ranks ≡ g.nodes
+right-nodes One g h right = right.nodes
+right-nodes Two g h right = right.nodes
+
+-- a kind of route over a graph that each route of a hierarchy is of which is right for it, in this version
+abbrev pub RightRoutesAre : Version → (Graph → ℕ → ℕ → Option Route → Type 0) → Type 0
+RightRoutesAre v Is = (g : Graph) (h : Hierarchy) (s t : ℕ) (r : Option Route) → IsGraph g → IsRightIn v g h → s < g.nodes → t < g.nodes → IsRouteBy h s t r → Is g s t r
 
 -- it is a least walk with the fewest arcs, since its cost is the distance, which counts arcs
-pub fewest-right : RouteIsLeast → RightRoutesAre IsFewestWalk
+pub fewest-right : RouteIsLeast → RightRoutesAre Two IsFewestWalk
 fewest-right law g h s t None graph right source target none = (right.value s t None source target).1 none
 fewest-right law g h s t (Some r) graph right source target found =
     let least = law g h s t r.cost found.links found.arcs graph right source target found.least in
@@ -40,28 +49,34 @@ fewest-right law g h s t (Some r) graph right source target found =
     )
 
 -- and so a least walk
-pub walk-right : RouteIsLeast → RightRoutesAre IsLeastWalk
+pub walk-right : RouteIsLeast → RightRoutesAre Two IsLeastWalk
 walk-right law g h s t None graph right source target none = fewest-right law g h s t None graph right source target none
 walk-right law g h s t (Some r) graph right source target found = (fewest-right law g h s t (Some r) graph right source target found).0
 
-module _ {Is : Graph → ℕ → ℕ → Option Route → Type 0} (are : RightRoutesAre Is) where
-  answer-right : (g : Graph) (h : Hierarchy) (pair : ℕ × ℕ) (line : List ℕ) → IsGraph g → IsRight g h → IsPair (length h.ranks) pair → IsAnswer (IsRouteBy h) pair line → IsAnswer (Is g) pair line
+-- which it is in version 1 too
+pub walk-right_by_weight : RouteIsShortest → RightRoutesAre One IsLeastWalk
+walk-right_by_weight law g h s t None graph right source target none = right.value s t None source target none
+walk-right_by_weight law g h s t (Some r) graph right source target found =
+    subst (λ (ns : List ℕ). IsShortest g ns s t r.cost) (sym found.along) (law g h s t r.cost found.links found.arcs right source target found.least)
+
+module _ (v : Version) {Is : Graph → ℕ → ℕ → Option Route → Type 0} (are : RightRoutesAre v Is) where
+  answer-right : (g : Graph) (h : Hierarchy) (pair : ℕ × ℕ) (line : List ℕ) → IsGraph g → IsRightIn v g h → IsPair (length h.ranks) pair → IsAnswer (IsRouteBy h) pair line → IsAnswer (Is g) pair line
   answer-right g h pair line graph right within a =
-      let source : pair.0 < g.nodes = subst (λ n. pair.0 < n) right.nodes within.0 in
-      let target : pair.1 < g.nodes = subst (λ n. pair.1 < n) right.nodes within.1 in
+      let source : pair.0 < g.nodes = subst (λ n. pair.0 < n) (right-nodes v g h right) within.0 in
+      let target : pair.1 < g.nodes = subst (λ n. pair.1 < n) (right-nodes v g h right) within.1 in
       record {
         route = a.route;
         leads = are g h pair.0 pair.1 a.route graph right source target a.leads;
         tells = a.tells;
       }
 
-  answered-right : (g : Graph) (h : Hierarchy) {pairs : List (ℕ × ℕ)} {text : List ℕ} → IsGraph g → IsRight g h → All (IsPair (length h.ranks)) pairs → AreAnswers (IsRouteBy h) pairs text → AreAnswers (Is g) pairs text
+  answered-right : (g : Graph) (h : Hierarchy) {pairs : List (ℕ × ℕ)} {text : List ℕ} → IsGraph g → IsRightIn v g h → All (IsPair (length h.ranks)) pairs → AreAnswers (IsRouteBy h) pairs text → AreAnswers (Is g) pairs text
   answered-right g h graph right within nothing = nothing
   answered-right g h graph right within (one_more {pair = p} {line = l} first rest) =
       one_more (answer-right g h p l graph right (within 0 p (omega arith)) first) (answered-right g h graph right (λ k d less. within (suc k) d (omega arith)) rest)
 
-  pub right-routes : (g : Graph) (h : Hierarchy) (pairs : List (ℕ × ℕ)) (text : List ℕ) → IsGraph g → IsRight g h → All (IsPair g.nodes) pairs → Routed h pairs text → AreAnswers (Is g) pairs text
-  right-routes g h pairs text graph right within answers = answered-right g h graph right (subst (λ n. All (IsPair n) pairs) (sym right.nodes) within) answers
+  pub right-routes : (g : Graph) (h : Hierarchy) (pairs : List (ℕ × ℕ)) (text : List ℕ) → IsGraph g → IsRightIn v g h → All (IsPair g.nodes) pairs → Routed h pairs text → AreAnswers (Is g) pairs text
+  right-routes g h pairs text graph right within answers = answered-right g h graph right (subst (λ n. All (IsPair n) pairs) (sym (right-nodes v g h right)) within) answers
 
 -- a refused call wrote texts of these kinds, so of these others
 stops-weaker : (P P' Q Q' : List ℕ → Type 0) (old new : Option (List ℕ)) (e : ServiceError) → ((text : List ℕ) → P text → P' text) → ((text : List ℕ) → Q text → Q' text) → StopsShort P Q old new e → StopsShort P' Q' old new e
@@ -74,21 +89,38 @@ stops-weaker P P' Q Q' old new (Unpack unpacking.TooLong) f g s = (s.0, g s.0 s.
 stops-weaker P P' Q Q' old new (Write fault) f g s = (s.0, f s.0 s.1, s.2, s.3)
 stops-weaker P P' Q Q' old new OutOfMemory f g s = elim s [ inl kept ↦ inl kept | inr w ↦ inr (w.0, f w.0 w.1, w.2) ]
 
--- a route that is too long shows that the hierarchy is right for no graph
+-- each least route of the hierarchy has fewer arcs than the graph has nodes
+abbrev pub HasShortRoutes : Graph → Hierarchy → Type 0
+HasShortRoutes g h = (s t : ℕ) (c : Cost) (links arcs : List Link) → s < g.nodes → t < g.nodes → IsLeastRoute h s t c links arcs → length arcs ≤ g.nodes - 1
+
+-- so it is where it is right for the graph
+short-right : NeverTooLong → (g : Graph) (h : Hierarchy) → IsGraph g → IsRight g h → HasShortRoutes g h
+short-right law g h graph right s t c links arcs source target least = (law g h s t c links arcs graph right source target least).1
+
+-- in either version, where it is of that version and well made
+abbrev pub RightRoutesAreShort : Version → Type 0
+RightRoutesAreShort v = (g : Graph) (h : Hierarchy) → IsGraph g → IsRightIn v g h → h.version ≡ v → IsWellMade h → HasShortRoutes g h
+
+pub short-in_two : NeverTooLong → RightRoutesAreShort Two
+short-in_two law g h graph right version made = short-right law g h graph right
+
+pub short-in_one : NeverTooLongByWeight → RightRoutesAreShort One
+short-in_one law g h graph right version made s t c links arcs source target least = law g h s t c links arcs graph right version made source target least
+
+-- so no route of it is too long
 
 at_seam : (P : ℕ × ℕ → Type 0) (first rest : List (ℕ × ℕ)) (pair : ℕ × ℕ) → All P (first ++ pair ∷ rest) → P pair
 at_seam P [] rest pair all = all 0 pair (omega arith)
 at_seam P (p ∷ first) rest pair all = at_seam P first rest pair (λ k d less. all (suc k) d (omega arith))
 
-pub right_for_none : NeverTooLong → (g : Graph) (h : Hierarchy) (pairs : List (ℕ × ℕ)) (text : List ℕ) → IsGraph g → IsRight g h → All (IsPair (length h.ranks)) pairs → StopsAtTooLong h pairs text → ⊥
-right_for_none law g h pairs text graph right within s =
+pub none_too_long : (g : Graph) (h : Hierarchy) (pairs : List (ℕ × ℕ)) (text : List ℕ) → length h.ranks ≡ g.nodes → HasShortRoutes g h → All (IsPair (length h.ranks)) pairs → StopsAtTooLong h pairs text → ⊥
+none_too_long g h pairs text nodes short within s =
     let ends : IsPair (length h.ranks) s.pair = at_seam (IsPair (length h.ranks)) s.first s.rest s.pair (subst (All (IsPair (length h.ranks))) s.parts within) in
     let long = s.too_long in
-    let source : s.pair.0 < g.nodes = subst (λ n. s.pair.0 < n) right.nodes ends.0 in
-    let target : s.pair.1 < g.nodes = subst (λ n. s.pair.1 < n) right.nodes ends.1 in
-    let short = law g h s.pair.0 s.pair.1 long.cost long.links long.arcs graph right source target long.least in
-    let few : length long.arcs ≤ g.nodes - 1 = short.1 in
-    omega (arith, few, long.many, right.nodes)
+    let source : s.pair.0 < g.nodes = subst (λ n. s.pair.0 < n) nodes ends.0 in
+    let target : s.pair.1 < g.nodes = subst (λ n. s.pair.1 < n) nodes ends.1 in
+    let few : length long.arcs ≤ g.nodes - 1 = short s.pair.0 s.pair.1 long.cost long.links long.arcs source target long.least in
+    omega (arith, few, long.many, nodes)
 
 -- the texts of the readers, where they are told
 
@@ -171,13 +203,13 @@ no_text_fault P Q (Err (Write fault)) f = tt
 no_text_fault P Q (Err OutOfMemory) f = tt
 
 -- answers by a hierarchy that is right for the graph that the reader told
-pub answers-told : {Is : Graph → ℕ → ℕ → Option Route → Type 0} → RightRoutesAre Is → (g : Graph) (h : Hierarchy) (pairs : List (ℕ × ℕ)) (gr queries old new : Option (List ℕ)) (r : Result ⊤ ServiceError) → IfSome gr (λ text. graph_of text ≡ Ok g) → IfSome queries (λ text. pairs_of g.nodes text ≡ Ok pairs)
+pub answers-told : {Is : Graph → ℕ → ℕ → Option Route → Type 0} → RightRoutesAre Two Is → (g : Graph) (h : Hierarchy) (pairs : List (ℕ × ℕ)) (gr queries old new : Option (List ℕ)) (r : Result ⊤ ServiceError) → IfSome gr (λ text. graph_of text ≡ Ok g) → IfSome queries (λ text. pairs_of g.nodes text ≡ Ok pairs)
     → IsGraph g → IsRight g h → All (IsPair g.nodes) pairs → OnOk r (Writes (Routed h pairs) old new) → OnOk r (IfTold gr queries (λ graph_text pairs_text. Writes (AnswersBy Is graph_text pairs_text) old new))
 answers-told are g h pairs gr queries old new (Err e) reads read graph right within w = tt
 answers-told are g h pairs None queries old new (Ok x) reads read graph right within w = tt
 answers-told are g h pairs (Some text) None old new (Ok x) reads read graph right within w = tt
 answers-told are g h pairs (Some text) (Some pairs_text) old new (Ok x) reads read graph right within w =
-    (w.0, record { graph = g; pairs = pairs; graph_reads = reads; pairs_read = read; answered = right-routes are g h pairs w.0 graph right within w.1 }, w.2)
+    (w.0, record { graph = g; pairs = pairs; graph_reads = reads; pairs_read = read; answered = right-routes Two are g h pairs w.0 graph right within w.1 }, w.2)
 
 first-answered : RouteIsLeast → (g : Graph) (h : Hierarchy) (pairs : List (ℕ × ℕ)) (graph_text pairs_text text : List ℕ) → graph_of graph_text ≡ Ok g → pairs_of g.nodes pairs_text ≡ Ok pairs → IsGraph g → IsRight g h → All (IsPair g.nodes) pairs
     → ((count : ℕ) × Routed h (take count pairs) text) → AnswersFirst graph_text pairs_text text
@@ -187,7 +219,7 @@ first-answered law g h pairs graph_text pairs_text text reads read graph right w
   graph_reads = reads;
   pairs_read = read;
   count = first.0;
-  answered = right-routes (walk-right law) g h (take first.0 pairs) text graph right (All-take (IsPair g.nodes) first.0 pairs within) first.1;
+  answered = right-routes Two (walk-right law) g h (take first.0 pairs) text graph right (All-take (IsPair g.nodes) first.0 pairs within) first.1;
 }
 
 pub stops-answered : RouteIsLeast → NeverTooLong → (g : Graph) (h : Hierarchy) (pairs : List (ℕ × ℕ)) (gr queries old new : Option (List ℕ)) (r : Result ⊤ ServiceError) → IfSome gr (λ text. graph_of text ≡ Ok g) → IfSome queries (λ text. pairs_of g.nodes text ≡ Ok pairs)
@@ -198,7 +230,7 @@ stops-answered law never g h pairs None queries old new (Err e) reads read graph
 stops-answered law never g h pairs (Some text) None old new (Err e) reads read graph right within s = tt
 stops-answered law never g h pairs (Some text) (Some pairs_text) old new (Err e) reads read graph right within s =
     let in_range : All (IsPair (length h.ranks)) pairs = subst (λ n. All (IsPair n) pairs) (sym right.nodes) within in
-    stops-weaker _ _ _ _ old new e (λ answered_text. first-answered law g h pairs text pairs_text answered_text reads read graph right within) (λ answered_text stops. right_for_none never g h pairs answered_text graph right in_range stops) s
+    stops-weaker _ _ _ _ old new e (λ answered_text. first-answered law g h pairs text pairs_text answered_text reads read graph right within) (λ answered_text stops. none_too_long g h pairs answered_text right.nodes (short-right never g h graph right) in_range stops) s
 
 -- a refusal while they are answered comes only where both texts were read
 
@@ -220,7 +252,7 @@ texts-kind g h pairs old new P (Queries fault) never graph right within f s = tt
 texts-kind g h pairs old new P (HierarchyFault e) never graph right within f s = f
 texts-kind g h pairs old new P (Build e) never graph right within f s = tt
 texts-kind g h pairs old new P (Unpack unpacking.OutOfMemory) never graph right within f s = refl
-texts-kind g h pairs old new P (Unpack unpacking.TooLong) never graph right within f s = absurd (right_for_none never g h pairs s.0 graph right within s.1)
+texts-kind g h pairs old new P (Unpack unpacking.TooLong) never graph right within f s = absurd (none_too_long g h pairs s.0 right.nodes (short-right never g h graph right) within s.1)
 texts-kind g h pairs old new P (Write fault) never graph right within f s = tt
 texts-kind g h pairs old new P OutOfMemory never graph right within f s = tt
 

@@ -3,24 +3,38 @@ use Rattle.std.specs.Prelude.{ℕ, ◌≡◌, ◌-◌, ◌<◌, ◌≤◌, List,
 use Rattle.ch_cost.specs.declared.cost.Cost.{Cost}
 use Rattle.ch_graph.specs.declared.link.Link.{Link}
 use Rattle.ch_graph.specs.Graph.{Graph, IsGraph}
-use Rattle.ch_graph.specs.Hierarchy.{Hierarchy, IsRight, IsValue}
+use Rattle.ch_graph.specs.declared.version.Version.{Version}
+use Rattle.ch_graph.specs.declared.version.Version.TheVariants.{One, Two}
+use Rattle.ch_graph.specs.Hierarchy.{Hierarchy, IsWellMade, IsRight, IsValue}
 use Rattle.ch_laws.specs.Theorems.{IsLeastRoute}
+use Rattle.ch_laws.specs.ByWeight.{IsRightByWeight}
 use Rattle.grfile.specs.Reading.{graph_of, pairs_of, IsPair}
-use Rattle.hierfile.specs.Spelling.{bytes_of, IsOfFile}
-use Rattle.ch_service.specs.Answer.{Route, AreAnswers, Answered, Answers, AnswersByFewest, AnswersFirst}
+use Rattle.hierfile.specs.Spelling.{bytes_of}
+use Rattle.ch_service.specs.Answer.{Route, AreAnswers, Answered, IsLeastWalk, IsFewestWalk, AnswersBy, AnswersFirst}
 
 -- the bytes are the file of the hierarchy
 pub record Spells (bytes : List ℕ) (h : Hierarchy) : Type 0 where
-  pub made : IsOfFile h
+  pub made : IsWellMade h
   pub spelled : bytes ≡ bytes_of h
 
--- the bytes are the file of a hierarchy that is right for the graph of the text
-pub record Prepares (graph_text bytes : List ℕ) : Type 0 where
+-- What is right in a version: in version 2 each value is the distance, and in version 1, whose costs count no arcs, it is as
+-- long.
+abbrev pub IsRightIn : Version → Graph → Hierarchy → Type 0
+IsRightIn One g h = IsRightByWeight g h
+IsRightIn Two g h = IsRight g h
+
+-- the bytes are the file of a hierarchy of this version that is right for the graph of the text
+pub record PreparesIn (v : Version) (graph_text bytes : List ℕ) : Type 0 where
   pub graph : Graph
   pub hierarchy : Hierarchy
   pub graph_reads : graph_of graph_text ≡ Ok graph
-  pub right : IsRight graph hierarchy
+  pub version : hierarchy.version ≡ v
+  pub right : IsRightIn v graph hierarchy
   pub spells : Spells bytes hierarchy
+
+-- of version 2, as files are written
+abbrev pub Prepares : List ℕ → List ℕ → Type 0
+Prepares = PreparesIn Two
 
 -- The cost is the value of the hierarchy, and the nodes are those of the arcs that a rise-fall walk of that cost stands
 -- for, fewer than there are nodes.
@@ -82,19 +96,24 @@ pub record RoutesToTooLong (bytes pairs_text text : List ℕ) : Type 0 where
   pub pairs_read : pairs_of (length hierarchy.ranks) pairs_text ≡ Ok pairs
   pub stops : StopsAtTooLong hierarchy pairs text
 
--- Routes of a hierarchy that is right for a graph are least walks of that graph.
-abbrev pub RightRoutesAreLeast : Type 0
-RightRoutesAreLeast = (g : Graph) (h : Hierarchy) (pairs : List (ℕ × ℕ)) (text : List ℕ) → IsGraph g → IsRight g h → All (IsPair g.nodes) pairs → Routed h pairs text → Answered g pairs text
+-- Routes of a hierarchy that is right for a graph, in the sense of this version, are least walks of that graph.
+abbrev pub RightRoutesAreLeast : Version → Type 0
+RightRoutesAreLeast v = (g : Graph) (h : Hierarchy) (pairs : List (ℕ × ℕ)) (text : List ℕ) → IsGraph g → IsRightIn v g h → All (IsPair g.nodes) pairs → Routed h pairs text → Answered g pairs text
 
--- Where the bytes were prepared from the text of a graph, routes by these bytes are answers over that graph: each line
--- tells the least length over all walks and the nodes along a walk of that length, or that there is no walk.
-abbrev pub RoutesAreExact : Type 0
-RoutesAreExact = (graph_text bytes pairs_text text : List ℕ) → Prepares graph_text bytes → Routes bytes pairs_text text → Answers graph_text pairs_text text
+-- Where the bytes were prepared from the text of a graph, in this version, routes by these bytes are answers over that
+-- graph, by routes of this kind.
+abbrev pub RoutesAre : (Graph → ℕ → ℕ → Option Route → Type 0) → Version → Type 0
+RoutesAre IsRoute v = (graph_text bytes pairs_text text : List ℕ) → PreparesIn v graph_text bytes → Routes bytes pairs_text text → AnswersBy IsRoute graph_text pairs_text text
+
+-- By a file of either version routes are exact: each line tells the least length over all walks and the nodes along a walk
+-- of that length, or that there is no walk.
+abbrev pub RoutesAreExact : Version → Type 0
+RoutesAreExact = RoutesAre IsLeastWalk
 
 -- and so are the first of them
-abbrev pub FirstRoutesAreExact : Type 0
-FirstRoutesAreExact = (graph_text bytes pairs_text text : List ℕ) → Prepares graph_text bytes → RoutesFirst bytes pairs_text text → AnswersFirst graph_text pairs_text text
+abbrev pub FirstRoutesAreExact : Version → Type 0
+FirstRoutesAreExact v = (graph_text bytes pairs_text text : List ℕ) → PreparesIn v graph_text bytes → RoutesFirst bytes pairs_text text → AnswersFirst graph_text pairs_text text
 
--- Of all least walks each route by bytes that were prepared is one with the fewest arcs.
+-- By a file of version 2 each route is of all least walks one with the fewest arcs.
 abbrev pub RoutesHaveFewestArcs : Type 0
-RoutesHaveFewestArcs = (graph_text bytes pairs_text text : List ℕ) → Prepares graph_text bytes → Routes bytes pairs_text text → AnswersByFewest graph_text pairs_text text
+RoutesHaveFewestArcs = RoutesAre IsFewestWalk Two

@@ -79,16 +79,6 @@ pub fn answer<G: Read, Q: Read, W: Write, P: Gate, R: Threads + Wait + Sync>(
     answer_pairs(alloc, &hierarchy, pairs.as_slice(), out)
 }
 
-/// How the hierarchy of a joined input is built: by the calling thread alone.
-const ALONE: Options = Options {
-    workers: 0,
-    heaps: 2,
-    seed: 1,
-    settle: 64,
-    defer: 16,
-    turns: 1 << 32,
-};
-
 /// Answers pairs of nodes as [`answer`] does, where one input holds both texts: the graph's, a line that is the
 /// single byte `%`, and the pairs'. The lines of each text are counted by themselves.
 ///
@@ -125,7 +115,7 @@ pub fn answer_joined<I: Read, W: Write, R: Threads + Wait + Sync>(
         &mut graph,
         &mut pairs,
         out,
-        ALONE,
+        Options::PLAIN,
         lists,
         &mut leases,
         &OpenGate,

@@ -1,39 +1,48 @@
+ghost use Rattle.ch_graph.specs.declared.version.Version.TheVariants.{One, Two};
 ghost use Rattle.ch_service.specs.Refusals.{AnswersTell, JoinedAnswersTell, PreparationsTell, RoutesTell};
-ghost use Rattle.ch_service.specs.Route.{RightRoutesAreLeast, RoutesAreExact, RoutesHaveFewestArcs, FirstRoutesAreExact};
+ghost use Rattle.ch_service.specs.Route.{FirstRoutesAreExact, RightRoutesAreLeast, RoutesAreExact, RoutesHaveFewestArcs};
 
-use ch_laws::least_route_is_a_least_walk;
+use ch_laws::{least_route_is_a_least_walk, route_is_a_shortest_walk};
 use grfile::{spelled_graphs_are_in_range, spelled_pairs_are_in_range};
 use hierfile::hierarchies_have_one_spelling;
 
-/// Routes of a hierarchy that is right for a graph are least walks of that graph. It does nothing when it runs.
+/// Routes of a hierarchy that is right for a graph are least walks of that graph, and it is enough that it is right by
+/// weight, as in version 1. It does nothing when it runs.
 pub fn right_routes_are_least()
-    ensures { RightRoutesAreLeast }
+    ensures least { RightRoutesAreLeast Two }
+    ensures by_weight { RightRoutesAreLeast One }
 {
     least_route_is_a_least_walk();
+    route_is_a_shortest_walk();
 }
 
 /// Routes are exact: whenever [`prepare`](crate::prepare) has written a hierarchy from the text of a graph,
 /// [`route`](crate::route), reading those bytes, answers each pair with the least length of a walk in that graph and the
 /// nodes along a walk of exactly that length, and answers none exactly where there is no walk. Of all least walks it tells
-/// one with the fewest arcs. It does nothing when it runs.
+/// one with the fewest arcs. By a file of version 1 whose hierarchy is right by weight routes are exact too, but they
+/// needn't have the fewest arcs. It does nothing when it runs.
 pub fn routes_are_exact()
-    ensures exact { RoutesAreExact }
+    ensures exact { RoutesAreExact Two }
     ensures fewest { RoutesHaveFewestArcs }
+    ensures by_weight { RoutesAreExact One }
 {
     hierarchies_have_one_spelling();
     spelled_graphs_are_in_range();
     spelled_pairs_are_in_range();
     least_route_is_a_least_walk();
+    route_is_a_shortest_walk();
 }
 
 /// And so are the first of them, where a call was refused later. It does nothing when it runs.
 pub fn first_routes_are_exact()
-    ensures { FirstRoutesAreExact }
+    ensures exact { FirstRoutesAreExact Two }
+    ensures by_weight { FirstRoutesAreExact One }
 {
     hierarchies_have_one_spelling();
     spelled_graphs_are_in_range();
     spelled_pairs_are_in_range();
     least_route_is_a_least_walk();
+    route_is_a_shortest_walk();
 }
 
 /// By its cause alone a refusal tells which text is at fault, and what was written. It does nothing when it runs.

@@ -1,15 +1,16 @@
 ghost use Rattle.std.specs.Prelude.{◌≡◌, ℕ, List, Err, OnOk, IfErr, IfSome};
 ghost use Rattle.grfile.specs.Taken.{StopsAtReached};
+ghost use Rattle.ch_graph.specs.declared.version.Version.TheVariants.{One};
 ghost use Rattle.ch_service.specs.Answer.{Answers, AnswersByFewest};
 ghost use Rattle.ch_service.specs.Outcome.{IfTold, IfTextFault, Writes, ComesOfRouting, IsRoutingFault, KeepsAtFault, StopsShort};
-ghost use Rattle.ch_service.specs.Route.{Prepares, Routes, RoutesFirst, RoutesToTooLong};
+ghost use Rattle.ch_service.specs.Route.{Prepares, PreparesIn, Routes, RoutesFirst, RoutesToTooLong};
 ghost use Rattle.ch_service.specs.declared.error.ServiceError.TheVariants.{Unpack};
 ghost use Rattle.ch_unpack.specs.declared.error.UnpackError.TheVariants.{TooLong};
 
 use crate::error::ServiceError;
 use crate::laws::routes_are_exact;
 use crate::pairs::answer_pairs;
-use ch_laws::least_route_is_never_too_long;
+use ch_laws::{least_route_is_never_too_long, route_by_weight_is_never_too_long};
 use grfile::{read_queries, spelled_graphs_are_in_range};
 use hierfile::hierarchies_have_one_spelling;
 use std::alloc::Global;
@@ -18,12 +19,13 @@ use std::io::{Read, Write};
 /// Answers pairs of nodes by a hierarchy.
 ///
 /// `hier` gives the file of the hierarchy, `queries` the text of the pairs, and `out` gets one line for each pair, in
-/// order: its least length, how many arcs its route has, and the nodes of the route; of all least routes it is one with the
-/// fewest arcs, where the file was prepared from a graph. The hierarchy is read before the
-/// pairs, and where one is refused nothing is written. Where a pair is refused, for want of memory or since its route is
-/// too long, the lines of the pairs before are written first; no route is too long where the hierarchy is right for
-/// some graph. Takes memory for the hierarchy and once more for its links by their ends, for the pairs, one query at a
-/// time, and for about 64 KiB of lines and one line more.
+/// order: its least length, how many arcs its route has, and the nodes of the route. Where [`prepare`](crate::prepare)
+/// wrote the file, it is of all least routes one with the fewest arcs; by a file of version 1, whose costs count no
+/// arcs, it is any of them. The hierarchy is read before the pairs, and where one is refused nothing is written. Where a
+/// pair is refused, for want of memory or since its route is too long, the lines of the pairs before are written first;
+/// no route is too long where the hierarchy is right for some graph, in the sense of its version. Takes memory for the
+/// hierarchy and once more for its links by their ends, for the pairs, one query at a time, and for about 64 KiB of lines
+/// and one line more.
 pub fn route<H: Read, Q: Read, W: Write>(
     alloc: Global,
     hier: &mut H,
@@ -41,6 +43,12 @@ pub fn route<H: Read, Q: Read, W: Write>(
     ensures never_long { result ≡ Err (Unpack TooLong) → IfSome (H.remaining hier.old)
         (λ bytes. (graph_text : List ℕ) → Prepares graph_text bytes → ⊥) }
 
+    // Where they were prepared from it in version 1.
+    ensures exact_by_weight { OnOk result (IfTold (H.remaining hier.old) (Q.remaining queries.old)
+        (λ bytes pairs. (graph_text : List ℕ) → PreparesIn One graph_text bytes → Writes (Answers graph_text pairs) (W.contents out.old) (W.contents out.new))) }
+    ensures never_long_by_weight { result ≡ Err (Unpack TooLong) → IfSome (H.remaining hier.old)
+        (λ bytes. (graph_text : List ℕ) → PreparesIn One graph_text bytes → ⊥) }
+
     // At a refusal.
     ensures kinds { IfErr result ComesOfRouting }
     ensures fault { IfErr result (λ e. IfTold (H.remaining hier.old) (Q.remaining queries.old)
@@ -54,6 +62,7 @@ pub fn route<H: Read, Q: Read, W: Write>(
     hierarchies_have_one_spelling();
     spelled_graphs_are_in_range();
     least_route_is_never_too_long();
+    route_by_weight_is_never_too_long();
     let hierarchy = hierfile::read(alloc, hier).map_err(ServiceError::Hierarchy)?;
     let pairs = read_queries(alloc, queries, hierarchy.nodes()).map_err(ServiceError::Queries)?;
     answer_pairs(alloc, &hierarchy, pairs.as_slice(), out)

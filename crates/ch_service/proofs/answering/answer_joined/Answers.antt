@@ -13,6 +13,7 @@ returns-clause-good g c is = (c.answer.ensures.bad BadOptions is).0 refl (record
   settle = record { above = omega arith; below = omega arith };
   defer = omega arith;
   turns = record { above = omega arith; below = omega arith };
+  stint = record { above = omega arith; below = omega arith };
   a_list_each = c.new-lists.ensures.len;
 })
 

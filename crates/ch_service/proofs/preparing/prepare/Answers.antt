@@ -11,11 +11,11 @@ pub write-requires : goal.write-requires
 write-requires g c = ap version_number c.in_ok-hierarchy.ensures.built.made.version
 
 pub returns-clause-prepares : goal.returns-clause-prepares
-returns-clause-prepares g c = writes-prepared c.in-Ok.graph c.in_ok-hierarchy.field-0.hierarchy _ _ _ (search rules) c.in_ok-hierarchy.ensures.right (record { made = search rules; version = c.in_ok-hierarchy.ensures.built.made.version }) c.in_ok-write.ensures.ok
+returns-clause-prepares g c = writes-prepared c.in-Ok.graph c.in_ok-hierarchy.field-0.hierarchy _ _ _ (search rules) c.in_ok-hierarchy.ensures.right (search rules) c.in_ok-hierarchy.ensures.built.made.version c.in_ok-write.ensures.ok
 
 pub returns-in_err-write-clause-broken : goal.returns-in_err-write-clause-broken
 returns-in_err-write-clause-broken g c =
-    breaks-prepared c.in-Ok.graph c.in_ok-hierarchy.field-0.hierarchy _ _ _ c.in_err-write.field-0.0 c.from_residual-in_err-write.result (search rules) c.in_ok-hierarchy.ensures.right (record { made = search rules; version = c.in_ok-hierarchy.ensures.built.made.version })
+    breaks-prepared c.in-Ok.graph c.in_ok-hierarchy.field-0.hierarchy _ _ _ c.in_err-write.field-0.0 c.from_residual-in_err-write.result (search rules) c.in_ok-hierarchy.ensures.right (search rules) c.in_ok-hierarchy.ensures.built.made.version
     c.from_residual-in_err-write.ensures.1 c.in_err-write.ensures.err
 
 pub returns-in-Err-clause-fault : goal.returns-in-Err-clause-fault

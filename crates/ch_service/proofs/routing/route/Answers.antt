@@ -1,7 +1,8 @@
 use Rattle.std.proofs.Common.{rules, arith}
 use Rattle.std.proofs.lemmas.Grind.{common_steps}
+use Rattle.ch_graph.specs.declared.version.Version.TheVariants.{One, Two}
 use Rattle.ch_service.specs.Answer.{IsLeastWalk, IsFewestWalk}
-use Rattle.ch_service.proofs.ByWalks.{routes-told, stops-told, fault-told, fault-routed, no_text_fault, routing-kinds}
+use Rattle.ch_service.proofs.ByWalks.{routes-told, stops-told, fault-told, fault-routed, no_text_fault, routing-kinds, short-in_two, short-in_one}
 use Rattle.ch_service.proofs.Exact.{prepared-told, never_long-told}
 use Rattle.ch_service.proofs.TextFaults.{pairs-fault}
 use Rattle.ch_service.proofs.routing.route.Goals as goal
@@ -19,17 +20,27 @@ returns-clause-routes g c =
 
 pub returns-clause-exact : goal.returns-clause-exact
 returns-clause-exact g c =
-    prepared-told {Is = IsLeastWalk} c.routes_are_exact.ensures.exact c.in_ok-hierarchy.hierarchy c.as_slice.result.now _ _ _ _ c.answer_pairs.result (search rules) (search rules)
+    prepared-told Two {Is = IsLeastWalk} c.routes_are_exact.ensures.exact c.in_ok-hierarchy.hierarchy c.as_slice.result.now _ _ _ _ c.answer_pairs.result (search rules) (search rules)
     c.answer_pairs.ensures.routed
 
 pub returns-clause-fewest : goal.returns-clause-fewest
 returns-clause-fewest g c =
-    prepared-told {Is = IsFewestWalk} c.routes_are_exact.ensures.fewest c.in_ok-hierarchy.hierarchy c.as_slice.result.now _ _ _ _ c.answer_pairs.result (search rules) (search rules)
+    prepared-told Two {Is = IsFewestWalk} c.routes_are_exact.ensures.fewest c.in_ok-hierarchy.hierarchy c.as_slice.result.now _ _ _ _ c.answer_pairs.result (search rules) (search rules)
     c.answer_pairs.ensures.routed
 
 pub returns-clause-never_long : goal.returns-clause-never_long
 returns-clause-never_long g c =
-    never_long-told c.hierarchies_have_one_spelling.ensures c.spelled_graphs_are_in_range.ensures c.least_route_is_never_too_long.ensures c.in_ok-hierarchy.hierarchy c.as_slice.result.now _ _ _ _ c.answer_pairs.result (search rules) (search rules)
+    never_long-told Two c.hierarchies_have_one_spelling.ensures c.spelled_graphs_are_in_range.ensures (short-in_two c.least_route_is_never_too_long.ensures) c.in_ok-hierarchy.hierarchy c.as_slice.result.now _ _ _ _ c.answer_pairs.result (search rules) (search rules)
+    c.answer_pairs.ensures.stops
+
+pub returns-clause-exact_by_weight : goal.returns-clause-exact_by_weight
+returns-clause-exact_by_weight g c =
+    prepared-told One {Is = IsLeastWalk} c.routes_are_exact.ensures.by_weight c.in_ok-hierarchy.hierarchy c.as_slice.result.now _ _ _ _ c.answer_pairs.result (search rules) (search rules)
+    c.answer_pairs.ensures.routed
+
+pub returns-clause-never_long_by_weight : goal.returns-clause-never_long_by_weight
+returns-clause-never_long_by_weight g c =
+    never_long-told One c.hierarchies_have_one_spelling.ensures c.spelled_graphs_are_in_range.ensures (short-in_one c.route_by_weight_is_never_too_long.ensures) c.in_ok-hierarchy.hierarchy c.as_slice.result.now _ _ _ _ c.answer_pairs.result (search rules) (search rules)
     c.answer_pairs.ensures.stops
 
 pub returns-clause-kinds : goal.returns-clause-kinds
