@@ -5,5 +5,6 @@
 #![tactic(auto)]
 
 mod reading;
+mod version;
 
 pub use reading::command;

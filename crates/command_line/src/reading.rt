@@ -2,14 +2,15 @@ ghost use Rattle.std.specs.Prelude.{◌≡◌, true, false, IfOk};
 ghost use Rattle.clap.specs.declared.builder.command.Command.TheViews.{out-Command};
 ghost use Rattle.jobs.specs.Job.{names_one_file};
 
+use crate::version::VERSION;
 use clap::error::ErrorKind;
 use clap::{Arg, ArgAction, ArgMatches, Command, Error, value_parser};
-use jobs::{Job, Order, Stop, Workers};
+use jobs::{Job, Order, Preparation, Stint, Stop, Workers};
 use std::alloc::{AllocError, Global};
 
 /// What the words of a command line ask for. The first word is the program's name.
 ///
-/// Words that ask for help, and words that are refused, stop with the text for the user. One word for both files of
+/// Words that ask for help or the version, and words that are refused, stop with the text for the user. One word for both files of
 /// `prepare` is refused: the hierarchy would take the place of the graph.
 pub fn command(alloc: Global, words: &[String]) -> Result<Job<'_>, Stop>
     ensures { IfOk result (λ job. names_one_file job ≡ false) }
@@ -27,7 +28,7 @@ fn stop_of(alloc: Global, error: &Error) -> Stop {
     }
     match error.to_string(alloc) {
         Ok(text) if error.use_stderr() => Stop::Refused(text),
-        Ok(text) => Stop::Help(text),
+        Ok(text) => Stop::Told(text),
         Err(_) => Stop::OutOfMemory,
     }
 }
@@ -59,13 +60,17 @@ fn preparing<'a>(found: &ArgMatches<'a>) -> Option<Job<'a>> {
     let workers = workers_of(found)?;
     let seed = found.get_one("seed")?;
     let order = order_of(found.get_str("order")?)?;
-    Some(Job::Prepare {
+    let stint = stint_of(found)?;
+    let progress = found.get_flag("progress");
+    Some(Job::Prepare(Preparation {
         graph,
         out,
         workers,
         seed,
         order,
-    })
+        stint,
+        progress,
+    }))
 }
 
 fn routing<'a>(found: &ArgMatches<'a>) -> Option<Job<'a>> {
@@ -98,6 +103,15 @@ fn order_of(name: &str) -> Option<Order> {
     }
 }
 
+// The stint that is asked for, or that there is none, if that is so.
+fn stint_of(found: &ArgMatches<'_>) -> Option<Option<Stint>> {
+    if !found.contains_id("stint") {
+        return Some(None);
+    }
+    let stint = Stint::new(found.get_one("stint")?)?;
+    Some(Some(stint))
+}
+
 // The error of a command line without a value that is required.
 fn missing_value(alloc: Global) -> Result<Error, AllocError> {
     let mut answer = answer(alloc)?;
@@ -113,6 +127,7 @@ fn program<'a>(alloc: Global) -> Result<Command<'a>, AllocError>
     ensures needs { IfOk result (λ program. (out-Command program).subcommand_required ≡ true) }
 {
     let program = Command::new(alloc, "routecli")
+        .version(VERSION)
         .about(
             "Answers pairs of nodes of a road graph with least routes: lengths and nodes along the way",
         )
@@ -164,6 +179,8 @@ fn prepare<'a>(alloc: Global) -> Result<Command<'a>, AllocError>
         .arg(workers(alloc))?
         .arg(seed(alloc))?
         .arg(order(alloc))?
+        .arg(stint(alloc))?
+        .arg(progress(alloc))?
         .arg(file(alloc, "GRAPH", GRAPH))?
         .arg(file(alloc, "OUT", OUT))
 }
@@ -191,38 +208,54 @@ fn file<'a>(alloc: Global, name: &'a str, help: &'a str) -> Arg<'a>
 fn workers<'a>(alloc: Global) -> Arg<'a>
     ensures { result.global ≡ false }
 {
-    option(alloc, "workers", "K", WORKERS, "4").value_parser(value_parser!(u32).range(0..=64))
+    option(alloc, "workers", "K", WORKERS)
+        .default_value("4")
+        .value_parser(value_parser!(u32).range(0..=64))
 }
 
 // The seed of their draws.
 fn seed<'a>(alloc: Global) -> Arg<'a>
     ensures { result.global ≡ false }
 {
-    option(alloc, "seed", "S", SEED, "1").value_parser(value_parser!(u64))
+    option(alloc, "seed", "S", SEED)
+        .default_value("1")
+        .value_parser(value_parser!(u64))
 }
 
 // The order in which they contract nodes.
 fn order<'a>(alloc: Global) -> Arg<'a>
     ensures { result.global ≡ false }
 {
-    option(alloc, "order", "ORDER", ORDER, "edges").value_parser(ORDERS.as_slice())
+    option(alloc, "order", "ORDER", ORDER)
+        .default_value("edges")
+        .value_parser(ORDERS.as_slice())
 }
 
-// An option with a value, which has a default.
-fn option<'a>(
-    alloc: Global,
-    name: &'a str,
-    value: &'a str,
-    help: &'a str,
-    default: &'a str,
-) -> Arg<'a>
+// How many commits they make by one order.
+fn stint<'a>(alloc: Global) -> Arg<'a>
+    ensures { result.global ≡ false }
+{
+    option(alloc, "stint", "C", STINT).value_parser(value_parser!(u64).range(1..=1_099_511_627_776))
+}
+
+// Whether the user is shown how far they are.
+fn progress<'a>(alloc: Global) -> Arg<'a>
+    ensures { result.global ≡ false }
+{
+    Arg::new(alloc, "progress")
+        .long("progress")
+        .help(PROGRESS)
+        .action(ArgAction::SetTrue)
+}
+
+// An option with a value.
+fn option<'a>(alloc: Global, name: &'a str, value: &'a str, help: &'a str) -> Arg<'a>
     ensures { result.global ≡ false }
 {
     Arg::new(alloc, name)
         .long(name)
         .value_name(value)
         .help(help)
-        .default_value(default)
         .action(ArgAction::Set)
 }
 
@@ -242,6 +275,12 @@ const ORDER: &str =
     "Nodes that go first: of the fewest arcs left, or that and fewest neighbours gone, or that and least depth";
 
 const ORDERS: [&str; 3] = ["edges", "neighbours", "depth"];
+
+const STINT: &str =
+    "After how many commits a worker goes on by the next order, of the one that is asked for and then the other two: 1 to 1099511627776; without it a worker keeps to the one";
+
+const PROGRESS: &str =
+    "Show on standard error how many nodes are contracted and how long the rest may take, where that is a terminal";
 
 const HIER: &str = "File of a hierarchy that prepare made";
 

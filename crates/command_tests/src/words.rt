@@ -1,5 +1,5 @@
 use command_line::command;
-use jobs::{Job, Order, Stop, Workers, show_stop};
+use jobs::{Job, Order, Preparation, Stint, Stop, Workers, show_stop};
 use std::alloc::{AllocError, Global};
 use std::io::{self, ErrorKind, Write};
 use std::test::Fail;
@@ -78,14 +78,18 @@ struct Chosen {
     workers: u32,
     seed: u64,
     order: Order,
+    stint: Option<u64>,
+    progress: bool,
 }
 
-const CHOSEN: [Chosen; 7] = [
+const CHOSEN: [Chosen; 11] = [
     Chosen {
         words: &["routecli", "prepare", "a.gr", "a.rch"],
         workers: 4,
         seed: 1,
         order: Order::Edges,
+        stint: None,
+        progress: false,
     },
     Chosen {
         words: &[
@@ -103,6 +107,8 @@ const CHOSEN: [Chosen; 7] = [
         workers: 0,
         seed: 0,
         order: Order::Neighbours,
+        stint: None,
+        progress: false,
     },
     Chosen {
         words: &[
@@ -120,6 +126,8 @@ const CHOSEN: [Chosen; 7] = [
         workers: 64,
         seed: 18_446_744_073_709_551_615,
         order: Order::Depth,
+        stint: None,
+        progress: false,
     },
     Chosen {
         words: &[
@@ -134,36 +142,99 @@ const CHOSEN: [Chosen; 7] = [
         workers: 1,
         seed: 7,
         order: Order::Edges,
+        stint: None,
+        progress: false,
     },
     Chosen {
         words: &["routecli", "prepare", "--workers", "63", "a.gr", "a.rch"],
         workers: 63,
         seed: 1,
         order: Order::Edges,
+        stint: None,
+        progress: false,
     },
     Chosen {
         words: &["routecli", "prepare", "a.gr", "--seed", "12", "a.rch"],
         workers: 4,
         seed: 12,
         order: Order::Edges,
+        stint: None,
+        progress: false,
     },
     Chosen {
         words: &["routecli", "prepare", "a.gr", "a.rch", "--order", "depth"],
         workers: 4,
         seed: 1,
         order: Order::Depth,
+        stint: None,
+        progress: false,
+    },
+    Chosen {
+        words: &["routecli", "prepare", "--stint", "1", "a.gr", "a.rch"],
+        workers: 4,
+        seed: 1,
+        order: Order::Edges,
+        stint: Some(1),
+        progress: false,
+    },
+    Chosen {
+        words: &[
+            "routecli",
+            "prepare",
+            "a.gr",
+            "--stint=1099511627776",
+            "--order",
+            "neighbours",
+            "a.rch",
+        ],
+        workers: 4,
+        seed: 1,
+        order: Order::Neighbours,
+        stint: Some(1_099_511_627_776),
+        progress: false,
+    },
+    Chosen {
+        words: &[
+            "routecli",
+            "prepare",
+            "--workers",
+            "2",
+            "a.gr",
+            "a.rch",
+            "--stint",
+            "0001000",
+        ],
+        workers: 2,
+        seed: 1,
+        order: Order::Edges,
+        stint: Some(1_000),
+        progress: false,
+    },
+    Chosen {
+        words: &["routecli", "prepare", "--progress", "a.gr", "a.rch"],
+        workers: 4,
+        seed: 1,
+        order: Order::Edges,
+        stint: None,
+        progress: true,
     },
 ];
 
 /// The job that is chosen.
 fn job_of(chosen: &Chosen) -> Option<Job<'static>> {
-    Some(Job::Prepare {
+    let stint = match chosen.stint {
+        Some(commits) => Some(Stint::new(commits)?),
+        None => None,
+    };
+    Some(Job::Prepare(Preparation {
         graph: "a.gr",
         out: "a.rch",
         workers: Workers::new(chosen.workers)?,
         seed: chosen.seed,
         order: chosen.order,
-    })
+        stint,
+        progress: chosen.progress,
+    }))
 }
 
 /// Whether the words name this job, and both texts of it stand in standard input as it is said.
@@ -198,7 +269,7 @@ fn stop_of(alloc: Global, texts: &[&str]) -> Result<Stop, Fail> {
 }
 
 /// Words that are refused, and how the first line of the refusal goes on after `error: `.
-const REFUSED: [(&[&str], &[u8]); 21] = [
+const REFUSED: [(&[&str], &[u8]); 35] = [
     (&["routecli"], b""),
     (&["routecli", "answer"], b""),
     (&["routecli", "answer", "a.gr"], b""),
@@ -254,6 +325,85 @@ const REFUSED: [(&[&str], &[u8]); 21] = [
             "routecli", "prepare", "--seed", "1", "--seed", "2", "a.gr", "a.rch",
         ],
         b"the argument '--seed <S>' cannot be used multiple times\n",
+    ),
+    (
+        &["routecli", "prepare", "--stint", "0", "a.gr", "a.rch"],
+        b"invalid value '0' for '--stint <C>': 0 is not in 1..=1099511627776\n",
+    ),
+    (
+        &[
+            "routecli",
+            "prepare",
+            "--stint",
+            "1099511627777",
+            "a.gr",
+            "a.rch",
+        ],
+        b"invalid value '1099511627777' for '--stint <C>': 1099511627777 is not in 1..=1099511627776\n",
+    ),
+    (
+        &[
+            "routecli",
+            "prepare",
+            "--stint",
+            "18446744073709551616",
+            "a.gr",
+            "a.rch",
+        ],
+        b"invalid value '18446744073709551616' for '--stint <C>': number too large to fit in target type\n",
+    ),
+    (
+        &["routecli", "prepare", "--stint=-1", "a.gr", "a.rch"],
+        b"invalid value '-1' for '--stint <C>': invalid digit found in string\n",
+    ),
+    (
+        &["routecli", "prepare", "--stint", "x", "a.gr", "a.rch"],
+        b"invalid value 'x' for '--stint <C>': invalid digit found in string\n",
+    ),
+    (
+        &["routecli", "prepare", "--stint=", "a.gr", "a.rch"],
+        b"invalid value '' for '--stint <C>': cannot parse integer from empty string\n",
+    ),
+    (
+        &["routecli", "prepare", "--stint", "1e3", "a.gr", "a.rch"],
+        b"invalid value '1e3' for '--stint <C>': invalid digit found in string\n",
+    ),
+    (
+        &[
+            "routecli", "prepare", "--stint", "1", "--stint", "1", "a.gr", "a.rch",
+        ],
+        b"the argument '--stint <C>' cannot be used multiple times\n",
+    ),
+    (
+        &["routecli", "prepare", "a.gr", "a.rch", "--stint"],
+        b"a value is required for '--stint <C>' but none was supplied\n",
+    ),
+    (
+        &["routecli", "route", "--stint", "1", "a.rch", "a.p2p"],
+        b"unexpected argument '--stint' found\n",
+    ),
+    (
+        &["routecli", "prepare", "--progress=yes", "a.gr", "a.rch"],
+        b"unexpected value 'yes' for '--progress' found; no more were expected\n",
+    ),
+    (
+        &[
+            "routecli",
+            "prepare",
+            "--progress",
+            "--progress",
+            "a.gr",
+            "a.rch",
+        ],
+        b"the argument '--progress' cannot be used multiple times\n",
+    ),
+    (
+        &["routecli", "route", "--progress", "a.rch", "a.p2p"],
+        b"unexpected argument '--progress' found\n",
+    ),
+    (
+        &["routecli", "answer", "--version", "a.gr", "a.p2p"],
+        b"unexpected argument '--version' found\n",
     ),
     (
         &["routecli", "prepare", "a.gr", "a.rch", "--workers"],
@@ -320,8 +470,8 @@ fn one_word_for_both_files(rt: HostRuntime) -> Result<(), Fail> {
 
 /// Words that ask for help, and what the help tells.
 const HELP: [(&[&str], &[&str]); 6] = [
-    (&["routecli", "--help"], &[]),
-    (&["routecli", "help"], &[]),
+    (&["routecli", "--help"], &["--version"]),
+    (&["routecli", "help"], &["--version"]),
     (&["routecli", "help", "answer"], &[]),
     (&["routecli", "answer", "-h"], &[]),
     (&["routecli", "route", "--help"], &[]),
@@ -336,13 +486,16 @@ const HELP: [(&[&str], &[&str]); 6] = [
             "[default: 1]",
             "--order <ORDER>",
             "[default: edges] [possible values: edges, neighbours, depth]",
+            "--stint <C>",
+            "1 to 1099511627776",
+            "--progress",
         ],
     ),
 ];
 
 /// Whether the text for the user is help that has all these parts.
 fn tells(why: &Stop, parts: &[&str]) -> bool {
-    let Stop::Help(text) = why else {
+    let Stop::Told(text) = why else {
         return false;
     };
     for part in parts {
@@ -368,6 +521,30 @@ fn words_that_ask_for_help(rt: HostRuntime) -> Result<(), Fail> {
     for (texts, parts) in HELP {
         let why = stop_of(rt.alloc(), texts)?;
         assert!(rt; is_shown(rt.alloc(), &why) && tells(&why, parts));
+    }
+    Ok(())
+}
+
+/// Words that ask for the version.
+const VERSION: [&[&str]; 3] = [
+    &["routecli", "--version"],
+    &["routecli", "-V"],
+    &["routecli", "--version", "prepare"],
+];
+
+/// Whether the text for the user is one line: the program's name, its version, and the toolchain that proved it.
+fn tells_version(why: &Stop) -> bool {
+    let Stop::Told(text) = why else {
+        return false;
+    };
+    text.as_str() == "routecli 1.0.0, proved with rattle-kit-13f logic dac8208d650f15bf\n"
+}
+
+#[test]
+fn words_that_ask_for_the_version(rt: HostRuntime) -> Result<(), Fail> {
+    for texts in VERSION {
+        let why = stop_of(rt.alloc(), texts)?;
+        assert!(rt; is_shown(rt.alloc(), &why) && tells_version(&why));
     }
     Ok(())
 }

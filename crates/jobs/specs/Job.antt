@@ -7,13 +7,13 @@ use Rattle.jobs.specs.declared.job.Job.TheVariants.{Answer, Prepare, Route}
 -- both texts stand in one input
 abbrev pub is_joined : Job → Bool
 is_joined (Answer graph queries) = bytes_eq graph.now (codes "-") && bytes_eq queries.now (codes "-")
-is_joined (Prepare graph out workers seed order) = false
+is_joined (Prepare preparation) = false
 is_joined (Route hierarchy queries) = false
 
 -- the file of a hierarchy is to be made under the name of the graph
 abbrev pub names_one_file : Job → Bool
 names_one_file (Answer graph queries) = false
-names_one_file (Prepare graph out workers seed order) = bytes_eq graph.now out.now
+names_one_file (Prepare preparation) = bytes_eq preparation.graph.now preparation.out.now
 names_one_file (Route hierarchy queries) = false
 
 -- pairs are to be answered over a graph
@@ -23,7 +23,7 @@ IsAnswering job = ⊥
 
 -- a hierarchy is to be prepared
 abbrev pub IsPreparing : Job → Type 0
-IsPreparing (Prepare graph out workers seed order) = ⊤
+IsPreparing (Prepare preparation) = ⊤
 IsPreparing job = ⊥
 
 -- pairs are to be answered by a hierarchy

@@ -3,9 +3,9 @@ use Rattle.std.specs.Prelude.{ℕ, ◌≡◌, ◌⊎◌}
 use Rattle.jobs.specs.declared.job.Stop.{Stop}
 use Rattle.jobs.specs.declared.job.Stop.TheVariants as stops
 
--- The status of a command line that names no job. Help that can't be written ends as a failed write does.
+-- The status of a command line that names no job. Help or a version that can't be written ends as a failed write does.
 abbrev pub HasStatus : Stop → ℕ → Type 0
-HasStatus (stops.Help text) status = (status ≡ 0) ⊎ (status ≡ 7)
+HasStatus (stops.Told text) status = (status ≡ 0) ⊎ (status ≡ 7)
 HasStatus (stops.Refused text) status = status ≡ 2
 HasStatus stops.OneFile status = status ≡ 2
 HasStatus stops.OutOfMemory status = status ≡ 6

@@ -1,6 +1,6 @@
 ghost use Rattle.std.specs.Prelude.{◌≡◌, true, false, IfErr, IfOk};
 
-use crate::workers::Workers;
+use crate::preparation::Preparation;
 
 /// What the program is asked for.
 #[derive(Clone, Copy, Debug, PartialEq, Eq)]
@@ -13,18 +13,7 @@ pub enum Job<'a> {
         queries: &'a str,
     },
     /// To prepare a hierarchy of a graph.
-    Prepare {
-        /// The file with the graph's text.
-        graph: &'a str,
-        /// The file that is made for the hierarchy.
-        out: &'a str,
-        /// How many workers contract the nodes.
-        workers: Workers,
-        /// The seed of the draws by which they choose nodes.
-        seed: u64,
-        /// Which nodes go first.
-        order: Order,
-    },
+    Prepare(Preparation<'a>),
     /// To answer pairs by a hierarchy.
     Route {
         /// The file of the hierarchy.
@@ -34,22 +23,11 @@ pub enum Job<'a> {
     },
 }
 
-/// Which nodes workers contract first. Without workers the nodes are contracted by the order of their numbers.
-#[derive(Clone, Copy, Debug, PartialEq, Eq)]
-pub enum Order {
-    /// Those whose contraction leaves the fewest arcs.
-    Edges,
-    /// The same, and each neighbour that is gone puts a node back by one arc.
-    Neighbours,
-    /// The same, and each step of its depth puts a node back by one arc.
-    Depth,
-}
-
 /// Why a command line names no job, with the text for the user.
 #[derive(Debug, Drop)]
 pub enum Stop {
-    /// Help was asked for.
-    Help(String),
+    /// Help or the version was asked for.
+    Told(String),
     /// The words were refused.
     Refused(String),
     /// The graph and the file that is made for its hierarchy are one file.
@@ -69,7 +47,7 @@ impl Job<'_> {
     {
         match self {
             Job::Answer { graph, queries } => *graph == "-" && *queries == "-",
-            Job::Prepare { .. } | Job::Route { .. } => false,
+            Job::Prepare(_) | Job::Route { .. } => false,
         }
     }
 
@@ -78,7 +56,7 @@ impl Job<'_> {
         ensures { result ≡ names_one_file self.now }
     {
         match self {
-            Job::Prepare { graph, out, .. } => *graph == *out,
+            Job::Prepare(preparation) => preparation.graph == preparation.out,
             Job::Answer { .. } | Job::Route { .. } => false,
         }
     }

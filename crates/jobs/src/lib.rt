@@ -2,13 +2,17 @@
 //!
 //! Stands on nothing. A [`Job`] has its files and options, whose numbers are within their ranges; [`Job::of_two_files`]
 //! refuses one word for two files, and [`show_stop`] tells the user why there is no job, and answers the program's exit
-//! status. The promise is in the contracts of these two and of [`Workers`].
+//! status. The promise is in the contracts of these two, and of [`Workers`], [`Stint`] and [`Preparation::orders`].
 #![tactic(auto)]
 
 mod job;
+mod preparation;
+mod stint;
 mod stopping;
 mod workers;
 
-pub use job::{Job, Order, Stop};
+pub use job::{Job, Stop};
+pub use preparation::{Order, Preparation};
+pub use stint::Stint;
 pub use stopping::{end, show_stop};
 pub use workers::Workers;

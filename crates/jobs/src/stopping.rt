@@ -4,13 +4,13 @@ ghost use Rattle.jobs.specs.Stops.{HasStatus};
 use crate::job::Stop;
 use std::io::Write;
 
-/// Shows why the command line names no job, and answers the program's exit status: help goes to `out`, and a refusal
-/// to `err`.
+/// Shows why the command line names no job, and answers the program's exit status: help and the version go to
+/// `out`, and a refusal to `err`.
 pub fn show_stop<W: Write, E: Write>(stop: &Stop, out: &mut W, err: &mut E) -> u8
     ensures { HasStatus stop.now result }
 {
     match stop {
-        Stop::Help(text) => match out.write_all(text.as_bytes()) {
+        Stop::Told(text) => match out.write_all(text.as_bytes()) {
             Ok(()) => 0,
             Err(_) => end(7, "write", err),
         },

@@ -1,3 +1,3 @@
-mod OfOneThing
+mod OneForEach
 mod Putting
 mod Statuses

@@ -123,8 +123,8 @@ routing_end file pairs old new status ends = by_cause (Ending IsRoutingStatus ol
 pub of_answer : (j : Job) (n : ℕ) (graph queries : _) → j ≡ Answer graph queries → IsAnsweringStatus n → IsStatusOf j n
 of_answer j n graph queries is status = rw is status
 
-pub of_preparation : (j : Job) (n : ℕ) (graph out workers seed order : _) → j ≡ Prepare graph out workers seed order → IsPreparingStatus n → IsStatusOf j n
-of_preparation j n graph out workers seed order is status = rw is status
+pub of_preparation : (j : Job) (n : ℕ) (preparation : _) → j ≡ Prepare preparation → IsPreparingStatus n → IsStatusOf j n
+of_preparation j n preparation is status = rw is status
 
 pub of_route : (j : Job) (n : ℕ) (hierarchy queries : _) → j ≡ Route hierarchy queries → IsRoutingStatus n → IsStatusOf j n
 of_route j n hierarchy queries is status = rw is status
@@ -133,7 +133,7 @@ of_route j n hierarchy queries is status = rw is status
 pub file_status : (j : Job) (n : ℕ) → (n ≡ 6) ⊎ (n ≡ 7) → IsStatusOf j n
 file_status (Answer graph queries) n (inl is) = inr (inr (inr (inl is)))
 file_status (Answer graph queries) n (inr is) = inr (inr (inr (inr (inl is))))
-file_status (Prepare graph out workers seed order) n (inl is) = inr (inr (inl is))
-file_status (Prepare graph out workers seed order) n (inr is) = inr (inr (inr (inl is)))
+file_status (Prepare preparation) n (inl is) = inr (inr (inl is))
+file_status (Prepare preparation) n (inr is) = inr (inr (inr (inl is)))
 file_status (Route hierarchy queries) n (inl is) = inr (inr (inr (inl is)))
 file_status (Route hierarchy queries) n (inr is) = inr (inr (inr (inr is)))

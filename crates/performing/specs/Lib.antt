@@ -1,2 +1,3 @@
 pub mod Destination
+pub mod Lists
 pub mod Status

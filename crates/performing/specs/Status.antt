@@ -61,5 +61,5 @@ IsRoutingStatus n = (n ≡ 0) ⊎ (n ≡ 4) ⊎ (n ≡ 5) ⊎ (n ≡ 6) ⊎ (n �
 -- the status is one of those of the job
 abbrev pub IsStatusOf : Job → ℕ → Type 0
 IsStatusOf (Answer graph queries) = IsAnsweringStatus
-IsStatusOf (Prepare graph out workers seed order) = IsPreparingStatus
+IsStatusOf (Prepare preparation) = IsPreparingStatus
 IsStatusOf (Route hierarchy queries) = IsRoutingStatus

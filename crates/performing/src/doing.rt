@@ -9,7 +9,7 @@ use crate::preparing::{options, prepare_by};
 use ch_estimate::Leases;
 use ch_service::{Cause, ServiceError, answer, answer_joined, causes_tell_refusals, route};
 use ch_workers::OpenGate;
-use jobs::{Job, Workers};
+use jobs::{Job, Stint, Workers};
 use std::alloc::Global;
 use std::io::{Read, Write};
 use std::sync::Wait;
@@ -47,14 +47,11 @@ pub fn perform<A: Read, B: Read, W: Write, E: Write, R: Threads + Wait + Sync>(
             status_after(answer_joined(rt, alloc, first, out), err)
         }
         Job::Answer { .. } => status_after(answer_alone(rt, alloc, first, second, out), err),
-        Job::Prepare {
-            workers,
-            seed,
-            order,
-            ..
-        } => {
-            let options = options(*workers, *seed);
-            status_after(prepare_by(rt, alloc, first, out, *order, options), err)
+        Job::Prepare(preparation) => {
+            status_after(
+                prepare_by(rt, alloc, first, out, preparation, &OpenGate),
+                err,
+            )
         }
         Job::Route { .. } => status_after(route(alloc, first, second, out), err),
     }
@@ -72,7 +69,7 @@ fn answer_alone<A: Read, B: Read, W: Write, R: Threads + Wait + Sync>(
 {
     causes_tell_refusals();
     let mut leases = Leases::new(alloc)?;
-    let options = options(Workers::none(), 1);
+    let options = options(Workers::none(), 1, Stint::longest());
     let lists = Vec::new(alloc);
     answer(
         rt,
@@ -87,8 +84,8 @@ fn answer_alone<A: Read, B: Read, W: Write, R: Threads + Wait + Sync>(
     )
 }
 
-// The status after a call, whose refusal is told in a line.
-fn status_after<E: Write>(ended: Result<(), ServiceError>, err: &mut E) -> u8
+/// The status after a call, whose refusal is told in a line.
+pub fn status_after<E: Write>(ended: Result<(), ServiceError>, err: &mut E) -> u8
     ensures status { result ≡ status_after ended }
     ensures quiet { result ≡ 0 → err.new ≡ err.old }
 {

@@ -1,33 +1,45 @@
-ghost use Rattle.std.specs.Prelude.{◌≡◌, ◌∷◌, [], All, IfOk, Ok, vec_len};
+ghost use Rattle.std.specs.Prelude.{◌≡◌, All, IfOk, Ok, vec_len};
 ghost use Rattle.ch_estimate.specs.Leases.{CountId};
+ghost use Rattle.performing.specs.Lists.{AreFor};
 
 use ch_estimate::{Lease, Leases};
+use jobs::Order;
 use std::alloc::{AllocError, Global};
 
-/// So many lists, each of one thing that is made for a lease of its own.
-pub fn a_list_each<T: Drop, F: Fn(Lease) -> Result<T, AllocError>>(
+/// So many lists, each of one thing for each of the orders, as they follow each other, that is made for a lease of its
+/// own.
+pub fn a_list_each<T: Drop, F: Fn(Order, Lease) -> Result<T, AllocError>>(
     alloc: Global,
     leases: &mut Leases,
     count: u32,
+    orders: &[Order],
     make: F,
 ) -> Result<Vec<Vec<T>>, AllocError>
     requires callable { F.IsAlwaysCallable make }
     ensures count { IfOk result (λ lists. vec_len lists ≡ count) }
-    ensures made { IfOk result (λ lists. All (λ list. All (λ thing. (lease : CountId) × F.post make lease (Ok thing)) list.items) lists.items) }
+    ensures made { IfOk result (λ lists. All (λ list. AreFor (λ order thing. (lease : CountId) × F.post make order lease (Ok thing)) orders.now list.items) lists.items) }
 {
     let mut lists = Vec::new(alloc);
     'lists: for _ in 0..count {
-        let lease = leases.lease()?;
-        lists.push(list_of(alloc, make(lease)?)?)?;
+        lists.push(one_for_each(alloc, leases, orders, &make)?)?;
     }
     Ok(lists)
 }
 
-/// A list of one thing.
-fn list_of<T: Drop>(alloc: Global, thing: T) -> Result<Vec<T>, AllocError>
-    ensures { IfOk result (λ list. list.items ≡ thing ∷ []) }
+// A list of one thing for each of the orders.
+fn one_for_each<T: Drop, F: Fn(Order, Lease) -> Result<T, AllocError>>(
+    alloc: Global,
+    leases: &mut Leases,
+    orders: &[Order],
+    make: &F,
+) -> Result<Vec<T>, AllocError>
+    requires callable { F.IsAlwaysCallable make.now }
+    ensures { IfOk result (λ list. AreFor (λ order thing. (lease : CountId) × F.post make.now order lease (Ok thing)) orders.now list.items) }
 {
     let mut list = Vec::new(alloc);
-    list.push(thing)?;
+    'orders: for order in orders {
+        let lease = leases.lease()?;
+        list.push(make(*order, lease)?)?;
+    }
     Ok(list)
 }

@@ -1,10 +1,11 @@
 ghost use Rattle.std.specs.Prelude.{◌≡◌, ◌≢◌, ◌⊎◌, Some, None, option_map};
-ghost use Rattle.jobs.specs.Job.{IsPreparing};
 ghost use Rattle.performing.specs.Destination.{HasPrepared};
-ghost use Rattle.performing.specs.Status.{IsStatusOf, TellsPrepared};
+ghost use Rattle.performing.specs.Status.{IsPreparingStatus, TellsPrepared};
 
-use crate::doing::perform;
-use jobs::{Job, end};
+use crate::doing::status_after;
+use crate::preparing::prepare_by;
+use ch_workers::Gate;
+use jobs::{Preparation, end};
 use std::alloc::Global;
 use std::io::{Read, Write};
 use std::sync::Wait;
@@ -14,27 +15,28 @@ use whole_file::Destination;
 /// Prepares a hierarchy and lets it stand at its destination, whole, and answers the program's exit status.
 ///
 /// `graph` gives the graph's text. With a status of 0 the file of the hierarchy stands at the destination, and with any
-/// other what stood there before. What the status tells of the text is what it tells in [`perform`]. Of a refusal one
-/// line goes to `err`.
-pub fn prepare_whole<G: Read, D: Destination, E: Write, R: Threads + Wait + Sync>(
+/// other what stood there before. What the status tells of the text is what it tells in [`perform`](crate::perform). The
+/// workers pass the gate. Of a refusal one line goes to `err`.
+pub fn prepare_whole<G: Read, D: Destination, E: Write, P: Gate, R: Threads + Wait + Sync>(
     rt: &R,
     alloc: Global,
-    job: &Job<'_>,
+    preparation: &Preparation<'_>,
     graph: &mut G,
     destination: &mut D,
     err: &mut E,
+    gate: &P,
 ) -> u8
-    ensures done { IsPreparing job.now → result ≡ 0 → HasPrepared (G.remaining graph.old) (D.stands destination.old) (D.stands destination.new) }
+    ensures done { result ≡ 0 → HasPrepared (G.remaining graph.old) (D.stands destination.old) (D.stands destination.new) }
     ensures kept { result ≢ 0 → D.stands destination.new ≡ D.stands destination.old }
-    ensures told { IsPreparing job.now → TellsPrepared result (G.remaining graph.old) None None }
-    ensures status { IsStatusOf job.now result }
+    ensures told { TellsPrepared result (G.remaining graph.old) None None }
+    ensures status { IsPreparingStatus result }
     ensures quiet { result ≡ 0 → err.new ≡ err.old }
 {
-    let mut nothing: &[u8] = b"";
     let Ok(mut draft) = destination.draft() else {
         return end(6, "memory", err);
     };
-    let status = perform(rt, alloc, job, graph, &mut nothing, &mut draft, err);
+    let ended = prepare_by(rt, alloc, graph, &mut draft, preparation, gate);
+    let status = status_after(ended, err);
     finish(destination, draft, status, err)
 }
 

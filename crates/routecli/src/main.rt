@@ -1,22 +1,25 @@
 //! The program `routecli`: prepares hierarchies of road graphs, and answers pairs of nodes with least routes.
 //!
 //! Stands on `command_line`, which turns the words of a command line into a [`Job`], on `performing`, which does it over
-//! readers and writers and answers the exit status, and on `whole_file`, by which the file of a hierarchy comes to stand
-//! whole. `main` opens the files.
+//! readers and writers and answers the exit status, on `whole_file`, by which the file of a hierarchy comes to stand whole,
+//! and on `progress`, which shows how far a preparation has come. `main` opens the files.
 #![tactic(auto)]
 
 ghost use Rattle.std.specs.Prelude.{◌≡◌, ◌⊎◌};
-ghost use Rattle.performing.specs.Status.{IsStatusOf};
+ghost use Rattle.performing.specs.Status.{IsPreparingStatus, IsStatusOf};
 
+use ch_workers::{Gate, OpenGate};
 use command_line::command;
-use jobs::{Job, Stop, end, show_stop};
+use jobs::{Job, Preparation, Stop, end, show_stop};
 use performing::{perform, prepare_whole};
+use progress::{Cleared, Meter, Watched};
 use std::env::Env;
-use std::io::ErrorKind;
+use std::io::{ErrorKind, IsTerminal};
 use std::process::ExitCode;
-use std::rt::Files;
+use std::rt::{Files, Stderr};
 use std::sync::Wait;
 use std::thread::Threads;
+use std::time::Clock;
 use std::{env, fs, io};
 use whole_file::{OutFile, is_one_file};
 
@@ -50,12 +53,10 @@ fn main(rt: HostRuntime) -> ExitCode {
             hierarchy: first,
             queries: second,
         } => perform_files(&rt, &job, first, second, &mut out, &mut err),
-        Job::Prepare {
-            graph: first,
-            out: second,
-            ..
-        } if is_one_file(&rt, first, second) => { show_stop(&Stop::OneFile, &mut out, &mut err) }
-        Job::Prepare { graph, out, .. } => prepare_file(&rt, &job, graph, out, &mut err),
+        Job::Prepare(preparation) if is_one_file(&rt, preparation.graph, preparation.out) => {
+            show_stop(&Stop::OneFile, &mut out, &mut err)
+        }
+        Job::Prepare(preparation) => prepare(&rt, &preparation, err),
     };
     ExitCode::from(status)
 }
@@ -81,22 +82,67 @@ fn perform_files<R: Files + AllocGlobal + Threads + Wait + Sync, W: io::Write, E
     }
 }
 
-// Does a job that reads one file and makes another.
-fn prepare_file<R: Files + AllocGlobal + Threads + Wait + Sync, E: io::Write>(
+// Prepares a hierarchy, and shows how far it has come where that is asked for and standard error is a terminal.
+fn prepare<R: Files + AllocGlobal + Clock + Threads + Wait + Sync>(
     rt: &R,
-    job: &Job<'_>,
-    graph: &str,
-    out: &str,
-    err: &mut E,
+    preparation: &Preparation<'_>,
+    err: Stderr,
 ) -> u8
-    ensures status { IsStatusOf job.now result }
+    ensures { IsPreparingStatus result }
+{
+    if preparation.progress && err.is_terminal() {
+        if let Ok(meter) = Meter::new(rt, err) {
+            return prepare_and_show(rt, preparation, &meter);
+        }
+    }
+    let mut err = err;
+    match fs::open(rt, preparation.graph) {
+        Ok(mut graph) => prepare_file(rt, preparation, &mut graph, &mut err, &OpenGate),
+        Err(error) => refuse_file(&error, &mut err),
+    }
+}
+
+// Prepares a hierarchy, and shows by a meter how far it has come.
+fn prepare_and_show<R: Files + AllocGlobal + Clock + Threads + Wait + Sync>(
+    rt: &R,
+    preparation: &Preparation<'_>,
+    meter: &Meter<'_, R>,
+) -> u8
+    ensures { IsPreparingStatus result }
+{
+    let mut err = Cleared::new(meter);
+    let status = match fs::open(rt, preparation.graph) {
+        Ok(graph) => {
+            let mut graph = Watched::new(graph, meter);
+            prepare_file(rt, preparation, &mut graph, &mut err, meter)
+        }
+        Err(error) => refuse_file(&error, &mut err),
+    };
+    meter.clear();
+    status
+}
+
+// Prepares a hierarchy of a graph's text, and makes its file.
+fn prepare_file<R: Files + AllocGlobal + Threads + Wait + Sync, G: io::Read, E: io::Write, P: Gate>(
+    rt: &R,
+    preparation: &Preparation<'_>,
+    graph: &mut G,
+    err: &mut E,
+    gate: &P,
+) -> u8
+    ensures status { IsPreparingStatus result }
     ensures quiet { result ≡ 0 → err.new ≡ err.old }
 {
-    let mut destination = OutFile::new(rt, out);
-    match fs::open(rt, graph) {
-        Ok(mut graph) => prepare_whole(rt, rt.alloc(), job, &mut graph, &mut destination, err),
-        Err(error) => refuse_file(&error, err),
-    }
+    let mut destination = OutFile::new(rt, preparation.out);
+    prepare_whole(
+        rt,
+        rt.alloc(),
+        preparation,
+        graph,
+        &mut destination,
+        err,
+        gate,
+    )
 }
 
 // The words of the command line, the program's name first.

@@ -2,7 +2,8 @@ ghost use Rattle.std.specs.Prelude.{Some, option_map};
 
 use crate::examples::{ONE_ARC, ONE_ARC_TEXT};
 use crate::job_tests::Broken;
-use jobs::{Job, Order, Workers};
+use ch_workers::OpenGate;
+use jobs::{Order, Preparation, Workers};
 use performing::prepare_whole;
 use std::alloc::{AllocError, Global};
 use std::io::{self, ErrorKind, Read, Write};
@@ -85,14 +86,16 @@ impl Destination for Bench {
     }
 }
 
-/// The job to prepare without workers.
-fn preparing() -> Job<'static> {
-    Job::Prepare {
+/// To prepare without workers.
+fn preparing() -> Preparation<'static> {
+    Preparation {
         graph: "a.gr",
         out: "a.rch",
         workers: Workers::none(),
         seed: 1,
         order: Order::Edges,
+        stint: None,
+        progress: false,
     }
 }
 
@@ -106,7 +109,15 @@ fn is_ended<G: Read, D: Destination, R: Threads + Wait + Sync>(
     line: &[u8],
 ) -> bool {
     let mut err = Vec::new(alloc);
-    let ended = prepare_whole(rt, alloc, &preparing(), graph, destination, &mut err);
+    let ended = prepare_whole(
+        rt,
+        alloc,
+        &preparing(),
+        graph,
+        destination,
+        &mut err,
+        &OpenGate,
+    );
     (ended == status) & (err.as_slice() == line)
 }
 

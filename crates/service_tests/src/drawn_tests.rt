@@ -1,7 +1,7 @@
 //! Networks that are drawn, with many arcs of weight 0 and many walks of one length. However they are answered, each answer
 //! is a walk of the least length that a plain search finds, and of the fewest arcs of such.
 use crate::kit::{answer_alone, joined};
-use crate::order_tests::{prepared, routed};
+use crate::order_tests::{prepared, prepared_by_stints, routed};
 use crate::plain::{Arcs, NODES, are_answers, lower};
 use crate::worker_tests::{answers_by_edges, routes_by_two_kinds};
 use ch_estimate::Leases;
@@ -21,13 +21,13 @@ const WEIGHTS: [u64; 8] = [0, 0, 0, 1, 1, 2, 3, 4_294_967_295];
 
 /// Numbers that a generator draws (Knuth's, of 64 bits), of which the upper half is used.
 #[derive(Clone, Copy)]
-struct Draw {
-    state: u64,
+pub(crate) struct Draw {
+    pub(crate) state: u64,
 }
 
 impl Draw {
-    // A number below this one, or 0.
-    fn below(&mut self, end: usize) -> usize {
+    /// A number below this one, or 0.
+    pub(crate) fn below(&mut self, end: usize) -> usize {
         self.state = self
             .state
             .wrapping_mul(6_364_136_223_846_793_005)
@@ -98,6 +98,8 @@ enum Way {
     InMemory,
     /// By the file that so many workers prepare in this order.
     ByFile(Order, u32),
+    /// By one that so many workers prepare, in this order first, and after so many commits in another.
+    ByStints(Order, u32, u64),
 }
 
 const WAYS: [Way; 8] = [
@@ -109,6 +111,13 @@ const WAYS: [Way; 8] = [
     Way::ByFile(Order::Edges, 3),
     Way::ByFile(Order::Neighbours, 1),
     Way::ByFile(Order::Depth, 2),
+];
+
+const STINTS: [Way; 4] = [
+    Way::ByStints(Order::Edges, 1, 1),
+    Way::ByStints(Order::Neighbours, 2, 1),
+    Way::ByStints(Order::Depth, 1, 3),
+    Way::ByStints(Order::Edges, 2, 7),
 ];
 
 /// The answers of `answer` without workers.
@@ -163,19 +172,24 @@ fn answers<R: Threads + Wait + Sync>(
         Way::ByOne => answers_by_edges(rt, alloc, graph, pairs, &mut leases, &OpenGate),
         Way::InMemory => routes_by_two_kinds(rt, alloc, graph, pairs, &mut leases),
         Way::ByFile(order, workers) => by_file(rt, alloc, graph, pairs, (order, workers)),
+        Way::ByStints(order, workers, stint) => {
+            let file = prepared_by_stints(rt, alloc, graph, (order, workers, stint))?;
+            Ok(routed(rt, alloc, file.as_slice(), pairs))
+        }
     }
 }
 
-/// Whether the answers to the pairs of a network are right in each of the ways.
+/// Whether the answers to the pairs of a network are right in each of these ways.
 fn are_right<R: Threads + Wait + Sync>(
     rt: &R,
     alloc: Global,
     network: &Network,
     pairs: &[u8],
+    ways: &[Way],
 ) -> Result<bool, Fail> {
     let mut holds = true;
-    for way in WAYS {
-        let lines = answers(rt, alloc, network.text.as_bytes(), pairs, way)?;
+    for way in ways {
+        let lines = answers(rt, alloc, network.text.as_bytes(), pairs, *way)?;
         holds &= are_answers(alloc, &network.arcs, &lines)?;
     }
     Ok(holds)
@@ -188,7 +202,19 @@ fn least_walks_of_fewest_arcs(rt: HostRuntime) -> Result<(), Fail> {
     let mut draw = Draw { state: 1962 };
     for _ in 0..DRAWN {
         let network = drawn(alloc, &mut draw)?;
-        assert!(rt; are_right(&rt, alloc, &network, pairs.as_bytes())?);
+        assert!(rt; are_right(&rt, alloc, &network, pairs.as_bytes(), WAYS.as_slice())?);
+    }
+    Ok(())
+}
+
+#[test]
+fn least_walks_of_fewest_arcs_by_stints(rt: HostRuntime) -> Result<(), Fail> {
+    let alloc = rt.alloc();
+    let pairs = all_pairs(alloc)?;
+    let mut draw = Draw { state: 2012 };
+    for _ in 0..20 {
+        let network = drawn(alloc, &mut draw)?;
+        assert!(rt; are_right(&rt, alloc, &network, pairs.as_bytes(), STINTS.as_slice())?);
     }
     Ok(())
 }

@@ -111,8 +111,8 @@ pub(crate) const ONE_ARC: &[u8] =
     b"RCH2\0\0\0\x02\0\0\0\0\0\0\0\x01\0\0\0\0\0\0\0\x07\0\0\0\0\0\0\0\x01\
 \0\0\0\0\0\0\0\x01\0\0\0\0\0\0\0\x07\0\0\0\x01\xff\xff\xff\xff";
 
-/// The same in the first form of the file, which told no arcs.
-pub(crate) const FIRST_FORM: &[u8] =
+/// The same in version 1, which tells no arcs.
+pub(crate) const ONE_ARC_V1: &[u8] =
     b"RCH1\0\0\0\x02\0\0\0\0\0\0\0\x01\0\0\0\0\0\0\0\x07\0\0\0\0\0\0\0\x01\
 \0\0\0\0\0\0\0\x01\0\0\0\0\0\0\0\x07\xff\xff\xff\xff";
 
@@ -122,6 +122,13 @@ pub(crate) const ROW: &[u8] =
 \0\0\0\0\0\0\0\x02\0\0\0\0\0\0\0\x03\0\0\0\x01\xff\xff\xff\xff\
 \0\0\0\x01\0\0\0\0\0\0\0\0\0\0\0\x02\0\0\0\x01\xff\xff\xff\xff\
 \0\0\0\x01\0\0\0\x02\0\0\0\0\0\0\0\x05\0\0\0\x02\0\0\0\0";
+
+/// The same in version 1.
+pub(crate) const ROW_V1: &[u8] =
+    b"RCH1\0\0\0\x03\0\0\0\0\0\0\0\x03\0\0\0\0\0\0\0\x06\0\0\0\0\0\0\0\x01\0\0\0\x02\
+\0\0\0\0\0\0\0\x02\0\0\0\0\0\0\0\x03\xff\xff\xff\xff\
+\0\0\0\x01\0\0\0\0\0\0\0\0\0\0\0\x02\xff\xff\xff\xff\
+\0\0\0\x01\0\0\0\x02\0\0\0\0\0\0\0\x05\0\0\0\0";
 
 /// A file of four nodes of which 2 to 4 are joined, each to the next, by shortcuts by way of node 1: the walk from 2 to 4
 /// goes over it twice.

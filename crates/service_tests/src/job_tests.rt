@@ -1,4 +1,4 @@
-use crate::examples::{FIRST_FORM, ONE_ARC, ONE_ARC_TEXT, TWICE};
+use crate::examples::{ONE_ARC, ONE_ARC_TEXT, ONE_ARC_V1, TWICE};
 use crate::kit::joined;
 use jobs::Job;
 use performing::perform;
@@ -127,7 +127,7 @@ fn two_texts_and_joined_ones(rt: HostRuntime) -> Result<(), Fail> {
     Ok(())
 }
 
-const ROUTE: Job<'static> = Job::Route {
+pub(crate) const ROUTE: Job<'static> = Job::Route {
     hierarchy: "a.rch",
     queries: "pairs.p2p",
 };
@@ -141,15 +141,10 @@ type Routed = (
     &'static [u8],
 );
 
-const ROUTED: [Routed; 5] = [
+const ROUTED: [Routed; 6] = [
     (ONE_ARC, PAIRS, 0, b"r 1 2 7 1 1 2\nn 2 1\n", b""),
-    (
-        FIRST_FORM,
-        PAIRS,
-        4,
-        b"",
-        b"routecli: hierarchy: BadMagic\n",
-    ),
+    (ONE_ARC_V1, PAIRS, 0, b"r 1 2 7 1 1 2\nn 2 1\n", b""),
+    (b"RCH3", b"", 4, b"", b"routecli: hierarchy: BadMagic\n"),
     (b"RCH", b"", 4, b"", b"routecli: hierarchy: Truncated\n"),
     (
         TWICE,

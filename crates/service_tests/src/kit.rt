@@ -17,11 +17,7 @@ pub(crate) fn options(workers: u32) -> Options
 {
     Options {
         workers,
-        heaps: 2,
-        seed: 1,
-        settle: 64,
-        defer: 16,
-        turns: 1 << 32,
+        ..Options::PLAIN
     }
 }
 

@@ -27,4 +27,8 @@ mod refused;
 #[cfg(test)]
 mod route_tests;
 #[cfg(test)]
+mod stint_tests;
+#[cfg(test)]
+mod version_1_tests;
+#[cfg(test)]
 mod worker_tests;

@@ -3,7 +3,7 @@ use crate::job_tests::{Broken, is_ended};
 use ch_service::ServiceError;
 use ch_unpack::UnpackError;
 use ch_workers::BuildError;
-use jobs::{Job, Order, Workers};
+use jobs::{Job, Order, Preparation, Stint, Workers};
 use performing::{perform, report};
 use std::alloc::Global;
 use std::sync::Wait;
@@ -26,7 +26,7 @@ const STAR: &[u8] =
 a 1 10 1\na 1 11 1\na 1 12 1\na 1 13 1\na 1 14 1\na 1 15 1\na 1 16 1\na 1 17 1\n";
 
 /// Four rows of four nodes, with roads between neighbours in both directions.
-const SQUARE: &[u8] = b"p sp 16 48\n\
+pub(crate) const SQUARE: &[u8] = b"p sp 16 48\n\
 a 1 2 1\na 2 1 1\na 1 5 1\na 5 1 1\na 2 3 1\na 3 2 1\na 2 6 1\na 6 2 1\na 3 4 1\na 4 3 1\na 3 7 1\n\
 a 7 3 1\na 4 8 1\na 8 4 1\na 5 6 1\na 6 5 1\na 5 9 1\na 9 5 1\na 6 7 1\na 7 6 1\na 6 10 1\n\
 a 10 6 1\na 7 8 1\na 8 7 1\na 7 11 1\na 11 7 1\na 8 12 1\na 12 8 1\na 9 10 1\na 10 9 1\na 9 13 1\n\
@@ -46,15 +46,17 @@ const CASES: [(Order, u32); 9] = [
     (Order::Depth, 4),
 ];
 
-/// The job to prepare by so many workers in this order.
-fn preparing(order: Order, workers: Workers) -> Job<'static> {
-    Job::Prepare {
+/// The job to prepare by so many workers in this order, and after each stint in another.
+fn preparing(order: Order, workers: Workers, stint: Option<Stint>) -> Job<'static> {
+    Job::Prepare(Preparation {
         graph: "a.gr",
         out: "a.rch",
         workers,
         seed: 1,
         order,
-    }
+        stint,
+        progress: false,
+    })
 }
 
 /// The file of the graph's hierarchy, and nothing where the status isn't 0 or there is a line on standard error.
@@ -84,7 +86,21 @@ pub(crate) fn prepared<R: Threads + Wait + Sync>(
     workers: u32,
 ) -> Result<Vec<u8>, Fail> {
     let workers = Workers::new(workers).ok_or("at most 64 workers")?;
-    let job = preparing(order, workers);
+    let job = preparing(order, workers, None);
+    let file = file_of(rt, alloc, graph, &job).ok_or("a hierarchy")?;
+    Ok(file)
+}
+
+/// The file of the graph's hierarchy by so many workers, who go on by another order after so many commits.
+pub(crate) fn prepared_by_stints<R: Threads + Wait + Sync>(
+    rt: &R,
+    alloc: Global,
+    graph: &[u8],
+    (order, workers, stint): (Order, u32, u64),
+) -> Result<Vec<u8>, Fail> {
+    let workers = Workers::new(workers).ok_or("at most 64 workers")?;
+    let stint = Stint::new(stint).ok_or("a stint")?;
+    let job = preparing(order, workers, Some(stint));
     let file = file_of(rt, alloc, graph, &job).ok_or("a hierarchy")?;
     Ok(file)
 }
@@ -109,7 +125,7 @@ pub(crate) fn routed<R: Threads + Wait + Sync>(
 #[test]
 fn hierarchies_are_prepared(rt: HostRuntime) {
     let alloc = rt.alloc();
-    let alone = preparing(Order::Edges, Workers::none());
+    let alone = preparing(Order::Edges, Workers::none(), None);
     let (mut graph, mut broken) = (ONE_ARC_TEXT, b"p sp 2 1\na 1 2\n".as_slice());
     assert!(rt; is_ended(&rt, alloc, &alone, &mut graph, &mut Broken, 0, ONE_ARC, b""));
     let line = b"routecli: graph: FieldCount line 2\n";
@@ -118,7 +134,7 @@ fn hierarchies_are_prepared(rt: HostRuntime) {
 
 #[test]
 fn a_hierarchy_that_cannot_be_written(rt: HostRuntime) {
-    let alone = preparing(Order::Edges, Workers::none());
+    let alone = preparing(Order::Edges, Workers::none(), None);
     let (mut graph, mut err) = (ONE_ARC_TEXT, Vec::new(rt.alloc()));
     let status = perform(
         &rt,
@@ -167,6 +183,22 @@ fn answers_are_the_same_by_all_workers(rt: HostRuntime) -> Result<(), Fail> {
         let tie = prepared(&rt, alloc, TIE, order, workers)?;
         assert!(rt; are_routed(&rt, alloc, tie.as_slice(), TIE_PAIRS, TIE_ANSWERS));
         assert!(rt; is_tied(&rt, alloc, tie.as_slice()));
+    }
+    Ok(())
+}
+
+#[test]
+fn answers_are_the_same_by_all_stints(rt: HostRuntime) -> Result<(), Fail> {
+    let alloc = rt.alloc();
+    for (order, workers) in CASES {
+        for stint in [1, 2, 1_099_511_627_776] {
+            let plan = (order, workers, stint);
+            let row = prepared_by_stints(&rt, alloc, ROW_TEXT, plan)?;
+            assert!(rt; are_routed(&rt, alloc, row.as_slice(), ROW_PAIRS, ROW_ANSWERS));
+            let tie = prepared_by_stints(&rt, alloc, TIE, plan)?;
+            assert!(rt; are_routed(&rt, alloc, tie.as_slice(), TIE_PAIRS, TIE_ANSWERS));
+            assert!(rt; is_tied(&rt, alloc, tie.as_slice()));
+        }
     }
     Ok(())
 }

@@ -1,4 +1,4 @@
-use crate::examples::{FIRST_FORM, NO_NODE, ONE_ARC, ROW, TWICE};
+use crate::examples::{NO_NODE, ONE_ARC, ROW, TWICE};
 use crate::kit::is_routed;
 use ch_service::{ServiceError, WriteFault, route};
 use ch_unpack::UnpackError;
@@ -40,7 +40,7 @@ const CASES: [Case; 9] = [
         answers: b"",
     },
     Case {
-        hier: FIRST_FORM,
+        hier: b"RCH3",
         pairs: b"p max\n",
         end: Err(ServiceError::Hierarchy(HierError::BadMagic)),
         answers: b"",

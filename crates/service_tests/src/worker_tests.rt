@@ -281,20 +281,17 @@ const PAIRS: &[u8] = b"p aux sp p2p 1\nq 2 3\n";
 /// Options of one worker, good but for what is put in their place.
 const ONE: Options = Options {
     workers: 1,
-    heaps: 2,
-    seed: 1,
-    settle: 64,
-    defer: 16,
-    turns: 1 << 32,
+    ..Options::PLAIN
 };
 
 /// Options that are bad for the list of one worker.
-const BAD: [Options; 5] = [
+const BAD: [Options; 6] = [
     Options { workers: 0, ..ONE },
     Options { workers: 2, ..ONE },
     Options { heaps: 5, ..ONE },
     Options { settle: 0, ..ONE },
     Options { turns: 0, ..ONE },
+    Options { stint: 0, ..ONE },
 ];
 
 #[test]

@@ -39,7 +39,7 @@ pub returns-in-Prepare-clause-prepared : goal.returns-in-Prepare-clause-prepared
 returns-in-Prepare-clause-prepared g c preparing = after c.prepare_by.result _ _ _ c.status_after-in-Prepare.ensures.status c.prepare_by.ensures
 
 pub returns-in-Prepare-clause-status : goal.returns-in-Prepare-clause-status
-returns-in-Prepare-clause-status g c = of_preparation _ _ _ _ _ _ _ c.in-Prepare.is (preparing_end _ _ _ _ (after c.prepare_by.result _ _ _ c.status_after-in-Prepare.ensures.status c.prepare_by.ensures)).0
+returns-in-Prepare-clause-status g c = of_preparation _ _ _ c.in-Prepare.is (preparing_end _ _ _ _ (after c.prepare_by.result _ _ _ c.status_after-in-Prepare.ensures.status c.prepare_by.ensures)).0
 
 pub returns-in-Prepare-clause-mixed : goal.returns-in-Prepare-clause-mixed
 returns-in-Prepare-clause-mixed g c = (preparing_end _ _ _ _ (after c.prepare_by.result _ _ _ c.status_after-in-Prepare.ensures.status c.prepare_by.ensures)).1

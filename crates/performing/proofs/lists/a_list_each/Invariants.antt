@@ -1,7 +1,8 @@
 use Rattle.std.proofs.Common.{◌≡◌, All}
 use Rattle.std.specs.Prelude.{vec_len, Ok}
 use Rattle.ch_estimate.specs.Leases.{CountId}
+use Rattle.performing.specs.Lists.{AreFor}
 use Rattle.performing.proofs.lists.a_list_each.Given as goal
 
 abbrev pub invariant-lists : goal.invariant-lists
-invariant-lists g l = (vec_len l.lists ≡ l.counter) × All (λ list. All (λ thing. (lease : CountId) × goal.F-post g l.make lease (Ok thing)) list.items) l.lists.items
+invariant-lists g l = (vec_len l.lists ≡ l.counter) × All (λ list. AreFor (λ order thing. (lease : CountId) × goal.F-post g l.make order lease (Ok thing)) l.orders list.items) l.lists.items

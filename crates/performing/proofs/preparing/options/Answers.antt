@@ -2,14 +2,19 @@ use Rattle.std.proofs.Common.{sym, arith}
 use Rattle.performing.proofs.preparing.options.Goals as goal
 
 pub returns-clause-good : goal.returns-clause-good
-returns-clause-good c = record {
-  workers = c.count.ensures.few;
-  heaps = record { above = omega arith; below = omega arith };
-  settle = record { above = omega arith; below = omega arith };
-  defer = omega arith;
-  turns = record { above = omega arith; below = omega arith };
-  a_list_each = sym c.count.ensures.count;
-}
+returns-clause-good c =
+    let some = c.commits.ensures.some in record {
+      workers = c.count.ensures.few;
+      heaps = record { above = omega arith; below = omega arith };
+      settle = record { above = omega arith; below = omega arith };
+      defer = omega arith;
+      turns = record { above = omega arith; below = omega arith };
+      stint = record { above = omega (arith, some); below = c.commits.ensures.few };
+      a_list_each = sym c.count.ensures.count;
+    }
 
 pub returns-clause-workers : goal.returns-clause-workers
 returns-clause-workers c = c.count.ensures.count
+
+pub returns-clause-stint : goal.returns-clause-stint
+returns-clause-stint c = c.commits.ensures.commits

@@ -1,0 +1,17 @@
+//! How far the preparation of a hierarchy has come, for a user who waits for it at a terminal.
+//!
+//! Stands on `ch_workers`, whose workers pass a gate at each commit. A [`Meter`] is such a gate: it counts the commits, and
+//! some times a second the worker that passes writes one line to standard error, in the place of the one before. A
+//! [`Watched`] reader hands on a graph's text and tells the meter how many nodes it announces. Nothing rests on what is
+//! shown, and no contract speaks of it.
+#![tactic(auto)]
+
+mod line;
+mod meter;
+#[cfg(test)]
+mod tests;
+mod watched;
+
+pub use line::write_line;
+pub use meter::{Cleared, Meter};
+pub use watched::Watched;

@@ -1,0 +1,118 @@
+use crate::line::write_line;
+use ch_workers::{Gate, Point};
+use std::io::{self, Write};
+use std::rt::Stderr;
+use std::sync::atomic::{AtomicU64, Ordering};
+use std::time::{Clock, Instant};
+
+/// Milliseconds from one line to the next.
+const PACE: u64 = 200;
+
+/// A gate that counts commits, and shows on standard error how far they are.
+#[derive(Drop)]
+pub struct Meter<'a, R> {
+    clock: &'a R,
+    err: Stderr,
+    begun: Instant,
+    nodes: AtomicU64,
+    commits: AtomicU64,
+    due: AtomicU64,
+}
+
+impl<'a, R: Clock> Meter<'a, R> {
+    /// A meter that begins now. Fails where the clock does.
+    pub fn new(clock: &'a R, err: Stderr) -> io::Result<Meter<'a, R>> {
+        Ok(Meter {
+            clock,
+            err,
+            begun: Instant::now(clock)?,
+            nodes: AtomicU64::new(0),
+            commits: AtomicU64::new(0),
+            due: AtomicU64::new(PACE),
+        })
+    }
+
+    /// Is told how many nodes the graph has.
+    pub fn announce(&self, nodes: u64) {
+        self.nodes.store(nodes, Ordering::SeqCst);
+    }
+
+    /// How many nodes it was told, or 0.
+    pub fn announced(&self) -> u64 {
+        self.nodes.load(Ordering::SeqCst)
+    }
+
+    /// How many commits it has seen.
+    pub fn done(&self) -> u64 {
+        self.commits.load(Ordering::SeqCst)
+    }
+
+    /// Takes the line away.
+    pub fn clear(&self) {
+        let mut err = self.err;
+        let _ = err.write_all(b"\r\x1b[K");
+    }
+
+    // Shows a line, if it is time for one and no other worker shows it.
+    fn show(&self, done: u64) {
+        let Ok(elapsed) = self.begun.elapsed(self.clock) else {
+            return;
+        };
+        let millis = elapsed
+            .as_secs()
+            .saturating_mul(1_000)
+            .saturating_add(u64::from(elapsed.subsec_millis()));
+        let due = self.due.load(Ordering::SeqCst);
+        if millis < due {
+            return;
+        }
+        let next = millis.saturating_add(PACE);
+        if self
+            .due
+            .compare_exchange(due, next, Ordering::SeqCst, Ordering::SeqCst)
+            .is_err()
+        {
+            return;
+        }
+        let mut room = [0u8; 128];
+        let mut rest = room.as_mut_slice();
+        write_line(&mut rest, done, self.announced(), millis);
+        let left = rest.len();
+        let mut err = self.err;
+        let _ = err.write_all(&room[..128usize.saturating_sub(left)]);
+    }
+}
+
+impl<R: Clock + Sync> Gate for Meter<'_, R> {
+    fn pass(&self, _worker: u32, point: Point) {
+        if point == Point::Committed {
+            let before = self.commits.fetch_add(1, Ordering::SeqCst);
+            self.show(before.saturating_add(1));
+        }
+    }
+}
+
+/// Standard error, where the line of a meter is taken away before anything is written.
+#[derive(Drop)]
+pub struct Cleared<'a, R> {
+    meter: &'a Meter<'a, R>,
+}
+
+impl<'a, R: Clock> Cleared<'a, R> {
+    /// Standard error with this meter.
+    pub fn new(meter: &'a Meter<'a, R>) -> Cleared<'a, R> {
+        Cleared { meter }
+    }
+}
+
+impl<R: Clock> Write for Cleared<'_, R> {
+    fn write(&mut self, buf: &[u8]) -> io::Result<usize> {
+        self.meter.clear();
+        let mut err = self.meter.err;
+        err.write(buf)
+    }
+
+    fn flush(&mut self) -> io::Result<()> {
+        Ok(())
+    }
+}

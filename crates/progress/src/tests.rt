@@ -1,0 +1,109 @@
+use crate::{Meter, Watched, write_line};
+use ch_workers::{Gate, Point};
+use std::alloc::Global;
+use std::io::Read;
+use std::test::Fail;
+use std::time::Clock;
+
+/// Commits, nodes and milliseconds, and the line that tells them.
+const LINES: [(u64, u64, u64, &[u8]); 6] = [
+    (1, 0, 999, b"\r1 nodes contracted, 0 s\x1b[K"),
+    (
+        250,
+        1_000,
+        1_000,
+        b"\r250 of 1000 nodes contracted, 1 s, some 3 s to go\x1b[K",
+    ),
+    (
+        1_000,
+        1_000,
+        61_500,
+        b"\r1000 of 1000 nodes contracted, 61 s, some 0 s to go\x1b[K",
+    ),
+    (
+        0,
+        10,
+        200,
+        b"\r0 of 10 nodes contracted, 0 s, some 2 s to go\x1b[K",
+    ),
+    (
+        11,
+        10,
+        200,
+        b"\r11 of 10 nodes contracted, 0 s, some 0 s to go\x1b[K",
+    ),
+    (
+        1,
+        u64::MAX,
+        u64::MAX,
+        b"\r1 of 18446744073709551615 nodes contracted, 18446744073709551 s, some 18446744073709551615 s to go\x1b[K",
+    ),
+];
+
+#[test]
+fn lines(rt: HostRuntime) {
+    for (done, nodes, millis, line) in LINES {
+        let mut out = Vec::new(rt.alloc());
+        write_line(&mut out, done, nodes, millis);
+        assert!(rt; out.as_slice() == line);
+    }
+}
+
+/// Texts, and the number of nodes that each announces, 0 where there is none.
+const TEXTS: [(&[u8], u64); 9] = [
+    (b"p sp 25 12\na 1 2 3\n", 25),
+    (b"c p sp 7 8\n\np sp 9 1\n", 9),
+    (b" \tp\tsp  0033\t4\r\n", 33),
+    (b"p sp 33554432 0", 33_554_432),
+    (b"p sp 0 0\n", 0),
+    (b"c only 12 remarks\n", 0),
+    (b"a 1 2 3\n", 0),
+    (b"p sp 5\np sp 6 1\n", 6),
+    (b"", 0),
+];
+
+/// Whether a meter is told this number while the text is read in pieces of so many bytes, and the text is handed on.
+fn is_told<R: Clock>(
+    meter: &Meter<'_, R>,
+    alloc: Global,
+    text: &[u8],
+    piece: usize,
+    nodes: u64,
+) -> Result<bool, Fail> {
+    let mut reader = Watched::new(text, meter);
+    let mut whole = Vec::new(alloc);
+    let mut room = [0u8; 16];
+    for _ in 0..100 {
+        let count = reader.read(&mut room[..piece.min(16)])?;
+        whole.extend_from_slice(&room[..count.min(16)])?;
+    }
+    Ok((meter.announced() == nodes) & (whole.as_slice() == text))
+}
+
+#[test]
+fn nodes_are_announced(rt: HostRuntime) -> Result<(), Fail> {
+    for (text, nodes) in TEXTS {
+        for piece in [1, 3, 16] {
+            let meter = Meter::new(&rt, rt.stderr())?;
+            assert!(rt; is_told(&meter, rt.alloc(), text, piece, nodes)?);
+        }
+    }
+    Ok(())
+}
+
+#[test]
+fn commits_are_counted(rt: HostRuntime) -> Result<(), Fail> {
+    let meter = Meter::new(&rt, rt.stderr())?;
+    for point in [
+        Point::Took,
+        Point::Proposed,
+        Point::Committed,
+        Point::Refused,
+        Point::Committed,
+        Point::Done,
+    ] {
+        meter.pass(0, point);
+    }
+    assert!(rt; meter.done() == 2);
+    Ok(())
+}

@@ -1,0 +1,86 @@
+use crate::meter::Meter;
+use std::io::{self, Read};
+use std::time::Clock;
+
+/// A reader of a graph's text that tells a meter how many nodes the text announces.
+#[derive(Drop)]
+pub struct Watched<'a, G, R> {
+    graph: G,
+    meter: &'a Meter<'a, R>,
+    place: Place,
+}
+
+/// How far the text was looked at, for the number of nodes in its line `p sp N M`.
+#[derive(Clone, Copy, Debug, PartialEq, Eq)]
+enum Place {
+    /// Between lines, or in the blanks at the head of one.
+    Head,
+    /// In a line of another kind.
+    Other,
+    /// In the line of the problem, with the number so far.
+    Problem(u64),
+    /// Behind the number.
+    Behind,
+}
+
+impl Place {
+    // The place after one more byte.
+    fn after(self, byte: u8) -> Place {
+        match (self, byte) {
+            (Place::Behind, _) => Place::Behind,
+            (_, b'\n') => Place::Head,
+            (Place::Head, b' ' | b'\t') => Place::Head,
+            (Place::Head, b'p') => Place::Problem(0),
+            (Place::Head | Place::Other, _) => Place::Other,
+            (Place::Problem(number), _) => in_problem(number, byte),
+        }
+    }
+}
+
+// The place in the line of the problem after one more byte. The number is the first that isn't 0.
+fn in_problem(number: u64, byte: u8) -> Place {
+    match byte {
+        b'0'..=b'9' => {
+            let digit = u64::from(byte.saturating_sub(b'0'));
+            Place::Problem(number.saturating_mul(10).saturating_add(digit))
+        }
+        _ if number > 0 => Place::Behind,
+        _ => Place::Problem(0),
+    }
+}
+
+impl<'a, G: Read, R: Clock> Watched<'a, G, R> {
+    /// The reader of a graph's text, which this meter watches.
+    pub fn new(graph: G, meter: &'a Meter<'a, R>) -> Watched<'a, G, R> {
+        Watched {
+            graph,
+            meter,
+            place: Place::Head,
+        }
+    }
+
+    // Looks at the next piece of the text, until the number is known.
+    fn look_at(&mut self, piece: &[u8]) {
+        if self.place == Place::Behind {
+            return;
+        }
+        for byte in piece {
+            let before = self.place;
+            self.place = before.after(*byte);
+            if let (Place::Problem(nodes), Place::Behind) = (before, self.place) {
+                self.meter.announce(nodes);
+                return;
+            }
+        }
+    }
+}
+
+impl<G: Read, R: Clock> Read for Watched<'_, G, R> {
+    fn read(&mut self, buf: &mut [u8]) -> io::Result<usize> {
+        let count = self.graph.read(buf)?;
+        if let Some(piece) = buf.get(..count) {
+            self.look_at(piece);
+        }
+        Ok(count)
+    }
+}
