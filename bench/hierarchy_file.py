@@ -3,22 +3,25 @@ import struct
 
 NONE = 0xFFFFFFFF
 HEAD_BYTES = 24
-LINK_BYTES = 24
+LINK_BYTES = {1: 20, 2: 24}
 
 
-def head(nodes, links, bound=0):
+def head(nodes, links, bound=0, version=2):
     """What stands before the ranks. The bound is a weight alone."""
-    return b"RCH2" + struct.pack(">IQQ", nodes, links, bound)
+    return b"RCH%d" % version + struct.pack(">IQQ", nodes, links, bound)
 
 
 def ranks(numbers):
     return struct.pack(f">{len(numbers)}I", *numbers)
 
 
-def link(start, end, weight, arcs=1, middle=NONE):
-    return struct.pack(">IIQII", start, end, weight, arcs, middle)
+def link(start, end, weight, arcs=1, middle=NONE, version=2):
+    """A link, which in version 1 doesn't tell its arcs."""
+    told = struct.pack(">I", arcs) if version == 2 else b""
+    return struct.pack(">IIQ", start, end, weight) + told + struct.pack(">I", middle)
 
 
-def spelled(numbers, links, bound):
+def spelled(numbers, links, bound, version=2):
     """The file of these ranks and these links, which are (start, end, weight, arcs, middle)."""
-    return head(len(numbers), len(links), bound) + ranks(numbers) + b"".join(link(*each) for each in links)
+    links = [link(*each, version=version) for each in links]
+    return head(len(numbers), len(links), bound, version) + ranks(numbers) + b"".join(links)

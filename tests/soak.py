@@ -66,11 +66,14 @@ def soak(builds, seed, folder):
         workers = draw.randint(2, 64)
         order = ORDERS[build % len(ORDERS)]
         options = ["--workers", str(workers), "--seed", str(build), "--order", order]
+        stint = draw.choice([None, 1, 7, 1000])
+        if stint:
+            options += ["--stint", str(stint)]
         run([PROGRAM, "prepare", *options, graph, file], folder / "prepared")
         run([PROGRAM, "route", file, queries], folder / "routed")
         run([plain, graph, queries], folder / "wanted")
         if not are_answers(folder / "routed", folder / "wanted", least_arcs_of(graph)):
-            sys.exit(f"build {build}, {workers} workers by {order}: the answers differ")
+            sys.exit(f"build {build}, {' '.join(options)}: the answers differ")
         if done % TOLD_EACH == 0:
             print(f"{done:,} of {len(builds):,} builds in {time.time() - begun:.0f} s", file=sys.stderr, flush=True)
     return total

@@ -8,7 +8,7 @@
     routes[7]                                                          # the nodes of the eighth route
 
 Nodes are numbered from 0 in arrays, as rows are, and from 1 in files: node n of an array is node n + 1 of a file. Weights
-are whole numbers from 1 to 4,294,967,295 in a unit of your own, such as milliseconds or centimetres, and lengths are sums
+are whole numbers from 0 to 4,294,967,295 in a unit of your own, such as milliseconds or centimetres, and lengths are sums
 of them.
 
 An array that can't be meant so is a ValueError. What the program refuses is a Fault, whose text is the program's line and
@@ -39,7 +39,7 @@ def write_graph(path, from_nodes, to_nodes, weights, nodes=None):
     nodes, or else those up to the greatest of an arc. The file is whole; at an exception it is as it was before."""
     from_nodes = whole_numbers("from_nodes", from_nodes, 0, roads.MOST_NODES - 1)
     to_nodes = whole_numbers("to_nodes", to_nodes, 0, roads.MOST_NODES - 1)
-    weights = whole_numbers("weights", weights, 1, roads.HEAVIEST)
+    weights = whole_numbers("weights", weights, 0, roads.HEAVIEST)
     if weights.ndim != 1 or not from_nodes.shape == to_nodes.shape == weights.shape:
         raise ValueError("from_nodes, to_nodes and weights have to be of one dimension and as long as one another")
     if len(weights) > roads.MOST_LINES:

@@ -21,8 +21,8 @@ class DomethymeTests(ToolCase):
         domethyme.write_graph(self.folder / "square.gr", *map(np.array, SQUARE))
         wanted = "p sp 4 5\na 1 2 3\na 2 3 4\na 1 3 9\na 3 1 5\na 4 1 6\n"
         self.assertEqual((self.folder / "square.gr").read_text(), wanted)
-        domethyme.write_graph(self.folder / "square.gr", [0], [1], [4294967295], nodes=7)
-        self.assertEqual((self.folder / "square.gr").read_text(), "p sp 7 1\na 1 2 4294967295\n")
+        domethyme.write_graph(self.folder / "square.gr", [0, 1], [1, 0], [4294967295, 0], nodes=7)
+        self.assertEqual((self.folder / "square.gr").read_text(), "p sp 7 2\na 1 2 4294967295\na 2 1 0\n")
         domethyme.write_graph(self.folder / "square.gr", [], [], [])
         self.assertEqual((self.folder / "square.gr").read_text(), "p sp 0 0\n")
 
@@ -54,9 +54,9 @@ class DomethymeTests(ToolCase):
 
     def test_random_networks_beside_a_plain_search(self):
         draw = np.random.default_rng(1)
-        for nodes, arcs in [(1, 0), (40, 60), (300, 1000), (300, 400)]:
+        for nodes, arcs, heaviest in [(1, 0, 1), (40, 60, 1000), (300, 1000, 1000), (300, 400, 1000), (300, 600, 2)]:
             with self.subTest(nodes=nodes, arcs=arcs):
-                ends, weights = draw.integers(0, nodes, (2, arcs)), draw.integers(1, 1000, arcs)
+                ends, weights = draw.integers(0, nodes, (2, arcs)), draw.integers(0, heaviest + 1, arcs)
                 domethyme.write_graph(self.folder / "network.gr", *ends, weights, nodes=nodes)
                 hierarchy = domethyme.prepare(self.folder / "network.gr", self.folder / "network.rch", seed=3, workers=2)
                 pairs = np.stack(np.meshgrid(np.arange(nodes), np.arange(nodes), indexing="ij"), axis=-1).reshape(-1, 2)
@@ -67,7 +67,8 @@ class DomethymeTests(ToolCase):
         """The lengths are those of scipy, and each route is a walk of that length between its nodes."""
         wanted = dijkstra(least, indices=np.unique(pairs[:, 0]))[pairs[:, 0], pairs[:, 1]]
         self.assertEqual(routes.lengths.tolist(), np.where(np.isinf(wanted), -1, wanted).tolist())
-        weights = {(start, end): weight for start, end, weight in zip(*least.nonzero(), least.data)}
+        arcs = least.tocoo()
+        weights = {(start, end): weight for start, end, weight in zip(arcs.row, arcs.col, arcs.data)}
         for (start, end), length, nodes in zip(pairs.tolist(), routes.lengths.tolist(), routes):
             if length == -1:
                 self.assertEqual(len(nodes), 0)
@@ -90,8 +91,8 @@ class DomethymeTests(ToolCase):
         graph = self.folder / "square.gr"
         for wrong, says in [
             (([0.0], [1], [1]), "from_nodes have to be whole numbers, and are float64"),
-            (([0], [1], [0]), "weights have to be from 1 to 4294967295, and are from 0 to 0"),
-            (([0], [1], [4294967296]), "weights have to be from 1"),
+            (([0], [1], [-1]), "weights have to be from 0 to 4294967295, and are from -1 to -1"),
+            (([0], [1], [4294967296]), "weights have to be from 0"),
             (([0], [-1], [1]), "to_nodes have to be from 0 to 33554431, and are from -1 to -1"),
             (([0], [2**63], [1]), "to_nodes have to be from 0"),
             (([1 << 25], [1], [1]), "from_nodes have to be from 0"),

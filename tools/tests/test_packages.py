@@ -25,6 +25,11 @@ class CheckPackages(PackagesCase):
     def setUp(self):
         super().setUp()
         self.write("packages", "# a comment\nfirst-package # and another\n\nsecond-package\n")
+        self.put_program("sleep", "#!/bin/sh\n")
+
+    def calls(self):
+        """How apt-get was called."""
+        return (self.folder / "calls").read_text(encoding="ascii").splitlines()
 
     def test_all_are_there(self):
         self.put_program("dpkg-query", "#!/bin/sh\necho -n installed\n")
@@ -33,24 +38,43 @@ class CheckPackages(PackagesCase):
         self.assertEqual((ended.stdout, ended.stderr), ("", ""))
         self.assertFalse((self.folder / "calls").exists())
 
-    def test_root_installs_what_is_missing(self):
+    def second_is_missing(self, apt_get):
+        """The machine of a root who lacks the second package, with an apt-get; one that writes `status` has it be there."""
         self.put_program("id", "#!/bin/sh\necho 0\n")
         self.put_program("dpkg-query", '#!/bin/sh\ncase "$4" in first-*) echo -n installed ;; *) cat status ;; esac\n')
-        self.put_program("apt-get", '#!/bin/sh\necho "$@" >>calls\necho -n installed >status\n')
+        self.put_program("apt-get", f'#!/bin/sh\necho "$@" >>calls\n{apt_get}\n')
         self.write("status", "not-installed")
+
+    def test_root_installs_what_is_missing(self):
+        self.second_is_missing("echo -n installed >status")
         ended = self.run_tool("check_packages", "packages", environment=self.path)
-        self.assertEqual((ended.stdout, ended.stderr), ("", ""))
-        calls = (self.folder / "calls").read_text(encoding="ascii").splitlines()
-        self.assertTrue(calls[0].endswith(" update"))
-        self.assertTrue(calls[1].endswith(" install -y --no-install-recommends second-package"))
-        self.assertEqual(len(calls), 2)
+        self.assertEqual((ended.stdout, ended.stderr), ("installs Debian's packages second-package\n", ""))
+        self.assertTrue(self.calls()[0].endswith(" update"))
+        self.assertTrue(self.calls()[1].endswith(" install -y --no-install-recommends second-package"))
+        self.assertEqual(len(self.calls()), 2)
+
+    def test_lists_of_another_source_that_can_not_be_had(self):
+        self.second_is_missing('case "$*" in *update) echo "E: no lists" >&2; exit 100 ;; *) echo -n installed >status ;; esac')
+        self.run_tool("check_packages", "packages", environment=self.path)
+        self.assertEqual(len(self.calls()), 2)
+
+    def test_a_mirror_that_is_busy(self):
+        self.second_is_missing("[ $(wc -l <calls) = 6 ] || exit 100\necho -n installed >status")
+        self.run_tool("check_packages", "packages", environment=self.path)
+        self.assertEqual(len(self.calls()), 6)
 
     def test_root_can_not_install(self):
-        self.put_program("id", "#!/bin/sh\necho 0\n")
-        self.put_program("dpkg-query", NO_PACKAGE)
-        self.put_program("apt-get", "#!/bin/sh\necho 'E: no network' >&2\nexit 100\n")
-        says = "are missing: as root, apt-get install first-package second-package\n"
-        self.assert_refused("check_packages", "packages", says=says, environment=self.path)
+        self.second_is_missing("echo 'E: no network' >&2\nexit 100")
+        ended = self.run_tool("check_packages", "packages", environment=self.path, status=1)
+        says = "check_packages: Debian packages of the map tools are missing (no network): "
+        self.assertEqual(ended.stderr, f"{says}as root, apt-get install second-package\n")
+        self.assertEqual(len(self.calls()), 6)
+
+    def test_an_installation_that_says_that_all_went_well(self):
+        self.second_is_missing("")
+        ended = self.run_tool("check_packages", "packages", environment=self.path, status=1)
+        self.assertEqual(ended.stderr.count("\n"), 1)
+        self.assertTrue(ended.stderr.endswith("are missing: as root, apt-get install second-package\n"))
 
     def test_others_are_told_what_to_install(self):
         self.put_program("id", "#!/bin/sh\necho 1000\n")

@@ -40,7 +40,6 @@ IN_THE_MIDDLE = """[ "$part" = 000002.pairs ] && [ -e {folder}/trouble ] && {{ {
 
 
 class RouteManyCase(ToolCase):
-    maxDiff = None
     """A test with a network of 300 nodes, some of them out of reach, 1,000 pairs in a text with all that it may have
     between them, and `wanted`, what one process of the program prints."""
 
@@ -279,7 +278,6 @@ class OneMachineTests(RouteManyCase):
         self.assertEqual(self.parts_begun().count("000001.pairs"), 1)
         self.assertEqual(self.parts_begun().count("000002.pairs"), 4)
         self.assert_answered()
-
 
     def test_no_scheduler(self):
         ended = self.many("--dask", "tcp://127.0.0.1:1", status=1, environment={CONNECT: "200ms"})

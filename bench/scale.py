@@ -1,0 +1,261 @@
+#!/usr/bin/env python3
+"""Tells what large networks cost: nodes, links, bytes, and time and memory of `prepare` and `route`, as docs/SCALE.md has it.
+
+    bench/scale.py [--order ORDER] [--workers K] [--pairs PAIRS] [--allocators] [--lists] [--batches] [SIDE ..]
+                                       sides of the square networks, by default 256 512 1000
+
+The networks are those of make_network.py. Each is prepared once, by default by two workers and `--order depth`, and random
+pairs, by default 10,000, are answered once. Twenty of the answers are compared with the plain search in C++. The tables have
+seconds of the wall clock, of the processors in parentheses, and greatest resident sizes. What a pair takes is what the run
+takes beyond one with no pairs.
+
+--allocators   prepares each network once more with each of Debian's allocators that is here (libjemalloc2,
+               libtcmalloc-minimal4, libmimalloc2.0), by LD_PRELOAD, and compares the answers' costs
+--lists        what the list of pairs takes: a million pairs and ten million that lead from a node to itself
+--batches      100,000 pairs of the first network by one process, by route_many with parts of several sizes, by GNU parallel
+               (Debian's parallel) and by Dask (tools/packages.txt), at most two programs at a time; all answers have to be
+               the same bytes
+
+It needs g++ and the proved program, which is crates/routecli/out/routecli (README.md says how to build it) or the path in
+the environment variable ROUTECLI.
+"""
+import argparse
+import contextlib
+import itertools
+import os
+import pathlib
+import signal
+import subprocess
+import sys
+import tempfile
+import time
+import typing
+
+from run import PROGRAM, ROOT, arcs_in, links_in
+
+FEW = 20
+BATCH = 100_000
+PARTS = [1_000, 10_000, 50_000]
+LIBRARIES = pathlib.Path("/usr/lib/x86_64-linux-gnu")
+ALLOCATORS = {
+    "jemalloc": "libjemalloc.so.2",
+    "tcmalloc": "libtcmalloc_minimal.so.4",
+    "mimalloc": "libmimalloc.so.2.0",
+}
+PARALLEL = """
+"$ROUTE_MANY" --program "$PROGRAM" --cut "$HIERARCHY" "$PAIRS" "$OUT" >&2 &&
+parallel --will-cite -j 2 '"$PROGRAM" route "$HIERARCHY" {} >{.}.new && mv {.}.new {.}.answers' ::: "$OUT".parts/[0-9]*.pairs &&
+"$ROUTE_MANY" --program "$PROGRAM" --cut "$HIERARCHY" "$PAIRS" "$OUT"
+"""
+
+
+class Taken(typing.NamedTuple):
+    """What a run took: seconds, processor seconds, and the greatest resident size in MB."""
+
+    wall: float
+    processor: float
+    memory: float
+
+    def times(self):
+        return f"{seconds(self.wall)} ({seconds(self.processor)})"
+
+
+def seconds(value):
+    return f"{value:.2f} s" if value < 10 else f"{value:.0f} s"
+
+
+def taken(folder, words, out=os.devnull, **more):
+    """Runs the words, which have to end well, once; by a small program, since this one's size would count as theirs."""
+    words = [folder / "resident", folder / "ended", *words]
+    start = time.perf_counter()
+    with open(out, "wb") as sink:
+        child = subprocess.Popen([str(word) for word in words], stdout=sink, **more)
+        _, _, usage = os.wait4(child.pid, 0)
+    wall = time.perf_counter() - start
+    status, kilobytes = map(int, (folder / "ended").read_text().split())
+    if status != 0:
+        sys.exit(f"{words[2]} ended with {status}")
+    return Taken(wall, usage.ru_utime + usage.ru_stime, kilobytes / 1024)
+
+
+class Network:
+    """A network of so many rows and columns, its pairs, and the file of its hierarchy."""
+
+    def __init__(self, side, pairs, folder):
+        self.nodes, self.count, self.folder = side * side, pairs, folder
+        self.graph, self.pairs, self.file = folder / f"{side}.gr", folder / f"{side}.pairs", folder / f"{side}.rch"
+        taken(folder, [sys.executable, ROOT / "bench/make_network.py", side, pairs, 1, self.graph, self.pairs])
+        self.arcs = arcs_in(self.graph)
+
+    def prepared(self, options, library=None, file=None):
+        preload = {"LD_PRELOAD": str(library)} if library else {}
+        words = [PROGRAM, "prepare", "--workers", options.workers, "--order", options.order, self.graph, file or self.file]
+        return taken(self.folder, words, env={**os.environ, **preload})
+
+    def routed(self, out, pairs=None, file=None):
+        return taken(self.folder, [PROGRAM, "route", file or self.file, pairs or self.pairs], out)
+
+
+def text_of(folder, name, count, pairs):
+    """A text of so many pairs: the first of these lines."""
+    path = folder / name
+    with open(path, "w") as file:
+        file.write(f"p aux sp p2p {count}\n")
+        file.writelines(itertools.islice(pairs, count))
+    return path
+
+
+def compare(network, plain, answers):
+    """Compares the first answers with those of the plain search, but for their nodes."""
+    with open(network.pairs) as pairs:
+        next(pairs)
+        few = text_of(network.folder, "few.pairs", FEW, pairs)
+    taken(network.folder, [plain, network.graph, few], network.folder / "few.answers", stderr=subprocess.DEVNULL)
+    with open(network.folder / "few.answers") as wanted, open(answers) as found:
+        for line, ours in zip(wanted, found):
+            if line.split() != ours.split()[: len(line.split())]:
+                sys.exit(f"{answers} differs from the plain search: {ours[:80]}")
+
+
+def megabytes(path):
+    return f"{path.stat().st_size / 1e6:,.1f} MB"
+
+
+def show(heads):
+    print("\n| " + " | ".join(heads) + " |\n" + "|---" * len(heads) + "|", flush=True)
+
+
+def row(*cells):
+    print("| " + " | ".join(str(cell) for cell in cells) + " |", flush=True)
+
+
+def costs_in(file):
+    """Of each line the pair, its length and its number of arcs, or the pair alone."""
+    with open(file) as lines:
+        return [line.split()[:5] for line in lines]
+
+
+def sizes(networks, options, plain, folder):
+    """The table of what each network costs."""
+    heads = ["Nodes", "Arcs", "Graph's text", "Links", "File", "`prepare`", "memory", "a node"]
+    show([*heads, "`route`, no pairs", f"{options.pairs:,} random pairs", "memory", "a pair", "answers"])
+    nothing = text_of(folder, "no.pairs", 0, [])
+    for network in networks:
+        prepared = network.prepared(options)
+        empty, answers = network.routed(os.devnull, nothing), folder / "answers"
+        routed = network.routed(answers)
+        compare(network, plain, answers)
+        row(
+            f"{network.nodes:,}",
+            f"{network.arcs:,}",
+            megabytes(network.graph),
+            f"{links_in(network.file):,}",
+            megabytes(network.file),
+            prepared.times(),
+            f"{prepared.memory:,.0f} MB",
+            f"{prepared.memory * (1 << 20) / network.nodes:,.0f} bytes",
+            empty.times(),
+            routed.times(),
+            f"{routed.memory:,.0f} MB",
+            f"{(routed.wall - empty.wall) * 1e6 / network.count:,.0f} µs",
+            megabytes(answers),
+        )
+
+
+def allocators(networks, options, folder):
+    """The table of `prepare` by allocators. The first row of a network is anew, so that all are of one time."""
+    show(["Nodes", "Allocator", "`prepare`", "memory"])
+    here = {"the C library's": None}
+    here |= {name: LIBRARIES / file for name, file in ALLOCATORS.items() if (LIBRARIES / file).exists()}
+    for network in networks:
+        network.routed(folder / "wanted")
+        for name, library in here.items():
+            prepared = network.prepared(options, library, folder / "other.rch")
+            row(f"{network.nodes:,}", name, prepared.times(), f"{prepared.memory:,.0f} MB")
+            network.routed(folder / "found", file=folder / "other.rch")
+            if costs_in(folder / "found") != costs_in(folder / "wanted"):
+                sys.exit(f"the costs by {name} differ")
+
+
+def lists(network, folder):
+    """The table of what the list of pairs takes."""
+    show(["Pairs of a node with itself", "`route`", "memory"])
+    for count in [0, 1_000_000, 10_000_000]:
+        taken_by = network.routed(os.devnull, text_of(folder, "same.pairs", count, itertools.repeat("q 7 7\n")))
+        row(f"{count:,}", taken_by.times(), f"{taken_by.memory:,.0f} MB")
+
+
+@contextlib.contextmanager
+def beside(*commands):
+    """While the block runs, these programs do."""
+    children = [subprocess.Popen(command, stdout=subprocess.DEVNULL, stderr=subprocess.DEVNULL) for command in commands]
+    try:
+        yield
+    finally:
+        for child in reversed(children):
+            child.send_signal(signal.SIGINT)
+            child.wait()
+
+
+def cluster(folder):
+    """Dask's scheduler and two workers on the loopback, as a with-block."""
+    file = ["--scheduler-file", str(folder / "scheduler.json"), "--host", "127.0.0.1", "--no-dashboard"]
+    worker = ["--nthreads", "1", "--no-nanny", "--local-directory", str(folder / "workers")]
+    return beside(["/usr/bin/dask", "scheduler", "--port", "0", *file], *[["/usr/bin/dask", "worker", *worker, *file]] * 2)
+
+
+def batches(network, folder):
+    """The table of how very many pairs are answered."""
+    show([f"{BATCH:,} pairs of {network.nodes:,} nodes", "wall (processor)"])
+    with open(network.pairs) as pairs:
+        next(pairs)
+        many = text_of(folder, "many.pairs", BATCH, itertools.cycle(pairs))
+    wanted, out = folder / "wanted", folder / "out"
+    route_many = [ROOT / "tools/route_many", "--program", PROGRAM, network.file, many, out]
+
+    def answered(name, words, **more):
+        row(name, taken(folder, words, **more).times())
+        if out.read_bytes() != wanted.read_bytes():
+            sys.exit(f"{name}: the answers differ")
+        out.unlink()
+
+    row("one process", network.routed(wanted, many).times())
+    for part in PARTS:
+        answered(f"`route_many --jobs 2 --part {part}`", [*route_many, "--jobs", 2, "--part", part])
+    places = {"ROUTE_MANY": ROOT / "tools/route_many", "PROGRAM": PROGRAM, "HIERARCHY": network.file, "PAIRS": many, "OUT": out}
+    places = {**os.environ, **{name: str(path) for name, path in places.items()}}
+    answered("`route_many --cut`, GNU parallel `-j 2`", ["/bin/sh", "-c", PARALLEL], env=places)
+    with cluster(folder):
+        while not (folder / "scheduler.json").exists():
+            time.sleep(0.1)
+        answered("`route_many --dask`, two workers (theirs left out)", [*route_many, "--dask", folder / "scheduler.json"])
+
+
+def main():
+    parser = argparse.ArgumentParser(description=__doc__, formatter_class=argparse.RawDescriptionHelpFormatter)
+    parser.add_argument("--order", default="depth")
+    parser.add_argument("--workers", type=int, default=2)
+    parser.add_argument("--pairs", type=int, default=10_000)
+    for more in ["--allocators", "--lists", "--batches"]:
+        parser.add_argument(more, action="store_true")
+    parser.add_argument("sides", nargs="*", type=int, default=[256, 512, 1000], metavar="SIDE")
+    options = parser.parse_args()
+    if not PROGRAM.exists():
+        sys.exit(f"{PROGRAM} isn't built: README.md says how")
+    with tempfile.TemporaryDirectory(dir=ROOT.parent) as folder:
+        folder = pathlib.Path(folder)
+        plain = folder / "plain_search"
+        for name in ["plain_search", "resident"]:
+            subprocess.run(["g++", "-O3", "-std=c++17", "-o", folder / name, ROOT / f"bench/{name}.cpp"], check=True)
+        networks = [Network(side, options.pairs, folder) for side in options.sides]
+        sizes(networks, options, plain, folder)
+        if options.lists:
+            lists(networks[0], folder)
+        if options.batches:
+            batches(networks[0], folder)
+        if options.allocators:
+            allocators(networks, options, folder)
+
+
+if __name__ == "__main__":
+    main()
