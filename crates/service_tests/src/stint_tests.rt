@@ -84,6 +84,29 @@ enum Sequence {
     DepthNeighboursEdges,
 }
 
+/// The list of one worker that goes by these estimators in that order.
+fn in_sequence(
+    alloc: Global,
+    sequence: Sequence,
+    edges: Box<dyn Estimator + Send>,
+    gone: Box<dyn Estimator + Send>,
+    depth: Box<dyn Estimator + Send>,
+) -> Result<Lists, AllocError>
+    requires edges { heard edges ≡ [] }
+    requires gone { heard gone ≡ [] }
+    requires depth { heard depth ≡ [] }
+    ensures untold { IfOk result (λ lists. All (λ list. All (λ estimator. heard estimator ≡ []) list.items) lists.items) }
+{
+    match sequence {
+        Sequence::EdgesNeighboursDepth => list_of_three(alloc, edges, gone, depth),
+        Sequence::EdgesDepthNeighbours => list_of_three(alloc, edges, depth, gone),
+        Sequence::NeighboursEdgesDepth => list_of_three(alloc, gone, edges, depth),
+        Sequence::NeighboursDepthEdges => list_of_three(alloc, gone, depth, edges),
+        Sequence::DepthEdgesNeighbours => list_of_three(alloc, depth, edges, gone),
+        Sequence::DepthNeighboursEdges => list_of_three(alloc, depth, gone, edges),
+    }
+}
+
 /// The file of the square's hierarchy that one worker prepares by these orders, each stint of so many commits.
 fn prepared_in_sequence<R: Threads + Wait + Sync>(
     rt: &R,
@@ -96,14 +119,7 @@ fn prepared_in_sequence<R: Threads + Wait + Sync>(
     let edges: Box<dyn Estimator + Send> = Box::new(alloc, EdgeDifference::new(alloc, one))?;
     let gone: Box<dyn Estimator + Send> = Box::new(alloc, Neighbours::new(alloc, two))?;
     let depth: Box<dyn Estimator + Send> = Box::new(alloc, Depth::new(alloc, three))?;
-    let lists = match sequence {
-        Sequence::EdgesNeighboursDepth => list_of_three(alloc, edges, gone, depth),
-        Sequence::EdgesDepthNeighbours => list_of_three(alloc, edges, depth, gone),
-        Sequence::NeighboursEdgesDepth => list_of_three(alloc, gone, edges, depth),
-        Sequence::NeighboursDepthEdges => list_of_three(alloc, gone, depth, edges),
-        Sequence::DepthEdgesNeighbours => list_of_three(alloc, depth, edges, gone),
-        Sequence::DepthNeighboursEdges => list_of_three(alloc, depth, gone, edges),
-    }?;
+    let lists = in_sequence(alloc, sequence, edges, gone, depth)?;
     prepared_by_lists(rt, alloc, lists, &mut leases, stint)
 }
 
