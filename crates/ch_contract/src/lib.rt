@@ -6,6 +6,17 @@
 //! a node by a proposal, [`Board::commit`], as long as the versions of the rows that the proposal rests on are current. The promise of the layer is the contract of [`Board::finish`]:
 //! the hierarchy that it answers is right for the graph, so its values are the graph's distances. It rests on what
 //! every [`Ledger`] keeps, that its rows come from the graph's by the lawful contractions of its log.
+//!
+//! In a function that is generic in the [`Site`], whose caller passes `Brand` for it, a reader's proposal is committed, a
+//! sweep contracts the other nodes, and the board is made into a hierarchy:
+//!
+//! ```rust
+//! let (mut board, mut reader) = Board::<S>::new(rt, alloc, blank, graph)?;
+//! let proposal = propose(alloc, &mut reader, 0, 64)?;
+//! assert!(rt; board.commit(rt, proposal) == Ok(Receipt { node: 0, rank: 0 }));
+//! let others = board.sweep(rt, 64)?;
+//! let hierarchy = board.into_hierarchy();
+//! ```
 #![tactic(auto)]
 
 mod accepting;

@@ -3,6 +3,14 @@
 //! The lowest layer, which stands on std alone. Its main type is [`Cost`]; a [`NarrowCost`] keeps one of few arcs in three
 //! quarters of its memory, and a [`ShortCost`] keeps one in half of it, where it fits. What the layers above may know of a
 //! cost are the laws that [`cost_laws`] ensures, and the clauses of the methods; none of them looks inside.
+//!
+//! The cost of a walk is the sum of those of its arcs; of two of one length the one of fewer arcs is less:
+//!
+//! ```rust
+//! let walk = Cost::of_weight(3).plus(Cost::of_weight(4));
+//! assert!(rt; walk == Cost::of_walk(7, 2));
+//! assert!(rt; Cost::of_weight(7).is_below(walk));
+//! ```
 #![tactic(auto)]
 
 mod cost;

@@ -7,6 +7,18 @@
 //! works under a [`Lease`]. The promise of the layer is the contract of `note`, that a note is what the told entries
 //! tell, that of each kind's `key`, which says which number it is, and that of [`Leases::wait`], that no lease is out;
 //! [`Leases::none_is_left`] says what that means. No promise on answers rests on any of these.
+//!
+//! An estimator works under a lease, is told the log from its start, and gives the key of a node by the counts of its
+//! proposal. Once it is dropped the wait is over:
+//!
+//! ```rust
+//! let mut leases = Leases::new(alloc)?;
+//! let mut depth = Depth::new(alloc, leases.lease()?);
+//! depth.told(&first)?;
+//! let key = depth.key(&facts);
+//! drop(depth);
+//! leases.wait(rt);
+//! ```
 #![tactic(auto)]
 
 mod counted;

@@ -7,6 +7,14 @@
 //! of nodes. A [`Hierarchy`] holds what faster answers come from: [`Hierarchy::checked`] makes one of any ranks and links,
 //! or tells why they make none; [`Hierarchy::find`] gives the link of a pair, by a [`LinkIndex`] where it has one, and
 //! [`Hierarchy::parts`] the places of a link's halves, by [`LinkHalves`] where they are kept.
+//!
+//! A graph is made of its arcs, and then asked:
+//!
+//! ```rust
+//! let arcs = vec![in alloc; Road { from: 1, to: 0, weight: 2 }, Road { from: 0, to: 2, weight: 3 }]?;
+//! let graph = Graph::checked(3, arcs)?;
+//! assert!(rt; graph.least(1, 2)? == Some(Cost::of_walk(5, 2)));
+//! ```
 #![tactic(auto)]
 
 mod checking;

@@ -3,6 +3,15 @@
 //! Stands on `ch_cost`, of which it uses the laws of costs alone, and on `ch_graph`. Its definitions say what a state, a
 //! lawful contraction, a row and a made hierarchy are, and each law is the contract of a function with an empty body. Its
 //! only code that does anything keeps an entry's middle in four bytes ([`Middle`]).
+//!
+//! A law is called where a body needs it, before what rests on it. It does nothing when it runs, and its clause holds from
+//! there on:
+//!
+//! ```rust
+//! reached_hierarchy_is_right();
+//! reached_hierarchy_is_well_made();
+//! let hierarchy = Hierarchy::new(ranks, links, graph.bound());
+//! ```
 #![tactic(auto)]
 
 mod by_weight;

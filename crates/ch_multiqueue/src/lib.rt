@@ -12,6 +12,17 @@
 //! compares the accounts with what is left when it ends. The promise of the layer stands on [`MultiQueue::close`]: where
 //! it answers, each item was put exactly as often as it was taken or is left, and what is left is in order. It hands
 //! everything back where it refuses, where a pass is missing above all.
+//!
+//! What is put in by a pass and not taken out is there at the end:
+//!
+//! ```rust
+//! let (queue, mut pass) = MultiQueue::new(alloc, 2, 1)?;
+//! let item = Item { key: 7, node: 3 };
+//! assert!(rt; queue.push(rt, &mut pass, item) == Ok(()));
+//! assert!(rt; queue.pop(rt, &mut pass)? == Some(item));
+//! let left = queue.close(vec![in alloc; pass]?);
+//! assert!(rt; left.is_ok_and(|left| left.is_empty()));
+//! ```
 #![tactic(auto)]
 
 mod account;

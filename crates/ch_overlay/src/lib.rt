@@ -7,6 +7,15 @@
 //! Rows are shared by `Arc` and never changed in place, so who has read a row keeps it. The promise of the layer stands
 //! on [`Overlay::start`], [`Overlay::plan`] and [`Overlay::apply`]: the rows are those of the state that the
 //! contractions so far lead to. [`Record`] is what a book of rows keeps of one, and [`Token`] shows where.
+//!
+//! A contraction is planned, and then put in, with a version for each row that it changes. Here node 0 of the arcs 1 to 0
+//! and 0 to 2 goes, for a shortcut from 1 to 2, and versions 0 to 2 are those of the start:
+//!
+//! ```rust
+//! let mut overlay = Overlay::start(alloc, &graph)?;
+//! let change = overlay.plan(0, &[Shortcut { from: 1, to: 2, cost }])?;
+//! overlay.apply(change, &[3, 4, 5]);
+//! ```
 #![tactic(auto)]
 
 mod change;

@@ -11,6 +11,14 @@
 //! is no longer than the best meeting. [`descent::descent`] finds the links of the walk. Why that gives
 //! the value is the law [`labels_are_right`], which any other way to label has to meet too. A call costs what it
 //! touches: marks and queues are kept between calls.
+//!
+//! A search is made once for a hierarchy, and then asked; here it is that of the arcs 1 to 0 and 0 to 2, of weights 2 and 3:
+//!
+//! ```rust
+//! let mut search = Search::new(alloc, &hierarchy)?;
+//! let found = search.distance(1, 2)?;
+//! assert!(rt; found.is_some_and(|found| found.cost == Cost::of_walk(5, 2)));
+//! ```
 #![tactic(auto)]
 
 mod descent;

@@ -8,6 +8,15 @@
 //! [`Reader::read`], whose answer is the book's record at its version, on [`Reader::same_record`], by which a version
 //! names one node and one row for good, and on [`Pen::agrees`], by which an answer whose version is current has the
 //! current row.
+//!
+//! In a function that is generic in the [`Book`], whose caller passes `Brand` for it, the pen writes and readers read:
+//!
+//! ```rust
+//! let (mut pen, mut reader) = open::<B, R>(rt, alloc, blank, rows)?;
+//! let version = pen.write(rt, 1, row)?;
+//! pen.tell(&mut reader);
+//! assert!(rt; reader.read(1)?.version == version);
+//! ```
 #![tactic(auto)]
 
 mod blank;

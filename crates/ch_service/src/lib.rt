@@ -13,6 +13,16 @@
 //! first part of such answers the writer took.
 //!
 //! Nodes are numbered from 0 inside, and from 1 in every text.
+//!
+//! A graph and a pair of its nodes, by a hierarchy that no worker but the calling thread builds:
+//!
+//! ```rust
+//! let graph = b"p sp 3 2\na 2 1 2\na 1 3 3\n".as_slice();
+//! let pairs = b"p aux sp p2p 1\nq 2 3\n".as_slice();
+//! let (lists, mut leases) = (Vec::new(alloc), Leases::new(alloc)?);
+//! let text = routes_in_memory(rt, alloc, graph, pairs, Options::PLAIN, lists, &mut leases, &OpenGate)?;
+//! assert!(rt; text.as_slice() == b"r 2 3 5 2 2 1 3\n".as_slice());
+//! ```
 #![tactic(auto)]
 
 mod answering;

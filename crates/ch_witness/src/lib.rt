@@ -7,6 +7,16 @@
 //! and its steps say which they went by; [`Rows::hand_out`] gives the answers at the end. Their contracts carry the promise
 //! of the layer: each way goes along rows that the source showed and that are handed over with it, avoids the node, and
 //! costs what its arcs do.
+//!
+//! A search is told where it starts, which node it avoids, what a way may cost, where the ways are to lead, and how many
+//! nodes it settles at most. In rows with two ways from 2 to 3, over 0 and over 1, it finds the one over 1 where it avoids
+//! 0:
+//!
+//! ```rust
+//! let found = search(alloc, &mut rows, 2, 0, cutoff, &[3], 64)?;
+//! let way = found.ways[0].as_ref();
+//! assert!(rt; way.is_some_and(|way| way.nodes.as_slice() == [2, 1, 3].as_slice()));
+//! ```
 #![tactic(auto)]
 
 mod aim;

@@ -7,6 +7,17 @@
 //! [`Options`] says how they work, a [`Gate`] sees where they are, and [`is_account`] tests whether the receipts that
 //! they were handed account for the log of their board. The promise of the layer is the contract of [`build`]: whatever
 //! threads and estimators do, the log leads to the hierarchy, which is right for the graph.
+//!
+//! Each worker has a list of estimators, each with a lease. With one worker, who goes by the edge difference:
+//!
+//! ```rust
+//! let mut leases = Leases::new(alloc)?;
+//! let edges: Box<dyn Estimator + Send> = Box::new(alloc, EdgeDifference::new(alloc, leases.lease()?))?;
+//! let lists = vec![in alloc; vec![in alloc; edges]?]?;
+//! let options = Options { workers: 1, ..Options::PLAIN };
+//! let built = build(rt, alloc, graph, options, lists, &mut leases, &OpenGate)?;
+//! assert!(rt; built.log.len() == built.hierarchy.nodes() as usize);
+//! ```
 #![tactic(auto)]
 
 mod account;

@@ -2,6 +2,13 @@
 //!
 //! Stands on `jobs`, and on `clap`, which reads the words. [`command`] turns them into a [`Job`](jobs::Job), or says why
 //! they name none.
+//!
+//! The words `routecli`, `route`, `net.rch` and `net.p2p` name a job:
+//!
+//! ```rust
+//! let job = command(alloc, words)?;
+//! assert!(rt; job == Job::Route { hierarchy: "net.rch", queries: "net.p2p" });
+//! ```
 #![tactic(auto)]
 
 mod reading;

@@ -6,6 +6,14 @@
 //! write that takes no byte is a failure. The promise is in the contracts of [`ReadCalls::read`] and
 //! [`WriteCalls::write`]: which bytes the reader gave or the writer took, to the byte, also at a failure; and which calls
 //! were made of it and what they answered, by its steps ([`StepRead`], [`StepWrite`]).
+//!
+//! A reader is read by at most a hundred calls, into a buffer, until the answer is 0:
+//!
+//! ```rust
+//! let mut calls = ReadCalls::new(100);
+//! let mut buffer = [0u8; 64];
+//! let count = calls.read(&mut reader, &mut buffer)?;
+//! ```
 #![tactic(auto)]
 
 ghost use Rattle.std.specs.Prelude.{◌≡◌, ◌↔◌, IsTrue};

@@ -5,6 +5,16 @@
 //! The promise of the layer is the contract of [`read_graph`] and [`read_queries`]: whatever a text says, its
 //! graph, its pairs or its first fault and the line of that, is what the call answers. Of a text no more is kept than
 //! what its lines have spelled, and the bytes of the line that hasn't ended.
+//!
+//! The texts number nodes from 1, and what is read of them from 0:
+//!
+//! ```rust
+//! let mut text = b"p sp 3 2\na 2 1 2\na 1 3 3\n".as_slice();
+//! let graph = read_graph(alloc, &mut text)?;
+//! let mut text = b"p aux sp p2p 1\nq 2 3\n".as_slice();
+//! let pairs = read_queries(alloc, &mut text, graph.nodes())?;
+//! assert!(rt; pairs.as_slice() == [(1, 2)].as_slice());
+//! ```
 #![tactic(auto)]
 
 mod error;

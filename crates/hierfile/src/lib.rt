@@ -10,6 +10,15 @@
 //! Three laws tie the two together. [`hierarchies_have_one_spelling`] says that a hierarchy can be told by its bytes,
 //! so that what is read is what was written, in its version. [`spellings_have_no_fault`] says that no spelling is
 //! refused for its bytes, and [`faultless_bytes_are_spellings`] that all other bytes are.
+//!
+//! What was written of a hierarchy is read back:
+//!
+//! ```rust
+//! let mut bytes = Vec::new(alloc);
+//! hierfile::write(&hierarchy, &mut bytes)?;
+//! let again = hierfile::read(alloc, &mut bytes.as_slice())?;
+//! assert!(rt; again.links() == hierarchy.links());
+//! ```
 #![tactic(auto)]
 
 mod error;

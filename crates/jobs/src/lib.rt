@@ -3,6 +3,14 @@
 //! Stands on nothing. A [`Job`] has its files and options, whose numbers are within their ranges; [`Job::of_two_files`]
 //! refuses one word for two files, and [`show_stop`] tells the user why there is no job, and answers the program's exit
 //! status. The promise is in the contracts of these two, and of [`Workers`], [`Stint`] and [`Preparation::orders`].
+//!
+//! A job to prepare is refused where one word names both files; any other stands as it was made:
+//!
+//! ```rust
+//! let job = Job::Route { hierarchy: "net.rch", queries: "net.p2p" };
+//! assert!(rt; job.of_two_files().is_ok() && !job.is_joined());
+//! assert!(rt; Workers::new(64).is_some() && Workers::new(65).is_none());
+//! ```
 #![tactic(auto)]
 
 mod job;

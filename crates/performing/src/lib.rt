@@ -5,6 +5,14 @@
 //! `whole_file`. The promise is in the contracts of [`perform`] and [`prepare_whole`]: a status of 0 means that what was
 //! written answers all pairs, or that what stands at its destination is a hierarchy that is right for the graph; with any
 //! other status there stands what stood there before.
+//!
+//! To answer, the job gets a reader for each of its two files, and writers for the answers and for a refusal:
+//!
+//! ```rust
+//! let job = Job::Answer { graph: "net.gr", queries: "net.p2p" };
+//! let status = perform(rt, alloc, &job, &mut graph, &mut pairs, &mut out, &mut err);
+//! assert!(rt; status == 0);
+//! ```
 #![tactic(auto)]
 
 mod doing;

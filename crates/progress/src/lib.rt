@@ -4,6 +4,15 @@
 //! some times a second the worker that passes writes one line to standard error, in the place of the one before. A
 //! [`Watched`] reader hands on a graph's text and tells the meter how many nodes it announces. Nothing rests on what is
 //! shown, and no contract speaks of it.
+//!
+//! The text is read through the watched reader, and the workers get the meter for their gate:
+//!
+//! ```rust
+//! let meter = Meter::new(rt, rt.stderr())?;
+//! let mut graph = Watched::new(file, &meter);
+//! let ended = prepare(rt, alloc, &mut graph, &mut out, options, lists, &mut leases, &meter);
+//! meter.clear();
+//! ```
 #![tactic(auto)]
 
 mod line;

@@ -6,6 +6,15 @@
 //! are of one file. The promise is in the contract of [`Destination`]: what stands there changes by [`Destination::put`]
 //! alone, and then it is the draft whole. One that tells what stands there is held to it; a file tells no contract what it
 //! keeps, so of [`OutFile`] that is tested.
+//!
+//! Bytes are written to a draft, and stand at the path all at once:
+//!
+//! ```rust
+//! let mut out = OutFile::new(rt, "net.rch");
+//! let mut draft = out.draft()?;
+//! draft.write_all(b"the whole file")?;
+//! out.put(draft)?;
+//! ```
 #![tactic(auto)]
 
 mod beside;
