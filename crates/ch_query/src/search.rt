@@ -80,6 +80,24 @@ impl<'a> Search<'a> {
     /// From a node to itself it is the walk of no link, at no cost. Both nodes are numbered from 0. A call costs what
     /// it touches: each side settles its nodes in the order of their lengths, by a heap, and stops where the next one
     /// is longer than the best walk so far. Memory is taken by the number of nodes that a call comes to, and kept.
+    ///
+    /// This is a hierarchy of the graph that is drawn at [`Graph::least`](ch_graph::Graph::least), with the rank of each
+    /// node in brackets. Node 4 was contracted before 1 and 3, so there is a shortcut between these, there and back, of
+    /// length 2 and two arcs:
+    ///
+    /// ```text
+    ///         2               3
+    /// 0 [0] ------> 1 [4] --------- 2 [2]
+    ///               |   \           |
+    ///             1 |       \ 2     | 5
+    ///               |           \   |
+    ///               4 [1] --------- 3 [3]
+    ///                         1
+    /// ```
+    ///
+    /// From 0 to 3 the walk rises to 1, which has the greatest rank, and falls by the shortcut: the links from 0 to 1 and
+    /// from 1 to 3, which cost 4, of three arcs. From 2 to 3 it is one link, which rises and costs 5, of one arc; the walk
+    /// over 1 is as long, and of three arcs. From 3 to 0 there is none.
     pub fn distance(&mut self, source: u32, target: u32) -> Result<Option<Found>, AllocError>
         requires source_in { source < length self.old.ranks }
         requires target_in { target < length self.old.ranks }

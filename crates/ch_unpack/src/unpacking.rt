@@ -16,6 +16,17 @@ use std::alloc::{AllocError, Global};
 /// It keeps the nodes that it came to and the places of the links that still lie ahead, together at most as many as the
 /// hierarchy has nodes, and asks for the parts of each of these once, however many arcs the links stand for: as soon as
 /// they would be more it ends, and it never calls itself.
+///
+/// In the hierarchy that is drawn at `Search::distance` of `ch_query`, the least walk from 0 to 3 is a link that is an
+/// arc, and then a shortcut by way of 4. So its route is 0, 1, 4, 3:
+///
+/// ```text
+///      2          2
+/// 0 ------> 1 =========> 3     the links from 0 to 3
+///
+///      2         1         1
+/// 0 ------> 1 ------> 4 ------> 3     the arcs that they stand for
+/// ```
 pub fn unpack(
     alloc: Global,
     hierarchy: &Hierarchy,

@@ -51,6 +51,24 @@ const TOO_MANY_ARCS: [Given; 7] = [
     (2, 3, (2, 2), Some(0)),
 ];
 
+/// The ranks of the hierarchy that is drawn at `Search::distance`.
+pub const DRAWN_RANKS: [u32; 5] = [0, 4, 2, 3, 1];
+
+/// Its links.
+pub const DRAWN: [Given; 11] = [
+    (0, 1, (2, 1), None),
+    (1, 2, (3, 1), None),
+    (1, 3, (2, 2), Some(4)),
+    (1, 4, (1, 1), None),
+    (2, 1, (3, 1), None),
+    (2, 3, (5, 1), None),
+    (3, 1, (2, 2), Some(4)),
+    (3, 2, (5, 1), None),
+    (3, 4, (1, 1), None),
+    (4, 1, (1, 1), None),
+    (4, 3, (1, 1), None),
+];
+
 /// The greatest length of a bound of three nodes.
 const GREATEST: u64 = 8_589_934_590;
 

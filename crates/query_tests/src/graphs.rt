@@ -29,6 +29,19 @@ const AROUND: [(u32, u32, u32); 6] = [
 /// Walks of length 5 from 0 to 3: the arc by itself, and longer ones over arcs of weight 0.
 const TIED: [(u32, u32, u32); 5] = [(0, 1, 0), (1, 2, 0), (2, 3, 5), (0, 3, 5), (0, 2, 0)];
 
+/// The arcs of the graph that is drawn at [`Graph::least`].
+const DRAWN: [(u32, u32, u32); 9] = [
+    (0, 1, 2),
+    (1, 2, 3),
+    (1, 4, 1),
+    (2, 1, 3),
+    (2, 3, 5),
+    (3, 2, 5),
+    (3, 4, 1),
+    (4, 1, 1),
+    (4, 3, 1),
+];
+
 /// Arcs of the greatest weight.
 const HEAVIEST: [(u32, u32, u32); 4] = [(2, 0, HEAVY), (0, 1, HEAVY), (1, 0, HEAVY), (0, 3, HEAVY)];
 
@@ -55,6 +68,14 @@ fn graph_of(alloc: Global, nodes: u32, arcs: &[(u32, u32, u32)]) -> Result<Graph
 
 /// Two nodes, and the least cost between them, if there is a walk.
 type Least = (u32, u32, Option<Numbers>);
+
+/// The least costs that are told at the drawing.
+const DRAWN_COSTS: [Least; 4] = [
+    (0, 3, Some((4, 3))),
+    (2, 3, Some((5, 1))),
+    (3, 0, None),
+    (3, 3, Some((0, 0))),
+];
 
 /// Whether this is the least cost between two nodes.
 fn is_least(graph: &Graph, (source, target, cost): Least) -> Result<bool, AllocError> {
@@ -143,7 +164,7 @@ fn refuses_arcs_that_are_not_allowed(rt: HostRuntime) -> Result<(), Fail> {
 
 #[test]
 fn answers_least_costs(rt: HostRuntime) -> Result<(), Fail> {
-    let cases: [Case; 8] = [
+    let cases: [Case; 9] = [
         (
             3,
             &ROW,
@@ -176,6 +197,7 @@ fn answers_least_costs(rt: HostRuntime) -> Result<(), Fail> {
                 (1, 3, Some((5, 2))),
             ],
         ),
+        (5, &DRAWN, (20, 4), &DRAWN_COSTS),
         (
             2,
             &[(0, 1, 0), (1, 0, 0)],

@@ -1,4 +1,6 @@
-use crate::checked::{BY_WAY_OF_0, ROW, hierarchy_of, is_route, is_too_long, route};
+use crate::checked::{
+    BY_WAY_OF_0, DRAWN, DRAWN_RANKS, ROW, hierarchy_of, is_route, is_too_long, route,
+};
 use ch_graph::Hierarchy;
 use ch_unpack::{UnpackError, unpack};
 use std::alloc::Global;
@@ -66,5 +68,13 @@ fn twice_by_way_of_a_middle(rt: HostRuntime) -> Result<(), Fail> {
     let hierarchy = hierarchy_of(rt.alloc(), &[0, 1, 2, 3], &BY_WAY_OF_0, (4, 3))?;
     assert!(rt; is_route(route(rt.alloc(), &hierarchy, 1, 2), &[1, 0, 2]));
     assert!(rt; is_too_long(route_over(rt.alloc(), &hierarchy, (1, 2, 3))));
+    Ok(())
+}
+
+/// The route that is drawn: an arc that rises, and a shortcut by way of 4 that falls.
+#[test]
+fn over_a_top(rt: HostRuntime) -> Result<(), Fail> {
+    let hierarchy = hierarchy_of(rt.alloc(), &DRAWN_RANKS, &DRAWN, (20, 4))?;
+    assert!(rt; is_route(route_over(rt.alloc(), &hierarchy, (0, 1, 3)), &[0, 1, 4, 3]));
     Ok(())
 }

@@ -1,6 +1,6 @@
 ghost use Rattle.std.specs.Prelude.{◌≡◌, length, IfOk};
 
-use crate::checked::{BY_WAY_OF_0, Given, hierarchy_of};
+use crate::checked::{BY_WAY_OF_0, DRAWN, DRAWN_RANKS, Given, hierarchy_of};
 use crate::costs::{Numbers, cost_of};
 use ch_graph::{Hierarchy, LinkId};
 use ch_query::{Found, Search};
@@ -111,7 +111,7 @@ type Case = (
     &'static [Question],
 );
 
-const CASES: [Case; 8] = [
+const CASES: [Case; 9] = [
     // A node and itself.
     (&[0], &[], (0, 0), &[(0, 0, Some(((0, 0), &[])))]),
     // One arc, with and against it.
@@ -155,6 +155,17 @@ const CASES: [Case; 8] = [
         &TIED,
         (16, 4),
         &[(0, 1, Some(((4, 2), &[LinkId(1), LinkId(4)])))],
+    ),
+    // The one that is drawn.
+    (
+        &DRAWN_RANKS,
+        &DRAWN,
+        (20, 4),
+        &[
+            (0, 3, Some(((4, 3), &[LinkId(0), LinkId(2)]))),
+            (2, 3, Some(((5, 1), &[LinkId(5)]))),
+            (3, 0, None),
+        ],
     ),
     // The limit is that of the length alone.
     (
