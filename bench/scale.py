@@ -29,9 +29,13 @@ import subprocess
 import sys
 import tempfile
 import time
-import typing
 
-from run import PROGRAM, ROOT, arcs_in, links_in
+sys.path.insert(0, str(pathlib.Path(__file__).resolve().parent.parent))
+
+from common.answers import costs_in
+from common.hierarchy_file import links_in
+from common.networks import arcs_in, made
+from common.program import PROGRAM, ROOT, Runs, need_compiled, need_program
 
 FEW = 20
 BATCH = 100_000
@@ -49,51 +53,31 @@ parallel --will-cite -j 2 '"$PROGRAM" route "$HIERARCHY" {} >{.}.new && mv {.}.n
 """
 
 
-class Taken(typing.NamedTuple):
-    """What a run took: seconds, processor seconds, and the greatest resident size in MB."""
-
-    wall: float
-    processor: float
-    memory: float
-
-    def times(self):
-        return f"{seconds(self.wall)} ({seconds(self.processor)})"
+def times(taken):
+    """What a run took by the wall clock, and in parentheses by the processors."""
+    return f"{seconds(taken.wall)} ({seconds(taken.processor)})"
 
 
 def seconds(value):
     return f"{value:.2f} s" if value < 10 else f"{value:.0f} s"
 
 
-def taken(folder, words, out=os.devnull, **more):
-    """Runs the words, which have to end well, once; by a small program, since this one's size would count as theirs."""
-    words = [folder / "resident", folder / "ended", *words]
-    start = time.perf_counter()
-    with open(out, "wb") as sink:
-        child = subprocess.Popen([str(word) for word in words], stdout=sink, **more)
-        _, _, usage = os.wait4(child.pid, 0)
-    wall = time.perf_counter() - start
-    status, kilobytes = map(int, (folder / "ended").read_text().split())
-    if status != 0:
-        sys.exit(f"{words[2]} ended with {status}")
-    return Taken(wall, usage.ru_utime + usage.ru_stime, kilobytes / 1024)
-
-
 class Network:
     """A network of so many rows and columns, its pairs, and the file of its hierarchy."""
 
-    def __init__(self, side, pairs, folder):
-        self.nodes, self.count, self.folder = side * side, pairs, folder
-        self.graph, self.pairs, self.file = folder / f"{side}.gr", folder / f"{side}.pairs", folder / f"{side}.rch"
-        taken(folder, [sys.executable, ROOT / "bench/make_network.py", side, pairs, 1, self.graph, self.pairs])
+    def __init__(self, side, pairs, runs):
+        self.nodes, self.count, self.runs, self.folder = side * side, pairs, runs, runs.folder
+        self.graph, self.pairs, self.file = (self.folder / f"{side}.{ending}" for ending in ["gr", "pairs", "rch"])
+        made(side, pairs, self.graph, self.pairs)
         self.arcs = arcs_in(self.graph)
 
     def prepared(self, options, library=None, file=None):
         preload = {"LD_PRELOAD": str(library)} if library else {}
         words = [PROGRAM, "prepare", "--workers", options.workers, "--order", options.order, self.graph, file or self.file]
-        return taken(self.folder, words, env={**os.environ, **preload})
+        return self.runs.taken(words, env={**os.environ, **preload})
 
     def routed(self, out, pairs=None, file=None):
-        return taken(self.folder, [PROGRAM, "route", file or self.file, pairs or self.pairs], out)
+        return self.runs.taken([PROGRAM, "route", file or self.file, pairs or self.pairs], out)
 
 
 def text_of(folder, name, count, pairs):
@@ -110,7 +94,7 @@ def compare(network, plain, answers):
     with open(network.pairs) as pairs:
         next(pairs)
         few = text_of(network.folder, "few.pairs", FEW, pairs)
-    taken(network.folder, [plain, network.graph, few], network.folder / "few.answers", stderr=subprocess.DEVNULL)
+    network.runs.taken([plain, network.graph, few], network.folder / "few.answers")
     with open(network.folder / "few.answers") as wanted, open(answers) as found:
         for line, ours in zip(wanted, found):
             if line.split() != ours.split()[: len(line.split())]:
@@ -129,12 +113,6 @@ def row(*cells):
     print("| " + " | ".join(str(cell) for cell in cells) + " |", flush=True)
 
 
-def costs_in(file):
-    """Of each line the pair, its length and its number of arcs, or the pair alone."""
-    with open(file) as lines:
-        return [line.split()[:5] for line in lines]
-
-
 def sizes(networks, options, plain, folder):
     """The table of what each network costs."""
     heads = ["Nodes", "Arcs", "Graph's text", "Links", "File", "`prepare`", "memory", "a node"]
@@ -151,11 +129,11 @@ def sizes(networks, options, plain, folder):
             megabytes(network.graph),
             f"{links_in(network.file):,}",
             megabytes(network.file),
-            prepared.times(),
+            times(prepared),
             f"{prepared.memory:,.0f} MB",
             f"{prepared.memory * (1 << 20) / network.nodes:,.0f} bytes",
-            empty.times(),
-            routed.times(),
+            times(empty),
+            times(routed),
             f"{routed.memory:,.0f} MB",
             f"{(routed.wall - empty.wall) * 1e6 / network.count:,.0f} µs",
             megabytes(answers),
@@ -171,7 +149,7 @@ def allocators(networks, options, folder):
         network.routed(folder / "wanted")
         for name, library in here.items():
             prepared = network.prepared(options, library, folder / "other.rch")
-            row(f"{network.nodes:,}", name, prepared.times(), f"{prepared.memory:,.0f} MB")
+            row(f"{network.nodes:,}", name, times(prepared), f"{prepared.memory:,.0f} MB")
             network.routed(folder / "found", file=folder / "other.rch")
             if costs_in(folder / "found") != costs_in(folder / "wanted"):
                 sys.exit(f"the costs by {name} differ")
@@ -182,7 +160,7 @@ def lists(network, folder):
     show(["Pairs of a node with itself", "`route`", "memory"])
     for count in [0, 1_000_000, 10_000_000]:
         taken_by = network.routed(os.devnull, text_of(folder, "same.pairs", count, itertools.repeat("q 7 7\n")))
-        row(f"{count:,}", taken_by.times(), f"{taken_by.memory:,.0f} MB")
+        row(f"{count:,}", times(taken_by), f"{taken_by.memory:,.0f} MB")
 
 
 @contextlib.contextmanager
@@ -214,12 +192,12 @@ def batches(network, folder):
     route_many = [ROOT / "tools/route_many", "--program", PROGRAM, network.file, many, out]
 
     def answered(name, words, **more):
-        row(name, taken(folder, words, **more).times())
+        row(name, times(network.runs.taken(words, **more)))
         if out.read_bytes() != wanted.read_bytes():
             sys.exit(f"{name}: the answers differ")
         out.unlink()
 
-    row("one process", network.routed(wanted, many).times())
+    row("one process", times(network.routed(wanted, many)))
     for part in PARTS:
         answered(f"`route_many --jobs 2 --part {part}`", [*route_many, "--jobs", 2, "--part", part])
     places = {"ROUTE_MANY": ROOT / "tools/route_many", "PROGRAM": PROGRAM, "HIERARCHY": network.file, "PAIRS": many, "OUT": out}
@@ -240,14 +218,11 @@ def main():
         parser.add_argument(more, action="store_true")
     parser.add_argument("sides", nargs="*", type=int, default=[256, 512, 1000], metavar="SIDE")
     options = parser.parse_args()
-    if not PROGRAM.exists():
-        sys.exit(f"{PROGRAM} isn't built: README.md says how")
-    with tempfile.TemporaryDirectory(dir=ROOT.parent) as folder:
+    need_program()
+    with tempfile.TemporaryDirectory() as folder:
         folder = pathlib.Path(folder)
-        plain = folder / "plain_search"
-        for name in ["plain_search", "resident"]:
-            subprocess.run(["g++", "-O3", "-std=c++17", "-o", folder / name, ROOT / f"bench/{name}.cpp"], check=True)
-        networks = [Network(side, options.pairs, folder) for side in options.sides]
+        plain, runs = need_compiled(folder, "plain_search"), Runs(folder)
+        networks = [Network(side, options.pairs, runs) for side in options.sides]
         sizes(networks, options, plain, folder)
         if options.lists:
             lists(networks[0], folder)

@@ -30,13 +30,13 @@ import time
 
 import plain
 
-ROOT = pathlib.Path(__file__).resolve().parent.parent
-sys.path.insert(0, str(ROOT / "bench"))
+sys.path.insert(0, str(pathlib.Path(__file__).resolve().parent.parent))
 
-import random_network
-from hierarchy_file import HEAD_BYTES, LINK_BYTES, spelled
+from common import networks
+from common.answers import is_walk, least_arcs
+from common.hierarchy_file import HEAD_BYTES, LINK_BYTES, spelled
+from common.program import PROGRAM, ROOT, need_compiled, need_program
 
-PROGRAM = pathlib.Path(os.environ.get("ROUTECLI", ROOT / "crates/routecli/out/routecli"))
 KEPT = ROOT / "out/fuzz"
 SECONDS = 30
 MOST_NODES = 2000
@@ -181,13 +181,13 @@ def changed_text(draw, text):
 
 def drawn_graph(draw):
     nodes = draw.choice([0, 1, 2, 3, 5, 8])
-    arcs = random_network.drawn_arcs(draw, nodes, draw.randrange(3 * nodes + 1)) if nodes else []
-    return random_network.text_of(nodes, arcs).encode()
+    arcs = networks.drawn_arcs(draw, nodes, draw.randrange(3 * nodes + 1)) if nodes else []
+    return networks.text_of(nodes, arcs).encode()
 
 
 def drawn_pairs(draw, nodes):
     pairs = [(draw.randint(1, nodes), draw.randint(1, nodes)) for _ in range(draw.randrange(8))] if nodes else []
-    return (f"p aux sp p2p {len(pairs)}\n" + "".join("q %d %d\n" % pair for pair in pairs)).encode()
+    return networks.pairs_text(pairs).encode()
 
 
 # Runs
@@ -221,14 +221,7 @@ def refusal_of(status, part, refused):
     return status, b"", f"routecli: {part}: {refused}\n".encode()
 
 
-def least_arcs(arcs):
-    least = {}
-    for start, end, weight in arcs:
-        least[start, end] = min(weight, least.get((start, end), weight))
-    return least
-
-
-def is_line(line, source, target, cost, is_walk):
+def is_line(line, source, target, cost, is_route):
     """Whether an answer line is right where the least walk has this length and so many arcs, or any number for none of
     them, or where there is no walk."""
     if cost is None:
@@ -238,7 +231,7 @@ def is_line(line, source, target, cost, is_walk):
     if fields[:5] != [b"r", b"%d" % source, b"%d" % target, b"%d" % length, b"%d" % arcs]:
         return False
     nodes = [int(field) for field in fields[5:]]
-    return len(nodes) == arcs + 1 and (nodes[0], nodes[-1]) == (source, target) and is_walk(nodes, length)
+    return len(nodes) == arcs + 1 and (nodes[0], nodes[-1]) == (source, target) and is_route(nodes, length)
 
 
 def is_routed(hierarchy, pairs, status, written, told):
@@ -248,7 +241,7 @@ def is_routed(hierarchy, pairs, status, written, told):
     if lines.pop() != b"" or len(lines) > len(pairs):
         return False
 
-    def is_walk(nodes, length):
+    def is_route(nodes, length):
         return len(nodes) <= routes.nodes and routes.is_route([node - 1 for node in nodes], length)
 
     def cost_of(source, target):
@@ -256,7 +249,7 @@ def is_routed(hierarchy, pairs, status, written, told):
         return cost if cost is None or hierarchy.version == 2 else (cost[0], None)
 
     for line, (source, target) in zip(lines, pairs):
-        if not is_line(line, source, target, cost_of(source, target), is_walk):
+        if not is_line(line, source, target, cost_of(source, target), is_route):
             return False
     if len(lines) == len(pairs):
         return (status, told) == (0, b"")
@@ -295,15 +288,14 @@ def is_right_answer(asked, status, written, told):
     least = least_arcs(arcs)
     lines = written.split(b"\n")
 
-    def is_walk(found, length):
-        steps = list(zip(found, found[1:]))
-        return all(step in least for step in steps) and sum(least[step] for step in steps) == length
+    def is_route(found, length):
+        return is_walk(found, length, least)
 
     if (status, told, lines.pop(), len(lines)) != (0, b"", b"", len(pairs)):
         return False
     for line, (source, target) in zip(lines, pairs):
         cost = plain.least_from(arcs, source).get(target)
-        if not is_line(line, source, target, cost, is_walk):
+        if not is_line(line, source, target, cost, is_route):
             return False
     return True
 
@@ -395,12 +387,10 @@ def main():
     words.add_argument("--jobs", type=int, default=2)
     words.add_argument("--seed", type=int, default=1)
     options = words.parse_args()
-    if not PROGRAM.exists():
-        sys.exit(f"{PROGRAM} isn't built: README.md says how")
+    need_program()
     with tempfile.TemporaryDirectory() as name:
         folder = pathlib.Path(name)
-        source = ROOT / "bench/resident.cpp"
-        subprocess.run(["g++", "-O2", "-std=c++17", "-o", folder / "resident", source], check=True)
+        need_compiled(folder, "resident")
         corpus = corpus_in(folder)
         tasks = [(folder / str(job), options.seconds, options.seed + job, corpus) for job in range(options.jobs)]
         with multiprocessing.Pool(options.jobs) as pool:

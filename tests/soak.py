@@ -24,10 +24,11 @@ import sys
 import tempfile
 import time
 
-sys.path.insert(0, str(pathlib.Path(__file__).resolve().parent.parent / "bench"))
+sys.path.insert(0, str(pathlib.Path(__file__).resolve().parent.parent))
 
-from random_network import drawn_arcs, text_of
-from run import PROGRAM, ROOT, are_answers, least_arcs_of
+from common.answers import are_answers, least_arcs_of
+from common.networks import drawn_arcs, pairs_text, text_of
+from common.program import PROGRAM, need_compiled, need_program
 
 ORDERS = ["edges", "neighbours", "depth"]
 MOST_SECONDS = 60
@@ -40,7 +41,7 @@ def write_network(draw, graph, queries):
     graph.write_text(text_of(nodes, drawn_arcs(draw, nodes, draw.randint(0, 5 * nodes))))
     pairs = [(s, t) for s in range(1, nodes + 1) for t in range(1, nodes + 1)]
     pairs = draw.sample(pairs, min(len(pairs), MOST_PAIRS))
-    queries.write_text(f"p aux sp p2p {len(pairs)}\n" + "".join(f"q {s} {t}\n" for s, t in pairs))
+    queries.write_text(pairs_text(pairs))
     return len(pairs)
 
 
@@ -56,8 +57,7 @@ def run(words, file):
 def soak(builds, seed, folder):
     """Prepares and compares; the number of pairs."""
     begun = time.time()
-    plain = folder / "plain_search"
-    subprocess.run(["g++", "-O2", "-std=c++17", "-o", plain, ROOT / "bench/plain_search.cpp"], check=True)
+    plain = need_compiled(folder, "plain_search")
     graph, queries, file = folder / "network.gr", folder / "network.pairs", folder / "network.rch"
     total = 0
     for done, build in enumerate(builds, 1):
@@ -90,8 +90,7 @@ def main():
     parser.add_argument("seed", nargs="?", type=int, default=1, metavar="SEED")
     parser.add_argument("--first", type=int, default=0, metavar="BUILD")
     asked = parser.parse_args()
-    if not PROGRAM.exists():
-        sys.exit(f"{PROGRAM} isn't built: README.md says how")
+    need_program()
     busy = [multiprocessing.Process(target=count, daemon=True) for _ in range(os.cpu_count() or 1)]
     for process in busy:
         process.start()

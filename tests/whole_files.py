@@ -24,15 +24,16 @@ import threading
 import time
 
 HERE = pathlib.Path(__file__).resolve().parent
-PROGRAM = pathlib.Path(os.environ.get("ROUTECLI", HERE.parent / "crates/routecli/out/routecli")).resolve()
+sys.path.insert(0, str(HERE.parent))
+
+from common.hierarchy_file import NONE, spelled
+from common.networks import made
+from common.program import PROGRAM, need_program
+
 PREPARE = ["prepare", "--workers", "1"]
-# A graph of one arc, and its hierarchy's file by docs/FORMATS.md: the head, two ranks, and one link of 24 bytes.
+# A graph of one arc, and its hierarchy's file by docs/FORMATS.md: two ranks, one link, and the bound.
 SMALL = b"p sp 2 1\na 1 2 7\n"
-SMALL_FILE = b"RCH2" + bytes.fromhex(
-    "00000002 0000000000000001 0000000000000007"
-    "00000000 00000001"
-    "00000000 00000001 0000000000000007 00000001 ffffffff"
-)
+SMALL_FILE = spelled([0, 1], [(0, 1, 7, 1, NONE)], 7)
 NOBODY = 65534
 WRITE, MEMORY, ONE_FILE = b"routecli: write\n", b"routecli: memory\n", b"routecli: GRAPH and OUT are one file\n"
 
@@ -103,8 +104,7 @@ class Shared:
     def __init__(self, top, side):
         self.top = top
         self.graph, self.pairs, self.file = top / "network.gr", top / "network.pairs", top / "network.rch"
-        network = HERE.parent / "bench/make_network.py"
-        subprocess.run([sys.executable, network, str(side), "400", "1", self.graph, self.pairs], check=True)
+        made(side, 400, self.graph, self.pairs)
         start = time.perf_counter()
         Run([*PREPARE, self.graph, "/dev/stdout"], top, stdout=open(self.file, "wb")).ends(0)
         self.seconds = time.perf_counter() - start
@@ -484,8 +484,7 @@ def refuse_library(top):
 
 
 def main():
-    if not PROGRAM.exists():
-        sys.exit(f"{PROGRAM} isn't built: README.md says how")
+    need_program()
     word = sys.argv[1] if len(sys.argv) > 1 else ""
     failed = ran = 0
     with tempfile.TemporaryDirectory() as top:

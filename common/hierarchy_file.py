@@ -25,3 +25,9 @@ def spelled(numbers, links, bound, version=2):
     """The file of these ranks and these links, which are (start, end, weight, arcs, middle)."""
     links = [link(*each, version=version) for each in links]
     return head(len(numbers), len(links), bound, version) + ranks(numbers) + b"".join(links)
+
+
+def links_in(file):
+    """How many links a file tells that it has."""
+    with open(file, "rb") as source:
+        return int.from_bytes(source.read(16)[8:], "big")

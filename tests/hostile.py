@@ -1,7 +1,7 @@
 #!/usr/bin/env python3
 """Tells what memory `routecli route` takes for hierarchy files that announce much and bring little.
 
-    bench/hostile.py
+    tests/hostile.py
 
 Each file is written, routed, and refused: the table has its bytes, the name of the refusal, which is compared, the
 greatest resident size in kB, what of it is beyond that of a file of no byte, and that for each byte of the file. Some files
@@ -17,8 +17,10 @@ import subprocess
 import sys
 import tempfile
 
-from hierarchy_file import NONE, head, link, ranks, spelled
-from run import PROGRAM, ROOT
+sys.path.insert(0, str(pathlib.Path(__file__).resolve().parent.parent))
+
+from common.hierarchy_file import NONE, head, link, ranks, spelled
+from common.program import PROGRAM, need_compiled, need_program
 
 MOST = 1 << 25
 
@@ -82,13 +84,11 @@ def cascade():
 
 
 def main():
-    if not PROGRAM.exists():
-        sys.exit(f"{PROGRAM} isn't built: README.md says how")
+    need_program()
     print("| File | bytes | refusal | resident, kB | beyond no byte, kB | for each byte |\n|---|---|---|---|---|---|")
     with tempfile.TemporaryDirectory() as folder:
         folder = pathlib.Path(folder)
-        resident, file, queries = folder / "resident", folder / "hostile.rch", folder / "hostile.pairs"
-        subprocess.run(["g++", "-O2", "-std=c++17", "-o", resident, ROOT / "bench/resident.cpp"], check=True)
+        resident, file, queries = need_compiled(folder, "resident"), folder / "hostile.rch", folder / "hostile.pairs"
         least = None
         last, pairs, answer = many_arcs()
         very_last, pair = cascade()

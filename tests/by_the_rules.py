@@ -2,7 +2,7 @@
 """Compares files of `routecli prepare`, byte for byte, with those of a plain program that is written here anew by the
 rules of docs/ALGORITHM.md and docs/FORMATS.md.
 
-    bench/by_the_rules.py [NETWORKS]        by default 200 random small networks
+    tests/by_the_rules.py [NETWORKS]        by default 200 random small networks
 
 With no worker, and with one, the rules and the seed determine the file. Each network is prepared by the sweep, and by
 one worker in each order, with its estimator alone and with all three, of which one takes the place of another after a
@@ -17,9 +17,11 @@ import subprocess
 import sys
 import tempfile
 
-from hierarchy_file import NONE, spelled
-from random_network import WEIGHTS, drawn_arcs, text_of
-from run import PROGRAM
+sys.path.insert(0, str(pathlib.Path(__file__).resolve().parent.parent))
+
+from common.hierarchy_file import NONE, spelled
+from common.networks import WEIGHTS, drawn_arcs, text_of
+from common.program import PROGRAM, need_program
 
 SETTLE, DEFER, HEAPS = 64, 16, 2
 ORDERS = ["edges", "neighbours", "depth"]
@@ -201,8 +203,7 @@ def random_network(draw):
 
 def main():
     networks = int(sys.argv[1]) if len(sys.argv) > 1 else 200
-    if not PROGRAM.exists():
-        sys.exit(f"{PROGRAM} isn't built: README.md says how")
+    need_program()
     draw = random.Random(1)
     with tempfile.TemporaryDirectory() as folder:
         graph, file = pathlib.Path(folder) / "network.gr", pathlib.Path(folder) / "network.rch"

@@ -1,0 +1,347 @@
+#!/usr/bin/env python3
+"""Measures all that docs/SPEED.md shows, in one go, and has its tables and pictures written (speed_page.py).
+
+    bench/speed.py [--nodes N ..] [--rounds ROUNDS] [--kept FOLDER] [--only WORD] [--no-python] [--page] [--anew]
+
+By default at 10,000, 65,536, 264,346 and 1,000,000 nodes, in 3 rounds, and kept in out/speed. The networks are those of
+make_network.py with --roads; beside them one without, of 264,196 nodes, that is hard to prepare and to ask, and the map of
+tools/fetch_extract, in which a node stands at least every 20 metres (left out where neither the folder nor Debian has it). In
+each round each job of each network has its turn once, so that a machine that is slow for a while is slow for all of them:
+
+  prepare    by 1, 2 and 4 workers and each order; and a textbook hierarchy in C++ (hierarchy.cpp), without routes
+  route      10,000 random pairs, 2,000 near ones, whose ends are at most 20 rows and columns apart, and no pairs, which reads
+             the file alone, by the hierarchy of one worker and each order; and by route.cpp, an optimised program that does
+             the same
+  search     20 of the pairs without a hierarchy: in C++ (plain_search.cpp), by Boost, and in Python by igraph and, up to
+             264,346 nodes, NetworkX (python_search.py)
+  read       the graph's text alone: `answer` with a text of pairs that is refused, and read_graph.cpp
+  answer     100 pairs, up to 10,000 nodes
+
+Each run is a line of runs.csv in the folder, and is kept: what was measured isn't measured again, so a run that was cut off is
+gone on with by the same words, and further rounds may be added. Figures of another program, another machine or other networks
+are refused; `--anew` drops them. With `--only` those jobs alone whose names have the word, as `route depth`. Seconds are of the
+wall clock and of the processors; memory is the greatest resident size.
+
+All answers are compared: lengths and numbers of arcs with route.cpp, which searches by itself, nodes along the arcs of the
+network, and the first 20 of each text with every search. Each hierarchy that is prepared answers 100 pairs, as that of one
+worker does.
+
+It needs g++ and the proved program, which is crates/routecli/out/routecli (README.md says how to build it) or the path in the
+environment variable ROUTECLI. What of Debian's packages is missing (bench/packages.txt) is left out, and told.
+"""
+import argparse
+import csv
+import datetime
+import hashlib
+import json
+import multiprocessing
+import os
+import pathlib
+import platform
+import random
+import shutil
+import subprocess
+import sys
+
+sys.path.insert(0, str(pathlib.Path(__file__).resolve().parent.parent))
+
+from common import networks
+from common.answers import are_answers, costs_in, least_arcs_of
+from common.hierarchy_file import links_in
+from common.program import PROGRAM, ROOT, Runs, compiled, need_compiled, need_program
+
+NODES = [10_000, 65_536, 264_346, 1_000_000]
+HARD = 514
+ORDERS = ["edges", "neighbours", "depth"]
+WORKERS = [1, 2, 4]
+RANDOM, NEAR, STEPS, FEW, CHECKED = 10_000, 2_000, 20, 20, 100
+MOST_ANSWERED, MOST_NETWORKX = 10_000, 264_346
+PYTHON = "/usr/bin/python3"
+HEADS = ["network", "job", "round", "seconds", "processor", "megabytes", "load", "when"]
+EXTRACT = "liechtenstein-2013-08-03.osm.pbf"
+
+
+class Network:
+    """A network in a folder of its own: its graph, its texts of pairs, and the hierarchies of one worker."""
+
+    def __init__(self, name, folder, count):
+        self.name, self.folder, self.count = name, folder / name, count
+        self.folder.mkdir(parents=True, exist_ok=True)
+        self.graph = self.folder / "network.gr"
+        self.facts = {}
+
+    def pairs(self, kind):
+        return self.folder / f"{kind}.pairs"
+
+    def file(self, order, workers=1):
+        return self.folder / (f"{order}.rch" if workers == 1 else "other.rch")
+
+    def kinds(self):
+        return [kind for kind in ["random", "near"] if self.pairs(kind).exists()]
+
+    def drawn(self, side, *more):
+        """Made by make_network.py."""
+        if not self.graph.exists():
+            near = ["--near", STEPS, NEAR, self.pairs("near")]
+            networks.made(side, RANDOM, self.graph, self.pairs("random"), *near, *more)
+        return self.finished()
+
+    def of_map(self):
+        """Made of the map, or None where that can't be had."""
+        if not self.graph.exists():
+            if not (self.folder / EXTRACT).exists():
+                if subprocess.run([ROOT / "tools/fetch_extract", self.folder]).returncode != 0:
+                    return None
+            words = [ROOT / "tools/osm_to_gr", self.folder / EXTRACT, self.folder / "network", "--longest-arc", "20"]
+            subprocess.run(words, check=True, stderr=subprocess.DEVNULL)
+            nodes, draw = nodes_in(self.graph), random.Random(1)
+            pairs = [(draw.randint(1, nodes), draw.randint(1, nodes)) for _ in range(RANDOM)]
+            self.pairs("random").write_text(networks.pairs_text(pairs))
+        return self.finished()
+
+    def finished(self):
+        """With texts of the first pairs of each kind, of no pair, and one that is refused."""
+        self.pairs("none").write_text(networks.pairs_text([]))
+        self.pairs("bad").write_text("p\n")
+        for kind in self.kinds():
+            lines = self.pairs(kind).read_text().splitlines(keepends=True)[1:]
+            for name, count in [(f"{kind}-few", FEW), (f"{kind}-checked", CHECKED)]:
+                self.pairs(name).write_text(f"p aux sp p2p {count}\n" + "".join(lines[:count]))
+        self.facts = {"nodes": nodes_in(self.graph), "arcs": networks.arcs_in(self.graph)}
+        self.facts["text"] = self.graph.stat().st_size
+        self.facts["sha256"] = hashlib.sha256(self.graph.read_bytes()).hexdigest()
+        return self
+
+
+def nodes_in(graph):
+    with open(graph) as lines:
+        return int(next(line for line in lines if line.startswith("p ")).split()[2])
+
+
+class Bench:
+    """The programs, what was measured, and the facts of each network."""
+
+    def __init__(self, options, folder):
+        self.options, self.folder, self.runs = options, folder, Runs(folder)
+        self.programs = {name: need_compiled(folder, name) for name in ["route", "hierarchy", "plain_search", "read_graph"]}
+        self.boost = compiled(folder, "boost_search")
+        self.python = [] if options.no_python else [kind for kind in ["igraph", "networkx"] if has_module(kind)]
+        missing = ([] if self.boost else ["Boost"]) + [kind for kind in ["igraph", "networkx"] if kind not in self.python]
+        if missing:
+            print(f"left out: {', '.join(missing)}", file=sys.stderr)
+        self.table, self.facts = folder / "runs.csv", folder / "facts.json"
+        self.about = about()
+        self.told = {"about": self.about, "networks": {}}
+        if self.facts.exists():
+            self.told = json.loads(self.facts.read_text())
+            for name in ["program", "machine"]:
+                if self.told["about"][name] != self.about[name]:
+                    sys.exit(f"{self.facts} is of another {name}: {self.told['about'][name]}; --anew drops it")
+        self.done = set()
+        if self.table.exists():
+            with open(self.table) as lines:
+                self.done = {(row["network"], row["job"], int(row["round"])) for row in csv.DictReader(lines)}
+        else:
+            self.table.write_text(",".join(HEADS) + "\n")
+
+    def enter(self, network):
+        known = self.told["networks"].setdefault(network.name, {"links": {}, "settled": {}, **network.facts})
+        if known["sha256"] != network.facts["sha256"]:
+            sys.exit(f"{network.name} is another network than the one that was measured; --anew drops it")
+        network.facts = known
+        self.save()
+
+    def save(self):
+        self.facts.write_text(json.dumps(self.told, indent=1))
+
+    def note(self, network, job, number, seconds, taken):
+        """A run as a line of the table."""
+        when = datetime.datetime.now(datetime.timezone.utc).isoformat(timespec="seconds")
+        cells = [network.name, job, number, f"{seconds:.6f}", f"{taken.processor:.3f}", f"{taken.memory:.1f}"]
+        with open(self.table, "a", newline="") as out:
+            csv.writer(out).writerow([*cells, f"{os.getloadavg()[0]:.2f}", when])
+        self.done.add((network.name, job, number))
+
+    def jobs(self, network):
+        """The jobs of a network by their names, each a function of the round. Those that others need come first."""
+        jobs = {}
+        for order in ORDERS:
+            for workers in WORKERS:
+                jobs[f"prepare {order} {workers}"] = self.prepare(network, order, workers)
+        jobs["textbook"] = self.textbook(network)
+        for order in ORDERS:
+            for kind in ["none", *network.kinds()]:
+                jobs[f"route {order} {kind}"] = self.route(network, order, kind)
+                jobs[f"route.cpp {order} {kind}"] = self.route_in_cpp(network, order, kind)
+        for kind in network.kinds():
+            for name in ["plain", *(["boost"] if self.boost else []), *self.python]:
+                if name != "networkx" or network.count <= MOST_NETWORKX:
+                    jobs[f"search {name} {kind}"] = self.search(network, name, kind)
+        jobs["read"] = self.reading(network, [PROGRAM, "answer", network.graph, network.pairs("bad")], 5)
+        jobs["read.cpp"] = self.reading(network, [self.programs["read_graph"], network.graph], 0)
+        if network.count <= MOST_ANSWERED:
+            jobs["answer"] = self.reading(network, [PROGRAM, "answer", network.graph, network.pairs("random-checked")], 0)
+        return jobs
+
+    def reading(self, network, words, wanted):
+        def go():
+            taken = self.runs.taken(words, wanted=wanted)
+            return taken.wall, taken
+
+        return go
+
+    def prepare(self, network, order, workers):
+        def go():
+            file = network.file(order, workers)
+            words = [PROGRAM, "prepare", "--workers", workers, "--order", order, network.graph, file]
+            taken = self.runs.taken(words)
+            network.facts["links"][f"{order} {workers}"] = links_in(file)
+            self.check_few(network, file)
+            return taken.wall, taken
+
+        return go
+
+    def check_few(self, network, file):
+        found, wanted = self.folder / "found", network.folder / "checked"
+        self.runs.taken([PROGRAM, "route", file, network.pairs("random-checked")], found)
+        if not wanted.exists():
+            self.runs.taken([self.programs["plain_search"], network.graph, network.pairs("random-checked")], wanted)
+        if costs_in(found) != costs_in(wanted):
+            sys.exit(f"{network.name}: answers by {file.name} differ from the plain search")
+
+    def textbook(self, network):
+        def go():
+            taken = self.runs.taken([self.programs["hierarchy"], network.graph, network.pairs("none")])
+            prepared, links, _ = map(float, taken.said.split())
+            network.facts["links"]["textbook"] = round(links * network.facts["arcs"])
+            return prepared, taken
+
+        return go
+
+    def route(self, network, order, kind):
+        def go():
+            found = self.folder / "found"
+            taken = self.runs.taken([PROGRAM, "route", self.prepared(network, order), network.pairs(kind)], found)
+            if kind != "none":
+                self.check(network, order, kind, found)
+            return taken.wall, taken
+
+        return go
+
+    def prepared(self, network, order):
+        """The hierarchy of one worker, made anew where it is gone."""
+        file = network.file(order)
+        if not file.exists():
+            self.runs.taken([PROGRAM, "prepare", "--workers", "1", "--order", order, network.graph, file])
+        return file
+
+    def check(self, network, order, kind, found):
+        """Compares answers, once for each order and kind, in a process of its own, since that takes memory."""
+        checked = network.facts.setdefault("checked", [])
+        if f"{order} {kind}" in checked:
+            return
+        wanted = self.folder / "wanted"
+        self.runs.taken([self.programs["route"], network.file(order), network.pairs(kind)], wanted)
+        child = multiprocessing.Process(target=check_walks, args=(network.graph, found, wanted))
+        child.start()
+        child.join()
+        if child.exitcode != 0:
+            sys.exit(f"{network.name}, {order}, {kind}: the answers differ")
+        checked.append(f"{order} {kind}")
+
+    def route_in_cpp(self, network, order, kind):
+        def go():
+            words = [self.programs["route"], self.prepared(network, order), network.pairs(kind)]
+            taken = self.runs.taken(words)
+            if kind != "none" and f"{order} {kind}" not in network.facts["settled"]:
+                said = self.runs.taken([words[0], "--times", *words[1:]]).said.split()
+                network.facts["settled"][f"{order} {kind}"] = float(said[said.index("settled") + 1])
+            return taken.wall, taken
+
+        return go
+
+    def search(self, network, name, kind):
+        words = {"plain": [self.programs["plain_search"]], "boost": [self.boost]}
+        words |= {each: [PYTHON, ROOT / "bench/python_search.py", each] for each in ["igraph", "networkx"]}
+
+        def go():
+            found, wanted = self.folder / "found", network.folder / f"{kind}-few.wanted"
+            taken = self.runs.taken([*words[name], network.graph, network.pairs(f"{kind}-few")], found)
+            if not wanted.exists():
+                self.runs.taken([PROGRAM, "route", self.prepared(network, "depth"), network.pairs(f"{kind}-few")], wanted)
+            lengths = [[line[:4] for line in costs_in(file)] for file in (found, wanted)]
+            if lengths[0] != lengths[1]:
+                sys.exit(f"{network.name}: {name} answers otherwise")
+            said = taken.said.split()
+            return float(said[said.index("search") + 1].rstrip("s")), taken
+
+        return go
+
+
+def check_walks(graph, found, wanted):
+    sys.exit(0 if are_answers(found, wanted, least_arcs_of(graph)) else 1)
+
+
+def has_module(name):
+    return subprocess.run([PYTHON, "-c", f"import {name}"], stderr=subprocess.DEVNULL).returncode == 0
+
+
+def about():
+    """The machine and the program."""
+    with open("/proc/cpuinfo") as lines:
+        model = next((line.split(":")[1].strip() for line in lines if line.startswith("model name")), platform.machine())
+    memory = os.sysconf("SC_PAGE_SIZE") * os.sysconf("SC_PHYS_PAGES")
+    version = subprocess.run([PROGRAM, "--version"], check=True, stdout=subprocess.PIPE, text=True).stdout.strip()
+    compiler = subprocess.run(["g++", "--version"], stdout=subprocess.PIPE, text=True).stdout.split("\n")[0]
+    return {
+        "machine": f"{os.cpu_count()} processors ({model}), {memory / (1 << 30):.0f} GB",
+        "system": f"{platform.system()} {platform.release()}, {compiler}",
+        "version": version,
+        "program": hashlib.sha256(PROGRAM.read_bytes()).hexdigest(),
+    }
+
+
+def all_networks(options, folder):
+    for count in options.nodes:
+        side = next(side for side in range(1, 10_000) if side * side >= count)
+        yield Network(f"roads-{count}", folder, count).drawn(side, "--roads", "--nodes", count)
+    if not options.no_others:
+        yield Network("hard", folder, HARD * HARD).drawn(HARD)
+        network = Network("map", folder, 0).of_map()
+        if network is not None:
+            network.count = network.facts["nodes"]
+            yield network
+
+
+def main():
+    words = argparse.ArgumentParser(description=__doc__, formatter_class=argparse.RawDescriptionHelpFormatter)
+    words.add_argument("--nodes", type=int, nargs="+", default=NODES)
+    words.add_argument("--rounds", type=int, default=3)
+    words.add_argument("--kept", type=pathlib.Path, default=ROOT / "out/speed")
+    words.add_argument("--only", default="")
+    words.add_argument("--no-python", action="store_true", help="without igraph and NetworkX")
+    words.add_argument("--no-others", action="store_true", help="without the hard network and the map")
+    words.add_argument("--page", action="store_true", help="writes the tables and pictures at the end")
+    words.add_argument("--anew", action="store_true", help="drops what was measured before")
+    options = words.parse_args()
+    need_program()
+    if options.anew:
+        shutil.rmtree(options.kept, ignore_errors=True)
+    options.kept.mkdir(parents=True, exist_ok=True)
+    bench = Bench(options, options.kept.resolve())
+    made = list(all_networks(options, bench.folder))
+    for network in made:
+        bench.enter(network)
+    for number in range(1, options.rounds + 1):
+        for network in made:
+            for job, go in bench.jobs(network).items():
+                if options.only in job and (network.name, job, number) not in bench.done:
+                    print(f"round {number}, {network.name}: {job}", file=sys.stderr, flush=True)
+                    bench.note(network, job, number, *go())
+                    bench.save()
+    if options.page:
+        subprocess.run([PYTHON, ROOT / "bench/speed_page.py", bench.folder], check=True)
+
+
+if __name__ == "__main__":
+    main()

@@ -1,0 +1,250 @@
+#!/usr/bin/python3
+"""Writes the tables and the picture of what speed.py measured: speed_page.py [FOLDER [DOCS [README]]]
+
+By default of out/speed, into docs/SPEED.md and README.md, between the lines `<!-- speed: begin -->` and `<!-- speed: end -->`;
+the picture is speed.svg and the runs are speed.csv, beside SPEED.md. Each time is the least of its rounds, and each memory the
+greatest. It needs Debian's python3-matplotlib.
+"""
+import collections
+import csv
+import json
+import pathlib
+import shutil
+import sys
+
+import matplotlib
+
+matplotlib.use("svg")
+import matplotlib.pyplot
+
+ROOT = pathlib.Path(__file__).resolve().parent.parent
+BEGIN, END = "<!-- speed: begin -->\n", "<!-- speed: end -->"
+ORDERS, WORKERS = ["edges", "neighbours", "depth"], [1, 2, 4]
+COUNTS = {"random": 10_000, "near": 2_000}
+FEW = 20
+SEARCHES = {"plain": "plain search in C++", "boost": "Boost", "igraph": "igraph", "networkx": "NetworkX"}
+
+
+class Measured:
+    """What was measured, by network and job."""
+
+    def __init__(self, folder):
+        self.facts = json.loads((folder / "facts.json").read_text())
+        self.about, self.networks = self.facts["about"], self.facts["networks"]
+        self.runs = collections.defaultdict(list)
+        with open(folder / "runs.csv") as lines:
+            self.rows = list(csv.DictReader(lines))
+        for row in self.rows:
+            self.runs[row["network"], row["job"]].append(row)
+
+    def least(self, network, job, head="seconds"):
+        found = [float(row[head]) for row in self.runs.get((network, job), [])]
+        return min(found) if found else None
+
+    def memory(self, network, job):
+        return max((float(row["megabytes"]) for row in self.runs.get((network, job), [])), default=None)
+
+    def pair(self, network, order, kind, program="route"):
+        """Millionths of a second that a pair takes beyond what the file does."""
+        whole, alone = (self.least(network, f"{program} {order} {each}") for each in [kind, "none"])
+        return None if None in (whole, alone) else max(whole - alone, 0) * 1e6 / COUNTS[kind]
+
+    def searched(self, network, name, kind):
+        found = self.least(network, f"search {name} {kind}")
+        return None if found is None else found * 1e6 / FEW
+
+    def names(self):
+        return list(self.networks)
+
+    def roads(self):
+        return [name for name in self.networks if name.startswith("roads-")]
+
+    def nodes(self, network):
+        return self.networks[network]["nodes"]
+
+    def title(self, network):
+        told = {"hard": " (hard)", "map": " (map)"}.get(network, "")
+        return f"{self.nodes(network):,}{told}"
+
+
+def seconds(value):
+    if value is None:
+        return ""
+    return f"{value:.3f} s" if value < 1 else f"{value:.2f} s" if value < 10 else f"{value:,.0f} s"
+
+
+def micros(value):
+    if value is None:
+        return ""
+    return f"{value:.1f} µs" if value < 10 else f"{value:,.0f} µs" if value < 100_000 else f"{value / 1e6:,.1f} s"
+
+
+def megabytes(value):
+    return "" if value is None else f"{value:,.0f} MB"
+
+
+def ratio(one, other):
+    return "" if not one or not other else f"{one / other:.2f}"
+
+
+def table(heads, rows):
+    lines = ["| " + " | ".join(heads) + " |", "|---" * len(heads) + "|"]
+    return "\n".join([*lines, *("| " + " | ".join(row) + " |" for row in rows if any(row[1:]))])
+
+
+def when(measured):
+    first, last = (f(row["when"] for row in measured.rows)[:16].replace("T", " ") for f in (min, max))
+    loads = [float(row["load"]) for row in measured.rows]
+    rounds = max(int(row["round"]) for row in measured.rows)
+    told = f"Measured from {first} to {last} (UTC), one program at a time, in {rounds} round{'s' * (rounds > 1)}, on a machine of "
+    told += f"{measured.about['machine']}; {measured.about['system']}. It is `{measured.about['version']}`.\n"
+    told += f"The load after a run was {min(loads):.1f} to {max(loads):.1f}, of which the run itself is a part."
+    return told
+
+
+def networks(measured):
+    rows = []
+    for name in measured.names():
+        facts = measured.networks[name]
+        links = [facts["links"].get(key) for key in [*(f"{order} 1" for order in ORDERS), "textbook"]]
+        cells = [f"{count / facts['arcs']:.2f}" if count else "" for count in links]
+        rows.append([measured.title(name), f"{facts['arcs']:,}", f"{facts['text'] / 1e6:.1f} MB", *cells])
+    return table(["Nodes", "Arcs", "Graph's text", *(f"links an arc, `{order}`" for order in ORDERS), "textbook in C++"], rows)
+
+
+def preparing(measured):
+    def cells(job):
+        for name in measured.names():
+            found = measured.least(name, job)
+            spent = seconds(measured.least(name, job, "processor"))
+            yield "" if found is None else f"{seconds(found)} ({spent}), {megabytes(measured.memory(name, job))}"
+
+    rows = [[f"{workers}, `{order}`", *cells(f"prepare {order} {workers}")] for order in ORDERS for workers in WORKERS]
+    rows.append(["textbook in C++", *cells("textbook")])
+    return table(["Workers, order", *map(measured.title, measured.names())], rows)
+
+
+def whole_runs(measured):
+    rows = []
+    for name in measured.names():
+        for order in ORDERS:
+            for kind in COUNTS:
+                ours, theirs = (measured.least(name, f"{program} {order} {kind}") for program in ["route", "route.cpp"])
+                alone, beside = (measured.least(name, f"{program} {order} none") for program in ["route", "route.cpp"])
+                size = megabytes(measured.memory(name, f"route {order} {kind}"))
+                cells = [seconds(ours), size, seconds(theirs), ratio(ours, theirs)]
+                cells += [seconds(alone), seconds(beside), ratio(alone, beside)]
+                rows.append([f"{measured.title(name)}, `{order}`, {COUNTS[kind]:,} {kind}", *(cells if ours else [""] * 7)])
+    heads = ["Nodes, order, pairs", "`route`", "memory", "C++", "ratio", "the file alone", "C++", "ratio"]
+    return table(heads, rows)
+
+
+def pairs(measured):
+    rows = []
+    for name in measured.names():
+        for order in ORDERS:
+            for kind in COUNTS:
+                ours, theirs = (measured.pair(name, order, kind, program) for program in ["route", "route.cpp"])
+                settled = measured.networks[name]["settled"].get(f"{order} {kind}")
+                told = "" if settled is None else f"{settled:,.0f}"
+                rows.append([f"{measured.title(name)}, `{order}`, {kind}", micros(ours), micros(theirs), ratio(ours, theirs), told])
+    return table(["Nodes, order, pairs", "`route`, a pair", "C++, a pair", "ratio", "nodes settled, in C++"], rows)
+
+
+def searches(measured):
+    rows = []
+    for name in measured.names():
+        for kind in COUNTS:
+            found = [measured.searched(name, each, kind) for each in SEARCHES]
+            rows.append([f"{measured.title(name)}, {kind}", micros(measured.pair(name, "depth", kind)), *map(micros, found)])
+    return table(["Nodes, pairs", "`route` by `depth`", *SEARCHES.values()], rows)
+
+
+def reading(measured):
+    rows = []
+    for name in measured.names():
+        size = measured.networks[name]["text"] / 1e6
+        ours, theirs = measured.least(name, "read"), measured.least(name, "read.cpp")
+        cells = [f"{seconds(each)}, {size / each:,.0f} MB/s" if each else "" for each in [ours, theirs]]
+        answer = measured.least(name, "answer")
+        rows.append([measured.title(name), *cells, ratio(ours, theirs), seconds(answer)])
+    return table(["Nodes", "reading the graph", "C++ by hand", "ratio", "`answer`, 100 pairs"], rows)
+
+
+def page(measured):
+    parts = [
+        when(measured),
+        "### The networks\n\n" + networks(measured),
+        "### Preparing\n\nSeconds of the wall clock, those of all processors in parentheses, and the greatest resident size.\n\n"
+        + preparing(measured),
+        "### Routes: whole runs\n\n" + whole_runs(measured),
+        "### Routes: a pair\n\nWhat a run takes beyond one with no pairs.\n\n" + pairs(measured),
+        "### Without a hierarchy\n\nA pair, of 20, without what it takes to read the graph.\n\n" + searches(measured),
+        "### Reading a graph, and the small exact tool\n\n" + reading(measured),
+    ]
+    return "\n\n".join(parts) + "\n"
+
+
+def summary(measured):
+    """What README.md shows."""
+    rows = []
+    for name in measured.roads():
+        prepared = measured.least(name, "prepare depth 4")
+        cells = [f"{seconds(prepared)}, {megabytes(measured.memory(name, 'prepare depth 4'))}" if prepared else ""]
+        cells.append(seconds(measured.least(name, "route depth none")))
+        cells += [micros(measured.pair(name, "depth", kind)) for kind in COUNTS]
+        cells += [micros(measured.pair(name, "depth", "random", "route.cpp")), micros(measured.searched(name, "boost", "random"))]
+        rows.append([f"{measured.nodes(name):,}", *cells])
+    heads = ["Nodes", "`prepare`, 4 workers", "`route`: the file", "a random pair", "a near pair", "random in C++", "Boost, no hierarchy"]
+    date = min(row["when"] for row in measured.rows)[:10]
+    told = f"Measured on {date} on a machine of {measured.about['machine']}, by `--order depth`, on\nnetworks that are like real ones."
+    return f"{told}\n\n{table(heads, rows)}\n\n![Times of preparing and of a pair against the number of nodes](docs/speed.svg)\n"
+
+
+def draw(measured, file):
+    """Times against nodes, both by their logarithms: those of preparing, and those of a random pair."""
+    matplotlib.rcParams.update({"svg.fonttype": "none", "svg.hashsalt": "speed", "font.size": 9})
+    figure, (left, right) = matplotlib.pyplot.subplots(1, 2, figsize=(9.5, 4))
+    names = measured.roads()
+
+    def line(axes, label, value, style):
+        found = [(measured.nodes(name), value(name)) for name in names]
+        found = [(nodes, time) for nodes, time in found if time]
+        if found:
+            axes.plot(*zip(*found), style, label=label, markersize=4)
+
+    for workers, style in [(1, "o-"), (2, "s-"), (4, "^-")]:
+        line(left, f"{workers} worker{'s' * (workers > 1)}, depth", lambda name: measured.least(name, f"prepare depth {workers}"), style)
+    line(left, "4 workers, edges", lambda name: measured.least(name, "prepare edges 4"), "v:")
+    line(left, "textbook in C++", lambda name: measured.least(name, "textbook"), "k--")
+    line(right, "routecli route", lambda name: measured.pair(name, "depth", "random"), "o-")
+    line(right, "the same in C++", lambda name: measured.pair(name, "depth", "random", "route.cpp"), "k--")
+    for name, style in zip(SEARCHES, ["s-", "^-", "v-", "D-"]):
+        line(right, SEARCHES[name], lambda network: measured.searched(network, name, "random"), style)
+    for axes, title, unit in [(left, "prepare", "seconds"), (right, "a random pair", "millionths of a second")]:
+        axes.set(xscale="log", yscale="log", title=title, xlabel="nodes", ylabel=unit)
+        axes.grid(True, which="major", alpha=0.3)
+        axes.legend(fontsize=8)
+    figure.tight_layout()
+    figure.savefig(file, metadata={"Date": None, "Creator": None})
+
+
+def put(file, text):
+    """Writes the text between the marks of a document."""
+    whole = file.read_text()
+    begin, end = whole.index(BEGIN) + len(BEGIN), whole.index(END)
+    file.write_text(whole[:begin] + text + whole[end:])
+
+
+def main():
+    words = [pathlib.Path(word) for word in sys.argv[1:]]
+    folder, docs, readme = [*words, *[ROOT / "out/speed", ROOT / "docs", ROOT / "README.md"][len(words) :]]
+    measured = Measured(folder)
+    draw(measured, docs / "speed.svg")
+    shutil.copy(folder / "runs.csv", docs / "speed.csv")
+    put(docs / "SPEED.md", page(measured))
+    put(readme, summary(measured))
+
+
+if __name__ == "__main__":
+    main()

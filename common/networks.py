@@ -1,0 +1,51 @@
+"""Makes networks: small random ones, for the scripts that compare with plain programs, and those of bench/make_network.py.
+
+Nodes are numbered from 0, as inside the program; in a text from 1.
+"""
+import subprocess
+import sys
+
+from .program import ROOT
+
+HEAVIEST = 4_294_967_295
+
+# What the weights of a network are drawn from. In most, many walks have the same length and different numbers of arcs.
+WEIGHTS = [
+    range(1),
+    range(1, 2),
+    range(2),
+    range(1, 4),
+    range(4),
+    range(21),
+    range(1, 1001),
+    (0, HEAVIEST),
+    range(HEAVIEST + 1),
+]
+
+
+def drawn_arcs(draw, nodes, count):
+    """So many arcs as (start, end, weight), loops and parallel arcs among them. There is at least one node."""
+    weights = draw.choice(WEIGHTS)
+    return [(draw.randrange(nodes), draw.randrange(nodes), draw.choice(weights)) for _ in range(count)]
+
+
+def text_of(nodes, arcs):
+    """The graph's text."""
+    return f"p sp {nodes} {len(arcs)}\n" + "".join(f"a {start + 1} {end + 1} {weight}\n" for start, end, weight in arcs)
+
+
+def pairs_text(pairs):
+    """The text of these pairs, whose nodes are numbered from 1."""
+    return f"p aux sp p2p {len(pairs)}\n" + "".join(f"q {source} {target}\n" for source, target in pairs)
+
+
+def made(side, pairs, graph, queries, *more):
+    """A network of bench/make_network.py, and so many random pairs of it."""
+    words = [sys.executable, ROOT / "bench/make_network.py", str(side), str(pairs), "1", graph, queries, *map(str, more)]
+    subprocess.run(words, check=True)
+
+
+def arcs_in(graph):
+    """How many arcs a graph's text announces."""
+    with open(graph) as source:
+        return int(next(line for line in source if line.startswith("p ")).split()[3])
