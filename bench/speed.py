@@ -10,8 +10,8 @@ each round each job of each network has its turn once, so that a machine that is
 
   prepare    by 1, 2 and 4 workers and each order; and a textbook hierarchy in C++ (hierarchy.cpp), without routes
   route      10,000 random pairs, 2,000 near ones, whose ends are at most 20 rows and columns apart, and no pairs, which reads
-             the file alone, by the hierarchy of one worker and each order; and by route.cpp, an optimised program that does
-             the same
+             the file alone, by the hierarchy of one worker and `edges`, which is the default, and `depth`; and by route.cpp, an
+             optimised program that does the same
   search     20 of the pairs without a hierarchy: in C++ (plain_search.cpp), by Boost, and in Python by igraph and, up to
              264,346 nodes, NetworkX (python_search.py)
   read       the graph's text alone: `answer` with a text of pairs that is refused, and read_graph.cpp
@@ -53,6 +53,7 @@ from common.program import PROGRAM, ROOT, Runs, compiled, need_compiled, need_pr
 NODES = [10_000, 65_536, 264_346, 1_000_000]
 HARD = 514
 ORDERS = ["edges", "neighbours", "depth"]
+ROUTED = ["edges", "depth"]
 WORKERS = [1, 2, 4]
 RANDOM, NEAR, STEPS, FEW, CHECKED = 10_000, 2_000, 20, 20, 100
 MOST_ANSWERED, MOST_NETWORKX = 10_000, 264_346
@@ -169,7 +170,7 @@ class Bench:
             for workers in WORKERS:
                 jobs[f"prepare {order} {workers}"] = self.prepare(network, order, workers)
         jobs["textbook"] = self.textbook(network)
-        for order in ORDERS:
+        for order in ROUTED:
             for kind in ["none", *network.kinds()]:
                 jobs[f"route {order} {kind}"] = self.route(network, order, kind)
                 jobs[f"route.cpp {order} {kind}"] = self.route_in_cpp(network, order, kind)

@@ -19,7 +19,7 @@ import matplotlib.pyplot
 
 ROOT = pathlib.Path(__file__).resolve().parent.parent
 BEGIN, END = "<!-- speed: begin -->\n", "<!-- speed: end -->"
-ORDERS, WORKERS = ["edges", "neighbours", "depth"], [1, 2, 4]
+ORDERS, ROUTED, WORKERS = ["edges", "neighbours", "depth"], ["edges", "depth"], [1, 2, 4]
 COUNTS = {"random": 10_000, "near": 2_000}
 FEW = 20
 SEARCHES = {"plain": "plain search in C++", "boost": "Boost", "igraph": "igraph", "networkx": "NetworkX"}
@@ -127,7 +127,7 @@ def preparing(measured):
 def whole_runs(measured):
     rows = []
     for name in measured.names():
-        for order in ORDERS:
+        for order in ROUTED:
             for kind in COUNTS:
                 ours, theirs = (measured.least(name, f"{program} {order} {kind}") for program in ["route", "route.cpp"])
                 alone, beside = (measured.least(name, f"{program} {order} none") for program in ["route", "route.cpp"])
@@ -142,7 +142,7 @@ def whole_runs(measured):
 def pairs(measured):
     rows = []
     for name in measured.names():
-        for order in ORDERS:
+        for order in ROUTED:
             for kind in COUNTS:
                 ours, theirs = (measured.pair(name, order, kind, program) for program in ["route", "route.cpp"])
                 settled = measured.networks[name]["settled"].get(f"{order} {kind}")
@@ -203,7 +203,7 @@ def summary(measured):
 
 def draw(measured, file):
     """Times against nodes, both by their logarithms: those of preparing, and those of a random pair."""
-    matplotlib.rcParams.update({"svg.fonttype": "none", "svg.hashsalt": "speed", "font.size": 9})
+    matplotlib.rcParams.update({"svg.fonttype": "none", "svg.hashsalt": "speed", "font.family": "sans-serif", "font.size": 9})
     figure, (left, right) = matplotlib.pyplot.subplots(1, 2, figsize=(9.5, 4))
     names = measured.roads()
 
