@@ -10,8 +10,8 @@ Weights are travel times.
 Every 16th row and column is a fast road, a third of the length in time: so the long ways have many roads to choose from,
 and a hierarchy is harder to prepare and to ask than that of a real network of that size. With `--roads` every 8th row and
 column is an arterial, a half of the length in time, and every 32nd a motorway, a quarter of it, which is joined by arterials
-and motorways alone: so long ways lead over few roads. By `--order depth` a query settles 148 nodes at 65,536 and 250 at
-264,346, where real networks of that size have 250 to 400.
+and motorways alone: so long ways lead over few roads, as in real networks. By `--order depth` a query settles 148 nodes at
+65,536 and 250 at 264,346, where it settles 388 without.
 
 With `--nodes` there are the first N places alone, row by row. Both ends of a pair are drawn from all places; with `--near`
 another text has so many pairs whose ends are at most so many rows and columns apart.
