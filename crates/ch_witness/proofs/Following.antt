@@ -13,22 +13,22 @@ use Rattle.ch_witness.specs.Tree.{Labels, IsSettled, IsAtMost}
 use Rattle.ch_witness.specs.Frontier.{IsOffered, IsFollowed, IsOpened, AreFollowed}
 
 -- the first arcs were told
-pub record AreFollowedSoFar (r : Rule) (entries : List Entry) (c : Cost) (place n : ℕ) (old new : Labels) : Type 0 where
-  pub opened : (v : ℕ) (l : Label) → new v ≡ Some l → (old v ≡ Some l) ⊎ IsOpened r entries c place v l
+pub record AreFollowedSoFar (r : Rule) (entries : List Entry) (c : Cost) (step : Option ℕ) (n : ℕ) (old new : Labels) : Type 0 where
+  pub opened : (v : ℕ) (l : Label) → new v ≡ Some l → (old v ≡ Some l) ⊎ IsOpened r entries c step v l
   pub settled : (v : ℕ) → IsSettled (old v) → new v ≡ old v
   pub kept : (v : ℕ) (d : Cost) → IsAtMost (old v) d → IsAtMost (new v) d
   pub told : (k : ℕ) (e : Entry) → k < n → slice_index_or entries k e ≡ e → e.other ≢ r.avoid → c ⊕ e.cost ≼ r.cutoff → IsSettled (old e.other) ⊎ IsAtMost (new e.other) (c ⊕ e.cost)
 
-pub followed_none : (r : Rule) (entries : List Entry) (c : Cost) (place : ℕ) (old : Labels) → AreFollowedSoFar r entries c place 0 old old
-followed_none r entries c place old = record {
+pub followed_none : (r : Rule) (entries : List Entry) (c : Cost) (step : Option ℕ) (old : Labels) → AreFollowedSoFar r entries c step 0 old old
+followed_none r entries c step old = record {
   opened = λ v l is. inl is;
   settled = λ v h. refl;
   kept = λ v d h. h;
   told = λ k e h is apart most. absurd (omega (arith, h));
 }
 
-pub followed_all : (r : Rule) (entries : List Entry) (c : Cost) (place n : ℕ) (old new : Labels) → length entries ≤ n → AreFollowedSoFar r entries c place n old new → AreFollowed r entries c place old new
-followed_all r entries c place n old new all h = record {
+pub followed_all : (r : Rule) (entries : List Entry) (c : Cost) (step : Option ℕ) (n : ℕ) (old new : Labels) → length entries ≤ n → AreFollowedSoFar r entries c step n old new → AreFollowed r entries c step old new
+followed_all r entries c step n old new all h = record {
   opened = h.opened;
   settled = h.settled;
   kept = h.kept;
@@ -45,8 +45,8 @@ same_entry : (entries : List Entry) (k n : ℕ) (e f : Entry) → n < length ent
 same_entry entries k n e f within here is at = get_or_read entries n f within (sym (subst (λ (j : ℕ). slice_index_or entries j f ≡ f) at is)) e ∙ here
 
 -- an arc that isn't to be followed
-pub followed_past : (r : Rule) (entries : List Entry) (c : Cost) (place n : ℕ) (old new : Labels) (e : Entry) → n < length entries → slice_index_or entries n e ≡ e → (e.other ≢ r.avoid → c ⊕ e.cost ≼ r.cutoff → ⊥) → AreFollowedSoFar r entries c place n old new → AreFollowedSoFar r entries c place (n + 1) old new
-followed_past r entries c place n old new e within here out h = record {
+pub followed_past : (r : Rule) (entries : List Entry) (c : Cost) (step : Option ℕ) (n : ℕ) (old new : Labels) (e : Entry) → n < length entries → slice_index_or entries n e ≡ e → (e.other ≢ r.avoid → c ⊕ e.cost ≼ r.cutoff → ⊥) → AreFollowedSoFar r entries c step n old new → AreFollowedSoFar r entries c step (n + 1) old new
+followed_past r entries c step n old new e within here out h = record {
   opened = h.opened;
   settled = h.settled;
   kept = h.kept;
@@ -76,8 +76,8 @@ true-false : (b : Bool) → b ≡ true → b ≡ false → ⊥
 true-false b t f = cc
 
 -- an offer makes no label worse
-offer_kept : (new next : Labels) (v : ℕ) (c : Cost) (place : ℕ) → IsOffered new v c place next → (u : ℕ) (d : Cost) → IsAtMost (new u) d → IsAtMost (next u) d
-offer_kept new next v c place offered u d h = elim (cases_eq u v) [
+offer_kept : (new next : Labels) (v : ℕ) (c : Cost) (step : Option ℕ) → IsOffered new v c step next → (u : ℕ) (d : Cost) → IsAtMost (new u) d → IsAtMost (next u) d
+offer_kept new next v c step offered u d h = elim (cases_eq u v) [
   | inl e ↦ subst (λ (w : ℕ). IsAtMost (next w) d) (sym e) (elim offered.here [
     | inl o ↦ subst (λ (l : Option Label). IsAtMost l d) (sym o.0) (better o.1 e)
     | inr s ↦ subst (λ (l : Option Label). IsAtMost l d) (sym s.0) (subst (λ (w : ℕ). IsAtMost (new w) d) e h)
@@ -90,8 +90,8 @@ offer_kept new next v c place offered u d h = elim (cases_eq u v) [
       at_most_trans (was k.0 k.1).1 k.2
 
 -- an offer leaves what is settled
-offer_settled : (new next : Labels) (v : ℕ) (c : Cost) (place : ℕ) → IsOffered new v c place next → (u : ℕ) → IsSettled (new u) → next u ≡ new u
-offer_settled new next v c place offered u h = elim (cases_eq u v) [
+offer_settled : (new next : Labels) (v : ℕ) (c : Cost) (step : Option ℕ) → IsOffered new v c step next → (u : ℕ) → IsSettled (new u) → next u ≡ new u
+offer_settled new next v c step offered u h = elim (cases_eq u v) [
   | inl e ↦ subst (λ (w : ℕ). next w ≡ new w) (sym e) (elim offered.here [
     | inl o ↦ absurd (not_open o.1 (subst (λ (w : ℕ). IsSettled (new w)) e h))
     | inr s ↦ s.0
@@ -104,22 +104,22 @@ offer_settled new next v c place offered u h = elim (cases_eq u v) [
       true-false k.0.settled k.2 (was k.0 k.1).0
 
 -- the arc at the next place is told
-pub followed_offer : (r : Rule) (entries : List Entry) (c : Cost) (place n : ℕ) (old new next : Labels) (e : Entry) → n < length entries → slice_index_or entries n e ≡ e → e.other ≢ r.avoid → c ⊕ e.cost ≼ r.cutoff → IsOffered new e.other (c ⊕ e.cost) place next → AreFollowedSoFar r entries c place n old new → AreFollowedSoFar r entries c place (n + 1) old next
-followed_offer r entries c place n old new next e within here apart most offered h = record {
+pub followed_offer : (r : Rule) (entries : List Entry) (c : Cost) (step : Option ℕ) (n : ℕ) (old new next : Labels) (e : Entry) → n < length entries → slice_index_or entries n e ≡ e → e.other ≢ r.avoid → c ⊕ e.cost ≼ r.cutoff → IsOffered new e.other (c ⊕ e.cost) step next → AreFollowedSoFar r entries c step n old new → AreFollowedSoFar r entries c step (n + 1) old next
+followed_offer r entries c step n old new next e within here apart most offered h = record {
   opened = opened;
-  settled = λ v s. offer_settled new next e.other (c ⊕ e.cost) place offered v (subst IsSettled (sym (h.settled v s)) s) ∙ h.settled v s;
-  kept = λ v d k. offer_kept new next e.other (c ⊕ e.cost) place offered v d (h.kept v d k);
+  settled = λ v s. offer_settled new next e.other (c ⊕ e.cost) step offered v (subst IsSettled (sym (h.settled v s)) s) ∙ h.settled v s;
+  kept = λ v d k. offer_kept new next e.other (c ⊕ e.cost) step offered v d (h.kept v d k);
   told = λ k f below is other at_most. elim (cases_lt k n) [
     | inl less ↦ elim (h.told k f less is other at_most) [
       | inl s ↦ inl s
-      | inr m ↦ inr (offer_kept new next e.other (c ⊕ e.cost) place offered f.other (c ⊕ f.cost) m)
+      | inr m ↦ inr (offer_kept new next e.other (c ⊕ e.cost) step offered f.other (c ⊕ f.cost) m)
     ]
     | inr least ↦ subst (λ (g : Entry). IsSettled (old g.other) ⊎ IsAtMost (next g.other) (c ⊕ g.cost)) (sym (same_entry entries k n e f within here is (omega (arith, below, least)))) this
   ];
 } where
-  opens : (v : ℕ) (l : Label) → v ≡ e.other → next v ≡ Some l → next e.other ≡ Some (record { cost = c ⊕ e.cost; before = Some place; settled = false }) → IsOpened r entries c place v l
+  opens : (v : ℕ) (l : Label) → v ≡ e.other → next v ≡ Some l → next e.other ≡ Some (record { cost = c ⊕ e.cost; before = step; settled = false }) → IsOpened r entries c step v l
   opens v l at is now =
-      let it : record { cost = c ⊕ e.cost; before = Some place; settled = false } ≡ l = some-same _ l (sym now ∙ subst (λ (w : ℕ). next w ≡ Some l) at is) in
+      let it : record { cost = c ⊕ e.cost; before = step; settled = false } ≡ l = some-same _ l (sym now ∙ subst (λ (w : ℕ). next w ≡ Some l) at is) in
       record {
         arc = e.cost;
         listed = record { entry = e; among = (n, within, here); other = sym at; costs = refl };
@@ -130,7 +130,7 @@ followed_offer r entries c place n old new next e within here apart most offered
         at_most = subst (λ (k : Label). k.cost ≼ r.cutoff) it most;
       }
 
-  opened : (v : ℕ) (l : Label) → next v ≡ Some l → (old v ≡ Some l) ⊎ IsOpened r entries c place v l
+  opened : (v : ℕ) (l : Label) → next v ≡ Some l → (old v ≡ Some l) ⊎ IsOpened r entries c step v l
   opened v l is = elim (cases_eq v e.other) [
     | inl at ↦ elim offered.here [
       | inl o ↦ inr (opens v l at is o.0)
@@ -157,8 +157,8 @@ followed_offer r entries c place n old new next e within here apart most offered
   ]
 
 -- one more arc is followed
-pub followed_more : (r : Rule) (entries : List Entry) (c : Cost) (place n : ℕ) (old new next : Labels) (e : Entry) → n < length entries → slice_index_or entries n e ≡ e → IsFollowed r e c place new next → AreFollowedSoFar r entries c place n old new → AreFollowedSoFar r entries c place (n + 1) old next
-followed_more r entries c place n old new next e within here one h = elim one [
-  | inl o ↦ followed_offer r entries c place n old new next e within here o.0 o.1 o.2 h
-  | inr p ↦ subst (λ (ls : Labels). AreFollowedSoFar r entries c place (n + 1) old ls) (sym p.1) (followed_past r entries c place n old new e within here p.0 h)
+pub followed_more : (r : Rule) (entries : List Entry) (c : Cost) (step : Option ℕ) (n : ℕ) (old new next : Labels) (e : Entry) → n < length entries → slice_index_or entries n e ≡ e → IsFollowed r e c step new next → AreFollowedSoFar r entries c step n old new → AreFollowedSoFar r entries c step (n + 1) old next
+followed_more r entries c step n old new next e within here one h = elim one [
+  | inl o ↦ followed_offer r entries c step n old new next e within here o.0 o.1 o.2 h
+  | inr p ↦ subst (λ (ls : Labels). AreFollowedSoFar r entries c step (n + 1) old ls) (sym p.1) (followed_past r entries c step n old new e within here p.0 h)
 ]

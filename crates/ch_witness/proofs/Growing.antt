@@ -122,7 +122,7 @@ settled_kept labels new at now v d h = elim (cases_eq v at.node) [
 
 -- A node becomes a step
 
-pub tree_grown : (r : Rule) (steps : List Step) (labels new : Labels) (s : Step) → IsTree r steps labels → labels (node_of s) ≡ Some (record { cost = s.cost; before = s.before; settled = true }) → IsNew (node_of s) steps → (row_at s).rank ≡ None → ((v : ℕ) (d : Cost) → Lists (row_at s).out v d → IsOfWalks 1 d) → AreFollowed r (row_at s).out s.cost (length steps) labels new → IsTree r (steps ++ s ∷ []) new
+pub tree_grown : (r : Rule) (steps : List Step) (labels new : Labels) (s : Step) → IsTree r steps labels → labels (node_of s) ≡ Some (record { cost = s.cost; before = s.before; settled = true }) → IsNew (node_of s) steps → (row_at s).rank ≡ None → ((v : ℕ) (d : Cost) → Lists (row_at s).out v d → IsOfWalks 1 d) → AreFollowed r (row_at s).out s.cost (Some (length steps)) labels new → IsTree r (steps ++ s ∷ []) new
 tree_grown r steps labels new s tree label fresh unranked light followed = record {
   grown = record { each = each; once = once };
   reached = reached;
@@ -162,7 +162,7 @@ tree_grown r steps labels new s tree label fresh unranked light followed = recor
     fits = of_walks_more (omega (arith, more_steps steps s)) was.fits;
   }
 
-  opened : (v : ℕ) (l : Label) → IsOpened r (row_at s).out s.cost (length steps) v l → IsLabel r (steps ++ s ∷ []) v l
+  opened : (v : ℕ) (l : Label) → IsOpened r (row_at s).out s.cost (Some (length steps)) v l → IsLabel r (steps ++ s ∷ []) v l
   opened v l o = record {
     reached = subst (λ (b : Option ℕ). IsReached r.from (steps ++ s ∷ []) (length (steps ++ s ∷ [])) b v l.cost) (sym o.before) (omega (arith, more_steps steps s), (s, last_step steps s, record { arc = o.arc; listed = o.listed; sum = o.sum }));
     apart = o.apart;
@@ -190,8 +190,8 @@ step_later steps s labels new kept = record { steps = λ k t is. old_step steps 
 
 -- Nodes of one kind
 
-pub names_kept : (r : Rule) (IsKind IsKindNow : ℕ → Type 0) → ((v : ℕ) → IsKind v → IsKindNow v) → (row : Row) (c : Cost) (place : ℕ) (labels new : Labels) → NamesAlone IsKindNow row → AllAre IsKind labels → AreFollowed r row.out c place labels new → AllAre IsKindNow new
-names_kept r IsKind IsKindNow still row c place labels new names all followed v l is = elim (followed.opened v l is) [
+pub names_kept : (r : Rule) (IsKind IsKindNow : ℕ → Type 0) → ((v : ℕ) → IsKind v → IsKindNow v) → (row : Row) (c : Cost) (step : Option ℕ) (labels new : Labels) → NamesAlone IsKindNow row → AllAre IsKind labels → AreFollowed r row.out c step labels new → AllAre IsKindNow new
+names_kept r IsKind IsKindNow still row c step labels new names all followed v l is = elim (followed.opened v l is) [
   | inl was ↦ still v (all v l was)
   | inr o ↦ subst IsKindNow (ap (λ (e : Entry). e.other) o.listed.among.2 ∙ o.listed.other) (names.out o.listed.among.0 o.listed.entry o.listed.among.1)
 ]

@@ -32,12 +32,12 @@ better None c h l e = absurd (cc)
 better (Some k) c h l e = subst (λ (m : Label). (m.settled ≡ false) × (c ≼ m.cost)) (some-same k l e) (h.0, at_most-from_below h.1)
 
 -- nothing is written where the way isn't better
-pub offer_none : (labels : Labels) (v : ℕ) (c : Cost) (place : ℕ) → (Improves c (labels v) → ⊥) → IsOffered labels v c place labels
-offer_none labels v c place no_better = record { others = λ u apart. refl; here = inr (refl, not_better (labels v) c no_better) }
+pub offer_none : (labels : Labels) (v : ℕ) (c : Cost) (step : Option ℕ) → (Improves c (labels v) → ⊥) → IsOffered labels v c step labels
+offer_none labels v c step no_better = record { others = λ u apart. refl; here = inr (refl, not_better (labels v) c no_better) }
 
 -- the node is opened where it is
-pub offer_better : (old new : Labels) (v : ℕ) (c : Cost) (place : ℕ) → Improves c (old v) → new v ≡ Some (record { cost = c; before = Some place; settled = false }) → ((u : ℕ) → u ≢ v → new u ≡ old u) → IsOffered old v c place new
-offer_better old new v c place improves here others = record { others = others; here = inl (here, better (old v) c improves) }
+pub offer_better : (old new : Labels) (v : ℕ) (c : Cost) (step : Option ℕ) → Improves c (old v) → new v ≡ Some (record { cost = c; before = step; settled = false }) → ((u : ℕ) → u ≢ v → new u ≡ old u) → IsOffered old v c step new
+offer_better old new v c step improves here others = record { others = others; here = inl (here, better (old v) c improves) }
 
 -- the label of the start
 abbrev pub begun : Cost → Option Label

@@ -19,11 +19,11 @@ abbrev pub Improves : Cost → Option Label → Type 0
 Improves c None = Unit {0}
 Improves c (Some l) = (l.settled ≡ false) × (c ≺ l.cost)
 
--- A way of cost c to v after the step at a place was told: v is opened with it, or what is there is settled or at
+-- A way of cost c to v that goes on from a step was told: v is opened with it, or what is there is settled or at
 -- most that cost and stays.
-pub record IsOffered (old : Labels) (v : ℕ) (c : Cost) (place : ℕ) (new : Labels) : Type 0 where
+pub record IsOffered (old : Labels) (v : ℕ) (c : Cost) (step : Option ℕ) (new : Labels) : Type 0 where
   pub others : (u : ℕ) → u ≢ v → new u ≡ old u
-  pub here : ((new v ≡ Some (record { cost = c; before = Some place; settled = false })) × ((l : Label) → old v ≡ Some l → (l.settled ≡ false) × (c ≼ l.cost))) ⊎ ((new v ≡ old v) × (IsSettled (old v) ⊎ IsAtMost (old v) c))
+  pub here : ((new v ≡ Some (record { cost = c; before = step; settled = false })) × ((l : Label) → old v ≡ Some l → (l.settled ≡ false) × (c ≼ l.cost))) ⊎ ((new v ≡ old v) × (IsSettled (old v) ⊎ IsAtMost (old v) c))
 
 -- A node that wasn't settled is settled now, as it was reached.
 pub record IsSettledNow (old : Labels) (r : Reached) (new : Labels) : Type 0 where
@@ -31,23 +31,23 @@ pub record IsSettledNow (old : Labels) (r : Reached) (new : Labels) : Type 0 whe
   pub was : old r.node ≡ Some (record { cost = r.cost; before = r.before; settled = false })
   pub here : new r.node ≡ Some (record { cost = r.cost; before = r.before; settled = true })
 
--- the label is opened from the step at a place, which costs c and whose arcs out are these
-pub record IsOpened (r : Rule) (entries : List Entry) (c : Cost) (place v : ℕ) (l : Label) : Type 0 where
+-- the label is opened from a step, which costs c and whose arcs out are these
+pub record IsOpened (r : Rule) (entries : List Entry) (c : Cost) (step : Option ℕ) (v : ℕ) (l : Label) : Type 0 where
   pub arc : Cost
   pub listed : Lists entries v arc
   pub sum : l.cost ≡ c ⊕ arc
-  pub before : l.before ≡ Some place
+  pub before : l.before ≡ step
   pub open_yet : l.settled ≡ false
   pub apart : v ≢ r.avoid
   pub at_most : l.cost ≼ r.cutoff
 
--- Each of these arcs out of the step at a place, which costs c, was told.
-pub record AreFollowed (r : Rule) (entries : List Entry) (c : Cost) (place : ℕ) (old new : Labels) : Type 0 where
-  pub opened : (v : ℕ) (l : Label) → new v ≡ Some l → (old v ≡ Some l) ⊎ IsOpened r entries c place v l
+-- Each of these arcs out of a step, which costs c, was told.
+pub record AreFollowed (r : Rule) (entries : List Entry) (c : Cost) (step : Option ℕ) (old new : Labels) : Type 0 where
+  pub opened : (v : ℕ) (l : Label) → new v ≡ Some l → (old v ≡ Some l) ⊎ IsOpened r entries c step v l
   pub settled : (v : ℕ) → IsSettled (old v) → new v ≡ old v
   pub kept : (v : ℕ) (d : Cost) → IsAtMost (old v) d → IsAtMost (new v) d
   pub told : (v : ℕ) (d : Cost) → Lists entries v d → v ≢ r.avoid → c ⊕ d ≼ r.cutoff → IsSettled (old v) ⊎ IsAtMost (new v) (c ⊕ d)
 
--- The arc out of the step at a place, which costs c, was told where it is to be.
-abbrev pub IsFollowed : Rule → Entry → Cost → ℕ → Labels → Labels → Type 0
-IsFollowed r e c place old new = ((e.other ≢ r.avoid) × (c ⊕ e.cost ≼ r.cutoff) × IsOffered old e.other (c ⊕ e.cost) place new) ⊎ ((e.other ≢ r.avoid → c ⊕ e.cost ≼ r.cutoff → ⊥) × (new ≡ old))
+-- The arc out of a step, which costs c, was told where it is to be.
+abbrev pub IsFollowed : Rule → Entry → Cost → Option ℕ → Labels → Labels → Type 0
+IsFollowed r e c step old new = ((e.other ≢ r.avoid) × (c ⊕ e.cost ≼ r.cutoff) × IsOffered old e.other (c ⊕ e.cost) step new) ⊎ ((e.other ≢ r.avoid → c ⊕ e.cost ≼ r.cutoff → ⊥) × (new ≡ old))

@@ -1,3 +1,4 @@
+pub mod Before
 pub mod FirstPlaces
 pub mod Frontier
 pub mod Kept

@@ -1,5 +1,6 @@
 ghost use Rattle.std.specs.Prelude.{◌≡◌, Some, false, length};
 
+use crate::before::Before;
 use crate::label::Label;
 use crate::node_index::NodeIndex;
 use ch_cost::Cost;
@@ -26,8 +27,8 @@ pub struct Frontier {
 #[derive(Clone, Copy)]
 pub struct Reached {
     pub node: u32,
+    pub before: Before,
     pub cost: Cost,
-    pub before: Option<usize>,
 }
 
 impl Frontier {
@@ -59,7 +60,7 @@ impl Frontier {
         self.nodes.push(start)?;
         self.labels.push_reserved(Label {
             cost: Cost::ZERO,
-            before: None,
+            before: Before::NONE,
             settled: true,
         });
         Ok(())
@@ -73,39 +74,45 @@ impl Frontier {
         Some(self.labels[place])
     }
 
-    /// Tells of a way of this cost to a node, which goes on from the step at a place. It opens the node where it is
-    /// better than what is known of it.
-    pub fn offer(&mut self, node: u32, cost: Cost, place: usize) -> Result<(), AllocError>
-        ensures { OnOk result (IsOffered (labels_of self.old) node cost place (labels_of self.new)) }
+    /// Tells of a way of this cost to a node, and of the step that it goes on from. It opens the node where it is better
+    /// than what is known of it.
+    pub fn offer(&mut self, node: u32, cost: Cost, before: Before) -> Result<(), AllocError>
+        ensures { OnOk result (IsOffered (labels_of self.old) node cost before (labels_of self.new)) }
     {
         match self.nodes.find(node) {
-            Some(at) => self.improve(at, node, cost, place),
-            None => self.open(node, cost, place),
+            Some(at) => self.improve(at, node, cost, before),
+            None => self.open(node, cost, before),
         }
     }
 
     /// The same for a node whose label stands at this place.
-    fn improve(&mut self, at: usize, node: u32, cost: Cost, place: usize) -> Result<(), AllocError>
+    fn improve(
+        &mut self,
+        at: usize,
+        node: u32,
+        cost: Cost,
+        before: Before,
+    ) -> Result<(), AllocError>
         requires { IsFirstAt self.old.nodes node at }
-        ensures { OnOk result (IsOffered (labels_of self.old) node cost place (labels_of self.new)) }
+        ensures { OnOk result (IsOffered (labels_of self.old) node cost before (labels_of self.new)) }
     {
         if !self.labels[at].is_improved_by(cost) {
             return Ok(());
         }
         self.queue.push(Reverse(key(cost, node)))?;
-        self.labels[at] = opened(cost, place);
+        self.labels[at] = opened(cost, before);
         Ok(())
     }
 
     /// The same for a node that the search hasn't come to.
-    fn open(&mut self, node: u32, cost: Cost, place: usize) -> Result<(), AllocError>
+    fn open(&mut self, node: u32, cost: Cost, before: Before) -> Result<(), AllocError>
         requires { (k : ℕ) → k < length self.old.nodes → slice_index self.old.nodes k ≢ node }
-        ensures { OnOk result (IsOffered (labels_of self.old) node cost place (labels_of self.new)) }
+        ensures { OnOk result (IsOffered (labels_of self.old) node cost before (labels_of self.new)) }
     {
         self.queue.push(Reverse(key(cost, node)))?;
         self.labels.reserve(1)?;
         self.nodes.push(node)?;
-        self.labels.push_reserved(opened(cost, place));
+        self.labels.push_reserved(opened(cost, before));
         Ok(())
     }
 
@@ -138,8 +145,8 @@ impl Frontier {
         self.labels[place].settled = true;
         Some(Reached {
             node,
-            cost: label.cost,
             before: label.before,
+            cost: label.cost,
         })
     }
 }
@@ -161,13 +168,13 @@ fn node_of(key: u128) -> u32 {
     (key % (1 << NODE_BITS)) as u32
 }
 
-/// The label of a node that is open, by a way of this cost that goes on from the step at a place.
-fn opened(cost: Cost, place: usize) -> Label
-    ensures { result ≡ record { cost = cost; before = Some place; settled = false } }
+/// The label of a node that is open, by a way of this cost that goes on from this step.
+fn opened(cost: Cost, before: Before) -> Label
+    ensures { result ≡ record { cost = cost; before = before; settled = false } }
 {
     Label {
         cost,
-        before: Some(place),
+        before,
         settled: false,
     }
 }

@@ -1,15 +1,16 @@
 ghost use Rattle.std.specs.Prelude.{◌≡◌, ◌↔◌, IsTrue, false};
 ghost use Rattle.ch_cost.specs.Cost.{◌≺◌};
 
+use crate::before::Before;
 use ch_cost::Cost;
 
-/// What a search knows of a node that it has come to.
+/// What a search knows of a node that it has come to. It takes 24 bytes.
 #[derive(Clone, Copy)]
 pub struct Label {
     /// What the best way to it costs, so far.
     pub cost: Cost,
-    /// The place of the step that the way goes on from, or none at the start.
-    pub before: Option<usize>,
+    /// The step that the way goes on from.
+    pub before: Before,
     /// Whether the way is final.
     pub settled: bool,
 }

@@ -20,6 +20,7 @@
 #![tactic(auto)]
 
 mod aim;
+mod before;
 mod error;
 mod follow;
 mod frontier;
@@ -35,6 +36,7 @@ mod tree;
 mod way;
 
 pub use aim::Aim;
+pub use before::Before;
 pub use error::SearchError;
 pub use rows::Rows;
 pub use rule::Rule;

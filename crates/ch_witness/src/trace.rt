@@ -25,11 +25,11 @@ pub fn way_to(
 {
     let mut backward: SmallVec<u32, 8> = SmallVec::new(alloc);
     backward.push(target)?;
-    let mut before = label.before;
+    let mut before = label.before.place();
     'steps: while let Some(place) = before {
         let step = &steps[place];
         backward.push(step.node)?;
-        before = step.before;
+        before = step.before.place();
     }
     Ok(Way {
         nodes: reversed(alloc, &backward)?,

@@ -6,6 +6,7 @@ ghost use Rattle.ch_witness.specs.Kept.{kept_of, AllNamed, AreKept, IsKept, IsMo
 ghost use Rattle.ch_witness.specs.Tree.{labels_of, IsTree, IsNew, IsGoneOn, IsLater, IsStartSeen, AllAre, AllSeen};
 
 use crate::aim::Aim;
+use crate::before::Before;
 use crate::error::SearchError;
 use crate::follow::follow;
 use crate::frontier::{Frontier, Reached};
@@ -62,8 +63,8 @@ impl Tree {
         }
         let start = Reached {
             node: rule.from,
+            before: Before::NONE,
             cost: Cost::ZERO,
-            before: None,
         };
         tree.go_on_from(source, rows, rule, start)?;
         tree.grow(source, rows, rule, targets, aims, settle - 1)?;
@@ -124,7 +125,7 @@ impl Tree {
     /// Whether a target is done: its way is final, or no node of this cost or more makes it a better one that is wanted.
     fn is_done(&self, target: u32, aim: Option<&Aim>, cost: Cost) -> bool {
         let label = self.frontier.label(target);
-        if label.is_some_and(|label| label.settled) {
+        if label.as_ref().is_some_and(|label| label.settled) {
             return true;
         }
         let Some(aim) = aim else {
@@ -167,12 +168,18 @@ impl Tree {
         if seen.row.rank.is_some() {
             return Ok(());
         }
-        let place = self.steps.len();
-        follow(rule, &seen.row.out, reached.cost, place, &mut self.frontier)?;
+        let before = Before::at(self.steps.len());
+        follow(
+            rule,
+            &seen.row.out,
+            reached.cost,
+            before,
+            &mut self.frontier,
+        )?;
         self.steps.push(Step {
             node: reached.node,
-            cost: reached.cost,
             before: reached.before,
+            cost: reached.cost,
             seen: Snapshot::of(seen),
         })?;
         Ok(())

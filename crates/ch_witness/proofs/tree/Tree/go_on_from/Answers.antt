@@ -38,12 +38,12 @@ there g c = read_there g.S.RowSource.bears (g.S.RowSource.shows c.read.new.sourc
 unranked : (g : given.Over) (c : goal.In_ok-push g) → (row_in c.at-seen.result.now).rank ≡ None
 unranked g c = ap (λ (r : Row). r.rank) (sym (c.behind-seen.view_is ∙ c.deref.ensures)) ∙ nothing c.behind-seen.inside.rank c.if-is_some.ensures
 
-followed : (g : given.Over) (c : goal.In_ok-push g) → AreFollowed c.args.rule (row_in c.at-seen.result.now).out c.args.reached.cost (length c.args.self.now.steps.items) (labels_of c.args.self.now.frontier) (labels_of c.follow.new.frontier)
+followed : (g : given.Over) (c : goal.In_ok-push g) → AreFollowed c.args.rule (row_in c.at-seen.result.now).out c.args.reached.cost (Some (length c.args.self.now.steps.items)) (labels_of c.args.self.now.frontier) (labels_of c.follow.new.frontier)
 followed g c =
     let out : c.deref-3.result.now ≡ (row_in c.at-seen.result.now).out = c.deref-3.ensures.value ∙ ap (λ (r : Row). r.out) (c.behind-seen-2.view_is ∙ c.deref-2.ensures) in
-    let place : c.len-place.result ≡ length c.args.self.now.steps.items = omega (arith, c.len-place.ensures, c.args.self.now.steps.ok) in
-    subst (λ (n : ℕ). AreFollowed c.args.rule (row_in c.at-seen.result.now).out c.args.reached.cost n (labels_of c.args.self.now.frontier) (labels_of c.follow.new.frontier)) place
-    (subst (λ (es : List Entry). AreFollowed c.args.rule es c.args.reached.cost c.len-place.result (labels_of c.args.self.now.frontier) (labels_of c.follow.new.frontier)) out c.in_ok-follow.ensures)
+    let place : c.len.result ≡ length c.args.self.now.steps.items = omega (arith, c.len.ensures, c.args.self.now.steps.ok) in
+    subst (λ (b : Option ℕ). AreFollowed c.args.rule (row_in c.at-seen.result.now).out c.args.reached.cost b (labels_of c.args.self.now.frontier) (labels_of c.follow.new.frontier)) (c.at-before.ensures ∙ ap (λ (n : ℕ). Some n) place)
+    (subst (λ (es : List Entry). AreFollowed c.args.rule es c.args.reached.cost c.at-before.result (labels_of c.args.self.now.frontier) (labels_of c.follow.new.frontier)) out c.in_ok-follow.ensures)
 
 pub returns-clause-tree : goal.returns-clause-tree
 returns-clause-tree g c =
@@ -54,7 +54,7 @@ returns-clause-tree g c =
     (λ k t is e. c.requires.new k t is (e ∙ ap (λ (s : Seen). s.node) c.of.ensures ∙ answer.node))
     (ap (λ (s : Seen). (row_in s).rank) c.of.ensures ∙ unranked g c)
     (subst (λ (s : Seen). (v : ℕ) (d : Cost) → Lists (row_in s).out v d → IsOfWalks 1 d) (sym c.of.ensures) (entries_light _ c.at-seen.result.now answer.limit answer.row))
-    (subst (λ (s : Seen). AreFollowed c.args.rule (row_in s).out c.args.reached.cost (length c.args.self.now.steps.items) (labels_of c.args.self.now.frontier) (labels_of c.follow.new.frontier)) (sym c.of.ensures) (followed g c)))
+    (subst (λ (s : Seen). AreFollowed c.args.rule (row_in s).out c.args.reached.cost (Some (length c.args.self.now.steps.items)) (labels_of c.args.self.now.frontier) (labels_of c.follow.new.frontier)) (sym c.of.ensures) (followed g c)))
 
 pub returns-clause-later : goal.returns-clause-later
 returns-clause-later g c =
@@ -65,7 +65,7 @@ pub returns-clause-whole : goal.returns-clause-whole
 returns-clause-whole g c = λ named all.
     let seen = c.at-seen.result.now in
     let now = c.in_ok-kept_at.ensures.names (all c.args.reached.node _ c.requires.label) named seen.node seen (there g c).0 in
-    names_kept c.args.rule (g.S.RowSource.whole c.args.source.now) (g.S.RowSource.whole c.read.new.source) (λ v h. g.met.S.RowSource.still_whole c.args.source.now c.read.new.source v c.in_ok-kept_at.ensures.stays h) (row_in seen) c.args.reached.cost (length c.args.self.now.steps.items) (labels_of c.args.self.now.frontier) (labels_of c.follow.new.frontier) now all (followed g c)
+    names_kept c.args.rule (g.S.RowSource.whole c.args.source.now) (g.S.RowSource.whole c.read.new.source) (λ v h. g.met.S.RowSource.still_whole c.args.source.now c.read.new.source v c.in_ok-kept_at.ensures.stays h) (row_in seen) c.args.reached.cost (Some (length c.args.self.now.steps.items)) (labels_of c.args.self.now.frontier) (labels_of c.follow.new.frontier) now all (followed g c)
 
 pub returns-clause-gone : goal.returns-clause-gone
 returns-clause-gone g c = (

@@ -1,0 +1,49 @@
+ghost use Rattle.std.specs.Prelude.{◌≡◌, ◌-◌, ◌<◌, ◌^◌, Some};
+
+use std::marker::Model;
+
+/// The place of the step that a way goes on from, or none at the start: an `Option<usize>` in 4 bytes, since a search has
+/// fewer than 2^32 steps.
+#[derive(Clone, Copy)]
+pub struct Before {
+    // The place, or the greatest number for none.
+    number: u32,
+}
+
+impl Model for Before {
+    ghost use Rattle.std.specs.Prelude.{Option, ℕ};
+    ghost use Rattle.ch_witness.specs.Before.{inside_of, number_of, place_in};
+
+    ghost Value = { Option ℕ };
+
+    ghost view = { λ b. place_in b.number };
+
+    ghost inverse = { λ b. record { number = number_of b } };
+
+    ghost inverse_ok = { λ a _. inside_of a };
+}
+
+impl Before {
+    /// The start has no step before it.
+    pub const NONE: Before = Before { number: u32::MAX };
+
+    /// The step at a place below 2^32 - 1.
+    pub fn at(place: usize) -> Before
+        requires { place < 2 ^ 32 - 1 }
+        ensures { result ≡ Some place }
+    {
+        Before {
+            number: place as u32,
+        }
+    }
+
+    /// The place, or none.
+    pub fn place(self) -> Option<usize>
+        ensures { result ≡ self }
+    {
+        if self.number == u32::MAX {
+            return None;
+        }
+        Some(self.number as usize)
+    }
+}
