@@ -168,7 +168,7 @@ no_later-settled {d} {c} w before higher = at_most-from_below (below-from_length
   | inr as_long ↦ absurd (omega (arith, higher, before.rank (omega (arith, as_long, before.length))))
 ]))
 
--- A climb is better than what is known where it costs less, or nothing is known
+-- A climb is better than a label where it costs less
 pub better_than : (m : Mark) (c known : Cost) → ((e : Label) → m ≡ Settled e → e.cost ≼ c) → Some known ≡ option_cost (label_in m) → (c ≺ known) ↔ Improves c m
 better_than Unseen c known latest is = absurd (cc)
 better_than (Open e) c known latest is =
@@ -177,11 +177,6 @@ better_than (Open e) c known latest is =
 better_than (Settled e) c known latest is =
     let same : known ≡ e.cost = cc in
     (λ below. below_not_at_most (subst (λ (d : Cost). c ≺ d) same below) (latest e refl), λ improves. absurd improves)
-
-pub better_than_none : (m : Mark) (c : Cost) → None ≡ option_cost (label_in m) → Improves c m
-better_than_none Unseen c is = tt
-better_than_none (Open e) c is = absurd (cc)
-better_than_none (Settled e) c is = absurd (cc)
 
 -- Marks as they are kept
 

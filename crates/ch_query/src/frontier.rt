@@ -7,7 +7,7 @@ ghost use Rattle.ch_query.specs.declared.mark.Mark.TheVariants.{Unseen, Open, Se
 
 use crate::kept_mark::KeptMark;
 use crate::label::Label;
-use crate::limit::{is_cheaper, is_up_to};
+use crate::limit::is_up_to;
 use crate::mark::Mark;
 use ch_cost::Cost;
 use std::alloc::{AllocError, Global};
@@ -108,10 +108,7 @@ impl Frontier {
         requires settled { IsSettledAtMost self.now rank cost }
         ensures { IsTrue result ↔ Improves cost (mark_at self.now rank) }
     {
-        match self.cost(rank) {
-            Some(known) => is_cheaper(cost, known),
-            None => true,
-        }
+        self.marks[rank as usize].is_improved_by(cost)
     }
 
     /// Opens the node of a rank with a label that is better than what is known of it.

@@ -1,8 +1,11 @@
-ghost use Rattle.std.specs.Prelude.{◌≡◌};
-ghost use Rattle.ch_query.specs.Marks.{mark_in};
+ghost use Rattle.std.specs.Prelude.{◌≡◌, ◌↔◌, IsTrue};
+ghost use Rattle.ch_cost.specs.Cost.{◌≼◌};
+ghost use Rattle.ch_query.specs.Marks.{mark_in, Improves};
+ghost use Rattle.ch_query.specs.declared.label.Label.{Label};
 ghost use Rattle.ch_query.specs.declared.mark.Mark.TheVariants.{Unseen, Open, Settled};
 
 use crate::label::Label;
+use crate::limit::is_cheaper;
 use crate::mark::Mark;
 use ch_cost::Cost;
 
@@ -73,5 +76,16 @@ impl KeptMark {
             State::Open => Mark::Open(label),
             State::Settled => Mark::Settled(label),
         }
+    }
+    /// Whether a climb of this cost is better than what is known. For a settled node it costs at least what the label does,
+    /// so that open and settled ones need not be told apart.
+    pub fn is_improved_by(&self, cost: Cost) -> bool
+        requires { (e : Label) → mark_in self.now ≡ Settled e → e.cost ≼ cost }
+        ensures { IsTrue result ↔ Improves cost (mark_in self.now) }
+    {
+        if let State::Unseen = self.state {
+            return true;
+        }
+        is_cheaper(cost, self.cost)
     }
 }
