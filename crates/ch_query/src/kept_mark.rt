@@ -1,11 +1,8 @@
-ghost use Rattle.std.specs.Prelude.{◌≡◌, ◌↔◌, IsTrue};
-ghost use Rattle.ch_cost.specs.Cost.{◌≼◌};
-ghost use Rattle.ch_query.specs.Marks.{mark_in, Improves};
-ghost use Rattle.ch_query.specs.declared.label.Label.{Label};
-ghost use Rattle.ch_query.specs.declared.mark.Mark.TheVariants.{Unseen, Open, Settled};
+ghost use Rattle.std.specs.Prelude.{◌≡◌, ◌-◌, ◌^◌};
+ghost use Rattle.ch_cost.specs.Cost.{length_of};
+ghost use Rattle.ch_query.specs.declared.kept_mark.State.TheVariants.{Unseen as not_seen};
 
 use crate::label::Label;
-use crate::limit::is_cheaper;
 use crate::mark::Mark;
 use ch_cost::Cost;
 
@@ -20,22 +17,29 @@ pub enum State {
     Settled,
 }
 
-/// A mark in 24 bytes, as a long list has it: whatever the state there is room for a label, which has no meaning where
-/// the node is unseen.
+/// A mark in 24 bytes, as a long list has it: whatever the state there is room for a label. Where the node is unseen its
+/// length is the greatest number, so that of most climbs the lengths alone tell that they are no better.
 #[derive(Clone, Copy)]
 pub struct KeptMark {
     cost: Cost,
     foot: u32,
     state: State,
+    ghost far: { state ≡ not_seen → length_of cost ≡ 2 ^ 64 - 1 },
 }
 
 impl KeptMark {
+    ghost use Rattle.std.specs.Prelude.{◌↔◌, IsTrue};
+    ghost use Rattle.ch_cost.specs.Cost.{◌≼◌};
+    ghost use Rattle.ch_query.specs.Marks.{mark_in, Improves};
+    ghost use Rattle.ch_query.specs.declared.label.Label.{Label};
+    ghost use Rattle.ch_query.specs.declared.mark.Mark.TheVariants.{Unseen, Open, Settled};
+
     /// The mark of a node that isn't seen.
     pub fn unseen() -> KeptMark
         ensures { mark_in result ≡ Unseen }
     {
         KeptMark {
-            cost: Cost::ZERO,
+            cost: Cost::of_walk(u64::MAX, 0),
             foot: 0,
             state: State::Unseen,
         }
@@ -83,9 +87,12 @@ impl KeptMark {
         requires { (e : Label) → mark_in self.now ≡ Settled e → e.cost ≼ cost }
         ensures { IsTrue result ↔ Improves cost (mark_in self.now) }
     {
+        if cost.length() > self.cost.length() {
+            return false;
+        }
         if let State::Unseen = self.state {
             return true;
         }
-        is_cheaper(cost, self.cost)
+        cost.is_below(self.cost)
     }
 }

@@ -1,5 +1,5 @@
 ghost use Rattle.std.specs.Prelude.{◌↔◌, IsTrue};
-ghost use Rattle.ch_cost.specs.Cost.{IsNoLonger, ◌≺◌};
+ghost use Rattle.ch_cost.specs.Cost.{IsNoLonger};
 ghost use Rattle.ch_query.specs.Labels.{IsShortLimit, CountsBelow};
 ghost use Rattle.ch_query.specs.Marks.{IsBelow, IsUpTo};
 
@@ -14,16 +14,6 @@ pub fn is_below(cost: Cost, limit: Option<Cost>) -> bool
         Some(limit) => cost.is_below(limit),
         None => true,
     }
-}
-
-/// Whether a climb is cheaper than what is known. Most are longer, so the lengths are compared first.
-pub fn is_cheaper(cost: Cost, known: Cost) -> bool
-    ensures { IsTrue result ↔ (cost ≺ known) }
-{
-    if cost.length() > known.length() {
-        return false;
-    }
-    cost.is_below(known)
 }
 
 /// Whether a length is at most that of a limit, if there is one.
