@@ -94,11 +94,7 @@ impl MultiQueue {
         ensures back { IfErr result (λ refused. refused ≡ item) }
     {
         let place = pass.draw(self.heaps());
-        if let Err(_refused) = pass.reserve_put() {
-            return Err(item);
-        }
-        let mut heap = self.heaps[place].lock(rt);
-        pass.put_into(&mut *heap, item)
+        pass.put_behind(rt, &self.heaps[place], item)
     }
 
     /// Takes an item out: the better top of two heaps that the pass draws, or any top where those have none. None
@@ -107,17 +103,16 @@ impl MultiQueue {
     /// Draws two words, always. The tops are looked at one after the other, each under its heap's lock, and the better
     /// heap gives its top as it is when it is locked again; of two equal tops the first drawn counts. Where both
     /// heaps were empty, or the better one has become empty since, the heaps are gone through once from the first, and
-    /// the first top found is taken. Takes memory for the account of the pass, before any lock; where it is refused, the
-    /// queue and the account are unchanged.
+    /// the first top found is taken. Takes memory for the account of the pass, before it locks a heap to take from; where it
+    /// is refused, the queue and the account are unchanged.
     pub fn pop<R: Wait>(&self, rt: &R, pass: &mut Pass) -> Result<Option<Item>, AllocError>
         ensures taken { IfOk result (λ answer. pass.new ≡ having_taken answer (moved_on (moved_on pass.old))) }
         ensures refused { OnErr result (pass.new ≡ moved_on (moved_on pass.old)) }
     {
         let first = pass.draw(self.heaps());
         let second = pass.draw(self.heaps());
-        pass.reserve_taken()?;
         if let Some(place) = self.choose(rt, first, second) {
-            if let Some(item) = self.take_from(rt, pass, place)? {
+            if let Some(item) = pass.take_behind(rt, &self.heaps[place])? {
                 return Ok(Some(item));
             }
         }
@@ -170,21 +165,6 @@ impl MultiQueue {
         self.heaps[place].lock(rt).top()
     }
 
-    /// Takes the top of a heap, under its lock, and into the account of a pass.
-    fn take_from<R: Wait>(
-        &self,
-        rt: &R,
-        pass: &mut Pass,
-        place: usize,
-    ) -> Result<Option<Item>, AllocError>
-        requires { place < self.now.heaps }
-        ensures taken { IfOk result (λ answer. pass.new ≡ having_taken answer pass.old) }
-        ensures refused { OnErr result (pass.new ≡ pass.old) }
-    {
-        let mut heap = self.heaps[place].lock(rt);
-        pass.take_from(&mut *heap)
-    }
-
     /// Goes through the heaps once, from the first, and takes the first top that is found. None where each heap was
     /// found empty.
     fn take_first_found<R: Wait>(&self, rt: &R, pass: &mut Pass) -> Result<Option<Item>, AllocError>
@@ -192,7 +172,7 @@ impl MultiQueue {
         ensures refused { OnErr result (pass.new ≡ pass.old) }
     {
         'heaps: for place in 0..self.heaps() {
-            if let Some(item) = self.take_from(rt, pass, place)? {
+            if let Some(item) = pass.take_behind(rt, &self.heaps[place])? {
                 return Ok(Some(item));
             }
         }

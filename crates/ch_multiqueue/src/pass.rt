@@ -1,4 +1,4 @@
-ghost use Rattle.std.specs.Prelude.{◌≡◌, ◌%◌, ◌<◌, ◌≤◌, [], ◌∷◌, IfErr, IfNone, IfOk, IfSome, IsPermutation, OnErr, OnOk};
+ghost use Rattle.std.specs.Prelude.{◌≡◌, ◌%◌, ◌<◌, ◌≤◌, ◌++◌, [], ◌∷◌, IfErr, IfNone, IfOk, IfSome, IsPermutation, OnErr, OnOk, vec_len, vec_capacity};
 ghost use Rattle.ch_multiqueue.specs.Items.{IsLeastOf};
 ghost use Rattle.ch_multiqueue.specs.Passes.{pass_of, word, moved_on, having_put, having_taken};
 
@@ -8,6 +8,7 @@ use rand_core::utils::NextWord;
 use rand_pcg::Pcg32;
 use std::alloc::{AllocError, Global};
 use std::marker::Model;
+use std::sync::{Mutex, Wait};
 
 /// What a thread needs to push into a queue and to pop from it: a number of its own, a generator of random words, and
 /// the account of what went through it.
@@ -76,53 +77,65 @@ impl Pass {
         self.generator.next_word() as usize % heaps
     }
 
-    /// Makes room in the account for one more item that is put, so that `put_into` takes no memory for it.
-    pub(crate) fn reserve_put(&mut self) -> Result<(), AllocError>
-        ensures { self.new ≡ self.old }
-    {
-        self.put.reserve(1)
-    }
-
-    /// Makes room in the account for one more item that is taken, so that `take_from` takes no memory.
-    pub(crate) fn reserve_taken(&mut self) -> Result<(), AllocError>
-        ensures { self.new ≡ self.old }
-    {
-        self.taken.reserve(1)
-    }
-
-    /// Puts an item into a heap, and into the account. Refused only for memory: the item is handed back then, and heap
-    /// and pass stay as they were.
-    pub(crate) fn put_into(&mut self, heap: &mut Heap, item: Item) -> Result<(), Item>
-        ensures heap { OnOk result (IsPermutation (item ∷ heap.old) heap.new) }
-        ensures account { OnOk result (self.new ≡ having_put item self.old) }
+    /// Puts an item into the heap behind a lock, and into the account. Refused only for memory: the item is handed back
+    /// then, and the account stays as it was. Under the lock it takes memory for the heap alone.
+    pub(crate) fn put_behind<R: Wait>(
+        &mut self,
+        rt: &R,
+        heap: &Mutex<Heap>,
+        item: Item,
+    ) -> Result<(), Item>
+        ensures put { OnOk result (self.new ≡ having_put item self.old) }
+        ensures refused { OnErr result (self.new ≡ self.old) }
         ensures back { IfErr result (λ refused. refused ≡ item) }
-        ensures heap_stays { OnErr result (heap.new ≡ heap.old) }
-        ensures stays { OnErr result (self.new ≡ self.old) }
     {
         if let Err(_refused) = self.put.reserve(1) {
             return Err(item);
         }
-        heap.put(item)?;
-        self.put.push_reserved(item);
-        Ok(())
+        put_into(&mut *heap.lock(rt), &mut self.put, item)
     }
 
-    /// Takes the least item out of a heap, and into the account; nothing where the heap is empty. Where memory is
-    /// refused, heap and pass stay as they were.
-    pub(crate) fn take_from(&mut self, heap: &mut Heap) -> Result<Option<Item>, AllocError>
-        ensures some { IfOk result (λ answer. IfSome answer (λ item. IsPermutation heap.old (item ∷ heap.new))) }
-        ensures least { IfOk result (λ answer. IfSome answer (λ item. IsLeastOf heap.old item)) }
-        ensures none { IfOk result (λ answer. IfNone answer (heap.old ≡ [])) }
-        ensures empty { IfOk result (λ answer. IfNone answer (heap.new ≡ [])) }
-        ensures account { IfOk result (λ answer. self.new ≡ having_taken answer self.old) }
-        ensures heap_stays { OnErr result (heap.new ≡ heap.old) }
-        ensures stays { OnErr result (self.new ≡ self.old) }
+    /// Takes the least item out of the heap behind a lock, and into the account; nothing where the heap is empty. Takes
+    /// memory for the account, before the lock; where it is refused, heap and account stay as they were.
+    pub(crate) fn take_behind<R: Wait>(
+        &mut self,
+        rt: &R,
+        heap: &Mutex<Heap>,
+    ) -> Result<Option<Item>, AllocError>
+        ensures taken { IfOk result (λ answer. self.new ≡ having_taken answer self.old) }
+        ensures refused { OnErr result (self.new ≡ self.old) }
     {
         self.taken.reserve(1)?;
-        let Some(item) = heap.take() else {
-            return Ok(None);
-        };
-        self.taken.push_reserved(item);
-        Ok(Some(item))
+        Ok(take_into(&mut *heap.lock(rt), &mut self.taken))
     }
+}
+
+/// Puts an item into a heap, and into a list that has room for it. Refused only for memory: the item is handed back then,
+/// and heap and list stay as they were.
+fn put_into(heap: &mut Heap, list: &mut Vec<Item>, item: Item) -> Result<(), Item>
+    requires room { vec_len list.old < vec_capacity list.old }
+    ensures heap { OnOk result (IsPermutation (item ∷ heap.old) heap.new) }
+    ensures list { OnOk result (list.new.items ≡ list.old.items ++ item ∷ []) }
+    ensures back { IfErr result (λ refused. refused ≡ item) }
+    ensures heap_stays { OnErr result (heap.new ≡ heap.old) }
+    ensures list_stays { OnErr result (list.new ≡ list.old) }
+{
+    heap.put(item)?;
+    list.push_reserved(item);
+    Ok(())
+}
+
+/// Takes the least item out of a heap, and into a list that has room for it; nothing where the heap is empty.
+fn take_into(heap: &mut Heap, list: &mut Vec<Item>) -> Option<Item>
+    requires room { vec_len list.old < vec_capacity list.old }
+    ensures some { IfSome result (λ item. IsPermutation heap.old (item ∷ heap.new)) }
+    ensures least { IfSome result (λ item. IsLeastOf heap.old item) }
+    ensures none { IfNone result (heap.old ≡ []) }
+    ensures empty { IfNone result (heap.new ≡ []) }
+    ensures list { IfSome result (λ item. list.new.items ≡ list.old.items ++ item ∷ []) }
+    ensures list_stays { IfNone result (list.new ≡ list.old) }
+{
+    let item = heap.take()?;
+    list.push_reserved(item);
+    Some(item)
 }

@@ -7,9 +7,6 @@ returns-clause-refused g c = search rules
 pub returns-in_err-item-clause-refused : goal.returns-in_err-item-clause-refused
 returns-in_err-item-clause-refused g c = search rules
 
-pub returns-in_err-reserve_taken-clause-refused : goal.returns-in_err-reserve_taken-clause-refused
-returns-in_err-reserve_taken-clause-refused g c = search rules
-
 pub returns-clause-taken : goal.returns-clause-taken
 returns-clause-taken g c = search rules
 
