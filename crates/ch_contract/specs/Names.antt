@@ -1,4 +1,4 @@
--- What is shown of an error: the variant's name.
+-- What is shown of an error: the variant's name. And the number of one.
 use Rattle.std.specs.Prelude.{ℕ, List, codes}
 use Rattle.ch_contract.specs.declared.error.CommitError.{CommitError}
 use Rattle.ch_contract.specs.declared.error.CommitError.TheVariants as commit
@@ -19,6 +19,13 @@ commit_error_name commit.Contracted = codes "Contracted"
 commit_error_name (commit.Stale _ _ _ _) = codes "Stale"
 commit_error_name commit.OutOfMemory = codes "OutOfMemory"
 commit_error_name commit.Slot = codes "Slot"
+
+-- 3 isn't used again
+abbrev pub commit_error_number : CommitError → ℕ
+commit_error_number commit.Contracted = 1
+commit_error_number (commit.Stale _ _ _ _) = 2
+commit_error_number commit.OutOfMemory = 4
+commit_error_number commit.Slot = 5
 
 abbrev pub sweep_error_name : SweepError → List ℕ
 sweep_error_name sweep.OutOfMemory = codes "OutOfMemory"

@@ -158,11 +158,12 @@ impl<S: Site> Board<S> {
     /// Contracts the node of a proposal, whose rows are still the board's, and answers a receipt.
     ///
     /// The proposal was made by the board itself or by a reader of its book. Refused, in this order, where the node is
-    /// contracted already, where a row that the proposal rests on has another version now, for want of memory, and where
-    /// the book gives a place that isn't above the earlier ones (`Slot`). The board is then as it was. No row is
-    /// compared: an answer of the book whose version is current has the current row. The new rows are all laid, first
-    /// the node's and then those of its neighbours by rising number, before the first is shown, in that order. Takes
-    /// memory for the rows that change, and waits while another thread makes room for records.
+    /// contracted already, where a row that the proposal rests on has another version now, and for want of memory or
+    /// where the book gives a place that isn't above the earlier ones (`Slot`), whichever comes first: memory is asked for
+    /// the new rows, then for the record of each row before it has its place, and last for a list of these places. The
+    /// board is then as it was. No row is compared: an answer of the book whose version is current has the current row.
+    /// The new rows are all laid, first the node's and then those of its neighbours by rising number, before the first is
+    /// shown, in that order. Takes memory for the rows that change, and waits while another thread makes room for records.
     pub fn commit<R: Wait>(&mut self, rt: &R, proposal: Proposal) -> Result<Receipt, CommitError>
         requires of_book { All (IsOfBook S.book) proposal.rests_on }
         requires bound { proposal.bound ≡ S.book.bound }

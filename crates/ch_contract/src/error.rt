@@ -1,7 +1,7 @@
 ghost use Rattle.std.specs.Prelude.{◌≡◌, ◌≢◌, ◌↔◌, Some};
 ghost use Rattle.ch_overlay.specs.declared.source.SeeError.TheVariants as see;
 ghost use Rattle.ch_witness.specs.declared.error.SearchError.TheVariants as search;
-ghost use Rattle.ch_contract.specs.Names.{commit_error_name, finish_error_name, propose_error_name, sweep_error_name};
+ghost use Rattle.ch_contract.specs.Names.{commit_error_name, commit_error_number, finish_error_name, propose_error_name, sweep_error_name};
 ghost use Rattle.ch_contract.specs.declared.error.ProposeError.TheVariants as propose;
 ghost use Rattle.ch_contract.specs.declared.error.SweepError.TheVariants.{OutOfMemory};
 
@@ -23,6 +23,8 @@ pub enum ProposeError {
 }
 
 /// Why a proposal wasn't committed. The board is as it was.
+///
+/// Since `Stale` says more than its name, the numbers aren't those of `as`, but those of [`CommitError::number`].
 #[derive(Clone, Copy, Debug, PartialEq, Eq)]
 pub enum CommitError {
     /// The node is contracted already.
@@ -97,6 +99,21 @@ impl fmt::Display for ProposeError {
 }
 
 impl Error for ProposeError {}
+
+impl CommitError {
+    /// The number of the error: 1, 2, 4 and 5, in the order of the variants. 3 had an error that doesn't come any more,
+    /// and isn't used again.
+    pub fn number(self) -> u8
+        ensures { result ≡ commit_error_number self }
+    {
+        match self {
+            CommitError::Contracted => 1,
+            CommitError::Stale { .. } => 2,
+            CommitError::OutOfMemory => 4,
+            CommitError::Slot => 5,
+        }
+    }
+}
 
 impl fmt::Display for CommitError {
     ghost output = { λ e. Some (commit_error_name e) };

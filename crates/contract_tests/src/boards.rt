@@ -410,3 +410,22 @@ fn nodes_left(rt: HostRuntime) -> Result<(), Fail> {
     assert!(rt; has_nodes_left::<Brand, HostRuntime>(&rt, alloc, blank, graph)?);
     Ok(())
 }
+
+#[test]
+fn commit_errors_by_number(rt: HostRuntime) {
+    let stale = CommitError::Stale {
+        node: 0,
+        seen: 0,
+        now: 3,
+        front: 1,
+    };
+    let errors = [
+        (CommitError::Contracted, 1u8),
+        (stale, 2),
+        (CommitError::OutOfMemory, 4),
+        (CommitError::Slot, 5),
+    ];
+    for (error, number) in errors {
+        assert!(rt; error.number() == number);
+    }
+}
