@@ -40,14 +40,14 @@ word_set words n wide = get_or-set_same words 0 n 0 (omega (arith, wide))
 bounded : (views : List Known) (w : Known) (sum : ℕ) → get_elem? views 0 ≡ some w → sum ≤ w.bound → (u : Known) → get_elem? views 0 ≡ some u → sum ≤ u.bound
 bounded views w sum is h u at = subst (λ (x : Known). sum ≤ x.bound) (some-injective w u (sym is ∙ at)) h
 
-pub adding : (slots made : ℕ) → made < 4294967295 → Allows Keeps slots 0 (known made 0, []) 0 (λ n. (n + 1) % 2 ^ 64) (adds (step slots 0 1 0 option.none) (known made 0, []))
-adding slots made few s k homes at room =
+pub adding : (slots made : ℕ) → Allows Keeps slots 0 (known made 0, []) 0 (λ n. (n + 1) % 2 ^ 64) (adds (step slots 0 1 0 option.none) (known made 0, []))
+adding slots made s k homes at room =
     let w : Known = known (made + 1) 1 in
     let found : ℕ = slice_index s.words 0 in
     let sum : all_out (set s.views 0 w) + 0 ≡ all_out s.views + 1 = out-set s.views 0 (known made 0) w at in
-    let counts : found ≡ all_out s.views = k.counts in
+    let counts : found ≡ all_out s.views % 2 ^ 64 = k.counts in
     let below : all_out s.views ≤ made = k.below (known made 0) at in
-    let more : (found + 1) % 2 ^ 64 ≡ all_out (set s.views 0 w) = omega (arith, sum, counts, below, few) in
+    let more : (found + 1) % 2 ^ 64 ≡ all_out (set s.views 0 w) % 2 ^ 64 = omega (arith, sum, counts) in
     let least : all_out (set s.views 0 w) ≤ made + 1 = omega (arith, sum, below) in (
       w,
       keeps,
@@ -65,8 +65,8 @@ giving slots id s k homes at room =
     let w : Known = known 0 0 in
     let found : ℕ = slice_index s.words 0 in
     let sum : all_out (set s.views id w) + 1 ≡ all_out s.views + 0 = out-set s.views id (known 0 1) w at in
-    let counts : found ≡ all_out s.views = k.counts in
-    let less : (found + (2 ^ 64 - 1)) % 2 ^ 64 ≡ all_out (set s.views id w) = omega (arith, sum, counts, room) in
+    let counts : found ≡ all_out s.views % 2 ^ 64 = k.counts in
+    let less : (found + (2 ^ 64 - 1)) % 2 ^ 64 ≡ all_out (set s.views id w) % 2 ^ 64 = omega (arith, sum, counts) in
     let below : (u : Known) → get_elem? (set s.views id w) 0 ≡ some u → all_out (set s.views id w) ≤ u.bound = λ u there. ⊎_elim
     (λ here. let low = k.below (known 0 1) (subst (λ (j : ℕ). get_elem? s.views j ≡ some (known 0 1)) (sym here.0) at) in absurd (omega (arith, sum, low)))
     (λ other. let low = k.below u other.1 in omega (arith, sum, low)) (at_set s.views id 0 w u there) in (
@@ -81,17 +81,18 @@ giving slots id s k homes at room =
       refl,
     )
 
-pub finding : (slots made : ℕ) → Allows Keeps slots 0 (known made 0, []) 0 (λ n. n) (finds (step slots 0 0 0 option.none) (known made 0, []))
-finding slots made s k homes at room =
+pub finding : (slots made : ℕ) → made < 2 ^ 64 → Allows Keeps slots 0 (known made 0, []) 0 (λ n. n) (finds (step slots 0 0 0 option.none) (known made 0, []))
+finding slots made few s k homes at room =
     let found : ℕ = slice_index s.words 0 in
-    let counts : found ≡ all_out s.views = k.counts in
+    let counts : found ≡ all_out s.views % 2 ^ 64 = k.counts in
     let words : set s.words 0 found ≡ s.words = set-get_or s.words 0 0 in
+    let whole : found ≡ all_out s.views = let low = k.below (known made 0) at in omega (arith, counts, low, few) in
     elim (cases_eq found 0) [
       | inl none ↦
           let w : Known = known 0 0 in
           let sum : all_out (set s.views 0 w) + 0 ≡ all_out s.views + 0 = out-set s.views 0 (known made 0) w at in
-          let here : found ≡ all_out (set s.views 0 w) = omega (arith, sum, counts) in
-          let least : all_out (set s.views 0 w) ≤ 0 = omega (arith, here, none) in (
+          let here : found ≡ all_out (set s.views 0 w) % 2 ^ 64 = omega (arith, sum, counts) in
+          let least : all_out (set s.views 0 w) ≤ 0 = omega (arith, sum, whole, none) in (
             w,
             keeps,
             tt,
@@ -107,7 +108,7 @@ finding slots made s k homes at room =
           let views : set s.views 0 w ≡ s.views = set_again s.views 0 w at in
           let sum : all_out (set s.views 0 w) ≡ all_out s.views = ap all_out views in
           let low : all_out s.views ≤ made = k.below w at in
-          let here : found ≡ all_out (set s.views 0 w) = omega (arith, sum, counts) in
+          let here : found ≡ all_out (set s.views 0 w) % 2 ^ 64 = omega (arith, sum, counts) in
           let least : all_out (set s.views 0 w) ≤ made = omega (arith, sum, low) in (
             w,
             keeps,
@@ -133,7 +134,7 @@ handing bound s k at =
     let first : get_elem? views 0 ≡ some left = at_longer (set s.views 0 left) (right ∷ []) 0 left (first_set s.views (known bound 1) left at) in
     record {
       wide = k.wide;
-      counts = k.counts ∙ sym sum;
+      counts = k.counts ∙ ap (λ (n : ℕ). n % 2 ^ 64) (sym sum);
       below = bounded views left (all_out views) first (omega (arith, sum, low));
     }
 
@@ -150,7 +151,7 @@ meeting made other s k at apart there =
     let first : get_elem? views 0 ≡ some both = set_else met other 0 spent (λ e. apart (sym e)) ∙ first_set s.views (known made 0) both at in
     record {
       wide = k.wide;
-      counts = k.counts ∙ sym sum;
+      counts = k.counts ∙ ap (λ (n : ℕ). n % 2 ^ 64) (sym sum);
       below = bounded views both (all_out views) first (omega (arith, sum, low));
     }
 
@@ -166,18 +167,18 @@ never slots s k homes at room =
 abbrev Mine : Type 0
 Mine = Me (Unit {0}) Known
 
-pub adding_as : (slots id made : ℕ) (me : Mine) → id ≡ 0 → me ≡ (known made 0, []) → made < 4294967295 → Allows Keeps slots id me 0 (λ n. (n + 1) % 2 ^ 64) (adds (step slots 0 1 0 option.none) me)
-adding_as slots id made me first knows few =
+pub adding_as : (slots id made : ℕ) (me : Mine) → id ≡ 0 → me ≡ (known made 0, []) → Allows Keeps slots id me 0 (λ n. (n + 1) % 2 ^ 64) (adds (step slots 0 1 0 option.none) me)
+adding_as slots id made me first knows =
     subst (λ (i : ℕ). Allows Keeps slots i me 0 (λ n. (n + 1) % 2 ^ 64) (adds (step slots 0 1 0 option.none) me)) (sym first)
-    (subst (λ (m : Mine). Allows Keeps slots 0 m 0 (λ n. (n + 1) % 2 ^ 64) (adds (step slots 0 1 0 option.none) m)) (sym knows) (adding slots made few))
+    (subst (λ (m : Mine). Allows Keeps slots 0 m 0 (λ n. (n + 1) % 2 ^ 64) (adds (step slots 0 1 0 option.none) m)) (sym knows) (adding slots made))
 
 pub giving_as : (slots id : ℕ) (me : Mine) → me ≡ (known 0 1, []) → Allows Keeps slots id me 0 (λ n. (n + (2 ^ 64 - 1)) % 2 ^ 64) (gives (step slots 0 1 0 option.none) me)
 giving_as slots id me knows = subst (λ (m : Mine). Allows Keeps slots id m 0 (λ n. (n + (2 ^ 64 - 1)) % 2 ^ 64) (gives (step slots 0 1 0 option.none) m)) (sym knows) (giving slots id)
 
-pub finding_as : (slots id made : ℕ) (me : Mine) → id ≡ 0 → me ≡ (known made 0, []) → Allows Keeps slots id me 0 (λ n. n) (finds (step slots 0 0 0 option.none) me)
-finding_as slots id made me first knows =
+pub finding_as : (slots id made : ℕ) (me : Mine) → id ≡ 0 → me ≡ (known made 0, []) → made < 2 ^ 64 → Allows Keeps slots id me 0 (λ n. n) (finds (step slots 0 0 0 option.none) me)
+finding_as slots id made me first knows few =
     subst (λ (i : ℕ). Allows Keeps slots i me 0 (λ n. n) (finds (step slots 0 0 0 option.none) me)) (sym first)
-    (subst (λ (m : Mine). Allows Keeps slots 0 m 0 (λ n. n) (finds (step slots 0 0 0 option.none) m)) (sym knows) (finding slots made))
+    (subst (λ (m : Mine). Allows Keeps slots 0 m 0 (λ n. n) (finds (step slots 0 0 0 option.none) m)) (sym knows) (finding slots made few))
 
 pub handing_as : (id bound : ℕ) (v : Known) → id ≡ 0 → v ≡ known bound 1 → Splits Keeps id v (known v.bound (v.out - 1)) (known 0 1)
 handing_as id bound v first knows =

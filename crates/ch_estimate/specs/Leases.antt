@@ -1,5 +1,5 @@
 -- Leases: the count of those that are out, and what the holders of its seats know.
-use Rattle.std.specs.Prelude.{ℕ, ◌≡◌, ◌≢◌, ◌+◌, ◌-◌, ◌≤◌, List, [], ◌∷◌, length, slice_index}
+use Rattle.std.specs.Prelude.{ℕ, ◌≡◌, ◌≢◌, ◌+◌, ◌-◌, ◌%◌, ◌^◌, ◌<◌, ◌≤◌, List, [], ◌∷◌, length, slice_index}
 use mathlib.Core.Option.{some}
 use lib.ListN.{get_elem?}
 use Rattle.atomic_table.specs.Table.{State, Me, Step}
@@ -24,10 +24,11 @@ abbrev pub all_out : List Known → ℕ
 all_out [] = 0
 all_out (v ∷ views) = v.out + all_out views
 
--- The rule: there is one word, which is the sum of what the views have of it, and the first seat's view bounds it.
+-- The rule: there is one word, which is the sum of what the views have of it, as far as 64 bits tell, and the first seat's
+-- view bounds that sum.
 pub record Keeps (s : State (Unit {0}) Known) : Type 0 where
   pub wide : length s.words ≡ 1
-  pub counts : slice_index s.words 0 ≡ all_out s.views
+  pub counts : slice_index s.words 0 ≡ all_out s.views % 2 ^ 64
   pub below : (v : Known) → get_elem? s.views 0 ≡ some v → all_out s.views ≤ v.bound
 
 -- one more is counted
@@ -54,3 +55,7 @@ pub record IsOut (count : CountId) (seat : Seat (Unit {0}) Known) : Type 0 where
   pub words : count.words ≡ 1
   pub of : seat.table_id ≡ count
   pub knows : seat.me ≡ (known 0 1, [])
+
+-- as long as it is less than 2^64 - 1, the number is that of the leases; else there are that many or more
+abbrev pub Tells : ℕ → ℕ → Type 0
+Tells made out = made < 18446744073709551615 → out ≡ made

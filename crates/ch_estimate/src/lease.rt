@@ -11,32 +11,29 @@ use std::sync::{Arc, Wait};
 /// The word that counts the leases that are out.
 type Count = Table<(), Known, (), Counted, Global>;
 
-/// How many leases may be made between two answers of `wait`.
-const MOST: u64 = 0xffff_ffff;
-
 /// Leases that are out: a count of the work that is still to be given back.
 ///
 /// Leases that are made between two answers of [`wait`](Leases::wait) are one group. A contract sees which count it is,
-/// and that at most so many are out.
+/// and that at most so many are out. Of 2^64 - 1 leases or more in a group, `wait` wouldn't answer any more.
 #[derive(Drop)]
 pub struct Leases {
     alloc: Global,
     count: Arc<Count>,
     seat: Seat<(), Known>,
     group: Option<WaitGroup>,
+    /// How many leases the group has, or 2^64 - 1 where it has more.
     made: u64,
 }
 
 impl Model for Leases {
-    ghost use Rattle.std.specs.Prelude.{◌≤◌};
     ghost use Rattle.std.specs.Arc.{arc_value};
-    ghost use Rattle.ch_estimate.specs.Leases.{Group, IsFirst};
+    ghost use Rattle.ch_estimate.specs.Leases.{Group, IsFirst, Tells};
 
     ghost Value = { Group };
 
-    ghost view = { λ l. record { count = l.seat.table_id; out = l.made } };
+    ghost view = { λ l. record { count = l.seat.table_id; out = l.seat.me.0.bound } };
 
-    ghost invariant = { λ l. IsFirst (arc_value l.count).shared.table_id l.made l.seat × (l.made ≤ 4294967295) };
+    ghost invariant = { λ l. IsFirst (arc_value l.count).shared.table_id l.seat.me.0.bound l.seat × Tells l.made l.seat.me.0.bound };
 }
 
 /// A lease, given back by its drop, which any thread may do. A contract sees of which count it is.
@@ -79,21 +76,17 @@ impl Leases {
 
     /// One more lease, the first of a new group where all earlier ones were waited for.
     ///
-    /// Refused where memory for a new group is, or where 2^32 - 1 were made since `wait` last answered; as many are then
-    /// out as before.
+    /// Refused only for memory; as many are then out as before.
     pub fn lease(&mut self) -> Result<Lease, AllocError>
         ensures one { OnOk result (self.new ≡ record self.old { out = self.old.out + 1 }) }
         ensures of { IfOk result (λ lease. lease ≡ self.old.count) }
         ensures refused { OnErr result (self.new ≡ self.old) }
     {
-        if self.made >= MOST {
-            return Err(AllocError);
-        }
         let member = self.member()?;
         let count = Arc::try_clone(&self.count)?;
         self.count.shared.fetch_add::<Adds>(&mut self.seat, 0, 1);
         let seat = self.count.shared.split_seat::<Hands>(&mut self.seat);
-        self.made += 1;
+        self.made = self.made.saturating_add(1);
         Ok(Lease {
             count,
             seat,
@@ -126,7 +119,7 @@ impl Leases {
             group.wait(rt);
         }
         'looks: for _ in rt.forever() {
-            if self.count.shared.load::<Finds>(&mut self.seat, 0) == 0 {
+            if self.made < u64::MAX && self.count.shared.load::<Finds>(&mut self.seat, 0) == 0 {
                 self.made = 0;
                 return;
             }
