@@ -296,7 +296,7 @@ def about():
     compiler = subprocess.run(["g++", "--version"], stdout=subprocess.PIPE, text=True).stdout.split("\n")[0]
     return {
         "machine": f"{os.cpu_count()} processors ({model}), {memory / (1 << 30):.0f} GB",
-        "system": f"{platform.system()} {platform.release()}, {compiler}",
+        "system": f"{platform.system()}, {compiler}",
         "version": version,
         "program": hashlib.sha256(PROGRAM.read_bytes()).hexdigest(),
     }

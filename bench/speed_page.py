@@ -11,6 +11,7 @@ import json
 import pathlib
 import shutil
 import sys
+import textwrap
 
 import matplotlib
 
@@ -97,9 +98,9 @@ def when(measured):
     loads = [float(row["load"]) for row in measured.rows]
     rounds = max(int(row["round"]) for row in measured.rows)
     told = f"Measured from {first} to {last} (UTC), one program at a time, in {rounds} round{'s' * (rounds > 1)}, on a machine of "
-    told += f"{measured.about['machine']}; {measured.about['system']}. It is `{measured.about['version']}`.\n"
+    told += f"{measured.about['machine']}; {measured.about['system']}. It is `{measured.about['version']}`. "
     told += f"The load after a run was {min(loads):.1f} to {max(loads):.1f}, of which the run itself is a part."
-    return told
+    return textwrap.fill(told, 122, break_long_words=False, break_on_hyphens=False)
 
 
 def networks(measured):
