@@ -1,5 +1,5 @@
 //! Several rows at once: all are laid before the first is shown.
-ghost use Rattle.std.specs.Prelude.{◌≡◌, ◌<◌, All, IfOk, OnErr, length, map};
+ghost use Rattle.std.specs.Prelude.{◌≡◌, ◌<◌, All, IfOk, length, map};
 ghost use Rattle.std.specs.Arc.{arc_value};
 ghost use Rattle.ch_overlay.specs.Change.{puts};
 ghost use Rattle.ch_overlay.specs.Records.{IsSoundRow, row_of};
@@ -62,24 +62,5 @@ impl<B: Book> Pen<B> {
         for at in 0..laid.len() {
             self.show_one(&laid[at]);
         }
-    }
-
-    /// Lays rows, and only then shows them. On a refusal no current row changes.
-    pub fn write_all<R: Wait>(
-        &mut self,
-        rt: &R,
-        alloc: Global,
-        rows: &[(u32, Arc<Row>)],
-    ) -> Result<Vec<Laid<B>>, BookError>
-        requires within { All (λ a. a.0 < B.book.nodes) rows.now }
-        requires rows { All (λ a. IsSoundRow B.book.bound a.0 (arc_value a.1)) rows.now }
-        ensures versions { IfOk result (λ all. self.new.versions ≡ puts self.old.versions (map (λ l. (l.node, l.token.index)) all.items)) }
-        ensures rows { IfOk result (λ _. self.new.rows ≡ puts self.old.rows (map (λ a. of_node a.0 (arc_value a.1)) rows.now)) }
-        ensures err_versions { OnErr result (self.new.versions ≡ self.old.versions) }
-        ensures err_rows { OnErr result (self.new.rows ≡ self.old.rows) }
-    {
-        let all = self.lay_all(rt, alloc, rows)?;
-        self.show_all(all.as_slice());
-        Ok(all)
     }
 }
