@@ -15,7 +15,7 @@ ghost use Rattle.ch_contract.specs.Sweep.{IsSwept, IsPartlySwept, IsVisited};
 use crate::accepting::{agreement_is_lawful, refusal};
 use crate::contraction::{Contraction, Receipt};
 use crate::error::{CommitError, FinishError, ProposeError, SweepError};
-use crate::finish::{Finished, hierarchy_of};
+use crate::finish::hierarchy_of;
 use crate::ledger::Ledger;
 use crate::proposal::Proposal;
 use crate::proposing::propose_with;
@@ -114,12 +114,12 @@ impl<S: Site> Board<S> {
         Ok((Board { ledger, pen }, reader))
     }
 
-    /// The ledger, without the book, whose records go with the last of its readers. Takes no memory.
-    pub fn into_ledger(self) -> Ledger
-        ensures same { result ≡ self }
-        ensures named { result.graph ≡ S.graph }
+    /// The ledger, and the pen, with which the book's records go if no reader is left. Takes no memory.
+    pub fn into_parts(self) -> (Ledger, Pen<S>)
+        ensures same { result.0 ≡ self }
+        ensures named { result.0.graph ≡ S.graph }
     {
-        self.ledger
+        (self.ledger, self.pen)
     }
 
     /// The graph that the board was made of.
@@ -176,24 +176,25 @@ impl<S: Site> Board<S> {
     }
 
     /// Commits a proposal, as [`Board::commit`] does, and tells a reader of the board's book the versions as they are
-    /// then, so that it reads no older row from there on. On a refusal the reader is as it was, too.
+    /// then, so that it reads no older row from there on. On a refusal the reader is as it was, too. The proposal is left to
+    /// the caller, who may drop it where no lock is held.
     pub fn commit_and_see<R: Wait>(
         &mut self,
         rt: &R,
-        proposal: Proposal,
+        proposal: &Proposal,
         reader: &mut Reader<S>,
     ) -> Result<Receipt, CommitError>
-        requires of_book { All (IsOfBook S.book) proposal.rests_on }
-        requires bound { proposal.bound ≡ S.book.bound }
-        ensures ok { IfOk result (λ receipt. IsContracted self.old proposal.node proposal.shortcuts receipt self.new) }
+        requires of_book { All (IsOfBook S.book) proposal.now.rests_on }
+        requires bound { proposal.now.bound ≡ S.book.bound }
+        ensures ok { IfOk result (λ receipt. IsContracted self.old proposal.now.node proposal.now.shortcuts receipt self.new) }
         ensures err { OnErr result (self.new ≡ self.old) }
         ensures seen { IfOk result (λ _. (x : ℕ) → IsNode self.new x → slice_index reader.new x ≡ version_now self.new x) }
         ensures unseen { OnErr result (reader.new ≡ reader.old) }
         ensures risen { IsBelow reader.old reader.new }
-        ensures contracted { (result ≡ Err commits.Contracted) ↔ IsContractedYet self.old proposal }
-        ensures stale { (node seen now front : ℕ) → (result ≡ Err (commits.Stale node seen now front)) ↔ IsStale self.old proposal node seen now front }
+        ensures contracted { (result ≡ Err commits.Contracted) ↔ IsContractedYet self.old proposal.now }
+        ensures stale { (node seen now front : ℕ) → (result ≡ Err (commits.Stale node seen now front)) ↔ IsStale self.old proposal.now node seen now front }
     {
-        match self.accept(rt, &proposal) {
+        match self.accept(rt, proposal) {
             Ok(receipt) => {
                 self.pen.tell(reader);
                 Ok(receipt)
@@ -298,23 +299,6 @@ impl<S: Site> Board<S> {
     {
         match hierarchy_of(&self.ledger) {
             Ok(hierarchy) => Ok(hierarchy),
-            Err(error) => Err((self, error)),
-        }
-    }
-
-    /// The hierarchy that the contractions lead to, as [`Board::into_hierarchy`] makes it, and the log.
-    pub fn finish(self) -> Result<Finished, (Board<S>, FinishError)>
-        ensures made { IfOk result (λ f. IsMade self.graph (state_of self.overlay) f.hierarchy) }
-        ensures right { IfOk result (λ f. IsRight S.graph f.hierarchy) }
-        ensures log { IfOk result (λ f. f.log.items ≡ self.log) }
-        ensures left { IsErrOf result (self, FinishError.NodesLeft) ↔ HasNodesLeft self }
-        ensures back { IfErr result (λ refused. refused.0 ≡ self) }
-    {
-        match hierarchy_of(&self.ledger) {
-            Ok(hierarchy) => {
-                let log = self.ledger.into_log();
-                Ok(Finished { hierarchy, log })
-            }
             Err(error) => Err((self, error)),
         }
     }

@@ -11,7 +11,7 @@ use crate::parts::{links_of, ranks_of};
 use ch_graph::Hierarchy;
 use ch_laws::{reached_hierarchy_is_right, reached_hierarchy_is_well_made};
 
-/// What a board comes to when each node is contracted.
+/// What a ledger comes to when each node is contracted.
 #[derive(Drop)]
 pub struct Finished {
     /// The hierarchy that the contractions lead to.

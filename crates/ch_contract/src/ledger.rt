@@ -1,16 +1,20 @@
-ghost use Rattle.std.specs.Prelude.{◌≡◌, ◌+◌, ◌<◌, ◌^◌, ℕ, List, [], IfOk, All, length, map, drop};
+ghost use Rattle.std.specs.Prelude.{◌≡◌, ◌+◌, ◌<◌, ◌^◌, ℕ, List, [], ◌↔◌, IfOk, IfErr, IsErrOf, IsFalse, IsTrue, All, length, map, drop};
 ghost use Rattle.std.specs.List.{zip, range_with_len};
 ghost use Rattle.std.specs.Arc.{arc_value};
 ghost use Rattle.ch_laws.specs.declared.shortcut.Shortcut.{Shortcut};
-ghost use Rattle.ch_laws.specs.Contraction.{IsStart};
+ghost use Rattle.ch_graph.specs.Hierarchy.{IsRight};
+ghost use Rattle.ch_laws.specs.Contraction.{IsStart, IsOver, IsMade};
 ghost use Rattle.ch_overlay.specs.Overlay.{state_of};
 ghost use Rattle.ch_overlay.specs.Change.{puts, changed_nodes};
 ghost use Rattle.ch_contract.specs.Ledger.{IsLedger, IsLog, AreLawful, IsContracted, versions_now};
 ghost use Rattle.ch_contract.specs.Ledger as ledgers;
+ghost use Rattle.ch_contract.specs.Finish.{HasNodesLeft};
 ghost use Rattle.ch_contract.specs.Planned.{IsPlanned, WasPlanned, AreNewVersions};
 ghost use Rattle.ch_contract.specs.Planned as plans;
 
 use crate::contraction::{Contraction, Receipt};
+use crate::error::FinishError;
+use crate::finish::{Finished, hierarchy_of};
 use ch_graph::Graph;
 use ch_laws::{plan_is_lawful, reached_goes_on};
 use ch_overlay::{Change, Overlay, Row, Shortcut};
@@ -111,6 +115,15 @@ impl Ledger {
         self.log.as_slice()
     }
 
+    /// Whether each node is contracted.
+    pub fn is_over(&self) -> bool
+        ensures over { IsTrue result ↔ IsOver (state_of self.now.overlay) }
+        ensures left { IsFalse result ↔ HasNodesLeft self.now }
+    {
+        self.holds();
+        self.overlay().alive() == 0
+    }
+
     /// What always holds of a ledger. It does nothing when it runs.
     pub fn holds(&self)
         ensures { IsLedger self.now }
@@ -118,11 +131,25 @@ impl Ledger {
         let _ = self.log.len();
     }
 
-    /// What was done, without the rest. Takes no memory.
-    pub fn into_log(self) -> Vec<Contraction>
-        ensures { result.items ≡ self.log }
+    /// The hierarchy that the contractions lead to, and the log: the rank of a node is the number of nodes that were
+    /// contracted before it, and the links are the arcs that the rows have, by their ends. It is right for the graph.
+    ///
+    /// Refused while a node isn't contracted, which is tested first, or for want of memory; the ledger is handed back as
+    /// it was. Takes memory for the ranks and the links, which it sorts.
+    pub fn finish(self) -> Result<Finished, (Ledger, FinishError)>
+        ensures made { IfOk result (λ f. IsMade self.graph (state_of self.overlay) f.hierarchy) }
+        ensures right { IfOk result (λ f. IsRight self.graph f.hierarchy) }
+        ensures log { IfOk result (λ f. f.log.items ≡ self.log) }
+        ensures left { IsErrOf result (self, FinishError.NodesLeft) ↔ HasNodesLeft self }
+        ensures back { IfErr result (λ refused. refused.0 ≡ self) }
     {
-        self.log
+        match hierarchy_of(&self) {
+            Ok(hierarchy) => {
+                let log = self.log;
+                Ok(Finished { hierarchy, log })
+            }
+            Err(error) => Err((self, error)),
+        }
     }
 
     /// What its rows and its log are allocated by.

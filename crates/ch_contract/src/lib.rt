@@ -3,7 +3,7 @@
 //! Stands on `ch_overlay`, whose rows it changes, on the searches of `ch_witness`, and on the laws of `ch_laws`. Its
 //! main types are [`Proposal`], a contraction that was worked out by rows, and [`Board`]: a graph, its rows in a book of
 //! `ch_rowbook`, whose readers propose without a lock, and the log of the contractions that were made. A board contracts
-//! a node by a proposal, [`Board::commit`], as long as the versions of the rows that the proposal rests on are current. The promise of the layer is the contract of [`Board::finish`]:
+//! a node by a proposal, [`Board::commit`], as long as the versions of the rows that the proposal rests on are current. The promise of the layer is the contract of [`Ledger::finish`]:
 //! the hierarchy that it answers is right for the graph, so its values are the graph's distances. It rests on what
 //! every [`Ledger`] keeps, that its rows come from the graph's by the lawful contractions of its log.
 //!

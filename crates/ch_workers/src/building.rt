@@ -7,6 +7,7 @@ ghost use Rattle.ch_workers.specs.declared.error.BuildError.TheVariants.{BadOpti
 
 use crate::boxed::box_lists;
 use crate::built::Built;
+use crate::disposal::Disposal;
 use crate::error::BuildError;
 use crate::finishing::finish;
 use crate::gate::Gate;
@@ -30,8 +31,8 @@ use std::thread::Threads;
 /// each worker; `OutOfMemory` where a growth was refused; `Mixed` where the receipts and the log, or the accounts of
 /// the queue, don't agree. On every answer the estimators were dropped and no lease of `leases` is out: so it doesn't
 /// answer as long as one is out elsewhere. Takes memory for the rows of the nodes, shortcuts included, and for those
-/// that are replaced in a shift, which have two dozen entries or so for each node of the graph; for the log, the receipts
-/// and the queue.
+/// that are replaced in a shift, which have two dozen entries or so for each node of the graph, and are given back by a
+/// thread of its own beside the next shift; for the log, the receipts and the queue.
 pub fn build<G: Gate, R: Threads + Wait + Sync>(
     rt: &R,
     alloc: Global,
@@ -73,13 +74,16 @@ fn build_with_good<G: Gate, R: Threads + Wait + Sync>(
     if options.are_bad(estimators.len()) {
         return Err(BuildError::BadOptions);
     }
-    match build_by_good(rt, alloc, graph, options, estimators, gate) {
+    let mut disposal = Disposal::new();
+    let built = build_by_good(rt, alloc, graph, options, estimators, gate, &mut disposal);
+    disposal.wait(rt);
+    match built {
         Ok(built) => Ok(built),
         Err(trouble) => Err(trouble.error()),
     }
 }
 
-/// Builds by workers and then by a sweep.
+/// Builds by workers and then by a sweep. What they need no longer is dropped beside them.
 fn build_by_good<G: Gate, R: Threads + Wait + Sync>(
     rt: &R,
     alloc: Global,
@@ -87,6 +91,7 @@ fn build_by_good<G: Gate, R: Threads + Wait + Sync>(
     options: Options,
     estimators: Vec<Vec<Box<dyn Estimator + Send>>>,
     gate: &G,
+    disposal: &mut Disposal,
 ) -> Result<Built, Trouble>
     requires good { AreGood options (vec_len estimators) }
     requires untold { All (λ list. All (λ estimator. heard estimator ≡ []) list.items) estimators.items }
@@ -97,6 +102,6 @@ fn build_by_good<G: Gate, R: Threads + Wait + Sync>(
 {
     let lists = box_lists(alloc, estimators)?;
     let ledger = Ledger::new(alloc, graph)?;
-    let worked = contract(rt, alloc, ledger, options, lists, gate)?;
+    let worked = contract(rt, alloc, ledger, options, lists, gate, disposal)?;
     finish(rt, alloc, worked, options.settle)
 }

@@ -11,11 +11,18 @@ use crate::account::is_account;
 use crate::built::Built;
 use crate::run::Worked;
 use crate::trouble::Trouble;
-use ch_contract::{Board, FinishError, Receipt, Site};
+use ch_contract::{Board, FinishError, Ledger, Receipt, Site};
 use ch_rowbook::Blank;
 use std::alloc::Global;
 use std::marker::Brand;
 use std::sync::Wait;
+
+/// A ledger whose nodes are all contracted, and the receipts of those that were left for the sweep.
+#[derive(Drop)]
+struct Swept {
+    ledger: Ledger,
+    receipts: Vec<Receipt>,
+}
 
 /// Contracts what the workers left, and makes the hierarchy.
 pub(crate) fn finish<R: Wait>(
@@ -31,94 +38,75 @@ pub(crate) fn finish<R: Wait>(
     ensures account { IfOk result (λ b. IsAccount b.log.items (map (λ v. v.items) b.receipts.items)) }
     ensures lists { IfOk result (λ b. vec_len b.receipts ≡ vec_len worked.receipts + 1) }
 {
-    let rows = worked.ledger.overlay();
-    let blank = Blank::new(alloc, rows.nodes(), rows.bound())?;
-    finish_named::<Brand, R>(rt, alloc, blank, worked, settle)
-}
-
-/// Makes the hierarchy by a board of a type that names the graph and the book.
-fn finish_named<S: Site, R: Wait>(
-    rt: &R,
-    alloc: Global,
-    blank: Blank,
-    worked: Worked,
-    settle: u32,
-) -> Result<Built, Trouble>
-    requires of_graph { S.graph ≡ worked.ledger.graph }
-    requires of_book { S.book ≡ name_of blank }
-    requires nodes { blank.nodes ≡ length worked.ledger.overlay.rows }
-    requires bound { blank.bound ≡ worked.ledger.overlay.bound }
-    requires some { 0 < settle }
-    requires few { settle ≤ 65536 }
-    ensures built { IfOk result (λ b. IsMadeBy S.graph b.log.items b.hierarchy) }
-    ensures right { IfOk result (λ b. IsRight S.graph b.hierarchy) }
-    ensures account { IfOk result (λ b. IsAccount b.log.items (map (λ v. v.items) b.receipts.items)) }
-    ensures lists { IfOk result (λ b. vec_len b.receipts ≡ vec_len worked.receipts + 1) }
-{
     let Worked {
         ledger,
         mut receipts,
     } = worked;
+    let Swept {
+        ledger,
+        receipts: swept,
+    } = sweep(rt, alloc, ledger, settle)?;
+    receipts.reserve(1)?;
+    receipts.push_reserved(swept);
+    if !is_account(alloc, ledger.log(), receipts.as_slice())? {
+        return Err(Trouble::Mixed);
+    }
+    built_of(ledger, receipts)
+}
+
+/// Contracts each node that is left, by a board whose book is new. There is none where no node is left.
+fn sweep<R: Wait>(rt: &R, alloc: Global, ledger: Ledger, settle: u32) -> Result<Swept, Trouble>
+    requires some { 0 < settle }
+    requires few { settle ≤ 65536 }
+    ensures graph { IfOk result (λ swept. swept.ledger.graph ≡ ledger.graph) }
+    ensures over { IfOk result (λ swept. IsOver (state_of swept.ledger.overlay)) }
+{
+    if ledger.is_over() {
+        let receipts = Vec::new(alloc);
+        return Ok(Swept { ledger, receipts });
+    }
+    let rows = ledger.overlay();
+    let blank = Blank::new(alloc, rows.nodes(), rows.bound())?;
+    sweep_named::<Brand, R>(rt, alloc, blank, ledger, settle)
+}
+
+/// Contracts each node that is left, by a board of a type that names the graph and the book.
+fn sweep_named<S: Site, R: Wait>(
+    rt: &R,
+    alloc: Global,
+    blank: Blank,
+    ledger: Ledger,
+    settle: u32,
+) -> Result<Swept, Trouble>
+    requires of_graph { S.graph ≡ ledger.graph }
+    requires of_book { S.book ≡ name_of blank }
+    requires nodes { blank.nodes ≡ length ledger.overlay.rows }
+    requires bound { blank.bound ≡ ledger.overlay.bound }
+    requires some { 0 < settle }
+    requires few { settle ≤ 65536 }
+    ensures graph { IfOk result (λ swept. swept.ledger.graph ≡ ledger.graph) }
+    ensures over { IfOk result (λ swept. IsOver (state_of swept.ledger.overlay)) }
+{
     let mut board = match Board::<S>::of_ledger(rt, alloc, blank, ledger) {
         Ok((board, _)) => board,
         Err((_, refused)) => return Err(refused.into()),
     };
-    sweep_and_count(rt, alloc, &mut board, &mut receipts, settle)?;
-    built_of(board, receipts)
+    let receipts = board.sweep(rt, settle)?;
+    let (ledger, _) = board.into_parts();
+    Ok(Swept { ledger, receipts })
 }
 
-/// Contracts what the workers left, and sees that the receipts account for the log.
-fn sweep_and_count<S: Site, R: Wait>(
-    rt: &R,
-    alloc: Global,
-    board: &mut Board<S>,
-    receipts: &mut Vec<Vec<Receipt>>,
-    settle: u32,
-) -> Result<(), Trouble>
-    requires some { 0 < settle }
-    requires few { settle ≤ 65536 }
-    ensures holds { IfOk result (λ _. IsLedger board.new) }
-    ensures over { IfOk result (λ _. IsOver (state_of board.new.overlay)) }
-    ensures account { IfOk result (λ _. IsAccount board.new.log (map (λ v. v.items) receipts.new.items)) }
-    ensures lists { IfOk result (λ _. vec_len receipts.new ≡ vec_len receipts.old + 1) }
-{
-    sweep_rest(rt, board, receipts, settle)?;
-    if !is_account(alloc, board.log(), receipts.as_slice())? {
-        return Err(Trouble::Mixed);
-    }
-    Ok(())
-}
-
-/// Contracts what the workers left, and puts the receipts behind theirs.
-fn sweep_rest<S: Site, R: Wait>(
-    rt: &R,
-    board: &mut Board<S>,
-    receipts: &mut Vec<Vec<Receipt>>,
-    settle: u32,
-) -> Result<(), Trouble>
-    requires some { 0 < settle }
-    requires few { settle ≤ 65536 }
-    ensures over { IfOk result (λ _. IsOver (state_of board.new.overlay)) }
-    ensures lists { IfOk result (λ _. vec_len receipts.new ≡ vec_len receipts.old + 1) }
-{
-    let swept = board.sweep(rt, settle)?;
-    receipts.reserve(1)?;
-    receipts.push_reserved(swept);
-    Ok(())
-}
-
-/// The hierarchy and the log of a board whose nodes are all contracted, beside the receipts that account for the log.
-fn built_of<S: Site>(board: Board<S>, receipts: Vec<Vec<Receipt>>) -> Result<Built, Trouble>
-    requires holds { IsLedger board }
-    requires named { board.graph ≡ S.graph }
-    requires over { IsOver (state_of board.overlay) }
-    requires account { IsAccount board.log (map (λ v. v.items) receipts.items) }
-    ensures built { IfOk result (λ b. IsMadeBy S.graph b.log.items b.hierarchy) }
-    ensures right { IfOk result (λ b. IsRight S.graph b.hierarchy) }
+/// The hierarchy and the log of a ledger whose nodes are all contracted, beside the receipts that account for the log.
+fn built_of(ledger: Ledger, receipts: Vec<Vec<Receipt>>) -> Result<Built, Trouble>
+    requires holds { IsLedger ledger }
+    requires over { IsOver (state_of ledger.overlay) }
+    requires account { IsAccount ledger.log (map (λ v. v.items) receipts.items) }
+    ensures built { IfOk result (λ b. IsMadeBy ledger.graph b.log.items b.hierarchy) }
+    ensures right { IfOk result (λ b. IsRight ledger.graph b.hierarchy) }
     ensures account { IfOk result (λ b. IsAccount b.log.items (map (λ v. v.items) b.receipts.items)) }
     ensures lists { IfOk result (λ b. vec_len b.receipts ≡ vec_len receipts) }
 {
-    match board.finish() {
+    match ledger.finish() {
         Ok(finished) => Ok(Built {
             hierarchy: finished.hierarchy,
             receipts,

@@ -24,6 +24,7 @@ mod account;
 mod boxed;
 mod building;
 mod built;
+mod disposal;
 mod error;
 mod finishing;
 mod gate;

@@ -2,6 +2,7 @@ ghost use Rattle.std.specs.Prelude.{◌≡◌, ◌<◌, ◌≤◌, [], All, IfOk
 ghost use Rattle.ch_multiqueue.specs.Accounts.{AreBalanced};
 ghost use Rattle.ch_workers.specs.Options.{AreGood};
 
+use crate::disposal::Disposal;
 use crate::gate::Gate;
 use crate::hiring::{Crew, hire};
 use crate::options::Options;
@@ -37,6 +38,7 @@ pub(crate) fn contract<E: Estimator + Send, G: Gate, R: Threads + Wait + Sync>(
     options: Options,
     estimators: Vec<Vec<E>>,
     gate: &G,
+    disposal: &mut Disposal,
 ) -> Result<Worked, Trouble>
     requires good { AreGood options (vec_len estimators) }
     requires untold { All (λ list. All (λ estimator. E.heard estimator ≡ []) list.items) estimators.items }
@@ -57,7 +59,7 @@ pub(crate) fn contract<E: Estimator + Send, G: Gate, R: Threads + Wait + Sync>(
         ledger,
         queue,
         workers,
-    } = go_on(rt, alloc, work, options, gate)?;
+    } = go_on(rt, alloc, work, options, gate, disposal)?;
     let Left { passes, receipts } = take_apart(alloc, workers)?;
     let _left = close(queue, passes)?;
     Ok(Worked { ledger, receipts })
@@ -70,6 +72,7 @@ fn go_on<E: Estimator + Send, G: Gate, R: Threads + Wait + Sync>(
     work: Work<E>,
     options: Options,
     gate: &G,
+    disposal: &mut Disposal,
 ) -> Result<Work<E>, Trouble>
     requires some { 0 < options.settle }
     requires few { options.settle ≤ 65536 }
@@ -78,13 +81,13 @@ fn go_on<E: Estimator + Send, G: Gate, R: Threads + Wait + Sync>(
     ensures count { IfOk result (λ after. vec_len after.workers ≡ vec_len work.workers) }
 {
     let nodes = work.ledger.overlay().nodes();
-    let mut work = shift(rt, alloc, work, options, gate)?;
+    let mut work = shift(rt, alloc, work, options, gate, disposal)?;
     'shifts: for _ in 1..nodes {
         if have_ended(work.workers.as_slice()) {
             break;
         }
         let before = work.ledger.log().len();
-        work = shift(rt, alloc, work, options, gate)?;
+        work = shift(rt, alloc, work, options, gate, disposal)?;
         if work.ledger.log().len() == before {
             break;
         }

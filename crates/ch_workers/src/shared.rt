@@ -83,11 +83,11 @@ impl<S: Site> Shared<S> {
     pub(crate) fn commit<R: Wait>(
         &self,
         rt: &R,
-        proposal: Proposal,
+        proposal: &Proposal,
         reader: &mut Reader<S>,
     ) -> Result<Receipt, CommitError>
-        requires of_book { All (IsOfBook S.book) proposal.rests_on }
-        requires bound { proposal.bound ≡ S.book.bound }
+        requires of_book { All (IsOfBook S.book) proposal.now.rests_on }
+        requires bound { proposal.now.bound ≡ S.book.bound }
     {
         self.hold(rt).commit_and_see(rt, proposal, reader)
     }

@@ -1,6 +1,7 @@
 ghost use Rattle.std.specs.Prelude.{◌≡◌, ◌<◌, ◌≤◌, IfOk, length, vec_len};
 ghost use Rattle.ch_rowbook.specs.Blanks.{name_of};
 
+use crate::disposal::Disposal;
 use crate::gate::Gate;
 use crate::options::Options;
 use crate::shared::Shared;
@@ -39,6 +40,7 @@ pub(crate) fn shift<E: Estimator + Send, G: Gate, R: Threads + Wait + Sync>(
     work: Work<E>,
     options: Options,
     gate: &G,
+    disposal: &mut Disposal,
 ) -> Result<Work<E>, Trouble>
     requires some { 0 < options.settle }
     requires few { options.settle ≤ 65536 }
@@ -48,17 +50,23 @@ pub(crate) fn shift<E: Estimator + Send, G: Gate, R: Threads + Wait + Sync>(
 {
     let rows = work.ledger.overlay();
     let blank = Blank::new(alloc, rows.nodes(), rows.bound())?;
-    shift_named::<Brand, E, G, R>(rt, alloc, blank, work, options, gate)
+    shift_named::<Brand, E, G, R>(rt, alloc, blank, work, options, gate, disposal)
 }
 
 /// Lets the workers go on for a shift, by a board of a type that names the graph and the book.
-fn shift_named<S: Site + Send + Sync, E: Estimator + Send, G: Gate, R: Threads + Wait + Sync>(
+fn shift_named<
+    S: Site + Send + Sync + 'static,
+    E: Estimator + Send,
+    G: Gate,
+    R: Threads + Wait + Sync,
+>(
     rt: &R,
     alloc: Global,
     blank: Blank,
     work: Work<E>,
     options: Options,
     gate: &G,
+    disposal: &mut Disposal,
 ) -> Result<Work<E>, Trouble>
     requires of_graph { S.graph ≡ work.ledger.graph }
     requires of_book { S.book ≡ name_of blank }
@@ -80,12 +88,15 @@ fn shift_named<S: Site + Send + Sync, E: Estimator + Send, G: Gate, R: Threads +
         Err((_, refused)) => return Err(refused.into()),
     };
     let mut on_shift = begin(alloc, &mut reader, workers)?;
+    drop(reader);
     let shared = Shared::new(alloc, board, queue, options);
     run_all(rt, &shared, gate, on_shift.as_mut_slice());
-    let workers = end(alloc, &mut reader, on_shift)?;
+    let workers = end(alloc, on_shift)?;
     let (board, queue) = shared.into_parts();
+    let (ledger, pen) = board.into_parts();
+    disposal.take(rt, pen);
     Ok(Work {
-        ledger: board.into_ledger(),
+        ledger,
         queue,
         workers,
     })
@@ -107,17 +118,15 @@ fn begin<S: Site, E: Estimator>(
     Ok(on_shift)
 }
 
-/// Joins the readers of workers into this one.
+/// The workers without their readers.
 fn end<S: Site, E: Estimator>(
     alloc: Global,
-    reader: &mut Reader<S>,
     on_shift: Vec<OnShift<S, E>>,
 ) -> Result<Vec<Worker<E>>, AllocError>
     ensures count { IfOk result (λ workers. vec_len workers ≡ vec_len on_shift) }
 {
     let mut workers = Vec::new(alloc);
     'workers: for one in on_shift {
-        reader.join(one.reader);
         workers.push(one.worker)?;
     }
     Ok(workers)

@@ -232,7 +232,7 @@ impl<E: Estimator> Worker<E> {
         requires bound { proposal.bound ≡ S.book.bound }
     {
         self.receipts.reserve(1)?;
-        match shared.commit(rt, proposal, reader) {
+        match shared.commit(rt, &proposal, reader) {
             Ok(receipt) => {
                 self.receipts.push_reserved(receipt);
                 self.deferred = 0;

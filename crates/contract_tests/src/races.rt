@@ -95,7 +95,7 @@ fn contract<S: Site, R: Wait>(
     log: &mut Vec<Written>,
 ) -> Option<()> {
     let proposal = propose_with(alloc, reader, scratch, node, SETTLE).ok()?;
-    board.commit_and_see(rt, proposal, reader).ok()?;
+    board.commit_and_see(rt, &proposal, reader).ok()?;
     note_changes(log, board, node)
 }
 

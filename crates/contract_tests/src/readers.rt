@@ -96,8 +96,8 @@ fn takes_one<S: Site, R: Wait>(
 ) -> Result<bool, ProposeError> {
     let first = propose(alloc, reader, 0, 64)?;
     let second = propose(alloc, reader, 0, 64)?;
-    let taken = board.commit_and_see(rt, first, reader);
-    let again = board.commit_and_see(rt, second, reader);
+    let taken = board.commit_and_see(rt, &first, reader);
+    let again = board.commit_and_see(rt, &second, reader);
     Ok((taken == Ok(Receipt { node: 0, rank: 0 })) & (again == Err(CommitError::Contracted)))
 }
 
@@ -165,7 +165,7 @@ fn taken_out<S: Site, R: Wait>(
 {
     let (mut board, mut reader): (Board<S>, Reader<S>) = Board::new(rt, alloc, blank, graph)?;
     contract(rt, alloc, &mut board, &mut reader)?;
-    Ok(board.into_ledger())
+    Ok(board.into_parts().0)
 }
 
 /// Contracts node 0 by what the reader finds.
@@ -206,7 +206,7 @@ fn contracts_second<S: Site, R: Wait>(
 ) -> Result<bool, Fail> {
     let holds = finds(reader, ANEW)?;
     let proposal = propose(alloc, reader, 1, 64)?;
-    let taken = board.commit_and_see(rt, proposal, reader);
+    let taken = board.commit_and_see(rt, &proposal, reader);
     Ok(holds & (taken == Ok(Receipt { node: 1, rank: 1 })) & (board.log().len() == 2))
 }
 

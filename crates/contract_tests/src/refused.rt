@@ -164,7 +164,7 @@ fn committed_and_seen<S: Site, R: Wait>(
 ) -> Result<Receipt, Fail> {
     let before = board.log().len();
     let proposal = propose(alloc, reader, node, SETTLE)?;
-    match board.commit_and_see(rt, proposal, reader) {
+    match board.commit_and_see(rt, &proposal, reader) {
         Err(CommitError::OutOfMemory) => seen_again(rt, alloc, board, reader, node, before),
         answer => Ok(answer?),
     }
@@ -183,7 +183,7 @@ fn seen_again<S: Site, R: Wait>(
         return Err(Fail::new("a refused contraction is in the log"));
     }
     let proposal = propose(alloc, reader, node, SETTLE)?;
-    Ok(board.commit_and_see(rt, proposal, reader)?)
+    Ok(board.commit_and_see(rt, &proposal, reader)?)
 }
 
 /// Contracts the nodes that are left: how many.

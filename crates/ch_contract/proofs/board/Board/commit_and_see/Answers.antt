@@ -8,8 +8,8 @@ use Rattle.ch_contract.proofs.board.Board.commit_and_see.Goals as goal
 pub returns-in-Ok-clause-stale : goal.returns-in-Ok-clause-stale
 returns-in-Ok-clause-stale g c node seen now front = (λ e. absurd (cc), λ stale. absurd (done-apart _ _ _ ((c.in-Ok.ensures.stale node seen now front).1 stale)))
 
-pub returns-clause-stale : goal.returns-clause-stale
-returns-clause-stale g c node seen now front =
+pub returns-in-Err-clause-stale : goal.returns-in-Err-clause-stale
+returns-in-Err-clause-stale g c node seen now front =
     let told = c.in-Err.ensures.stale node seen now front in
     let same = same_refusal _ Receipt c.in-Err.refused (commits.Stale node seen now front) in
     (λ e. told.0 (same.1 e), λ stale. same.0 (told.1 stale))
@@ -17,17 +17,17 @@ returns-clause-stale g c node seen now front =
 pub returns-in-Ok-clause-seen : goal.returns-in-Ok-clause-seen
 returns-in-Ok-clause-seen g c = search rules
 
-pub returns-clause-err : goal.returns-clause-err
-returns-clause-err c = grind (arith, common_steps) steps 200000
+pub returns-in-Err-clause-err : goal.returns-in-Err-clause-err
+returns-in-Err-clause-err c = grind (arith, common_steps) steps 200000
 
-pub returns-clause-ok : goal.returns-clause-ok
-returns-clause-ok c = grind (arith, common_steps) steps 200000
+pub returns-in-Err-clause-ok : goal.returns-in-Err-clause-ok
+returns-in-Err-clause-ok c = grind (arith, common_steps) steps 200000
 
-pub returns-clause-seen : goal.returns-clause-seen
-returns-clause-seen c = grind (arith, common_steps) steps 200000
+pub returns-in-Err-clause-seen : goal.returns-in-Err-clause-seen
+returns-in-Err-clause-seen c = grind (arith, common_steps) steps 200000
 
-pub returns-clause-unseen : goal.returns-clause-unseen
-returns-clause-unseen c = grind (arith, common_steps) steps 200000
+pub returns-in-Err-clause-unseen : goal.returns-in-Err-clause-unseen
+returns-in-Err-clause-unseen c = grind (arith, common_steps) steps 200000
 
 pub returns-in-Ok-clause-err : goal.returns-in-Ok-clause-err
 returns-in-Ok-clause-err c = grind (arith, common_steps) steps 200000

@@ -1,10 +1,10 @@
 use Rattle.std.proofs.Common.{ap, ◌∙◌, arith}
 use Rattle.std.proofs.lemmas.Grind.{common_steps}
 use Rattle.ch_contract.specs.Ledger.{Ledger}
-use Rattle.ch_contract.proofs.board.Board.finish.Goals as goal
+use Rattle.ch_contract.proofs.ledger.Ledger.finish.Goals as goal
 
 pub returns-in-Ok-clause-log : goal.returns-in-Ok-clause-log
-returns-in-Ok-clause-log g c = c.into_log-log.ensures ∙ ap (λ (l : Ledger). l.log) c.self.view_is
+returns-in-Ok-clause-log c = ap (λ (l : Ledger). l.log) c.self.view_is
 
 pub returns-in-Ok-clause-back : goal.returns-in-Ok-clause-back
 returns-in-Ok-clause-back c = grind (arith, common_steps) steps 200000
