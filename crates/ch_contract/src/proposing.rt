@@ -16,6 +16,7 @@ use crate::scratch::{Desk, Scratch};
 use ch_overlay::{Row, RowSource, SeeError};
 use ch_witness::{Rows, SearchError};
 use std::alloc::Global;
+use std::mem;
 use std::sync::Arc;
 
 /// Works out the contraction of a node by the rows that a source answers, each node asked for at most once.
@@ -103,13 +104,16 @@ fn propose_in<S: RowSource>(
         return Err(ProposeError::Contracted);
     }
     let row = Arc::try_clone(&own.row)?;
-    let mut draft = Draft::new(alloc, node)?;
+    let earlier = mem::replace(&mut desk.listed, Vec::new(alloc));
+    let mut draft = Draft::new(alloc, earlier, node)?;
     draft_all(alloc, source, desk, task, &row, &mut draft)?;
     let Draft { listed, shortcuts } = draft;
+    let rests_on = desk.searcher.rows.hand_out(alloc, &listed)?;
+    desk.listed = listed;
     Ok(Proposal {
         bound: task.bound,
         node,
-        rests_on: desk.searcher.rows.hand_out(alloc, &listed)?,
+        rests_on,
         shortcuts,
     })
 }

@@ -21,6 +21,8 @@ impl Model for Scratch {
 pub(crate) struct Desk {
     pub(crate) searcher: Searcher,
     pub(crate) pairs: Pairs,
+    /// Memory for the nodes whose rows a proposal rests on.
+    pub(crate) listed: Vec<u32>,
 }
 
 /// The pairs from one neighbour, and what a search for their ways is told.
@@ -45,6 +47,7 @@ impl Scratch {
                     ends: Vec::new(alloc),
                     aims: Vec::new(alloc),
                 },
+                listed: Vec::new(alloc),
             },
         }
     }

@@ -62,32 +62,32 @@ invariant_of-result g c =
     let there = (read_there g.S.RowSource.bears (g.S.RowSource.shows c.read.new.source) (g.S.RowSource.bound_of c.args.source.now) c.args.node c.read.new.self c.in_ok-place.place c.at-own.result.now c.in_ok-place.ensures.here c.at-own.ensures) in
     let own = c.at-own.result.now in
     let bound : g.S.RowSource.bound_of c.draft_all.new.source ≡ c.bound.result = g.met.S.RowSource.same_bound c.read.new.source c.draft_all.new.source c.in_ok-draft_all.ensures.read.stays ∙ g.met.S.RowSource.same_bound c.args.source.now c.read.new.source c.in_ok-place.ensures.stays ∙ sym c.bound.ensures.bound in
-    proposed g.S.RowSource.bears (g.S.RowSource.shows c.draft_all.new.source) c.bound.result c.args.node (row_in own) (kept_of c.draft_all.new.desk.searcher.rows) c.draft_all.new.draft c.in_ok-hand_out.field-0.items own c.bound.ensures.limit
+    proposed g.S.RowSource.bears (g.S.RowSource.shows c.draft_all.new.source) c.bound.result c.args.node (row_in own) (kept_of c.draft_all.new.desk.searcher.rows) c.draft_all.new.draft c.in_ok-rests_on.rests_on.items own c.bound.ensures.limit
     (subst (λ (b : Cost). AreKept g.S.RowSource.bears (g.S.RowSource.shows c.draft_all.new.source) b (kept_of c.draft_all.new.desk.searcher.rows)) bound c.in_ok-draft_all.ensures.read.kept)
     (subst (λ (x : ℕ). kept_of c.draft_all.new.desk.searcher.rows x ≡ Some own) there.1.node (c.in_ok-draft_all.ensures.read.more own.node own there.0))
     refl
     (ap (λ (r : Row). r.rank) (sym (c.behind-own.view_is ∙ c.deref.ensures)) ∙ nothing c.behind-own.inside.rank c.if-is_some.ensures)
     (subst (λ (r : Row). IsDrafted c.bound.result c.args.node r r.inn (kept_of c.draft_all.new.desk.searcher.rows) c.draft_all.new.draft) (c.deref-2.ensures ∙ c.in_ok-row.ensures) c.in_ok-draft_all.ensures.draft)
-    (subst (λ (ns : List ℕ). AreListed (kept_of c.draft_all.new.desk.searcher.rows) ns c.in_ok-hand_out.field-0.items) c.deref-3.ensures.value c.in_ok-hand_out.ensures)
+    (subst (λ (ns : List ℕ). AreListed (kept_of c.draft_all.new.desk.searcher.rows) ns c.in_ok-rests_on.rests_on.items) c.deref-3.ensures.value c.in_ok-rests_on.ensures)
 
 pub returns-clause-holds : goal.returns-clause-holds
 returns-clause-holds g c =
     let there = (read_there g.S.RowSource.bears (g.S.RowSource.shows c.read.new.source) (g.S.RowSource.bound_of c.args.source.now) c.args.node c.read.new.self c.in_ok-place.place c.at-own.result.now c.in_ok-place.ensures.here c.at-own.ensures) in
     let own = c.at-own.result.now in
     let bound : g.S.RowSource.bound_of c.draft_all.new.source ≡ c.bound.result = g.met.S.RowSource.same_bound c.read.new.source c.draft_all.new.source c.in_ok-draft_all.ensures.read.stays ∙ g.met.S.RowSource.same_bound c.args.source.now c.read.new.source c.in_ok-place.ensures.stays ∙ sym c.bound.ensures.bound in
-    proposed g.S.RowSource.bears (g.S.RowSource.shows c.draft_all.new.source) c.bound.result c.args.node (row_in own) (kept_of c.draft_all.new.desk.searcher.rows) c.draft_all.new.draft c.in_ok-hand_out.field-0.items own c.bound.ensures.limit
+    proposed g.S.RowSource.bears (g.S.RowSource.shows c.draft_all.new.source) c.bound.result c.args.node (row_in own) (kept_of c.draft_all.new.desk.searcher.rows) c.draft_all.new.draft c.in_ok-rests_on.rests_on.items own c.bound.ensures.limit
     (subst (λ (b : Cost). AreKept g.S.RowSource.bears (g.S.RowSource.shows c.draft_all.new.source) b (kept_of c.draft_all.new.desk.searcher.rows)) bound c.in_ok-draft_all.ensures.read.kept)
     (subst (λ (x : ℕ). kept_of c.draft_all.new.desk.searcher.rows x ≡ Some own) there.1.node (c.in_ok-draft_all.ensures.read.more own.node own there.0))
     refl
     (ap (λ (r : Row). r.rank) (sym (c.behind-own.view_is ∙ c.deref.ensures)) ∙ nothing c.behind-own.inside.rank c.if-is_some.ensures)
     (subst (λ (r : Row). IsDrafted c.bound.result c.args.node r r.inn (kept_of c.draft_all.new.desk.searcher.rows) c.draft_all.new.draft) (c.deref-2.ensures ∙ c.in_ok-row.ensures) c.in_ok-draft_all.ensures.draft)
-    (subst (λ (ns : List ℕ). AreListed (kept_of c.draft_all.new.desk.searcher.rows) ns c.in_ok-hand_out.field-0.items) c.deref-3.ensures.value c.in_ok-hand_out.ensures)
+    (subst (λ (ns : List ℕ). AreListed (kept_of c.draft_all.new.desk.searcher.rows) ns c.in_ok-rests_on.rests_on.items) c.deref-3.ensures.value c.in_ok-rests_on.ensures)
 
 pub returns-clause-bears : goal.returns-clause-bears
-returns-clause-bears g c = all_listed_are g.S.RowSource.bears (g.S.RowSource.shows c.draft_all.new.source) g.S.RowSource.bears (g.S.RowSource.bound_of c.draft_all.new.source) (kept_of c.draft_all.new.desk.searcher.rows) c.deref-3.result.now c.in_ok-hand_out.field-0.items c.in_ok-draft_all.ensures.read.kept c.in_ok-hand_out.ensures (λ x s a. a.bears)
+returns-clause-bears g c = all_listed_are g.S.RowSource.bears (g.S.RowSource.shows c.draft_all.new.source) g.S.RowSource.bears (g.S.RowSource.bound_of c.draft_all.new.source) (kept_of c.draft_all.new.desk.searcher.rows) c.deref-3.result.now c.in_ok-rests_on.rests_on.items c.in_ok-draft_all.ensures.read.kept c.in_ok-rests_on.ensures (λ x s a. a.bears)
 
 pub returns-clause-shows : goal.returns-clause-shows
-returns-clause-shows g c = all_listed_are g.S.RowSource.bears (g.S.RowSource.shows c.draft_all.new.source) (g.S.RowSource.shows c.draft_all.new.source) (g.S.RowSource.bound_of c.draft_all.new.source) (kept_of c.draft_all.new.desk.searcher.rows) c.deref-3.result.now c.in_ok-hand_out.field-0.items c.in_ok-draft_all.ensures.read.kept c.in_ok-hand_out.ensures (λ x s a. a.shows)
+returns-clause-shows g c = all_listed_are g.S.RowSource.bears (g.S.RowSource.shows c.draft_all.new.source) (g.S.RowSource.shows c.draft_all.new.source) (g.S.RowSource.bound_of c.draft_all.new.source) (kept_of c.draft_all.new.desk.searcher.rows) c.deref-3.result.now c.in_ok-rests_on.rests_on.items c.in_ok-draft_all.ensures.read.kept c.in_ok-rests_on.ensures (λ x s a. a.shows)
 
 pub returns-clause-contracted : goal.returns-clause-contracted
 returns-clause-contracted g c = λ memory unseen.
