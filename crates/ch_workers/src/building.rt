@@ -31,7 +31,7 @@ use std::thread::Threads;
 /// each worker; `OutOfMemory` where a growth was refused; `Mixed` where the receipts and the log, or the accounts of
 /// the queue, don't agree. On every answer the estimators were dropped and no lease of `leases` is out: so it doesn't
 /// answer as long as one is out elsewhere. Takes memory for the rows of the nodes, shortcuts included, and for those
-/// that are replaced in a shift, which have two dozen entries or so for each node of the graph, and are given back by a
+/// that are replaced in a shift, which have a dozen entries or so for each node of the graph, and are given back by a
 /// thread of its own beside the next shift; for the log, the receipts and the queue.
 pub fn build<G: Gate, R: Threads + Wait + Sync>(
     rt: &R,

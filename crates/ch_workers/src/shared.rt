@@ -16,7 +16,7 @@ use std::sync::{Mutex, MutexGuard, Wait};
 const TRIES: u32 = 1000;
 
 /// What the rows that are replaced in a shift may weigh for each node of the network, in entries.
-const ROOM: u64 = 24;
+const ROOM: u64 = 12;
 
 /// How many nodes a worker contracts at least before its shift is over.
 const FEWEST: u64 = 16;

@@ -35,7 +35,7 @@ pub(crate) fn cliques(alloc: Global, nodes: u32) -> Result<Graph, Fail> {
 pub(crate) fn shifts_of(built: &Built, worker: usize) -> u64 {
     let nodes = built.log.len() as u64;
     let workers = built.receipts.len().saturating_sub(1) as u64;
-    let all = nodes.saturating_mul(24);
+    let all = nodes.saturating_mul(12);
     let room = all.checked_div(workers).unwrap_or(0).max(16);
     let Some(receipts) = built.receipts.get(worker) else {
         return 0;

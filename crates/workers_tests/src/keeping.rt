@@ -142,7 +142,7 @@ fn two_workers_of_sixty_turns(rt: HostRuntime) -> Result<(), Fail> {
 }
 
 // Each node is put into the queue once, and again where its proposal was refused: so many items are taken. One of the two
-// has at least half of the weight of 200 nodes, which is four times its room.
+// has at least half of the weight of 200 nodes, which is more than four times its room.
 #[test]
 fn two_workers_take_each_node_once(rt: HostRuntime) -> Result<(), Fail> {
     let alloc = rt.alloc();
