@@ -2,7 +2,7 @@
 use Rattle.std.proofs.Common.{ℕ, ◌≡◌, ◌<◌, List, [], ◌∷◌, ◌++◌, length, map, drop, ap, sym, subst, refl, ◌∙◌}
 use Rattle.std.proofs.lemmas.List.{length-map}
 use Rattle.ch_contract.proofs.Ranges.{pairs-map}
-use Rattle.ch_graph.specs.Graph.{bound_of}
+use Rattle.ch_graph.specs.Limits.{bound_of}
 use Rattle.ch_cost.specs.declared.cost.Cost.{Cost}
 use Rattle.ch_laws.specs.declared.shortcut.Shortcut.{Shortcut}
 use Rattle.ch_laws.specs.Contraction.{State, Contraction, Step, Puts, contracted}

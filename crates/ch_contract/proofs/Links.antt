@@ -10,7 +10,8 @@ use Rattle.std.proofs.lemmas.List.Kept.{AllPairs-cons}
 use Rattle.std.proofs.lemmas.List.Sorted.{Contains-permutation, IsPermutation-sym}
 use Rattle.ch_cost.specs.declared.cost.Cost.{Cost}
 use Rattle.ch_graph.specs.declared.link.Link.{Link}
-use Rattle.ch_graph.specs.Graph.{Graph, bound_of}
+use Rattle.ch_graph.specs.Graph.{Graph}
+use Rattle.ch_graph.specs.Limits.{bound_of}
 use Rattle.ch_graph.specs.declared.version.Version.TheVariants.{Two}
 use Rattle.ch_graph.specs.Hierarchy.{ComesBefore}
 use Rattle.ch_laws.specs.declared.entry.Entry.{Entry}

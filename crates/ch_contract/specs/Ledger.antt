@@ -1,7 +1,8 @@
 -- A graph under contraction: its rows, and the log of what was done.
 use Rattle.std.specs.Prelude.{ℕ, ◌≡◌, ◌<◌, ◌≤◌, ◌^◌, Some, List, [], ◌∷◌, ◌++◌, length, filter, is_none, AllPairs, Contains, slice_index}
 use Rattle.std.specs.List.{range_with_len, slice_get}
-use Rattle.ch_graph.specs.Graph.{Graph, IsGraph, bound_of}
+use Rattle.ch_graph.specs.Graph.{Graph}
+use Rattle.ch_graph.specs.Limits.{IsGraph, bound_of}
 use Rattle.ch_laws.specs.declared.shortcut.Shortcut.{Shortcut}
 use Rattle.ch_laws.specs.Contraction.{Contraction, Step, IsReached, IsPlan, IsWitnessed, contracted}
 use Rattle.ch_laws.specs.Rows.{Row}

@@ -1,6 +1,6 @@
 -- The contraction of all nodes of a ledger, by rising number.
 use Rattle.std.specs.Prelude.{ℕ, ◌≡◌, List, ◌++◌, [], ◌∷◌, map, ◌⊎◌}
-use Rattle.ch_graph.specs.Graph.{bound_of}
+use Rattle.ch_graph.specs.Limits.{bound_of}
 use Rattle.ch_laws.specs.declared.shortcut.Shortcut.{Shortcut}
 use Rattle.ch_laws.specs.Contraction.{Contraction, Run, IsAlive, IsOver}
 use Rattle.ch_overlay.specs.Overlay.{state_of}

@@ -1,5 +1,5 @@
 ghost use Rattle.std.specs.Prelude.{◌≡◌, ◌<◌, ◌≤◌, ◌↔◌, ℕ, [], IfOk, IfErr, IsErrOf, IsTrue, OnErr, All, length, map, slice_index};
-ghost use Rattle.ch_graph.specs.Graph.{bound_of};
+ghost use Rattle.ch_graph.specs.Limits.{bound_of};
 ghost use Rattle.ch_graph.specs.Hierarchy.{IsRight};
 ghost use Rattle.ch_laws.specs.Contraction.{IsStart, IsAlive, IsMade};
 ghost use Rattle.ch_overlay.specs.Overlay.{state_of};

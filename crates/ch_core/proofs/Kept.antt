@@ -4,7 +4,7 @@ use Rattle.std.specs.List.{zip, range_with_len}
 use Rattle.std.proofs.lemmas.List.{get_or_default}
 use Rattle.std.proofs.lemmas.List.Elements.{All-append, All-map, All-weaker, All-contains, Contains-get_or}
 use Rattle.ch_cost.specs.declared.cost.Cost.{Cost}
-use Rattle.ch_graph.specs.Graph.{bound_of}
+use Rattle.ch_graph.specs.Limits.{bound_of}
 use Rattle.ch_laws.specs.declared.shortcut.Shortcut.{Shortcut}
 use Rattle.ch_laws.specs.Rows.{Row}
 use Rattle.ch_overlay.specs.Source.{IsBound}

@@ -3,7 +3,8 @@
 use Rattle.std.specs.Prelude.{ℕ, ◌≡◌, ◌≢◌, ◌<◌, ◌↔◌, nat_eq, List, [], ◌∷◌, ◌++◌, length, map, Option, Some, None, All, AllPairs, Contains, slice_index_or}
 use Rattle.std.specs.List.{zip, range_with_len}
 use Rattle.std.specs.Map.{lookup}
-use Rattle.ch_graph.specs.Graph.{Graph, bound_of}
+use Rattle.ch_graph.specs.Graph.{Graph}
+use Rattle.ch_graph.specs.Limits.{bound_of}
 use Rattle.ch_laws.specs.declared.shortcut.Shortcut.{Shortcut}
 use Rattle.ch_laws.specs.Contraction.{State, IsStart, IsNeighbour, Contraction}
 use Rattle.ch_laws.specs.Rows.{Row, IsChanged}

@@ -1,5 +1,5 @@
 ghost use Rattle.std.specs.Prelude.{◌≡◌, ◌↔◌, ◌<◌, [], IfOk, OnErr, IfNone, IfSome, IsTrue, All, length, replicate};
-ghost use Rattle.ch_graph.specs.Graph.{bound_of};
+ghost use Rattle.ch_graph.specs.Limits.{bound_of};
 ghost use Rattle.ch_laws.specs.Contraction.{IsReached};
 ghost use Rattle.ch_overlay.specs.Overlay.{state_of};
 ghost use Rattle.ch_contract.specs.Ledger.{IsContracted, IsLog};

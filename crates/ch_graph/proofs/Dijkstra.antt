@@ -9,7 +9,8 @@ use Rattle.ch_cost.specs.Cost.Laws.{sum_assoc, zero_cost-sum, at_most_refl, at_m
 use Rattle.ch_graph.specs.declared.mark.Mark.{Mark}
 use Rattle.ch_graph.specs.declared.mark.Mark.TheVariants.{Unseen, Open, Settled}
 use Rattle.ch_graph.specs.Walk.{Walk, stay, go}
-use Rattle.ch_graph.specs.Graph.{Graph, IsGraph, IsRoad, ArcOf, IsDistance}
+use Rattle.ch_graph.specs.Graph.{Graph, ArcOf, IsDistance}
+use Rattle.ch_graph.specs.Limits.{IsGraph, IsRoad}
 use Rattle.ch_graph.specs.Marks.{mark, HasCost, IsAtMost, Improves, IsOffered, IsLeastOpen, NoneOpen, settled, settled_count}
 use Rattle.ch_graph.specs.Search.{IsLatest, LeadsTo, IsOpenedFrom, IsFollowed, IsSearch}
 use Rattle.ch_graph.specs.Walk.Laws.{one_arc, join}

@@ -3,8 +3,9 @@ use Rattle.std.proofs.Common.{◌≡◌, Option, Some, None, ap, refl, inl, inr}
 use Rattle.ch_cost.specs.declared.cost.Cost.{Cost}
 use Rattle.ch_cost.specs.Cost.Laws.{at_most_antisym, below_not_at_most}
 use Rattle.ch_graph.specs.Walk.{Walk, IsLeastOrNone}
-use Rattle.ch_graph.specs.Graph.{ArcOf, DistanceIsWithinBound, DistanceIsUnique}
-use Rattle.ch_graph.specs.Graph.Laws.{within_or_cheaper}
+use Rattle.ch_graph.specs.Graph.{ArcOf, DistanceIsUnique}
+use Rattle.ch_graph.specs.Limits.{DistanceIsWithinBound}
+use Rattle.ch_graph.specs.Limits.Laws.{within_or_cheaper}
 use Rattle.ch_graph.specs.Hierarchy.{HasRiseFall, ValueIsUnique}
 
 -- so a distance is within the bound, since nothing is cheaper than it

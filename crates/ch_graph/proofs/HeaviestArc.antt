@@ -2,7 +2,7 @@
 use Rattle.std.proofs.Common.{ℕ, ◌≡◌, ◌+◌, ◌<◌, List, [], ◌∷◌, ◌++◌, length, take, get_or, max, arith, ap, ◌∙◌}
 use Rattle.std.proofs.lemmas.List.{take_more}
 use Rattle.ch_graph.specs.declared.road.Road.{Road}
-use Rattle.ch_graph.specs.Graph.{heaviest}
+use Rattle.ch_graph.specs.Limits.{heaviest}
 
 -- one more arc
 heaviest-push : (rs : List Road) (r : Road) → heaviest (rs ++ r ∷ []) ≡ max (heaviest rs) r.weight

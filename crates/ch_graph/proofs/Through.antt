@@ -4,7 +4,8 @@ use Rattle.ch_cost.specs.declared.cost.Cost.{Cost}
 use Rattle.ch_cost.specs.Cost.{zero_cost, ◌⊕◌, IsWithin}
 use Rattle.ch_cost.specs.Cost.Laws.{sum_assoc, sum-zero_cost, zero_cost-sum, at_most_antisym, within_refl, within-left}
 use Rattle.ch_graph.specs.Walk.{Walk, stay, go, visited, Along}
-use Rattle.ch_graph.specs.Graph.{Graph, IsLeastArc, LeastArcsCost}
+use Rattle.ch_graph.specs.Graph.{Graph}
+use Rattle.ch_graph.specs.LeastArcs.{IsLeastArc, LeastArcsCost}
 
 -- what was spent and the least arcs between these nodes cost this together
 pub record GoesOn (g : Graph) (spent : Cost) (nodes : List ℕ) (cost : Cost) : Type 0 where

@@ -1,5 +1,7 @@
 pub mod Walk
 pub mod Graph
+pub mod Limits
+pub mod LeastArcs
 pub mod Hierarchy
 pub mod Checking
 pub mod LinkIndex

@@ -1,6 +1,8 @@
 ghost use Rattle.std.specs.Prelude.{◌≡◌, ◌<◌, ◌↔◌, All, IfErr, IfNone, IfOk, IfSome, IsTrue};
 ghost use Rattle.ch_cost.specs.Cost.{IsWithin};
-ghost use Rattle.ch_graph.specs.Graph.{IsRoad, IsFirstBad, IsGraph, IsRefusal, IsDistance, IsWalkThrough, bound_of};
+ghost use Rattle.ch_graph.specs.Graph.{IsDistance};
+ghost use Rattle.ch_graph.specs.Limits.{IsRoad, IsFirstBad, IsGraph, IsRefusal, bound_of};
+ghost use Rattle.ch_graph.specs.LeastArcs.{IsWalkThrough};
 
 use crate::error::GraphError;
 use crate::road::Road;
@@ -22,12 +24,13 @@ pub struct Graph {
 impl Model for Graph {
     ghost use Rattle.std.specs.Prelude.{◌≡◌};
     ghost use Rattle.ch_graph.specs.Graph as graphs;
+    ghost use Rattle.ch_graph.specs.Limits as limits;
 
     ghost Value = { graphs.Graph };
 
     ghost view = { λ g. record { nodes = g.nodes; arcs = g.arcs.items } };
 
-    ghost invariant = { λ g. graphs.IsGraph (record { nodes = g.nodes; arcs = g.arcs.items }) × (g.heaviest ≡ graphs.heaviest g.arcs.items) };
+    ghost invariant = { λ g. limits.IsGraph (record { nodes = g.nodes; arcs = g.arcs.items }) × (g.heaviest ≡ limits.heaviest g.arcs.items) };
 }
 
 impl Graph {

@@ -1,4 +1,5 @@
-ghost use Rattle.ch_graph.specs.Graph.{DistanceIsUnique, DistanceIsWithinBound};
+ghost use Rattle.ch_graph.specs.Graph.{DistanceIsUnique};
+ghost use Rattle.ch_graph.specs.Limits.{DistanceIsWithinBound};
 ghost use Rattle.ch_graph.specs.Hierarchy.{ValueIsUnique};
 ghost use Rattle.ch_graph.specs.Unfolding.{LinksUnfold, PlacesNameLinks, RiseFallJoins};
 

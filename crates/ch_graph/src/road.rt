@@ -1,5 +1,5 @@
 ghost use Rattle.std.specs.Prelude.{◌↔◌, IsTrue};
-ghost use Rattle.ch_graph.specs.Graph.{IsRoad};
+ghost use Rattle.ch_graph.specs.Limits.{IsRoad};
 
 /// An arc of a road graph, in one direction. A road in two directions is two of them.
 #[derive(Clone, Copy, Debug, PartialEq, Eq)]

@@ -1,6 +1,7 @@
 ghost use Rattle.std.specs.Prelude.{◌≡◌, ◌<◌, length, IfOk, IfSome, OnOk};
 ghost use Rattle.ch_cost.specs.Cost.{IsInLimit, IsWithin};
-ghost use Rattle.ch_graph.specs.Graph.{IsDistance, bound_of};
+ghost use Rattle.ch_graph.specs.Graph.{IsDistance};
+ghost use Rattle.ch_graph.specs.Limits.{bound_of};
 ghost use Rattle.ch_graph.specs.Outgoing.{IsLinked};
 ghost use Rattle.ch_graph.specs.Search.{IsLatest, IsOpenedFrom, IsFollowed};
 

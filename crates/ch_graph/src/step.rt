@@ -3,7 +3,8 @@ ghost use Rattle.ch_cost.specs.declared.cost.Cost.{Cost};
 ghost use Rattle.ch_cost.specs.Cost.{◌⊕◌, IsWithin};
 ghost use Rattle.ch_graph.specs.declared.road.Road.{Road};
 ghost use Rattle.ch_graph.specs.Walk.{IsLeastOrNone};
-ghost use Rattle.ch_graph.specs.Graph.{ArcOf, IsLeastArc, LeastArcsCost};
+ghost use Rattle.ch_graph.specs.Graph.{ArcOf};
+ghost use Rattle.ch_graph.specs.LeastArcs.{IsLeastArc, LeastArcsCost};
 
 use crate::graph::Graph;
 use crate::road::Road;

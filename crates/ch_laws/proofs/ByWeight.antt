@@ -9,8 +9,9 @@ use Rattle.ch_graph.specs.declared.link.Link.{Link}
 use Rattle.ch_graph.specs.declared.version.Version.{Version}
 use Rattle.ch_graph.specs.declared.version.Version.TheVariants.{One}
 use Rattle.ch_graph.specs.Walk.{Walk, Walk.stay, Walk.go, visited, Along}
-use Rattle.ch_graph.specs.Graph.{Graph, IsGraph, ArcOf, IsDistance, IsLeastLength}
-use Rattle.ch_graph.specs.Graph.Laws.{arc-sound}
+use Rattle.ch_graph.specs.Graph.{Graph, ArcOf, IsDistance, IsLeastLength}
+use Rattle.ch_graph.specs.Limits.{IsGraph}
+use Rattle.ch_graph.specs.Limits.Laws.{arc-sound}
 use Rattle.ch_graph.specs.Walk.Laws.{short_or_cheaper}
 use Rattle.ch_graph.specs.Hierarchy.{Hierarchy, Chain, Chain.nothing, Chain.then, Unfolds, Unfolds.whole, Unfolds.halves, Counts, CountsWeight, IsLinkWellMade, IsWellMade}
 use Rattle.ch_graph.specs.Hierarchy.Chains.{chain-along, chain-weaker}

@@ -6,7 +6,8 @@ use Rattle.ch_cost.specs.declared.cost.Cost.{Cost}
 use Rattle.ch_cost.specs.Cost.{zero_cost, ◌⊕◌, IsWithin}
 use Rattle.ch_cost.specs.Cost.Laws.{sum_assoc, zero_cost-sum, sum-zero_cost, at_most_antisym, at_most_sum_right, at_most_trans_below, below_sum_left, cases_cost, within-left, within-right}
 use Rattle.ch_graph.specs.Walk.{Walk, Walk.stay, Walk.go}
-use Rattle.ch_graph.specs.Graph.{Graph, ArcOf, bound_of}
+use Rattle.ch_graph.specs.Graph.{Graph, ArcOf}
+use Rattle.ch_graph.specs.Limits.{bound_of}
 use Rattle.ch_graph.specs.Walk.Laws.{Cheaper, one_arc, join, along_walks, cheaper-after, cheaper-before}
 use Rattle.ch_laws.specs.declared.shortcut.Shortcut.{Shortcut}
 use Rattle.ch_laws.specs.Contraction.{State, Before, HasArc, Remains, Through, Avoids, HasWitness, Puts}

@@ -6,9 +6,10 @@ use Rattle.ch_cost.specs.Cost.{◌⊕◌}
 use Rattle.ch_cost.specs.Cost.Laws.{below_not_at_most, within_trans, more_arcs_within}
 use Rattle.ch_graph.specs.declared.link.Link.{Link}
 use Rattle.ch_graph.specs.Walk.{Walk, visited, Along}
-use Rattle.ch_graph.specs.Graph.{Graph, IsGraph, ArcOf, IsDistance}
+use Rattle.ch_graph.specs.Graph.{Graph, ArcOf, IsDistance}
+use Rattle.ch_graph.specs.Limits.{IsGraph}
 use Rattle.ch_graph.specs.Hierarchy.{Hierarchy, Chain, Chain.nothing, IsRiseFall, Unfolds, UnfoldsAll, UnfoldsAll.done, UnfoldsAll.more, IsRight}
-use Rattle.ch_graph.specs.Graph.Laws.{few_arcs_or_cheaper, bound-within}
+use Rattle.ch_graph.specs.Limits.Laws.{few_arcs_or_cheaper, bound-within}
 use Rattle.ch_graph.specs.Hierarchy.Chains.{chain-same, chain-join, chain-along, chain-weaker, chain-view}
 use Rattle.ch_laws.specs.Theorems.{BoundsFit, IsLeastRoute, NeverTooLong, RouteIsLeast}
 

@@ -12,9 +12,10 @@ use Rattle.ch_cost.specs.Cost.{◌⊕◌, cost_of_arcs, arcs_of, IsWithin}
 use Rattle.ch_cost.specs.Cost.Numbers.{arcs_of-cost_of_arcs}
 use Rattle.ch_graph.specs.declared.link.Link.{Link}
 use Rattle.ch_graph.specs.declared.version.Version.{Version}
-use Rattle.ch_graph.specs.Graph.{Graph, IsGraph, heaviest, bound_of}
+use Rattle.ch_graph.specs.Graph.{Graph}
+use Rattle.ch_graph.specs.Limits.{IsGraph, heaviest, bound_of}
 use Rattle.ch_graph.specs.Hierarchy.{Hierarchy, rank_of, IsLink, AreHalves, Counts, IsLinkWellMade, IsWellMade, bound_arcs}
-use Rattle.ch_graph.specs.Graph.Laws.{arc-one, bound-within, walk-some}
+use Rattle.ch_graph.specs.Limits.Laws.{arc-one, bound-within, walk-some}
 use Rattle.ch_laws.specs.Contraction.{State, StateArc, Before, HasArc, IsOver, IsMade}
 use Rattle.ch_laws.specs.Members.{place_of}
 use Rattle.ch_laws.proofs.Sound.{IsSound, IsSoundArc, IsSplit}

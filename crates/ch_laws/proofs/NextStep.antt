@@ -8,7 +8,8 @@ use Rattle.std.proofs.lemmas.List.Quantifiers.{all_pairs_push}
 use Rattle.ch_cost.specs.declared.cost.Cost.{Cost}
 use Rattle.ch_cost.specs.Cost.{◌⊕◌, ◌≼◌, ◌≺◌, IsWithin}
 use Rattle.ch_cost.specs.Cost.Laws.{cases_cost, cases_within}
-use Rattle.ch_graph.specs.Graph.{Graph, bound_of}
+use Rattle.ch_graph.specs.Graph.{Graph}
+use Rattle.ch_graph.specs.Limits.{bound_of}
 use Rattle.ch_graph.specs.Walk.Laws.{one_arc}
 use Rattle.ch_laws.specs.Contraction.{State, StateArc, IsAlive, HasArc, Remains, Through, HasWitness, Shortcut, IsFor, NoShortcut, IsAllowed, IsPlan, IsWitnessed, contracted, IsNeighbour, Contraction, Step}
 use Rattle.ch_laws.specs.Theorems.{GoesOn}

@@ -6,9 +6,10 @@ use Rattle.ch_cost.specs.declared.cost.Cost.{Cost}
 use Rattle.ch_cost.specs.Cost.{zero_cost, ◌⊕◌, IsWithin}
 use Rattle.ch_cost.specs.Cost.Laws.{sum_assoc, zero_cost-sum, sum-zero_cost, at_most_antisym, cases_cost, within-left, within-right}
 use Rattle.ch_graph.specs.Walk.{Walk, Walk.stay, Walk.go}
-use Rattle.ch_graph.specs.Graph.{Graph, IsGraph, ArcOf, bound_of}
+use Rattle.ch_graph.specs.Graph.{Graph, ArcOf}
+use Rattle.ch_graph.specs.Limits.{IsGraph, bound_of}
 use Rattle.ch_graph.specs.Walk.Laws.{Cheaper, one_arc, join, along_arcs, cheaper-after, cheaper-before}
-use Rattle.ch_graph.specs.Graph.Laws.{arc-sound}
+use Rattle.ch_graph.specs.Limits.Laws.{arc-sound}
 use Rattle.ch_laws.specs.declared.shortcut.Shortcut.{Shortcut}
 use Rattle.ch_laws.specs.Contraction.{State, StateArc, IsAlive, Remains, IsStartArc, IsStart, Puts, Contraction, Run, Run.rest, Run.next, IsOver}
 use Rattle.ch_laws.proofs.Order.{before_not_alive}

@@ -7,9 +7,10 @@ use Rattle.ch_cost.specs.declared.cost.Cost.{Cost}
 use Rattle.ch_cost.specs.Cost.{zero_cost, ◌⊕◌, ◌≺◌, IsWithin}
 use Rattle.ch_cost.specs.Cost.Laws.{at_most_sum_left, below_trans_at_most}
 use Rattle.ch_graph.specs.Walk.{Walk}
-use Rattle.ch_graph.specs.Graph.{Graph, IsGraph, ArcOf, bound_of}
+use Rattle.ch_graph.specs.Graph.{Graph, ArcOf}
+use Rattle.ch_graph.specs.Limits.{IsGraph, bound_of}
 use Rattle.ch_graph.specs.Walk.Laws.{one_arc, join, along_walks}
-use Rattle.ch_graph.specs.Graph.Laws.{arc-sound, arc-within}
+use Rattle.ch_graph.specs.Limits.Laws.{arc-sound, arc-within}
 use Rattle.ch_laws.specs.declared.shortcut.Shortcut.{Shortcut}
 use Rattle.ch_laws.specs.Contraction.{State, StateArc, Before, IsAlive, HasArc, Remains, IsStartArc, IsStart, Through, Avoids, Puts, Contraction, Run, Run.rest, Run.next, IsReached}
 use Rattle.ch_laws.specs.Rows.{IsPlain}

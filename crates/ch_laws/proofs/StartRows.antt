@@ -3,8 +3,10 @@ use Rattle.std.proofs.Common.{ℕ, ◌≡◌, ◌≢◌, ◌<◌, ◌≤◌, Lis
 use Rattle.std.proofs.lemmas.Bool.{cases_lt}
 use Rattle.std.proofs.lemmas.List.{get_or_past}
 use Rattle.ch_cost.specs.Cost.Laws.{at_most_antisym}
-use Rattle.ch_graph.specs.Graph.{Graph, IsGraph, IsLeastArc}
-use Rattle.ch_graph.specs.Graph.Laws.{arc-sound}
+use Rattle.ch_graph.specs.Graph.{Graph}
+use Rattle.ch_graph.specs.Limits.{IsGraph}
+use Rattle.ch_graph.specs.LeastArcs.{IsLeastArc}
+use Rattle.ch_graph.specs.Limits.Laws.{arc-sound}
 use Rattle.ch_laws.specs.Contraction.{StateArc, Before, IsStartArc, IsStart, or_else}
 use Rattle.ch_laws.specs.Rows.{Entry, Row, arc_of, arc_to, shown, no_arcs, row_at, arc_by_rows, state_by, IsRow, IsStartRow}
 use Rattle.ch_laws.specs.Theorems.{RowsStart}

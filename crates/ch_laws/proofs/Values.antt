@@ -5,10 +5,11 @@ use Rattle.ch_cost.specs.Cost.{◌⊕◌, ◌≼◌, IsWithin, IsNoLonger}
 use Rattle.ch_cost.specs.Cost.Laws.{at_most_refl, at_most_trans, at_most_antisym, at_most-from_below, no_longer-from_within, cost-induction}
 use Rattle.ch_graph.specs.declared.link.Link.{Link}
 use Rattle.ch_graph.specs.Walk.{Walk, Walk.stay, Walk.go}
-use Rattle.ch_graph.specs.Graph.{Graph, IsGraph, ArcOf, bound_of, IsDistance}
+use Rattle.ch_graph.specs.Graph.{Graph, ArcOf, IsDistance}
+use Rattle.ch_graph.specs.Limits.{IsGraph, bound_of}
 use Rattle.ch_graph.specs.Hierarchy.{Hierarchy, Chain, Chain.nothing, Chain.then, IsRising, IsFalling, HasRiseFall, IsValue, Unfolds, Unfolds.whole, Unfolds.halves, IsArcOf}
 use Rattle.ch_graph.specs.Walk.Laws.{Cheaper, join}
-use Rattle.ch_graph.specs.Graph.Laws.{within_or_cheaper}
+use Rattle.ch_graph.specs.Limits.Laws.{within_or_cheaper}
 use Rattle.ch_graph.specs.Hierarchy.Chains.{chain-same, chain-join, one_link, chain-walk}
 use Rattle.ch_graph.specs.Unfolding.{LinksUnfold}
 use Rattle.ch_laws.specs.Contraction.{State, Contraction, IsReached, IsOver, IsMade}

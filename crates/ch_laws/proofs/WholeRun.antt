@@ -7,7 +7,8 @@ use Rattle.std.proofs.lemmas.List.Elements.{Contains-append_left, Contains-push,
 use Rattle.std.proofs.lemmas.List.Quantifiers.{all_pairs_push}
 use Rattle.ch_graph.specs.declared.link.Link.{Link}
 use Rattle.ch_graph.specs.declared.version.Version.TheVariants.{Two}
-use Rattle.ch_graph.specs.Graph.{Graph, IsGraph, bound_of}
+use Rattle.ch_graph.specs.Graph.{Graph}
+use Rattle.ch_graph.specs.Limits.{IsGraph, bound_of}
 use Rattle.ch_graph.specs.Hierarchy.{Hierarchy, ComesBefore}
 use Rattle.ch_laws.specs.Contraction.{State, StateArc, IsAlive, Contraction, Step, Run.rest, IsReached, IsOver, IsMade}
 use Rattle.ch_laws.specs.Theorems.{HasRun}

@@ -6,7 +6,8 @@ use Rattle.ch_cost.specs.Cost.{length_of}
 use Rattle.ch_graph.specs.declared.link.Link.{Link}
 use Rattle.ch_graph.specs.declared.version.Version.TheVariants.{One}
 use Rattle.ch_graph.specs.Walk.{Along}
-use Rattle.ch_graph.specs.Graph.{Graph, IsGraph, ArcOf, IsLeastLength}
+use Rattle.ch_graph.specs.Graph.{Graph, ArcOf, IsLeastLength}
+use Rattle.ch_graph.specs.Limits.{IsGraph}
 use Rattle.ch_graph.specs.Hierarchy.{Hierarchy, Chain, IsValue, Unfolds, IsWellMade, IsRight}
 use Rattle.ch_laws.specs.Theorems.{IsLeastRoute}
 

@@ -6,7 +6,9 @@ use Rattle.ch_graph.specs.declared.link.Link.{Link}
 use Rattle.ch_graph.specs.declared.version.Version.TheVariants.{Two}
 use Rattle.ch_graph.specs.Walk.{Walk}
 pub use Rattle.ch_laws.specs.declared.shortcut.Shortcut.{Shortcut}
-use Rattle.ch_graph.specs.Graph.{Graph, ArcOf, IsLeastArc, bound_of}
+use Rattle.ch_graph.specs.Graph.{Graph, ArcOf}
+use Rattle.ch_graph.specs.Limits.{bound_of}
+use Rattle.ch_graph.specs.LeastArcs.{IsLeastArc}
 use Rattle.ch_graph.specs.Hierarchy.{Hierarchy, ComesBefore, rank_of}
 
 -- States

@@ -2,7 +2,8 @@
 use Rattle.std.specs.Prelude.{ℕ, ◌≡◌, ◌≢◌, ◌<◌, ◌⊎◌, ◌↔◌, cond, nat_eq, List, [], ◌∷◌, length, Option, Some, None, All, AllPairs, Contains, slice_index, slice_index_or}
 use Rattle.ch_cost.specs.declared.cost.Cost.{Cost}
 use Rattle.ch_cost.specs.Cost.{zero_cost, ◌≺◌, IsWithin}
-use Rattle.ch_graph.specs.Graph.{Graph, IsLeastArc}
+use Rattle.ch_graph.specs.Graph.{Graph}
+use Rattle.ch_graph.specs.LeastArcs.{IsLeastArc}
 pub use Rattle.ch_laws.specs.declared.entry.Entry.{Entry}
 use Rattle.ch_laws.specs.Contraction.{State, StateArc, Before, Remains, IsNeighbour, Shortcut, IsFor, NoShortcut, or_else}
 

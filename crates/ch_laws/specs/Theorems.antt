@@ -4,7 +4,8 @@ use Rattle.ch_cost.specs.declared.cost.Cost.{Cost}
 use Rattle.ch_cost.specs.Cost.{cost_of_arcs, IsWithin}
 use Rattle.ch_graph.specs.declared.link.Link.{Link}
 use Rattle.ch_graph.specs.Walk.{Along}
-use Rattle.ch_graph.specs.Graph.{Graph, IsGraph, ArcOf, IsDistance, bound_of}
+use Rattle.ch_graph.specs.Graph.{Graph, ArcOf, IsDistance}
+use Rattle.ch_graph.specs.Limits.{IsGraph, bound_of}
 use Rattle.ch_graph.specs.Hierarchy.{Hierarchy, Chain, IsRiseFall, IsValue, UnfoldsAll, IsWellMade, IsArcOf, IsRight}
 use Rattle.ch_laws.specs.Contraction.{State, IsAlive, Shortcut, IsPlan, IsWitnessed, Puts, contracted, IsNeighbour, Contraction, Step, IsStart, IsReached, IsOver, IsMade}
 use Rattle.ch_laws.specs.Rows.{IsPlain, Row, IsRow, ShowsRemaining, IsChanged, AreRows, AreUpdated, IsStartRow, shown, row_at, state_by}

@@ -10,7 +10,9 @@ use Rattle.ch_cost.specs.declared.cost.Cost.{Cost}
 use Rattle.ch_cost.specs.Cost.{◌≼◌, of_weight}
 use Rattle.ch_cost.specs.Cost.Laws.{arc_at_most, at_most_antisym}
 use Rattle.ch_graph.specs.declared.road.Road.{Road}
-use Rattle.ch_graph.specs.Graph.{Graph, IsGraph, IsLeastArc, bound_of}
+use Rattle.ch_graph.specs.Graph.{Graph}
+use Rattle.ch_graph.specs.Limits.{IsGraph, bound_of}
+use Rattle.ch_graph.specs.LeastArcs.{IsLeastArc}
 use Rattle.ch_laws.specs.declared.entry.Entry.{Entry}
 use Rattle.ch_laws.specs.Contraction.{IsStart}
 use Rattle.ch_laws.specs.Rows.{Row, Rises, IsPlain, IsStartRow, AreRows, state_by}

@@ -1,7 +1,7 @@
 ghost use Rattle.std.specs.Prelude.{◌≡◌, ◌+◌, ◌<◌, List, IfOk, All, AllPairs, length, map, slice_index};
 ghost use Rattle.std.specs.List.{zip, range_with_len};
 ghost use Rattle.std.specs.Arc.{arc_value};
-ghost use Rattle.ch_graph.specs.Graph.{bound_of};
+ghost use Rattle.ch_graph.specs.Limits.{bound_of};
 ghost use Rattle.ch_laws.specs.declared.shortcut.Shortcut.{Shortcut};
 ghost use Rattle.ch_laws.specs.Contraction.{IsStart, IsPlan, contracted};
 ghost use Rattle.ch_overlay.specs.Overlay.{IsOverlay, row_at, state_of};

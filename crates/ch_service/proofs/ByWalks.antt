@@ -6,8 +6,9 @@ use Rattle.ch_cost.specs.declared.cost.Cost.{Cost}
 use Rattle.ch_cost.specs.Cost.{length_of, arcs_of}
 use Rattle.ch_cost.specs.Cost.Laws.{length_of-at_most, arcs_of-at_most}
 use Rattle.ch_graph.specs.Walk.{Walk, visited, Along}
-use Rattle.ch_graph.specs.Graph.{Graph, IsGraph, ArcOf}
-use Rattle.ch_graph.specs.Graph.Laws.{walk-arcs}
+use Rattle.ch_graph.specs.Graph.{Graph, ArcOf}
+use Rattle.ch_graph.specs.Limits.{IsGraph}
+use Rattle.ch_graph.specs.Limits.Laws.{walk-arcs}
 use Rattle.ch_graph.specs.Hierarchy.{Hierarchy, IsWellMade, IsRight}
 use Rattle.ch_graph.specs.declared.link.Link.{Link}
 use Rattle.ch_graph.specs.declared.version.Version.{Version}

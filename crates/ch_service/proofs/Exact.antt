@@ -2,7 +2,8 @@
 use Rattle.std.proofs.Common.{ℕ, ◌≡◌, List, [], ◌++◌, length, take, sym, ◌∙◌, ap, subst}
 use Rattle.std.specs.Prelude.{⊤, Option, Some, None, IfSome, All, Result, Ok, Err, IfErr, OnOk}
 use Rattle.std.proofs.lemmas.List.Elements.{All-take}
-use Rattle.ch_graph.specs.Graph.{Graph, IsGraph}
+use Rattle.ch_graph.specs.Graph.{Graph}
+use Rattle.ch_graph.specs.Limits.{IsGraph}
 use Rattle.ch_graph.specs.Hierarchy.{Hierarchy}
 use Rattle.ch_graph.specs.declared.version.Version.{Version}
 use Rattle.grfile.specs.Reading.{IsPair, graph_of, pairs_of, SpelledGraphsAreInRange, SpelledPairsAreInRange}

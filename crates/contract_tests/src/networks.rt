@@ -1,5 +1,5 @@
 ghost use Rattle.std.specs.Prelude.{◌≡◌, IfOk, length};
-ghost use Rattle.ch_graph.specs.Graph.{bound_of};
+ghost use Rattle.ch_graph.specs.Limits.{bound_of};
 
 use ch_contract::Ledger;
 use ch_graph::{Graph, Road};

@@ -1,6 +1,6 @@
 //! Threads that read the rows of a board's book, while another contracts its nodes.
 ghost use Rattle.std.specs.Prelude.{◌≡◌};
-ghost use Rattle.ch_graph.specs.Graph.{bound_of};
+ghost use Rattle.ch_graph.specs.Limits.{bound_of};
 ghost use Rattle.ch_rowbook.specs.Blanks.{name_of};
 
 use crate::networks::with_blank;

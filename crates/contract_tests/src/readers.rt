@@ -1,6 +1,6 @@
 //! What the readers of a board's book find.
 ghost use Rattle.std.specs.Prelude.{◌≡◌, length};
-ghost use Rattle.ch_graph.specs.Graph.{bound_of};
+ghost use Rattle.ch_graph.specs.Limits.{bound_of};
 ghost use Rattle.ch_rowbook.specs.Blanks.{name_of};
 
 use crate::networks::{ROW, graph_of, with_blank, with_book};

@@ -5,7 +5,7 @@
 //! memory. What is used up by a refused call, as a graph, ends the test with that error, and so does a growth of what the
 //! test sets up.
 ghost use Rattle.std.specs.Prelude.{◌≡◌, [], IfOk, length};
-ghost use Rattle.ch_graph.specs.Graph.{bound_of};
+ghost use Rattle.ch_graph.specs.Limits.{bound_of};
 ghost use Rattle.ch_rowbook.specs.Blanks.{name_of};
 
 use crate::boards::{Linked, are_links, finished};

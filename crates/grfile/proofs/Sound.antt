@@ -7,7 +7,7 @@ use Rattle.std.proofs.lemmas.Bool.{cond_both, ltb-false, or_parts, eqb-true, eqb
 use Rattle.std.proofs.lemmas.Result.{IfOk-weaker}
 use Rattle.std.proofs.lemmas.List.Elements.{All-from_recursion}
 use Rattle.ch_cost.specs.Cost.Laws.{weight-from}
-use Rattle.ch_graph.specs.Graph.{IsRoad, IsGraph}
+use Rattle.ch_graph.specs.Limits.{IsRoad, IsGraph}
 use Rattle.grfile.specs.declared.error.GrError.{GrError}
 use Rattle.grfile.specs.declared.error.GrErrorKind.TheVariants.{UnknownLine, NoProblemLine, SecondProblemLine, ArcCount}
 use Rattle.grfile.specs.declared.fields.LineKind.TheVariants.{Skipped, Problem, Entry, Unknown}

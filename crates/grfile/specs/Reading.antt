@@ -1,7 +1,8 @@
 -- The reading of a text: the graph, or the pairs, or the first fault, by cases on the list of its lines; and the laws on it.
 use Rattle.std.specs.Prelude.{ℕ, ◌≡◌, ◌<◌, List, All, Result, Ok}
 use Rattle.ch_graph.specs.declared.road.Road.{Road}
-use Rattle.ch_graph.specs.Graph.{Graph, IsGraph}
+use Rattle.ch_graph.specs.Graph.{Graph}
+use Rattle.ch_graph.specs.Limits.{IsGraph}
 use Rattle.grfile.specs.declared.error.GrError.{GrError}
 use Rattle.grfile.specs.Lines.{lines_of}
 use Rattle.grfile.specs.Outcome.{◌>>=◌}

@@ -30,7 +30,7 @@ impl Model for GrReader {
     ghost use Rattle.std.specs.Prelude.{List, ℕ};
     ghost use Rattle.std.specs.Result.{ForOk};
     ghost use Rattle.ch_graph.specs.declared.road.Road.{Road};
-    ghost use Rattle.ch_graph.specs.Graph.{IsGraph};
+    ghost use Rattle.ch_graph.specs.Limits.{IsGraph};
     ghost use Rattle.grfile.specs.Taken as texts;
 
     ghost Value = { texts.Taken Road };

@@ -2,7 +2,7 @@ use Rattle.std.proofs.Common.{◌≡◌, slice_index_or, arith, subst, inl, inr}
 use Rattle.std.proofs.lemmas.Bool.{cases_lt}
 use Rattle.std.proofs.lemmas.List.{get_or_default}
 use Rattle.ch_graph.specs.declared.road.Road.{Road}
-use Rattle.ch_graph.specs.Graph.{IsRoad}
+use Rattle.ch_graph.specs.Limits.{IsRoad}
 use Rattle.ch_graph.proofs.graph.first_bad.Goals as goal
 
 pub arcs-preserved : goal.arcs-preserved

@@ -2,7 +2,7 @@ use Rattle.std.proofs.Common.{◌≡◌, Option, Some, None, subst, sym}
 use Rattle.std.specs.Option.{IfNone, SomeIff}
 use Rattle.ch_cost.specs.declared.cost.Cost.{Cost}
 use Rattle.ch_cost.specs.Cost.{◌⊕◌, IsWithin}
-use Rattle.ch_graph.specs.Graph.{IsLeastArc}
+use Rattle.ch_graph.specs.LeastArcs.{IsLeastArc}
 use Rattle.ch_graph.proofs.Through.{least_arc-unique}
 use Rattle.ch_graph.proofs.step.step.Goals as goal
 

@@ -1,6 +1,7 @@
 use Rattle.std.proofs.Common.{rules, subst, arith}
 use Rattle.std.proofs.lemmas.Grind.{common_steps}
-use Rattle.ch_graph.specs.Graph.{Graph, IsGraph}
+use Rattle.ch_graph.specs.Graph.{Graph}
+use Rattle.ch_graph.specs.Limits.{IsGraph}
 use Rattle.ch_service.specs.Answer.{IsLeastWalk, IsFewestWalk}
 use Rattle.ch_service.proofs.ByWalks.{walk-right, fewest-right, answers-told, stops-answered, fault-answering, texts-kinds, fault-answered, no_text_fault, pairs_refused}
 use Rattle.ch_service.proofs.FromBuild.{built-good}

@@ -1,5 +1,6 @@
 use Rattle.std.proofs.Common.{List, [], arith, sym, subst}
-use Rattle.ch_graph.specs.Graph.{Graph, IsGraph}
+use Rattle.ch_graph.specs.Graph.{Graph}
+use Rattle.ch_graph.specs.Limits.{IsGraph}
 use Rattle.ch_laws.specs.Contraction.{Contraction, IsReached, Run}
 use Rattle.ch_overlay.specs.Overlay.{state_of}
 use Rattle.ch_contract.proofs.ledger.Ledger.new.Goals as goal

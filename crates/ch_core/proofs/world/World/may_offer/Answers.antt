@@ -2,7 +2,7 @@ use Rattle.std.proofs.Common.{◌≡◌, ◌<◌, [], List, All, length, arith, 
 use Rattle.std.proofs.lemmas.Bool.{false≢true}
 use Rattle.std.proofs.lemmas.List.{get_or_read}
 use Rattle.ch_cost.specs.Cost.Laws.{equal-from_same, same-from_equal}
-use Rattle.ch_graph.specs.Graph.{bound_of}
+use Rattle.ch_graph.specs.Limits.{bound_of}
 use Rattle.ch_overlay.specs.declared.source.Seen.{Seen}
 use Rattle.ch_overlay.specs.Overlay.{Overlay}
 use Rattle.ch_core.specs.World.{World, View, StandsIn, view_of}

@@ -1,6 +1,6 @@
 use Rattle.std.proofs.Common.{List, All, arith, subst}
 use Rattle.ch_graph.specs.declared.road.Road.{Road}
-use Rattle.ch_graph.specs.Graph.{IsRoad}
+use Rattle.ch_graph.specs.Limits.{IsRoad}
 use Rattle.ch_graph.proofs.graph.Graph.checked.Goals as goal
 
 pub new-requires : goal.new-requires

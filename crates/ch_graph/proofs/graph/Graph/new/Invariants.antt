@@ -1,5 +1,5 @@
 use Rattle.std.proofs.Common.{◌≡◌, take}
-use Rattle.ch_graph.specs.Graph.{heaviest}
+use Rattle.ch_graph.specs.Limits.{heaviest}
 use Rattle.ch_graph.proofs.graph.Graph.new.Given as goal
 
 abbrev pub invariant-loop-arc : goal.invariant-loop-arc

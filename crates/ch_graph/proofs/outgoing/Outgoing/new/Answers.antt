@@ -2,7 +2,7 @@ use Rattle.std.proofs.Common.{◌≡◌, ℕ, ◌<◌, ◌∙◌, List, length, 
 use Rattle.std.proofs.lemmas.List.{get_or_read, length-set}
 use Rattle.std.proofs.lemmas.Grind.{common_steps}
 use Rattle.ch_graph.specs.declared.road.Road.{Road}
-use Rattle.ch_graph.specs.Graph.{IsRoad}
+use Rattle.ch_graph.specs.Limits.{IsRoad}
 use Rattle.ch_graph.specs.Outgoing.{road_at, IsLastFrom, IsLinked}
 use Rattle.ch_graph.proofs.Linking.{lasts-more, befores-more}
 use Rattle.ch_graph.proofs.outgoing.Outgoing.new.Goals as goal

@@ -1,4 +1,4 @@
-use Rattle.ch_graph.specs.Graph.{IsGraph}
+use Rattle.ch_graph.specs.Limits.{IsGraph}
 use Rattle.grfile.specs.Roads.{graph_grammar}
 use Rattle.grfile.specs.Taken.{taken_of}
 use Rattle.grfile.proofs.Cuttings.{still_holds}

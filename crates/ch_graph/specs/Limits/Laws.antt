@@ -6,7 +6,8 @@ use Rattle.ch_cost.specs.Cost.{zero_cost, ◌⊕◌, of_weight, cost_of_arcs, ar
 use Rattle.ch_cost.specs.Cost.Laws.{arc_above, arc_and_arcs_within, heavier_arcs_within, more_arcs_within, weight_fits, arcs_of-zero_cost, arcs_of-of_weight, arcs_of-sum, sum-zero_cost, within_trans, zero_cost_within}
 use Rattle.ch_graph.specs.declared.road.Road.{Road}
 use Rattle.ch_graph.specs.Walk.{Walk, Walk.stay, Walk.go, visited}
-use Rattle.ch_graph.specs.Graph.{Graph, IsRoad, IsGraph, ArcOf, heaviest, bound_of}
+use Rattle.ch_graph.specs.Graph.{Graph, ArcOf}
+use Rattle.ch_graph.specs.Limits.{IsRoad, IsGraph, heaviest, bound_of}
 use Rattle.ch_graph.specs.Walk.Laws.{Cheaper, short_or_cheaper}
 
 -- no arc is heavier than the heaviest
