@@ -159,8 +159,8 @@ impl Overlay {
             self.rows.as_slice(),
             node,
             neighbours.as_slice(),
-            out.as_slice(),
-            inn.as_slice(),
+            &out,
+            &inn,
         )?;
         Ok(Change { node, rows })
     }

@@ -1,8 +1,6 @@
-ghost use Rattle.std.specs.Prelude.{◌≡◌, ◌<◌, ◌≤◌, ◌↔◌, IfOk, AllPairs, Contains, length, map};
+ghost use Rattle.std.specs.Prelude.{◌≡◌, ◌<◌, ◌≤◌, IfOk, AllPairs, length, map};
 ghost use Rattle.std.specs.List.Sorted.{IsPartitionPoint, IsPermutation};
 ghost use Rattle.ch_laws.specs.Contraction.{IsFor};
-ghost use Rattle.ch_laws.specs.Rows.{Rises};
-ghost use Rattle.ch_laws.specs.declared.entry.Entry.{Entry};
 ghost use Rattle.ch_overlay.specs.Placing.{out_place, in_place, IsInOrder};
 
 use ch_laws::{Entry, Middle, Shortcut};
@@ -15,32 +13,71 @@ pub struct Placed {
     pub entry: Entry,
 }
 
-/// The entries of shortcuts in the rows of the nodes that they leave, in order. `middle` is the contracted node.
+/// Entries for rows, in order, so that those for one row stand together.
+#[derive(Drop)]
+pub struct PlacedEntries {
+    /// By the nodes of their rows, and then by their other nodes.
+    pub placed: Vec<Placed>,
+    /// The same entries without the nodes of their rows.
+    pub entries: Vec<Entry>,
+    ghost same: { entries.items ≡ map (λ p. p.entry) placed.items },
+}
+
+impl PlacedEntries {
+    ghost use Rattle.std.specs.Prelude.{◌≡◌, ◌↔◌, Contains, IfOk};
+    ghost use Rattle.ch_laws.specs.declared.entry.Entry.{Entry};
+    ghost use Rattle.ch_laws.specs.Rows.{Rises};
+    ghost use Rattle.ch_overlay.specs.Placing.{IsInOrder};
+
+    /// These entries, which are in order.
+    fn new(alloc: Global, placed: Vec<Placed>) -> Result<PlacedEntries, AllocError>
+        ensures { IfOk result (λ new. new.placed ≡ placed) }
+    {
+        let entries = entries_of(alloc, placed.as_slice())?;
+        Ok(PlacedEntries { placed, entries })
+    }
+
+    /// The entries for the row of one node. Looks at few of the others.
+    pub fn at(&self, node: u32) -> &[Entry]
+        requires { IsInOrder self.now.placed.items }
+        ensures rises { Rises result.now }
+        ensures all { (e : Entry) → Contains result.now e ↔ Contains self.now.placed.items (record { at = node; entry = e }) }
+    {
+        let placed = self.placed.as_slice();
+        let first = count_before(placed, node);
+        let end = count_up_to(placed, node);
+        &self.entries[first..end]
+    }
+}
+
+/// The entries of shortcuts in the rows of the nodes that they leave. `middle` is the contracted node.
 pub fn out_entries(
     alloc: Global,
     middle: Middle,
     shortcuts: &[Shortcut],
-) -> Result<Vec<Placed>, AllocError>
+) -> Result<PlacedEntries, AllocError>
     requires { AllPairs (λ p q. IsFor p q.from q.to → ⊥) shortcuts.now }
-    ensures all { IfOk result (λ entries. IsPermutation (map (out_place middle) shortcuts.now) entries.items) }
-    ensures order { IfOk result (λ entries. IsInOrder entries.items) }
+    ensures all { IfOk result (λ entries. IsPermutation (map (out_place middle) shortcuts.now) entries.placed.items) }
+    ensures order { IfOk result (λ entries. IsInOrder entries.placed.items) }
 {
     let entries = entries_out(alloc, middle, shortcuts)?;
-    Ok(sorted(entries))
+    let placed = PlacedEntries::new(alloc, sorted(entries))?;
+    Ok(placed)
 }
 
-/// The entries of shortcuts in the rows of the nodes that they come to, in order.
+/// The entries of shortcuts in the rows of the nodes that they come to.
 pub fn in_entries(
     alloc: Global,
     middle: Middle,
     shortcuts: &[Shortcut],
-) -> Result<Vec<Placed>, AllocError>
+) -> Result<PlacedEntries, AllocError>
     requires { AllPairs (λ p q. IsFor p q.from q.to → ⊥) shortcuts.now }
-    ensures all { IfOk result (λ entries. IsPermutation (map (in_place middle) shortcuts.now) entries.items) }
-    ensures order { IfOk result (λ entries. IsInOrder entries.items) }
+    ensures all { IfOk result (λ entries. IsPermutation (map (in_place middle) shortcuts.now) entries.placed.items) }
+    ensures order { IfOk result (λ entries. IsInOrder entries.placed.items) }
 {
     let entries = entries_in(alloc, middle, shortcuts)?;
-    Ok(sorted(entries))
+    let placed = PlacedEntries::new(alloc, sorted(entries))?;
+    Ok(placed)
 }
 
 fn entries_out(
@@ -86,18 +123,6 @@ fn sorted(mut entries: Vec<Placed>) -> Vec<Placed>
 {
     entries.sort_unstable_by_key(|placed| (placed.at, placed.entry.other));
     entries
-}
-
-/// The entries for the row of one node, of entries in order. Looks at few of the others.
-pub fn entries_at(alloc: Global, entries: &[Placed], node: u32) -> Result<Vec<Entry>, AllocError>
-    requires { IsInOrder entries.now }
-    ensures rises { IfOk result (λ found. Rises found.items) }
-    ensures all { IfOk result (λ found. (e : Entry) → Contains found.items e ↔ Contains entries.now (record { at = node; entry = e })) }
-{
-    let first = count_before(entries, node);
-    let end = count_up_to(entries, node);
-    let found = entries_of(alloc, &entries[first..end])?;
-    Ok(found)
 }
 
 /// How many entries are for rows of nodes below this one.

@@ -5,7 +5,7 @@ ghost use Rattle.ch_laws.specs.Rows.{Row, Rises, IsChanged};
 ghost use Rattle.ch_overlay.specs.Overlay.{row_at};
 ghost use Rattle.ch_overlay.specs.Placing.{IsInOrder, ArePlaced, RowsRise, AreChanged};
 
-use crate::placed::{Placed, entries_at};
+use crate::placed::PlacedEntries;
 use crate::row::Row;
 use std::alloc::{AllocError, Global};
 use std::sync::Arc;
@@ -27,14 +27,14 @@ pub fn push_changed(
     all: &[Arc<Row>],
     gone: u32,
     neighbours: &[u32],
-    out: &[Placed],
-    inn: &[Placed],
+    out: &PlacedEntries,
+    inn: &PlacedEntries,
 ) -> Result<(), AllocError>
     requires in_range { All (λ x. x < length all.now) neighbours.now }
     requires rising { RowsRise (map arc_value all.now) }
-    requires out_order { IsInOrder out.now }
-    requires inn_order { IsInOrder inn.now }
-    ensures { IfOk result (λ _. AreChanged gone (map arc_value all.now) out.now inn.now neighbours.now (map (λ a. (a.0, arc_value a.1)) rows.old.items) (map (λ a. (a.0, arc_value a.1)) rows.new.items)) }
+    requires out_order { IsInOrder out.now.placed.items }
+    requires inn_order { IsInOrder inn.now.placed.items }
+    ensures { IfOk result (λ _. AreChanged gone (map arc_value all.now) out.now.placed.items inn.now.placed.items neighbours.now (map (λ a. (a.0, arc_value a.1)) rows.old.items) (map (λ a. (a.0, arc_value a.1)) rows.new.items)) }
 {
     for node in neighbours {
         let row = changed(alloc, &all[*node as usize], gone, *node, out, inn)?;
@@ -49,17 +49,15 @@ fn changed(
     row: &Row,
     gone: u32,
     node: u32,
-    out: &[Placed],
-    inn: &[Placed],
+    out: &PlacedEntries,
+    inn: &PlacedEntries,
 ) -> Result<Row, AllocError>
     requires out_rises { Rises row.now.out }
     requires inn_rises { Rises row.now.inn }
-    requires out_order { IsInOrder out.now }
-    requires inn_order { IsInOrder inn.now }
-    ensures { IfOk result (λ new. (put : List Shortcut) → ArePlaced gone put out.now inn.now → IsChanged put gone node row.now new) }
+    requires out_order { IsInOrder out.now.placed.items }
+    requires inn_order { IsInOrder inn.now.placed.items }
+    ensures { IfOk result (λ new. (put : List Shortcut) → ArePlaced gone put out.now.placed.items inn.now.placed.items → IsChanged put gone node row.now new) }
 {
-    let out = entries_at(alloc, out, node)?;
-    let inn = entries_at(alloc, inn, node)?;
-    let new = row.changed(alloc, gone, out.as_slice(), inn.as_slice())?;
+    let new = row.changed(alloc, gone, out.at(node), inn.at(node))?;
     Ok(new)
 }

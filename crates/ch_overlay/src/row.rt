@@ -109,8 +109,10 @@ impl Row {
     pub(crate) fn others(&self, alloc: Global) -> Result<Vec<u32>, AllocError>
         ensures { IfOk result (λ nodes. nodes.items ≡ map (λ e. e.other) (merged self.now.out self.now.inn)) }
     {
-        let both = Merge::new(self.out.as_slice(), self.inn.as_slice());
-        both.map(|e| e.other).collect(alloc)
+        let most = self.out.len().saturating_add(self.inn.len());
+        let mut nodes = Vec::with_capacity(alloc, most)?;
+        nodes.extend(Merge::new(self.out.as_slice(), self.inn.as_slice()).map(|e| e.other))?;
+        Ok(nodes)
     }
 }
 

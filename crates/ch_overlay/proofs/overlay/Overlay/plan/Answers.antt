@@ -6,13 +6,9 @@ use Rattle.std.proofs.lemmas.List.Elements.{Contains-get_or}
 use Rattle.ch_laws.specs.Rows.{Row}
 use Rattle.ch_overlay.specs.declared.placed.Placed.{Placed}
 use Rattle.ch_overlay.specs.Overlay.{Overlay, IsOverlay, row_at}
-use Rattle.ch_overlay.specs.Placing.{IsInOrder, RowsRise, AreChanged, out_place, in_place}
+use Rattle.ch_overlay.specs.Placing.{RowsRise, AreChanged, out_place, in_place}
 use Rattle.ch_overlay.proofs.Neighbours.{others_of, other_near, rows_rise, change_is}
 use Rattle.ch_overlay.proofs.overlay.Overlay.plan.Goals as goal
-
--- the rows as the slice of them has them
-rows_are : (c : goal.After-as_slice-4) → map arc_value c.as_slice.result.now ≡ c.args.self.now.rows
-rows_are c = ap (map arc_value) c.as_slice.ensures.value ∙ ap (λ (o : Overlay). o.rows) c.self.view_is
 
 pub at-middle-requires : goal.at-middle-requires
 at-middle-requires c =
@@ -26,27 +22,25 @@ push_changed-requires-clause-in_range c k d h =
     c.as_slice-2.ensures.value ∙ c.in_ok-neighbours.ensures ∙ ap others_of (c.deref.ensures ∙ c.row-row.ensures) in
     let among = subst (λ (xs : List ℕ). Contains xs (get_or c.as_slice-2.result.now k d)) nodes (Contains-get_or c.as_slice-2.result.now k d h) in
     let near = other_near c.rows_of_alive_nodes_show_what_remains.ensures c.args.self.now holds c.args.node c.requires.alive _ among in
-    omega (arith, near.alive.in_range, ap length (rows_are c), length-map c.as_slice.result.now arc_value)
+    omega (arith, near.alive.in_range, ap length (ap (map arc_value) c.as_slice.ensures.value ∙ ap (λ (o : Overlay). o.rows) c.self.view_is), length-map c.as_slice.result.now arc_value)
 
 pub push_changed-requires-clause-rising : goal.push_changed-requires-clause-rising
 push_changed-requires-clause-rising c =
     let holds = subst (λ (o : Overlay). IsOverlay o) c.self.view_is c.self.invariant.0 in
-    subst (λ (rows : List Row). RowsRise rows) (sym (rows_are c)) (rows_rise c.args.self.now holds)
+    subst (λ (rows : List Row). RowsRise rows) (sym (ap (map arc_value) c.as_slice.ensures.value ∙ ap (λ (o : Overlay). o.rows) c.self.view_is)) (rows_rise c.args.self.now holds)
 
 pub push_changed-requires-clause-out_order : goal.push_changed-requires-clause-out_order
-push_changed-requires-clause-out_order c = subst (λ (es : List Placed). IsInOrder es) (sym c.as_slice-3.ensures.value) c.in_ok-out.ensures.order
+push_changed-requires-clause-out_order c = c.in_ok-out.ensures.order
 
 pub push_changed-requires-clause-inn_order : goal.push_changed-requires-clause-inn_order
-push_changed-requires-clause-inn_order c = subst (λ (es : List Placed). IsInOrder es) (sym c.as_slice-4.ensures.value) c.in_ok-inn.ensures.order
+push_changed-requires-clause-inn_order c = c.in_ok-inn.ensures.order
 
-changed_along : {v : ℕ} {all rows : List Row} {out outs inn inns : List Placed} {nodes others : List ℕ} {old first new : List (ℕ × Row)}
-    → all ≡ rows → out ≡ outs → inn ≡ inns → nodes ≡ others → old ≡ first → AreChanged v all out inn nodes old new → AreChanged v rows outs inns others first new
-changed_along {v} {all} {rows} {out} {outs} {inn} {inns} {nodes} {others} {old} {first} {new} a b c d e changed =
-    subst (λ xs. AreChanged v rows outs inns others xs new) e
-    (subst (λ xs. AreChanged v rows outs inns xs old new) d
-    (subst (λ xs. AreChanged v rows outs xs nodes old new) c
-    (subst (λ xs. AreChanged v rows xs inn nodes old new) b
-    (subst (λ xs. AreChanged v xs out inn nodes old new) a changed))))
+changed_along : {v : ℕ} {all rows : List Row} {out inn : List Placed} {nodes others : List ℕ} {old first new : List (ℕ × Row)}
+    → all ≡ rows → nodes ≡ others → old ≡ first → AreChanged v all out inn nodes old new → AreChanged v rows out inn others first new
+changed_along {v} {all} {rows} {out} {inn} {nodes} {others} {old} {first} {new} a d e changed =
+    subst (λ xs. AreChanged v rows out inn others xs new) e
+    (subst (λ xs. AreChanged v rows out inn xs old new) d
+    (subst (λ xs. AreChanged v xs out inn nodes old new) a changed))
 
 pub returns-clause-change : goal.returns-clause-change
 returns-clause-change c =
@@ -60,7 +54,7 @@ returns-clause-change c =
     ap (map (λ a. (a.0, arc_value a.1))) (c.in_ok-push.ensures.items ∙ ap (λ xs. xs ++ (v, c.in_ok-ranked.ranked) ∷ []) c.in_ok-rows.ensures.items)
     ∙ ap (λ (r : Row). (v, r) ∷ []) (c.in_ok-ranked.ensures ∙ ap (λ (r : Row). record r { rank = Some c.contracted.result }) (c.deref-2.ensures ∙ c.row-row.ensures)
     ∙ ap (λ (n : ℕ). record (row_at o.rows v) { rank = Some n }) c.contracted.ensures) in
-    change_is c.rows_of_alive_nodes_show_what_remains.ensures o holds v c.requires.alive c.args.shortcuts.now c.in_ok-out.out.items c.in_ok-inn.inn.items _ c.requires refl
-    (subst (λ (m : Option ℕ). IsPermutation (map (out_place m) c.args.shortcuts.now) c.in_ok-out.out.items) c.at-middle.ensures c.in_ok-out.ensures.all)
-    (subst (λ (m : Option ℕ). IsPermutation (map (in_place m) c.args.shortcuts.now) c.in_ok-inn.inn.items) c.at-middle.ensures c.in_ok-inn.ensures.all)
-    (changed_along rows c.as_slice-3.ensures.value c.as_slice-4.ensures.value nodes first c.in_ok-push_changed.ensures)
+    change_is c.rows_of_alive_nodes_show_what_remains.ensures o holds v c.requires.alive c.args.shortcuts.now c.in_ok-out.out.placed.items c.in_ok-inn.inn.placed.items _ c.requires refl
+    (subst (λ (m : Option ℕ). IsPermutation (map (out_place m) c.args.shortcuts.now) c.in_ok-out.out.placed.items) c.at-middle.ensures c.in_ok-out.ensures.all)
+    (subst (λ (m : Option ℕ). IsPermutation (map (in_place m) c.args.shortcuts.now) c.in_ok-inn.inn.placed.items) c.at-middle.ensures c.in_ok-inn.ensures.all)
+    (changed_along rows nodes first c.in_ok-push_changed.ensures)
