@@ -2,6 +2,7 @@
 use Rattle.std.specs.Prelude.{ℕ, ◌==◌, ◌||◌, Bool, List, [], ◌∷◌, if◌then◌else◌, codes}
 use Rattle.std.specs.List.{concat}
 use Rattle.std.specs.Str.{bytes_eq}
+use Rattle.grfile.specs.Letters.{line_feed}
 
 -- b at the front of the first line
 abbrev pub onto_first : ℕ → List (List ℕ) → List (List ℕ)
@@ -11,7 +12,7 @@ onto_first b (line ∷ lines) = (b ∷ line) ∷ lines
 -- the lines of an input, each with its line feed; the last has none where the input doesn't end with one
 abbrev pub ended_lines : List ℕ → List (List ℕ)
 ended_lines [] = []
-ended_lines (b ∷ input) = if b == 10 then (b ∷ []) ∷ ended_lines input else onto_first b (ended_lines input)
+ended_lines (b ∷ input) = if b == line_feed then (b ∷ []) ∷ ended_lines input else onto_first b (ended_lines input)
 
 -- the line is the single byte %, with or without a carriage return and a line feed behind it
 abbrev pub is_percent : List ℕ → Bool

@@ -1,5 +1,5 @@
 -- The faults of a line are of that line, and none is a failed read.
-use Rattle.std.proofs.Common.{ℕ, ◌≢◌, ◌-◌, ◌^◌, Bool, true, false, if◌then◌else◌, eqb, ltb, ◌&&◌, List, [], ◌∷◌, Option, Some, None, Result, Ok, Err, codes, refl}
+use Rattle.std.proofs.Common.{ℕ, ◌≢◌, ◌-◌, ◌^◌, Bool, true, false, if◌then◌else◌, ltb, ◌&&◌, List, [], ◌∷◌, Option, Some, None, Result, Ok, Err, codes, refl}
 use Rattle.std.specs.Result.{IfErr}
 use Rattle.std.specs.Str.{bytes_eq}
 use Rattle.grfile.specs.declared.error.GrError.{GrError}

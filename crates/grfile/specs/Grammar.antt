@@ -1,5 +1,6 @@
 -- The grammar that the texts share: comments, a problem line, and then so many lines of entries.
 use Rattle.std.specs.Prelude.{ℕ, ◌-◌, ◌==◌, if◌then◌else◌, List, [], ◌∷◌, drop, Some, None, Result, Ok}
+use Rattle.grfile.specs.Letters.{letter_c, letter_p}
 use Rattle.grfile.specs.declared.error.GrError.{GrError}
 use Rattle.grfile.specs.declared.error.GrErrorKind.TheVariants.{UnknownLine, NoProblemLine, SecondProblemLine, NotANumber, ArcCount}
 use Rattle.grfile.specs.declared.fields.LineKind.{LineKind}
@@ -13,8 +14,8 @@ use Rattle.grfile.specs.Outcome.{◌>>=◌, fault, capped, next_line}
 abbrev pub kind_of : ℕ → List (List ℕ) → LineKind
 kind_of letter [] = Skipped
 kind_of letter ([] ∷ more) = Unknown
-kind_of letter ((b ∷ []) ∷ more) = if b == 99 then Skipped else if b == 112 then Problem else if b == letter then Entry else Unknown
-kind_of letter ((b ∷ c ∷ bs) ∷ more) = if b == 99 then Skipped else Unknown
+kind_of letter ((b ∷ []) ∷ more) = if b == letter_c then Skipped else if b == letter_p then Problem else if b == letter then Entry else Unknown
+kind_of letter ((b ∷ c ∷ bs) ∷ more) = if b == letter_c then Skipped else Unknown
 
 -- the number in a field of this line
 abbrev pub number_in : ℕ → List ℕ → Result ℕ GrError

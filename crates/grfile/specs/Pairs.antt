@@ -1,6 +1,7 @@
 -- The lines of a text of pairs.
 use Rattle.std.specs.Prelude.{ℕ, ◌-◌, ◌^◌, ◌&&◌, if◌then◌else◌, nat_lt, List, [], ◌∷◌, codes, Result, Ok}
 use Rattle.std.specs.Str.{bytes_eq}
+use Rattle.grfile.specs.Letters.{letter_q}
 use Rattle.grfile.specs.declared.error.GrError.{GrError}
 use Rattle.grfile.specs.declared.error.GrErrorKind.TheVariants.{UnknownLine, FieldCount, NodeRange, TooManyArcs}
 use Rattle.grfile.specs.declared.form.Size.{Size}
@@ -32,4 +33,4 @@ pair_of nodes line (s ∷ t ∷ []) = number_in line s >>= (λ source. number_in
 pair_of nodes line fields = fault FieldCount line
 
 abbrev pub pair_grammar : ℕ → Grammar (ℕ × ℕ)
-pair_grammar nodes = record { letter = 113; size_of = pairs_size nodes; entry_of = λ size. pair_of size.nodes }
+pair_grammar nodes = record { letter = letter_q; size_of = pairs_size nodes; entry_of = λ size. pair_of size.nodes }

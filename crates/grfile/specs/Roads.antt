@@ -1,6 +1,7 @@
 -- The lines of a graph's text.
 use Rattle.std.specs.Prelude.{ℕ, ◌-◌, ◌^◌, ◌==◌, Bool, ◌||◌, if◌then◌else◌, nat_lt, List, [], ◌∷◌, codes, Result, Ok}
 use Rattle.std.specs.Str.{bytes_eq}
+use Rattle.grfile.specs.Letters.{letter_a}
 use Rattle.ch_graph.specs.declared.road.Road.{Road}
 use Rattle.grfile.specs.declared.error.GrError.{GrError}
 use Rattle.grfile.specs.declared.error.GrErrorKind.TheVariants.{UnknownLine, FieldCount, NodeRange, WeightTooBig, TooManyNodes, TooManyArcs}
@@ -38,4 +39,4 @@ road_of nodes line (u ∷ v ∷ w ∷ []) = number_in line u >>= (λ from. numbe
 road_of nodes line fields = fault FieldCount line
 
 abbrev pub graph_grammar : Grammar Road
-graph_grammar = record { letter = 97; size_of = graph_size; entry_of = λ size. road_of size.nodes }
+graph_grammar = record { letter = letter_a; size_of = graph_size; entry_of = λ size. road_of size.nodes }
