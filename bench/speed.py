@@ -12,8 +12,8 @@ each round each job of each network has its turn once, so that a machine that is
   route      10,000 random pairs, 2,000 near ones, whose ends are at most 20 rows and columns apart, and no pairs, which reads
              the file alone, by the hierarchy of one worker and `edges`, which is the default, and `depth`; and by route.cpp, an
              optimised program that does the same
-  search     20 of the pairs without a hierarchy: in C++ (plain_search.cpp), by Boost, and in Python by igraph and, up to
-             264,346 nodes, NetworkX (python_search.py)
+  search     20 of the pairs without a hierarchy: in C++ (plain_search.cpp), by Boost, in Python by igraph (python_search.py),
+             and up to 264,346 nodes by NetworkX and in PostgreSQL by pgRouting (pgrouting_search.py)
   read       the graph's text alone: `answer` with a text of pairs that is refused, and read_graph.cpp
   answer     100 pairs, up to 10,000 nodes
 
@@ -56,7 +56,8 @@ ORDERS = ["edges", "neighbours", "depth"]
 ROUTED = ["edges", "depth"]
 WORKERS = [1, 2, 4]
 RANDOM, NEAR, STEPS, FEW, CHECKED = 10_000, 2_000, 20, 20, 100
-MOST_ANSWERED, MOST_NETWORKX = 10_000, 264_346
+MOST_ANSWERED, MOST_SLOW = 10_000, 264_346
+OTHERS, SLOW = ["igraph", "networkx", "pgrouting"], ["networkx", "pgrouting"]
 PYTHON = "/usr/bin/python3"
 HEADS = ["network", "job", "round", "seconds", "processor", "megabytes", "load", "when"]
 EXTRACT = "liechtenstein-2013-08-03.osm.pbf"
@@ -126,8 +127,8 @@ class Bench:
         self.options, self.folder, self.runs = options, folder, Runs(folder)
         self.programs = {name: need_compiled(folder, name) for name in ["route", "hierarchy", "plain_search", "read_graph"]}
         self.boost = compiled(folder, "boost_search")
-        self.python = [] if options.no_python else [kind for kind in ["igraph", "networkx"] if has_module(kind)]
-        missing = ([] if self.boost else ["Boost"]) + [kind for kind in ["igraph", "networkx"] if kind not in self.python]
+        self.others = [] if options.no_python else [kind for kind in OTHERS if is_there(kind)]
+        missing = ([] if self.boost else ["Boost"]) + [kind for kind in OTHERS if kind not in self.others]
         if missing:
             print(f"left out: {', '.join(missing)}", file=sys.stderr)
         self.table, self.facts = folder / "runs.csv", folder / "facts.json"
@@ -175,8 +176,8 @@ class Bench:
                 jobs[f"route {order} {kind}"] = self.route(network, order, kind)
                 jobs[f"route.cpp {order} {kind}"] = self.route_in_cpp(network, order, kind)
         for kind in network.kinds():
-            for name in ["plain", *(["boost"] if self.boost else []), *self.python]:
-                if name != "networkx" or network.count <= MOST_NETWORKX:
+            for name in ["plain", *(["boost"] if self.boost else []), *self.others]:
+                if name not in SLOW or network.count <= MOST_SLOW:
                     jobs[f"search {name} {kind}"] = self.search(network, name, kind)
         jobs["read"] = self.reading(network, [PROGRAM, "answer", network.graph, network.pairs("bad")], 5)
         jobs["read.cpp"] = self.reading(network, [self.programs["read_graph"], network.graph], 0)
@@ -264,6 +265,7 @@ class Bench:
     def search(self, network, name, kind):
         words = {"plain": [self.programs["plain_search"]], "boost": [self.boost]}
         words |= {each: [PYTHON, ROOT / "bench/python_search.py", each] for each in ["igraph", "networkx"]}
+        words["pgrouting"] = [PYTHON, ROOT / "bench/pgrouting_search.py"]
 
         def go():
             found, wanted = self.folder / "found", network.folder / f"{kind}-few.wanted"
@@ -283,7 +285,10 @@ def check_walks(graph, found, wanted):
     sys.exit(0 if are_answers(found, wanted, least_arcs_of(graph)) else 1)
 
 
-def has_module(name):
+def is_there(name):
+    """Whether a module of Python can be had, or the extension of PostgreSQL."""
+    if name == "pgrouting":
+        return pathlib.Path("/usr/share/postgresql/15/extension/pgrouting.control").exists()
     return subprocess.run([PYTHON, "-c", f"import {name}"], stderr=subprocess.DEVNULL).returncode == 0
 
 
@@ -320,7 +325,7 @@ def main():
     words.add_argument("--rounds", type=int, default=3)
     words.add_argument("--kept", type=pathlib.Path, default=ROOT / "out/speed")
     words.add_argument("--only", default="")
-    words.add_argument("--no-python", action="store_true", help="without igraph and NetworkX")
+    words.add_argument("--no-python", action="store_true", help="without igraph, NetworkX and pgRouting")
     words.add_argument("--no-others", action="store_true", help="without the hard network and the map")
     words.add_argument("--page", action="store_true", help="writes the tables and pictures at the end")
     words.add_argument("--anew", action="store_true", help="drops what was measured before")

@@ -23,7 +23,7 @@ BEGIN, END = "<!-- speed: begin -->\n", "<!-- speed: end -->"
 ORDERS, ROUTED, WORKERS = ["edges", "neighbours", "depth"], ["edges", "depth"], [1, 2, 4]
 COUNTS = {"random": 10_000, "near": 2_000}
 FEW = 20
-SEARCHES = {"plain": "plain search in C++", "boost": "Boost", "igraph": "igraph", "networkx": "NetworkX"}
+SEARCHES = {"plain": "plain search in C++", "boost": "Boost", "igraph": "igraph", "networkx": "NetworkX", "pgrouting": "pgRouting"}
 
 
 class Measured:
@@ -220,7 +220,7 @@ def draw(measured, file):
     line(left, "textbook in C++", lambda name: measured.least(name, "textbook"), "k--")
     line(right, "routecli route", lambda name: measured.pair(name, "depth", "random"), "o-")
     line(right, "the same in C++", lambda name: measured.pair(name, "depth", "random", "route.cpp"), "k--")
-    for name, style in zip(SEARCHES, ["s-", "^-", "v-", "D-"]):
+    for name, style in zip(SEARCHES, ["s-", "^-", "v-", "D-", "P-"]):
         line(right, SEARCHES[name], lambda network: measured.searched(network, name, "random"), style)
     for axes, title, unit in [(left, "prepare", "seconds"), (right, "a random pair", "millionths of a second")]:
         axes.set(xscale="log", yscale="log", title=title, xlabel="nodes", ylabel=unit)
