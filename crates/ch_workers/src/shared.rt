@@ -92,55 +92,58 @@ impl<S: Site> Shared<S> {
         self.hold(rt).commit_and_see(rt, proposal, reader)
     }
 
-    /// Tells a listener the entry of this rank, which is its next, by a copy. False where it was told all.
+    /// Tells a listener the entry of this rank, which is its next, by a copy, if the log has it. Answers how many entries
+    /// the log has.
     pub(crate) fn tell_next<E: Estimator, R: Wait>(
         &self,
         rt: &R,
         rank: u32,
         copy: &mut Contraction,
         listener: &mut Listener<E>,
-    ) -> Result<bool, AllocError>
+    ) -> Result<usize, AllocError>
         requires next { rank ≡ listener.old.told }
-        ensures told { IfOk result (λ more. IsTrue more → listener.new.told ≡ listener.old.told + 1) }
-        ensures few { IfOk result (λ more. IsTrue more → listener.new.told ≤ 2 ^ 25) }
+        ensures told { IfOk result (λ count. rank < count → listener.new.told ≡ listener.old.told + 1) }
+        ensures few { IfOk result (λ count. rank < count → listener.new.told ≤ 2 ^ 25) }
+        ensures kept { IfOk result (λ count. count ≤ rank → listener.new.told ≡ listener.old.told) }
     {
-        if !self.copy_entry(rt, rank, copy)? {
-            return Ok(false);
+        let count = self.copy_entry(rt, rank, copy)?;
+        if (rank as usize) < count {
+            listener.tell(copy)?;
         }
-        listener.tell(copy)?;
-        Ok(true)
+        Ok(count)
     }
 
-    /// Copies the entry of this rank, under one hold of the board's lock. False where the log has none.
+    /// Copies the entry of this rank, if the log has it, under one hold of the board's lock. Answers how many entries the
+    /// log has.
     fn copy_entry<R: Wait>(
         &self,
         rt: &R,
         rank: u32,
         copy: &mut Contraction,
-    ) -> Result<bool, AllocError>
-        ensures rank { IfOk result (λ found. IsTrue found → copy.new.rank ≡ rank) }
-        ensures few { IfOk result (λ found. IsTrue found → copy.new.rank < 2 ^ 25) }
-        ensures rising { IfOk result (λ found. IsTrue found → AllPairs (λ x y. x < y) copy.new.neighbours) }
+    ) -> Result<usize, AllocError>
+        ensures rank { IfOk result (λ count. rank < count → copy.new.rank ≡ rank) }
+        ensures few { IfOk result (λ count. rank < count → copy.new.rank < 2 ^ 25) }
+        ensures rising { IfOk result (λ count. rank < count → AllPairs (λ x y. x < y) copy.new.neighbours) }
     {
         let board = self.hold(rt);
-        match board.log().get(rank as usize) {
-            Some(entry) => {
-                copy_to(entry, copy)?;
-                Ok(true)
-            }
-            None => Ok(false),
+        let log = board.log();
+        if (rank as usize) < log.len() {
+            copy_to(&log[rank as usize], copy)?;
         }
+        Ok(log.len())
     }
 
     /// Tells a listener each entry of the log that it wasn't told, in order, by a copy, which takes one hold of the
-    /// board's lock each.
+    /// board's lock each. An entry that comes after the last of these holds waits for the next call.
     pub(crate) fn tell_all<E: Estimator, R: Wait>(
         &self,
         rt: &R,
         copy: &mut Contraction,
         listener: &mut Listener<E>,
     ) -> Result<(), AllocError> {
-        'entries: while self.tell_next(rt, listener.told(), copy, listener)? {}
+        'entries: while self.tell_next(rt, listener.told(), copy, listener)?
+            > listener.told() as usize
+        {}
         Ok(())
     }
 }
