@@ -1,5 +1,6 @@
 pub mod Labels
 pub mod Places
+pub mod LinkNumbers
 pub mod Climb
 pub mod Upward
 pub mod Counting

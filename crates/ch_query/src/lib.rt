@@ -28,6 +28,7 @@ mod label;
 mod laws;
 mod layout;
 mod limit;
+mod link_numbers;
 mod mark;
 mod meet;
 mod meeting;

@@ -33,9 +33,9 @@ pub struct Found {
 /// Answers queries of one hierarchy.
 ///
 /// It keeps for either side the steps over the links that it climbs, apart from them the places of those links, and
-/// a mark for each node, all by rank: about 64 bytes a node and 20 a link. The marks, queues and lists of
-/// one call are kept for the next, which takes back what the one before it touched. So after a call that ran out of
-/// memory it answers as a new one.
+/// a mark for each node, all by rank: about 56 bytes a node and 16 a link, or 64 and 20 where there are 2^32 links or
+/// more. The marks, queues and lists of one call are kept for the next, which takes back what the one before it touched.
+/// So after a call that ran out of memory it answers as a new one.
 #[derive(Drop)]
 pub struct Search<'a> {
     hierarchy: &'a Hierarchy,
@@ -106,7 +106,7 @@ impl<'a> Search<'a> {
         ensures joined { IfOk result (λ found. IfSome found (λ f. Joined self.old source f.links.items)) }
         ensures kept { self.new ≡ self.old }
     {
-        let alloc = *self.rising.first.allocator();
+        let alloc = *self.rising.steps.allocator();
         let hierarchy = self.hierarchy;
         self.up.clear();
         self.down.clear();

@@ -77,8 +77,8 @@ fn pass_over(
     ensures opened { OnOk result (IsOpenedBy hierarchy.now side rank cost here.old here.new) }
     ensures passed { OnOk result (ArePassed hierarchy.now side rank cost limit here.new) }
 {
-    let begin = upward.first[rank as usize];
-    let end = upward.first[rank as usize + 1];
+    let begin = upward.first.get(rank as usize);
+    let end = upward.first.get(rank as usize + 1);
     for place in begin..end {
         follow(hierarchy, upward, side, rank, place, cost, limit, here)?;
     }

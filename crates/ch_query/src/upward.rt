@@ -1,10 +1,12 @@
 ghost use Rattle.std.specs.Prelude.{◌≡◌, ◌+◌, ◌^◌, ◌<◌, ℕ, length, slice_index, IfOk};
 ghost use Rattle.ch_graph.specs.Hierarchy.{IsWellMade};
 ghost use Rattle.ch_query.specs.Climb.{cost_at, Climbs, LeadsUp};
+ghost use Rattle.ch_query.specs.LinkNumbers.{HasRoom};
 ghost use Rattle.ch_query.specs.Counting.{all_below, IsCounted, IsSummed, IsFilled};
 ghost use Rattle.ch_query.specs.Upward.{step_along, IsLaidOut};
 ghost use Rattle.ch_query.specs.Searching.{IsOneStepAt};
 
+use crate::link_numbers::LinkNumbers;
 use crate::place::link_at;
 use crate::side::Side;
 use ch_cost::{Cost, ShortCost};
@@ -24,35 +26,38 @@ pub struct Step {
 ///
 /// Those from one node lie together, and so do those from the nodes of high rank, where all queries come by. The
 /// links lie apart, since a query reads those of the steps of its walk alone, and of the steps whose cost doesn't fit.
-/// It holds 8 bytes a node and 20 a link that climbs.
+/// It holds 4 bytes a node and 16 a link that climbs, or 8 and 20 where there are 2^32 links or more.
 #[derive(Drop)]
 pub struct UpwardSteps {
     /// For each rank the place of the first step from the node of that rank, and then the number of steps.
-    pub first: Vec<usize>,
+    pub first: LinkNumbers,
     /// The steps.
     pub steps: Vec<Step>,
     /// For each step the place of the link that it goes along.
-    pub links: Vec<usize>,
+    pub links: LinkNumbers,
 }
 
 impl UpwardSteps {
     /// Room for the steps of a side over the links that are counted, and none of them put in.
     ///
-    /// The counts become the places of the ranks. Takes 20 bytes a link that climbs.
+    /// The counts become the places of the ranks. Takes 16 bytes a link that climbs, or 20 where there are 2^32 links or
+    /// more.
     pub fn with_room(
         alloc: Global,
         hierarchy: &Hierarchy,
         side: Side,
-        counts: Vec<usize>,
+        counts: LinkNumbers,
     ) -> Result<UpwardSteps, AllocError>
         requires made { IsWellMade hierarchy.now }
         requires few { length hierarchy.now.links < 2 ^ 64 }
         requires counted { IsCounted hierarchy.now side (length hierarchy.now.links) counts.items }
-        ensures { IfOk result (λ upward. IsFilled hierarchy.now side 0 upward.first.items upward.links.items upward.steps.items) }
+        requires limit { length hierarchy.now.links < counts.limit }
+        ensures filled { IfOk result (λ upward. IsFilled hierarchy.now side 0 upward.first.items upward.links.items upward.steps.items) }
+        ensures room { IfOk result (λ upward. HasRoom hierarchy.now upward.first upward.links) }
     {
         let mut first = counts;
         let count = sum_up(hierarchy, side, &mut first);
-        let links = vec![in alloc; 0; count]?;
+        let links = LinkNumbers::with_room(alloc, count, hierarchy.links().len())?;
         let steps = vec![in alloc; first_step(hierarchy, side); count]?;
         Ok(UpwardSteps {
             first,
@@ -66,13 +71,15 @@ impl UpwardSteps {
         requires made { IsWellMade hierarchy.now }
         requires climbs { Climbs hierarchy.now side at }
         requires filled { IsFilled hierarchy.now side at self.old.first.items self.old.links.items self.old.steps.items }
-        ensures { IsFilled hierarchy.now side (at + 1) self.new.first.items self.new.links.items self.new.steps.items }
+        requires room { HasRoom hierarchy.now self.old.first self.old.links }
+        ensures filled { IsFilled hierarchy.now side (at + 1) self.new.first.items self.new.links.items self.new.steps.items }
+        ensures room { HasRoom hierarchy.now self.new.first self.new.links }
     {
         let step = step_along(hierarchy, side, at);
         let foot = hierarchy.rank(side.foot(link_at(hierarchy, at))) as usize;
-        let place = self.first[foot] - 1;
-        self.first[foot] = place;
-        self.links[place] = at;
+        let place = self.first.get(foot) - 1;
+        self.first.set(foot, place);
+        self.links.set(place, at);
         self.steps[place] = step;
     }
 
@@ -85,25 +92,27 @@ impl UpwardSteps {
         requires link { (k : ℕ) × LeadsUp hierarchy.now side foot head k }
         ensures { LeadsUp hierarchy.now side foot head result }
     {
-        let mut place = self.first[foot as usize];
+        let mut place = self.first.get(foot as usize);
         'steps: while self.steps[place].head != head {
             place += 1;
         }
-        self.links[place]
+        self.links.get(place)
     }
 }
 
 /// Adds to the count of each rank those of the ranks below it. Answers how many links there are in all.
-fn sum_up(hierarchy: &Hierarchy, side: Side, counts: &mut [usize]) -> usize
+fn sum_up(hierarchy: &Hierarchy, side: Side, counts: &mut LinkNumbers) -> usize
     requires few { length hierarchy.now.links < 2 ^ 64 }
-    requires counted { IsCounted hierarchy.now side (length hierarchy.now.links) counts.old }
-    ensures sums { IsSummed hierarchy.now side counts.new }
-    ensures all { result ≡ all_below hierarchy.now side (length counts.new) }
+    requires counted { IsCounted hierarchy.now side (length hierarchy.now.links) counts.old.items }
+    requires limit { length hierarchy.now.links < counts.old.limit }
+    ensures sums { IsSummed hierarchy.now side counts.new.items }
+    ensures all { result ≡ all_below hierarchy.now side (length counts.new.items) }
+    ensures limit { counts.new.limit ≡ counts.old.limit }
 {
     let mut sum = 0;
     'ranks: for rank in 0..counts.len() {
-        sum += counts[rank];
-        counts[rank] = sum;
+        sum += counts.get(rank);
+        counts.set(rank, sum);
     }
     sum
 }
@@ -154,5 +163,5 @@ fn link_cost(hierarchy: &Hierarchy, upward: &UpwardSteps, place: usize) -> Cost
     requires link_in { slice_index upward.now.links.items place < length hierarchy.now.links }
     ensures { result ≡ cost_at hierarchy.now (slice_index upward.now.links.items place) }
 {
-    link_at(hierarchy, upward.links[place]).cost
+    link_at(hierarchy, upward.links.get(place)).cost
 }

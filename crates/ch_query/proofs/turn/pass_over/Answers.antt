@@ -1,5 +1,4 @@
-use Rattle.std.proofs.Common.{ℕ, ◌≡◌, ◌+◌, ◌<◌, length, slice_index, sym, subst, arith}
-use Rattle.std.proofs.lemmas.List.{get_or_read}
+use Rattle.std.proofs.Common.{ℕ, ◌≡◌, slice_index, sym, subst, arith}
 use Rattle.ch_query.proofs.Following.{IsPassing, passing-none, passing-more, passed_over, latest-more, step-made, foot-made}
 use Rattle.ch_query.proofs.turn.pass_over.Goals as goal
 
@@ -8,12 +7,11 @@ loop-place-init c =
     let h = c.args.hierarchy.now in
     let first = c.args.upward.now.first.items in
     let links = c.args.upward.now.links.items in
-    let rank_in : c.args.rank + 1 < length first = omega (arith, c.requires.rank_in, c.requires.laid.nodes) in
     let from : ℕ = slice_index first c.args.rank in
-    let begin : c.index-begin.result.now ≡ from = get_or_read first c.args.rank c.index-begin.result.now (omega (arith, rank_in)) c.index-begin.ensures 0 in
+    let begin : c.get-begin.result ≡ from = c.get-begin.ensures in
     record {
       from = omega (arith, begin);
-      end = get_or_read first (c.args.rank + 1) c.index-end.result.now rank_in c.index-end.ensures 0;
+      end = c.get-end.ensures;
       passing = subst (λ n. IsPassing h c.args.side c.args.rank c.args.cost links from n c.args.limit c.args.here.now c.args.here.now) (sym begin) (passing-none h c.args.side c.args.rank c.args.cost links from c.args.limit c.args.here.now);
     }
 

@@ -1,10 +1,9 @@
-use Rattle.std.proofs.Common.{◌≡◌, ◌<◌, length, slice_index, ap, subst, sym, ◌∙◌, arith}
-use Rattle.std.proofs.lemmas.List.{get_or_read}
+use Rattle.std.proofs.Common.{◌≡◌, slice_index, ap, subst, sym, ◌∙◌}
 use Rattle.ch_query.specs.declared.upward.Step.{Step}
 use Rattle.ch_query.specs.Climb.{head_rank, LeadsUp}
 use Rattle.ch_query.specs.Upward.{step_along}
 use Rattle.ch_query.specs.Searching.{IsStepAt}
-use Rattle.ch_query.proofs.Between.{IsAhead, lower_in, ahead-first, ahead-step, ahead-next, ahead-here}
+use Rattle.ch_query.proofs.Between.{IsAhead, ahead-first, ahead-step, ahead-next, ahead-here}
 use Rattle.ch_query.proofs.upward.UpwardSteps.link_between.Goals as goal
 
 pub steps-init : goal.steps-init
@@ -13,8 +12,7 @@ steps-init c =
     let first = c.args.self.now.first.items in
     let links = c.args.self.now.links.items in
     let leads = c.requires.link in
-    let low : c.args.foot < length first = omega (arith, lower_in h c.requires.made c.args.side first links c.args.self.now.steps.items c.requires.laid c.args.foot c.args.head leads.0 leads.1, c.requires.laid.nodes) in
-    let begin : c.index-place.result.now ≡ slice_index first c.args.foot = get_or_read first c.args.foot c.index-place.result.now low c.index-place.ensures 0 in
+    let begin : c.get-place.result ≡ slice_index first c.args.foot = c.get-place.ensures in
     subst (λ i. IsAhead h c.args.side first links c.args.foot c.args.head i) (sym begin) (ahead-first h c.requires.made c.args.side first links c.args.self.now.steps.items c.requires.laid c.args.foot c.args.head leads.0 leads.1)
 
 pub steps-preserved : goal.steps-preserved
@@ -37,5 +35,4 @@ returns c =
     let read : IsStepAt h c.args.side links c.args.self.now.steps.items c.steps.place = ahead-step h c.requires.made c.args.side first links c.args.self.now.steps.items c.requires.laid c.args.foot c.args.head leads.0 leads.1 c.steps.place c.steps.invariant in
     let is : c.index.result.now ≡ step_along h c.args.side (slice_index links c.steps.place) = c.index.ensures ∙ read.along c.index.result.now in
     let head : c.index.result.now.head ≡ head_rank h c.args.side (slice_index links c.steps.place) = ap (λ (s : Step). s.head) is in
-    let at : c.index-2.result.now ≡ slice_index links c.steps.place = get_or_read links c.steps.place c.index-2.result.now read.link_in c.index-2.ensures 0 in
-    subst (λ k. LeadsUp h c.args.side c.args.foot c.args.head k) (sym at) (ahead-here h c.requires.made c.args.side first links c.args.self.now.steps.items c.requires.laid c.args.foot c.args.head leads.0 leads.1 c.steps.place c.steps.invariant (sym head ∙ c.steps-test.false))
+    subst (λ k. LeadsUp h c.args.side c.args.foot c.args.head k) (sym c.get.ensures) (ahead-here h c.requires.made c.args.side first links c.args.self.now.steps.items c.requires.laid c.args.foot c.args.head leads.0 leads.1 c.steps.place c.steps.invariant (sym head ∙ c.steps-test.false))

@@ -1,23 +1,17 @@
-use Rattle.std.proofs.Common.{ℕ, ◌≡◌, ◌∙◌, ◌++◌, List, take, drop, length, replicate, sym, subst, arith}
-use Rattle.std.proofs.lemmas.List.{take_at}
+use Rattle.std.proofs.Common.{ℕ, ◌≡◌, List, replicate, sym, subst}
 use Rattle.ch_query.specs.declared.upward.Step.{Step}
 use Rattle.ch_query.specs.Counting.{IsFilled}
 use Rattle.ch_query.proofs.Laying.{filled-none}
 use Rattle.ch_query.proofs.upward.UpwardSteps.with_room.Goals as goal
 
-pub returns : goal.returns
-returns c =
+pub returns-clause-filled : goal.returns-clause-filled
+returns-clause-filled c =
     let h = c.args.hierarchy.now in
     let side = c.args.side in
-    let old = c.args.counts.items in
-    let sums : List ℕ = c.sum_up-count.new.counts in
+    let sums : List ℕ = c.sum_up-count.new.counts.items in
     let count = c.sum_up-count.result in
-    let same : length sums ≡ length old = c.sum_up-count.ensures.sums.nodes ∙ sym c.requires.counted.nodes in
-    let whole : length sums ≡ c.args.counts.len = omega (arith, same, c.args.counts.ok) in
-    let first : take c.args.counts.len (sums ++ drop (length sums) old) ≡ sums = take_at sums (drop (length sums) old) c.args.counts.len whole in
-    let links : c.in_ok-links.links.items ≡ replicate count 0 = c.in_ok-links.ensures.items_if_clones_equal (λ y e. e) in
+    let links : c.in_ok-links.links.items ≡ replicate count 0 = c.in_ok-links.ensures.items in
     let steps : c.in_ok-steps.steps.items ≡ replicate count c.first_step.result = c.in_ok-steps.ensures.items_if_clones_equal (λ y e. e) in
     let filled : IsFilled h side 0 sums (replicate count 0) (replicate count c.first_step.result) = filled-none h side sums count c.first_step.result c.sum_up-count.ensures.sums c.sum_up-count.ensures.all c.first_step.ensures in
-    subst (λ (f : List ℕ). IsFilled h side 0 f c.in_ok-links.links.items c.in_ok-steps.steps.items) (sym first)
-    (subst (λ (ls : List ℕ). IsFilled h side 0 sums ls c.in_ok-steps.steps.items) (sym links)
-    (subst (λ (ss : List Step). IsFilled h side 0 sums (replicate count 0) ss) (sym steps) filled))
+    subst (λ (ls : List ℕ). IsFilled h side 0 sums ls c.in_ok-steps.steps.items) (sym links)
+    (subst (λ (ss : List Step). IsFilled h side 0 sums (replicate count 0) ss) (sym steps) filled)
