@@ -56,10 +56,9 @@ fn take_rank(
     if rank >= nodes {
         return Err(HierError::RankRange);
     }
-    if taken.has(rank) {
+    if !taken.add(rank)? {
         return Err(HierError::RankTwice);
     }
     ranks.push(rank)?;
-    taken.add(rank)?;
     Ok(())
 }

@@ -1,4 +1,4 @@
-ghost use Rattle.std.specs.Prelude.{◌≡◌, ◌==◌, ◌||◌, ◌<◌, ℕ, All, IfOk, OnOk, length};
+ghost use Rattle.std.specs.Prelude.{◌≡◌, ◌==◌, ◌||◌, ◌<◌, ℕ, true, false, not, All, IfOk, OnOk, length, slice_index_or, slice_set};
 ghost use Rattle.hierfile.specs.Taken.{AreMarksOf, AreTaken, HasPlaceOf, HasPlaces, is_taken};
 
 use std::alloc::{AllocError, AllocFailed, Global};
@@ -20,29 +20,17 @@ pub enum Taken {
 }
 
 impl Taken {
-    /// Whether this rank has come.
-    pub fn has(&self, rank: u32) -> bool
-        ensures { result ≡ is_taken self.now rank }
-    {
-        match self {
-            Taken::Few(ranks) => ranks.contains(&rank),
-            Taken::Marks(marks) => marks.get(rank as usize).copied().unwrap_or(false),
-        }
-    }
-
-    /// Takes one rank more.
-    pub fn add(&mut self, rank: u32) -> Result<(), AllocFailed<u32>>
+    /// Takes one rank more, and tells whether it is new. It is looked for once.
+    pub fn add(&mut self, rank: u32) -> Result<bool, AllocFailed<u32>>
         requires { HasPlaceOf self.old rank }
+        ensures new { IfOk result (λ is_new. is_new ≡ not (is_taken self.old rank)) }
         ensures places { OnOk result ((nodes : ℕ) → HasPlaces nodes self.old → HasPlaces nodes self.new) }
         ensures added { OnOk result ((n : ℕ) → is_taken self.new n ≡ (is_taken self.old n || rank == n)) }
     {
         match self {
-            Taken::Few(ranks) => {
-                ranks.insert(rank)?;
-            }
-            Taken::Marks(marks) => marks[rank as usize] = true,
+            Taken::Few(ranks) => ranks.insert(rank),
+            Taken::Marks(marks) => Ok(mark(marks, rank as usize)),
         }
-        Ok(())
     }
 
     /// Goes over to marks where the ranks that have come, which are these, are many beside the nodes.
@@ -62,6 +50,17 @@ impl Taken {
         }
         Ok(())
     }
+}
+
+// Marks a number, and tells whether it wasn't marked before.
+fn mark(marks: &mut [bool], number: usize) -> bool
+    requires { number < length marks.old }
+    ensures new { result ≡ not (slice_index_or marks.old number false) }
+    ensures marked { marks.new ≡ slice_set marks.old number true }
+{
+    let is_new = !marks[number];
+    marks[number] = true;
+    is_new
 }
 
 // For each number below that of the nodes whether it is one of these ranks.
