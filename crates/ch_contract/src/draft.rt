@@ -14,8 +14,9 @@ use crate::scratch::{Desk, Pairs};
 use ch_cost::{Cost, NarrowCost};
 use ch_laws::Entry;
 use ch_overlay::{Row, RowSource, Shortcut};
-use ch_witness::{Aim, Rows, Rule, SearchError, Way};
+use ch_witness::{Aim, Rows, Rule, SearchError, Traced, Way};
 use std::alloc::{AllocError, Global};
+use std::mem;
 
 /// What the pairs of a proposal have in common.
 #[derive(Clone, Copy)]
@@ -97,7 +98,8 @@ impl Draft {
 
 /// Works out the pairs from one neighbour, which has this arc to the node, to the others that the node's row lists.
 ///
-/// Where there is another, the neighbour's row is read and listed; where a pair isn't heavy, a search is made.
+/// Where there is another, the neighbour's row is read and listed; where a pair isn't heavy, a search is made, in the
+/// memory of what an earlier one traced.
 pub fn draft_pairs<S: RowSource>(
     alloc: Global,
     source: &mut S,
@@ -106,6 +108,7 @@ pub fn draft_pairs<S: RowSource>(
     row: &Row,
     into: &Entry,
     draft: &mut Draft,
+    traced: &mut Traced,
 ) -> Result<(), SearchError>
     requires some { 1 ≤ task.settle }
     requires few { task.settle ≤ 2 ^ 16 }
@@ -130,10 +133,11 @@ pub fn draft_pairs<S: RowSource>(
     if desk.pairs.light.is_empty() {
         return Ok(());
     }
-    judge_by_search(alloc, source, desk, task, from, draft)
+    judge_by_search(alloc, source, desk, task, from, draft, traced)
 }
 
-/// Judges the pairs on the desk, which lead from this neighbour, by a search for ways around the node.
+/// Judges the pairs on the desk, which lead from this neighbour, by a search for ways around the node. What it traced is
+/// left in place of what an earlier one did, whose memory it takes.
 fn judge_by_search<S: RowSource>(
     alloc: Global,
     source: &mut S,
@@ -141,6 +145,7 @@ fn judge_by_search<S: RowSource>(
     task: Task,
     from: u32,
     draft: &mut Draft,
+    traced: &mut Traced,
 ) -> Result<(), SearchError>
     requires some { 1 ≤ task.settle }
     requires few { task.settle ≤ 2 ^ 16 }
@@ -158,6 +163,7 @@ fn judge_by_search<S: RowSource>(
         avoid: task.node,
         cutoff: greatest(&desk.pairs.light),
     };
+    let earlier = mem::replace(traced, Traced::new(alloc));
     let found = desk.searcher.search(
         alloc,
         source,
@@ -165,8 +171,10 @@ fn judge_by_search<S: RowSource>(
         &desk.pairs.ends,
         &desk.pairs.aims,
         task.settle,
+        earlier,
     )?;
     draft.judge(&desk.pairs.light, &found.ways)?;
+    *traced = found;
     Ok(())
 }
 

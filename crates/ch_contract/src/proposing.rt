@@ -14,7 +14,7 @@ use crate::error::ProposeError;
 use crate::proposal::Proposal;
 use crate::scratch::{Desk, Scratch};
 use ch_overlay::{Row, RowSource, SeeError};
-use ch_witness::{Rows, SearchError};
+use ch_witness::{Rows, SearchError, Traced};
 use std::alloc::Global;
 use std::mem;
 use std::sync::Arc;
@@ -118,7 +118,8 @@ fn propose_in<S: RowSource>(
     })
 }
 
-/// Works out the pairs of every neighbour with an arc to the node, whose row is given.
+/// Works out the pairs of every neighbour with an arc to the node, whose row is given. Their searches find in one memory,
+/// which is let go at the end: a step has the snapshot of a row, and so no part in what a worker keeps.
 fn draft_all<S: RowSource>(
     alloc: Global,
     source: &mut S,
@@ -141,8 +142,9 @@ fn draft_all<S: RowSource>(
     ensures found { AllNamed (S.whole source.old) (kept_of desk.old.searcher.rows) → NamesAlone (S.whole source.old) row.now → FindsRows (S.whole source.new) (kept_of desk.new.searcher.rows) result }
 {
     read_neighbours(source, &mut desk.searcher.rows, row)?;
+    let mut traced = Traced::new(alloc);
     'inns: for into in &row.inn {
-        draft_pairs(alloc, source, desk, task, row, into, draft)?;
+        draft_pairs(alloc, source, desk, task, row, into, draft, &mut traced)?;
     }
     Ok(())
 }

@@ -25,6 +25,7 @@ mod error;
 mod follow;
 mod frontier;
 mod label;
+mod memory;
 mod node_index;
 mod rows;
 mod rule;

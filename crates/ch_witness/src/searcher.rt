@@ -5,6 +5,7 @@ ghost use Rattle.ch_witness.specs.Ways.{IsWayOf, way_at};
 use crate::aim::Aim;
 use crate::error::SearchError;
 use crate::frontier::Frontier;
+use crate::memory::emptied;
 use crate::rows::Rows;
 use crate::rule::Rule;
 use crate::step::Step;
@@ -15,13 +16,28 @@ use ch_overlay::RowSource;
 use std::alloc::{AllocError, Global};
 use std::mem;
 
-/// What a searcher found.
+/// What a searcher found. The next search may take it back, for its memory.
 #[derive(Drop)]
 pub struct Traced {
     /// For each target, in their order, the best way that the search has reached, or none.
     pub ways: Vec<Option<Way>>,
     /// What the search went on by, in its order: the steps of each node of a way but the last are among them.
     pub steps: Vec<Step>,
+}
+
+impl Traced {
+    ghost use Rattle.std.specs.Prelude.{◌≡◌, []};
+
+    /// Nothing was found yet. It takes no memory yet.
+    pub fn new(alloc: Global) -> Traced
+        ensures ways { result.ways.items ≡ [] }
+        ensures steps { result.steps.items ≡ [] }
+    {
+        Traced {
+            ways: Vec::new(alloc),
+            steps: Vec::new(alloc),
+        }
+    }
 }
 
 /// What searches for ways are made in, one after the other: rows that are kept from one to the next, and memory that is
@@ -55,8 +71,8 @@ impl Searcher {
     ///
     /// The source is asked for a row only where none is kept for the node, and what it answers is kept, also where the
     /// search fails. The rows of the steps are those that are kept, so that several searches may rest on the same
-    /// answers. The conditions and the errors are those of [`search`](crate::search); a search that fails
-    /// lets the memory go that it would have used again.
+    /// answers. It forgets what an earlier search found, and takes its memory. The conditions and the errors are those of
+    /// [`search`](crate::search); a search that fails lets the memory go that it would have used again.
     ///
     /// The aims are those of the targets, in their order, as far as they go. A target with an aim is done, as one that is
     /// settled is, where no node that is settled from then on can make its way a better one that is wanted. So the
@@ -69,6 +85,7 @@ impl Searcher {
         targets: &[u32],
         aims: &[Aim],
         settle: u32,
+        earlier: Traced,
     ) -> Result<Traced, SearchError>
         requires start { rule.from ≢ rule.avoid }
         requires targets { Contains targets.now rule.avoid → ⊥ }
@@ -86,10 +103,10 @@ impl Searcher {
         ensures found { AllNamed (S.whole source.old) (kept_of self.old.rows) → S.whole source.old rule.from → result ≡ Err Unseen → ⊥ }
         ensures names { AllNamed (S.whole source.old) (kept_of self.old.rows) → S.whole source.old rule.from → OnOk result (AllNamed (S.whole source.new) (kept_of self.new.rows)) }
     {
-        let earlier = mem::replace(&mut self.frontier, Frontier::new(alloc));
+        let Traced { ways, steps } = earlier;
+        let frontier = mem::replace(&mut self.frontier, Frontier::new(alloc));
         let tree = Tree::new(
-            alloc,
-            earlier,
+            Tree { steps, frontier },
             source,
             &mut self.rows,
             rule,
@@ -97,25 +114,26 @@ impl Searcher {
             aims,
             settle,
         )?;
-        let ways = ways_to(alloc, rule, &tree, targets)?;
+        let ways = ways_to(alloc, rule, &tree, targets, ways)?;
         let Tree { steps, frontier } = tree;
         self.frontier = frontier;
         Ok(Traced { ways, steps })
     }
 }
 
-/// The way to each target, or none where the search hasn't come to it.
+/// The way to each target, or none where the search hasn't come to it, in the memory of earlier ways.
 fn ways_to(
     alloc: Global,
     rule: Rule,
     tree: &Tree,
     targets: &[u32],
+    earlier: Vec<Option<Way>>,
 ) -> Result<Vec<Option<Way>>, AllocError>
     requires tree { IsTree rule tree.now.steps.items (labels_of tree.now.frontier) }
     ensures many { IfOk result (λ ways. length ways.items ≡ length targets.now) }
     ensures ways { IfOk result (λ ways. (k : ℕ) → k < length targets.now → IsWayOf (seen_of tree.now.steps.items) rule.avoid rule.from (slice_index targets.now k) (labels_of tree.now.frontier (slice_index targets.now k)) (way_at ways.items k)) }
 {
-    let mut ways = Vec::with_capacity(alloc, targets.len())?;
+    let mut ways = emptied(earlier, targets.len())?;
     'targets: for target in targets {
         ways.push(known_way(alloc, rule, tree, *target)?)?;
     }

@@ -7,7 +7,7 @@ ghost use Rattle.ch_witness.specs.Ways.{AreRows, AreWays, IsStartRow};
 
 use crate::error::SearchError;
 use crate::rule::Rule;
-use crate::searcher::Searcher;
+use crate::searcher::{Searcher, Traced};
 use crate::step::Step;
 use crate::way::Found;
 use ch_cost::Cost;
@@ -53,7 +53,8 @@ pub fn search<S: RowSource>(
         avoid,
         cutoff,
     };
-    let traced = searcher.search(alloc, source, rule, targets, &[], settle)?;
+    let none = Traced::new(alloc);
+    let traced = searcher.search(alloc, source, rule, targets, &[], settle, none)?;
     let nodes = nodes_of(alloc, &traced.steps)?;
     let seen = searcher.rows.hand_out(alloc, &nodes)?;
     let ways = traced.ways;

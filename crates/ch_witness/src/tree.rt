@@ -10,12 +10,12 @@ use crate::before::Before;
 use crate::error::SearchError;
 use crate::follow::follow;
 use crate::frontier::{Frontier, Reached};
+use crate::memory::emptied;
 use crate::rows::Rows;
 use crate::rule::Rule;
 use crate::step::Step;
 use ch_cost::Cost;
 use ch_overlay::RowSource;
-use std::alloc::Global;
 use std::snapshot::Snapshot;
 
 /// The steps of a search, in its order, and what it knows of the nodes that it has come to.
@@ -29,10 +29,9 @@ pub struct Tree {
 const STEPS: usize = 32;
 
 impl Tree {
-    /// The tree of a whole search, which settles at most so many nodes. What the frontier knew before is forgotten.
+    /// The tree of a whole search, which settles at most so many nodes. An earlier one is forgotten, and its memory used.
     pub fn new<S: RowSource>(
-        alloc: Global,
-        frontier: Frontier,
+        earlier: Tree,
         source: &mut S,
         rows: &mut Rows,
         rule: Rule,
@@ -54,9 +53,9 @@ impl Tree {
         ensures found { AllNamed (S.whole source.old) (kept_of rows.old) → S.whole source.old rule.from → result ≡ Err Unseen → ⊥ }
         ensures names { AllNamed (S.whole source.old) (kept_of rows.old) → S.whole source.old rule.from → OnOk result (AllNamed (S.whole source.new) (kept_of rows.new)) }
     {
-        let mut frontier = frontier;
+        let mut frontier = earlier.frontier;
         frontier.start(rule.from)?;
-        let steps = Vec::with_capacity(alloc, STEPS.min(settle as usize))?;
+        let steps = emptied(earlier.steps, STEPS.min(settle as usize))?;
         let mut tree = Tree { steps, frontier };
         if are_all(targets, rule.from) {
             return Ok(tree);

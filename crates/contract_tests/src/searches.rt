@@ -3,8 +3,9 @@ ghost use Rattle.ch_witness.specs.Kept.{AreKept, OfTheirNodes, kept_of};
 use crate::proposals::are_of;
 use crate::shelf::{Lead, Numbers, Shelf, cost_of};
 use ch_cost::Cost;
-use ch_witness::{Aim, Rule, SearchError, Searcher, Way, search};
+use ch_witness::{Aim, Rule, SearchError, Searcher, Traced, Way, search};
 use std::alloc::{AllocError, Global};
+use std::mem;
 use std::test::Fail;
 
 /// Node 3 is reached from node 2 by way of 0 or of 1, at the same cost.
@@ -143,7 +144,12 @@ fn hands_out(alloc: Global, searcher: &mut Searcher) -> Result<bool, AllocError>
 }
 
 /// Whether a search from node 2 to node 3 that avoids node 0 finds the way by node 1.
-fn finds_by(alloc: Global, searcher: &mut Searcher, shelf: &mut Shelf) -> Result<bool, SearchError>
+fn finds_by(
+    alloc: Global,
+    searcher: &mut Searcher,
+    shelf: &mut Shelf,
+    traced: &mut Traced,
+) -> Result<bool, SearchError>
     requires { AreKept (λ _. Unit {0}) (λ _. Unit {0}) shelf.old (kept_of searcher.old.rows) }
     ensures { AreKept (λ _. Unit {0}) (λ _. Unit {0}) shelf.new (kept_of searcher.new.rows) }
 {
@@ -156,15 +162,17 @@ fn finds_by(alloc: Global, searcher: &mut Searcher, shelf: &mut Shelf) -> Result
         avoid,
         cutoff,
     };
-    let found = searcher.search(alloc, shelf, rule, &[3], &[], 64)?;
-    Ok(is_one_way(&found.ways, BY_1))
+    let earlier = mem::replace(traced, Traced::new(alloc));
+    *traced = searcher.search(alloc, shelf, rule, &[3], &[], 64, earlier)?;
+    Ok(is_one_way(&traced.ways, BY_1))
 }
 
 /// Whether two searches of one searcher find the same way, and it hands out what they have read.
 fn finds_twice(alloc: Global, shelf: &mut Shelf) -> Result<bool, Fail> {
     let mut searcher = Searcher::new(alloc);
-    let first = finds_by(alloc, &mut searcher, shelf)?;
-    let second = finds_by(alloc, &mut searcher, shelf)?;
+    let mut traced = Traced::new(alloc);
+    let first = finds_by(alloc, &mut searcher, shelf, &mut traced)?;
+    let second = finds_by(alloc, &mut searcher, shelf, &mut traced)?;
     Ok(first & second & hands_out(alloc, &mut searcher)?)
 }
 
@@ -225,7 +233,8 @@ fn finds(
         cutoff,
     };
     let mut searcher = Searcher::new(alloc);
-    let found = searcher.search(alloc, shelf, rule, &[3], &[aim], 64)?;
+    let none = Traced::new(alloc);
+    let found = searcher.search(alloc, shelf, rule, &[3], &[aim], 64, none)?;
     Ok(is_one_way(&found.ways, way))
 }
 
