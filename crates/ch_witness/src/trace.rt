@@ -32,14 +32,16 @@ pub fn way_to(
         before = step.before.place();
     }
     Ok(Way {
-        nodes: reversed(alloc, &backward)?,
+        nodes: reversed(backward),
         cost: label.cost,
     })
 }
 
 /// These nodes, the last first.
-fn reversed(alloc: Global, nodes: &SmallVec<u32, 8>) -> Result<SmallVec<u32, 8>, AllocError>
-    ensures { IfOk result (λ all. all.items ≡ reverse nodes.now.items) }
+fn reversed(nodes: SmallVec<u32, 8>) -> SmallVec<u32, 8>
+    ensures { result.items ≡ reverse nodes.items }
 {
-    nodes.iter().rev().copied().collect(alloc)
+    let mut reversed = nodes;
+    reversed.as_mut_slice().reverse();
+    reversed
 }

@@ -41,5 +41,5 @@ done (Some k) none h = absurd (none k refl)
 
 pub returns-clause-leads : goal.returns-clause-leads
 returns-clause-leads c =
-    subst (λ (xs : List ℕ). Along (SeenArc (row_of (seen_of c.args.steps.now)) c.args.rule.avoid) xs c.args.rule.from c.args.target c.args.label.cost) (sym c.in_ok-reversed.ensures)
+    subst (λ (xs : List ℕ). Along (SeenArc (row_of (seen_of c.args.steps.now)) c.args.rule.avoid) xs c.args.rule.from c.args.target c.args.label.cost) (sym c.reversed.ensures)
     (traced_whole c.args.rule c.args.steps.now c.args.target c.args.label.cost c.steps.backward.items (done c.steps.before c.in_default.not-Some c.steps.invariant))
