@@ -10,20 +10,43 @@ use crate::ledger::Ledger;
 use crate::parts::{links_of, ranks_of};
 use ch_graph::Hierarchy;
 use ch_laws::{reached_hierarchy_is_right, reached_hierarchy_is_well_made};
+use ch_overlay::Overlay;
 
 /// What a ledger comes to when each node is contracted.
 #[derive(Drop)]
 pub struct Finished {
-    /// The hierarchy that the contractions lead to.
+    /// The hierarchy that the contractions lead to. It has no index: [`Hierarchy::into_indexed`] gives it one.
     pub hierarchy: Hierarchy,
     /// What was done, first to last: the entry of rank k stands at k.
     pub log: Vec<Contraction>,
+    /// The rows, which the hierarchy was made of and needs no longer.
+    pub rows: Overlay,
 }
 
-/// The hierarchy that the contractions of a ledger lead to. Refused while a node isn't contracted, which is tested
-/// first, or for want of memory. Takes memory for the ranks and the links, which it sorts, and for where links and their
-/// halves are.
+/// The hierarchy that the contractions of a ledger lead to, with an index and the places of the halves of links.
+///
+/// Refused while a node isn't contracted, which is tested first, or for want of memory. Takes memory for the ranks and
+/// the links, which it sorts, and for where links and their halves are.
 pub fn hierarchy_of(ledger: &Ledger) -> Result<Hierarchy, FinishError>
+    ensures made { IfOk result (λ h. IsMade ledger.now.graph (state_of ledger.now.overlay) h) }
+    ensures right { IfOk result (λ h. IsRight ledger.now.graph h) }
+    ensures left { (result ≡ Err FinishError.NodesLeft) ↔ HasNodesLeft ledger.now }
+{
+    let hierarchy = match plain_hierarchy_of(ledger) {
+        Ok(hierarchy) => hierarchy,
+        Err(error) => return Err(error),
+    };
+    let Ok(indexed) = hierarchy.into_indexed(ledger.allocator()) else {
+        return Err(FinishError::OutOfMemory);
+    };
+    Ok(indexed)
+}
+
+/// The hierarchy that the contractions of a ledger lead to, with no index.
+///
+/// Refused while a node isn't contracted, which is tested first, or for want of memory. Takes memory for the ranks and
+/// the links, which it sorts.
+pub fn plain_hierarchy_of(ledger: &Ledger) -> Result<Hierarchy, FinishError>
     ensures made { IfOk result (λ h. IsMade ledger.now.graph (state_of ledger.now.overlay) h) }
     ensures right { IfOk result (λ h. IsRight ledger.now.graph h) }
     ensures left { (result ≡ Err FinishError.NodesLeft) ↔ HasNodesLeft ledger.now }
@@ -42,8 +65,5 @@ pub fn hierarchy_of(ledger: &Ledger) -> Result<Hierarchy, FinishError>
         return Err(FinishError::OutOfMemory);
     };
     let bound = ledger.graph().bound();
-    let Ok(hierarchy) = Hierarchy::indexed(ledger.allocator(), ranks, links, bound) else {
-        return Err(FinishError::OutOfMemory);
-    };
-    Ok(hierarchy)
+    Ok(Hierarchy::new(ranks, links, bound))
 }

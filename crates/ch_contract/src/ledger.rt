@@ -14,7 +14,7 @@ ghost use Rattle.ch_contract.specs.Planned as plans;
 
 use crate::contraction::{Contraction, Receipt};
 use crate::error::FinishError;
-use crate::finish::{Finished, hierarchy_of};
+use crate::finish::{Finished, plain_hierarchy_of};
 use ch_graph::Graph;
 use ch_laws::{plan_is_lawful, reached_goes_on};
 use ch_overlay::{Change, Overlay, Row, Shortcut};
@@ -131,8 +131,9 @@ impl Ledger {
         let _ = self.log.len();
     }
 
-    /// The hierarchy that the contractions lead to, and the log: the rank of a node is the number of nodes that were
-    /// contracted before it, and the links are the arcs that the rows have, by their ends. It is right for the graph.
+    /// The hierarchy that the contractions lead to, the log, and the rows: the rank of a node is the number of nodes that
+    /// were contracted before it, and the links are the arcs that the rows have, by their ends. It is right for the
+    /// graph, and has no index yet, so that the rows can be dropped before or beside the making of one.
     ///
     /// Refused while a node isn't contracted, which is tested first, or for want of memory; the ledger is handed back as
     /// it was. Takes memory for the ranks and the links, which it sorts.
@@ -140,13 +141,19 @@ impl Ledger {
         ensures made { IfOk result (λ f. IsMade self.graph (state_of self.overlay) f.hierarchy) }
         ensures right { IfOk result (λ f. IsRight self.graph f.hierarchy) }
         ensures log { IfOk result (λ f. f.log.items ≡ self.log) }
+        ensures rows { IfOk result (λ f. f.rows ≡ self.overlay) }
         ensures left { IsErrOf result (self, FinishError.NodesLeft) ↔ HasNodesLeft self }
         ensures back { IfErr result (λ refused. refused.0 ≡ self) }
     {
-        match hierarchy_of(&self) {
+        match plain_hierarchy_of(&self) {
             Ok(hierarchy) => {
                 let log = self.log;
-                Ok(Finished { hierarchy, log })
+                let rows = self.overlay;
+                Ok(Finished {
+                    hierarchy,
+                    log,
+                    rows,
+                })
             }
             Err(error) => Err((self, error)),
         }

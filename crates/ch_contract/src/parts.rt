@@ -23,16 +23,27 @@ pub fn ranks_of(alloc: Global, overlay: &Overlay) -> Result<Vec<u32>, AllocError
     Ok(ranks)
 }
 
-/// The links that all rows of an overlay tell of, by their ends.
+/// The links that all rows of an overlay tell of, by their ends. Takes memory for them once, as many as there are.
 pub fn links_of(alloc: Global, overlay: &Overlay) -> Result<Vec<Link>, AllocError>
     ensures { IfOk result (λ links. AreLinks overlay.now links.items) }
 {
-    let mut links = Vec::new(alloc);
+    let mut links = Vec::with_capacity(alloc, count_entries(overlay))?;
     for node in 0..overlay.nodes() {
         push_row(&mut links, node, overlay.row(node))?;
     }
     links.sort_unstable_by_key(|link| (link.from, link.to));
     Ok(links)
+}
+
+/// How many entries the rows have.
+fn count_entries(overlay: &Overlay) -> usize {
+    let mut count = 0usize;
+    for row in overlay.rows() {
+        count = count
+            .saturating_add(row.out.len())
+            .saturating_add(row.inn.len());
+    }
+    count
 }
 
 /// The links that the row of a node tells of.

@@ -1,4 +1,4 @@
-ghost use Rattle.std.specs.Prelude.{◌≡◌, ◌+◌, ◌↔◌, [], All, IfOk, map, vec_len};
+ghost use Rattle.std.specs.Prelude.{◌≡◌, ◌+◌, ◌<◌, ◌≤◌, ◌↔◌, [], All, IfOk, map, vec_len};
 ghost use Rattle.ch_graph.specs.Hierarchy.{IsRight};
 ghost use Rattle.ch_workers.specs.Account.{IsAccount};
 ghost use Rattle.ch_workers.specs.Built.{IsMadeBy};
@@ -12,13 +12,14 @@ use crate::error::BuildError;
 use crate::finishing::finish;
 use crate::gate::Gate;
 use crate::options::Options;
-use crate::run::contract;
+use crate::run::{Waiting, Worked, contract};
 use crate::trouble::Trouble;
 use ch_contract::Ledger;
 use ch_estimate::{Estimator, Leases};
 use ch_graph::Graph;
 use std::alloc::Global;
 use std::sync::Wait;
+use std::thread;
 use std::thread::Threads;
 
 /// Contracts the nodes of a graph by workers, each in a thread of its own, and makes a hierarchy of what they did.
@@ -102,6 +103,41 @@ fn build_by_good<G: Gate, R: Threads + Wait + Sync>(
 {
     let lists = box_lists(alloc, estimators)?;
     let ledger = Ledger::new(alloc, graph)?;
-    let worked = contract(rt, alloc, ledger, options, lists, gate, disposal)?;
-    finish(rt, alloc, worked, options.settle)
+    let (worked, waiting) = contract(rt, alloc, ledger, options, lists, gate, disposal)?;
+    finish_beside(rt, alloc, worked, waiting, options.settle, disposal)
+}
+
+/// Ends the queue, if there is one, in a thread of its own, and makes the hierarchy beside it. Both are done when it
+/// answers, and what the queue is refused for is told first.
+fn finish_beside<R: Threads + Wait + Sync>(
+    rt: &R,
+    alloc: Global,
+    worked: Worked,
+    waiting: Option<Waiting>,
+    settle: u32,
+    disposal: &mut Disposal,
+) -> Result<Built, Trouble>
+    requires some { 0 < settle }
+    requires few { settle ≤ 65536 }
+    ensures built { IfOk result (λ b. IsMadeBy worked.ledger.graph b.log.items b.hierarchy) }
+    ensures right { IfOk result (λ b. IsRight worked.ledger.graph b.hierarchy) }
+    ensures account { IfOk result (λ b. IsAccount b.log.items (map (λ v. v.items) b.receipts.items)) }
+    ensures lists { IfOk result (λ b. vec_len b.receipts ≡ vec_len worked.receipts + 1) }
+{
+    let Some(waiting) = waiting else {
+        return finish(rt, alloc, worked, settle, disposal);
+    };
+    let (ended, built) = thread::join(
+        rt,
+        move || waiting.end(),
+        move || -> Result<Built, Trouble>
+            requires { (0 < settle) × (settle ≤ 65536) }
+            ensures built { IfOk result (λ b. IsMadeBy worked.ledger.graph b.log.items b.hierarchy) }
+            ensures right { IfOk result (λ b. IsRight worked.ledger.graph b.hierarchy) }
+            ensures account { IfOk result (λ b. IsAccount b.log.items (map (λ v. v.items) b.receipts.items)) }
+            ensures lists { IfOk result (λ b. vec_len b.receipts ≡ vec_len worked.receipts + 1) }
+        { finish(rt, alloc, worked, settle, disposal) },
+    );
+    ended?;
+    built
 }

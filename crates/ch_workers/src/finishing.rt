@@ -9,6 +9,7 @@ ghost use Rattle.ch_workers.specs.Built.{IsMadeBy};
 
 use crate::account::is_account;
 use crate::built::Built;
+use crate::disposal::Disposal;
 use crate::run::Worked;
 use crate::trouble::Trouble;
 use ch_contract::{Board, FinishError, Ledger, Receipt, Site};
@@ -16,6 +17,7 @@ use ch_rowbook::Blank;
 use std::alloc::Global;
 use std::marker::Brand;
 use std::sync::Wait;
+use std::thread::Threads;
 
 /// A ledger whose nodes are all contracted, and the receipts of those that were left for the sweep.
 #[derive(Drop)]
@@ -24,12 +26,13 @@ struct Swept {
     receipts: Vec<Receipt>,
 }
 
-/// Contracts what the workers left, and makes the hierarchy.
-pub(crate) fn finish<R: Wait>(
+/// Contracts what the workers left, and makes the hierarchy. The rows are dropped beside the making of its index.
+pub(crate) fn finish<R: Threads + Wait>(
     rt: &R,
     alloc: Global,
     worked: Worked,
     settle: u32,
+    disposal: &mut Disposal,
 ) -> Result<Built, Trouble>
     requires some { 0 < settle }
     requires few { settle ≤ 65536 }
@@ -45,17 +48,23 @@ pub(crate) fn finish<R: Wait>(
     let Swept {
         ledger,
         receipts: swept,
-    } = sweep(rt, alloc, ledger, settle)?;
+    } = sweep(rt, alloc, ledger, settle, disposal)?;
     receipts.reserve(1)?;
     receipts.push_reserved(swept);
     if !is_account(alloc, ledger.log(), receipts.as_slice())? {
         return Err(Trouble::Mixed);
     }
-    built_of(ledger, receipts)
+    built_of(rt, alloc, ledger, receipts, disposal)
 }
 
 /// Contracts each node that is left, by a board whose book is new. There is none where no node is left.
-fn sweep<R: Wait>(rt: &R, alloc: Global, ledger: Ledger, settle: u32) -> Result<Swept, Trouble>
+fn sweep<R: Threads + Wait>(
+    rt: &R,
+    alloc: Global,
+    ledger: Ledger,
+    settle: u32,
+    disposal: &mut Disposal,
+) -> Result<Swept, Trouble>
     requires some { 0 < settle }
     requires few { settle ≤ 65536 }
     ensures graph { IfOk result (λ swept. swept.ledger.graph ≡ ledger.graph) }
@@ -67,16 +76,18 @@ fn sweep<R: Wait>(rt: &R, alloc: Global, ledger: Ledger, settle: u32) -> Result<
     }
     let rows = ledger.overlay();
     let blank = Blank::new(alloc, rows.nodes(), rows.bound())?;
-    sweep_named::<Brand, R>(rt, alloc, blank, ledger, settle)
+    sweep_named::<Brand, R>(rt, alloc, blank, ledger, settle, disposal)
 }
 
-/// Contracts each node that is left, by a board of a type that names the graph and the book.
-fn sweep_named<S: Site, R: Wait>(
+/// Contracts each node that is left, by a board of a type that names the graph and the book. The book is dropped beside
+/// what comes next.
+fn sweep_named<S: Site + Send + Sync + 'static, R: Threads + Wait>(
     rt: &R,
     alloc: Global,
     blank: Blank,
     ledger: Ledger,
     settle: u32,
+    disposal: &mut Disposal,
 ) -> Result<Swept, Trouble>
     requires of_graph { S.graph ≡ ledger.graph }
     requires of_book { S.book ≡ name_of blank }
@@ -92,12 +103,19 @@ fn sweep_named<S: Site, R: Wait>(
         Err((_, refused)) => return Err(refused.into()),
     };
     let receipts = board.sweep(rt, settle)?;
-    let (ledger, _) = board.into_parts();
+    let (ledger, pen) = board.into_parts();
+    disposal.take(rt, pen);
     Ok(Swept { ledger, receipts })
 }
 
 /// The hierarchy and the log of a ledger whose nodes are all contracted, beside the receipts that account for the log.
-fn built_of(ledger: Ledger, receipts: Vec<Vec<Receipt>>) -> Result<Built, Trouble>
+fn built_of<R: Threads>(
+    rt: &R,
+    alloc: Global,
+    ledger: Ledger,
+    receipts: Vec<Vec<Receipt>>,
+    disposal: &mut Disposal,
+) -> Result<Built, Trouble>
     requires holds { IsLedger ledger }
     requires over { IsOver (state_of ledger.overlay) }
     requires account { IsAccount ledger.log (map (λ v. v.items) receipts.items) }
@@ -106,13 +124,16 @@ fn built_of(ledger: Ledger, receipts: Vec<Vec<Receipt>>) -> Result<Built, Troubl
     ensures account { IfOk result (λ b. IsAccount b.log.items (map (λ v. v.items) b.receipts.items)) }
     ensures lists { IfOk result (λ b. vec_len b.receipts ≡ vec_len receipts) }
 {
-    match ledger.finish() {
-        Ok(finished) => Ok(Built {
-            hierarchy: finished.hierarchy,
-            receipts,
-            log: finished.log,
-        }),
-        Err((_, FinishError::OutOfMemory)) => Err(Trouble::OutOfMemory),
+    let finished = match ledger.finish() {
+        Ok(finished) => finished,
+        Err((_, FinishError::OutOfMemory)) => return Err(Trouble::OutOfMemory),
         Err((_, FinishError::NodesLeft)) => unreachable!(),
-    }
+    };
+    disposal.take(rt, finished.rows);
+    let hierarchy = finished.hierarchy.into_indexed(alloc)?;
+    Ok(Built {
+        hierarchy,
+        receipts,
+        log: finished.log,
+    })
 }

@@ -23,6 +23,13 @@ pub(crate) struct Worked {
     pub(crate) receipts: Vec<Vec<Receipt>>,
 }
 
+/// The queue of the workers, which is to be closed, and the passes of all of them.
+#[derive(Drop)]
+pub(crate) struct Waiting {
+    queue: MultiQueue,
+    passes: Vec<Pass>,
+}
+
 /// What is left of workers: their passes and their receipts.
 #[derive(Drop)]
 struct Left {
@@ -30,7 +37,8 @@ struct Left {
     receipts: Vec<Vec<Receipt>>,
 }
 
-/// Lets workers contract nodes of a ledger, as many workers as there are lists of estimators, which are dropped.
+/// Lets workers contract nodes of a ledger, as many workers as there are lists of estimators, which are dropped. Answers
+/// their queue too, if there is a worker.
 pub(crate) fn contract<E: Estimator + Send, G: Gate, R: Threads + Wait + Sync>(
     rt: &R,
     alloc: Global,
@@ -39,15 +47,15 @@ pub(crate) fn contract<E: Estimator + Send, G: Gate, R: Threads + Wait + Sync>(
     estimators: Vec<Vec<E>>,
     gate: &G,
     disposal: &mut Disposal,
-) -> Result<Worked, Trouble>
+) -> Result<(Worked, Option<Waiting>), Trouble>
     requires good { AreGood options (vec_len estimators) }
     requires untold { All (λ list. All (λ estimator. E.heard estimator ≡ []) list.items) estimators.items }
-    ensures graph { IfOk result (λ worked. worked.ledger.graph ≡ ledger.graph) }
-    ensures lists { IfOk result (λ worked. vec_len worked.receipts ≡ options.workers) }
+    ensures graph { IfOk result (λ made. made.0.ledger.graph ≡ ledger.graph) }
+    ensures lists { IfOk result (λ made. vec_len made.0.receipts ≡ options.workers) }
 {
     if options.workers == 0 {
         let receipts = Vec::new(alloc);
-        return Ok(Worked { ledger, receipts });
+        return Ok((Worked { ledger, receipts }, None));
     }
     let Crew { queue, workers } = hire(alloc, options, estimators)?;
     let work = Work {
@@ -61,8 +69,8 @@ pub(crate) fn contract<E: Estimator + Send, G: Gate, R: Threads + Wait + Sync>(
         workers,
     } = go_on(rt, alloc, work, options, gate, disposal)?;
     let Left { passes, receipts } = take_apart(alloc, workers)?;
-    let _left = close(queue, passes)?;
-    Ok(Worked { ledger, receipts })
+    let waiting = Some(Waiting { queue, passes });
+    Ok((Worked { ledger, receipts }, waiting))
 }
 
 /// Lets workers go on shift after shift, until each has ended or a shift contracts no node.
@@ -117,8 +125,17 @@ fn take_apart<E: Estimator>(alloc: Global, workers: Vec<Worker<E>>) -> Result<Le
     })
 }
 
-/// Ends the queue, by the passes of all workers, and answers what is left in it. `Mixed` where a pass is missing, or
-/// where an item was lost, doubled or altered between a push and a pop.
+impl Waiting {
+    /// Ends the queue. `Mixed` where a pass is missing, or where an item was lost, doubled or altered between a push and
+    /// a pop.
+    pub(crate) fn end(self) -> Result<(), Trouble> {
+        let Waiting { queue, passes } = self;
+        let _left = close(queue, passes)?;
+        Ok(())
+    }
+}
+
+/// Ends a queue, by the passes of all workers, and answers what is left in it.
 fn close(queue: MultiQueue, passes: Vec<Pass>) -> Result<Vec<Item>, Trouble>
     ensures { IfOk result (λ left. AreBalanced passes.items left.items) }
 {

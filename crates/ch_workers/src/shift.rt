@@ -132,7 +132,8 @@ fn end<S: Site, E: Estimator>(
     Ok(workers)
 }
 
-/// Lends each worker to a thread of its own, and joins them all. A worker whose thread can't be started does nothing.
+/// Lends each worker that hasn't ended to a thread of its own, and joins them all. A worker whose thread can't be started
+/// does nothing.
 fn run_all<
     's,
     'w: 's,
@@ -143,7 +144,15 @@ fn run_all<
 >(rt: &'s R, shared: &'s Shared<S>, gate: &'s G, on_shift: &'w mut [OnShift<S, E>]) {
     thread::scope(thread::scope_env(), rt, |scope| {
         'workers: for one in on_shift.iter_mut() {
-            let _ = scope.spawn(move || work(rt, shared, gate, &mut one.worker, &mut one.reader));
+            if !one.worker.has_ended {
+                let _ = scope.spawn(move || work(
+                    rt,
+                    shared,
+                    gate,
+                    &mut one.worker,
+                    &mut one.reader,
+                ));
+            }
         }
     });
 }

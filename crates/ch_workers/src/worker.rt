@@ -13,14 +13,32 @@ use ch_rowbook::Reader;
 use std::alloc::AllocError;
 use std::sync::Wait;
 
-/// A worker ends here: its turns are over, it found no item, memory was refused, or a proposal didn't fit the board.
+/// Memory was refused, or a proposal didn't fit the board. The worker ends.
 #[derive(Drop)]
-pub(crate) struct End;
+struct Refused;
 
-impl From<AllocError> for End {
-    fn from(_refused: AllocError) -> End {
-        End
+impl From<AllocError> for Refused {
+    fn from(_refused: AllocError) -> Refused {
+        Refused
     }
+}
+
+/// How a worker's shift was over.
+#[derive(Drop)]
+enum Shift {
+    /// The worker replaced as many rows as it may, and goes on in the next shift.
+    GoesOn,
+    /// The worker has taken all its turns, or found no item.
+    Ended,
+}
+
+/// How a turn went.
+#[derive(Drop)]
+enum Turn {
+    /// An item was taken. So much weigh the rows that were replaced.
+    Taken(u64),
+    /// No item was found.
+    NoItem,
 }
 
 /// What a worker has of its own, in the builder's list.
@@ -52,7 +70,7 @@ pub(crate) fn work<S: Site, E: Estimator, G: Gate, R: Wait>(
     if worker.has_ended {
         return;
     }
-    if worker.go_on(rt, shared, gate, reader).is_ok() {
+    if let Ok(Shift::GoesOn) = worker.go_on(rt, shared, gate, reader) {
         return;
     }
     worker.has_ended = true;
@@ -68,7 +86,7 @@ impl<E: Estimator> Worker<E> {
         shared: &Shared<S>,
         gate: &G,
         reader: &mut Reader<S>,
-    ) -> Result<(), End> {
+    ) -> Result<Shift, Refused> {
         if !self.is_ready {
             self.put_all(rt, shared, reader)?;
             self.is_ready = true;
@@ -76,13 +94,16 @@ impl<E: Estimator> Worker<E> {
         let turns = self.turns;
         let mut replaced = 0u64;
         'turns: for turn in 0..turns {
-            replaced = replaced.saturating_add(self.turn(rt, shared, gate, reader)?);
+            let Turn::Taken(weight) = self.turn(rt, shared, gate, reader)? else {
+                return Ok(Shift::Ended);
+            };
+            replaced = replaced.saturating_add(weight);
             if replaced >= shared.room {
                 self.turns = turns - turn - 1;
-                return Ok(());
+                return Ok(Shift::GoesOn);
             }
         }
-        Err(End)
+        Ok(Shift::Ended)
     }
 
     /// Puts each node that is its own, by the remainder of its number, into the queue.
@@ -91,7 +112,7 @@ impl<E: Estimator> Worker<E> {
         rt: &R,
         shared: &Shared<S>,
         reader: &mut Reader<S>,
-    ) -> Result<(), End> {
+    ) -> Result<(), Refused> {
         let workers = shared.options.workers;
         'nodes: for node in 0..shared.nodes {
             if node % workers == self.number {
@@ -108,7 +129,7 @@ impl<E: Estimator> Worker<E> {
         shared: &Shared<S>,
         reader: &mut Reader<S>,
         node: u32,
-    ) -> Result<(), End> {
+    ) -> Result<(), Refused> {
         let Some(proposal) = self.propose(shared, reader, node)? else {
             return Ok(());
         };
@@ -116,51 +137,44 @@ impl<E: Estimator> Worker<E> {
         self.push(rt, shared, Item { key, node })
     }
 
-    /// Takes an item, and commits the contraction of its node or puts it back. Answers what the rows weigh that were
-    /// replaced.
+    /// Takes an item, if there is one, and commits the contraction of its node or puts it back.
     fn turn<S: Site, G: Gate, R: Wait>(
         &mut self,
         rt: &R,
         shared: &Shared<S>,
         gate: &G,
         reader: &mut Reader<S>,
-    ) -> Result<u64, End> {
-        let item = self.take(rt, shared)?;
+    ) -> Result<Turn, Refused> {
+        let Some(item) = shared.queue.pop(rt, &mut self.pass)? else {
+            return Ok(Turn::NoItem);
+        };
         gate.pass(self.number, Point::Took);
         let Some(proposal) = self.propose(shared, reader, item.node)? else {
-            return Ok(0);
+            return Ok(Turn::Taken(0));
         };
         self.hear(rt, shared)?;
         let key = self.key(&proposal);
         if self.put_back(rt, shared, item, key)? {
-            return Ok(0);
+            return Ok(Turn::Taken(0));
         }
         gate.pass(self.number, Point::Proposed);
         let weight = weight(proposal.facts(), shared.room);
         if self.commit(rt, shared, gate, reader, item, proposal)? {
-            return Ok(weight);
+            return Ok(Turn::Taken(weight));
         }
-        Ok(0)
+        Ok(Turn::Taken(0))
     }
 
-    /// Takes an item from the queue. The worker ends where there is none.
-    fn take<S: Site, R: Wait>(&mut self, rt: &R, shared: &Shared<S>) -> Result<Item, End> {
-        match shared.queue.pop(rt, &mut self.pass)? {
-            Some(item) => Ok(item),
-            None => Err(End),
-        }
-    }
-
-    /// Puts an item into the queue. The worker ends where memory is refused.
+    /// Puts an item into the queue.
     fn push<S: Site, R: Wait>(
         &mut self,
         rt: &R,
         shared: &Shared<S>,
         item: Item,
-    ) -> Result<(), End> {
+    ) -> Result<(), Refused> {
         match shared.queue.push(rt, &mut self.pass, item) {
             Ok(()) => Ok(()),
-            Err(_item) => Err(End),
+            Err(_item) => Err(Refused),
         }
     }
 
@@ -171,20 +185,20 @@ impl<E: Estimator> Worker<E> {
         shared: &Shared<S>,
         reader: &mut Reader<S>,
         node: u32,
-    ) -> Result<Option<Proposal>, End>
+    ) -> Result<Option<Proposal>, Refused>
         ensures of_book { IfOk result (λ found. IfSome found (λ p. All (IsOfBook S.book) p.rests_on)) }
         ensures bound { IfOk result (λ found. IfSome found (λ p. p.bound ≡ S.book.bound)) }
     {
         let settle = shared.options.settle;
         match propose_with(shared.alloc, reader, &mut self.scratch, node, settle) {
             Ok(proposal) => Ok(Some(proposal)),
-            Err(ProposeError::OutOfMemory) => Err(End),
+            Err(ProposeError::OutOfMemory) => Err(Refused),
             Err(ProposeError::Unseen | ProposeError::Contracted) => Ok(None),
         }
     }
 
     /// Tells its current estimator, if it has one, what it wasn't told of the log.
-    fn hear<S: Site, R: Wait>(&mut self, rt: &R, shared: &Shared<S>) -> Result<(), End> {
+    fn hear<S: Site, R: Wait>(&mut self, rt: &R, shared: &Shared<S>) -> Result<(), Refused> {
         if let Some(listener) = self.listeners.current() {
             shared.tell_all(rt, &mut self.entry, listener)?;
         }
@@ -207,7 +221,7 @@ impl<E: Estimator> Worker<E> {
         shared: &Shared<S>,
         item: Item,
         key: u64,
-    ) -> Result<bool, End> {
+    ) -> Result<bool, Refused> {
         if key <= item.key || self.deferred >= shared.options.defer {
             return Ok(false);
         }
@@ -227,7 +241,7 @@ impl<E: Estimator> Worker<E> {
         reader: &mut Reader<S>,
         item: Item,
         proposal: Proposal,
-    ) -> Result<bool, End>
+    ) -> Result<bool, Refused>
         requires of_book { All (IsOfBook S.book) proposal.rests_on }
         requires bound { proposal.bound ≡ S.book.bound }
     {
@@ -246,7 +260,7 @@ impl<E: Estimator> Worker<E> {
                 Ok(false)
             }
             Err(CommitError::Contracted) => Ok(false),
-            Err(CommitError::OutOfMemory | CommitError::Slot) => Err(End),
+            Err(CommitError::OutOfMemory | CommitError::Slot) => Err(Refused),
         }
     }
 }

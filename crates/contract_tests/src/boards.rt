@@ -8,7 +8,7 @@ use crate::networks::{
 use crate::proposals::{are_of, are_shortcuts};
 use crate::shelf::{Lead, Numbers, cost_of};
 use ch_contract::{
-    Board, CommitError, Contraction, FinishError, Proposal, ProposeError, Receipt, Site,
+    Board, CommitError, Contraction, FinishError, Ledger, Proposal, ProposeError, Receipt, Site,
     SweepError, propose,
 };
 use ch_graph::{Graph, Hierarchy, Link, Road};
@@ -256,6 +256,38 @@ fn is_finished<S: Site>(board: Board<S>, case: &Case) -> Result<bool, FinishErro
     Ok(is_hierarchy(&finished(board)?, case))
 }
 
+/// Whether the ledger of such a board comes to the hierarchy, the log and the rows of the case.
+fn ledger_comes_to<S: Site, R: Wait>(
+    rt: &R,
+    alloc: Global,
+    blank: Blank,
+    graph: Graph,
+    case: &Case,
+) -> Result<bool, Fail>
+    requires of_graph { S.graph ≡ graph }
+    requires of_book { S.book ≡ name_of blank }
+    requires nodes { blank.nodes ≡ graph.nodes }
+    requires bound { blank.bound ≡ bound_of graph }
+{
+    let (mut board, _): (Board<S>, Reader<S>) = Board::new(rt, alloc, blank, graph)?;
+    let holds = takes_turns(rt, alloc, &mut board, case)?;
+    let (ledger, _) = board.into_parts();
+    Ok(holds & is_given_away(ledger, case))
+}
+
+/// Whether a ledger gives away the hierarchy of the case, the log and the rows.
+fn is_given_away(ledger: Ledger, case: &Case) -> bool {
+    match ledger.finish() {
+        Ok(finished) => {
+            is_hierarchy(&finished.hierarchy, case)
+                & is_log(finished.log.as_slice(), case.log)
+                & (finished.rows.nodes() == case.nodes)
+                & (finished.rows.alive() == 0)
+        }
+        Err(_) => false,
+    }
+}
+
 /// Whether the board answers the offers of each turn, and the sweep then contracts what is left.
 fn takes_turns<S: Site, R: Wait>(
     rt: &R,
@@ -371,6 +403,20 @@ fn boards_come_to_their_hierarchies(rt: HostRuntime) -> Result<(), Fail> {
     Ok(())
 }
 
+/// Whether a ledger of the case's graph comes to what the case says.
+fn ledger_comes_true<R: Wait>(rt: &R, alloc: Global, case: &Case) -> Result<bool, Fail> {
+    let (blank, graph) = with_blank(alloc, graph_of(alloc, case.nodes, case.lines)?)?;
+    ledger_comes_to::<Brand, R>(rt, alloc, blank, graph, case)
+}
+
+#[test]
+fn ledgers_come_to_their_hierarchies(rt: HostRuntime) -> Result<(), Fail> {
+    for case in &CASES {
+        assert!(rt; ledger_comes_true(&rt, rt.alloc(), case)?);
+    }
+    Ok(())
+}
+
 /// Whether a fresh board of the row of three nodes is handed back, as it was, in place of a hierarchy.
 fn has_nodes_left<S: Site, R: Wait>(
     rt: &R,
@@ -408,6 +454,26 @@ fn nodes_left(rt: HostRuntime) -> Result<(), Fail> {
     let alloc = rt.alloc();
     let (blank, graph) = with_blank(alloc, graph_of(alloc, 3, &ROW)?)?;
     assert!(rt; has_nodes_left::<Brand, HostRuntime>(&rt, alloc, blank, graph)?);
+    Ok(())
+}
+
+/// Whether a ledger of three nodes is handed back, with no node contracted.
+fn is_ledger_handed_back(ledger: Ledger) -> bool {
+    match ledger.finish() {
+        Ok(_) => false,
+        Err((back, error)) => {
+            (error == FinishError::NodesLeft)
+                & back.log().is_empty()
+                & (back.overlay().alive() == 3)
+        }
+    }
+}
+
+#[test]
+fn nodes_left_of_a_ledger(rt: HostRuntime) -> Result<(), Fail> {
+    let alloc = rt.alloc();
+    let ledger = Ledger::new(alloc, graph_of(alloc, 3, &ROW)?)?;
+    assert!(rt; is_ledger_handed_back(ledger));
     Ok(())
 }
 

@@ -10,9 +10,10 @@ made_by : (graph : Graph) (log told : List Contraction) (state : State) (h : Hie
 made_by graph log told state h is reached over made =
     subst (λ (l : List Contraction). IsMadeBy graph l h) (sym is) (record { state = state; reached = reached; over = over; made = made })
 
-pub returns-in-Ok-clause-built : goal.returns-in-Ok-clause-built
-returns-in-Ok-clause-built c =
-    made_by c.args.ledger.graph c.args.ledger.log c.in-Ok.finished.log.items (state_of c.args.ledger.overlay) c.in-Ok.finished.hierarchy c.in-Ok.ensures.log c.requires.holds.reached c.requires.over c.in-Ok.ensures.made
+pub returns-clause-built : goal.returns-clause-built
+returns-clause-built g c =
+    let made = subst (λ (h : Hierarchy). IsMade c.args.ledger.graph (state_of c.args.ledger.overlay) h) (sym c.in_ok-hierarchy.ensures) c.in-Ok.ensures.made in
+    made_by c.args.ledger.graph c.args.ledger.log c.in-Ok.finished.log.items (state_of c.args.ledger.overlay) c.in_ok-hierarchy.hierarchy c.in-Ok.ensures.log c.requires.holds.reached c.requires.over made
 
-pub returns-in-Ok-clause-account : goal.returns-in-Ok-clause-account
-returns-in-Ok-clause-account c = rw c.in-Ok.ensures.log c.requires.account
+pub returns-clause-account : goal.returns-clause-account
+returns-clause-account g c = rw c.in-Ok.ensures.log c.requires.account

@@ -11,7 +11,7 @@ use Rattle.ch_contract.specs.Ledger.{Ledger, IsLedger}
 use Rattle.ch_contract.specs.Finish.{AreRanks, AreLinks}
 use Rattle.ch_contract.proofs.NodesLeft.{over-from_count, left-from_count}
 use Rattle.ch_contract.proofs.Finishing.{IsFinished, finished, over-leaves_none}
-use Rattle.ch_contract.proofs.finish.hierarchy_of.Goals as goal
+use Rattle.ch_contract.proofs.finish.plain_hierarchy_of.Goals as goal
 
 -- where no node is left, all are contracted
 over : (o was : Overlay) → o ≡ was → IsOverlay was → (n : ℕ) → n + length o.order ≡ length o.rows → n ≤ 0 → IsOver (state_of was)
@@ -40,8 +40,8 @@ module _ (right : AlwaysRight) (well : AlwaysWellMade) (l : Ledger) (o : Overlay
   done : AreRanks o ranks → AreLinks o links → bound ≡ bound_of l.graph → IsFinished l (record { version = Two; ranks = ranks; links = links; bound = bound })
   done are_ranks are_links bound_is = finished right well l ranks links bound is all (subst (λ (q : Overlay). AreRanks q ranks) same are_ranks) (subst (λ (q : Overlay). AreLinks q links) same are_links) bound_is
 
-pub indexed-requires : goal.indexed-requires
-indexed-requires c =
+pub new-requires : goal.new-requires
+new-requires c =
     let all = over c.overlay-overlay.result.now _ c.overlay-overlay.ensures c.holds.ensures.overlay c.alive.result c.alive.ensures (omega arith) in
     (done c.reached_hierarchy_is_right.ensures c.reached_hierarchy_is_well_made.ensures c.args.ledger.now c.overlay-overlay.result.now c.in-Ok.ranks.items c.in-Ok-links_of.links.items c.bound-bound.result c.holds.ensures c.overlay-overlay.ensures all c.in-Ok.ensures c.in-Ok-links_of.ensures (c.bound-bound.ensures ∙ ap bound_of c.graph.ensures)).well
 
@@ -49,18 +49,13 @@ pub returns-clause-made : goal.returns-clause-made
 returns-clause-made c =
     let all = over c.overlay-overlay.result.now _ c.overlay-overlay.ensures c.holds.ensures.overlay c.alive.result c.alive.ensures (omega arith) in
     let made = (done c.reached_hierarchy_is_right.ensures c.reached_hierarchy_is_well_made.ensures c.args.ledger.now c.overlay-overlay.result.now c.in-Ok.ranks.items c.in-Ok-links_of.links.items c.bound-bound.result c.holds.ensures c.overlay-overlay.ensures all c.in-Ok.ensures c.in-Ok-links_of.ensures (c.bound-bound.ensures ∙ ap bound_of c.graph.ensures)).made in
-    subst (λ (h : Hierarchy). IsMade c.args.ledger.now.graph (state_of c.args.ledger.now.overlay) h) (sym c.in-Ok-indexed.ensures) made
+    subst (λ (h : Hierarchy). IsMade c.args.ledger.now.graph (state_of c.args.ledger.now.overlay) h) (sym c.new.ensures) made
 
 pub returns-clause-right : goal.returns-clause-right
 returns-clause-right c =
     let all = over c.overlay-overlay.result.now _ c.overlay-overlay.ensures c.holds.ensures.overlay c.alive.result c.alive.ensures (omega arith) in
     let right = (done c.reached_hierarchy_is_right.ensures c.reached_hierarchy_is_well_made.ensures c.args.ledger.now c.overlay-overlay.result.now c.in-Ok.ranks.items c.in-Ok-links_of.links.items c.bound-bound.result c.holds.ensures c.overlay-overlay.ensures all c.in-Ok.ensures c.in-Ok-links_of.ensures (c.bound-bound.ensures ∙ ap bound_of c.graph.ensures)).right in
-    subst (λ (h : Hierarchy). IsRight c.args.ledger.now.graph h) (sym c.in-Ok-indexed.ensures) right
-
-pub returns-in_default-indexed-clause-left : goal.returns-in_default-indexed-clause-left
-returns-in_default-indexed-clause-left c =
-    let all = over c.overlay-overlay.result.now _ c.overlay-overlay.ensures c.holds.ensures.overlay c.alive.result c.alive.ensures (omega arith) in
-    (λ e. absurd (cc), λ left. absurd (over-leaves_none c.args.ledger.now all left))
+    subst (λ (h : Hierarchy). IsRight c.args.ledger.now.graph h) (sym c.new.ensures) right
 
 pub returns-clause-left : goal.returns-clause-left
 returns-clause-left c =
