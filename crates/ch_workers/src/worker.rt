@@ -59,7 +59,8 @@ pub(crate) struct Worker<E: Estimator> {
     pub(crate) has_ended: bool,
 }
 
-/// Lets a worker go on until the shift is over or it ends. Where it ends, it drops its estimators and passes the gate.
+/// Lets a worker that hasn't ended go on until the shift is over or it ends. Where it ends, it drops its estimators and
+/// passes the gate.
 pub(crate) fn work<S: Site, E: Estimator, G: Gate, R: Wait>(
     rt: &R,
     shared: &Shared<S>,
@@ -67,9 +68,6 @@ pub(crate) fn work<S: Site, E: Estimator, G: Gate, R: Wait>(
     worker: &mut Worker<E>,
     reader: &mut Reader<S>,
 ) {
-    if worker.has_ended {
-        return;
-    }
     if let Ok(Shift::GoesOn) = worker.go_on(rt, shared, gate, reader) {
         return;
     }
