@@ -23,6 +23,7 @@ BEGIN, END = "<!-- speed: begin -->\n", "<!-- speed: end -->"
 ORDERS, ROUTED, WORKERS = ["edges", "neighbours", "depth"], ["edges", "depth"], [1, 2, 4]
 COUNTS = {"random": 10_000, "near": 2_000}
 FEW = 20
+ONE_ROUND = [["networkx"], ["pgrouting"]]
 SEARCHES = {"plain": "plain search in C++", "boost": "Boost", "igraph": "igraph", "networkx": "NetworkX", "pgrouting": "pgRouting"}
 
 
@@ -53,6 +54,11 @@ class Measured:
     def searched(self, network, name, kind):
         found = self.least(network, f"search {name} {kind}")
         return None if found is None else found * 1e6 / FEW
+
+    def fewest(self, network):
+        """The fewest rounds of a job, but for the searches that have one alone."""
+        jobs = [rows for (name, job), rows in self.runs.items() if name == network and job.split()[1:2] not in ONE_ROUND]
+        return min(map(len, jobs), default=0)
 
     def names(self):
         return list(self.networks)
@@ -100,6 +106,9 @@ def when(measured):
     told = f"Measured from {first} to {last} (UTC), one program at a time, in {rounds} round{'s' * (rounds > 1)}, on a machine of "
     told += f"{measured.about['machine']}; {measured.about['system']}. It is `{measured.about['version']}`. "
     told += f"The load after a run was {min(loads):.1f} to {max(loads):.1f}, of which the run itself is a part."
+    fewer = [measured.title(name) for name in measured.names() if measured.fewest(name) < rounds]
+    if fewer:
+        told += f" Some jobs had fewer rounds, at {'; '.join(fewer)} nodes."
     return textwrap.fill(told, 122, break_long_words=False, break_on_hyphens=False)
 
 
