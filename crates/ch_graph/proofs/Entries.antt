@@ -1,9 +1,5 @@
--- The queue of a search, as its entries come and go.
-use Rattle.std.proofs.Common.{◌≡◌, ℕ, ◌<◌, ◌⊎◌, false, List, ◌∷◌, length, set, zero, suc, refl, sym, subst, ap, ◌∙◌, inl, inr, arith}
-use Rattle.std.proofs.lemmas.List.{length-set}
-use Rattle.std.proofs.lemmas.List.Elements.{All-cons, All-head, All-tail, All-weaker, All-contains, All-from_recursion}
-use Rattle.std.proofs.lemmas.List.Sorted.{All-permutation, Contains-permutation}
-use Rattle.std.specs.List.{All, Contains}
+-- The queue of the plain search, whose keys are the costs.
+use Rattle.std.proofs.Common.{◌≡◌, ℕ, ◌<◌, false, List, ◌∷◌, length, set, refl}
 use Rattle.std.specs.List.Sorted.{IsPermutation}
 use Rattle.std.specs.Ordering.{is_lt, ordering_then, nat_cmp}
 use Rattle.std.specs.declared.cmp.Ordering.{Ordering}
@@ -14,111 +10,46 @@ use Rattle.ch_cost.specs.Cost.{◌≼◌, compare}
 use Rattle.ch_cost.specs.Cost.Laws.{at_most_refl, at_most_trans, at_most-from_not_less}
 use Rattle.ch_graph.specs.declared.mark.Mark.{Mark}
 use Rattle.ch_graph.specs.declared.mark.Mark.TheVariants.{Open, Settled}
-use Rattle.ch_graph.specs.Marks.{mark, IsAtMost, Improves, IsLeastOpen}
-use Rattle.ch_graph.specs.Queue.{Entry, entry, entry_cmp, IsEntryOf, IsQueue}
-use Rattle.ch_graph.proofs.MarkSteps.{cases_write, improves-below, open-settled, open-open}
-
--- Membership
-
-contains_head : (x : Entry) (xs : List Entry) → Contains (x ∷ xs) x
-contains_head x xs = (0, omega arith, refl)
-
-contains_tail : (x y : Entry) (xs : List Entry) → Contains xs y → Contains (x ∷ xs) y
-contains_tail x y xs (k, h, e) = (suc k, omega (arith, h), e)
-
-contains_cases : (x y : Entry) (xs : List Entry) → Contains (x ∷ xs) y → (x ≡ y) ⊎ Contains xs y
-contains_cases x y xs (zero, h, e) = inl e
-contains_cases x y xs (suc k, h, e) = inr (k, omega (arith, h), e)
-
--- The order of entries
-
-not_less-first : (a b : Ordering) → is_lt (ordering_then a b) ≡ false → is_lt a ≡ false
-not_less-first Less b e = e
-not_less-first Equal b e = refl
-not_less-first Greater b e = refl
-
--- the greatest entry of the heap has the least cost
-greatest-least : (x : Entry) (xs : List Entry) → IsUpperBound entry_cmp x xs → All (λ e. x.0.0 ≼ e.0.0) xs
-greatest-least x xs top = All-weaker (λ e. is_lt (entry_cmp x e) ≡ false) (λ e. x.0.0 ≼ e.0.0) (λ e h. at_most-from_not_less e.0.0 x.0.0 (not_less-first (compare e.0.0 x.0.0) (nat_cmp e.0.1 x.0.1) h)) xs (All-from_recursion (λ e. is_lt (entry_cmp x e) ≡ false) xs top)
-
--- Steps
+use Rattle.ch_graph.specs.Marks.{mark, Improves}
+use Rattle.ch_graph.specs.Queue.{Entry, entry, entry_cmp, IsEntryOf}
+use Rattle.ch_graph.specs.Search.{own_cost, IsQueueOf, IsLeastOpen}
+use Rattle.ch_graph.specs.Marks.Laws.{put-set, label-in, label_open, improves-below, at_most-label, at_most-from_label}
+use Rattle.ch_graph.specs.Queue.Laws as queues
+use Rattle.ch_graph.specs.Queue.Laws.{queue-first, queue-popped}
 
 -- a node is opened with a cost that improves its mark, and put into the queue
-pub queue-open : (marks : List Mark) (entries new : List Entry) (v : ℕ) (c : Cost) → IsQueue marks entries → v < length marks → Improves c (mark marks v) → IsPermutation (entry c v ∷ entries) new → IsHeap entry_cmp new → IsQueue (set marks v (Open c)) new
-queue-open marks entries new v c queue h improves moved heap = record {
-  heap = heap;
-  waits = λ u d is. Contains-permutation (entry c v ∷ entries) new (entry d u) moved (waits u d is);
-  known = All-permutation (IsEntryOf written) (entry c v ∷ entries) new moved (All-cons (IsEntryOf written) (entry c v) entries (omega (arith, h, length-set marks v (Open c)), first) (All-weaker (IsEntryOf marks) (IsEntryOf written) stays entries queue.known));
-} where
-  written : List Mark
-  written = set marks v (Open c)
+pub queue-open : (marks : List (Mark Cost)) (entries after : List (Entry Cost)) (v : ℕ) (c : Cost) → IsQueueOf marks entries → v < length marks → Improves own_cost c (mark marks v) → IsPermutation (entry c v ∷ entries) after → IsHeap (entry_cmp compare) after → IsQueueOf (set marks v (Open c)) after
+queue-open marks entries after v c queue h improves moved heap = queues.queue-open ◌≼◌ own_cost compare (mark marks) (mark (set marks v (Open c))) entries after queue v c (put-set marks v (Open c) h) (at_most_refl c) (λ d k has most. improves-below own_cost (mark marks v) c k improves (at_most-from_label own_cost (mark marks v) d k has most)) moved heap
 
-  waits : (u : ℕ) (d : Cost) → mark (set marks v (Open c)) u ≡ Open d → Contains (entry c v ∷ entries) (entry d u)
-  waits u d is = elim (cases_write marks v (Open c) u h) [
-    | inl w ↦ subst (λ k. Contains (entry c v ∷ entries) (entry k u)) (open-open (sym w.reads ∙ is)) (subst (λ k. Contains (entry c v ∷ entries) (entry c k)) (sym w.at) (contains_head (entry c v) entries))
-    | inr k ↦ contains_tail (entry c v) (entry d u) entries (queue.waits u d (sym k.reads ∙ is))
-  ]
+-- an entry was taken out
+module _ (marks : List (Mark Cost)) (entries after : List (Entry Cost)) (x : Entry Cost) (queue : IsQueueOf marks entries) (moved : IsPermutation entries (x ∷ after)) where
+  popped : IsEntryOf ◌≼◌ own_cost (mark marks) x
+  popped = queue-popped ◌≼◌ own_cost compare (mark marks) (mark marks) entries after queue x moved
 
-  first : IsAtMost (mark (set marks v (Open c)) v) c
-  first = elim (cases_write marks v (Open c) v h) [
-    | inl w ↦ subst (λ l. IsAtMost l c) (sym w.reads) (at_most_refl c)
-    | inr k ↦ absurd (k.other refl)
-  ]
+  -- its node is in range
+  pub queue-in : x.0.1 < length marks
+  queue-in = label-in marks x.0.1 popped.0 popped.1
 
-  stays : (e : Entry) → IsEntryOf marks e → IsEntryOf (set marks v (Open c)) e
-  stays e k = (
-    omega (arith, k.0, length-set marks v (Open c)),
-    elim (cases_write marks v (Open c) e.0.1 h) [
-      | inl w ↦ subst (λ l. IsAtMost l e.0.0) (sym w.reads) (improves-below (mark marks v) c e.0.0 improves (subst (λ u. IsAtMost (mark marks u) e.0.0) w.at k.1))
-      | inr o ↦ subst (λ l. IsAtMost l e.0.0) (sym o.reads) k.1
-    ],
-  )
+  -- where that isn't open, it is passed over
+  pub queue-pass : IsHeap (entry_cmp compare) after → ((c : Cost) → mark marks x.0.1 ≡ Open c → ⊥) → IsQueueOf marks after
+  queue-pass heap closed = queues.queue-pass ◌≼◌ own_cost compare (mark marks) (mark marks) entries after queue x moved heap closed
 
--- the entry of a node that isn't open is passed over
-pub queue-pass : (marks : List Mark) (entries new : List Entry) (x : Entry) → IsQueue marks entries → IsPermutation entries (x ∷ new) → IsHeap entry_cmp new → ((c : Cost) → mark marks x.0.1 ≡ Open c → ⊥) → IsQueue marks new
-queue-pass marks entries new x queue moved heap closed = record {
-  heap = heap;
-  waits = λ v c is. elim (contains_cases x (entry c v) new (Contains-permutation entries (x ∷ new) (entry c v) moved (queue.waits v c is))) [
-    | inl e ↦ absurd (closed c (subst (λ (y : Entry). mark marks y.0.1 ≡ Open c) (sym e) is))
-    | inr k ↦ k
-  ];
-  known = All-tail (IsEntryOf marks) x new (All-permutation (IsEntryOf marks) entries (x ∷ new) moved queue.known);
-}
+  module _ (c : Cost) (opens : mark marks x.0.1 ≡ Open c) where
+    -- and where it is, it is settled
+    pub queue-settle : IsHeap (entry_cmp compare) after → IsQueueOf (set marks x.0.1 (Settled c)) after
+    queue-settle heap = queues.queue-settle ◌≼◌ own_cost compare (mark marks) (mark (set marks x.0.1 (Settled c))) entries after queue x moved c opens (put-set marks x.0.1 (Settled c) queue-in) heap
 
--- an open node is taken out of the queue and settled
-pub queue-settle : (marks : List Mark) (entries new : List Entry) (x : Entry) (c : Cost) → IsQueue marks entries → IsPermutation entries (x ∷ new) → IsHeap entry_cmp new → mark marks x.0.1 ≡ Open c → x.0.1 < length marks → IsQueue (set marks x.0.1 (Settled c)) new
-queue-settle marks entries new x c queue moved heap opens h = record {
-  heap = heap;
-  waits = λ v d is. elim (cases_write marks x.0.1 (Settled c) v h) [
-    | inl w ↦ absurd (open-settled (sym is ∙ w.reads))
-    | inr k ↦ elim (contains_cases x (entry d v) new (Contains-permutation entries (x ∷ new) (entry d v) moved (queue.waits v d (sym k.reads ∙ is)))) [
-      | inl e ↦ absurd (k.other (ap (λ (y : Entry). y.0.1) (sym e)))
-      | inr there ↦ there
-    ]
-  ];
-  known = All-weaker (IsEntryOf marks) (IsEntryOf (set marks x.0.1 (Settled c))) stays new (All-tail (IsEntryOf marks) x new (All-permutation (IsEntryOf marks) entries (x ∷ new) moved queue.known));
-} where
-  stays : (e : Entry) → IsEntryOf marks e → IsEntryOf (set marks x.0.1 (Settled c)) e
-  stays e k = (
-    omega (arith, k.0, length-set marks x.0.1 (Settled c)),
-    elim (cases_write marks x.0.1 (Settled c) e.0.1 h) [
-      | inl w ↦ subst (λ l. IsAtMost l e.0.0) (sym w.reads) (subst (λ l. IsAtMost l e.0.0) opens (subst (λ u. IsAtMost (mark marks u) e.0.0) w.at k.1))
-      | inr o ↦ subst (λ l. IsAtMost l e.0.0) (sym o.reads) k.1
-    ],
-  )
+    known : c ≼ x.0.0
+    known = at_most-label own_cost (mark marks x.0.1) c x.0.0 (label_open (mark marks x.0.1) c opens) (at_most-from_label own_cost (mark marks x.0.1) popped.0 x.0.0 popped.1 popped.2)
 
--- what is popped is in range
-pub queue-in : (marks : List Mark) (entries new : List Entry) (x : Entry) → IsQueue marks entries → IsPermutation entries (x ∷ new) → x.0.1 < length marks
-queue-in marks entries new x queue moved = (All-head (IsEntryOf marks) x new (All-permutation (IsEntryOf marks) entries (x ∷ new) moved queue.known)).0
+    not_less-first : (a b : Ordering) → is_lt (ordering_then a b) ≡ false → is_lt a ≡ false
+    not_less-first Less b e = e
+    not_less-first Equal b e = refl
+    not_less-first Greater b e = refl
 
--- an open node whose entry is the greatest has the least cost of all open nodes
-pub queue-least : (marks : List Mark) (entries new : List Entry) (x : Entry) (c : Cost) → IsQueue marks entries → IsPermutation entries (x ∷ new) → IsUpperBound entry_cmp x entries → mark marks x.0.1 ≡ Open c → IsLeastOpen marks x.0.1 c
-queue-least marks entries new x c queue moved top opens = record { opens = opens; least = least } where
-  known : IsAtMost (mark marks x.0.1) x.0.0
-  known = (All-head (IsEntryOf marks) x new (All-permutation (IsEntryOf marks) entries (x ∷ new) moved queue.known)).1
-
-  below : (u : ℕ) (d : Cost) → mark marks u ≡ Open d → x.0.0 ≼ d
-  below u d is = All-contains (λ e. x.0.0 ≼ e.0.0) entries (entry d u) (greatest-least x entries top) (queue.waits u d is)
-
-  least : (u : ℕ) (d : Cost) → mark marks u ≡ Open d → c ≼ d
-  least u d is = at_most_trans (subst (λ l. IsAtMost l x.0.0) opens known) (below u d is)
+    -- where its entry is the greatest, it has the least cost of all open nodes
+    pub queue-least : IsUpperBound (entry_cmp compare) x entries → IsLeastOpen marks x.0.1 c
+    queue-least top = record {
+      opens = opens;
+      least = λ u d is. at_most_trans known (at_most-from_not_less d x.0.0 (not_less-first (compare d x.0.0) (nat_cmp u x.0.1) (queue-first ◌≼◌ own_cost compare (mark marks) entries x queue top u d is)));
+    }

@@ -4,8 +4,6 @@ pub mod LinkSearch
 pub mod HeadSearch
 pub mod LinkParts
 pub mod Unfolding
-pub mod MarkSteps
-pub mod Entries
 pub mod Linking
 pub mod Following
 pub mod Dijkstra
@@ -17,3 +15,4 @@ pub mod LinkPlaces
 pub mod TakenRanks
 pub mod LinkTests
 pub mod Refusals
+pub mod Entries

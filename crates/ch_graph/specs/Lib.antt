@@ -10,4 +10,5 @@ pub mod Unfolding
 pub mod Marks
 pub mod Queue
 pub mod Outgoing
+pub mod Searching
 pub mod Search

@@ -1,32 +1,32 @@
--- The queue of a search: a heap of nodes by their costs, and what it has to do with the marks.
-use Rattle.std.specs.Prelude.{ℕ, ◌≡◌, ◌<◌, List, length, All, Contains}
+-- The queue of a search: a heap of nodes by the keys of their labels, and what it has to do with the marks.
+use Rattle.std.specs.Prelude.{ℕ, ◌≡◌, List, All, Contains}
 use Rattle.std.specs.declared.cmp.Ordering.{Ordering}
 use Rattle.std.specs.declared.cmp.Reverse.{Reverse}
 use Rattle.std.specs.Ordering.{nat_cmp, ordering_then}
 use Rattle.std.specs.BinaryHeap.{IsHeap}
-use Rattle.ch_cost.specs.declared.cost.Cost.{Cost}
-use Rattle.ch_cost.specs.Cost.{compare}
 use Rattle.ch_graph.specs.declared.mark.Mark.{Mark}
 use Rattle.ch_graph.specs.declared.mark.Mark.TheVariants.{Open}
-use Rattle.ch_graph.specs.Marks.{mark, IsAtMost}
+use Rattle.ch_graph.specs.Marks.{HasLabel}
+pub mod Laws
 
--- a cost and a node that it leads to
-abbrev pub Entry : Type 0
-Entry = Reverse (Cost × ℕ)
+-- the key of a label, and the node that has it
+abbrev pub Entry : Type 0 → Type 0
+Entry K = Reverse (K × ℕ)
 
-abbrev pub entry : Cost → ℕ → Entry
-entry c v = record { 0 = (c, v) }
+abbrev pub entry : {K : Type 0} → K → ℕ → Entry K
+entry k v = record { 0 = (k, v) }
 
--- the smaller cost comes first, and of equal costs the smaller node
-abbrev pub entry_cmp : Entry → Entry → Ordering
-entry_cmp x y = ordering_then (compare y.0.0 x.0.0) (nat_cmp y.0.1 x.0.1)
+-- the smaller key comes first, and of equal keys the smaller node
+abbrev pub entry_cmp : {K : Type 0} → (K → K → Ordering) → Entry K → Entry K → Ordering
+entry_cmp cmp x y = ordering_then (cmp y.0.0 x.0.0) (nat_cmp y.0.1 x.0.1)
 
--- an entry is of a node that has a mark, whose cost is at most the entry's
-abbrev pub IsEntryOf : List Mark → Entry → Type 0
-IsEntryOf marks e = (e.0.1 < length marks) × IsAtMost (mark marks e.0.1) e.0.0
+module _ {K L : Type 0} (AtMost : K → K → Type 0) (key : L → K) where
+  -- an entry is of a node that has a label, whose key is at most the entry's
+  abbrev pub IsEntryOf : (ℕ → Mark L) → Entry K → Type 0
+  IsEntryOf marks x = (e : L) × HasLabel (marks x.0.1) e × AtMost (key e) x.0.0
 
--- The queue is a heap, each open node is in it with its cost, and what else is in it came from older marks.
-pub record IsQueue (marks : List Mark) (entries : List Entry) : Type 0 where
-  pub heap : IsHeap entry_cmp entries
-  pub waits : (v : ℕ) (c : Cost) → mark marks v ≡ Open c → Contains entries (entry c v)
-  pub known : All (IsEntryOf marks) entries
+  -- The queue is a heap, each open node is in it with its key, and what else is in it came from older labels.
+  pub record IsQueue (cmp : K → K → Ordering) (marks : ℕ → Mark L) (entries : List (Entry K)) : Type 0 where
+    pub heap : IsHeap (entry_cmp cmp) entries
+    pub waits : (v : ℕ) (e : L) → marks v ≡ Open e → Contains entries (entry (key e) v)
+    pub known : All (IsEntryOf marks) entries

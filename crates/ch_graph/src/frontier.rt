@@ -1,5 +1,5 @@
 ghost use Rattle.std.specs.Prelude.{◌≡◌, ◌<◌, length, replicate, slice_set, IfOk, OnOk, IfSome, IfNone};
-ghost use Rattle.ch_graph.specs.Marks.{IsOffered, IsLeastOpen, NoneOpen};
+ghost use Rattle.ch_graph.specs.Search.{IsOffered, IsLeastOpen, NoneOpen};
 ghost use Rattle.ch_graph.specs.declared.mark.Mark.TheVariants as mark;
 
 use crate::mark::Mark;
@@ -15,21 +15,22 @@ use std::marker::Model;
 /// at most for each offer.
 #[derive(Drop)]
 pub struct Frontier {
-    marks: Vec<Mark>,
+    marks: Vec<Mark<Cost>>,
     queue: BinaryHeap<Reverse<(Cost, u32)>>,
 }
 
 impl Model for Frontier {
     ghost use Rattle.std.specs.Prelude.{List};
     ghost use Rattle.std.specs.BinaryHeap.{heap_items};
+    ghost use Rattle.ch_cost.specs.declared.cost.Cost.{Cost};
     ghost use Rattle.ch_graph.specs.declared.mark.Mark.{Mark};
-    ghost use Rattle.ch_graph.specs.Queue.{IsQueue};
+    ghost use Rattle.ch_graph.specs.Search.{IsQueueOf};
 
-    ghost Value = { List Mark };
+    ghost Value = { List (Mark Cost) };
 
     ghost view = { λ f. f.marks.items };
 
-    ghost invariant = { λ f. IsQueue f.marks.items (heap_items f.queue) };
+    ghost invariant = { λ f. IsQueueOf f.marks.items (heap_items f.queue) };
 }
 
 /// A node that was settled, and the cost of the least walk to it.
@@ -70,6 +71,7 @@ impl Frontier {
     /// node is open.
     pub fn settle_next(&mut self) -> Option<Reached>
         ensures none { IfNone result (NoneOpen self.old) }
+        ensures unchanged { IfNone result (self.new ≡ self.old) }
         ensures least { IfSome result (λ r. IsLeastOpen self.old r.node r.cost) }
         ensures settled { IfSome result (λ r. self.new ≡ slice_set self.old r.node (mark.Settled r.cost)) }
     {

@@ -1,5 +1,6 @@
 ghost use Rattle.ch_graph.specs.Graph.{DistanceIsUnique};
 ghost use Rattle.ch_graph.specs.Limits.{DistanceIsWithinBound};
+ghost use Rattle.ch_graph.specs.Search.{SettledIsLeast};
 ghost use Rattle.ch_graph.specs.Hierarchy.{ValueIsUnique};
 ghost use Rattle.ch_graph.specs.Unfolding.{LinksUnfold, PlacesNameLinks, RiseFallJoins};
 
@@ -12,6 +13,12 @@ pub fn distance_is_within_bound()
 /// Two nodes have one distance, or none. It does nothing when it runs.
 pub fn distance_is_unique()
     ensures { DistanceIsUnique }
+{}
+
+/// In a search of a graph by marks the cost of each settled node is its distance from the source: it follows from what
+/// holds between two turns, whatever the queue and the lists are. It does nothing when it runs.
+pub fn settled_is_least()
+    ensures { SettledIsLeast }
 {}
 
 /// Two nodes have one value in a hierarchy, or none. It does nothing when it runs.

@@ -38,10 +38,11 @@ pub use graph::Graph;
 pub use hierarchy::{Hierarchy, LinkId};
 pub use laws::{
     distance_is_unique, distance_is_within_bound, links_unfold, places_name_links, rise_fall_joins,
-    value_is_unique,
+    settled_is_least, value_is_unique,
 };
 pub use link::Link;
 pub use link_halves::{LinkHalves, Parts};
 pub use link_index::LinkIndex;
+pub use mark::Mark;
 pub use road::Road;
 pub use version::Version;

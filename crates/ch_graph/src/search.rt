@@ -1,9 +1,11 @@
-ghost use Rattle.std.specs.Prelude.{◌≡◌, ◌<◌, length, IfOk, IfSome, OnOk};
+ghost use Rattle.std.specs.Prelude.{◌≡◌, ◌<◌, length, replicate, IfOk, IfSome, OnOk};
 ghost use Rattle.ch_cost.specs.Cost.{IsInLimit, IsWithin};
+ghost use Rattle.ch_graph.specs.declared.mark.Mark.TheVariants.{Unseen};
 ghost use Rattle.ch_graph.specs.Graph.{IsDistance};
-ghost use Rattle.ch_graph.specs.Limits.{bound_of};
+ghost use Rattle.ch_graph.specs.Limits.{IsGraph, bound_of};
+ghost use Rattle.ch_graph.specs.Marks.{mark};
 ghost use Rattle.ch_graph.specs.Outgoing.{IsLinked};
-ghost use Rattle.ch_graph.specs.Search.{IsLatest, IsOpenedFrom, IsFollowed};
+ghost use Rattle.ch_graph.specs.Search.{IsLatest, IsOpenedFrom, IsFollowed, AreDistances};
 
 use crate::frontier::{Frontier, Reached};
 use crate::graph::Graph;
@@ -26,12 +28,32 @@ pub fn least_cost(
 {
     let outgoing = Outgoing::new(alloc, graph)?;
     let mut frontier = Frontier::new(alloc, graph.nodes())?;
+    settle_to(graph, &outgoing, source, target, &mut frontier)
+}
+
+/// Settles nodes in the order of their costs, and follows the arcs that leave them, until the target is settled or no
+/// node is open any more. The cost of each settled node is its distance from the source; that of the target is given.
+fn settle_to(
+    graph: &Graph,
+    outgoing: &Outgoing,
+    source: u32,
+    target: u32,
+    frontier: &mut Frontier,
+) -> Result<Option<Cost>, AllocError>
+    requires graph { IsGraph graph.now }
+    requires source_in { source < graph.now.nodes }
+    requires links { IsLinked graph.now outgoing.now.last.items outgoing.now.before.items }
+    requires unseen { frontier.old ≡ replicate graph.now.nodes Unseen }
+    ensures distance { IfOk result (IsDistance graph.now source target) }
+    ensures settled { OnOk result (AreDistances graph.now source (mark frontier.new)) }
+    ensures bounded { IfOk result (λ found. IfSome found (λ c. IsWithin c (bound_of graph.now))) }
+{
     frontier.offer(source, Cost::ZERO)?;
     'nodes: while let Some(reached) = frontier.settle_next() {
         if reached.node == target {
             return Ok(Some(reached.cost));
         }
-        follow(graph, &outgoing, reached, &mut frontier)?;
+        follow(graph, outgoing, reached, frontier)?;
     }
     Ok(None)
 }
@@ -46,7 +68,7 @@ fn follow(
     requires node_in { reached.node < graph.now.nodes }
     requires links { IsLinked graph.now outgoing.now.last.items outgoing.now.before.items }
     requires marks { length frontier.old ≡ graph.now.nodes }
-    requires latest { IsLatest frontier.old reached.cost }
+    requires latest { IsLatest frontier.old reached.cost reached.node }
     requires fits { IsInLimit reached.cost }
     ensures opened { OnOk result (IsOpenedFrom graph.now reached.node reached.cost frontier.old frontier.new) }
     ensures followed { OnOk result (IsFollowed graph.now reached.node reached.cost frontier.new) }

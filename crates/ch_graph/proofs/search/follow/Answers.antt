@@ -3,12 +3,14 @@ use Rattle.std.proofs.lemmas.List.{get_or_read}
 use Rattle.ch_cost.specs.Cost.{◌⊕◌, of_weight}
 use Rattle.ch_cost.specs.Cost.Laws.{of_arcs_arc, in_limit-from_arcs, at_most_trans, at_most_sum_left}
 use Rattle.ch_graph.specs.declared.road.Road.{Road}
-use Rattle.ch_graph.specs.Graph.{Graph}
-use Rattle.ch_graph.specs.Marks.{mark, IsAtMost, IsOffered}
+use Rattle.ch_graph.specs.Graph.{Graph, ArcOf}
+use Rattle.ch_graph.specs.Marks.{mark, IsAtMost}
 use Rattle.ch_graph.specs.Outgoing.{road_at, IsLastFrom}
 use Rattle.ch_cost.specs.declared.cost.Cost.{Cost}
+use Rattle.ch_graph.specs.Searching.{LeadsTo}
+use Rattle.ch_graph.specs.Search.{own_cost, IsOffered}
 use Rattle.ch_graph.proofs.Linking.{places_to, last_from-below}
-use Rattle.ch_graph.proofs.Following.{opened-start, opened-more, leads-road, offer-kept, offer-at_most, followed-more}
+use Rattle.ch_graph.proofs.Following.{opened-start, opened-more, leads-road, offer-opened, offer-at_most, followed-more}
 use Rattle.ch_graph.proofs.search.follow.Goals as goal
 
 pub arcs-init : goal.arcs-init
@@ -46,11 +48,14 @@ arcs-preserved c =
     let place : (road_at graph.arcs at).to < length c.arcs.frontier = omega (arith, (c.arcs-arcs.ensures.graph.roads at (record { from = 0; to = 0; weight = 0 }) at_in).to_in, c.arcs.invariant.opened.nodes, c.requires.marks) in
     let cost : Cost = c.args.reached.cost ⊕ of_weight (road_at graph.arcs at).weight in
     let offered : IsOffered c.arcs.frontier (road_at graph.arcs at).to cost c.offer.new.self = subst (λ (rs : List Road). IsOffered c.arcs.frontier (road_at rs at).to (c.args.reached.cost ⊕ of_weight (road_at rs at).weight) c.offer.new.self) c.arcs-arcs.ensures.list (subst (λ (d : Cost). IsOffered c.arcs.frontier (road_at c.arcs-arcs.result.now at).to d c.offer.new.self) (c.plus.ensures ∙ ap (λ (d : Cost). c.args.reached.cost ⊕ d) c.of_weight.ensures) c.in_ok-offer.ensures) in
-    let kept : (u : ℕ) (d : Cost) → IsAtMost (mark c.arcs.frontier u) d → IsAtMost (mark c.offer.new.self u) d = offer-kept c.arcs.frontier c.offer.new.self (road_at graph.arcs at).to cost place offered in
+    let v : ℕ = c.args.reached.node in
+    let to : ℕ = (road_at graph.arcs at).to in
+    let leads : LeadsTo (ArcOf graph) v c.args.reached.cost to cost = leads-road graph v c.args.reached.cost at at_in leaves in
+    let kept : (u : ℕ) (d : Cost) → IsAtMost own_cost (mark c.arcs.frontier u) d → IsAtMost own_cost (mark c.offer.new.self u) d = (offer-opened c.arcs.frontier c.offer.new.self to cost place offered graph v c.args.reached.cost leads).kept in
     record {
-      opened = opened-more c.arcs.frontier c.offer.new.self (road_at graph.arcs at).to cost place offered graph c.args.reached.node c.args.reached.cost c.args.frontier.now (leads-road graph c.args.reached.node c.args.reached.cost at at_in leaves) c.arcs.invariant.opened;
+      opened = opened-more c.arcs.frontier c.offer.new.self to cost place offered graph v c.args.reached.cost leads c.args.frontier.now c.arcs.invariant.opened;
       from = at;
       within = omega (arith, at_in);
-      next = subst (λ (v : ℕ). IsLastFrom graph.arcs v at c.index-next-in-Some.result.now) leaves (subst (λ (o : Option ℕ). IsLastFrom graph.arcs (road_at graph.arcs at).from at o) (sym read) (c.requires.links.befores at at_in));
-      followed = followed-more graph c.args.reached.node c.args.reached.cost c.arcs.invariant.from at c.arcs.frontier c.offer.new.self last kept (offer-at_most c.arcs.frontier c.offer.new.self (road_at graph.arcs at).to cost place offered (λ d is. at_most_trans (c.requires.latest (road_at graph.arcs at).to d (c.arcs.invariant.opened.settled (road_at graph.arcs at).to d is)) (at_most_sum_left c.args.reached.cost (of_weight (road_at graph.arcs at).weight)))) c.arcs.invariant.followed;
+      next = subst (λ (n : ℕ). IsLastFrom graph.arcs n at c.index-next-in-Some.result.now) leaves (subst (λ (o : Option ℕ). IsLastFrom graph.arcs (road_at graph.arcs at).from at o) (sym read) (c.requires.links.befores at at_in));
+      followed = followed-more graph v c.args.reached.cost c.arcs.invariant.from at c.arcs.frontier c.offer.new.self last kept (offer-at_most c.arcs.frontier c.offer.new.self to cost place offered (λ d is. at_most_trans (c.requires.latest to d (c.arcs.invariant.opened.is.settled to d is)) (at_most_sum_left c.args.reached.cost (of_weight (road_at graph.arcs at).weight)))) c.arcs.invariant.followed;
     }

@@ -2,7 +2,7 @@ use Rattle.std.proofs.Common.{ℕ, ◌≡◌, ◌<◌, ◌≤◌, length}
 use Rattle.ch_cost.specs.Cost.{◌⊕◌, of_weight}
 use Rattle.ch_graph.specs.Marks.{mark, IsAtMost}
 use Rattle.ch_graph.specs.Outgoing.{road_at, IsLastFrom}
-use Rattle.ch_graph.specs.Search.{IsOpenedFrom}
+use Rattle.ch_graph.specs.Search.{own_cost, IsOpenedFrom}
 use Rattle.ch_graph.proofs.Linking.{places_to}
 use Rattle.ch_graph.proofs.search.follow.Given as goal
 
@@ -13,7 +13,7 @@ invariant-arcs l = record {
   from : ℕ;
   within : from ≤ length l.graph.arcs;
   next : IsLastFrom l.graph.arcs l.fn.reached.node from l.next;
-  followed : (k : ℕ) → from ≤ k → k < length l.graph.arcs → (road_at l.graph.arcs k).from ≡ l.fn.reached.node → IsAtMost (mark l.frontier (road_at l.graph.arcs k).to) (l.cost ⊕ of_weight (road_at l.graph.arcs k).weight);
+  followed : (k : ℕ) → from ≤ k → k < length l.graph.arcs → (road_at l.graph.arcs k).from ≡ l.fn.reached.node → IsAtMost own_cost (mark l.frontier (road_at l.graph.arcs k).to) (l.cost ⊕ of_weight (road_at l.graph.arcs k).weight);
 }
 
 abbrev pub decreases-arcs : goal.decreases-arcs

@@ -1,13 +1,13 @@
 use Rattle.std.proofs.Common.{◌≡◌}
 use Rattle.std.specs.BinaryHeap.{heap_items, heap_len}
-use Rattle.ch_graph.specs.Queue.{IsQueue}
+use Rattle.ch_graph.specs.Search.{IsQueueOf}
 use Rattle.ch_graph.proofs.frontier.Frontier.settle_next.Given as goal
 
 -- entries were passed over, and no mark was written
 abbrev pub invariant-entries : goal.invariant-entries
 invariant-entries l = record {
   same : l.self-inside.marks.items ≡ l.initial.self-inside.marks.items;
-  queue : IsQueue l.self-inside.marks.items (heap_items l.self-inside.queue);
+  queue : IsQueueOf l.self-inside.marks.items (heap_items l.self-inside.queue);
 }
 
 abbrev pub decreases-entries : goal.decreases-entries
