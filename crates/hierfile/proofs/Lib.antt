@@ -11,6 +11,8 @@ pub mod Bodies
 pub mod Whole
 pub mod Handing
 mod HandCalls
+pub mod ReadParts
+pub mod WriteParts
 pub mod OneSpelling
 pub mod FewLinks
 pub mod NoFault

@@ -3,4 +3,6 @@ pub mod Spelling
 pub mod Taken
 pub mod Fault
 pub mod Bytes
+pub mod Reading
+pub mod Writing
 pub mod Laws

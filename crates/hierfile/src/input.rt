@@ -1,10 +1,11 @@
-ghost use Rattle.std.specs.Prelude.{◌≡◌, ◌+◌, ◌<◌, ◌≤◌, [], ◌∷◌, length, min, take, IfOk, IfErr, OnErr, OnOk, MatchBool, MatchOption};
+ghost use Rattle.std.specs.Prelude.{◌≡◌, ◌+◌, ◌<◌, ◌≤◌, [], ◌∷◌, length, min, take, IfOk, OnErr, OnOk, MatchBool, MatchOption};
 ghost use Rattle.std.specs.Io.KnownBytes.{Consumes, Keeps, IsAtEnd};
-ghost use Rattle.counted_io.specs.Limits.{GivesOut, IsRead, ReadsWithin};
+ghost use Rattle.counted_io.specs.Limits.{GivesOut, IsRead};
 ghost use Rattle.counted_io.specs.declared.TheConstants.{MOST_CALLS};
 ghost use Rattle.hierfile.specs.Spelling.{word, long};
 ghost use Rattle.hierfile.specs.Fault.{cut};
 ghost use Rattle.hierfile.specs.Bytes.{coming, IsFaultOf};
+ghost use Rattle.hierfile.specs.Reading.{Reads, ReadsValue};
 
 use crate::error::HierError;
 use counted_io::{ReadCalls, ReadFault, StepRead};
@@ -53,11 +54,7 @@ impl Input {
 
     /// The next byte, or none at the end of the reader's bytes.
     pub fn byte<R: StepRead>(&mut self, reader: &mut R) -> Result<Option<u8>, HierError>
-        ensures ok { IfOk result (λ next. MatchOption next (IsAtEnd (coming self.old.waiting (R.remaining reader.old)))
-            (λ b. Consumes (coming self.old.waiting (R.remaining reader.old)) (coming self.new.waiting (R.remaining reader.new)) (b ∷ []))) }
-        ensures err { IfErr result (λ e. e ≡ HierError.Read) }
-        ensures calls { OnOk result (IsRead R.step self.old.left self.new.left reader.old reader.new) }
-        ensures stopped { IfErr result (λ e. ReadsWithin R.step self.old.left (e ≡ HierError.Read) reader.old reader.new) }
+        ensures reads { Reads R.step R.remaining self.old self.new reader.old reader.new (λ next before after. MatchOption next (IsAtEnd before) (λ b. Consumes before after (b ∷ []))) (λ _ e. e ≡ HierError.Read) result }
     {
         if !self.has(reader, 1)? {
             return Ok(None);
@@ -69,10 +66,7 @@ impl Input {
 
     /// The next number of four bytes.
     pub fn word<R: StepRead>(&mut self, reader: &mut R) -> Result<u32, HierError>
-        ensures ok { IfOk result (λ n. Consumes (coming self.old.waiting (R.remaining reader.old)) (coming self.new.waiting (R.remaining reader.new)) (word n)) }
-        ensures err { IfErr result (IsFaultOf (cut 4) (coming self.old.waiting (R.remaining reader.old))) }
-        ensures calls { OnOk result (IsRead R.step self.old.left self.new.left reader.old reader.new) }
-        ensures stopped { IfErr result (λ e. ReadsWithin R.step self.old.left (e ≡ HierError.Read) reader.old reader.new) }
+        ensures reads { ReadsValue R.step R.remaining self.old self.new reader.old reader.new word (cut 4) result }
     {
         self.need(reader, 4)?;
         let number = first_word(&self.buffer[self.at..self.end]);
@@ -82,10 +76,7 @@ impl Input {
 
     /// The next number of eight bytes.
     pub fn long<R: StepRead>(&mut self, reader: &mut R) -> Result<u64, HierError>
-        ensures ok { IfOk result (λ n. Consumes (coming self.old.waiting (R.remaining reader.old)) (coming self.new.waiting (R.remaining reader.new)) (long n)) }
-        ensures err { IfErr result (IsFaultOf (cut 8) (coming self.old.waiting (R.remaining reader.old))) }
-        ensures calls { OnOk result (IsRead R.step self.old.left self.new.left reader.old reader.new) }
-        ensures stopped { IfErr result (λ e. ReadsWithin R.step self.old.left (e ≡ HierError.Read) reader.old reader.new) }
+        ensures reads { ReadsValue R.step R.remaining self.old self.new reader.old reader.new long (cut 8) result }
     {
         self.need(reader, 8)?;
         let number = first_long(&self.buffer[self.at..self.end]);
@@ -96,11 +87,8 @@ impl Input {
     // Sees that so many bytes wait.
     fn need<R: StepRead>(&mut self, reader: &mut R, count: usize) -> Result<(), HierError>
         requires { count ≤ 8 }
-        ensures ok { OnOk result (Keeps (coming self.old.waiting (R.remaining reader.old)) (coming self.new.waiting (R.remaining reader.new))) }
+        ensures reads { Reads R.step R.remaining self.old self.new reader.old reader.new (λ _. Keeps) (IsFaultOf (cut count)) result }
         ensures enough { OnOk result (count ≤ length self.new.waiting) }
-        ensures err { IfErr result (IsFaultOf (cut count) (coming self.old.waiting (R.remaining reader.old))) }
-        ensures calls { OnOk result (IsRead R.step self.old.left self.new.left reader.old reader.new) }
-        ensures stopped { IfErr result (λ e. ReadsWithin R.step self.old.left (e ≡ HierError.Read) reader.old reader.new) }
     {
         if !self.has(reader, count)? {
             return Err(HierError::Truncated);
@@ -112,11 +100,8 @@ impl Input {
     #[inline]
     fn has<R: StepRead>(&mut self, reader: &mut R, count: usize) -> Result<bool, HierError>
         requires { count ≤ 8 }
-        ensures keeps { OnOk result (Keeps (coming self.old.waiting (R.remaining reader.old)) (coming self.new.waiting (R.remaining reader.new))) }
+        ensures reads { Reads R.step R.remaining self.old self.new reader.old reader.new (λ _. Keeps) (λ _ e. e ≡ HierError.Read) result }
         ensures ok { IfOk result (λ enough. MatchBool enough (count ≤ length self.new.waiting) ((length self.new.waiting < count) × IsAtEnd (R.remaining reader.new))) }
-        ensures err { IfErr result (λ e. e ≡ HierError.Read) }
-        ensures calls { OnOk result (IsRead R.step self.old.left self.new.left reader.old reader.new) }
-        ensures stopped { IfErr result (λ e. ReadsWithin R.step self.old.left (e ≡ HierError.Read) reader.old reader.new) }
     {
         if self.end - self.at >= count {
             return Ok(true);
@@ -128,11 +113,8 @@ impl Input {
     #[cold]
     fn fill<R: StepRead>(&mut self, reader: &mut R, count: usize) -> Result<bool, HierError>
         requires { count ≤ 8 }
-        ensures keeps { OnOk result (Keeps (coming self.old.waiting (R.remaining reader.old)) (coming self.new.waiting (R.remaining reader.new))) }
+        ensures reads { Reads R.step R.remaining self.old self.new reader.old reader.new (λ _. Keeps) (λ _ e. e ≡ HierError.Read) result }
         ensures ok { IfOk result (λ enough. MatchBool enough (count ≤ length self.new.waiting) ((length self.new.waiting < count) × IsAtEnd (R.remaining reader.new))) }
-        ensures err { IfErr result (λ e. e ≡ HierError.Read) }
-        ensures calls { OnOk result (IsRead R.step self.old.left self.new.left reader.old reader.new) }
-        ensures stopped { IfErr result (λ e. ReadsWithin R.step self.old.left (e ≡ HierError.Read) reader.old reader.new) }
     {
         self.buffer.copy_within(self.at..self.end, 0);
         self.end -= self.at;

@@ -1,15 +1,14 @@
 ghost use Rattle.std.specs.Prelude.{◌≡◌, ◌≢◌, ◌-◌, ◌^◌, ◌<◌, length, None, Some, All, AllPairs, IfSome, IfOk, IfErr, OnOk};
 ghost use Rattle.std.specs.List.{flat_map};
-ghost use Rattle.std.specs.Io.KnownBytes.{Consumes};
 ghost use Rattle.ch_cost.specs.Cost.{◌⊕◌, same};
 ghost use Rattle.ch_graph.specs.Hierarchy.{ComesBefore};
 ghost use Rattle.ch_graph.specs.declared.link.Link.{Link};
 ghost use Rattle.ch_graph.specs.LinkIndex.{IsIndexOf};
 ghost use Rattle.ch_graph.specs.LinkHalves.{AreHalvesOf, ArePartsOf};
-ghost use Rattle.counted_io.specs.Limits.{IsRead, ReadsWithin};
 ghost use Rattle.hierfile.specs.Spelling.{arcs_bytes, arcs_size, link_bytes, link_size, middle_number};
 ghost use Rattle.hierfile.specs.Fault.{cut, does_count, has_weight, is_in_order, link_fault, link_fault_at, links_fault, middle_fault, half_fault, first_along};
-ghost use Rattle.hierfile.specs.Bytes.{coming, IsFaultOf, OfBytes, Tells, NoneBelow, AreTold, IsWritable};
+ghost use Rattle.hierfile.specs.Bytes.{OfBytes, Tells, NoneBelow, AreTold, IsWritable};
+ghost use Rattle.hierfile.specs.Reading.{ReadsValue};
 
 use crate::error::HierError;
 use crate::input::Input;
@@ -33,11 +32,8 @@ pub fn read_links<R: StepRead>(
 ) -> Result<Vec<Link>, HierError>
     ensures count { IfOk result (λ links. length links.items ≡ count) }
     ensures faultless { IfOk result (λ links. NoneBelow count (link_fault_at version ranks.now bound links.items)) }
-    ensures ok { IfOk result (λ links. Consumes (coming input.old.waiting (R.remaining reader.old)) (coming input.new.waiting (R.remaining reader.new)) (flat_map (link_bytes version) links.items)) }
+    ensures reads { ReadsValue R.step R.remaining input.old input.new reader.old reader.new (λ links. flat_map (link_bytes version) links.items) (links_fault version ranks.now bound count) result }
     ensures writable { IfOk result (λ links. All (IsWritable version) links.items) }
-    ensures err { IfErr result (IsFaultOf (links_fault version ranks.now bound count) (coming input.old.waiting (R.remaining reader.old))) }
-    ensures calls { OnOk result (IsRead R.step input.old.left input.new.left reader.old reader.new) }
-    ensures stopped { IfErr result (λ e. ReadsWithin R.step input.old.left (e ≡ HierError.Read) reader.old reader.new) }
 {
     let mut links = Vec::new(alloc);
     'links: for _ in 0..count {
@@ -54,11 +50,8 @@ fn read_link<R: StepRead>(
     reader: &mut R,
     version: Version,
 ) -> Result<Link, HierError>
-    ensures ok { IfOk result (λ link. Consumes (coming input.old.waiting (R.remaining reader.old)) (coming input.new.waiting (R.remaining reader.new)) (link_bytes version link)) }
+    ensures reads { ReadsValue R.step R.remaining input.old input.new reader.old reader.new (link_bytes version) (cut (link_size version)) result }
     ensures writable { IfOk result (IsWritable version) }
-    ensures err { IfErr result (IsFaultOf (cut (link_size version)) (coming input.old.waiting (R.remaining reader.old))) }
-    ensures calls { OnOk result (IsRead R.step input.old.left input.new.left reader.old reader.new) }
-    ensures stopped { IfErr result (λ e. ReadsWithin R.step input.old.left (e ≡ HierError.Read) reader.old reader.new) }
 {
     let from = input.word(reader)?;
     let to = input.word(reader)?;
@@ -79,11 +72,8 @@ fn read_arcs<R: StepRead>(
     reader: &mut R,
     version: Version,
 ) -> Result<u32, HierError>
-    ensures ok { IfOk result (λ arcs. Consumes (coming input.old.waiting (R.remaining reader.old)) (coming input.new.waiting (R.remaining reader.new)) (arcs_bytes version arcs)) }
+    ensures reads { ReadsValue R.step R.remaining input.old input.new reader.old reader.new (arcs_bytes version) (cut (arcs_size version)) result }
     ensures told { IfOk result (AreTold version) }
-    ensures err { IfErr result (IsFaultOf (cut (arcs_size version)) (coming input.old.waiting (R.remaining reader.old))) }
-    ensures calls { OnOk result (IsRead R.step input.old.left input.new.left reader.old reader.new) }
-    ensures stopped { IfErr result (λ e. ReadsWithin R.step input.old.left (e ≡ HierError.Read) reader.old reader.new) }
 {
     match version {
         Version::One => Ok(0),
@@ -113,7 +103,6 @@ fn test_link(
     link: Link,
 ) -> Result<(), HierError>
     ensures told { Tells result (link_fault version ranks.now bound earlier link) }
-    ensures no_read { IfErr result (λ e. e ≢ HierError.Read) }
 {
     let nodes = ranks.len();
     if link.from as usize >= nodes || link.to as usize >= nodes || link.from == link.to {
@@ -165,7 +154,6 @@ fn test_middle(ranks: &[u32], from: u32, to: u32, middle: Option<u32>) -> Result
     requires from_in { from < length ranks.now }
     requires to_in { to < length ranks.now }
     ensures told { Tells result (middle_fault ranks.now from to middle) }
-    ensures no_read { IfErr result (λ e. e ≢ HierError.Read) }
 {
     let Some(middle) = middle else {
         return Ok(());

@@ -1,8 +1,7 @@
-ghost use Rattle.std.specs.Prelude.{◌≡◌, ◌+◌, ◌≤◌, [], ◌++◌, length, min, OnOk, IfErr};
-ghost use Rattle.counted_io.specs.Handing.{HandsOn, HandsOnPart};
+ghost use Rattle.std.specs.Prelude.{◌≡◌, ◌+◌, ◌≤◌, [], ◌++◌, length, min, OnOk};
 ghost use Rattle.counted_io.specs.declared.TheConstants.{MOST_CALLS};
-ghost use Rattle.hierfile.specs.Bytes.{Hands, Stops};
 ghost use Rattle.hierfile.specs.Spelling.{word, long};
+ghost use Rattle.hierfile.specs.Writing.{HandsOver};
 
 use byteorder::{BigEndian, ByteOrder};
 use counted_io::{StepWrite, WriteCalls, WriteFault};
@@ -47,10 +46,7 @@ impl Output {
 
     /// Gathers a number of four bytes.
     pub fn word<W: StepWrite>(&mut self, writer: &mut W, number: u32) -> Result<(), WriteFault>
-        ensures ok { OnOk result (HandsOn (W.contents writer.old) (W.contents writer.new) (self.old.waiting ++ word number) self.new.waiting self.old.written self.new.written) }
-        ensures err { IfErr result (λ fault. HandsOnPart (W.contents writer.old) (W.contents writer.new) self.old.waiting self.old.written fault.written) }
-        ensures calls { OnOk result (Hands W.step self.old self.new writer.old writer.new) }
-        ensures stopped { IfErr result (λ fault. Stops W.step self.old fault.written writer.old writer.new) }
+        ensures writes { HandsOver W.step W.contents self.old self.new writer.old writer.new (self.old.waiting ++ word number) result }
     {
         self.make_room(writer)?;
         BigEndian::write_u32(&mut self.buffer[self.end..], number);
@@ -60,10 +56,7 @@ impl Output {
 
     /// Gathers a number of eight bytes.
     pub fn long<W: StepWrite>(&mut self, writer: &mut W, number: u64) -> Result<(), WriteFault>
-        ensures ok { OnOk result (HandsOn (W.contents writer.old) (W.contents writer.new) (self.old.waiting ++ long number) self.new.waiting self.old.written self.new.written) }
-        ensures err { IfErr result (λ fault. HandsOnPart (W.contents writer.old) (W.contents writer.new) self.old.waiting self.old.written fault.written) }
-        ensures calls { OnOk result (Hands W.step self.old self.new writer.old writer.new) }
-        ensures stopped { IfErr result (λ fault. Stops W.step self.old fault.written writer.old writer.new) }
+        ensures writes { HandsOver W.step W.contents self.old self.new writer.old writer.new (self.old.waiting ++ long number) result }
     {
         self.make_room(writer)?;
         BigEndian::write_u64(&mut self.buffer[self.end..], number);
@@ -73,11 +66,8 @@ impl Output {
 
     // Sees that a number of eight bytes has room.
     fn make_room<W: StepWrite>(&mut self, writer: &mut W) -> Result<(), WriteFault>
-        ensures ok { OnOk result (HandsOn (W.contents writer.old) (W.contents writer.new) self.old.waiting self.new.waiting self.old.written self.new.written) }
+        ensures writes { HandsOver W.step W.contents self.old self.new writer.old writer.new self.old.waiting result }
         ensures room { OnOk result (length self.new.waiting + 8 ≤ 8192) }
-        ensures err { IfErr result (λ fault. HandsOnPart (W.contents writer.old) (W.contents writer.new) self.old.waiting self.old.written fault.written) }
-        ensures calls { OnOk result (Hands W.step self.old self.new writer.old writer.new) }
-        ensures stopped { IfErr result (λ fault. Stops W.step self.old fault.written writer.old writer.new) }
     {
         if SIZE - self.end >= 8 {
             return Ok(());
@@ -87,11 +77,8 @@ impl Output {
 
     /// Hands what is gathered to the writer.
     pub fn hand_over<W: StepWrite>(&mut self, writer: &mut W) -> Result<(), WriteFault>
-        ensures ok { OnOk result (HandsOn (W.contents writer.old) (W.contents writer.new) self.old.waiting self.new.waiting self.old.written self.new.written) }
+        ensures writes { HandsOver W.step W.contents self.old self.new writer.old writer.new self.old.waiting result }
         ensures all { OnOk result (self.new.waiting ≡ []) }
-        ensures err { IfErr result (λ fault. HandsOnPart (W.contents writer.old) (W.contents writer.new) self.old.waiting self.old.written fault.written) }
-        ensures calls { OnOk result (Hands W.step self.old self.new writer.old writer.new) }
-        ensures stopped { IfErr result (λ fault. Stops W.step self.old fault.written writer.old writer.new) }
     {
         self.calls.write(writer, &self.buffer[..self.end])?;
         self.end = 0;

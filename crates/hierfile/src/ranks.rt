@@ -1,10 +1,9 @@
 ghost use Rattle.std.specs.Prelude.{◌≡◌, ◌≢◌, ◌++◌, ◌∷◌, [], ◌<◌, ℕ, length, None, Some, IfOk, IfErr, OnOk};
 ghost use Rattle.std.specs.List.{flat_map};
-ghost use Rattle.std.specs.Io.KnownBytes.{Consumes};
-ghost use Rattle.counted_io.specs.Limits.{IsRead, ReadsWithin};
 ghost use Rattle.hierfile.specs.Spelling.{word};
 ghost use Rattle.hierfile.specs.Fault.{rank_test, rank_fault, ranks_fault};
-ghost use Rattle.hierfile.specs.Bytes.{coming, IsFaultOf, OfBytes, NoneBelow};
+ghost use Rattle.hierfile.specs.Bytes.{OfBytes, NoneBelow};
+ghost use Rattle.hierfile.specs.Reading.{ReadsValue};
 ghost use Rattle.hierfile.specs.Taken.{AreTaken};
 
 use crate::error::HierError;
@@ -23,10 +22,7 @@ pub fn read_ranks<R: StepRead>(
 ) -> Result<Vec<u32>, HierError>
     ensures count { IfOk result (λ ranks. length ranks.items ≡ nodes) }
     ensures faultless { IfOk result (λ ranks. NoneBelow nodes (rank_fault nodes ranks.items)) }
-    ensures ok { IfOk result (λ ranks. Consumes (coming input.old.waiting (R.remaining reader.old)) (coming input.new.waiting (R.remaining reader.new)) (flat_map word ranks.items)) }
-    ensures err { IfErr result (IsFaultOf (ranks_fault nodes) (coming input.old.waiting (R.remaining reader.old))) }
-    ensures calls { OnOk result (IsRead R.step input.old.left input.new.left reader.old reader.new) }
-    ensures stopped { IfErr result (λ e. ReadsWithin R.step input.old.left (e ≡ HierError.Read) reader.old reader.new) }
+    ensures reads { ReadsValue R.step R.remaining input.old input.new reader.old reader.new (λ ranks. flat_map word ranks.items) (ranks_fault nodes) result }
 {
     let mut ranks = Vec::new(alloc);
     let mut taken = Taken::Few(BTreeSet::new(alloc));

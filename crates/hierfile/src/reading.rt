@@ -1,12 +1,13 @@
-ghost use Rattle.std.specs.Prelude.{◌≡◌, ◌≢◌, ◌++◌, [], ◌*◌, length, drop, min, None, Some, IfOk, IfErr, OnOk, IfSome};
+ghost use Rattle.std.specs.Prelude.{◌≡◌, ◌++◌, [], ◌*◌, length, drop, min, None, Some, IfOk, IfErr, OnOk, IfSome};
 ghost use Rattle.std.specs.List.{flat_map};
-ghost use Rattle.std.specs.Io.KnownBytes.{Consumes, IsAtEnd};
-ghost use Rattle.counted_io.specs.Limits.{IsRead, IsReadWithin, ReadsWithin};
+ghost use Rattle.std.specs.Io.KnownBytes.{IsAtEnd};
+ghost use Rattle.counted_io.specs.Limits.{IsReadWithin, ReadsWithin};
 ghost use Rattle.counted_io.specs.declared.TheConstants.{MOST_CALLS};
 ghost use Rattle.ch_graph.specs.Hierarchy.{IsWellMade, bound_arcs};
 ghost use Rattle.hierfile.specs.Spelling.{bytes_of, magic_of, stem, word, long, link_bytes, bound_in};
 ghost use Rattle.hierfile.specs.Fault.{first_fault, magic_fault, head_fault, size_fault, body_fault, end_fault};
-ghost use Rattle.hierfile.specs.Bytes.{coming, IsFaultOf, ReadsSpellings, Tells, IsBodyOf};
+ghost use Rattle.hierfile.specs.Bytes.{IsFaultOf, ReadsSpellings, Tells, IsBodyOf};
+ghost use Rattle.hierfile.specs.Reading.{Reads, ReadsValue};
 
 use crate::error::HierError;
 use crate::input::Input;
@@ -78,10 +79,7 @@ pub fn read_within<R: StepRead>(
 
 // Reads the magic, and compares each byte as it comes. The last one tells the version.
 fn read_magic<R: StepRead>(input: &mut Input, reader: &mut R) -> Result<Version, HierError>
-    ensures ok { IfOk result (λ version. Consumes (coming input.old.waiting (R.remaining reader.old)) (coming input.new.waiting (R.remaining reader.new)) (magic_of version)) }
-    ensures err { IfErr result (IsFaultOf magic_fault (coming input.old.waiting (R.remaining reader.old))) }
-    ensures calls { OnOk result (IsRead R.step input.old.left input.new.left reader.old reader.new) }
-    ensures stopped { IfErr result (λ e. ReadsWithin R.step input.old.left (e ≡ HierError.Read) reader.old reader.new) }
+    ensures reads { ReadsValue R.step R.remaining input.old input.new reader.old reader.new magic_of magic_fault result }
 {
     'bytes: for wanted in &STEM {
         let Some(byte) = input.byte(reader)? else {
@@ -97,10 +95,7 @@ fn read_magic<R: StepRead>(input: &mut Input, reader: &mut R) -> Result<Version,
 
 // Reads the last byte of a magic.
 fn read_version<R: StepRead>(input: &mut Input, reader: &mut R) -> Result<Version, HierError>
-    ensures ok { IfOk result (λ version. Consumes (coming input.old.waiting (R.remaining reader.old)) (coming input.new.waiting (R.remaining reader.new)) (drop 3 (magic_of version))) }
-    ensures err { IfErr result (IsFaultOf (λ bytes. magic_fault (stem ++ bytes)) (coming input.old.waiting (R.remaining reader.old))) }
-    ensures calls { OnOk result (IsRead R.step input.old.left input.new.left reader.old reader.new) }
-    ensures stopped { IfErr result (λ e. ReadsWithin R.step input.old.left (e ≡ HierError.Read) reader.old reader.new) }
+    ensures reads { ReadsValue R.step R.remaining input.old input.new reader.old reader.new (λ version. drop 3 (magic_of version)) (λ bytes. magic_fault (stem ++ bytes)) result }
 {
     let Some(byte) = input.byte(reader)? else {
         return Err(HierError::Truncated);
@@ -115,10 +110,7 @@ fn read_version<R: StepRead>(input: &mut Input, reader: &mut R) -> Result<Versio
 // Reads the numbers behind the magic.
 fn read_head<R: StepRead>(input: &mut Input, reader: &mut R) -> Result<Head, HierError>
     ensures sizes { IfOk result (λ head. size_fault head.nodes head.links head.bound ≡ None) }
-    ensures ok { IfOk result (λ head. Consumes (coming input.old.waiting (R.remaining reader.old)) (coming input.new.waiting (R.remaining reader.new)) (word head.nodes ++ long head.links ++ long head.bound)) }
-    ensures err { IfErr result (IsFaultOf head_fault (coming input.old.waiting (R.remaining reader.old))) }
-    ensures calls { OnOk result (IsRead R.step input.old.left input.new.left reader.old reader.new) }
-    ensures stopped { IfErr result (λ e. ReadsWithin R.step input.old.left (e ≡ HierError.Read) reader.old reader.new) }
+    ensures reads { ReadsValue R.step R.remaining input.old input.new reader.old reader.new (λ head. word head.nodes ++ long head.links ++ long head.bound) head_fault result }
 {
     let head = Head {
         nodes: input.word(reader)?,
@@ -132,7 +124,6 @@ fn read_head<R: StepRead>(input: &mut Input, reader: &mut R) -> Result<Head, Hie
 // Tests the numbers behind the magic.
 fn test_sizes(head: Head) -> Result<(), HierError>
     ensures told { Tells result (size_fault head.nodes head.links head.bound) }
-    ensures no_read { IfErr result (λ e. e ≢ HierError.Read) }
 {
     let nodes = u64::from(head.nodes);
     let others = nodes.saturating_sub(1);
@@ -156,10 +147,7 @@ fn read_body<R: StepRead>(
     requires { size_fault head.nodes head.links head.bound ≡ None }
     ensures made { IfOk result IsWellMade }
     ensures sizes { IfOk result (λ hierarchy. IsBodyOf hierarchy version head.nodes head.links head.bound) }
-    ensures ok { IfOk result (λ hierarchy. IfSome (coming input.old.waiting (R.remaining reader.old)) (λ bytes. bytes ≡ flat_map word hierarchy.ranks ++ flat_map (link_bytes version) hierarchy.links)) }
-    ensures err { IfErr result (IsFaultOf (body_fault version head.nodes head.links head.bound) (coming input.old.waiting (R.remaining reader.old))) }
-    ensures calls { OnOk result (IsRead R.step input.old.left input.new.left reader.old reader.new) }
-    ensures stopped { IfErr result (λ e. ReadsWithin R.step input.old.left (e ≡ HierError.Read) reader.old reader.new) }
+    ensures reads { Reads R.step R.remaining input.old input.new reader.old reader.new (λ hierarchy before _. IfSome before (λ bytes. bytes ≡ flat_map word hierarchy.ranks ++ flat_map (link_bytes version) hierarchy.links)) (IsFaultOf (body_fault version head.nodes head.links head.bound)) result }
 {
     let bound = bound_of(version, head);
     let ranks = read_ranks(alloc, input, reader, head.nodes)?;
@@ -199,10 +187,7 @@ fn bound_arcs(version: Version, nodes: u32) -> u32
 
 // Sees that nothing follows.
 fn read_end<R: StepRead>(input: &mut Input, reader: &mut R) -> Result<(), HierError>
-    ensures ok { OnOk result (IsAtEnd (coming input.old.waiting (R.remaining reader.old))) }
-    ensures err { IfErr result (IsFaultOf end_fault (coming input.old.waiting (R.remaining reader.old))) }
-    ensures calls { OnOk result (IsRead R.step input.old.left input.new.left reader.old reader.new) }
-    ensures stopped { IfErr result (λ e. ReadsWithin R.step input.old.left (e ≡ HierError.Read) reader.old reader.new) }
+    ensures reads { Reads R.step R.remaining input.old input.new reader.old reader.new (λ _ before _. IsAtEnd before) (IsFaultOf end_fault) result }
 {
     match input.byte(reader)? {
         None => Ok(()),

@@ -1,13 +1,13 @@
-ghost use Rattle.std.specs.Prelude.{◌≡◌, ◌++◌, length, min, All, OnOk, IfErr};
+ghost use Rattle.std.specs.Prelude.{◌≡◌, length, min, All, OnOk, IfErr};
 ghost use Rattle.std.specs.List.{flat_map};
 ghost use Rattle.std.specs.Io.KnownBytes.{Appends};
-ghost use Rattle.hierfile.specs.Spelling.{bytes_of, word, long, head_bytes, link_bytes, middle_number};
-ghost use Rattle.counted_io.specs.Handing.{HandsOn};
+ghost use Rattle.hierfile.specs.Spelling.{bytes_of, word, head_bytes, link_bytes, middle_number};
 ghost use Rattle.counted_io.specs.Limits.{IsWrittenWithin, StopsWithin};
 ghost use Rattle.counted_io.specs.declared.TheConstants.{MOST_CALLS};
 ghost use Rattle.ch_graph.specs.declared.version.Version.TheVariants.{Two};
 ghost use Rattle.ch_graph.specs.Hierarchy.{version_number};
-ghost use Rattle.hierfile.specs.Bytes.{Hands, IsPartOf, IsWritable, Stops, Took};
+ghost use Rattle.hierfile.specs.Bytes.{IsWritable, Took};
+ghost use Rattle.hierfile.specs.Writing.{WritesPart};
 
 use crate::links::NO_MIDDLE;
 use crate::output::Output;
@@ -17,7 +17,7 @@ use counted_io::{MOST_CALLS, StepWrite, WriteFault};
 /// The magic of version 2, as a number of four bytes.
 const MAGIC: u32 = 0x5243_4832;
 
-/// Writes a hierarchy of version 2 to a file.
+/// WritesPart a hierarchy of version 2 to a file.
 ///
 /// On Ok the writer took the spelling of the hierarchy, and on a fault its first `written` bytes. An interrupted call
 /// of the writer is tried again; one that takes no byte is a failure, and so is the end of 2^40 calls. Takes no
@@ -32,7 +32,7 @@ pub fn write<W: StepWrite>(hierarchy: &Hierarchy, writer: &mut W) -> Result<(), 
     write_within(hierarchy, writer, MOST_CALLS)
 }
 
-/// Writes as [`write`] does, by so many calls of the writer, or 2^40 where they are more. After the last of them it has
+/// WritesPart as [`write`] does, by so many calls of the writer, or 2^40 where they are more. After the last of them it has
 /// failed.
 pub fn write_within<W: StepWrite>(
     hierarchy: &Hierarchy,
@@ -53,16 +53,13 @@ pub fn write_within<W: StepWrite>(
     Ok(())
 }
 
-// Writes the magic of version 2, how many nodes and links there are, and the bound.
+// WritesPart the magic of version 2, how many nodes and links there are, and the bound.
 fn write_head<W: StepWrite>(
     hierarchy: &Hierarchy,
     output: &mut Output,
     writer: &mut W,
 ) -> Result<(), WriteFault>
-    ensures ok { OnOk result (HandsOn (W.contents writer.old) (W.contents writer.new) (output.old.waiting ++ head_bytes Two (length hierarchy.now.ranks) (length hierarchy.now.links) hierarchy.now.bound) output.new.waiting output.old.written output.new.written) }
-    ensures err { IfErr result (λ fault. IsPartOf (W.contents writer.old) (W.contents writer.new) output.old (head_bytes Two (length hierarchy.now.ranks) (length hierarchy.now.links) hierarchy.now.bound) fault.written) }
-    ensures calls { OnOk result (Hands W.step output.old output.new writer.old writer.new) }
-    ensures stopped { IfErr result (λ fault. Stops W.step output.old fault.written writer.old writer.new) }
+    ensures writes { WritesPart W.step W.contents output.old output.new writer.old writer.new (head_bytes Two (length hierarchy.now.ranks) (length hierarchy.now.links) hierarchy.now.bound) result }
 {
     output.word(writer, MAGIC)?;
     output.word(writer, hierarchy.nodes())?;
@@ -71,16 +68,13 @@ fn write_head<W: StepWrite>(
     Ok(())
 }
 
-// Writes the rank of each node.
+// WritesPart the rank of each node.
 fn write_ranks<W: StepWrite>(
     hierarchy: &Hierarchy,
     output: &mut Output,
     writer: &mut W,
 ) -> Result<(), WriteFault>
-    ensures ok { OnOk result (HandsOn (W.contents writer.old) (W.contents writer.new) (output.old.waiting ++ flat_map word hierarchy.now.ranks) output.new.waiting output.old.written output.new.written) }
-    ensures err { IfErr result (λ fault. IsPartOf (W.contents writer.old) (W.contents writer.new) output.old (flat_map word hierarchy.now.ranks) fault.written) }
-    ensures calls { OnOk result (Hands W.step output.old output.new writer.old writer.new) }
-    ensures stopped { IfErr result (λ fault. Stops W.step output.old fault.written writer.old writer.new) }
+    ensures writes { WritesPart W.step W.contents output.old output.new writer.old writer.new (flat_map word hierarchy.now.ranks) result }
 {
     'nodes: for node in 0..hierarchy.nodes() {
         output.word(writer, hierarchy.rank(node))?;
@@ -88,17 +82,14 @@ fn write_ranks<W: StepWrite>(
     Ok(())
 }
 
-// Writes each link, as version 2 has it.
+// WritesPart each link, as version 2 has it.
 fn write_links<W: StepWrite>(
     links: &[Link],
     output: &mut Output,
     writer: &mut W,
 ) -> Result<(), WriteFault>
     requires { All (IsWritable Two) links.now }
-    ensures ok { OnOk result (HandsOn (W.contents writer.old) (W.contents writer.new) (output.old.waiting ++ flat_map (link_bytes Two) links.now) output.new.waiting output.old.written output.new.written) }
-    ensures err { IfErr result (λ fault. IsPartOf (W.contents writer.old) (W.contents writer.new) output.old (flat_map (link_bytes Two) links.now) fault.written) }
-    ensures calls { OnOk result (Hands W.step output.old output.new writer.old writer.new) }
-    ensures stopped { IfErr result (λ fault. Stops W.step output.old fault.written writer.old writer.new) }
+    ensures writes { WritesPart W.step W.contents output.old output.new writer.old writer.new (flat_map (link_bytes Two) links.now) result }
 {
     'links: for link in links {
         write_link(*link, output, writer)?;
@@ -106,17 +97,14 @@ fn write_links<W: StepWrite>(
     Ok(())
 }
 
-// Writes one link, as version 2 has it.
+// WritesPart one link, as version 2 has it.
 fn write_link<W: StepWrite>(
     link: Link,
     output: &mut Output,
     writer: &mut W,
 ) -> Result<(), WriteFault>
     requires { IsWritable Two link }
-    ensures ok { OnOk result (HandsOn (W.contents writer.old) (W.contents writer.new) (output.old.waiting ++ link_bytes Two link) output.new.waiting output.old.written output.new.written) }
-    ensures err { IfErr result (λ fault. IsPartOf (W.contents writer.old) (W.contents writer.new) output.old (link_bytes Two link) fault.written) }
-    ensures calls { OnOk result (Hands W.step output.old output.new writer.old writer.new) }
-    ensures stopped { IfErr result (λ fault. Stops W.step output.old fault.written writer.old writer.new) }
+    ensures writes { WritesPart W.step W.contents output.old output.new writer.old writer.new (link_bytes Two link) result }
 {
     output.word(writer, link.from)?;
     output.word(writer, link.to)?;

@@ -1,5 +1,5 @@
-use Rattle.counted_io.specs.Limits.Laws.{read_none}
+use Rattle.hierfile.proofs.ReadParts.{takes_none}
 use Rattle.hierfile.proofs.links.read_arcs.Goals as goal
 
-pub returns-in-One-clause-calls : goal.returns-in-One-clause-calls
-returns-in-One-clause-calls g c = read_none g.R.StepRead.step c.args.input.now.left c.args.reader.now
+pub returns-in-One-clause-reads : goal.returns-in-One-clause-reads
+returns-in-One-clause-reads g c = rw c.in-One.is (takes_none g.R.StepRead.step g.R.Read.remaining c.args.input.now c.args.reader.now)

@@ -1,6 +1,4 @@
-use Rattle.std.proofs.Common.{ℕ, ◌^◌, ◌++◌, [], ◌<◌, List, length, refl, sym, ◌∙◌, ap, subst, arith, AllPairs}
-use Rattle.std.specs.List.{flat_map}
-use Rattle.std.proofs.KnownBytes.{Consumes-trans, Consumes-nil}
+use Rattle.std.proofs.Common.{ℕ, ◌^◌, ◌<◌, List, length, refl, sym, ◌∙◌, ap, subst, arith, AllPairs}
 use Rattle.ch_cost.specs.declared.cost.Cost.{Cost}
 use Rattle.ch_cost.specs.Cost.{length_of}
 use Rattle.ch_cost.specs.Cost.Numbers.{length_of-of_walk}
@@ -8,33 +6,37 @@ use Rattle.ch_graph.specs.declared.link.Link.{Link}
 use Rattle.ch_graph.specs.Hierarchy.{IsWellMade, ComesBefore, bound_arcs}
 use Rattle.ch_graph.specs.LinkIndex.{IsIndexOf}
 use Rattle.ch_graph.specs.LinkHalves.{AreHalvesOf}
-use Rattle.hierfile.specs.Spelling.{word, link_bytes, bound_in}
+use Rattle.hierfile.specs.Spelling.{bound_in}
 use Rattle.hierfile.specs.Fault.{link_fault_at, links_fault, ranks_fault, half_fault, first_along, end_fault, body_fault}
 use Rattle.hierfile.specs.Bytes.{NoneBelow}
-use Rattle.hierfile.proofs.Faults.{hands_on, behind, found, earlier, later}
+use Rattle.hierfile.proofs.Faults.{earlier, later}
+use Rattle.hierfile.proofs.ReadParts.{all_taken, fault_behind, fault_found, hands_back, no_memory, takes_none, takes_then}
 use Rattle.hierfile.proofs.Bodies.{body_ranks, body_links, body_after_links}
 use Rattle.hierfile.proofs.WellMade.{links_sorted, few_nodes, well_made_of}
-use Rattle.counted_io.specs.Limits.Laws.{read_then, reads_then, refused_after}
+use Rattle.counted_io.specs.Limits.Laws.{read_then}
 use Rattle.hierfile.specs.declared.error.HierError.TheVariants.{OutOfMemory}
-use Rattle.hierfile.proofs.Faults.{memory_is_no_read}
 use Rattle.hierfile.proofs.reading.read_body.Goals as goal
 
-pub returns-in_err-ranks-clause-err : goal.returns-in_err-ranks-clause-err
-returns-in_err-ranks-clause-err g c =
+pub returns-in_err-ranks-clause-reads : goal.returns-in_err-ranks-clause-reads
+returns-in_err-ranks-clause-reads g c =
+    let step = g.R.StepRead.step in
+    let remaining = g.R.Read.remaining in
     let head = c.args.head in
-    hands_on c.from_residual.result _ _ c.from_residual.ensures.1
-    (behind [] (ranks_fault head.nodes) (body_fault c.args.version head.nodes head.links head.bound) _ _ _ (Consumes-nil _) (λ rest is. body_ranks c.args.version head.nodes head.links head.bound rest is) c.in_err-ranks.ensures.err)
+    hands_back c.from_residual.result _ _ _ c.from_residual.ensures.1
+    (fault_behind step remaining (ranks_fault head.nodes) (body_fault c.args.version head.nodes head.links head.bound) (takes_none step remaining c.args.input.now c.args.reader.now) (λ rest is. body_ranks c.args.version head.nodes head.links head.bound rest is) c.in_err-ranks.ensures.reads)
 
-pub returns-in_err-links-clause-err : goal.returns-in_err-links-clause-err
-returns-in_err-links-clause-err g c =
+pub returns-in_err-links-clause-reads : goal.returns-in_err-links-clause-reads
+returns-in_err-links-clause-reads g c =
+    let step = g.R.StepRead.step in
+    let remaining = g.R.Read.remaining in
     let head = c.args.head in
     let ranks = c.in_ok-ranks.ranks.items in
     let small : head.nodes < 2 ^ 32 = omega (arith, few_nodes head.nodes head.links head.bound c.requires) in
-    hands_on c.from_residual-in_err-links.result _ _ c.from_residual-in_err-links.ensures.1
-    (behind (flat_map word ranks) (links_fault c.args.version c.as_slice.result.now c.bound_of-bound.result head.links) (body_fault c.args.version head.nodes head.links head.bound) _ _ _ c.in_ok-ranks.ensures.ok
+    hands_back c.from_residual-in_err-links.result _ _ _ c.from_residual-in_err-links.ensures.1
+    (fault_behind step remaining (links_fault c.args.version c.as_slice.result.now c.bound_of-bound.result head.links) (body_fault c.args.version head.nodes head.links head.bound) c.in_ok-ranks.ensures.reads
     (λ rest is. body_links c.args.version head.nodes head.links head.bound ranks rest small c.in_ok-ranks.ensures.count c.in_ok-ranks.ensures.faultless
     (ap (λ (r : List ℕ). links_fault c.args.version r (bound_in c.args.version head.nodes head.bound) head.links rest) (sym c.as_slice.ensures.value) ∙ ap (λ (b : Cost). links_fault c.args.version c.as_slice.result.now b head.links rest) (sym c.bound_of-bound.ensures) ∙ is))
-    c.in_err-links.ensures.err)
+    c.in_err-links.ensures.reads)
 
 -- the links are in order, and the index is theirs
 pub new-requires : goal.new-requires
@@ -52,34 +54,38 @@ find_halves-requires g c =
       index = c.in_ok-index.ensures.index;
     }
 
-pub returns-in_err-halves-clause-err : goal.returns-in_err-halves-clause-err
-returns-in_err-halves-clause-err g c =
+pub returns-in_err-halves-clause-reads : goal.returns-in_err-halves-clause-reads
+returns-in_err-halves-clause-reads g c =
+    let step = g.R.StepRead.step in
+    let remaining = g.R.Read.remaining in
     let head = c.args.head in
     let ranks = c.in_ok-ranks.ranks.items in
     let links = c.in_ok-links.links.items in
     let small : head.nodes < 2 ^ 32 = omega (arith, few_nodes head.nodes head.links head.bound c.requires) in
-    let so_far = Consumes-trans _ _ _ _ _ c.in_ok-ranks.ensures.ok c.in_ok-links.ensures.ok in
+    let so_far = takes_then step remaining c.in_ok-ranks.ensures.reads c.in_ok-links.ensures.reads in
     let links_ok : NoneBelow head.links (link_fault_at c.args.version ranks (bound_in c.args.version head.nodes head.bound) links) = λ i less. ap (λ (r : List ℕ). link_fault_at c.args.version r (bound_in c.args.version head.nodes head.bound) links i) (sym c.as_slice.ensures.value) ∙ ap (λ (b : Cost). link_fault_at c.args.version c.as_slice.result.now b links i) (sym c.bound_of-bound.ensures) ∙ c.in_ok-links.ensures.faultless i less in
-    hands_on c.from_residual-in_err-halves.result _ _ c.from_residual-in_err-halves.ensures.1
-    (found (flat_map word ranks ++ flat_map (link_bytes c.args.version) links) (body_fault c.args.version head.nodes head.links head.bound) _ _ _ so_far
+    hands_back c.from_residual-in_err-halves.result _ _ _ c.from_residual-in_err-halves.ensures.1
+    (fault_found step remaining (body_fault c.args.version head.nodes head.links head.bound) so_far
     (λ is rest. body_after_links c.args.version head.nodes head.links head.bound ranks links rest small c.in_ok-ranks.ensures.count c.in_ok-ranks.ensures.faultless c.in_ok-links.ensures.count c.in_ok-links.ensures.writable links_ok
     ∙ earlier _ (ap (λ (l : List Link). first_along (half_fault l) l) (sym c.as_slice-all.ensures.value) ∙ is))
-    c.in_err-halves.ensures.err)
+    c.in_err-halves.ensures.err c.in_err-halves.ensures.no_read)
 
-pub returns-in_err-read_end-clause-err : goal.returns-in_err-read_end-clause-err
-returns-in_err-read_end-clause-err g c =
+pub returns-in_err-read_end-clause-reads : goal.returns-in_err-read_end-clause-reads
+returns-in_err-read_end-clause-reads g c =
+    let step = g.R.StepRead.step in
+    let remaining = g.R.Read.remaining in
     let head = c.args.head in
     let ranks = c.in_ok-ranks.ranks.items in
     let links = c.in_ok-links.links.items in
     let small : head.nodes < 2 ^ 32 = omega (arith, few_nodes head.nodes head.links head.bound c.requires) in
-    let so_far = Consumes-trans _ _ _ _ _ c.in_ok-ranks.ensures.ok c.in_ok-links.ensures.ok in
+    let so_far = takes_then step remaining c.in_ok-ranks.ensures.reads c.in_ok-links.ensures.reads in
     let links_ok : NoneBelow head.links (link_fault_at c.args.version ranks (bound_in c.args.version head.nodes head.bound) links) = λ i less. ap (λ (r : List ℕ). link_fault_at c.args.version r (bound_in c.args.version head.nodes head.bound) links i) (sym c.as_slice.ensures.value) ∙ ap (λ (b : Cost). link_fault_at c.args.version c.as_slice.result.now b links i) (sym c.bound_of-bound.ensures) ∙ c.in_ok-links.ensures.faultless i less in
     let halves_ok = ap (λ (l : List Link). first_along (half_fault l) l) (sym c.as_slice-all.ensures.value) ∙ c.in_ok-halves.ensures.faultless in
-    hands_on c.from_residual-in_err-read_end.result _ _ c.from_residual-in_err-read_end.ensures.1
-    (behind (flat_map word ranks ++ flat_map (link_bytes c.args.version) links) end_fault (body_fault c.args.version head.nodes head.links head.bound) _ _ _ so_far
+    hands_back c.from_residual-in_err-read_end.result _ _ _ c.from_residual-in_err-read_end.ensures.1
+    (fault_behind step remaining end_fault (body_fault c.args.version head.nodes head.links head.bound) so_far
     (λ rest is. body_after_links c.args.version head.nodes head.links head.bound ranks links rest small c.in_ok-ranks.ensures.count c.in_ok-ranks.ensures.faultless c.in_ok-links.ensures.count c.in_ok-links.ensures.writable links_ok
     ∙ later halves_ok is)
-    c.in_err-read_end.ensures.err)
+    c.in_err-read_end.ensures.reads)
 
 pub with_index-requires : goal.with_index-requires
 with_index-requires g c = record {
@@ -96,25 +102,15 @@ pub returns-clause-made : goal.returns-clause-made
 returns-clause-made g c =
     subst IsWellMade (sym c.with_index.ensures) (well_made_of c.args.version c.args.head.nodes c.args.head.links c.args.head.bound c.in_ok-ranks.ranks.items c.as_slice.result.now c.in_ok-links.links.items c.as_slice-all.result.now c.bound_of-bound.result c.requires c.in_ok-ranks.ensures.count c.in_ok-ranks.ensures.faultless c.in_ok-links.ensures.count c.in_ok-links.ensures.faultless c.in_ok-halves.ensures.faultless c.as_slice.ensures.value c.as_slice-all.ensures.value c.bound_of-bound.ensures)
 
-pub returns-in_err-links-clause-stopped : goal.returns-in_err-links-clause-stopped
-returns-in_err-links-clause-stopped g c = hands_on c.from_residual-in_err-links.result _ _ c.from_residual-in_err-links.ensures.1 (reads_then g.R.StepRead.step c.in_ok-ranks.ensures.calls c.in_err-links.ensures.stopped)
-
-pub returns-in_err-halves-clause-stopped : goal.returns-in_err-halves-clause-stopped
-returns-in_err-halves-clause-stopped g c =
+pub returns-in_err-index-clause-reads : goal.returns-in_err-index-clause-reads
+returns-in_err-index-clause-reads g c =
     let step = g.R.StepRead.step in
-    hands_on c.from_residual-in_err-halves.result _ _ c.from_residual-in_err-halves.ensures.1 (refused_after step (read_then step c.in_ok-ranks.ensures.calls c.in_ok-links.ensures.calls) c.in_err-halves.ensures.no_read)
+    let head = c.args.head in
+    let calls = read_then step c.in_ok-ranks.ensures.reads.calls c.in_ok-links.ensures.reads.calls in
+    hands_back c.from_residual-in_err-index.result _ _ OutOfMemory c.from_residual-in_err-index.ensures.1 (no_memory step g.R.Read.remaining (body_fault c.args.version head.nodes head.links head.bound) calls)
 
-pub returns-in_err-read_end-clause-stopped : goal.returns-in_err-read_end-clause-stopped
-returns-in_err-read_end-clause-stopped g c =
+pub returns-clause-reads : goal.returns-clause-reads
+returns-clause-reads g c =
     let step = g.R.StepRead.step in
-    hands_on c.from_residual-in_err-read_end.result _ _ c.from_residual-in_err-read_end.ensures.1 (reads_then step (read_then step c.in_ok-ranks.ensures.calls c.in_ok-links.ensures.calls) c.in_err-read_end.ensures.stopped)
-
-pub returns-clause-calls : goal.returns-clause-calls
-returns-clause-calls g c =
-    let step = g.R.StepRead.step in
-    read_then step (read_then step c.in_ok-ranks.ensures.calls c.in_ok-links.ensures.calls) c.in_ok-read_end.ensures.calls
-
-pub returns-in_err-index-clause-stopped : goal.returns-in_err-index-clause-stopped
-returns-in_err-index-clause-stopped g c =
-    let step = g.R.StepRead.step in
-    hands_on c.from_residual-in_err-index.result _ OutOfMemory c.from_residual-in_err-index.ensures.1 (refused_after step (read_then step c.in_ok-ranks.ensures.calls c.in_ok-links.ensures.calls) memory_is_no_read)
+    let so_far = takes_then step g.R.Read.remaining c.in_ok-ranks.ensures.reads c.in_ok-links.ensures.reads in
+    record { bytes = rw c.with_index.ensures (all_taken _ _ _ so_far.bytes c.in_ok-read_end.ensures.reads.bytes); calls = read_then step so_far.calls c.in_ok-read_end.ensures.reads.calls }

@@ -1,5 +1,6 @@
-use Rattle.std.proofs.Common.{rules}
+use Rattle.hierfile.specs.Fault.{end_fault}
+use Rattle.hierfile.proofs.ReadParts.{hands_back, read_failed}
 use Rattle.hierfile.proofs.reading.read_end.Goals as goal
 
-pub returns-in-Some-clause-ok : goal.returns-in-Some-clause-ok
-returns-in-Some-clause-ok g c = search rules
+pub returns-in_err-byte : goal.returns-in_err-byte
+returns-in_err-byte g c = record { reads = hands_back c.from_residual.result _ _ _ c.from_residual.ensures.1 (read_failed g.R.StepRead.step g.R.Read.remaining end_fault c.in_err-byte.ensures.reads) }

@@ -22,7 +22,7 @@ returns-in_err-version-clause-err g c =
     let known = g.R.Read.remaining c.args.reader.now in
     let e = c.in_err-version.field-0.0 in
     hands_on c.from_residual-in_err-version.result _ _ c.from_residual-in_err-version.ensures.1
-    (from_start input.waiting known e (ap (λ (b : Buffered). b.waiting) c.in_ok-input.ensures) (behind [] magic_fault first_fault (coming input.waiting known) (coming input.waiting known) e (Consumes-nil (coming input.waiting known)) (λ rest is. first_magic rest is) c.in_err-version.ensures.err))
+    (from_start input.waiting known e (ap (λ (b : Buffered). b.waiting) c.in_ok-input.ensures) (behind [] magic_fault first_fault (coming input.waiting known) (coming input.waiting known) e (Consumes-nil (coming input.waiting known)) (λ rest is. first_magic rest is) c.in_err-version.ensures.reads.fault))
 
 pub returns-in_err-head-clause-err : goal.returns-in_err-head-clause-err
 returns-in_err-head-clause-err g c =
@@ -30,7 +30,7 @@ returns-in_err-head-clause-err g c =
     let known = g.R.Read.remaining c.args.reader.now in
     let e = c.in_err-head.field-0.0 in
     hands_on c.from_residual-in_err-head.result _ _ c.from_residual-in_err-head.ensures.1
-    (from_start input.waiting known e (ap (λ (b : Buffered). b.waiting) c.in_ok-input.ensures) (behind (magic_of c.in_ok-version.version) head_fault first_fault (coming input.waiting known) _ e c.in_ok-version.ensures.ok (λ rest is. first_head c.in_ok-version.version rest is) c.in_err-head.ensures.err))
+    (from_start input.waiting known e (ap (λ (b : Buffered). b.waiting) c.in_ok-input.ensures) (behind (magic_of c.in_ok-version.version) head_fault first_fault (coming input.waiting known) _ e c.in_ok-version.ensures.reads.bytes (λ rest is. first_head c.in_ok-version.version rest is) c.in_err-head.ensures.reads.fault))
 
 pub returns-in_err-hierarchy-clause-err : goal.returns-in_err-hierarchy-clause-err
 returns-in_err-hierarchy-clause-err g c =
@@ -38,18 +38,18 @@ returns-in_err-hierarchy-clause-err g c =
     let input = c.in_ok-input.input in
     let known = g.R.Read.remaining c.args.reader.now in
     let e = c.in_err-hierarchy.field-0.0 in
-    let so_far = Consumes-trans _ _ _ _ _ c.in_ok-version.ensures.ok c.in_ok-head.ensures.ok in
+    let so_far = Consumes-trans _ _ _ _ _ c.in_ok-version.ensures.reads.bytes c.in_ok-head.ensures.reads.bytes in
     hands_on c.from_residual-in_err-hierarchy.result _ _ c.from_residual-in_err-hierarchy.ensures.1
     (from_start input.waiting known e (ap (λ (b : Buffered). b.waiting) c.in_ok-input.ensures) (behind (magic_of c.in_ok-version.version ++ sizes head.nodes head.links head.bound) (body_fault c.in_ok-version.version head.nodes head.links head.bound) first_fault (coming input.waiting known) _ e so_far
-    (λ rest is. first_body c.in_ok-version.version head.nodes head.links head.bound rest (omega arith) (omega arith) (omega arith) c.in_ok-head.ensures.sizes is) c.in_err-hierarchy.ensures.err))
+    (λ rest is. first_body c.in_ok-version.version head.nodes head.links head.bound rest (omega arith) (omega arith) (omega arith) c.in_ok-head.ensures.sizes is) c.in_err-hierarchy.ensures.reads.fault))
 
 pub returns-clause-ok : goal.returns-clause-ok
 returns-clause-ok g c =
     let head = c.in_ok-head.head in
     let hierarchy = c.in_ok-hierarchy.hierarchy in
     let start = nothing_waits c.in_ok-input.input.waiting (g.R.Read.remaining c.args.reader.now) (ap (λ (b : Buffered). b.waiting) c.in_ok-input.ensures) in
-    let so_far = Consumes-trans _ _ _ _ _ c.in_ok-version.ensures.ok c.in_ok-head.ensures.ok in
-    subst (λ o. IfSome o (λ bytes. bytes ≡ bytes_of hierarchy)) start (spelled_whole c.in_ok-version.version head.nodes head.links head.bound hierarchy _ _ so_far c.in_ok-hierarchy.ensures.sizes c.in_ok-hierarchy.ensures.ok)
+    let so_far = Consumes-trans _ _ _ _ _ c.in_ok-version.ensures.reads.bytes c.in_ok-head.ensures.reads.bytes in
+    subst (λ o. IfSome o (λ bytes. bytes ≡ bytes_of hierarchy)) start (spelled_whole c.in_ok-version.version head.nodes head.links head.bound hierarchy _ _ so_far c.in_ok-hierarchy.ensures.sizes c.in_ok-hierarchy.ensures.reads.bytes)
 
 pub returns-in_err-version-clause-spelling : goal.returns-in_err-version-clause-spelling
 returns-in_err-version-clause-spelling g c = refused (g.R.Read.remaining c.args.reader.now) c.from_residual-in_err-version.result _ c.from_residual-in_err-version.ensures.1 (returns-in_err-version-clause-err g c)
@@ -69,7 +69,7 @@ returns-in_err-version-clause-stopped g c =
     let e = c.in_err-version.field-0.0 in
     let most = ap (λ (b : Buffered). b.left) c.in_ok-input.ensures in
     hands_on c.from_residual-in_err-version.result _ e c.from_residual-in_err-version.ensures.1
-    (subst (λ n. ReadsWithin step n (e ≡ Read) c.args.reader.now c.read_magic.new.reader) most c.in_err-version.ensures.stopped)
+    (subst (λ n. ReadsWithin step n (e ≡ Read) c.args.reader.now c.read_magic.new.reader) most c.in_err-version.ensures.reads.calls)
 
 pub returns-in_err-head-clause-stopped : goal.returns-in_err-head-clause-stopped
 returns-in_err-head-clause-stopped g c =
@@ -77,7 +77,7 @@ returns-in_err-head-clause-stopped g c =
     let e = c.in_err-head.field-0.0 in
     let most = ap (λ (b : Buffered). b.left) c.in_ok-input.ensures in
     hands_on c.from_residual-in_err-head.result _ e c.from_residual-in_err-head.ensures.1
-    (subst (λ n. ReadsWithin step n (e ≡ Read) c.args.reader.now c.read_head.new.reader) most (reads_then step c.in_ok-version.ensures.calls c.in_err-head.ensures.stopped))
+    (subst (λ n. ReadsWithin step n (e ≡ Read) c.args.reader.now c.read_head.new.reader) most (reads_then step c.in_ok-version.ensures.reads.calls c.in_err-head.ensures.reads.calls))
 
 pub returns-in_err-hierarchy-clause-stopped : goal.returns-in_err-hierarchy-clause-stopped
 returns-in_err-hierarchy-clause-stopped g c =
@@ -85,14 +85,14 @@ returns-in_err-hierarchy-clause-stopped g c =
     let e = c.in_err-hierarchy.field-0.0 in
     let most = ap (λ (b : Buffered). b.left) c.in_ok-input.ensures in
     hands_on c.from_residual-in_err-hierarchy.result _ e c.from_residual-in_err-hierarchy.ensures.1
-    (subst (λ n. ReadsWithin step n (e ≡ Read) c.args.reader.now c.read_body.new.reader) most (reads_then step (read_then step c.in_ok-version.ensures.calls c.in_ok-head.ensures.calls) c.in_err-hierarchy.ensures.stopped))
+    (subst (λ n. ReadsWithin step n (e ≡ Read) c.args.reader.now c.read_body.new.reader) most (reads_then step (read_then step c.in_ok-version.ensures.reads.calls c.in_ok-head.ensures.reads.calls) c.in_err-hierarchy.ensures.reads.calls))
 
 pub returns-clause-calls : goal.returns-clause-calls
 returns-clause-calls g c =
     let step = g.R.StepRead.step in
     let left = c.read_body.new.input.left in
     let most = ap (λ (b : Buffered). b.left) c.in_ok-input.ensures in
-    (left, subst (λ n. IsRead step n left c.args.reader.now c.read_body.new.reader) most (read_then step (read_then step c.in_ok-version.ensures.calls c.in_ok-head.ensures.calls) c.in_ok-hierarchy.ensures.calls))
+    (left, subst (λ n. IsRead step n left c.args.reader.now c.read_body.new.reader) most (read_then step (read_then step c.in_ok-version.ensures.reads.calls c.in_ok-head.ensures.reads.calls) c.in_ok-hierarchy.ensures.reads.calls))
 
 pub returns-in_err-input-clause-stopped : goal.returns-in_err-input-clause-stopped
 returns-in_err-input-clause-stopped g c =

@@ -1,109 +1,100 @@
 use Rattle.std.proofs.Common.{ℕ, ◌++◌, List, [], length, refl, sym, ap, ◌∙◌, subst, append-nil, append_assoc}
 use Rattle.hierfile.specs.Spelling.{word, long, head_bytes, magic_of}
-use Rattle.hierfile.proofs.HandCalls.{hands_then, stops_later}
-use Rattle.hierfile.proofs.Faults.{hands_on}
-use Rattle.hierfile.proofs.Handing.{Handed, handed_then, part_then, part_none}
+use Rattle.hierfile.proofs.ReadParts.{hands_back}
+use Rattle.hierfile.proofs.WriteParts.{Puts, fails_in, fails_then, puts_then}
 use Rattle.ch_cost.specs.Cost.{length_of}
 use Rattle.ch_graph.specs.declared.link.Link.{Link}
 use Rattle.ch_graph.specs.declared.version.Version.TheVariants.{Two}
 use Rattle.hierfile.proofs.writing.write_head.Goals as goal
 
-pub returns-in_err-word-clause-err : goal.returns-in_err-word-clause-err
+pub returns-in_err-word : goal.returns-in_err-word
 unfolding head_bytes word
-returns-in_err-word-clause-err g c =
+returns-in_err-word g c =
+    let step = g.W.StepWrite.step in
     let contents = g.W.Write.contents in
-    let b0 : List ℕ = magic_of Two in
-    let b1 : List ℕ = word (length c.args.hierarchy.now.ranks) in
-    let b2 : List ℕ = long (length c.args.hierarchy.now.links) in
-    let b3 : List ℕ = long (length_of c.args.hierarchy.now.bound) in
+    let start = c.args.output.now in
+    let h = c.args.hierarchy.now in
     let fault = c.in_err-word.field-0.0 in
-    hands_on c.from_residual.result _ fault c.from_residual.ensures.1 (part_none (contents c.args.writer.now) (contents c.word.new.writer) c.args.output.now (head_bytes Two (length c.args.hierarchy.now.ranks) (length c.args.hierarchy.now.links) c.args.hierarchy.now.bound) fault.written c.in_err-word.ensures.err)
+    record {
+      writes = hands_back c.from_residual.result _ _ fault c.from_residual.ensures.1
+          (fails_in step contents start (head_bytes Two (length h.ranks) (length h.links) h.bound) fault.written c.in_err-word.ensures.writes);
+    }
 
-pub returns-in_err-word-2-clause-err : goal.returns-in_err-word-2-clause-err
+pub returns-in_err-word-2 : goal.returns-in_err-word-2
 unfolding head_bytes word
-returns-in_err-word-2-clause-err g c =
+returns-in_err-word-2 g c =
+    let step = g.W.StepWrite.step in
     let contents = g.W.Write.contents in
+    let start = c.args.output.now in
+    let h = c.args.hierarchy.now in
     let b0 : List ℕ = magic_of Two in
-    let b1 : List ℕ = word (length c.args.hierarchy.now.ranks) in
-    let b2 : List ℕ = long (length c.args.hierarchy.now.links) in
-    let b3 : List ℕ = long (length_of c.args.hierarchy.now.bound) in
-    let h0 : Handed (contents c.args.writer.now) (contents c.word.new.writer) c.args.output.now c.word.new.self b0 = c.in_ok-word.ensures.ok in
+    let b1 : List ℕ = word (length h.ranks) in
+    let b2 : List ℕ = long (length h.links) in
+    let b3 : List ℕ = long (length_of h.bound) in
+    let h0 : Puts step contents start c.word.new.self c.args.writer.now c.word.new.writer b0 = c.in_ok-word.ensures.writes in
     let fault = c.in_err-word-2.field-0.0 in
-    hands_on c.from_residual-in_err-word-2.result _ fault c.from_residual-in_err-word-2.ensures.1 (part_then (contents c.args.writer.now) (contents c.word.new.writer) (contents c.word-2.new.writer) c.args.output.now c.word.new.self (b0) b1 (b2 ++ b3) (head_bytes Two (length c.args.hierarchy.now.ranks) (length c.args.hierarchy.now.links) c.args.hierarchy.now.bound) fault.written h0 (part_none (contents c.word.new.writer) (contents c.word-2.new.writer) c.word.new.self b1 fault.written c.in_err-word-2.ensures.err) (sym (append_assoc ((b0) ++ b1) b2 b3)))
+    record {
+      writes = hands_back c.from_residual-in_err-word-2.result _ _ fault c.from_residual-in_err-word-2.ensures.1
+          (fails_then step contents start c.word.new.self b0 b1 (b2 ++ b3) (head_bytes Two (length h.ranks) (length h.links) h.bound) fault.written h0 (fails_in step contents c.word.new.self b1 fault.written c.in_err-word-2.ensures.writes) (sym (append_assoc (b0 ++ b1) b2 b3)));
+    }
 
-pub returns-in_err-long-clause-err : goal.returns-in_err-long-clause-err
+pub returns-in_err-long : goal.returns-in_err-long
 unfolding head_bytes word
-returns-in_err-long-clause-err g c =
+returns-in_err-long g c =
+    let step = g.W.StepWrite.step in
     let contents = g.W.Write.contents in
+    let start = c.args.output.now in
+    let h = c.args.hierarchy.now in
     let b0 : List ℕ = magic_of Two in
-    let b1 : List ℕ = word (length c.args.hierarchy.now.ranks) in
-    let b2 : List ℕ = long (length c.args.hierarchy.now.links) in
-    let b3 : List ℕ = long (length_of c.args.hierarchy.now.bound) in
-    let h0 : Handed (contents c.args.writer.now) (contents c.word.new.writer) c.args.output.now c.word.new.self b0 = c.in_ok-word.ensures.ok in
-    let h1 : Handed (contents c.word.new.writer) (contents c.word-2.new.writer) c.word.new.self c.word-2.new.self b1 = subst (λ n. Handed (contents c.word.new.writer) (contents c.word-2.new.writer) c.word.new.self c.word-2.new.self (word n)) (c.nodes.ensures.count) c.in_ok-word-2.ensures.ok in
-    let t1 = handed_then (contents c.args.writer.now) (contents c.word.new.writer) (contents c.word-2.new.writer) c.args.output.now c.word.new.self c.word-2.new.self (b0) b1 h0 h1 in
+    let b1 : List ℕ = word (length h.ranks) in
+    let b2 : List ℕ = long (length h.links) in
+    let b3 : List ℕ = long (length_of h.bound) in
+    let h0 : Puts step contents start c.word.new.self c.args.writer.now c.word.new.writer b0 = c.in_ok-word.ensures.writes in
+    let h1 : Puts step contents c.word.new.self c.word-2.new.self c.word.new.writer c.word-2.new.writer b1 = subst (λ n. Puts step contents c.word.new.self c.word-2.new.self c.word.new.writer c.word-2.new.writer (word n)) c.nodes.ensures.count c.in_ok-word-2.ensures.writes in
+    let t1 = puts_then step contents start c.word.new.self c.word-2.new.self b0 b1 h0 h1 in
     let fault = c.in_err-long.field-0.0 in
-    hands_on c.from_residual-in_err-long.result _ fault c.from_residual-in_err-long.ensures.1 (part_then (contents c.args.writer.now) (contents c.word-2.new.writer) (contents c.long.new.writer) c.args.output.now c.word-2.new.self (b0 ++ b1) b2 b3 (head_bytes Two (length c.args.hierarchy.now.ranks) (length c.args.hierarchy.now.links) c.args.hierarchy.now.bound) fault.written t1 (part_none (contents c.word-2.new.writer) (contents c.long.new.writer) c.word-2.new.self b2 fault.written c.in_err-long.ensures.err) (refl))
+    record {
+      writes = hands_back c.from_residual-in_err-long.result _ _ fault c.from_residual-in_err-long.ensures.1
+          (fails_then step contents start c.word-2.new.self (b0 ++ b1) b2 b3 (head_bytes Two (length h.ranks) (length h.links) h.bound) fault.written t1 (fails_in step contents c.word-2.new.self b2 fault.written c.in_err-long.ensures.writes) refl);
+    }
 
-pub returns-in_err-long-2-clause-err : goal.returns-in_err-long-2-clause-err
+pub returns-in_err-long-2 : goal.returns-in_err-long-2
 unfolding head_bytes word
-returns-in_err-long-2-clause-err g c =
+returns-in_err-long-2 g c =
+    let step = g.W.StepWrite.step in
     let contents = g.W.Write.contents in
+    let start = c.args.output.now in
+    let h = c.args.hierarchy.now in
     let b0 : List ℕ = magic_of Two in
-    let b1 : List ℕ = word (length c.args.hierarchy.now.ranks) in
-    let b2 : List ℕ = long (length c.args.hierarchy.now.links) in
-    let b3 : List ℕ = long (length_of c.args.hierarchy.now.bound) in
-    let h0 : Handed (contents c.args.writer.now) (contents c.word.new.writer) c.args.output.now c.word.new.self b0 = c.in_ok-word.ensures.ok in
-    let h1 : Handed (contents c.word.new.writer) (contents c.word-2.new.writer) c.word.new.self c.word-2.new.self b1 = subst (λ n. Handed (contents c.word.new.writer) (contents c.word-2.new.writer) c.word.new.self c.word-2.new.self (word n)) (c.nodes.ensures.count) c.in_ok-word-2.ensures.ok in
-    let h2 : Handed (contents c.word-2.new.writer) (contents c.long.new.writer) c.word-2.new.self c.long.new.self b2 = subst (λ n. Handed (contents c.word-2.new.writer) (contents c.long.new.writer) c.word-2.new.self c.long.new.self (long n)) (ap (λ (l : List Link). length l) c.links.ensures.links) c.in_ok-long.ensures.ok in
-    let t1 = handed_then (contents c.args.writer.now) (contents c.word.new.writer) (contents c.word-2.new.writer) c.args.output.now c.word.new.self c.word-2.new.self (b0) b1 h0 h1 in
-    let t2 = handed_then (contents c.args.writer.now) (contents c.word-2.new.writer) (contents c.long.new.writer) c.args.output.now c.word-2.new.self c.long.new.self (b0 ++ b1) b2 t1 h2 in
+    let b1 : List ℕ = word (length h.ranks) in
+    let b2 : List ℕ = long (length h.links) in
+    let b3 : List ℕ = long (length_of h.bound) in
+    let h0 : Puts step contents start c.word.new.self c.args.writer.now c.word.new.writer b0 = c.in_ok-word.ensures.writes in
+    let h1 : Puts step contents c.word.new.self c.word-2.new.self c.word.new.writer c.word-2.new.writer b1 = subst (λ n. Puts step contents c.word.new.self c.word-2.new.self c.word.new.writer c.word-2.new.writer (word n)) c.nodes.ensures.count c.in_ok-word-2.ensures.writes in
+    let h2 : Puts step contents c.word-2.new.self c.long.new.self c.word-2.new.writer c.long.new.writer b2 = subst (λ n. Puts step contents c.word-2.new.self c.long.new.self c.word-2.new.writer c.long.new.writer (long n)) (ap (λ (l : List Link). length l) c.links.ensures.links) c.in_ok-long.ensures.writes in
+    let t1 = puts_then step contents start c.word.new.self c.word-2.new.self b0 b1 h0 h1 in
+    let t2 = puts_then step contents start c.word-2.new.self c.long.new.self (b0 ++ b1) b2 t1 h2 in
     let fault = c.in_err-long-2.field-0.0 in
-    hands_on c.from_residual-in_err-long-2.result _ fault c.from_residual-in_err-long-2.ensures.1 (part_then (contents c.args.writer.now) (contents c.long.new.writer) (contents c.long-2.new.writer) c.args.output.now c.long.new.self ((b0 ++ b1) ++ b2) b3 [] (head_bytes Two (length c.args.hierarchy.now.ranks) (length c.args.hierarchy.now.links) c.args.hierarchy.now.bound) fault.written t2 (part_none (contents c.long.new.writer) (contents c.long-2.new.writer) c.long.new.self b3 fault.written c.in_err-long-2.ensures.err) (append-nil (((b0 ++ b1) ++ b2) ++ b3)))
+    record {
+      writes = hands_back c.from_residual-in_err-long-2.result _ _ fault c.from_residual-in_err-long-2.ensures.1
+          (fails_then step contents start c.long.new.self ((b0 ++ b1) ++ b2) b3 [] (head_bytes Two (length h.ranks) (length h.links) h.bound) fault.written t2 (fails_in step contents c.long.new.self b3 fault.written c.in_err-long-2.ensures.writes) (append-nil (((b0 ++ b1) ++ b2) ++ b3)));
+    }
 
-pub returns-clause-ok : goal.returns-clause-ok
+pub returns : goal.returns
 unfolding head_bytes word
-returns-clause-ok g c =
+returns g c =
+    let step = g.W.StepWrite.step in
     let contents = g.W.Write.contents in
+    let start = c.args.output.now in
+    let h = c.args.hierarchy.now in
     let b0 : List ℕ = magic_of Two in
-    let b1 : List ℕ = word (length c.args.hierarchy.now.ranks) in
-    let b2 : List ℕ = long (length c.args.hierarchy.now.links) in
-    let b3 : List ℕ = long (length_of c.args.hierarchy.now.bound) in
-    let h0 : Handed (contents c.args.writer.now) (contents c.word.new.writer) c.args.output.now c.word.new.self b0 = c.in_ok-word.ensures.ok in
-    let h1 : Handed (contents c.word.new.writer) (contents c.word-2.new.writer) c.word.new.self c.word-2.new.self b1 = subst (λ n. Handed (contents c.word.new.writer) (contents c.word-2.new.writer) c.word.new.self c.word-2.new.self (word n)) (c.nodes.ensures.count) c.in_ok-word-2.ensures.ok in
-    let h2 : Handed (contents c.word-2.new.writer) (contents c.long.new.writer) c.word-2.new.self c.long.new.self b2 = subst (λ n. Handed (contents c.word-2.new.writer) (contents c.long.new.writer) c.word-2.new.self c.long.new.self (long n)) (ap (λ (l : List Link). length l) c.links.ensures.links) c.in_ok-long.ensures.ok in
-    let h3 : Handed (contents c.long.new.writer) (contents c.long-2.new.writer) c.long.new.self c.long-2.new.self b3 = subst (λ n. Handed (contents c.long.new.writer) (contents c.long-2.new.writer) c.long.new.self c.long-2.new.self (long n)) (c.length.ensures ∙ ap length_of c.bound.ensures) c.in_ok-long-2.ensures.ok in
-    let t1 = handed_then (contents c.args.writer.now) (contents c.word.new.writer) (contents c.word-2.new.writer) c.args.output.now c.word.new.self c.word-2.new.self (b0) b1 h0 h1 in
-    let t2 = handed_then (contents c.args.writer.now) (contents c.word-2.new.writer) (contents c.long.new.writer) c.args.output.now c.word-2.new.self c.long.new.self (b0 ++ b1) b2 t1 h2 in
-    let t3 = handed_then (contents c.args.writer.now) (contents c.long.new.writer) (contents c.long-2.new.writer) c.args.output.now c.long.new.self c.long-2.new.self ((b0 ++ b1) ++ b2) b3 t2 h3 in
-    t3
-
-pub returns-in_err-word-2-clause-stopped : goal.returns-in_err-word-2-clause-stopped
-returns-in_err-word-2-clause-stopped g c =
-    let step = g.W.StepWrite.step in
-    let t1 = c.in_ok-word.ensures.calls in
-    hands_on c.from_residual-in_err-word-2.result _ _ c.from_residual-in_err-word-2.ensures.1 (stops_later step c.args.output.now c.word.new.self c.in_err-word-2.field-0.0.written t1 c.in_err-word-2.ensures.stopped)
-
-pub returns-in_err-long-clause-stopped : goal.returns-in_err-long-clause-stopped
-returns-in_err-long-clause-stopped g c =
-    let step = g.W.StepWrite.step in
-    let t1 = c.in_ok-word.ensures.calls in
-    let t2 = hands_then step c.args.output.now c.word.new.self c.word-2.new.self t1 c.in_ok-word-2.ensures.calls in
-    hands_on c.from_residual-in_err-long.result _ _ c.from_residual-in_err-long.ensures.1 (stops_later step c.args.output.now c.word-2.new.self c.in_err-long.field-0.0.written t2 c.in_err-long.ensures.stopped)
-
-pub returns-in_err-long-2-clause-stopped : goal.returns-in_err-long-2-clause-stopped
-returns-in_err-long-2-clause-stopped g c =
-    let step = g.W.StepWrite.step in
-    let t1 = c.in_ok-word.ensures.calls in
-    let t2 = hands_then step c.args.output.now c.word.new.self c.word-2.new.self t1 c.in_ok-word-2.ensures.calls in
-    let t3 = hands_then step c.args.output.now c.word-2.new.self c.long.new.self t2 c.in_ok-long.ensures.calls in
-    hands_on c.from_residual-in_err-long-2.result _ _ c.from_residual-in_err-long-2.ensures.1 (stops_later step c.args.output.now c.long.new.self c.in_err-long-2.field-0.0.written t3 c.in_err-long-2.ensures.stopped)
-
-pub returns-clause-calls : goal.returns-clause-calls
-returns-clause-calls g c =
-    let step = g.W.StepWrite.step in
-    let t1 = c.in_ok-word.ensures.calls in
-    let t2 = hands_then step c.args.output.now c.word.new.self c.word-2.new.self t1 c.in_ok-word-2.ensures.calls in
-    let t3 = hands_then step c.args.output.now c.word-2.new.self c.long.new.self t2 c.in_ok-long.ensures.calls in
-    let t4 = hands_then step c.args.output.now c.long.new.self c.long-2.new.self t3 c.in_ok-long-2.ensures.calls in
-    t4
+    let b1 : List ℕ = word (length h.ranks) in
+    let b2 : List ℕ = long (length h.links) in
+    let b3 : List ℕ = long (length_of h.bound) in
+    let h0 : Puts step contents start c.word.new.self c.args.writer.now c.word.new.writer b0 = c.in_ok-word.ensures.writes in
+    let h1 : Puts step contents c.word.new.self c.word-2.new.self c.word.new.writer c.word-2.new.writer b1 = subst (λ n. Puts step contents c.word.new.self c.word-2.new.self c.word.new.writer c.word-2.new.writer (word n)) c.nodes.ensures.count c.in_ok-word-2.ensures.writes in
+    let h2 : Puts step contents c.word-2.new.self c.long.new.self c.word-2.new.writer c.long.new.writer b2 = subst (λ n. Puts step contents c.word-2.new.self c.long.new.self c.word-2.new.writer c.long.new.writer (long n)) (ap (λ (l : List Link). length l) c.links.ensures.links) c.in_ok-long.ensures.writes in
+    let h3 : Puts step contents c.long.new.self c.long-2.new.self c.long.new.writer c.long-2.new.writer b3 = subst (λ n. Puts step contents c.long.new.self c.long-2.new.self c.long.new.writer c.long-2.new.writer (long n)) (c.length.ensures ∙ ap length_of c.bound.ensures) c.in_ok-long-2.ensures.writes in
+    let t1 = puts_then step contents start c.word.new.self c.word-2.new.self b0 b1 h0 h1 in
+    let t2 = puts_then step contents start c.word-2.new.self c.long.new.self (b0 ++ b1) b2 t1 h2 in
+    record { writes = puts_then step contents start c.long.new.self c.long-2.new.self ((b0 ++ b1) ++ b2) b3 t2 h3 }

@@ -7,7 +7,7 @@ use Rattle.counted_io.specs.Limits.{IsRead}
 use Rattle.counted_io.specs.Limits.Laws.{failed_after, read_none, read_then}
 use Rattle.hierfile.specs.declared.error.HierError.TheVariants.{Read}
 use Rattle.hierfile.specs.Bytes.{Buffered, coming}
-use Rattle.hierfile.proofs.Faults.{hands_on}
+use Rattle.hierfile.proofs.ReadParts.{hands_back}
 use Rattle.hierfile.proofs.input.Input.fill.Goals as goal
 
 pub loop-self-init : goal.loop-self-init
@@ -22,11 +22,11 @@ loop-self-init g c =
       calls = subst (λ (b : Buffered). IsRead g.R.StepRead.step b.left input.calls.left c.args.reader.now c.args.reader.now) c.self.view_is (read_none g.R.StepRead.step input.calls.left c.args.reader.now);
     }
 
-pub returns-in_err-more-clause-stopped : goal.returns-in_err-more-clause-stopped
-returns-in_err-more-clause-stopped g c = hands_on c.from_residual.result _ Read c.from_residual.ensures.1 (failed_after g.R.StepRead.step c.loop-self.invariant.calls refl c.in_err-more.ensures.stopped)
+pub returns-in_err-more-clause-reads : goal.returns-in_err-more-clause-reads
+returns-in_err-more-clause-reads g c = hands_back c.from_residual.result _ _ Read c.from_residual.ensures.1 (record { fault = refl; calls = failed_after g.R.StepRead.step c.loop-self.invariant.calls refl c.in_err-more.ensures.stopped })
 
-pub returns-then-more-eq0-clause-calls : goal.returns-then-more-eq0-clause-calls
-returns-then-more-eq0-clause-calls g c = read_then g.R.StepRead.step c.loop-self.invariant.calls c.in_ok-more.ensures.calls
+pub returns-then-more-eq0-clause-reads : goal.returns-then-more-eq0-clause-reads
+returns-then-more-eq0-clause-reads g c = record { bytes = grind (arith, common_steps) steps 600000; calls = read_then g.R.StepRead.step c.loop-self.invariant.calls c.in_ok-more.ensures.calls }
 
 pub loop-self-preserved : goal.loop-self-preserved
 loop-self-preserved g c =
@@ -57,17 +57,11 @@ invariant_of-self-then-more-eq0 c = grind (arith, common_steps) steps 200000
 pub overflow_add-self : goal.overflow_add-self
 overflow_add-self c = grind (arith, common_steps) steps 200000
 
-pub returns-clause-calls : goal.returns-clause-calls
-returns-clause-calls c = grind (arith, common_steps) steps 200000
+pub returns-clause-reads : goal.returns-clause-reads
+returns-clause-reads g c = record { bytes = grind (arith, common_steps) steps 200000; calls = grind (arith, common_steps) steps 200000 }
 
 pub returns-clause-ok : goal.returns-clause-ok
 returns-clause-ok c = grind (arith, common_steps) steps 200000
 
-pub returns-then-more-eq0-clause-keeps : goal.returns-then-more-eq0-clause-keeps
-returns-then-more-eq0-clause-keeps c = grind (arith, common_steps) steps 600000
-
 pub returns-then-more-eq0-clause-ok : goal.returns-then-more-eq0-clause-ok
 returns-then-more-eq0-clause-ok c = grind (arith, common_steps) steps 200000
-
-pub returns-then-more-eq0-clause-stopped : goal.returns-then-more-eq0-clause-stopped
-returns-then-more-eq0-clause-stopped c = grind (arith, common_steps) steps 200000

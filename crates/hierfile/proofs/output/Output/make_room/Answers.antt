@@ -1,5 +1,10 @@
+use Rattle.std.proofs.KnownBytes.{Appends-nil}
 use Rattle.hierfile.proofs.HandCalls.{hands_none}
+use Rattle.std.proofs.Common.{[], refl, arith}
 use Rattle.hierfile.proofs.output.Output.make_room.Goals as goal
 
-pub returns-then-self-ge8-clause-calls : goal.returns-then-self-ge8-clause-calls
-returns-then-self-ge8-clause-calls g c = hands_none g.W.StepWrite.step c.args.self.now c.args.writer.now
+pub returns-then-self-ge8-clause-writes : goal.returns-then-self-ge8-clause-writes
+returns-then-self-ge8-clause-writes g c = record {
+  given = record { taken = []; parts = refl; given = Appends-nil _; counted = omega arith };
+  calls = hands_none g.W.StepWrite.step c.args.self.now c.args.writer.now;
+}
