@@ -6,7 +6,7 @@ use Rattle.std.specs.Result.{IfOk, IfErr, ForOk}
 use Rattle.std.proofs.lemmas.List.{append_assoc, append-nil, length-append}
 use Rattle.counted_io.specs.Handing.{IsGivenBy}
 use Rattle.std.specs.declared.io.Error.{Error}
-use Rattle.counted_io.specs.Limits.{IsReadWithin, ReadsWithin}
+use Rattle.counted_io.specs.Limits.{ReadsWithin}
 use Rattle.grfile.specs.declared.error.GrError.{GrError}
 use Rattle.grfile.specs.declared.error.GrErrorKind.{GrErrorKind}
 use Rattle.grfile.specs.declared.error.GrErrorKind.TheVariants.{OutOfMemory, Read, UnknownLine, NoProblemLine, SecondProblemLine, FieldCount, NotANumber, NodeRange, WeightTooBig, TooManyNodes, TooManyArcs, ArcCount}
@@ -14,6 +14,7 @@ use Rattle.grfile.specs.Lines.{lines_of}
 use Rattle.grfile.specs.Outcome.{◌>>=◌, IsReading, FromText, IsOfLine, SaysNothing, Takes, capped, next_line}
 use Rattle.grfile.specs.Grammar.{Grammar, Listing, listing_after}
 use Rattle.grfile.specs.Taken.{CountsLines, HasTaken, IsAtEndOf, IsReached, IsReachedAfter, StopsAtReached, Taken, line_feeds, told_with}
+use Rattle.grfile.specs.ToTheEnd.{ReachesEnd, ReadsToEnd}
 use Rattle.grfile.proofs.LineCuts.{feeds_both, lines_first}
 use Rattle.grfile.proofs.Readings.{from_text_map}
 
@@ -125,14 +126,15 @@ wants_memory TooManyNodes nothing no_read = absurd nothing
 wants_memory TooManyArcs nothing no_read = absurd nothing
 wants_memory ArcCount nothing no_read = absurd nothing
 
-pub stops_at_end : {A B : Type 0} (r : Result A GrError) (old mid : List ℕ → Result B GrError) (line : ℕ) (had left : Option (List ℕ)) → HasTaken old mid line had left → IfErr r (IsAtEndOf line) → IfErr r (StopsAtReached had left)
-stops_at_end (Ok x) old mid line had left taken ends = tt
-stops_at_end (Err e) old mid line had left taken ends = stops_between old mid line had left e taken (λ nothing. ends.memory (wants_memory e.kind nothing ends.no_read))
-
 -- what is known of a piece that came
 pub at_some : (A : Type 0) (P : ℕ → Type 0) (o : Option ℕ) (n : ℕ) → o ≡ Some n → MatchOption o A P → P n
 at_some A P None n is known = absurd (cc)
 at_some A P (Some m) n is known = let same : m ≡ n = cc in subst P same known
+
+-- and that none came
+pub at_none : (A : Type 0) (P : ℕ → Type 0) (o : Option ℕ) → o ≡ None → MatchOption o A P → A
+at_none A P None is known = known
+at_none A P (Some m) is known = absurd (cc)
 
 -- How many calls were made
 
@@ -144,11 +146,14 @@ pub nothing_taken : (had : Option (List ℕ)) → IfSome had (λ text. MatchOpti
 nothing_taken None = tt
 nothing_taken (Some text) = refl
 
--- a refusal at the end is of no failed read
-pub unfailed_at_end : {A S : Type 0} (step : S → S → Result ℕ Error → Type 0) (most : ℕ) (r : Result A GrError) (line : ℕ) {old new : S} → IfErr r (IsAtEndOf line) → IsReadWithin step most old new
-    → IfErr r (λ e. ReadsWithin step most (e.kind ≡ Read) old new)
-unfailed_at_end step most (Ok x) line refused reads = tt
-unfailed_at_end step most (Err e) line refused reads = ReadsWithin.reads_on refused.no_read reads
+-- what is told of the end is refused by no failed read
+pub reads_at_end : {S A B : Type 0} (step : S → S → Result ℕ Error → Type 0) (remaining : S → Option (List ℕ)) {most : ℕ} {from to : S} (r : Result A GrError) (old mid : List ℕ → Result B GrError) (line : ℕ) → HasTaken old mid line (remaining from) (remaining to) → IfErr r (IsAtEndOf line) → ReachesEnd step remaining most from to
+    → ReadsToEnd step remaining most from to r
+reads_at_end step remaining (Ok x) old mid line taken refused whole = whole
+reads_at_end step remaining {from = from} {to = to} (Err e) old mid line taken refused whole = record {
+  reached = stops_between old mid line (remaining from) (remaining to) e taken (λ nothing. refused.memory (wants_memory e.kind nothing refused.no_read));
+  calls = ReadsWithin.reads_on refused.no_read whole.calls;
+}
 
 pub within_first : (had : Option (List ℕ)) (after before : ℕ) → after ≤ before → IsWithin had had after before
 within_first None after before fewer = tt

@@ -9,3 +9,4 @@ pub mod Pairs
 pub mod Reading
 pub mod Taken
 pub mod PlainLines
+pub mod ToTheEnd

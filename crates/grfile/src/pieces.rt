@@ -2,14 +2,14 @@ ghost use Rattle.std.specs.Prelude.{◌≡◌, ◌+◌, ◌<◌, ◌≤◌, ◌�
 ghost use Rattle.std.specs.Io.KnownBytes.{Consumes, IsAtEnd, Keeps};
 ghost use Rattle.std.specs.Option.{option_map};
 ghost use Rattle.std.specs.Str.Lines.{strip_carriage_return};
-ghost use Rattle.counted_io.specs.Handing.{IsGivenBy};
-ghost use Rattle.counted_io.specs.Limits.{GivesOut, IsRead, IsReadWithin, ReadsWithin};
+ghost use Rattle.counted_io.specs.Limits.{GivesOut, IsRead};
 ghost use Rattle.counted_io.specs.declared.TheConstants.{MOST_CALLS};
 ghost use Rattle.grfile.specs.Lines.{lines_of};
 ghost use Rattle.grfile.specs.Outcome.{IsReading, FromText, IsOfLine, Takes, capped, next_line};
 ghost use Rattle.grfile.specs.Grammar.{listing_after};
 ghost use Rattle.grfile.specs.Progress.{listing_of, listing_from, told_from};
-ghost use Rattle.grfile.specs.Taken.{CountsLines, HasTaken, IsAtEndOf, IsReached, StopsAtReached, TakesLine, line_feeds, lines_after, taken_of, told_with};
+ghost use Rattle.grfile.specs.Taken.{CountsLines, HasTaken, IsAtEndOf, IsReached, TakesLine, line_feeds, lines_after, taken_of, told_with};
+ghost use Rattle.grfile.specs.ToTheEnd.{ReadsToEnd};
 ghost use Rattle.grfile.specs.declared.error.GrErrorKind.TheVariants.{OutOfMemory, Read};
 
 use crate::error::{GrError, GrErrorKind};
@@ -194,11 +194,7 @@ pub(crate) fn read_listing<F: Form, R: StepRead>(
 ) -> Result<Listed<F::Entry>, GrError>
     ensures told { IfSome (R.remaining reader.old) (λ text. IsReading listing_of result (listing_after (F.grammar form) 0 (lines_of text))) }
     ensures listed { IfOk result (λ listed. (text : List ℕ) × (listing_after (F.grammar form) 0 (lines_of text) ≡ Ok (listing_of listed))) }
-    ensures ended { OnOk result (IsAtEnd (R.remaining reader.new)) }
-    ensures few { OnOk result (IsGivenBy (min calls MOST_CALLS) (R.remaining reader.old)) }
-    ensures reached { IfErr result (StopsAtReached (R.remaining reader.old) (R.remaining reader.new)) }
-    ensures calls { OnOk result (IsReadWithin R.step (min calls MOST_CALLS) reader.old reader.new) }
-    ensures stopped { IfErr result (λ e. ReadsWithin R.step (min calls MOST_CALLS) (e.kind ≡ Read) reader.old reader.new) }
+    ensures reads { ReadsToEnd R.step R.remaining (min calls MOST_CALLS) reader.old reader.new result }
 {
     let mut pieces = Pieces::new(alloc);
     feed_all(&mut pieces, form, reader, calls)?;
@@ -216,12 +212,8 @@ fn feed_all<F: Form, R: StepRead>(
     requires begins { pieces.old.progress.line ≡ 0 }
     ensures ok { OnOk result (HasTaken (told_with (F.grammar form) (taken_of pieces.old)) (told_with (F.grammar form) (taken_of pieces.new)) pieces.new.progress.line (R.remaining reader.old) (R.remaining reader.new)) }
     ensures stays { OnOk result (pieces.new.failed ≡ None) }
-    ensures ended { OnOk result (IsAtEnd (R.remaining reader.new)) }
-    ensures few { OnOk result (IsGivenBy (min calls MOST_CALLS) (R.remaining reader.old)) }
     ensures err { IfErr result (λ e. IfSome (R.remaining reader.old) (λ text. FromText e.kind (told_with (F.grammar form) (taken_of pieces.old) text ≡ Err e))) }
-    ensures reached { IfErr result (StopsAtReached (R.remaining reader.old) (R.remaining reader.new)) }
-    ensures calls { OnOk result (IsReadWithin R.step (min calls MOST_CALLS) reader.old reader.new) }
-    ensures stopped { IfErr result (λ e. ReadsWithin R.step (min calls MOST_CALLS) (e.kind ≡ Read) reader.old reader.new) }
+    ensures reads { ReadsToEnd R.step R.remaining (min calls MOST_CALLS) reader.old reader.new result }
 {
     let mut calls = ReadCalls::new(calls);
     let mut piece = [0u8; 65536];

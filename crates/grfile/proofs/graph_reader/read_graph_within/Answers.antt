@@ -15,3 +15,8 @@ new-requires g c = let listed = c.in_ok-size.ensures.listed in
 
 pub returns-clause-reading : goal.returns-clause-reading
 returns-clause-reading g c = rw c.new.ensures (graph_read_known (g.R.Read.remaining c.args.reader.now) _ c.in_ok-size.ensures.told)
+
+pub returns-in_err-size-clause-stopped : goal.returns-in_err-size-clause-stopped
+returns-in_err-size-clause-stopped g c =
+    let exit = err_from_is_err_and c.from_residual.result c.from_residual.ensures.1 in
+    rw (exit.1, exit.2) c.in_err-size.ensures.reads.calls

@@ -4,7 +4,7 @@ use Rattle.std.proofs.lemmas.Result.{err_from_is_err_and}
 use Rattle.std.proofs.lemmas.Grind.{common_steps}
 use Rattle.grfile.specs.declared.error.GrError.{GrError}
 use Rattle.grfile.specs.Taken.{taken_of, told_with}
-use Rattle.grfile.proofs.Cuttings.{at_some, nothing_taken, stops_in_piece, taken_more, within_first, within_more}
+use Rattle.grfile.proofs.Cuttings.{at_none, at_some, nothing_taken, stops_between, stops_in_piece, taken_more, taken_same, within_end, within_first, within_more}
 use Rattle.counted_io.specs.Limits.{IsRead}
 use Rattle.counted_io.specs.Limits.Laws.{failed_after, read_none, read_then, refused_after}
 use Rattle.grfile.proofs.pieces.feed_all.Goals as goal
@@ -26,26 +26,32 @@ loop-count-preserved g c =
       calls = read_then g.R.StepRead.step kept.calls c.in_ok-count.ensures.calls;
     }
 
-pub returns-in_err-feed-clause-reached : goal.returns-in_err-feed-clause-reached
-returns-in_err-feed-clause-reached g c =
+pub returns-in_err-feed-clause-reads : goal.returns-in_err-feed-clause-reads
+returns-in_err-feed-clause-reads g c =
+    let step = g.R.StepRead.step in
     let grammar = g.F.Form.grammar c.args.form in
     let kept = c.loop-count.invariant in
     let given = at_some _ _ _ _ c.in-Some.is c.in_ok-count.ensures.bytes in
     let chunk = take c.in-Some.count c.read_piece.new.piece in
     let short : length chunk ≤ 65536 = omega (arith, given.0, length-take-le c.in-Some.count c.read_piece.new.piece given.0) in
     let exit = err_from_is_err_and c.from_residual-in_err-feed.result c.from_residual-in_err-feed.ensures.1 in
-    rw (exit.1, exit.2) (stops_in_piece (told_with grammar (taken_of c.args.pieces.now)) (told_with grammar (taken_of c.loop-count.pieces)) c.loop-count.pieces.progress.line _ (g.R.Read.remaining c.args.reader.now) (g.R.Read.remaining c.loop-count.reader) (g.R.Read.remaining c.read_piece.new.reader) chunk _ kept.told given.1 short (c.in_err-feed.ensures.lines kept.fresh))
+    let reached = c.in_err-feed.ensures.lines kept.fresh in
+    rw (exit.1, exit.2) (record {
+      reached = stops_in_piece (told_with grammar (taken_of c.args.pieces.now)) (told_with grammar (taken_of c.loop-count.pieces)) c.loop-count.pieces.progress.line _ (g.R.Read.remaining c.args.reader.now) (g.R.Read.remaining c.loop-count.reader) (g.R.Read.remaining c.read_piece.new.reader) chunk _ kept.told given.1 short reached;
+      calls = refused_after step (read_then step kept.calls c.in_ok-count.ensures.calls) reached.no_read;
+    })
 
-pub returns-in_err-count-clause-stopped : goal.returns-in_err-count-clause-stopped
-returns-in_err-count-clause-stopped g c =
-    let exit = err_from_is_err_and c.from_residual.result c.from_residual.ensures.1 in
-    rw (exit.1, exit.2) (failed_after g.R.StepRead.step c.loop-count.invariant.calls (ap (λ (e : GrError). e.kind) c.in_err-count.ensures.refused.0) c.in_err-count.ensures.gave_out)
-
-pub returns-in_err-feed-clause-stopped : goal.returns-in_err-feed-clause-stopped
-returns-in_err-feed-clause-stopped g c =
+pub returns-in_err-count-clause-reads : goal.returns-in_err-count-clause-reads
+returns-in_err-count-clause-reads g c =
+    let grammar = g.F.Form.grammar c.args.form in
     let kept = c.loop-count.invariant in
-    let exit = err_from_is_err_and c.from_residual-in_err-feed.result c.from_residual-in_err-feed.ensures.1 in
-    rw (exit.1, exit.2) (refused_after g.R.StepRead.step (read_then g.R.StepRead.step kept.calls c.in_ok-count.ensures.calls) (c.in_err-feed.ensures.lines kept.fresh).no_read)
+    let e = c.in_err-count.ensures.refused in
+    let exit = err_from_is_err_and c.from_residual.result c.from_residual.ensures.1 in
+    let told = taken_same (told_with grammar (taken_of c.args.pieces.now)) (told_with grammar (taken_of c.loop-count.pieces)) c.loop-count.pieces.progress.line (g.R.Read.remaining c.args.reader.now) (g.R.Read.remaining c.loop-count.reader) (g.R.Read.remaining c.read_piece.new.reader) kept.told e.1 in
+    rw (exit.1, exit.2) (record {
+      reached = stops_between (told_with grammar (taken_of c.args.pieces.now)) (told_with grammar (taken_of c.loop-count.pieces)) c.loop-count.pieces.progress.line (g.R.Read.remaining c.args.reader.now) (g.R.Read.remaining c.read_piece.new.reader) _ told (λ _. ap (λ (e : GrError). e.line) e.0);
+      calls = failed_after g.R.StepRead.step kept.calls (ap (λ (e : GrError). e.kind) e.0) c.in_err-count.ensures.gave_out;
+    })
 
 pub loop-count-init : goal.loop-count-init
 loop-count-init g c =
@@ -60,8 +66,18 @@ loop-count-init g c =
       calls = subst (λ n. IsRead step n left reader reader) c.new-calls.ensures (read_none step left reader);
     }
 
-pub returns-clause-calls : goal.returns-clause-calls
-returns-clause-calls g c = (c.read_piece.new.calls.left, read_then g.R.StepRead.step c.loop-count.invariant.calls c.in_ok-count.ensures.calls)
+pub returns-clause-reads : goal.returns-clause-reads
+returns-clause-reads g c =
+    let had = g.R.Read.remaining c.args.reader.now in
+    let left = g.R.Read.remaining c.loop-count.reader in
+    let later = g.R.Read.remaining c.read_piece.new.reader in
+    let kept = c.loop-count.invariant in
+    let none = at_none _ _ _ c.in_default.is c.in_ok-count.ensures.bytes in
+    record {
+      ended = none.0;
+      few = within_end had left later c.read_piece.new.calls.left c.loop-count.calls.left _ kept.few none.1 none.0 c.in_ok-count.ensures.counted;
+      calls = (c.read_piece.new.calls.left, read_then g.R.StepRead.step kept.calls c.in_ok-count.ensures.calls);
+    }
 
 pub loop-count-smaller : goal.loop-count-smaller
 loop-count-smaller c = grind (arith, common_steps) steps 200000

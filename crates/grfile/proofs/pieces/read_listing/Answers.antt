@@ -1,7 +1,7 @@
 use Rattle.std.proofs.lemmas.Result.{err_from_is_err_and}
 use Rattle.grfile.specs.Progress.{listing_of}
 use Rattle.grfile.specs.Taken.{taken_of, told_with}
-use Rattle.grfile.proofs.Cuttings.{first_fault, unfailed_at_end, stops_at_end, told_all, told_some}
+use Rattle.grfile.proofs.Cuttings.{first_fault, reads_at_end, told_all, told_some}
 use Rattle.grfile.proofs.pieces.read_listing.Goals as goal
 
 pub returns-in_err-feed_all-clause-told : goal.returns-in_err-feed_all-clause-told
@@ -10,15 +10,12 @@ returns-in_err-feed_all-clause-told g c =
     rw (exit.1, exit.2) (first_fault (g.F.Form.grammar c.args.form) (taken_of c.new-pieces.result) c.new-pieces.ensures (g.R.Read.remaining c.args.reader.now) _ c.in_err-feed_all.ensures.err)
 
 pub returns-clause-told : goal.returns-clause-told
-returns-clause-told g c = told_all (g.F.Form.grammar c.args.form) (taken_of c.new-pieces.result) c.new-pieces.ensures listing_of (taken_of c.feed_all.new.pieces) c.finish.result (g.R.Read.remaining c.args.reader.now) (g.R.Read.remaining c.feed_all.new.reader) c.in_ok-feed_all.ensures.ok c.in_ok-feed_all.ensures.ended c.finish.ensures.told
+returns-clause-told g c = told_all (g.F.Form.grammar c.args.form) (taken_of c.new-pieces.result) c.new-pieces.ensures listing_of (taken_of c.feed_all.new.pieces) c.finish.result (g.R.Read.remaining c.args.reader.now) (g.R.Read.remaining c.feed_all.new.reader) c.in_ok-feed_all.ensures.ok c.in_ok-feed_all.ensures.reads.ended c.finish.ensures.told
 
 pub returns-clause-listed : goal.returns-clause-listed
 returns-clause-listed g c = told_some (g.F.Form.grammar c.args.form) (taken_of c.new-pieces.result) c.new-pieces.ensures listing_of (taken_of c.feed_all.new.pieces) c.finish.result (g.R.Read.remaining c.args.reader.now) (g.R.Read.remaining c.feed_all.new.reader) c.in_ok-feed_all.ensures.ok c.finish.ensures.told
 
-pub returns-clause-reached : goal.returns-clause-reached
-returns-clause-reached g c =
+pub returns-clause-reads : goal.returns-clause-reads
+returns-clause-reads g c =
     let grammar = g.F.Form.grammar c.args.form in
-    stops_at_end c.finish.result (told_with grammar (taken_of c.new-pieces.result)) (told_with grammar (taken_of c.feed_all.new.pieces)) c.feed_all.new.pieces.progress.line (g.R.Read.remaining c.args.reader.now) (g.R.Read.remaining c.feed_all.new.reader) c.in_ok-feed_all.ensures.ok (c.finish.ensures.refused c.in_ok-feed_all.ensures.stays)
-
-pub returns-clause-stopped : goal.returns-clause-stopped
-returns-clause-stopped g c = unfailed_at_end g.R.StepRead.step _ c.finish.result c.feed_all.new.pieces.progress.line (c.finish.ensures.refused c.in_ok-feed_all.ensures.stays) c.in_ok-feed_all.ensures.calls
+    reads_at_end g.R.StepRead.step g.R.Read.remaining c.finish.result (told_with grammar (taken_of c.new-pieces.result)) (told_with grammar (taken_of c.feed_all.new.pieces)) c.feed_all.new.pieces.progress.line c.in_ok-feed_all.ensures.ok (c.finish.ensures.refused c.in_ok-feed_all.ensures.stays) c.in_ok-feed_all.ensures.reads

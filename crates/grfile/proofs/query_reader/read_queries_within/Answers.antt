@@ -15,3 +15,8 @@ returns-clause-reading g c = pairs_read_known c.args.nodes (g.R.Read.remaining c
 pub returns-clause-in_range : goal.returns-clause-in_range
 returns-clause-in_range g c = let listed = c.in_ok-listed.ensures.listed in
     IfOk-at_ok _ listed.1 (pairs_listed c.args.nodes 0 (lines_of listed.0))
+
+pub returns-in_err-listed-clause-stopped : goal.returns-in_err-listed-clause-stopped
+returns-in_err-listed-clause-stopped g c =
+    let exit = err_from_is_err_and c.from_residual.result c.from_residual.ensures.1 in
+    rw (exit.1, exit.2) c.in_err-listed.ensures.reads.calls
