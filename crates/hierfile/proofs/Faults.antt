@@ -140,3 +140,9 @@ truncated_is_no_read is = cc
 
 pub magic_is_no_read : BadMagic ≡ Read → ⊥
 magic_is_no_read is = cc
+
+pub missing_is_no_read : HalfMissing ≡ Read → ⊥
+missing_is_no_read is = cc
+
+pub sum_is_no_read : HalfSum ≡ Read → ⊥
+sum_is_no_read is = cc

@@ -1,5 +1,5 @@
 -- What is known of the bytes of a reader and of a writer on the way.
-use Rattle.std.specs.Prelude.{ℕ, ◌≡◌, ◌≢◌, ◌+◌, ◌-◌, take, ◌^◌, ◌<◌, List, ◌++◌, length, Option, Some, None, IfSome, IfOk, IfErr, Result, Ok, Err, ⊤}
+use Rattle.std.specs.Prelude.{ℕ, ◌≡◌, ◌≢◌, ◌+◌, ◌-◌, take, ◌^◌, ◌<◌, List, ◌++◌, length, Option, Some, None, IfSome, IfOk, IfErr, Result, Ok, Err}
 use Rattle.std.specs.Io.KnownBytes.{Appends, prepend_known}
 use Rattle.std.specs.declared.io.Error.{Error}
 use Rattle.counted_io.specs.Handing.{HandsOn}
@@ -36,7 +36,7 @@ abbrev pub IsFaultOf : (List ℕ → Option HierError) → Option (List ℕ) →
 IsFaultOf fault_of bytes e = OfBytes e (IfSome bytes (λ known. fault_of known ≡ Some e))
 
 -- a test answers this fault, or none; it reads nothing, so Read is no fault of a test
-abbrev pub Tells : Result ⊤ HierError → Option HierError → Type 0
+abbrev pub Tells : {X : Type 0} → Result X HierError → Option HierError → Type 0
 Tells (Ok x) fault = fault ≡ None
 Tells (Err e) fault = (fault ≡ Some e) × (e ≢ Read)
 

@@ -198,9 +198,7 @@ fn parts_of(links: &[Link], index: &LinkIndex, link: Link) -> Result<Parts, Hier
     requires sorted { AllPairs ComesBefore links.now }
     requires index { IsIndexOf links.now index.now }
     ensures parts { IfOk result (ArePartsOf links.now link) }
-    ensures faultless { OnOk result (half_fault links.now link ≡ None) }
-    ensures err { IfErr result (λ e. half_fault links.now link ≡ Some e) }
-    ensures no_read { IfErr result (λ e. e ≢ HierError.Read) }
+    ensures told { Tells result (half_fault links.now link) }
 {
     let Some(middle) = link.middle else {
         return Ok(Parts::Arc(link.to));
