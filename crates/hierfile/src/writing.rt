@@ -17,7 +17,7 @@ use counted_io::{MOST_CALLS, StepWrite, WriteFault};
 /// The magic of version 2, as a number of four bytes.
 const MAGIC: u32 = 0x5243_4832;
 
-/// WritesPart a hierarchy of version 2 to a file.
+/// Writes a hierarchy of version 2 to a file.
 ///
 /// On Ok the writer took the spelling of the hierarchy, and on a fault its first `written` bytes. An interrupted call
 /// of the writer is tried again; one that takes no byte is a failure, and so is the end of 2^40 calls. Takes no
@@ -32,7 +32,7 @@ pub fn write<W: StepWrite>(hierarchy: &Hierarchy, writer: &mut W) -> Result<(), 
     write_within(hierarchy, writer, MOST_CALLS)
 }
 
-/// WritesPart as [`write`] does, by so many calls of the writer, or 2^40 where they are more. After the last of them it has
+/// Writes as [`write`] does, by so many calls of the writer, or 2^40 where they are more. After the last of them it has
 /// failed.
 pub fn write_within<W: StepWrite>(
     hierarchy: &Hierarchy,
@@ -53,7 +53,7 @@ pub fn write_within<W: StepWrite>(
     Ok(())
 }
 
-// WritesPart the magic of version 2, how many nodes and links there are, and the bound.
+// Writes the magic of version 2, how many nodes and links there are, and the bound.
 fn write_head<W: StepWrite>(
     hierarchy: &Hierarchy,
     output: &mut Output,
@@ -68,7 +68,7 @@ fn write_head<W: StepWrite>(
     Ok(())
 }
 
-// WritesPart the rank of each node.
+// Writes the rank of each node.
 fn write_ranks<W: StepWrite>(
     hierarchy: &Hierarchy,
     output: &mut Output,
@@ -82,7 +82,7 @@ fn write_ranks<W: StepWrite>(
     Ok(())
 }
 
-// WritesPart each link, as version 2 has it.
+// Writes each link, as version 2 has it.
 fn write_links<W: StepWrite>(
     links: &[Link],
     output: &mut Output,
@@ -97,7 +97,7 @@ fn write_links<W: StepWrite>(
     Ok(())
 }
 
-// WritesPart one link, as version 2 has it.
+// Writes one link, as version 2 has it.
 fn write_link<W: StepWrite>(
     link: Link,
     output: &mut Output,
