@@ -9,6 +9,7 @@ use ch_multiqueue::MultiQueue;
 use ch_rowbook::Reader;
 use std::alloc::{AllocError, Global};
 use std::hint;
+use std::sync::atomic::{AtomicU64, Ordering};
 use std::sync::{Mutex, MutexGuard, Wait};
 
 /// How often a thread tries a lock that another one holds, before it sleeps until the lock is free. A commit takes less
@@ -18,7 +19,7 @@ const TRIES: u32 = 1000;
 /// What the rows that are replaced in a shift may weigh for each node of the network, in entries.
 const ROOM: u64 = 12;
 
-/// How many nodes a worker contracts at least before its shift is over.
+/// How many nodes are contracted at least before a shift is over.
 const FEWEST: u64 = 16;
 
 /// What the workers of a build share in a shift: the board behind its lock, the queue of the nodes that wait, and the
@@ -30,8 +31,10 @@ pub(crate) struct Shared<S: Site> {
     pub(crate) queue: MultiQueue,
     pub(crate) options: Options,
     pub(crate) nodes: u32,
-    /// What the rows weigh after whose replacement a worker's shift is over.
+    /// What the rows weigh after whose replacement a shift is over, by all workers together.
     pub(crate) room: u64,
+    /// What the rows weigh that were replaced so far, by all workers together.
+    replaced: AtomicU64,
     ghost some: { 0 < options.settle },
     ghost few: { options.settle ≤ 65536 },
     ghost workers: { 0 < options.workers },
@@ -50,7 +53,7 @@ impl<S: Site> Shared<S> {
         requires workers { 0 < options.workers }
     {
         let nodes = board.graph().nodes();
-        let room = room(nodes, options.workers);
+        let room = FEWEST.max(ROOM * u64::from(nodes));
         Shared {
             alloc,
             board: Mutex::new(board),
@@ -58,6 +61,7 @@ impl<S: Site> Shared<S> {
             options,
             nodes,
             room,
+            replaced: AtomicU64::new(0),
         }
     }
 
@@ -90,6 +94,12 @@ impl<S: Site> Shared<S> {
         requires bound { proposal.now.bound ≡ S.book.bound }
     {
         self.hold(rt).commit_and_see(rt, proposal, reader)
+    }
+
+    /// Adds what the rows weigh that a commit replaced. Answers whether the shift is over with them.
+    pub(crate) fn is_over_with(&self, weight: u64) -> bool {
+        let before = self.replaced.fetch_add(weight, Ordering::Relaxed);
+        before.saturating_add(weight) >= self.room
     }
 
     /// Tells a listener the entry of this rank, which is its next, by a copy, if the log has it. Answers how many entries
@@ -153,13 +163,6 @@ impl<S: Site> Shared<S> {
 pub(crate) fn weight(facts: Facts, room: u64) -> u64 {
     let arcs = u64::from(facts.ins) + u64::from(facts.outs);
     arcs.saturating_mul(arcs + 6).min(room / FEWEST)
-}
-
-/// The room of one of so many workers, in a network of so many nodes.
-fn room(nodes: u32, workers: u32) -> u64
-    requires { 0 < workers }
-{
-    FEWEST.max(ROOM * u64::from(nodes) / u64::from(workers))
 }
 
 /// Makes a copy the same as an entry of the log. It keeps its memory.

@@ -26,7 +26,7 @@ impl From<AllocError> for Refused {
 /// How a worker's shift was over.
 #[derive(Drop)]
 enum Shift {
-    /// The worker replaced as many rows as it may, and goes on in the next shift.
+    /// As many rows were replaced as may be, by all workers together. The worker goes on in the next shift.
     GoesOn,
     /// The worker has taken all its turns, or found no item.
     Ended,
@@ -90,13 +90,11 @@ impl<E: Estimator> Worker<E> {
             self.is_ready = true;
         }
         let turns = self.turns;
-        let mut replaced = 0u64;
         'turns: for turn in 0..turns {
             let Turn::Taken(weight) = self.turn(rt, shared, gate, reader)? else {
                 return Ok(Shift::Ended);
             };
-            replaced = replaced.saturating_add(weight);
-            if replaced >= shared.room {
+            if shared.is_over_with(weight) {
                 self.turns = turns - turn - 1;
                 return Ok(Shift::GoesOn);
             }

@@ -30,26 +30,28 @@ pub(crate) fn cliques(alloc: Global, nodes: u32) -> Result<Graph, Fail> {
     Ok(graph)
 }
 
-/// How many shifts a worker of a build has brought to an end by what it committed, and not by its own end: its shift is
-/// over with the commit by which its commits in it weigh as much as its room, as docs/ALGORITHM.md has both.
-pub(crate) fn shifts_of(built: &Built, worker: usize) -> u64 {
+/// How many shifts of a build were over by what its workers committed, and not by their end, at least. A shift is over
+/// once the commits of all workers in it weigh as much as the room, as docs/ALGORITHM.md has both; so they weigh less than
+/// the room and, for each worker, what its last commit weighs at most.
+pub(crate) fn shifts_of(built: &Built) -> u64 {
     let nodes = built.log.len() as u64;
-    let workers = built.receipts.len().saturating_sub(1) as u64;
-    let all = nodes.saturating_mul(12);
-    let room = all.checked_div(workers).unwrap_or(0).max(16);
-    let Some(receipts) = built.receipts.get(worker) else {
-        return 0;
-    };
+    let room = nodes.saturating_mul(12).max(16);
+    let workers = built.receipts.len().saturating_sub(1);
     let mut weight = 0u64;
-    let mut ended = 0u64;
-    'receipts: for receipt in receipts {
-        weight = weight.saturating_add(weight_of(built.log.as_slice(), *receipt, room));
-        if weight >= room {
-            weight = 0;
-            ended = ended.saturating_add(1);
-        }
+    'workers: for receipts in built.receipts.iter().take(workers) {
+        weight = weight.saturating_add(weight_of_all(built.log.as_slice(), receipts, room));
     }
-    ended
+    let most = room.saturating_add((room / 16).saturating_mul(workers as u64));
+    weight.checked_div(most).unwrap_or(0)
+}
+
+/// What the contractions of a worker's receipts weigh.
+fn weight_of_all(log: &[Contraction], receipts: &[Receipt], room: u64) -> u64 {
+    let mut weight = 0u64;
+    'receipts: for receipt in receipts {
+        weight = weight.saturating_add(weight_of(log, *receipt, room));
+    }
+    weight
 }
 
 /// What the contraction of a receipt weighs: its node had an arc to each of its neighbours, and one from it.
