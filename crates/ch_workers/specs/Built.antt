@@ -1,8 +1,10 @@
 -- What a build comes to.
-use Rattle.std.specs.Prelude.{ℕ, List, codes}
+use Rattle.std.specs.Prelude.{ℕ, ◌≡◌, List, codes, map, vec_len}
 use Rattle.ch_graph.specs.Graph.{Graph}
-use Rattle.ch_graph.specs.Hierarchy.{Hierarchy}
+use Rattle.ch_graph.specs.Hierarchy.{Hierarchy, IsRight}
 use Rattle.ch_laws.specs.Contraction.{Contraction, State, IsReached, IsOver, IsMade}
+use Rattle.ch_workers.specs.Account.{IsAccount}
+use Rattle.ch_workers.specs.declared.built.Built.{Built}
 use Rattle.ch_workers.specs.declared.error.BuildError.{BuildError}
 use Rattle.ch_workers.specs.declared.error.BuildError.TheVariants.{OutOfMemory, BadOptions, Mixed}
 
@@ -13,6 +15,14 @@ pub record IsMadeBy (graph : Graph) (log : List Contraction) (hierarchy : Hierar
   pub reached : IsReached graph log state
   pub over : IsOver state
   pub made : IsMade graph state hierarchy
+
+-- What was built of a graph, with so many lists of receipts: the hierarchy is the one to which the log leads from the
+-- graph, it is right for the graph, and the receipts account for the log.
+pub record IsBuilt (graph : Graph) (count : ℕ) (b : Built) : Type 0 where
+  pub made : IsMadeBy graph b.log.items b.hierarchy
+  pub right : IsRight graph b.hierarchy
+  pub account : IsAccount b.log.items (map (λ v. v.items) b.receipts.items)
+  pub lists : vec_len b.receipts ≡ count
 
 -- an error's name, as it is printed
 abbrev pub error_name : BuildError → List ℕ

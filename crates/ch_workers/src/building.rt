@@ -1,7 +1,7 @@
 ghost use Rattle.std.specs.Prelude.{◌≡◌, ◌+◌, ◌<◌, ◌≤◌, ◌↔◌, [], All, IfOk, map, vec_len};
 ghost use Rattle.ch_graph.specs.Hierarchy.{IsRight};
 ghost use Rattle.ch_workers.specs.Account.{IsAccount};
-ghost use Rattle.ch_workers.specs.Built.{IsMadeBy};
+ghost use Rattle.ch_workers.specs.Built.{IsMadeBy, IsBuilt};
 ghost use Rattle.ch_workers.specs.Options.{AreBad, AreGood};
 ghost use Rattle.ch_workers.specs.declared.error.BuildError.TheVariants.{BadOptions};
 
@@ -67,10 +67,7 @@ fn build_with_good<G: Gate, R: Threads + Wait + Sync>(
 ) -> Result<Built, BuildError>
     requires untold { All (λ list. All (λ estimator. heard estimator ≡ []) list.items) estimators.items }
     ensures bad { (result ≡ Err BadOptions) ↔ AreBad options (vec_len estimators) }
-    ensures built { IfOk result (λ b. IsMadeBy graph b.log.items b.hierarchy) }
-    ensures right { IfOk result (λ b. IsRight graph b.hierarchy) }
-    ensures account { IfOk result (λ b. IsAccount b.log.items (map (λ v. v.items) b.receipts.items)) }
-    ensures lists { IfOk result (λ b. vec_len b.receipts ≡ options.workers + 1) }
+    ensures built { IfOk result (IsBuilt graph (options.workers + 1)) }
 {
     if options.are_bad(estimators.len()) {
         return Err(BuildError::BadOptions);
@@ -96,10 +93,7 @@ fn build_by_good<G: Gate, R: Threads + Wait + Sync>(
 ) -> Result<Built, Trouble>
     requires good { AreGood options (vec_len estimators) }
     requires untold { All (λ list. All (λ estimator. heard estimator ≡ []) list.items) estimators.items }
-    ensures built { IfOk result (λ b. IsMadeBy graph b.log.items b.hierarchy) }
-    ensures right { IfOk result (λ b. IsRight graph b.hierarchy) }
-    ensures account { IfOk result (λ b. IsAccount b.log.items (map (λ v. v.items) b.receipts.items)) }
-    ensures lists { IfOk result (λ b. vec_len b.receipts ≡ options.workers + 1) }
+    ensures built { IfOk result (IsBuilt graph (options.workers + 1)) }
 {
     let lists = box_lists(alloc, estimators)?;
     let ledger = Ledger::new(alloc, graph)?;
@@ -119,10 +113,7 @@ fn finish_beside<R: Threads + Wait + Sync>(
 ) -> Result<Built, Trouble>
     requires some { 0 < settle }
     requires few { settle ≤ 65536 }
-    ensures built { IfOk result (λ b. IsMadeBy worked.ledger.graph b.log.items b.hierarchy) }
-    ensures right { IfOk result (λ b. IsRight worked.ledger.graph b.hierarchy) }
-    ensures account { IfOk result (λ b. IsAccount b.log.items (map (λ v. v.items) b.receipts.items)) }
-    ensures lists { IfOk result (λ b. vec_len b.receipts ≡ vec_len worked.receipts + 1) }
+    ensures built { IfOk result (IsBuilt worked.ledger.graph (vec_len worked.receipts + 1)) }
 {
     let Some(waiting) = waiting else {
         return finish(rt, alloc, worked, settle, disposal);
@@ -132,10 +123,7 @@ fn finish_beside<R: Threads + Wait + Sync>(
         move || waiting.end(),
         move || -> Result<Built, Trouble>
             requires { (0 < settle) × (settle ≤ 65536) }
-            ensures built { IfOk result (λ b. IsMadeBy worked.ledger.graph b.log.items b.hierarchy) }
-            ensures right { IfOk result (λ b. IsRight worked.ledger.graph b.hierarchy) }
-            ensures account { IfOk result (λ b. IsAccount b.log.items (map (λ v. v.items) b.receipts.items)) }
-            ensures lists { IfOk result (λ b. vec_len b.receipts ≡ vec_len worked.receipts + 1) }
+            ensures built { IfOk result (IsBuilt worked.ledger.graph (vec_len worked.receipts + 1)) }
         { finish(rt, alloc, worked, settle, disposal) },
     );
     ended?;

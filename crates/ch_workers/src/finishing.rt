@@ -1,11 +1,10 @@
 ghost use Rattle.std.specs.Prelude.{◌≡◌, ◌+◌, ◌<◌, ◌≤◌, IfOk, length, map, vec_len};
-ghost use Rattle.ch_graph.specs.Hierarchy.{IsRight};
 ghost use Rattle.ch_laws.specs.Contraction.{IsOver};
 ghost use Rattle.ch_overlay.specs.Overlay.{state_of};
 ghost use Rattle.ch_contract.specs.Ledger.{IsLedger};
 ghost use Rattle.ch_rowbook.specs.Blanks.{name_of};
 ghost use Rattle.ch_workers.specs.Account.{IsAccount};
-ghost use Rattle.ch_workers.specs.Built.{IsMadeBy};
+ghost use Rattle.ch_workers.specs.Built.{IsBuilt};
 
 use crate::account::is_account;
 use crate::built::Built;
@@ -36,10 +35,7 @@ pub(crate) fn finish<R: Threads + Wait>(
 ) -> Result<Built, Trouble>
     requires some { 0 < settle }
     requires few { settle ≤ 65536 }
-    ensures built { IfOk result (λ b. IsMadeBy worked.ledger.graph b.log.items b.hierarchy) }
-    ensures right { IfOk result (λ b. IsRight worked.ledger.graph b.hierarchy) }
-    ensures account { IfOk result (λ b. IsAccount b.log.items (map (λ v. v.items) b.receipts.items)) }
-    ensures lists { IfOk result (λ b. vec_len b.receipts ≡ vec_len worked.receipts + 1) }
+    ensures built { IfOk result (IsBuilt worked.ledger.graph (vec_len worked.receipts + 1)) }
 {
     let Worked {
         ledger,
@@ -119,10 +115,7 @@ fn built_of<R: Threads>(
     requires holds { IsLedger ledger }
     requires over { IsOver (state_of ledger.overlay) }
     requires account { IsAccount ledger.log (map (λ v. v.items) receipts.items) }
-    ensures built { IfOk result (λ b. IsMadeBy ledger.graph b.log.items b.hierarchy) }
-    ensures right { IfOk result (λ b. IsRight ledger.graph b.hierarchy) }
-    ensures account { IfOk result (λ b. IsAccount b.log.items (map (λ v. v.items) b.receipts.items)) }
-    ensures lists { IfOk result (λ b. vec_len b.receipts ≡ vec_len receipts) }
+    ensures built { IfOk result (IsBuilt ledger.graph (vec_len receipts)) }
 {
     let finished = match ledger.finish() {
         Ok(finished) => finished,
