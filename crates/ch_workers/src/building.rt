@@ -2,7 +2,7 @@ ghost use Rattle.std.specs.Prelude.{◌≡◌, ◌+◌, ◌<◌, ◌≤◌, ◌�
 ghost use Rattle.ch_graph.specs.Hierarchy.{IsRight};
 ghost use Rattle.ch_workers.specs.Account.{IsAccount};
 ghost use Rattle.ch_workers.specs.Built.{IsMadeBy, IsBuilt};
-ghost use Rattle.ch_workers.specs.Options.{AreBad, AreGood};
+ghost use Rattle.ch_workers.specs.Options.{AreBad};
 ghost use Rattle.ch_workers.specs.declared.error.BuildError.TheVariants.{BadOptions};
 
 use crate::boxed::box_lists;
@@ -11,6 +11,7 @@ use crate::disposal::Disposal;
 use crate::error::BuildError;
 use crate::finishing::finish;
 use crate::gate::Gate;
+use crate::good_options::GoodOptions;
 use crate::options::Options;
 use crate::run::{Waiting, Worked, contract};
 use crate::trouble::Trouble;
@@ -72,8 +73,9 @@ fn build_with_good<G: Gate, R: Threads + Wait + Sync>(
     if options.are_bad(estimators.len()) {
         return Err(BuildError::BadOptions);
     }
+    let good = GoodOptions { options };
     let mut disposal = Disposal::new();
-    let built = build_by_good(rt, alloc, graph, options, estimators, gate, &mut disposal);
+    let built = build_by_good(rt, alloc, graph, good, estimators, gate, &mut disposal);
     disposal.wait(rt);
     match built {
         Ok(built) => Ok(built),
@@ -86,19 +88,19 @@ fn build_by_good<G: Gate, R: Threads + Wait + Sync>(
     rt: &R,
     alloc: Global,
     graph: Graph,
-    options: Options,
+    good: GoodOptions,
     estimators: Vec<Vec<Box<dyn Estimator + Send>>>,
     gate: &G,
     disposal: &mut Disposal,
 ) -> Result<Built, Trouble>
-    requires good { AreGood options (vec_len estimators) }
+    requires as_many { vec_len estimators ≡ good.options.workers }
     requires untold { All (λ list. All (λ estimator. heard estimator ≡ []) list.items) estimators.items }
-    ensures built { IfOk result (IsBuilt graph (options.workers + 1)) }
+    ensures built { IfOk result (IsBuilt graph (good.options.workers + 1)) }
 {
     let lists = box_lists(alloc, estimators)?;
     let ledger = Ledger::new(alloc, graph)?;
-    let (worked, waiting) = contract(rt, alloc, ledger, options, lists, gate, disposal)?;
-    finish_beside(rt, alloc, worked, waiting, options.settle, disposal)
+    let (worked, waiting) = contract(rt, alloc, ledger, good, lists, gate, disposal)?;
+    finish_beside(rt, alloc, worked, waiting, good, disposal)
 }
 
 /// Ends the queue, if there is one, in a thread of its own, and makes the hierarchy beside it. Both are done when it
@@ -108,23 +110,20 @@ fn finish_beside<R: Threads + Wait + Sync>(
     alloc: Global,
     worked: Worked,
     waiting: Option<Waiting>,
-    settle: u32,
+    good: GoodOptions,
     disposal: &mut Disposal,
 ) -> Result<Built, Trouble>
-    requires some { 0 < settle }
-    requires few { settle ≤ 65536 }
     ensures built { IfOk result (IsBuilt worked.ledger.graph (vec_len worked.receipts + 1)) }
 {
     let Some(waiting) = waiting else {
-        return finish(rt, alloc, worked, settle, disposal);
+        return finish(rt, alloc, worked, good, disposal);
     };
     let (ended, built) = thread::join(
         rt,
         move || waiting.end(),
         move || -> Result<Built, Trouble>
-            requires { (0 < settle) × (settle ≤ 65536) }
             ensures built { IfOk result (IsBuilt worked.ledger.graph (vec_len worked.receipts + 1)) }
-        { finish(rt, alloc, worked, settle, disposal) },
+        { finish(rt, alloc, worked, good, disposal) },
     );
     ended?;
     built

@@ -9,6 +9,7 @@ ghost use Rattle.ch_workers.specs.Built.{IsBuilt};
 use crate::account::is_account;
 use crate::built::Built;
 use crate::disposal::Disposal;
+use crate::good_options::GoodOptions;
 use crate::run::Worked;
 use crate::trouble::Trouble;
 use ch_contract::{Board, FinishError, Ledger, Receipt, Site};
@@ -30,11 +31,9 @@ pub(crate) fn finish<R: Threads + Wait>(
     rt: &R,
     alloc: Global,
     worked: Worked,
-    settle: u32,
+    good: GoodOptions,
     disposal: &mut Disposal,
 ) -> Result<Built, Trouble>
-    requires some { 0 < settle }
-    requires few { settle ≤ 65536 }
     ensures built { IfOk result (IsBuilt worked.ledger.graph (vec_len worked.receipts + 1)) }
 {
     let Worked {
@@ -44,7 +43,7 @@ pub(crate) fn finish<R: Threads + Wait>(
     let Swept {
         ledger,
         receipts: swept,
-    } = sweep(rt, alloc, ledger, settle, disposal)?;
+    } = sweep(rt, alloc, ledger, good, disposal)?;
     receipts.reserve(1)?;
     receipts.push_reserved(swept);
     if !is_account(alloc, ledger.log(), receipts.as_slice())? {
@@ -58,11 +57,9 @@ fn sweep<R: Threads + Wait>(
     rt: &R,
     alloc: Global,
     ledger: Ledger,
-    settle: u32,
+    good: GoodOptions,
     disposal: &mut Disposal,
 ) -> Result<Swept, Trouble>
-    requires some { 0 < settle }
-    requires few { settle ≤ 65536 }
     ensures graph { IfOk result (λ swept. swept.ledger.graph ≡ ledger.graph) }
     ensures over { IfOk result (λ swept. IsOver (state_of swept.ledger.overlay)) }
 {
@@ -72,7 +69,7 @@ fn sweep<R: Threads + Wait>(
     }
     let rows = ledger.overlay();
     let blank = Blank::new(alloc, rows.nodes(), rows.bound())?;
-    sweep_named::<Brand, R>(rt, alloc, blank, ledger, settle, disposal)
+    sweep_named::<Brand, R>(rt, alloc, blank, ledger, good, disposal)
 }
 
 /// Contracts each node that is left, by a board of a type that names the graph and the book. The book is dropped beside
@@ -82,15 +79,13 @@ fn sweep_named<S: Site + Send + Sync + 'static, R: Threads + Wait>(
     alloc: Global,
     blank: Blank,
     ledger: Ledger,
-    settle: u32,
+    good: GoodOptions,
     disposal: &mut Disposal,
 ) -> Result<Swept, Trouble>
     requires of_graph { S.graph ≡ ledger.graph }
     requires of_book { S.book ≡ name_of blank }
     requires nodes { blank.nodes ≡ length ledger.overlay.rows }
     requires bound { blank.bound ≡ ledger.overlay.bound }
-    requires some { 0 < settle }
-    requires few { settle ≤ 65536 }
     ensures graph { IfOk result (λ swept. swept.ledger.graph ≡ ledger.graph) }
     ensures over { IfOk result (λ swept. IsOver (state_of swept.ledger.overlay)) }
 {
@@ -98,7 +93,7 @@ fn sweep_named<S: Site + Send + Sync + 'static, R: Threads + Wait>(
         Ok((board, _)) => board,
         Err((_, refused)) => return Err(refused.into()),
     };
-    let receipts = board.sweep(rt, settle)?;
+    let receipts = board.sweep(rt, good.options.settle)?;
     let (ledger, pen) = board.into_parts();
     disposal.take(rt, pen);
     Ok(Swept { ledger, receipts })

@@ -1,8 +1,7 @@
 ghost use Rattle.std.specs.Prelude.{◌≡◌, ◌<◌, ◌≤◌, ◌*◌, [], All, IfOk, vec_len};
-ghost use Rattle.ch_workers.specs.Options.{AreGood};
 
+use crate::good_options::CrewOptions;
 use crate::listeners::{Listeners, listeners_of};
-use crate::options::Options;
 use crate::worker::Worker;
 use ch_contract::{Contraction, Scratch};
 use ch_estimate::Estimator;
@@ -19,14 +18,14 @@ pub(crate) struct Crew<E: Estimator> {
 /// As many workers as there are lists of estimators, and their queue.
 pub(crate) fn hire<E: Estimator>(
     alloc: Global,
-    options: Options,
+    crew: CrewOptions,
     estimators: Vec<Vec<E>>,
 ) -> Result<Crew<E>, AllocError>
-    requires good { AreGood options (vec_len estimators) }
-    requires some { 0 < options.workers }
+    requires as_many { vec_len estimators ≡ crew.options.workers }
     requires untold { All (λ list. All (λ estimator. E.heard estimator ≡ []) list.items) estimators.items }
-    ensures count { IfOk result (λ crew. vec_len crew.workers ≡ options.workers) }
+    ensures count { IfOk result (λ hired. vec_len hired.workers ≡ crew.options.workers) }
 {
+    let options = crew.options;
     let lists = listeners_of(alloc, estimators)?;
     let heaps = options.workers * options.heaps;
     let (mut queue, first) = MultiQueue::new(alloc, heaps, options.seed)?;

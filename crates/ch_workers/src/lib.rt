@@ -28,6 +28,7 @@ mod disposal;
 mod error;
 mod finishing;
 mod gate;
+mod good_options;
 mod hiring;
 mod listener;
 mod listeners;

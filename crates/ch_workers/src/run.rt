@@ -1,11 +1,10 @@
 ghost use Rattle.std.specs.Prelude.{◌≡◌, ◌<◌, ◌≤◌, [], All, IfOk, vec_len};
 ghost use Rattle.ch_multiqueue.specs.Accounts.{AreBalanced};
-ghost use Rattle.ch_workers.specs.Options.{AreGood};
 
 use crate::disposal::Disposal;
 use crate::gate::Gate;
+use crate::good_options::{CrewOptions, GoodOptions};
 use crate::hiring::{Crew, hire};
-use crate::options::Options;
 use crate::shift::{Work, shift};
 use crate::trouble::Trouble;
 use crate::worker::Worker;
@@ -43,21 +42,23 @@ pub(crate) fn contract<E: Estimator + Send, G: Gate, R: Threads + Wait + Sync>(
     rt: &R,
     alloc: Global,
     ledger: Ledger,
-    options: Options,
+    good: GoodOptions,
     estimators: Vec<Vec<E>>,
     gate: &G,
     disposal: &mut Disposal,
 ) -> Result<(Worked, Option<Waiting>), Trouble>
-    requires good { AreGood options (vec_len estimators) }
+    requires as_many { vec_len estimators ≡ good.options.workers }
     requires untold { All (λ list. All (λ estimator. E.heard estimator ≡ []) list.items) estimators.items }
     ensures graph { IfOk result (λ made. made.0.ledger.graph ≡ ledger.graph) }
-    ensures lists { IfOk result (λ made. vec_len made.0.receipts ≡ options.workers) }
+    ensures lists { IfOk result (λ made. vec_len made.0.receipts ≡ good.options.workers) }
 {
+    let options = good.options;
     if options.workers == 0 {
         let receipts = Vec::new(alloc);
         return Ok((Worked { ledger, receipts }, None));
     }
-    let Crew { queue, workers } = hire(alloc, options, estimators)?;
+    let crew = CrewOptions { options };
+    let Crew { queue, workers } = hire(alloc, crew, estimators)?;
     let work = Work {
         ledger,
         queue,
@@ -67,7 +68,7 @@ pub(crate) fn contract<E: Estimator + Send, G: Gate, R: Threads + Wait + Sync>(
         ledger,
         queue,
         workers,
-    } = go_on(rt, alloc, work, options, gate, disposal)?;
+    } = go_on(rt, alloc, work, crew, gate, disposal)?;
     let Left { passes, receipts } = take_apart(alloc, workers)?;
     let waiting = Some(Waiting { queue, passes });
     Ok((Worked { ledger, receipts }, waiting))
@@ -78,24 +79,21 @@ fn go_on<E: Estimator + Send, G: Gate, R: Threads + Wait + Sync>(
     rt: &R,
     alloc: Global,
     work: Work<E>,
-    options: Options,
+    crew: CrewOptions,
     gate: &G,
     disposal: &mut Disposal,
 ) -> Result<Work<E>, Trouble>
-    requires some { 0 < options.settle }
-    requires few { options.settle ≤ 65536 }
-    requires workers { 0 < options.workers }
     ensures graph { IfOk result (λ after. after.ledger.graph ≡ work.ledger.graph) }
     ensures count { IfOk result (λ after. vec_len after.workers ≡ vec_len work.workers) }
 {
     let nodes = work.ledger.overlay().nodes();
-    let mut work = shift(rt, alloc, work, options, gate, disposal)?;
+    let mut work = shift(rt, alloc, work, crew, gate, disposal)?;
     'shifts: for _ in 1..nodes {
         if have_ended(work.workers.as_slice()) {
             break;
         }
         let before = work.ledger.log().len();
-        work = shift(rt, alloc, work, options, gate, disposal)?;
+        work = shift(rt, alloc, work, crew, gate, disposal)?;
         if work.ledger.log().len() == before {
             break;
         }

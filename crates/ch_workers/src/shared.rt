@@ -1,8 +1,8 @@
 ghost use Rattle.std.specs.Prelude.{◌≡◌, ◌+◌, ◌≤◌, ◌<◌, ◌^◌, All, AllPairs, IfOk, IsTrue};
 ghost use Rattle.ch_rowbook.specs.Books.{IsOfBook};
 
+use crate::good_options::CrewOptions;
 use crate::listener::Listener;
-use crate::options::Options;
 use ch_contract::{Board, CommitError, Contraction, Facts, Proposal, Receipt, Site};
 use ch_estimate::Estimator;
 use ch_multiqueue::MultiQueue;
@@ -29,15 +29,12 @@ pub(crate) struct Shared<S: Site> {
     pub(crate) alloc: Global,
     pub(crate) board: Mutex<Board<S>>,
     pub(crate) queue: MultiQueue,
-    pub(crate) options: Options,
+    pub(crate) crew: CrewOptions,
     pub(crate) nodes: u32,
     /// What the rows weigh after whose replacement a shift is over, by all workers together.
     pub(crate) room: u64,
     /// What the rows weigh that were replaced so far, by all workers together.
     replaced: AtomicU64,
-    ghost some: { 0 < options.settle },
-    ghost few: { options.settle ≤ 65536 },
-    ghost workers: { 0 < options.workers },
 }
 
 impl<S: Site> Shared<S> {
@@ -46,19 +43,15 @@ impl<S: Site> Shared<S> {
         alloc: Global,
         board: Board<S>,
         queue: MultiQueue,
-        options: Options,
-    ) -> Shared<S>
-        requires some { 0 < options.settle }
-        requires few { options.settle ≤ 65536 }
-        requires workers { 0 < options.workers }
-    {
+        crew: CrewOptions,
+    ) -> Shared<S> {
         let nodes = board.graph().nodes();
         let room = FEWEST.max(ROOM * u64::from(nodes));
         Shared {
             alloc,
             board: Mutex::new(board),
             queue,
-            options,
+            crew,
             nodes,
             room,
             replaced: AtomicU64::new(0),

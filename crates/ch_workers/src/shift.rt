@@ -3,7 +3,7 @@ ghost use Rattle.ch_rowbook.specs.Blanks.{name_of};
 
 use crate::disposal::Disposal;
 use crate::gate::Gate;
-use crate::options::Options;
+use crate::good_options::CrewOptions;
 use crate::shared::Shared;
 use crate::trouble::Trouble;
 use crate::worker::{Worker, work};
@@ -38,19 +38,16 @@ pub(crate) fn shift<E: Estimator + Send, G: Gate, R: Threads + Wait + Sync>(
     rt: &R,
     alloc: Global,
     work: Work<E>,
-    options: Options,
+    crew: CrewOptions,
     gate: &G,
     disposal: &mut Disposal,
 ) -> Result<Work<E>, Trouble>
-    requires some { 0 < options.settle }
-    requires few { options.settle ≤ 65536 }
-    requires workers { 0 < options.workers }
     ensures graph { IfOk result (λ after. after.ledger.graph ≡ work.ledger.graph) }
     ensures count { IfOk result (λ after. vec_len after.workers ≡ vec_len work.workers) }
 {
     let rows = work.ledger.overlay();
     let blank = Blank::new(alloc, rows.nodes(), rows.bound())?;
-    shift_named::<Brand, E, G, R>(rt, alloc, blank, work, options, gate, disposal)
+    shift_named::<Brand, E, G, R>(rt, alloc, blank, work, crew, gate, disposal)
 }
 
 /// Lets the workers go on for a shift, by a board of a type that names the graph and the book.
@@ -64,7 +61,7 @@ fn shift_named<
     alloc: Global,
     blank: Blank,
     work: Work<E>,
-    options: Options,
+    crew: CrewOptions,
     gate: &G,
     disposal: &mut Disposal,
 ) -> Result<Work<E>, Trouble>
@@ -72,9 +69,6 @@ fn shift_named<
     requires of_book { S.book ≡ name_of blank }
     requires nodes { blank.nodes ≡ length work.ledger.overlay.rows }
     requires bound { blank.bound ≡ work.ledger.overlay.bound }
-    requires some { 0 < options.settle }
-    requires few { options.settle ≤ 65536 }
-    requires workers { 0 < options.workers }
     ensures graph { IfOk result (λ after. after.ledger.graph ≡ work.ledger.graph) }
     ensures count { IfOk result (λ after. vec_len after.workers ≡ vec_len work.workers) }
 {
@@ -89,7 +83,7 @@ fn shift_named<
     };
     let mut on_shift = begin(alloc, &mut reader, workers)?;
     drop(reader);
-    let shared = Shared::new(alloc, board, queue, options);
+    let shared = Shared::new(alloc, board, queue, crew);
     run_all(rt, &shared, gate, on_shift.as_mut_slice());
     let workers = end(alloc, on_shift)?;
     let (board, queue) = shared.into_parts();

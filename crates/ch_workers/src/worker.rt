@@ -109,7 +109,7 @@ impl<E: Estimator> Worker<E> {
         shared: &Shared<S>,
         reader: &mut Reader<S>,
     ) -> Result<(), Refused> {
-        let workers = shared.options.workers;
+        let workers = shared.crew.options.workers;
         'nodes: for node in 0..shared.nodes {
             if node % workers == self.number {
                 self.put(rt, shared, reader, node)?;
@@ -185,7 +185,7 @@ impl<E: Estimator> Worker<E> {
         ensures of_book { IfOk result (λ found. IfSome found (λ p. All (IsOfBook S.book) p.rests_on)) }
         ensures bound { IfOk result (λ found. IfSome found (λ p. p.bound ≡ S.book.bound)) }
     {
-        let settle = shared.options.settle;
+        let settle = shared.crew.options.settle;
         match propose_with(shared.alloc, reader, &mut self.scratch, node, settle) {
             Ok(proposal) => Ok(Some(proposal)),
             Err(ProposeError::OutOfMemory) => Err(Refused),
@@ -218,7 +218,7 @@ impl<E: Estimator> Worker<E> {
         item: Item,
         key: u64,
     ) -> Result<bool, Refused> {
-        if key <= item.key || self.deferred >= shared.options.defer {
+        if key <= item.key || self.deferred >= shared.crew.options.defer {
             return Ok(false);
         }
         self.deferred += 1;
@@ -247,7 +247,7 @@ impl<E: Estimator> Worker<E> {
                 self.receipts.push_reserved(receipt);
                 self.deferred = 0;
                 gate.pass(self.number, Point::Committed);
-                self.listeners.committed(shared.options.stint);
+                self.listeners.committed(shared.crew.options.stint);
                 Ok(true)
             }
             Err(CommitError::Stale { .. }) => {
