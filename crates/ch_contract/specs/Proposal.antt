@@ -1,5 +1,5 @@
 -- Proposals to contract a node: the rows that they rest on, and a verdict for each pair of neighbours.
-use Rattle.std.specs.Prelude.{ℕ, ◌≡◌, ◌≢◌, ◌↔◌, ◌⊎◌, ◌<◌, ◌≤◌, ◌*◌, ◌^◌, List, ◌∷◌, length, map, Option, Some, None, Result, Err, All, AllPairs, Contains}
+use Rattle.std.specs.Prelude.{ℕ, ◌≡◌, ◌≢◌, ◌↔◌, ◌⊎◌, ◌<◌, ◌≤◌, ◌*◌, ◌^◌, List, ◌∷◌, length, map, Option, Some, None, Result, Err, IfOk, All, AllPairs, Contains}
 use Rattle.ch_cost.specs.declared.cost.Cost.{Cost}
 use Rattle.ch_cost.specs.Cost.{IsWithin}
 use Rattle.ch_laws.specs.declared.shortcut.Shortcut.{Shortcut}
@@ -101,3 +101,16 @@ pub record IsToldByRank (Bears Shows : Seen → Type 0) (node : ℕ) (result : R
 
 abbrev pub TellsContracted : (Seen → Type 0) → (Seen → Type 0) → ℕ → Result Proposal ProposeError → Type 0
 TellsContracted Bears Shows node result = (result ≡ Err OutOfMemory → ⊥) → (result ≡ Err Unseen → ⊥) → IsToldByRank Bears Shows node result
+
+-- What is answered where a node is to be proposed under a bound, by a source that moved in this way: a proposal by
+-- answers that the source bears and shows; `Contracted` exactly where the node's row has a rank; and `Unseen` nowhere
+-- where the source is whole around the node.
+pub record IsProposedBy (Bears Shows : Seen → Type 0) (limit : Cost) (Moved IsWhole : Type 0) (v : ℕ) (result : Result Proposal ProposeError) : Type 0 where
+  pub node : IfOk result (λ p. p.node ≡ v)
+  pub bound : IfOk result (λ p. p.bound ≡ limit)
+  pub holds : IfOk result IsProposal
+  pub bears : IfOk result (λ p. All Bears p.rests_on)
+  pub shows : IfOk result (λ p. All Shows p.rests_on)
+  pub contracted : TellsContracted Bears Shows v result
+  pub stays : Moved
+  pub found : IsWhole → result ≡ Err Unseen → ⊥

@@ -27,6 +27,8 @@ pub struct Task {
     pub bound: Cost,
     /// How many nodes a search settles at most.
     pub settle: u32,
+    ghost some: { 1 ≤ settle },
+    ghost few: { settle ≤ 2 ^ 16 },
 }
 
 /// A proposal in the making.
@@ -110,8 +112,6 @@ pub fn draft_pairs<S: RowSource>(
     draft: &mut Draft,
     traced: &mut Traced,
 ) -> Result<(), SearchError>
-    requires some { 1 ≤ task.settle }
-    requires few { task.settle ≤ 2 ^ 16 }
     requires bound { task.bound ≡ S.bound_of source.old }
     requires limit { IsBound task.bound }
     requires inn_rises { Rises row.now.inn }
@@ -147,8 +147,6 @@ fn judge_by_search<S: RowSource>(
     draft: &mut Draft,
     traced: &mut Traced,
 ) -> Result<(), SearchError>
-    requires some { 1 ≤ task.settle }
-    requires few { task.settle ≤ 2 ^ 16 }
     requires start { from ≢ task.node }
     requires avoided { Contains (map (λ p. p.to) desk.old.pairs.light.items) task.node → ⊥ }
     requires ends { desk.old.pairs.ends.items ≡ map (λ p. p.to) desk.old.pairs.light.items }

@@ -5,7 +5,7 @@ ghost use Rattle.ch_laws.specs.Rows.{Rises};
 ghost use Rattle.ch_witness.specs.Kept.{kept_of, AllNamed, AreKept, IsMore};
 ghost use Rattle.ch_contract.specs.Drafts.{IsBegun, IsDrafted};
 ghost use Rattle.ch_contract.specs.Reading.{FindsRows, IsReadOn};
-ghost use Rattle.ch_contract.specs.Proposal.{IsProposal, TellsContracted};
+ghost use Rattle.ch_contract.specs.Proposal.{IsProposal, IsProposedBy, TellsContracted};
 ghost use Rattle.ch_contract.specs.declared.error.ProposeError.TheVariants.{Unseen};
 ghost use Rattle.ch_overlay.specs.declared.source.SeeError.TheVariants as see;
 
@@ -84,14 +84,7 @@ fn propose_in<S: RowSource>(
     requires none { (x : ℕ) → kept_of desk.old.searcher.rows x ≡ None }
     requires some { 1 ≤ settle }
     requires few { settle ≤ 65536 }
-    ensures node { IfOk result (λ p. p.node ≡ node) }
-    ensures bound { IfOk result (λ p. p.bound ≡ S.bound_of source.old) }
-    ensures holds { IfOk result IsProposal }
-    ensures bears { IfOk result (λ p. All S.bears p.rests_on) }
-    ensures shows { IfOk result (λ p. All (S.shows source.new) p.rests_on) }
-    ensures contracted { TellsContracted S.bears (S.shows source.new) node result }
-    ensures stays { S.stays source.old source.new }
-    ensures found { S.whole source.old node → result ≡ Err Unseen → ⊥ }
+    ensures { IsProposedBy S.bears (S.shows source.new) (S.bound_of source.old) (S.stays source.old source.new) (S.whole source.old node) node result }
 {
     let task = Task {
         node,
@@ -128,8 +121,6 @@ fn draft_all<S: RowSource>(
     row: &Row,
     draft: &mut Draft,
 ) -> Result<(), SearchError>
-    requires some { 1 ≤ task.settle }
-    requires few { task.settle ≤ 2 ^ 16 }
     requires bound { task.bound ≡ S.bound_of source.old }
     requires limit { IsBound task.bound }
     requires inn_rises { Rises row.now.inn }

@@ -89,9 +89,6 @@ draft_pairs-requires-clause-inn_rises c = grind (arith, common_steps) steps 2000
 pub draft_pairs-requires-clause-out_rises : goal.draft_pairs-requires-clause-out_rises
 draft_pairs-requires-clause-out_rises c = grind (arith, common_steps) steps 200000
 
-pub draft_pairs-requires-clause-some : goal.draft_pairs-requires-clause-some
-draft_pairs-requires-clause-some c = grind (arith, common_steps) steps 200000
-
 pub inns-smaller : goal.inns-smaller
 inns-smaller c = grind (arith, common_steps) steps 200000
 
