@@ -1,14 +1,13 @@
-ghost use Rattle.std.specs.Prelude.{◌≡◌, ◌^◌, ◌<◌, ◌≤◌, IsTrue, All, IfOk, refl};
+ghost use Rattle.std.specs.Prelude.{◌≡◌, IsTrue, IfOk, refl};
 ghost use Rattle.ch_cost.specs.Cost.{IsWithin, cost_of_arcs};
-ghost use Rattle.ch_laws.specs.Rows.{Rises};
-ghost use Rattle.ch_overlay.specs.Overlay.{IsEntry};
 ghost use Rattle.ch_overlay.specs.Source.{IsSeenRow};
 
-use ch_cost::{Cost, NarrowCost};
-use ch_overlay::{Entry, Middle, Row, RowSource, SeeError, Seen};
+use ch_cost::Cost;
+use ch_overlay::{Row, RowSource, SeeError, Seen};
 use std::alloc::{AllocError, Global};
 use std::marker::Model;
 use std::sync::Arc;
+use tests_kit::{entry, is_sound};
 
 /// A length and a number of arcs.
 pub type Numbers = (u64, u32);
@@ -71,61 +70,6 @@ impl Shelf {
     }
 }
 
-fn is_entry(entry: &Entry, node: u32, bound: Cost) -> bool
-    ensures { IsTrue result → IsEntry (2 ^ 25) bound node entry.now }
-{
-    let cost = entry.cost.cost();
-    if entry.other >= 1 << 25 {
-        return false;
-    }
-    if entry.other == node {
-        return false;
-    }
-    if !Cost::ZERO.is_below(cost) {
-        return false;
-    }
-    cost.is_within(bound)
-}
-
-fn are_entries(entries: &[Entry], node: u32, bound: Cost) -> bool
-    ensures { IsTrue result → All (IsEntry (2 ^ 25) bound node) entries.now }
-{
-    entries.iter().all(|entry| is_entry(entry, node, bound))
-}
-
-fn rises(entries: &[Entry]) -> bool
-    ensures { IsTrue result → Rises entries.now }
-{
-    for place in 1..entries.len() {
-        if entries[place - 1].other >= entries[place].other {
-            return false;
-        }
-    }
-    true
-}
-
-fn is_sound(node: u32, row: &Row, bound: Cost) -> bool
-    ensures range { IsTrue result → node < 2 ^ 25 }
-    ensures out { IsTrue result → Rises row.now.out }
-    ensures inn { IsTrue result → Rises row.now.inn }
-    ensures out_entries { IsTrue result → All (IsEntry (2 ^ 25) bound node) row.now.out }
-    ensures inn_entries { IsTrue result → All (IsEntry (2 ^ 25) bound node) row.now.inn }
-{
-    if node >= 1 << 25 {
-        return false;
-    }
-    if !rises(&row.out) {
-        return false;
-    }
-    if !rises(&row.inn) {
-        return false;
-    }
-    if !are_entries(&row.out, node, bound) {
-        return false;
-    }
-    are_entries(&row.inn, node, bound)
-}
-
 impl Shelf {
     /// The row that it has of a node, if that can be relied on under this bound.
     fn seen(&self, node: u32, bound: Cost) -> Result<Seen, SeeError>
@@ -183,19 +127,6 @@ impl RowSource for Shelf {
     ghost same_bound = { λ a b h. h };
 }
 
-/// The same, as a row keeps it.
-fn narrow((length, arcs): Numbers) -> NarrowCost {
-    NarrowCost::of(Cost::of_walk(length, u64::from(arcs)))
-}
-
-fn entry(other: u32, numbers: Numbers) -> Entry {
-    Entry {
-        other,
-        cost: narrow(numbers),
-        middle: Middle::NONE,
-    }
-}
-
 /// The row of a node.
 fn row_of(alloc: Global, node: u32, leads: &[Lead], rank: Option<u32>) -> Result<Row, AllocError> {
     let mut row = Row {
@@ -205,10 +136,10 @@ fn row_of(alloc: Global, node: u32, leads: &[Lead], rank: Option<u32>) -> Result
     };
     for (from, to, numbers) in leads {
         if *from == node {
-            row.out.push(entry(*to, *numbers))?;
+            row.out.push(entry((*to, *numbers)))?;
         }
         if *to == node {
-            row.inn.push(entry(*from, *numbers))?;
+            row.inn.push(entry((*from, *numbers)))?;
         }
     }
     Ok(row)

@@ -9,6 +9,7 @@ use std::sync::Arc;
 use std::sync::atomic::{AtomicU64, Ordering};
 use std::test::Fail;
 use std::thread;
+use tests_kit::{Drops, counted};
 
 /// Tells an estimator of a log, from its start.
 fn tell(estimator: &mut Box<dyn Estimator + Send>, log: &[Contraction]) -> Result<(), AllocError>
@@ -192,49 +193,15 @@ fn keys_by_a_log(rt: HostRuntime) -> Result<(), Fail> {
     Ok(())
 }
 
-/// An estimator that counts its drop.
-struct Counted {
-    inner: Depth,
-    drops: Arc<AtomicU64, Global>,
-}
-
-impl Estimator for Counted {
-    ghost heard = { λ c. c.inner };
-
-    fn key(&mut self, facts: &Facts) -> u64 {
-        self.inner.key(facts)
-    }
-
-    fn told(&mut self, entry: &Contraction) -> Result<(), AllocError> {
-        self.inner.told(entry)
-    }
-
-    fn note(&self, node: u32) -> Note {
-        self.inner.note(node)
-    }
-}
-
-impl Drop for Counted {
-    fn drop(self) {
-        let Self { inner: _, drops } = self;
-        drops.fetch_add(1, Ordering::SeqCst);
-    }
-}
-
 #[test]
 fn boxes_give_their_leases_back(rt: HostRuntime) -> Result<(), Fail> {
     let alloc = rt.alloc();
     let mut leases = Leases::new(alloc)?;
-    let drops = Arc::new(alloc, AtomicU64::new(0))?;
-    let theirs = Arc::try_clone(&drops)?;
-    let counted = Counted {
-        inner: Depth::new(alloc, leases.lease()?),
-        drops: theirs,
-    };
-    let estimator: Box<dyn Estimator + Send> = Box::new(alloc, counted)?;
-    drop(estimator);
+    let drops = Drops::new(alloc)?;
+    let lease = leases.lease()?;
+    drop(counted(alloc, lease, 0, &drops)?);
     leases.wait(&rt);
-    assert!(rt; drops.load(Ordering::SeqCst) == 1);
+    assert!(rt; drops.are_one_each(1));
     Ok(())
 }
 

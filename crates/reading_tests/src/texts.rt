@@ -5,7 +5,7 @@ use grfile::{
     GrError, GrErrorKind, GrReader, QueryReader, read_graph, read_graph_within, read_queries,
 };
 use std::alloc::Global;
-use std::io::{self, ErrorKind, Read};
+use tests_kit::Uneven;
 
 /// What a text has to say.
 #[derive(Clone, Copy)]
@@ -420,41 +420,9 @@ fn a_fault_stays_before_a_long_line(rt: HostRuntime) {
 /// More calls than any reader here gets.
 const MANY: u64 = 1 << 40;
 
-/// A reader that gives one byte at a call. Each third call is interrupted, and one fails.
-#[derive(Drop)]
-struct Uneven<'a> {
-    text: &'a [u8],
-    calls: u32,
-    fails_at: u32,
-}
-
-impl Read for Uneven<'_> {
-    fn read(&mut self, buf: &mut [u8]) -> io::Result<usize> {
-        self.calls = self.calls.saturating_add(1);
-        if self.calls == self.fails_at {
-            return Err(io::Error::from(ErrorKind::Other));
-        }
-        if self.calls % 3 == 0 {
-            return Err(io::Error::from(ErrorKind::Interrupted));
-        }
-        match self.text {
-            [first, rest @ ..] if !buf.is_empty() => {
-                buf[0] = *first;
-                self.text = rest;
-                Ok(1)
-            }
-            _ => Ok(0),
-        }
-    }
-}
-
 /// Whether a reader that fails at this call, 0 for none, is read so by so many calls.
 fn is_read_so(alloc: Global, text: &[u8], fails_at: u32, calls: u64, wanted: Wanted) -> bool {
-    let mut reader = Uneven {
-        text,
-        calls: 0,
-        fails_at,
-    };
+    let mut reader = Uneven::new(text, 3, u64::from(fails_at));
     is_graph(read_graph_within(alloc, &mut reader, calls), wanted)
 }
 
@@ -484,11 +452,7 @@ fn readers(rt: HostRuntime) {
     let seven = Wanted::Graph(2, SEVEN);
     assert!(rt; is_read_so(rt.alloc(), b"p sp 2 1\na 1 2 7\n", 0, MANY, seven));
     assert!(rt; fails_at_lines(rt.alloc()));
-    let mut failing = Uneven {
-        text: b"p aux sp p2p 0".as_slice(),
-        calls: 0,
-        fails_at: 2,
-    };
+    let mut failing = Uneven::new(b"p aux sp p2p 0".as_slice(), 3, 2);
     let read = read_queries(rt.alloc(), &mut failing, 1);
     assert!(rt; are_pairs(read, Wanted::Fault(GrErrorKind::Read, 1)));
     let mut text = b"p sp 2 1\na 1 2 7\n".as_slice();

@@ -4,7 +4,7 @@ ghost use Rattle.ch_overlay.specs.Source.{IsBound};
 ghost use Rattle.ch_overlay.specs.Records.{AreSoundRows, IsSoundRow};
 ghost use Rattle.ch_rowbook.specs.Blanks.{name_of};
 
-use crate::kit::{Entries, are, are_sound, bound, is_sound, row};
+use tests_kit::{Entries, are, are_sound, bound, is_sound, row};
 use ch_overlay::{Row, RowSource, SeeError, Seen};
 use ch_rowbook::{Blank, Book, Pen, Reader, open};
 use std::alloc::{AllocError, Global};

@@ -6,8 +6,6 @@
 #[cfg(test)]
 mod books;
 #[cfg(test)]
-mod kit;
-#[cfg(test)]
 mod races;
 #[cfg(test)]
 mod refused;

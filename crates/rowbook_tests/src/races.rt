@@ -2,7 +2,7 @@ ghost use Rattle.std.specs.Prelude.{◌≡◌};
 ghost use Rattle.ch_overlay.specs.Source.{IsBound};
 ghost use Rattle.ch_rowbook.specs.Blanks.{name_of};
 
-use crate::kit::{Given, are, are_sound, bound, is_sound, row};
+use tests_kit::{Given, are, are_sound, bound, is_sound, row};
 use ch_cost::Cost;
 use ch_overlay::{Row, SeeError, Seen};
 use ch_rowbook::{Blank, Book, BookError, Pen, Reader, open};

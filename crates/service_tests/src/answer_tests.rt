@@ -6,45 +6,15 @@ use ch_workers::BuildError;
 use grfile::{GrError, GrErrorKind};
 use hierfile::HierError;
 use std::alloc::{AllocError, Global};
-use std::io::{self, ErrorKind, Read, Write};
+use std::io::{self, ErrorKind, Write};
 use std::sync::Wait;
 use std::test::Fail;
 use std::thread::Threads;
+use tests_kit::Uneven;
 
 /// A reader that gives one byte at a call and is interrupted in between. A call of it may fail.
-#[derive(Drop)]
-struct Uneven<'a> {
-    text: &'a [u8],
-    calls: u64,
-    fails_at: u64,
-}
-
-impl Read for Uneven<'_> {
-    fn read(&mut self, buf: &mut [u8]) -> io::Result<usize> {
-        self.calls = self.calls.saturating_add(1);
-        if self.calls == self.fails_at {
-            return Err(io::Error::from(ErrorKind::Other));
-        }
-        if self.calls % 2 == 0 {
-            return Err(io::Error::from(ErrorKind::Interrupted));
-        }
-        match self.text {
-            [first, rest @ ..] if !buf.is_empty() => {
-                buf[0] = *first;
-                self.text = rest;
-                Ok(1)
-            }
-            _ => Ok(0),
-        }
-    }
-}
-
 fn uneven_reader(text: &[u8], fails_at: u64) -> Uneven<'_> {
-    Uneven {
-        text,
-        calls: 0,
-        fails_at,
-    }
+    Uneven::new(text, 2, fails_at)
 }
 
 /// How a writer ends.

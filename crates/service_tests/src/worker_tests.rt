@@ -2,8 +2,7 @@ ghost use Rattle.std.specs.Prelude.{◌≡◌, [], All, IfOk};
 
 use crate::examples::{EXAMPLES, ROW, ROW_TEXT, UNTIED};
 use crate::kit::{Lists, add_list, one_list, options};
-use ch_contract::{Contraction, Facts};
-use ch_estimate::{Depth, EdgeDifference, Estimator, Leases, Neighbours, Note};
+use ch_estimate::{Depth, EdgeDifference, Estimator, Leases, Neighbours};
 use ch_service::{ServiceError, answer, prepare, routes_in_memory};
 use ch_workers::{BuildError, Gate, OpenGate, Options, Point};
 use grfile::{GrError, GrErrorKind};
@@ -12,6 +11,7 @@ use std::sync::atomic::{AtomicU64, Ordering};
 use std::sync::{Arc, Wait};
 use std::test::Fail;
 use std::thread::{self, Threads};
+use tests_kit::{Drops, counted};
 
 /// Counts the commits that it sees.
 #[derive(Drop)]
@@ -137,48 +137,16 @@ fn worked_examples_by_two_workers(rt: HostRuntime) -> Result<(), Fail> {
     Ok(())
 }
 
-/// An estimator that counts its drop.
-struct Counted {
-    inner: Depth,
-    drops: Arc<AtomicU64, Global>,
-}
-
-impl Estimator for Counted {
-    ghost heard = { λ c. c.inner };
-
-    fn key(&mut self, facts: &Facts) -> u64 {
-        self.inner.key(facts)
-    }
-
-    fn told(&mut self, entry: &Contraction) -> Result<(), AllocError> {
-        self.inner.told(entry)
-    }
-
-    fn note(&self, node: u32) -> Note {
-        self.inner.note(node)
-    }
-}
-
-impl Drop for Counted {
-    fn drop(self) {
-        let Self { inner: _, drops } = self;
-        drops.fetch_add(1, Ordering::SeqCst);
-    }
-}
-
 /// The list of one worker, of an estimator that was told nothing and counts its drop here.
 fn counted_list(
     alloc: Global,
     leases: &mut Leases,
-    drops: &Arc<AtomicU64, Global>,
+    drops: &Arc<Drops>,
 ) -> Result<Lists, AllocError>
     ensures { IfOk result (λ lists. All (λ list. All (λ estimator. heard estimator ≡ []) list.items) lists.items) }
 {
     let lease = leases.lease()?;
-    let drops = Arc::try_clone(drops)?;
-    let inner = Depth::new(alloc, lease);
-    let estimator: Box<dyn Estimator + Send> = Box::new(alloc, Counted { inner, drops })?;
-    one_list(alloc, estimator)
+    one_list(alloc, counted(alloc, lease, 0, drops)?)
 }
 
 /// Whether one worker, which has this list, prepares the row by three commits.
@@ -209,10 +177,10 @@ fn prepares_alone<R: Threads + Wait + Sync>(
 fn one_worker_prepares_alone(rt: HostRuntime) -> Result<(), Fail> {
     let alloc = rt.alloc();
     let mut leases = Leases::new(alloc)?;
-    let drops = Arc::new(alloc, AtomicU64::new(0))?;
+    let drops = Drops::new(alloc)?;
     let lists = counted_list(alloc, &mut leases, &drops)?;
     assert!(rt; prepares_alone(&rt, alloc, lists, &mut leases));
-    assert!(rt; drops.load(Ordering::SeqCst) == 1);
+    assert!(rt; drops.are_one_each(1));
     Ok(())
 }
 
@@ -232,7 +200,7 @@ fn is_refused_by_prepare<R: Threads + Wait + Sync>(
     refused: &Refused,
 ) -> Result<bool, AllocError> {
     let mut leases = Leases::new(alloc)?;
-    let drops = Arc::new(alloc, AtomicU64::new(0))?;
+    let drops = Drops::new(alloc)?;
     let lists = counted_list(alloc, &mut leases, &drops)?;
     let mut graph = refused.graph;
     let mut out = Vec::new(alloc);
@@ -246,7 +214,7 @@ fn is_refused_by_prepare<R: Threads + Wait + Sync>(
         &mut leases,
         &OpenGate,
     );
-    let is_dropped = drops.load(Ordering::SeqCst) == 1;
+    let is_dropped = drops.are_one_each(1);
     Ok((result == Err(refused.error)) & out.is_empty() & is_dropped)
 }
 
@@ -257,7 +225,7 @@ fn is_refused_by_answer<R: Threads + Wait + Sync>(
     refused: &Refused,
 ) -> Result<bool, AllocError> {
     let mut leases = Leases::new(alloc)?;
-    let drops = Arc::new(alloc, AtomicU64::new(0))?;
+    let drops = Drops::new(alloc)?;
     let lists = counted_list(alloc, &mut leases, &drops)?;
     let (mut graph, mut pairs) = (refused.graph, refused.pairs);
     let mut out = Vec::new(alloc);
@@ -272,7 +240,7 @@ fn is_refused_by_answer<R: Threads + Wait + Sync>(
         &mut leases,
         &OpenGate,
     );
-    let is_dropped = drops.load(Ordering::SeqCst) == 1;
+    let is_dropped = drops.are_one_each(1);
     Ok((result == Err(refused.error)) & out.is_empty() & is_dropped)
 }
 

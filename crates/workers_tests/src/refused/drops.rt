@@ -6,102 +6,13 @@ ghost use Rattle.std.specs.Prelude.{◌≡◌, [], All, IfOk};
 
 use crate::drops::{list_of_three, two_lists};
 use crate::kit::{Lists, TWO, tie};
-use ch_contract::{Contraction, Facts};
-use ch_estimate::{EdgeDifference, Estimator, Lease, Leases, Note};
+use ch_estimate::{Estimator, Leases};
 use ch_workers::{BuildError, OpenGate, Options, build};
 use std::alloc::{AllocError, Global};
-use std::sync::atomic::{AtomicU64, Ordering};
 use std::sync::{Arc, Wait};
 use std::test::Fail;
 use std::thread::Threads;
-
-/// How often each of six estimators was dropped.
-#[derive(Drop)]
-struct Drops {
-    of: [AtomicU64; 6],
-}
-
-impl Drops {
-    /// None was.
-    fn new(alloc: Global) -> Result<Arc<Drops>, AllocError> {
-        let of = [
-            AtomicU64::new(0),
-            AtomicU64::new(0),
-            AtomicU64::new(0),
-            AtomicU64::new(0),
-            AtomicU64::new(0),
-            AtomicU64::new(0),
-        ];
-        let drops = Arc::new(alloc, Drops { of })?;
-        Ok(drops)
-    }
-
-    /// Whether each was dropped once.
-    fn are_one_each(&self) -> bool {
-        self.of
-            .iter()
-            .all(|drops| drops.load(Ordering::SeqCst) == 1)
-    }
-}
-
-/// An estimator that counts its drops by its number.
-struct Numbered {
-    inner: EdgeDifference,
-    number: usize,
-    drops: Arc<Drops>,
-}
-
-impl Estimator for Numbered {
-    ghost heard = { λ n. n.inner };
-
-    fn key(&mut self, facts: &Facts) -> u64 {
-        self.inner.key(facts)
-    }
-
-    fn told(&mut self, entry: &Contraction) -> Result<(), AllocError> {
-        self.inner.told(entry)
-    }
-
-    fn note(&self, node: u32) -> Note {
-        self.inner.note(node)
-    }
-}
-
-impl Drop for Numbered {
-    fn drop(self) {
-        let Self {
-            inner: _,
-            number,
-            drops,
-        } = self;
-        if let Some(count) = drops.of.get(number) {
-            count.fetch_add(1, Ordering::SeqCst);
-        }
-        drop(drops);
-    }
-}
-
-/// An estimator of this number that was told nothing.
-fn make_numbered(
-    alloc: Global,
-    lease: Lease,
-    number: usize,
-    drops: &Arc<Drops>,
-) -> Result<Box<dyn Estimator + Send>, AllocError>
-    ensures untold { IfOk result (λ estimator. heard estimator ≡ []) }
-{
-    let inner = EdgeDifference::new(alloc, lease);
-    let drops = Arc::try_clone(drops)?;
-    let estimator: Box<dyn Estimator + Send> = Box::new(
-        alloc,
-        Numbered {
-            inner,
-            number,
-            drops,
-        },
-    )?;
-    Ok(estimator)
-}
+use tests_kit::{Drops, counted};
 
 /// A list of three estimators of these numbers.
 fn list_of(
@@ -115,9 +26,9 @@ fn list_of(
     let [first, second, third] = numbers;
     list_of_three(
         alloc,
-        make_numbered(alloc, leases.lease()?, first, drops)?,
-        make_numbered(alloc, leases.lease()?, second, drops)?,
-        make_numbered(alloc, leases.lease()?, third, drops)?,
+        counted(alloc, leases.lease()?, first, drops)?,
+        counted(alloc, leases.lease()?, second, drops)?,
+        counted(alloc, leases.lease()?, third, drops)?,
     )
 }
 
@@ -141,7 +52,7 @@ fn end_of<R: Threads + Wait + Sync>(
     let mut leases = Leases::new(alloc)?;
     let lists = three_each(alloc, &mut leases, &drops)?;
     let built = build(rt, alloc, graph, options, lists, &mut leases, &OpenGate);
-    let are_dropped = drops.are_one_each();
+    let are_dropped = drops.are_one_each(6);
     Ok((built.map(drop), are_dropped))
 }
 

@@ -2,7 +2,7 @@ use Rattle.std.proofs.Common.{subst, arith}
 use Rattle.ch_cost.specs.declared.cost.Cost.{Cost}
 use Rattle.ch_cost.specs.Cost.{◌≺◌, zero_cost, IsWithin}
 use Rattle.ch_cost.specs.Cost.Laws.{ZERO-is}
-use Rattle.rowbook_tests.proofs.kit.is_entry.Goals as goal
+use Rattle.tests_kit.proofs.rows.is_entry.Goals as goal
 
 pub returns : goal.returns
 returns c = λ t. record {

@@ -6,7 +6,7 @@ use Rattle.std.proofs.lemmas.Bool.Decides.{nat_tests}
 use Rattle.std.proofs.lemmas.List.{get_or-map, length-map}
 use Rattle.ch_laws.specs.Rows.{Row, no_arcs, row_at}
 use Rattle.ch_overlay.specs.Records.{IsSoundRow}
-use Rattle.rowbook_tests.proofs.kit.are_sound.Goals as goal
+use Rattle.tests_kit.proofs.rows.are_sound.Goals as goal
 
 -- the row of the node at hand can be relied on
 pub loop-node-preserved : goal.loop-node-preserved

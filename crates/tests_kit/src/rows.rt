@@ -28,14 +28,19 @@ fn cost_of(length: u64, arcs: u32) -> NarrowCost {
     NarrowCost::of(Cost::of_walk(length, u64::from(arcs)))
 }
 
+/// The entry of an arc, without a middle.
+pub fn entry((other, (length, arcs)): Given) -> Entry {
+    Entry {
+        other,
+        cost: cost_of(length, arcs),
+        middle: Middle::NONE,
+    }
+}
+
 fn entries(alloc: Global, all: Entries<'_>) -> Result<Vec<Entry>, AllocError> {
     let mut list = Vec::new(alloc);
-    for (other, (length, arcs)) in all {
-        list.push(Entry {
-            other: *other,
-            cost: cost_of(*length, *arcs),
-            middle: Middle::NONE,
-        })?;
+    for given in all {
+        list.push(entry(*given))?;
     }
     Ok(list)
 }

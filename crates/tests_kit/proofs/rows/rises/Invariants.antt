@@ -1,6 +1,6 @@
 use Rattle.std.proofs.Common.{ℕ, ◌<◌, ◌≤◌, length, slice_index_or}
 use Rattle.ch_laws.specs.declared.entry.Entry.{Entry}
-use Rattle.rowbook_tests.proofs.kit.rises.Given as goal
+use Rattle.tests_kit.proofs.rows.rises.Given as goal
 
 -- the entries so far rise
 abbrev pub invariant-loop-place : goal.invariant-loop-place

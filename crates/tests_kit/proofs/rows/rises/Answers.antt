@@ -1,6 +1,6 @@
 use Rattle.std.proofs.Common.{arith}
-use Rattle.contract_tests.proofs.RisingEntries.{rises_more}
-use Rattle.contract_tests.proofs.shelf.rises.Goals as goal
+use Rattle.tests_kit.proofs.RisingEntries.{rises_more}
+use Rattle.tests_kit.proofs.rows.rises.Goals as goal
 
 pub loop-place-preserved : goal.loop-place-preserved
 loop-place-preserved c = record {

@@ -1,0 +1,95 @@
+ghost use Rattle.std.specs.Prelude.{◌≡◌, [], IfOk};
+
+use ch_contract::{Contraction, Facts};
+use ch_estimate::{Depth, Estimator, Lease, Note};
+use std::alloc::{AllocError, Global};
+use std::sync::Arc;
+use std::sync::atomic::{AtomicU64, Ordering};
+
+/// How often each of at most six estimators was dropped, by their numbers from 0.
+#[derive(Drop)]
+pub struct Drops {
+    of: [AtomicU64; 6],
+}
+
+impl Drops {
+    /// None was.
+    pub fn new(alloc: Global) -> Result<Arc<Drops>, AllocError> {
+        let of = [
+            AtomicU64::new(0),
+            AtomicU64::new(0),
+            AtomicU64::new(0),
+            AtomicU64::new(0),
+            AtomicU64::new(0),
+            AtomicU64::new(0),
+        ];
+        let drops = Arc::new(alloc, Drops { of })?;
+        Ok(drops)
+    }
+
+    /// Whether each of the first so many was dropped once, and no other.
+    pub fn are_one_each(&self, count: usize) -> bool {
+        self.of.iter().enumerate().all(|(number, drops)| {
+            drops.load(Ordering::SeqCst) == u64::from(number < count)
+        })
+    }
+}
+
+/// An estimator that counts its drops by its number.
+struct Counted {
+    inner: Depth,
+    number: usize,
+    drops: Arc<Drops>,
+}
+
+impl Estimator for Counted {
+    ghost heard = { λ c. c.inner };
+
+    fn key(&mut self, facts: &Facts) -> u64 {
+        self.inner.key(facts)
+    }
+
+    fn told(&mut self, entry: &Contraction) -> Result<(), AllocError> {
+        self.inner.told(entry)
+    }
+
+    fn note(&self, node: u32) -> Note {
+        self.inner.note(node)
+    }
+}
+
+impl Drop for Counted {
+    fn drop(self) {
+        let Self {
+            inner: _,
+            number,
+            drops,
+        } = self;
+        if let Some(count) = drops.of.get(number) {
+            count.fetch_add(1, Ordering::SeqCst);
+        }
+        drop(drops);
+    }
+}
+
+/// An estimator by depth, of this number, that was told nothing and counts its drop.
+pub fn counted(
+    alloc: Global,
+    lease: Lease,
+    number: usize,
+    drops: &Arc<Drops>,
+) -> Result<Box<dyn Estimator + Send>, AllocError>
+    ensures untold { IfOk result (λ estimator. heard estimator ≡ []) }
+{
+    let inner = Depth::new(alloc, lease);
+    let drops = Arc::try_clone(drops)?;
+    let estimator: Box<dyn Estimator + Send> = Box::new(
+        alloc,
+        Counted {
+            inner,
+            number,
+            drops,
+        },
+    )?;
+    Ok(estimator)
+}
