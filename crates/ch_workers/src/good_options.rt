@@ -1,5 +1,4 @@
-ghost use Rattle.std.specs.Prelude.{◌<◌};
-ghost use Rattle.ch_workers.specs.Options.{AreGood};
+ghost use Rattle.std.specs.Prelude.{◌<◌, ◌≤◌};
 
 use crate::options::Options;
 
@@ -7,13 +6,19 @@ use crate::options::Options;
 #[derive(Clone, Copy)]
 pub(crate) struct GoodOptions {
     pub(crate) options: Options,
-    ghost good: { AreGood options options.workers },
+    ghost many: { options.workers ≤ 64 },
+    ghost heaps: { (1 ≤ options.heaps) × (options.heaps ≤ 4) },
+    ghost some: { 0 < options.settle },
+    ghost few: { options.settle ≤ 65536 },
 }
 
 /// Good options by which there is a worker at least.
 #[derive(Clone, Copy)]
 pub(crate) struct CrewOptions {
     pub(crate) options: Options,
-    ghost good: { AreGood options options.workers },
-    ghost some: { 0 < options.workers },
+    ghost workers: { 0 < options.workers },
+    ghost many: { options.workers ≤ 64 },
+    ghost heaps: { (1 ≤ options.heaps) × (options.heaps ≤ 4) },
+    ghost some: { 0 < options.settle },
+    ghost few: { options.settle ≤ 65536 },
 }

@@ -16,14 +16,14 @@ some_heaps workers heaps some least =
     omega (arith, one, some)
 
 pub new-requires-clause-few : goal.new-requires-clause-few
-new-requires-clause-few g c = few_heaps _ _ c.requires.good.workers c.requires.good.heaps.below
+new-requires-clause-few g c = few_heaps _ _ c.args.crew.many c.args.crew.heaps.1
 
 pub new-requires-clause-some : goal.new-requires-clause-some
-new-requires-clause-some g c = some_heaps _ _ c.requires.some c.requires.good.heaps.above
+new-requires-clause-some g c = some_heaps _ _ c.args.crew.workers c.args.crew.heaps.0
 
 pub overflow_mul-heaps : goal.overflow_mul-heaps
 overflow_mul-heaps g c =
-    let few = few_heaps _ _ c.requires.good.workers c.requires.good.heaps.below in
+    let few = few_heaps _ _ c.args.crew.many c.args.crew.heaps.1 in
     omega (arith, few)
 
 pub passes_of-requires-clause-one : goal.passes_of-requires-clause-one
