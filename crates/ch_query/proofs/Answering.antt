@@ -11,20 +11,22 @@ use Rattle.ch_graph.specs.declared.link.Link.{Link}
 use Rattle.ch_graph.specs.declared.hierarchy.LinkId.{LinkId}
 use Rattle.ch_graph.specs.Hierarchy.{Hierarchy, IsWellMade, IsLinkWellMade, IsRiseFall, IsValue, rank_of}
 use Rattle.ch_graph.specs.Unfolding.{AreAt}
+use Rattle.ch_graph.specs.Marks.{mark, label_in, settled}
+use Rattle.ch_graph.specs.Marks.Laws.{label-in, label_cases}
+use Rattle.ch_graph.specs.declared.mark.Mark.{Mark}
+use Rattle.ch_graph.specs.declared.mark.Mark.TheVariants.{Settled}
 use Rattle.ch_query.specs.declared.label.Label.{Label}
-use Rattle.ch_query.specs.declared.mark.Mark.{Mark}
-use Rattle.ch_query.specs.declared.mark.Mark.TheVariants.{Settled}
 use Rattle.ch_query.specs.declared.meeting.Meeting.{Meeting}
 use Rattle.ch_query.specs.declared.side.Side.{Side}
 use Rattle.ch_query.specs.declared.side.Side.TheVariants.{Rise, Fall}
 use Rattle.ch_query.specs.Labels.{HasAtMost, AreUpLabels, AreDownLabels, Meets, CountsBelow, IsBest}
 use Rattle.ch_query.specs.Places.{link_at, IsRiseFallAt}
 use Rattle.ch_query.specs.Climb.{foot_of, head_of, foot_rank, head_rank, cost_at, Climbs, Descends}
-use Rattle.ch_query.specs.Marks.{mark_at, label_at, costs_of, IsStopped}
+use Rattle.ch_query.specs.Marks.{costs_of, IsStopped}
 use Rattle.ch_query.specs.Searching.{IsSearching, AreFollowed}
 use Rattle.ch_query.specs.Meeting.{IsBestMeeting, cost_of}
 use Rattle.ch_query.proofs.LeastSum.{stop_right}
-use Rattle.ch_query.proofs.Marking.{from_cost, label_cases, label-in}
+use Rattle.ch_query.proofs.Marking.{from_cost}
 use Rattle.ch_query.proofs.Descents.{IsPlace, links_at, rise-chain, fall-chain, descends-places, all-reverse, descent_to, node_of}
 
 -- Marks are by rank, and labels by node: a number that is no node has a rank past the last
@@ -32,7 +34,7 @@ use Rattle.ch_query.proofs.Descents.{IsPlace, links_at, rise-chain, fall-chain, 
 abbrev pub place_of : Hierarchy → ℕ → ℕ
 place_of h x = get_or h.ranks x (length h.ranks)
 
-abbrev pub named : Hierarchy → List Mark → ℕ → Option Cost
+abbrev pub named : Hierarchy → List (Mark Label) → ℕ → Option Cost
 named h marks x = costs_of marks (place_of h x)
 
 place-rank : (h : Hierarchy) (x : ℕ) → x < length h.ranks → place_of h x ≡ rank_of h x
@@ -45,13 +47,13 @@ link_is h l among = get_or_default h.links among.0 _ l among.1 ∙ among.2
 link_from : (h : Hierarchy) → IsWellMade h → (l : Link) → Contains h.links l → IsLinkWellMade h l
 link_from h made l among = All-contains (IsLinkWellMade h) h.links l made.links among
 
-module _ (h : Hierarchy) (made : IsWellMade h) (side : Side) (start : ℕ) (start_in : start < length h.ranks) (marks : List Mark) (is : IsSearching h side start marks) where
+module _ (h : Hierarchy) (made : IsWellMade h) (side : Side) (start : ℕ) (start_in : start < length h.ranks) (marks : List (Mark Label)) (is : IsSearching h side start marks) where
   -- only nodes have labels
   node_in : (x : ℕ) (a : Cost) → named h marks x ≡ Some a → x < length h.ranks
   node_in x a label = elim (cases_lt x (length h.ranks)) [
     | inl low ↦ low
     | inr past ↦
-        let l = from_cost (label_at marks (place_of h x)) a label in
+        let l = from_cost (label_in (mark marks (place_of h x))) a label in
         let low : place_of h x < length marks = label-in marks (place_of h x) l.0 l.1 in
         absurd (omega (arith, low, is.nodes, get_or_past h.ranks x (length h.ranks) past))
   ]
@@ -74,17 +76,17 @@ module _ (h : Hierarchy) (made : IsWellMade h) (side : Side) (start : ℕ) (star
         let foot : foot_rank h side k ≡ rank_of h (foot_of side l) = ap (λ (m : Link). rank_of h (foot_of side m)) link in
         let head : head_rank h side k ≡ rank_of h (head_of side l) = ap (λ (m : Link). rank_of h (head_of side m)) link in
         let climbs : Climbs h side k = record { within = among.1; rises = omega (arith, foot, head, rises) } in
-        let own = from_cost (label_at marks (rank_of h (foot_of side l))) a (rank_label (foot_of side l) a label) in
+        let own = from_cost (label_in (mark marks (rank_of h (foot_of side l)))) a (rank_label (foot_of side l) a label) in
         let e : Label = own.0 in
         let cost : cost_at h k ≡ l.cost = ap (λ (m : Link). m.cost) link in
         let sum : e.cost ⊕ cost_at h k ≡ a ⊕ l.cost = ap (λ (c : Cost). c ⊕ cost_at h k) own.2 ∙ ap (λ (c : Cost). a ⊕ c) cost in
-        elim (label_cases (mark_at marks (rank_of h (foot_of side l))) e own.1) [
+        elim (label_cases (mark marks (rank_of h (foot_of side l))) e own.1) [
           | inl opens ↦
               let limit = stopped (rank_of h (foot_of side l)) e opens in
               let above : limit.0 ≼ a ⊕ l.cost = at_most_trans (subst (λ (c : Cost). limit.0 ≼ c) own.2 limit.2) (at_most_sum_left a l.cost) in
               absurd (below_not_at_most (counts.below limit.0 limit.1) above)
           | inr settled ↦
-              let has : HasAtMost (costs_of marks) (head_rank h side k) (e.cost ⊕ cost_at h k) = followed k e climbs (subst (λ q. mark_at marks q ≡ Settled e) (sym foot) settled) (subst (λ (c : Cost). CountsBelow h best c) (sym sum) counts) in
+              let has : HasAtMost (costs_of marks) (head_rank h side k) (e.cost ⊕ cost_at h k) = followed k e climbs (subst (λ q. mark marks q ≡ Settled e) (sym foot) settled) (subst (λ (c : Cost). CountsBelow h best c) (sym sum) counts) in
               let place : head_rank h side k ≡ place_of h (head_of side l) = head ∙ sym (place-rank h (head_of side l) head_in) in
               record {
                 cost = has.cost;
@@ -93,14 +95,14 @@ module _ (h : Hierarchy) (made : IsWellMade h) (side : Side) (start : ℕ) (star
               }
         ]
 
-pub up_labels : (h : Hierarchy) → IsWellMade h → (start : ℕ) → start < length h.ranks → (marks : List Mark) → IsSearching h Rise start marks → (best : Option Cost) → IsStopped marks best → AreFollowed h Rise best marks → AreUpLabels h (CountsBelow h best) start (named h marks)
+pub up_labels : (h : Hierarchy) → IsWellMade h → (start : ℕ) → start < length h.ranks → (marks : List (Mark Label)) → IsSearching h Rise start marks → (best : Option Cost) → IsStopped marks best → AreFollowed h Rise best marks → AreUpLabels h (CountsBelow h best) start (named h marks)
 up_labels h made start start_in marks is best stopped followed = record {
   start = first h made Rise start start_in marks is;
   reached = λ x a label. let back = descent h made Rise start start_in marks is x a label in (links_at h (reverse back.0), rise-chain h start back.1);
   closed = λ l a rising label counts. closed_over h made Rise start start_in marks is best stopped followed l a rising.among rising.rises (link_from h made l rising.among).to_in label counts;
 }
 
-pub down_labels : (h : Hierarchy) → IsWellMade h → (start : ℕ) → start < length h.ranks → (marks : List Mark) → IsSearching h Fall start marks → (best : Option Cost) → IsStopped marks best → AreFollowed h Fall best marks → AreDownLabels h (CountsBelow h best) start (named h marks)
+pub down_labels : (h : Hierarchy) → IsWellMade h → (start : ℕ) → start < length h.ranks → (marks : List (Mark Label)) → IsSearching h Fall start marks → (best : Option Cost) → IsStopped marks best → AreFollowed h Fall best marks → AreDownLabels h (CountsBelow h best) start (named h marks)
 down_labels h made start start_in marks is best stopped followed = record {
   start = first h made Fall start start_in marks is;
   reached = λ x a label. let back = descent h made Fall start start_in marks is x a label in (links_at h back.0, fall-chain h start back.1);
@@ -109,7 +111,7 @@ down_labels h made start start_in marks is best stopped followed = record {
       subst (λ (c : Cost). HasAtMost (named h marks) l.from c) (sum_comm a l.cost) over;
 }
 
-module _ (h : Hierarchy) (made : IsWellMade h) (s t : ℕ) (s_in : s < length h.ranks) (t_in : t < length h.ranks) (up down : List Mark) (rises : IsSearching h Rise s up) (falls : IsSearching h Fall t down) where
+module _ (h : Hierarchy) (made : IsWellMade h) (s t : ℕ) (s_in : s < length h.ranks) (t_in : t < length h.ranks) (up down : List (Mark Label)) (rises : IsSearching h Rise s up) (falls : IsSearching h Fall t down) where
   -- the best meeting by rank is that by node
   best-named : (best : Option Meeting) → IsBestMeeting h (costs_of up) (costs_of down) best → IsBest h (named h up) (named h down) (cost_of best)
   best-named None is = λ c meets. is (place_of h meets.0) c meets.1

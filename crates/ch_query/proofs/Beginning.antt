@@ -3,33 +3,35 @@ use Rattle.std.proofs.Common.{ℕ, ◌≡◌, ◌||◌, ◌+◌, ◌<◌, ◌≤
 use Rattle.ch_cost.specs.declared.cost.Cost.{Cost}
 use Rattle.ch_cost.specs.Cost.{zero_cost}
 use Rattle.ch_graph.specs.Hierarchy.{Hierarchy, IsWellMade, rank_of}
-use Rattle.ch_query.specs.declared.mark.Mark.{Mark}
-use Rattle.ch_query.specs.declared.mark.Mark.TheVariants.{Unseen, Open}
+use Rattle.ch_graph.specs.declared.mark.Mark.{Mark}
+use Rattle.ch_graph.specs.declared.mark.Mark.TheVariants.{Unseen, Open}
+use Rattle.ch_graph.specs.Marks.{settled_count}
 use Rattle.ch_query.specs.declared.side.Side.{Side}
 use Rattle.ch_query.specs.declared.side.Side.TheVariants.{Rise}
-use Rattle.ch_query.specs.Marks.{IsStopped, IsNoMore, settled_count}
+use Rattle.ch_query.specs.Marks.{IsStopped, IsNoMore}
 use Rattle.ch_query.specs.Searching.{IsSearching, AreFollowed, IsTurned}
 use Rattle.ch_query.specs.Meeting.{IsBestSoFar}
 use Rattle.ch_query.proofs.BestMeetings.{best-none}
 use Rattle.ch_query.proofs.Turning.{first_marks, no_settled, searching-start, followed-start}
 use Rattle.ch_query.proofs.Following.{counts-more}
+use Rattle.ch_query.specs.declared.label.Label.{Label}
 
-pub searching-begun : (h : Hierarchy) → IsWellMade h → (side : Side) (start : ℕ) → start < length h.ranks → (old new : List Mark) → old ≡ replicate (length h.ranks) Unseen → new ≡ set old (rank_of h start) (Open (record { cost = zero_cost; foot = rank_of h start })) → IsSearching h side start new
+pub searching-begun : (h : Hierarchy) → IsWellMade h → (side : Side) (start : ℕ) → start < length h.ranks → (old new : List (Mark Label)) → old ≡ replicate (length h.ranks) Unseen → new ≡ set old (rank_of h start) (Open (record { cost = zero_cost; foot = rank_of h start })) → IsSearching h side start new
 searching-begun h made side start start_in old new unseen begun =
-    subst (λ (ms : List Mark). IsSearching h side start ms) (sym (begun ∙ ap (λ (ms : List Mark). set ms (rank_of h start) (Open (record { cost = zero_cost; foot = rank_of h start }))) unseen)) (searching-start h made side start start_in)
+    subst (λ (ms : List (Mark Label)). IsSearching h side start ms) (sym (begun ∙ ap (λ (ms : List (Mark Label)). set ms (rank_of h start) (Open (record { cost = zero_cost; foot = rank_of h start }))) unseen)) (searching-start h made side start start_in)
 
-pub followed-begun : (h : Hierarchy) → IsWellMade h → (side : Side) (start : ℕ) → start < length h.ranks → (old new : List Mark) → old ≡ replicate (length h.ranks) Unseen → new ≡ set old (rank_of h start) (Open (record { cost = zero_cost; foot = rank_of h start })) → (limit : Option Cost) → AreFollowed h side limit new
+pub followed-begun : (h : Hierarchy) → IsWellMade h → (side : Side) (start : ℕ) → start < length h.ranks → (old new : List (Mark Label)) → old ≡ replicate (length h.ranks) Unseen → new ≡ set old (rank_of h start) (Open (record { cost = zero_cost; foot = rank_of h start })) → (limit : Option Cost) → AreFollowed h side limit new
 followed-begun h made side start start_in old new unseen begun limit =
-    subst (λ (ms : List Mark). AreFollowed h side limit ms) (sym (begun ∙ ap (λ (ms : List Mark). set ms (rank_of h start) (Open (record { cost = zero_cost; foot = rank_of h start }))) unseen)) (followed-start h made side start start_in limit)
+    subst (λ (ms : List (Mark Label)). AreFollowed h side limit ms) (sym (begun ∙ ap (λ (ms : List (Mark Label)). set ms (rank_of h start) (Open (record { cost = zero_cost; foot = rank_of h start }))) unseen)) (followed-start h made side start start_in limit)
 
 -- the other side's turn may make the limit less
-pub followed-less : (h : Hierarchy) (side : Side) (limit found : Option Cost) (marks : List Mark) → IsNoMore found limit → AreFollowed h side limit marks → AreFollowed h side found marks
+pub followed-less : (h : Hierarchy) (side : Side) (limit found : Option Cost) (marks : List (Mark Label)) → IsNoMore found limit → AreFollowed h side limit marks → AreFollowed h side found marks
 followed-less h side limit found marks less were k e climbs closed counts = were k e climbs closed (counts-more h less counts)
 
 -- the sides haven't met yet
-pub best-begun : (h : Hierarchy) → IsWellMade h → (start : ℕ) → start < length h.ranks → (old new : List Mark) → old ≡ replicate (length h.ranks) Unseen → new ≡ set old (rank_of h start) (Open (record { cost = zero_cost; foot = rank_of h start })) → (down : List Mark) → IsBestSoFar h new down None
+pub best-begun : (h : Hierarchy) → IsWellMade h → (start : ℕ) → start < length h.ranks → (old new : List (Mark Label)) → old ≡ replicate (length h.ranks) Unseen → new ≡ set old (rank_of h start) (Open (record { cost = zero_cost; foot = rank_of h start })) → (down : List (Mark Label)) → IsBestSoFar h new down None
 best-begun h made start start_in old new unseen begun down =
-    subst (λ (ms : List Mark). IsBestSoFar h ms down None) (sym (begun ∙ ap (λ (ms : List Mark). set ms (rank_of h start) (Open (record { cost = zero_cost; foot = rank_of h start }))) unseen)) (best-none h (first_marks h made Rise start start_in) down (no_settled h made Rise start start_in))
+    subst (λ (ms : List (Mark Label)). IsBestSoFar h ms down None) (sym (begun ∙ ap (λ (ms : List (Mark Label)). set ms (rank_of h start) (Open (record { cost = zero_cost; foot = rank_of h start }))) unseen)) (best-none h (first_marks h made Rise start start_in) down (no_settled h made Rise start start_in))
 
 -- Turns
 
@@ -37,19 +39,19 @@ abbrev pub one_if : Bool → ℕ
 one_if true = 1
 one_if false = 0
 
-pub turned-count : (goes_on : Bool) (old new : List Mark) (limit best : Option Cost) → IsTurned goes_on old new limit best → settled_count new ≡ settled_count old + one_if goes_on
+pub turned-count : (goes_on : Bool) (old new : List (Mark Label)) (limit best : Option Cost) → IsTurned goes_on old new limit best → settled_count new ≡ settled_count old + one_if goes_on
 turned-count true old new limit best turned = turned
 turned-count false old new limit best turned = ap settled_count turned.1 ∙ omega arith
 
-pub not-turned : (goes_on : Bool) (old new : List Mark) (limit best : Option Cost) → goes_on ≡ false → IsTurned goes_on old new limit best → IsStopped old limit × (new ≡ old) × (best ≡ limit)
+pub not-turned : (goes_on : Bool) (old new : List (Mark Label)) (limit best : Option Cost) → goes_on ≡ false → IsTurned goes_on old new limit best → IsStopped old limit × (new ≡ old) × (best ≡ limit)
 not-turned true old new limit best is turned = absurd (cc)
 not-turned false old new limit best is turned = turned
 
 -- neither side went on: both have stopped at the same best sum
-pub both-stopped : (up new_up down new_down : List Mark) (first second third : Option Cost) → IsStopped up first × (new_up ≡ up) × (second ≡ first) → IsStopped down second × (new_down ≡ down) × (third ≡ second) → IsStopped new_up third × IsStopped new_down third
+pub both-stopped : (up new_up down new_down : List (Mark Label)) (first second third : Option Cost) → IsStopped up first × (new_up ≡ up) × (second ≡ first) → IsStopped down second × (new_down ≡ down) × (third ≡ second) → IsStopped new_up third × IsStopped new_down third
 both-stopped up new_up down new_down first second third rose fell = (
-  subst (λ (ms : List Mark). IsStopped ms third) (sym rose.1) (subst (λ (o : Option Cost). IsStopped up o) (sym (fell.2 ∙ rose.2)) rose.0),
-  subst (λ (ms : List Mark). IsStopped ms third) (sym fell.1) (subst (λ (o : Option Cost). IsStopped down o) (sym fell.2) fell.0),
+  subst (λ (ms : List (Mark Label)). IsStopped ms third) (sym rose.1) (subst (λ (o : Option Cost). IsStopped up o) (sym (fell.2 ∙ rose.2)) rose.0),
+  subst (λ (ms : List (Mark Label)). IsStopped ms third) (sym fell.1) (subst (λ (o : Option Cost). IsStopped down o) (sym fell.2) fell.0),
 )
 
 pub neither : (a b : Bool) → (a || b) ≡ false → (a ≡ false) × (b ≡ false)

@@ -4,14 +4,16 @@ use Rattle.ch_cost.specs.declared.cost.Cost.{Cost}
 use Rattle.ch_cost.specs.Cost.{◌⊕◌, ◌≼◌, IsNoLonger}
 use Rattle.ch_cost.specs.Cost.Laws.{sum_comm, at_most_refl, at_most_trans, at_most_antisym, at_most-from_below, at_most_sum_left, at_most_sum_right, sum_at_most, no_longer_at_most}
 use Rattle.ch_graph.specs.Hierarchy.{Hierarchy}
+use Rattle.ch_graph.specs.Marks.{mark, label_in, settled}
+use Rattle.ch_graph.specs.Marks.Laws.{label_cases}
+use Rattle.ch_graph.specs.declared.mark.Mark.{Mark}
+use Rattle.ch_graph.specs.declared.mark.Mark.TheVariants.{Settled}
 use Rattle.ch_query.specs.declared.label.Label.{Label}
-use Rattle.ch_query.specs.declared.mark.Mark.{Mark}
-use Rattle.ch_query.specs.declared.mark.Mark.TheVariants.{Settled}
 use Rattle.ch_query.specs.declared.meeting.Meeting.{Meeting}
 use Rattle.ch_query.specs.Labels.{HasAtMost, AreShort, Meets, IsShortLimit}
-use Rattle.ch_query.specs.Marks.{mark_at, label_at, costs_of, settled_in, settled_costs, IsBelow, HasLimit, IsNoMore, IsStopped}
+use Rattle.ch_query.specs.Marks.{costs_of, settled_in, settled_costs, IsBelow, HasLimit, IsNoMore, IsStopped}
 use Rattle.ch_query.specs.Meeting.{IsShortSum, IsBestMeeting, IsMet, IsBestSoFar, IsLooked, cost_of}
-use Rattle.ch_query.proofs.Marking.{from_cost, label_cases, settled_is, limit-given}
+use Rattle.ch_query.proofs.Marking.{from_cost, settled_is, limit-given}
 
 same_given : (o : Option Cost) (c d : Cost) → o ≡ Some c → o ≡ Some d → c ≡ d
 same_given o c d is other = cc
@@ -30,17 +32,17 @@ meets-flip h up down r c m = record { rise = m.fall; fall = m.rise; risen = m.fa
 met-flip : {h : Hierarchy} {up down : ℕ → Option Cost} {m : Meeting} → IsMet h up down m → IsMet h down up m
 met-flip {h} {up} {down} {m} met = record { cost = met.cost; meets = meets-flip h up down m.rank met.cost met.meets; at_most = met.at_most; short = met.short }
 
-pub best-flip : {h : Hierarchy} {up down : List Mark} {best : Option Meeting} → IsBestSoFar h up down best → IsBestSoFar h down up best
+pub best-flip : {h : Hierarchy} {up down : List (Mark Label)} {best : Option Meeting} → IsBestSoFar h up down best → IsBestSoFar h down up best
 best-flip {h} {up} {down} is = record {
   met = λ m e. met-flip (is.met m e);
   least = λ r c m. is.least r c (meets-flip h (settled_costs down) (settled_costs up) r c m);
 }
 
 -- where one side has settled no node, there is no meeting yet
-pub best-none : (h : Hierarchy) (up down : List Mark) → ((r : ℕ) (e : Label) → mark_at up r ≡ Settled e → ⊥) → IsBestSoFar h up down None
+pub best-none : (h : Hierarchy) (up down : List (Mark Label)) → ((r : ℕ) (e : Label) → mark up r ≡ Settled e → ⊥) → IsBestSoFar h up down None
 best-none h up down never = record {
   met = λ m e. absurd (no_meeting m e);
-  least = λ r c m. let e = settled_is (mark_at up r) m.rise m.risen in absurd (never r e.0 e.1);
+  least = λ r c m. let e = settled_is (mark up r) m.rise m.risen in absurd (never r e.0 e.1);
 }
   where
     no_meeting : (m : Meeting) → None ≡ Some m → ⊥
@@ -101,11 +103,11 @@ met-from m meets = record { cost = m.cost; meets = meets; at_most = at_most_refl
 
 -- Both sides have stopped: a node that one of them didn't settle has no lesser sum
 
-module _ (h : Hierarchy) (up down : List Mark) where
-  settled_or_stopped : (marks : List Mark) (limit : Option Cost) → IsStopped marks limit → (r : ℕ) (a : Cost) → costs_of marks r ≡ Some a → (settled_costs marks r ≡ Some a) ⊎ HasLimit limit a
+module _ (h : Hierarchy) (up down : List (Mark Label)) where
+  settled_or_stopped : (marks : List (Mark Label)) (limit : Option Cost) → IsStopped marks limit → (r : ℕ) (a : Cost) → costs_of marks r ≡ Some a → (settled_costs marks r ≡ Some a) ⊎ HasLimit limit a
   settled_or_stopped marks limit stopped r a label =
-      let l = from_cost (label_at marks r) a label in
-      elim (label_cases (mark_at marks r) l.0 l.1) [
+      let l = from_cost (label_in (mark marks r)) a label in
+      elim (label_cases (mark marks r) l.0 l.1) [
         | inl opens ↦ inr (subst (λ (c : Cost). HasLimit limit c) l.2 (stopped r l.0 opens))
         | inr settled ↦ inl (ap settled_in settled ∙ ap (λ (c : Cost). Some c) l.2)
       ]
@@ -146,7 +148,7 @@ module _ (h : Hierarchy) (up down : List Mark) where
           subst (λ (c : Cost). c ≼ d) (same_limit m.cost limit.0 limit.1) limit.2
 
 -- what is found is within the bound
-pub looked-short : (h : Hierarchy) (up down : List Mark) (r : ℕ) (c : Cost) (other : Option Cost) (best found : Option Meeting) → IsBestSoFar h up down best → IsLooked h r c other best found → IsShortLimit h (cost_of found)
+pub looked-short : (h : Hierarchy) (up down : List (Mark Label)) (r : ℕ) (c : Cost) (other : Option Cost) (best found : Option Meeting) → IsBestSoFar h up down best → IsLooked h r c other best found → IsShortLimit h (cost_of found)
 looked-short h up down r c other best None was looked = λ b e. absurd (none_some b e)
   where
     none_some : (b : Cost) → None ≡ Some b → ⊥

@@ -9,18 +9,20 @@ use Rattle.ch_cost.specs.Cost.Laws.{sum_assoc, sum_comm, zero_cost-sum, sum-zero
 use Rattle.ch_graph.specs.declared.link.Link.{Link}
 use Rattle.ch_graph.specs.declared.hierarchy.LinkId.{LinkId}
 use Rattle.ch_graph.specs.Hierarchy.{Hierarchy, Chain, Chain.nothing, Chain.then, ComesBefore, IsWellMade, IsRising, IsFalling, rank_of}
+use Rattle.ch_graph.specs.Marks.{mark, label_in, HasLabel}
+use Rattle.ch_graph.specs.Marks.Laws.{label_settled}
+use Rattle.ch_graph.specs.declared.mark.Mark.{Mark}
+use Rattle.ch_graph.specs.declared.mark.Mark.TheVariants.{Settled}
 use Rattle.ch_query.specs.declared.label.Label.{Label}
-use Rattle.ch_query.specs.declared.mark.Mark.{Mark}
-use Rattle.ch_query.specs.declared.mark.Mark.TheVariants.{Settled}
 use Rattle.ch_query.specs.declared.side.Side.{Side}
 use Rattle.ch_query.specs.declared.side.Side.TheVariants.{Rise, Fall}
 use Rattle.ch_query.specs.Places.{link_at}
 use Rattle.ch_query.specs.Climb.{foot_of, head_of, foot_at, head_at, cost_at, Climbs, LeadsUp, ClimbsFrom, Descends, Descends.there, Descends.down}
-use Rattle.ch_query.specs.Marks.{mark_at, label_at, costs_of}
+use Rattle.ch_query.specs.Marks.{costs_of}
 use Rattle.ch_query.specs.Searching.{IsOfStart, ComesFrom, IsFrom, IsSearching}
 use Rattle.ch_query.proofs.Sides.{link-among, foot_in, head_in}
 use Rattle.ch_query.proofs.Ranks.{rank_below, same_node}
-use Rattle.ch_query.proofs.Marking.{from_cost, cost_is, label-settled}
+use Rattle.ch_query.proofs.Marking.{from_cost, cost_is}
 
 -- the links at these places, in order
 abbrev pub links_at : Hierarchy → List LinkId → List Link
@@ -61,13 +63,13 @@ all-reverse P [] all = All-nil P
 all-reverse P (id ∷ ids) all = All-same P (reverse (id ∷ ids)) (reverse ids ++ id ∷ []) (reverse-append (id ∷ []) ids) (All-push P (reverse ids) id (all-reverse P ids (All-tail P id ids all)) (All-head P id ids all))
 
 -- a label that names another rank came from there, and one that names its own is that of the start
-pub came_from : {h : Hierarchy} {side : Side} {start : ℕ} {marks : List Mark} → IsSearching h side start marks → (r : ℕ) (e : Label) → label_at marks r ≡ Some e → e.foot ≢ r → ComesFrom h side marks r e
+pub came_from : {h : Hierarchy} {side : Side} {start : ℕ} {marks : List (Mark Label)} → IsSearching h side start marks → (r : ℕ) (e : Label) → HasLabel (mark marks r) e → e.foot ≢ r → ComesFrom h side marks r e
 came_from is r e label other = elim (is.origin r e label) [
   | inl first ↦ absurd (other first.foot)
   | inr comes ↦ comes
 ]
 
-came_first : {h : Hierarchy} {side : Side} {start : ℕ} {marks : List Mark} → IsSearching h side start marks → (r : ℕ) (e : Label) → label_at marks r ≡ Some e → e.foot ≡ r → IsOfStart h start r e
+came_first : {h : Hierarchy} {side : Side} {start : ℕ} {marks : List (Mark Label)} → IsSearching h side start marks → (r : ℕ) (e : Label) → HasLabel (mark marks r) e → e.foot ≡ r → IsOfStart h start r e
 came_first is r e label own = elim (is.origin r e label) [
   | inl first ↦ first
   | inr comes ↦ absurd (omega (arith, own, comes.leads.climbs.rises, comes.leads.foot, comes.leads.head))
@@ -107,8 +109,8 @@ own-foot h side k climbs = record { within = climbs.within; foot = refl; climbs 
 abbrev HasDescent : Hierarchy → Side → ℕ → ℕ → Cost → Type 0
 HasDescent h side start x c = (ids : List LinkId) × Descends h side start ids x c
 
-module _ (h : Hierarchy) (made : IsWellMade h) (side : Side) (start : ℕ) (start_in : start < length h.ranks) (marks : List Mark) (is : IsSearching h side start marks) where
-  descent_from : (x : ℕ) (e : Label) → x < length h.ranks → ((y : ℕ) (d : Label) → y < length h.ranks → rank_of h y < rank_of h x → label_at marks (rank_of h y) ≡ Some d → HasDescent h side start y d.cost) → IsFrom h side start marks (rank_of h x) e → HasDescent h side start x e.cost
+module _ (h : Hierarchy) (made : IsWellMade h) (side : Side) (start : ℕ) (start_in : start < length h.ranks) (marks : List (Mark Label)) (is : IsSearching h side start marks) where
+  descent_from : (x : ℕ) (e : Label) → x < length h.ranks → ((y : ℕ) (d : Label) → y < length h.ranks → rank_of h y < rank_of h x → HasLabel (mark marks (rank_of h y)) d → HasDescent h side start y d.cost) → IsFrom h side start marks (rank_of h x) e → HasDescent h side start x e.cost
   descent_from x e x_in below from = elim from [
     | inl first ↦ ([], subst (λ y. Descends h side start [] y e.cost) (sym (same_node h made x start x_in start_in first.rank)) (subst (λ (d : Cost). Descends h side start [] start d) (sym first.cost) there))
     | inr comes ↦
@@ -117,37 +119,37 @@ module _ (h : Hierarchy) (made : IsWellMade h) (side : Side) (start : ℕ) (star
         let foot : ℕ = foot_at h side k in
         let within : k < length h.links = comes.leads.climbs.within in
         let low : rank_of h foot < rank_of h x = subst (λ q. rank_of h foot < q) comes.leads.head comes.leads.climbs.rises in
-        let label : label_at marks (rank_of h foot) ≡ Some comes.foot = label-settled _ comes.foot (subst (λ q. mark_at marks q ≡ Settled comes.foot) (sym comes.leads.foot) comes.settled) in
+        let label : HasLabel (mark marks (rank_of h foot)) comes.foot = label_settled _ comes.foot (subst (λ q. mark marks q ≡ Settled comes.foot) (sym comes.leads.foot) comes.settled) in
         let rest : HasDescent h side start foot comes.foot.cost = below foot comes.foot (foot_in h made side k within) low label in
         let step : Descends h side start (id ∷ rest.0) (head_at h side k) (comes.foot.cost ⊕ cost_at h k) = down (own-foot h side k comes.leads.climbs) rest.1 in
         let same : head_at h side k ≡ x = same_node h made (head_at h side k) x (head_in h made side k within) x_in comes.leads.head in
         (id ∷ rest.0, subst (λ (d : Cost). Descends h side start (id ∷ rest.0) x d) (sym comes.sum) (subst (λ y. Descends h side start (id ∷ rest.0) y (comes.foot.cost ⊕ cost_at h k)) same step))
   ]
 
-  descent_within : (n x : ℕ) (e : Label) → x < length h.ranks → rank_of h x < n → label_at marks (rank_of h x) ≡ Some e → HasDescent h side start x e.cost
+  descent_within : (n x : ℕ) (e : Label) → x < length h.ranks → rank_of h x < n → HasLabel (mark marks (rank_of h x)) e → HasDescent h side start x e.cost
   descent_within zero x e x_in low label = absurd (omega (arith, low))
   descent_within (suc n) x e x_in low label = descent_from x e x_in (λ y d y_in lower at_y. descent_within n y d y_in (omega (arith, low, lower)) at_y) (is.origin (rank_of h x) e label)
 
   pub descent_to : (x : ℕ) (c : Cost) → x < length h.ranks → costs_of marks (rank_of h x) ≡ Some c → (ids : List LinkId) × Descends h side start ids x c
   descent_to x c x_in label =
-      let l = from_cost (label_at marks (rank_of h x)) c label in
+      let l = from_cost (label_in (mark marks (rank_of h x))) c label in
       subst (λ (d : Cost). HasDescent h side start x d) l.2 (descent_within (rank_of h x + 1) x l.0 x_in (omega arith) l.1)
 
   -- each rank with a label is that of a node
   pub node_of : (r : ℕ) (c : Cost) → costs_of marks r ≡ Some c → (x : ℕ) × (x < length h.ranks) × (rank_of h x ≡ r)
   node_of r c label =
-      let l = from_cost (label_at marks r) c label in
+      let l = from_cost (label_in (mark marks r)) c label in
       elim (is.origin r l.0 l.1) [
         | inl first ↦ (start, start_in, sym first.rank)
         | inr comes ↦ (head_at h side comes.link, head_in h made side comes.link comes.leads.climbs.within, comes.leads.head)
       ]
 
 -- The links so far lead from a node of the top rank down to one of this rank.
-pub record IsDescending (h : Hierarchy) (side : Side) (start : ℕ) (marks : List Mark) (top rank : ℕ) (ids : List LinkId) : Type 0 where
+pub record IsDescending (h : Hierarchy) (side : Side) (start : ℕ) (marks : List (Mark Label)) (top rank : ℕ) (ids : List LinkId) : Type 0 where
   pub rank_in : rank < length h.ranks
   pub joins : (x : ℕ) (c : Cost) → x < length h.ranks → rank_of h x ≡ top → costs_of marks top ≡ Some c → (y : ℕ) × (y < length h.ranks) × (rank_of h y ≡ rank) × (d : Cost) × (costs_of marks rank ≡ Some d) × ((rest : List LinkId) → Descends h side start rest y d → Descends h side start (ids ++ rest) x c)
 
-pub descending-none : {h : Hierarchy} {side : Side} {start : ℕ} {marks : List Mark} (top : ℕ) → top < length h.ranks → IsDescending h side start marks top top []
+pub descending-none : {h : Hierarchy} {side : Side} {start : ℕ} {marks : List (Mark Label)} (top : ℕ) → top < length h.ranks → IsDescending h side start marks top top []
 descending-none top top_in = record {
   rank_in = top_in;
   joins = λ x c x_in at label. (x, x_in, at, c, label, λ rest below. below);
@@ -156,7 +158,7 @@ descending-none top top_in = record {
 one_cost : (o : Option Cost) (c d : Cost) → o ≡ Some c → o ≡ Some d → c ≡ d
 one_cost o c d first second = cc
 
-pub descending-more : {h : Hierarchy} {side : Side} {start : ℕ} {marks : List Mark} (made : IsWellMade h) → IsSearching h side start marks → (top rank : ℕ) (e : Label) (k : ℕ) (ids : List LinkId) → label_at marks rank ≡ Some e → e.foot ≢ rank → LeadsUp h side e.foot rank k → IsDescending h side start marks top rank ids → IsDescending h side start marks top e.foot (ids ++ record { 0 = k } ∷ [])
+pub descending-more : {h : Hierarchy} {side : Side} {start : ℕ} {marks : List (Mark Label)} (made : IsWellMade h) → IsSearching h side start marks → (top rank : ℕ) (e : Label) (k : ℕ) (ids : List LinkId) → HasLabel (mark marks rank) e → e.foot ≢ rank → LeadsUp h side e.foot rank k → IsDescending h side start marks top rank ids → IsDescending h side start marks top e.foot (ids ++ record { 0 = k } ∷ [])
 descending-more {h} {side} {start} {marks} made is top rank e k ids label other leads so_far =
     let comes : ComesFrom h side marks rank e = came_from is rank e label other in
     let link : comes.link ≡ k = one_link h made side e.foot rank comes.link k comes.leads leads in
@@ -174,7 +176,7 @@ descending-more {h} {side} {start} {marks} made is top rank e k ids label other 
             foot_in h made side k within,
             leads.foot,
             comes.foot.cost,
-            cost_is marks e.foot comes.foot (label-settled _ comes.foot comes.settled),
+            cost_is marks e.foot comes.foot (label_settled _ comes.foot comes.settled),
             λ rest below.
                 let id : LinkId = record { 0 = k } in
                 let step : Descends h side start (id ∷ rest) (head_at h side k) (comes.foot.cost ⊕ cost_at h k) = down (own-foot h side k leads.climbs) below in
@@ -183,12 +185,12 @@ descending-more {h} {side} {start} {marks} made is top rank e k ids label other 
           );
     }
 
-pub descended : {h : Hierarchy} {side : Side} {start : ℕ} {marks : List Mark} (made : IsWellMade h) → start < length h.ranks → IsSearching h side start marks → (top rank : ℕ) (ids : List LinkId) → ((e : Label) → label_at marks rank ≡ Some e → e.foot ≡ rank) → IsDescending h side start marks top rank ids → (x : ℕ) (c : Cost) → x < length h.ranks → rank_of h x ≡ top → costs_of marks top ≡ Some c → Descends h side start ids x c
+pub descended : {h : Hierarchy} {side : Side} {start : ℕ} {marks : List (Mark Label)} (made : IsWellMade h) → start < length h.ranks → IsSearching h side start marks → (top rank : ℕ) (ids : List LinkId) → ((e : Label) → HasLabel (mark marks rank) e → e.foot ≡ rank) → IsDescending h side start marks top rank ids → (x : ℕ) (c : Cost) → x < length h.ranks → rank_of h x ≡ top → costs_of marks top ≡ Some c → Descends h side start ids x c
 descended {h} {side} {start} {marks} made start_in is top rank ids own so_far x c x_in at label =
     let old = so_far.joins x c x_in at label in
     let y : ℕ = old.0 in
     let d : Cost = old.3 in
-    let l = from_cost (label_at marks rank) d old.4 in
+    let l = from_cost (label_in (mark marks rank)) d old.4 in
     let first : IsOfStart h start rank l.0 = came_first is rank l.0 l.1 (own l.0 l.1) in
     let same : y ≡ start = same_node h made y start old.1 start_in (old.2 ∙ first.rank) in
     let here : Descends h side start [] y d = subst (λ z. Descends h side start [] z d) (sym same) (subst (λ (e : Cost). Descends h side start [] start e) (sym first.cost ∙ l.2) there) in

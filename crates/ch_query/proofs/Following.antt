@@ -6,23 +6,24 @@ use Rattle.ch_cost.specs.declared.cost.Cost.{Cost}
 use Rattle.ch_cost.specs.Cost.{◌⊕◌, ◌≼◌, ◌≺◌, IsNoLonger}
 use Rattle.ch_cost.specs.Cost.Laws.{at_most_refl, at_most-from_below, below_trans_at_most, no_longer_at_most}
 use Rattle.ch_graph.specs.Hierarchy.{Hierarchy, IsWellMade, rank_of}
+use Rattle.ch_graph.specs.Marks.{mark, Improves, settled}
+use Rattle.ch_graph.specs.Marks.Laws.{cases_put, count-open, improves-not_settled, improves-unsettled, open-open, open-settled, put-set}
+use Rattle.ch_graph.specs.declared.mark.Mark.{Mark}
+use Rattle.ch_graph.specs.declared.mark.Mark.TheVariants.{Open, Settled}
 use Rattle.ch_query.specs.declared.label.Label.{Label}
-use Rattle.ch_query.specs.declared.mark.Mark.{Mark}
-use Rattle.ch_query.specs.declared.mark.Mark.TheVariants.{Open, Settled}
 use Rattle.ch_query.specs.declared.side.Side.{Side}
 use Rattle.ch_query.specs.declared.upward.Step.{Step}
 use Rattle.ch_query.specs.Labels.{HasAtMost, CountsBelow}
 use Rattle.ch_query.specs.Climb.{foot_at, foot_rank, head_rank, cost_at, Climbs, LeadsUp, ClimbsFrom}
 use Rattle.ch_query.specs.Upward.{IsLaidOut}
-use Rattle.ch_query.specs.Marks.{mark_at, costs_of, Improves, IsNoMore}
+use Rattle.ch_query.specs.Marks.{costs_of, IsNoMore, IsLatest, IsSettledAtMost, label_cost}
 use Rattle.ch_query.specs.Searching.{IsStepAt, IsFollowed, ClimbsTo, IsOpenedBy, ArePassed}
-use Rattle.ch_query.specs.Marks.{IsLatest, IsSettledAtMost}
 use Rattle.ch_query.proofs.Sides.{foot_in}
 use Rattle.ch_query.proofs.Ranks.{same_node, rank_taken}
 use Rattle.ch_query.proofs.Laying.{links_are, step_at, as_many}
-use Rattle.ch_query.proofs.Marking.{cases_write, open-settled, open-open, not_improves, improves-unsettled, improves-not_settled, no_later-settled, count-open, open-here, open-kept}
+use Rattle.ch_query.proofs.Marking.{not_improves, no_later-settled, open-here, open-kept}
 
-pub opened-none : (h : Hierarchy) (side : Side) (r : ℕ) (c : Cost) (marks : List Mark) → IsOpenedBy h side r c marks marks
+pub opened-none : (h : Hierarchy) (side : Side) (r : ℕ) (c : Cost) (marks : List (Mark Label)) → IsOpenedBy h side r c marks marks
 opened-none h side r c marks = record {
   nodes = refl;
   count = refl;
@@ -32,7 +33,7 @@ opened-none h side r c marks = record {
   kept = λ q a has. has;
 }
 
-pub opened-more : {h : Hierarchy} {side : Side} {r : ℕ} {c : Cost} {old mid new : List Mark} → IsOpenedBy h side r c old mid → IsOpenedBy h side r c mid new → IsOpenedBy h side r c old new
+pub opened-more : {h : Hierarchy} {side : Side} {r : ℕ} {c : Cost} {old mid new : List (Mark Label)} → IsOpenedBy h side r c old mid → IsOpenedBy h side r c mid new → IsOpenedBy h side r c old new
 opened-more first second = record {
   nodes = second.nodes ∙ first.nodes;
   count = second.count ∙ first.count;
@@ -46,19 +47,19 @@ opened-more first second = record {
 }
 
 -- the node of rank q is opened with the label e, to which a link leads
-pub opened-one : (h : Hierarchy) (side : Side) (r : ℕ) (c : Cost) (marks : List Mark) (q : ℕ) (e : Label) → q < length marks → Improves e.cost (mark_at marks q) → ClimbsTo h side r c q e → IsOpenedBy h side r c marks (set marks q (Open e))
+pub opened-one : (h : Hierarchy) (side : Side) (r : ℕ) (c : Cost) (marks : List (Mark Label)) (q : ℕ) (e : Label) → q < length marks → Improves label_cost e.cost (mark marks q) → ClimbsTo h side r c q e → IsOpenedBy h side r c marks (set marks q (Open e))
 opened-one h side r c marks q e within improves climbs = record {
   nodes = length-set marks q (Open e);
-  count = count-open marks q e within (improves-unsettled (mark_at marks q) e.cost improves);
-  stays = λ p d closed. elim (cases_write marks q (Open e) p within) [
-    | inl w ↦ absurd (improves-not_settled (mark_at marks q) e.cost d improves (subst (λ x. mark_at marks x ≡ Settled d) w.at closed))
+  count = count-open marks q e within (improves-unsettled label_cost (mark marks q) e.cost improves);
+  stays = λ p d closed. elim (cases_put (put-set marks q (Open e) within) p) [
+    | inl w ↦ absurd (improves-not_settled label_cost (mark marks q) e.cost d improves (subst (λ x. mark marks x ≡ Settled d) w.at closed))
     | inr k ↦ k.reads ∙ closed
   ];
-  settled = λ p d closed. elim (cases_write marks q (Open e) p within) [
+  settled = λ p d closed. elim (cases_put (put-set marks q (Open e) within) p) [
     | inl w ↦ absurd (open-settled (sym w.reads ∙ closed))
     | inr k ↦ sym k.reads ∙ closed
   ];
-  opened = λ p d opens. elim (cases_write marks q (Open e) p within) [
+  opened = λ p d opens. elim (cases_put (put-set marks q (Open e) within) p) [
     | inl w ↦ inr (subst (λ x. ClimbsTo h side r c x d) (sym w.at) (subst (λ (l : Label). ClimbsTo h side r c q l) (open-open (sym w.reads ∙ opens)) climbs))
     | inr k ↦ inl (sym k.reads ∙ opens)
   ];
@@ -66,7 +67,7 @@ opened-one h side r c marks q e within improves climbs = record {
 }
 
 -- a link was followed: its head got the label
-pub followed-put : (h : Hierarchy) (side : Side) (c : Cost) (limit : Option Cost) (marks : List Mark) (k : ℕ) (head : ℕ) (e : Label) → head < length marks → Improves e.cost (mark_at marks head) → head ≡ head_rank h side k → e.cost ≡ c ⊕ cost_at h k → IsFollowed h side c limit (set marks head (Open e)) k
+pub followed-put : (h : Hierarchy) (side : Side) (c : Cost) (limit : Option Cost) (marks : List (Mark Label)) (k : ℕ) (head : ℕ) (e : Label) → head < length marks → Improves label_cost e.cost (mark marks head) → head ≡ head_rank h side k → e.cost ≡ c ⊕ cost_at h k → IsFollowed h side c limit (set marks head (Open e)) k
 followed-put h side c limit marks k head e within improves at sum counts =
     let here : HasAtMost (costs_of (set marks head (Open e))) head (c ⊕ cost_at h k) = record {
       cost = e.cost;
@@ -76,14 +77,14 @@ followed-put h side c limit marks k head e within improves at sum counts =
     subst (λ x. HasAtMost (costs_of (set marks head (Open e))) x (c ⊕ cost_at h k)) at here
 
 -- if the head is settled, its label costs at most the climb: it is of a higher rank than the foot
-pub climb-settled : (h : Hierarchy) (side : Side) (c : Cost) (marks : List Mark) (r : ℕ) (k : ℕ) (head : ℕ) (sum : Cost) → LeadsUp h side r head k → IsLatest marks c r → sum ≡ c ⊕ cost_at h k → IsSettledAtMost marks head sum
+pub climb-settled : (h : Hierarchy) (side : Side) (c : Cost) (marks : List (Mark Label)) (r : ℕ) (k : ℕ) (head : ℕ) (sum : Cost) → LeadsUp h side r head k → IsLatest marks c r → sum ≡ c ⊕ cost_at h k → IsSettledAtMost marks head sum
 climb-settled h side c marks r k head sum leads latest is_sum e closed =
     subst (λ (d : Cost). e.cost ≼ d) (sym is_sum) (no_later-settled (cost_at h k) (latest head e closed) (omega (arith, leads.climbs.rises, leads.foot, leads.head)))
 
 -- or it had one of no more
-pub followed-kept : (h : Hierarchy) (side : Side) (c : Cost) (limit : Option Cost) (marks : List Mark) (k : ℕ) (head : ℕ) (sum : Cost) → (Improves sum (mark_at marks head) → ⊥) → IsSettledAtMost marks head sum → head ≡ head_rank h side k → sum ≡ c ⊕ cost_at h k → IsFollowed h side c limit marks k
+pub followed-kept : (h : Hierarchy) (side : Side) (c : Cost) (limit : Option Cost) (marks : List (Mark Label)) (k : ℕ) (head : ℕ) (sum : Cost) → (Improves label_cost sum (mark marks head) → ⊥) → IsSettledAtMost marks head sum → head ≡ head_rank h side k → sum ≡ c ⊕ cost_at h k → IsFollowed h side c limit marks k
 followed-kept h side c limit marks k head sum never above at is_sum counts =
-    let label = not_improves (mark_at marks head) sum never above in
+    let label = not_improves (mark marks head) sum never above in
     let here : HasAtMost (costs_of marks) head (c ⊕ cost_at h k) = record { cost = label.0; labelled = label.1; at_most = subst (λ (d : Cost). label.0 ≼ d) is_sum label.2 } in
     subst (λ x. HasAtMost (costs_of marks) x (c ⊕ cost_at h k)) at here
 
@@ -113,11 +114,11 @@ counts-short h c = (λ short. record { short = short; below = λ a is. absurd (n
     never : (a : Cost) → None ≡ Some a → ⊥
     never a e = cc
 
-pub followed-more : {h : Hierarchy} {side : Side} {r : ℕ} {c : Cost} {limit : Option Cost} {mid new : List Mark} → IsOpenedBy h side r c mid new → (k : ℕ) → IsFollowed h side c limit mid k → IsFollowed h side c limit new k
+pub followed-more : {h : Hierarchy} {side : Side} {r : ℕ} {c : Cost} {limit : Option Cost} {mid new : List (Mark Label)} → IsOpenedBy h side r c mid new → (k : ℕ) → IsFollowed h side c limit mid k → IsFollowed h side c limit new k
 followed-more {h} {side} {c = c} opened k done counts = opened.kept (head_rank h side k) (c ⊕ cost_at h k) (done counts)
 
 -- no more is settled by opening nodes
-pub latest-more : {h : Hierarchy} {side : Side} {r : ℕ} {c : Cost} {old new : List Mark} → IsOpenedBy h side r c old new → IsLatest old c r → IsLatest new c r
+pub latest-more : {h : Hierarchy} {side : Side} {r : ℕ} {c : Cost} {old new : List (Mark Label)} → IsOpenedBy h side r c old new → IsLatest old c r → IsLatest new c r
 latest-more opened latest q d closed = latest q d (opened.settled q d closed)
 
 -- Links by their feet
@@ -137,18 +138,18 @@ from-climbs h made side v k v_in climbs foot = record {
 }
 
 -- The links from one place on are followed one by one: those before the next one were.
-pub record IsPassing (h : Hierarchy) (side : Side) (r : ℕ) (c : Cost) (links : List ℕ) (begin next : ℕ) (limit : Option Cost) (old new : List Mark) : Type 0 where
+pub record IsPassing (h : Hierarchy) (side : Side) (r : ℕ) (c : Cost) (links : List ℕ) (begin next : ℕ) (limit : Option Cost) (old new : List (Mark Label)) : Type 0 where
   pub opened : IsOpenedBy h side r c old new
   pub followed : (i : ℕ) → begin ≤ i → i < next → IsFollowed h side c limit new (slice_index links i)
 
-pub passing-none : (h : Hierarchy) (side : Side) (r : ℕ) (c : Cost) (links : List ℕ) (begin : ℕ) (limit : Option Cost) (marks : List Mark) → IsPassing h side r c links begin begin limit marks marks
+pub passing-none : (h : Hierarchy) (side : Side) (r : ℕ) (c : Cost) (links : List ℕ) (begin : ℕ) (limit : Option Cost) (marks : List (Mark Label)) → IsPassing h side r c links begin begin limit marks marks
 passing-none h side r c links begin limit marks = record {
   opened = opened-none h side r c marks;
   followed = λ i from low. absurd (omega (arith, from, low));
 }
 
 -- one more link was followed
-pub passing-more : {h : Hierarchy} {side : Side} {r : ℕ} {c : Cost} {links : List ℕ} {begin : ℕ} {limit : Option Cost} {old mid new : List Mark} (next : ℕ) → IsPassing h side r c links begin next limit old mid → IsOpenedBy h side r c mid new → IsFollowed h side c limit new (slice_index links next) → IsPassing h side r c links begin (next + 1) limit old new
+pub passing-more : {h : Hierarchy} {side : Side} {r : ℕ} {c : Cost} {links : List ℕ} {begin : ℕ} {limit : Option Cost} {old mid new : List (Mark Label)} (next : ℕ) → IsPassing h side r c links begin next limit old mid → IsOpenedBy h side r c mid new → IsFollowed h side c limit new (slice_index links next) → IsPassing h side r c links begin (next + 1) limit old new
 passing-more {h} {side} {r} {c} {links} {limit = limit} {new = new} next is opened done = record {
   opened = opened-more is.opened opened;
   followed = λ i from low. elim (cases_lt i next) [
@@ -162,7 +163,7 @@ passing-more {h} {side} {r} {c} {links} {limit = limit} {new = new} next is open
 -- what a rank has in the lists of a side
 module _ (h : Hierarchy) (made : IsWellMade h) (side : Side) (first links : List ℕ) (steps : List Step) (laid : IsLaidOut h side first links steps) (r : ℕ) (low : r < length h.ranks) where
   -- all its links were followed
-  pub passed_over : (c : Cost) (next : ℕ) → slice_index first (r + 1) ≤ next → (limit : Option Cost) (old new : List Mark) → IsPassing h side r c links (slice_index first r) next limit old new → ArePassed h side r c limit new
+  pub passed_over : (c : Cost) (next : ℕ) → slice_index first (r + 1) ≤ next → (limit : Option Cost) (old new : List (Mark Label)) → IsPassing h side r c links (slice_index first r) next limit old new → ArePassed h side r c limit new
   passed_over c next whole limit old new is k climbs foot =
       let v = rank_taken h made r low in
       let from : ClimbsFrom h side v.0 k = from-climbs h made side v.0 k v.1 climbs (foot ∙ sym v.2) in

@@ -1,110 +1,37 @@
 -- Marks, one of which is written.
-use Rattle.std.proofs.Common.{ℕ, ◌≡◌, ◌+◌, ◌<◌, ◌≤◌, ◌⊎◌, ◌↔◌, List, zero, suc, get_or, length, set, replicate, Option, Some, None, ap, refl, sym, subst, ◌∙◌, inl, inr, arith}
-use Rattle.std.proofs.lemmas.Bool.{cases_eq, cases_lt}
-use Rattle.std.proofs.lemmas.List.{get_or-set_same, get_or-set_other, get_or-replicate, get_or_past, length-replicate, length-map, map-set, get_or-map}
-use Rattle.std.proofs.lemmas.List.Elements.{All-from_get_or}
-use Rattle.std.proofs.lemmas.List.Sums.{sum_by-set, sum_by-le}
+use Rattle.std.proofs.Common.{ℕ, ◌≡◌, ◌<◌, ◌↔◌, List, zero, suc, get_or, length, set, replicate, Option, Some, None, ap, refl, sym, subst, ◌∙◌, inl, inr, arith}
+use Rattle.std.proofs.lemmas.Bool.{cases_lt}
+use Rattle.std.proofs.lemmas.List.{length-map, map-set, get_or-map}
 use Rattle.ch_cost.specs.declared.cost.Cost.{Cost}
 use Rattle.ch_cost.specs.Cost.{◌⊕◌, ◌≼◌, ◌≺◌, length_of}
 use Rattle.ch_cost.specs.Cost.Laws.{at_most_refl, at_most_trans, at_most-from_below, below_not_at_most, below-from_lengths, cases_cost, length_of-sum}
+use Rattle.ch_graph.specs.Marks.{mark, label_in, HasLabel, Improves}
+use Rattle.ch_graph.specs.Marks.Laws.{cases_put, label_open, open-in, put-set}
+use Rattle.ch_graph.specs.declared.mark.Mark.{Mark}
+use Rattle.ch_graph.specs.declared.mark.Mark.TheVariants.{Unseen, Open, Settled}
 use Rattle.ch_query.specs.declared.kept_mark.KeptMark.{KeptMark}
 use Rattle.ch_query.specs.declared.label.Label.{Label}
-use Rattle.ch_query.specs.declared.mark.Mark.{Mark}
-use Rattle.ch_query.specs.declared.mark.Mark.TheVariants.{Unseen, Open, Settled}
 use Rattle.ch_query.specs.Labels.{HasAtMost}
-use Rattle.ch_query.specs.Marks.{mark_at, label_in, label_at, option_cost, costs_of, mark_in, marks_in, settled_in, settled_costs, IsNoLater, Improves, IsBelow, IsUpTo, HasLimit, settled, settled_count}
-
--- the mark that is read after one was written: the new one, or that of another rank
-pub record IsWritten (marks : List Mark) (r : ℕ) (m : Mark) (q : ℕ) : Type 0 where
-  pub at : q ≡ r
-  pub reads : mark_at (set marks r m) q ≡ m
-
-pub record IsKept (marks : List Mark) (r : ℕ) (m : Mark) (q : ℕ) : Type 0 where
-  pub other : q ≡ r → ⊥
-  pub reads : mark_at (set marks r m) q ≡ mark_at marks q
-
-pub cases_write : (marks : List Mark) (r : ℕ) (m : Mark) (q : ℕ) → r < length marks → IsWritten marks r m q ⊎ IsKept marks r m q
-cases_write marks r m q within = elim (cases_eq q r) [
-  | inl e ↦ inl (record { at = e; reads = subst (λ w. mark_at (set marks r m) w ≡ m) (sym e) (get_or-set_same marks r m Unseen within) })
-  | inr d ↦ inr (record { other = d; reads = get_or-set_other marks r q m Unseen d })
-]
-
-pub write_here : (marks : List Mark) (r : ℕ) (m : Mark) → r < length marks → mark_at (set marks r m) r ≡ m
-write_here marks r m within = get_or-set_same marks r m Unseen within
-
--- Marks and labels
-
-pub unseen-open : {d : Label} → Unseen ≡ Open d → ⊥
-unseen-open e = cc
-
-pub unseen-settled : {d : Label} → Unseen ≡ Settled d → ⊥
-unseen-settled e = cc
-
-pub open-settled : {c d : Label} → Open c ≡ Settled d → ⊥
-open-settled e = cc
-
-pub open-open : {c d : Label} → Open c ≡ Open d → c ≡ d
-open-open e = cc
-
-pub settled-settled : {c d : Label} → Settled c ≡ Settled d → c ≡ d
-settled-settled e = cc
-
-pub some-label : {c d : Label} → Some c ≡ Some d → c ≡ d
-some-label e = cc
-
-pub unseen-at : (nodes r : ℕ) → mark_at (replicate nodes Unseen) r ≡ Unseen
-unseen-at nodes r = elim (cases_lt r nodes) [
-  | inl low ↦ get_or-replicate nodes r Unseen Unseen low
-  | inr past ↦ get_or_past (replicate nodes Unseen) r Unseen (omega (arith, past, length-replicate nodes Unseen))
-]
-
--- what has a mark other than unseen is in range
-pub open-in : (marks : List Mark) (r : ℕ) (e : Label) → mark_at marks r ≡ Open e → r < length marks
-open-in marks r e is = elim (cases_lt r (length marks)) [
-  | inl low ↦ low
-  | inr past ↦ absurd (unseen-open (sym (get_or_past marks r Unseen past) ∙ is))
-]
-
-no_label : (m : Mark) (e : Label) → m ≡ Unseen → label_in m ≡ Some e → ⊥
-no_label Unseen e is label = cc
-no_label (Open d) e is label = absurd (unseen-open (sym is))
-no_label (Settled d) e is label = absurd (unseen-settled (sym is))
-
-pub label-in : (marks : List Mark) (r : ℕ) (e : Label) → label_at marks r ≡ Some e → r < length marks
-label-in marks r e is = elim (cases_lt r (length marks)) [
-  | inl low ↦ low
-  | inr past ↦ absurd (no_label (mark_at marks r) e (get_or_past marks r Unseen past) is)
-]
-
-pub label_cases : (m : Mark) (e : Label) → label_in m ≡ Some e → (m ≡ Open e) ⊎ (m ≡ Settled e)
-label_cases Unseen e is = absurd (cc)
-label_cases (Open d) e is = let same : d ≡ e = cc in inl (ap (λ (l : Label). Open l) same)
-label_cases (Settled d) e is = let same : d ≡ e = cc in inr (ap (λ (l : Label). Settled l) same)
-
-pub label-open : (m : Mark) (e : Label) → m ≡ Open e → label_in m ≡ Some e
-label-open m e is = ap label_in is
-
-pub label-settled : (m : Mark) (e : Label) → m ≡ Settled e → label_in m ≡ Some e
-label-settled m e is = ap label_in is
+use Rattle.ch_query.specs.Marks.{option_cost, costs_of, mark_in, marks_in, settled_in, settled_costs, IsNoLater, IsBelow, IsUpTo, HasLimit, label_cost}
 
 -- a cost is that of a label
 pub from_cost : (o : Option Label) (c : Cost) → option_cost o ≡ Some c → (e : Label) × (o ≡ Some e) × (e.cost ≡ c)
 from_cost None c is = absurd (cc)
 from_cost (Some e) c is = (e, refl, cc)
 
-pub cost_is : (marks : List Mark) (r : ℕ) (e : Label) → label_at marks r ≡ Some e → costs_of marks r ≡ Some e.cost
+pub cost_is : (marks : List (Mark Label)) (r : ℕ) (e : Label) → HasLabel (mark marks r) e → costs_of marks r ≡ Some e.cost
 cost_is marks r e is = ap option_cost is
 
 -- and a settled node's that of the label with which it was settled
-pub settled_is : (m : Mark) (c : Cost) → settled_in m ≡ Some c → (e : Label) × (m ≡ Settled e) × (e.cost ≡ c)
+pub settled_is : (m : Mark Label) (c : Cost) → settled_in m ≡ Some c → (e : Label) × (m ≡ Settled e) × (e.cost ≡ c)
 settled_is Unseen c is = absurd (cc)
 settled_is (Open e) c is = absurd (cc)
 settled_is (Settled e) c is = (e, refl, cc)
 
-pub settled-cost : (marks : List Mark) (r : ℕ) (c : Cost) → settled_costs marks r ≡ Some c → costs_of marks r ≡ Some c
+pub settled-cost : (marks : List (Mark Label)) (r : ℕ) (c : Cost) → settled_costs marks r ≡ Some c → costs_of marks r ≡ Some c
 settled-cost marks r c is =
-    let e = settled_is (mark_at marks r) c is in
-    ap (λ (m : Mark). option_cost (label_in m)) e.1 ∙ ap (λ (d : Cost). Some d) e.2
+    let e = settled_is (mark marks r) c is in
+    ap (λ (m : Mark Label). option_cost (label_in m)) e.1 ∙ ap (λ (d : Cost). Some d) e.2
 
 -- what isn't below a limit is at least that
 pub limit-given : (c : Cost) (limit : Option Cost) → (IsBelow c limit → ⊥) → HasLimit limit c
@@ -116,11 +43,8 @@ pub limit-longer : (c : Cost) (limit : Option Cost) → (IsUpTo (length_of c) li
 limit-longer c None never = absurd (never tt)
 limit-longer c (Some b) never = (b, refl, elim (cases_lt (length_of b) (length_of c)) [ inl longer ↦ at_most-from_below (below-from_lengths b c longer) | inr most ↦ absurd (never most) ])
 
-pub has_own : (marks : List Mark) (r : ℕ) (e : Label) → label_at marks r ≡ Some e → HasAtMost (costs_of marks) r e.cost
-has_own marks r e is = record { cost = e.cost; labelled = cost_is marks r e is; at_most = at_most_refl e.cost }
-
 -- a label gives way to a lesser one
-pub improves-less : (m : Mark) (c d a : Cost) → Improves c m → option_cost (label_in m) ≡ Some a → a ≼ d → c ≼ d
+pub improves-less : (m : Mark Label) (c d a : Cost) → Improves label_cost c m → option_cost (label_in m) ≡ Some a → a ≼ d → c ≼ d
 improves-less Unseen c d a improves is most = absurd (cc)
 improves-less (Open e) c d a improves is most =
     let same : e.cost ≡ a = cc in
@@ -128,20 +52,10 @@ improves-less (Open e) c d a improves is most =
 improves-less (Settled e) c d a improves is most = absurd improves
 
 -- a cost that isn't better is at least the label's, if it is at least that of each settled node
-pub not_improves : (m : Mark) (c : Cost) → (Improves c m → ⊥) → ((e : Label) → m ≡ Settled e → e.cost ≼ c) → (b : Cost) × (option_cost (label_in m) ≡ Some b) × (b ≼ c)
+pub not_improves : (m : Mark Label) (c : Cost) → (Improves label_cost c m → ⊥) → ((e : Label) → m ≡ Settled e → e.cost ≼ c) → (b : Cost) × (option_cost (label_in m) ≡ Some b) × (b ≼ c)
 not_improves Unseen c never latest = absurd (never tt)
 not_improves (Open e) c never latest = (e.cost, refl, elim (cases_cost c e.cost) [ inl below ↦ absurd (never below) | inr most ↦ most ])
 not_improves (Settled e) c never latest = (e.cost, refl, latest e refl)
-
-pub improves-unsettled : (m : Mark) (c : Cost) → Improves c m → settled m ≡ 0
-improves-unsettled Unseen c improves = refl
-improves-unsettled (Open e) c improves = refl
-improves-unsettled (Settled e) c improves = absurd improves
-
-pub improves-not_settled : (m : Mark) (c : Cost) (e : Label) → Improves c m → m ≡ Settled e → ⊥
-improves-not_settled Unseen c e improves is = unseen-settled is
-improves-not_settled (Open d) c e improves is = open-settled is
-improves-not_settled (Settled d) c e improves is = improves
 
 -- The order in which nodes are settled
 
@@ -169,7 +83,7 @@ no_later-settled {d} {c} w before higher = at_most-from_below (below-from_length
 ]))
 
 -- A climb is better than a label where it costs less
-pub better_than : (m : Mark) (c known : Cost) → ((e : Label) → m ≡ Settled e → e.cost ≼ c) → Some known ≡ option_cost (label_in m) → (c ≺ known) ↔ Improves c m
+pub better_than : (m : Mark Label) (c known : Cost) → ((e : Label) → m ≡ Settled e → e.cost ≼ c) → Some known ≡ option_cost (label_in m) → (c ≺ known) ↔ Improves label_cost c m
 better_than Unseen c known latest is = absurd (cc)
 better_than (Open e) c known latest is =
     let same : known ≡ e.cost = cc in
@@ -183,51 +97,35 @@ better_than (Settled e) c known latest is =
 pub as_many : (kept : List KeptMark) → length (marks_in kept) ≡ length kept
 as_many kept = length-map kept mark_in
 
-pub mark_read : (kept : List KeptMark) (r : ℕ) (k : KeptMark) → r < length kept → k ≡ get_or kept r k → mark_in k ≡ mark_at (marks_in kept) r
+pub mark_read : (kept : List KeptMark) (r : ℕ) (k : KeptMark) → r < length kept → k ≡ get_or kept r k → mark_in k ≡ mark (marks_in kept) r
 mark_read kept r k within read = ap mark_in read ∙ sym (get_or-map mark_in kept r k Unseen within)
 
-pub mark_written : (kept : List KeptMark) (r : ℕ) (k : KeptMark) (m : Mark) → mark_in k ≡ m → marks_in (set kept r k) ≡ set (marks_in kept) r m
-mark_written kept r k m is = map-set mark_in kept r k ∙ ap (λ (n : Mark). set (marks_in kept) r n) is
+pub mark_written : (kept : List KeptMark) (r : ℕ) (k : KeptMark) (m : Mark Label) → mark_in k ≡ m → marks_in (set kept r k) ≡ set (marks_in kept) r m
+mark_written kept r k m is = map-set mark_in kept r k ∙ ap (λ (n : Mark Label). set (marks_in kept) r n) is
 
 pub first_marks : (nodes : ℕ) (k : KeptMark) → mark_in k ≡ Unseen → marks_in (replicate nodes k) ≡ replicate nodes Unseen
 first_marks zero k is = refl
 first_marks (suc n) k is = cc (is, first_marks n k is)
 
--- How many nodes are settled
-
-pub count-open : (marks : List Mark) (r : ℕ) (e : Label) → r < length marks → settled (mark_at marks r) ≡ 0 → settled_count (set marks r (Open e)) ≡ settled_count marks
-count-open marks r e within none_is = omega (arith, sum_by-set settled marks r (Open e) Unseen within, none_is)
-
-pub count-settle : (marks : List Mark) (r : ℕ) (e d : Label) → r < length marks → mark_at marks r ≡ Open d → settled_count (set marks r (Settled e)) ≡ settled_count marks + 1
-count-settle marks r e d within is = omega (arith, sum_by-set settled marks r (Settled e) Unseen within, ap settled is)
-
-settled-most : (m : Mark) → settled m ≤ 1
-settled-most Unseen = omega arith
-settled-most (Open e) = omega arith
-settled-most (Settled e) = omega arith
-
-pub count-most : (marks : List Mark) → settled_count marks ≤ length marks
-count-most marks = omega (arith, sum_by-le settled 1 marks (All-from_get_or (λ m. settled m ≤ 1) marks Unseen (λ k low. settled-most (mark_at marks k))))
-
 -- A node is opened
 
-module _ (marks : List Mark) (r : ℕ) (e : Label) (within : r < length marks) (improves : Improves e.cost (mark_at marks r)) where
+module _ (marks : List (Mark Label)) (r : ℕ) (e : Label) (within : r < length marks) (improves : Improves label_cost e.cost (mark marks r)) where
   pub open-here : costs_of (set marks r (Open e)) r ≡ Some e.cost
-  open-here = cost_is (set marks r (Open e)) r e (label-open _ e (write_here marks r (Open e) within))
+  open-here = cost_is (set marks r (Open e)) r e (label_open _ e ((put-set marks r (Open e) within).here))
 
   pub open-kept : (q : ℕ) (c : Cost) → HasAtMost (costs_of marks) q c → HasAtMost (costs_of (set marks r (Open e))) q c
-  open-kept q c has = elim (cases_write marks r (Open e) q within) [
+  open-kept q c has = elim (cases_put (put-set marks r (Open e) within) q) [
     | inl w ↦ record {
       cost = e.cost;
       labelled = subst (λ p. costs_of (set marks r (Open e)) p ≡ Some e.cost) (sym w.at) open-here;
-      at_most = improves-less (mark_at marks r) e.cost c has.cost improves (subst (λ p. costs_of marks p ≡ Some has.cost) w.at has.labelled) has.at_most;
+      at_most = improves-less (mark marks r) e.cost c has.cost improves (subst (λ p. costs_of marks p ≡ Some has.cost) w.at has.labelled) has.at_most;
     }
-    | inr k ↦ record { cost = has.cost; labelled = ap (λ (m : Mark). option_cost (label_in m)) k.reads ∙ has.labelled; at_most = has.at_most }
+    | inr k ↦ record { cost = has.cost; labelled = ap (λ (m : Mark Label). option_cost (label_in m)) k.reads ∙ has.labelled; at_most = has.at_most }
   ]
 
 -- a node is settled, and no label changes
-pub settle-label : (marks : List Mark) (r : ℕ) (e : Label) → mark_at marks r ≡ Open e → (q : ℕ) → label_at (set marks r (Settled e)) q ≡ label_at marks q
-settle-label marks r e is q = elim (cases_write marks r (Settled e) q (open-in marks r e is)) [
-  | inl w ↦ ap label_in w.reads ∙ sym (ap label_in (subst (λ p. mark_at marks p ≡ Open e) (sym w.at) is))
+pub settle-label : (marks : List (Mark Label)) (r : ℕ) (e : Label) → mark marks r ≡ Open e → (q : ℕ) → label_in (mark (set marks r (Settled e)) q) ≡ label_in (mark marks q)
+settle-label marks r e is q = elim (cases_put (put-set marks r (Settled e) (open-in marks r e is)) q) [
+  | inl w ↦ ap label_in w.reads ∙ sym (ap label_in (subst (λ p. mark marks p ≡ Open e) (sym w.at) is))
   | inr k ↦ ap label_in k.reads
 ]

@@ -6,22 +6,23 @@ use Rattle.ch_cost.specs.declared.cost.Cost.{Cost}
 use Rattle.ch_cost.specs.Cost.{zero_cost, ◌⊕◌, IsNoLonger, IsInLimit, IsOfWalks}
 use Rattle.ch_cost.specs.Cost.Laws.{at_most_refl, at_most_antisym, zero_cost_at_most, zero_cost_within, no_longer-from_within, of_walks_zero_cost, of_walks_one, of_walks_sum, of_walks_more, in_limit-from_walks, cost_of_arcs_in_limit, in_limit-from_within, within_trans}
 use Rattle.ch_graph.specs.Hierarchy.{Hierarchy, IsWellMade, rank_of}
+use Rattle.ch_graph.specs.Marks.{mark, label_in, HasLabel, settled, settled_count}
+use Rattle.ch_graph.specs.Marks.Laws.{cases_put, count-settle, label-in, label_cases, label_open, label_settled, mark-replicate, open-in, open-open, open-settled, put-set, settled-settled, unseen-open, unseen-settled}
+use Rattle.ch_graph.specs.declared.mark.Mark.{Mark}
+use Rattle.ch_graph.specs.declared.mark.Mark.TheVariants.{Unseen, Open, Settled}
 use Rattle.ch_query.specs.declared.label.Label.{Label}
-use Rattle.ch_query.specs.declared.mark.Mark.{Mark}
-use Rattle.ch_query.specs.declared.mark.Mark.TheVariants.{Unseen, Open, Settled}
 use Rattle.ch_query.specs.declared.side.Side.{Side}
 use Rattle.ch_query.specs.declared.meeting.Meeting.{Meeting}
 use Rattle.ch_query.specs.Labels.{HasAtMost, AreShort, Meets}
 use Rattle.ch_query.specs.Climb.{foot_rank, head_rank, cost_at, Climbs, LeadsUp}
-use Rattle.ch_query.specs.Marks.{mark_at, label_at, option_cost, costs_of, settled_in, IsLeastOpen, IsNoMore, FitAll, settled_count}
+use Rattle.ch_query.specs.Marks.{option_cost, costs_of, settled_in, IsLeastOpen, IsNoMore, FitAll, IsLatest, IsNoLater}
 use Rattle.ch_query.specs.Searching.{IsFrom, IsFollowed, AreFollowed, IsSearching, ClimbsTo, IsOpenedBy, ArePassed}
-use Rattle.ch_query.specs.Marks.{IsLatest, IsNoLater}
 use Rattle.ch_query.specs.Meeting.{IsBestSoFar, IsLooked}
 use Rattle.ch_query.proofs.Sides.{link-made}
 use Rattle.ch_query.proofs.Ranks.{rank_below}
 use Rattle.ch_query.proofs.Following.{counts-more}
 use Rattle.ch_query.proofs.BestMeetings.{limit-less, met-kept, met-from}
-use Rattle.ch_query.proofs.Marking.{from_cost, settled_is, settled-cost, cases_write, write_here, unseen-open, unseen-settled, open-settled, open-open, settled-settled, unseen-at, open-in, label_cases, label-open, label-settled, label-in, cost_is, settle-label, no_later-refl, no_later-trans, no_later-climb, count-settle}
+use Rattle.ch_query.proofs.Marking.{from_cost, settled_is, settled-cost, cost_is, settle-label, no_later-refl, no_later-trans, no_later-climb}
 
 module _ (h : Hierarchy) (made : IsWellMade h) where
   -- the bound of a well made hierarchy is small enough to be a summand
@@ -45,18 +46,18 @@ module _ (h : Hierarchy) (made : IsWellMade h) where
   pub climb_of_walks : (side : Side) (k : ℕ) (c : Cost) → Climbs h side k → IsOfWalks (foot_rank h side k) c → IsOfWalks (head_rank h side k) (c ⊕ cost_at h k)
   climb_of_walks side k c climbs fits = of_walks_more (omega (arith, climbs.rises)) (of_walks_sum fits (link_of_walks k climbs.within))
 
-  module _ {side : Side} {start : ℕ} {marks : List Mark} (is : IsSearching h side start marks) where
-    pub label_in_limit : (r : ℕ) (e : Label) → label_at marks r ≡ Some e → IsInLimit e.cost
+  module _ {side : Side} {start : ℕ} {marks : List (Mark Label)} (is : IsSearching h side start marks) where
+    pub label_in_limit : (r : ℕ) (e : Label) → HasLabel (mark marks r) e → IsInLimit e.cost
     label_in_limit r e label = in_limit-from_walks (omega (arith, label-in marks r e label, is.nodes, made.few_nodes)) (is.fits r e label) (is.short r e label) bound_in_limit
 
     pub labels_fit : FitAll marks
     labels_fit = label_in_limit
 
 -- the cost of a label, if there is one, is small enough to be a summand
-pub fits-cost : (marks : List Mark) → FitAll marks → (r : ℕ) (o : Option Cost) → o ≡ costs_of marks r → IfSome o (λ (d : Cost). IsInLimit d)
+pub fits-cost : (marks : List (Mark Label)) → FitAll marks → (r : ℕ) (o : Option Cost) → o ≡ costs_of marks r → IfSome o (λ (d : Cost). IsInLimit d)
 fits-cost marks fit r None is = tt
 fits-cost marks fit r (Some d) is =
-    let own = from_cost (label_at marks r) d (sym is) in
+    let own = from_cost (label_in (mark marks r)) d (sym is) in
     subst (λ (c : Cost). IsInLimit c) own.2 (fit r own.0 own.1)
 
 -- The start
@@ -65,23 +66,23 @@ module _ (h : Hierarchy) (made : IsWellMade h) (side : Side) (start : ℕ) (star
   abbrev zero_label : Label
   zero_label = record { cost = zero_cost; foot = rank_of h start }
 
-  abbrev pub first_marks : List Mark
-  first_marks = set (replicate (length h.ranks) Unseen) (rank_of h start) (Open (record { cost = zero_cost; foot = rank_of h start }))
+  abbrev pub first_marks : List (Mark Label)
+  first_marks = set (replicate {A = Mark Label} (length h.ranks) Unseen) (rank_of h start) (Open (record { cost = zero_cost; foot = rank_of h start }))
 
-  room : rank_of h start < length (replicate (length h.ranks) Unseen)
-  room = omega (arith, rank_below h made start start_in, length-replicate (length h.ranks) Unseen)
+  room : rank_of h start < length (replicate {A = Mark Label} (length h.ranks) Unseen)
+  room = omega (arith, rank_below h made start start_in, length-replicate {A = Mark Label} (length h.ranks) Unseen)
 
-  here : mark_at first_marks (rank_of h start) ≡ Open (record { cost = zero_cost; foot = rank_of h start })
-  here = write_here (replicate (length h.ranks) Unseen) (rank_of h start) (Open (record { cost = zero_cost; foot = rank_of h start })) room
+  here : mark first_marks (rank_of h start) ≡ Open (record { cost = zero_cost; foot = rank_of h start })
+  here = (put-set (replicate {A = Mark Label} (length h.ranks) Unseen) (rank_of h start) (Open (record { cost = zero_cost; foot = rank_of h start })) room).here
 
-  only_mark : (r : ℕ) (m : Mark) → mark_at first_marks r ≡ m → ((r ≡ rank_of h start) × (Open (record { cost = zero_cost; foot = rank_of h start }) ≡ m)) ⊎ (Unseen ≡ m)
-  only_mark r m is = elim (cases_write (replicate (length h.ranks) Unseen) (rank_of h start) (Open (record { cost = zero_cost; foot = rank_of h start })) r room) [
+  only_mark : (r : ℕ) (m : Mark Label) → mark first_marks r ≡ m → ((r ≡ rank_of h start) × (Open (record { cost = zero_cost; foot = rank_of h start }) ≡ m)) ⊎ (Unseen ≡ m)
+  only_mark r m is = elim (cases_put (put-set (replicate {A = Mark Label} (length h.ranks) Unseen) (rank_of h start) (Open (record { cost = zero_cost; foot = rank_of h start })) room) r) [
     | inl w ↦ inl (w.at, sym w.reads ∙ is)
-    | inr k ↦ inr (sym (unseen-at (length h.ranks) r) ∙ (sym k.reads ∙ is))
+    | inr k ↦ inr (sym (mark-replicate (length h.ranks) r) ∙ (sym k.reads ∙ is))
   ]
 
-  only_label : (r : ℕ) (e : Label) → label_at first_marks r ≡ Some e → (r ≡ rank_of h start) × (zero_label ≡ e)
-  only_label r e is = elim (label_cases (mark_at first_marks r) e is) [
+  only_label : (r : ℕ) (e : Label) → HasLabel (mark first_marks r) e → (r ≡ rank_of h start) × (zero_label ≡ e)
+  only_label r e is = elim (label_cases (mark first_marks r) e is) [
     | inl opens ↦ elim (only_mark r (Open e) opens) [
       | inl this ↦ (this.0, open-open this.1)
       | inr unseen ↦ absurd (unseen-open unseen)
@@ -89,13 +90,13 @@ module _ (h : Hierarchy) (made : IsWellMade h) (side : Side) (start : ℕ) (star
     | inr closed ↦ absurd (none_settled r e closed)
   ]
     where
-      none_settled : (r : ℕ) (e : Label) → mark_at first_marks r ≡ Settled e → ⊥
+      none_settled : (r : ℕ) (e : Label) → mark first_marks r ≡ Settled e → ⊥
       none_settled r e closed = elim (only_mark r (Settled e) closed) [
         | inl this ↦ open-settled this.1
         | inr unseen ↦ unseen-settled unseen
       ]
 
-  pub no_settled : (r : ℕ) (e : Label) → mark_at first_marks r ≡ Settled e → ⊥
+  pub no_settled : (r : ℕ) (e : Label) → mark first_marks r ≡ Settled e → ⊥
   no_settled r e closed = elim (only_mark r (Settled e) closed) [
     | inl this ↦ open-settled this.1
     | inr unseen ↦ unseen-settled unseen
@@ -106,8 +107,8 @@ module _ (h : Hierarchy) (made : IsWellMade h) (side : Side) (start : ℕ) (star
 
   pub searching-start : IsSearching h side start first_marks
   searching-start = record {
-    nodes = length-set (replicate (length h.ranks) Unseen) (rank_of h start) (Open (record { cost = zero_cost; foot = rank_of h start })) ∙ length-replicate (length h.ranks) Unseen;
-    first = cost_is first_marks (rank_of h start) zero_label (label-open _ zero_label here);
+    nodes = length-set (replicate {A = Mark Label} (length h.ranks) Unseen) (rank_of h start) (Open (record { cost = zero_cost; foot = rank_of h start })) ∙ length-replicate {A = Mark Label} (length h.ranks) Unseen;
+    first = cost_is first_marks (rank_of h start) zero_label (label_open _ zero_label here);
     origin = λ r e is. let only = only_label r e is in first_from r e only.0 only.1;
     fits = λ r e is. subst (λ (l : Label). IsOfWalks r l.cost) (only_label r e is).1 (of_walks_zero_cost r);
     short = λ r e is. subst (λ (l : Label). IsNoLonger l.cost h.bound) (only_label r e is).1 (no_longer-from_within (zero_cost_within h.bound));
@@ -119,25 +120,25 @@ module _ (h : Hierarchy) (made : IsWellMade h) (side : Side) (start : ℕ) (star
 
 -- A turn: the node of rank r is settled, and then its links are followed
 
-module _ (h : Hierarchy) (side : Side) (start : ℕ) (old : List Mark) (r : ℕ) (e : Label) (is : IsSearching h side start old) (next : IsLeastOpen old r e) where
+module _ (h : Hierarchy) (side : Side) (start : ℕ) (old : List (Mark Label)) (r : ℕ) (e : Label) (is : IsSearching h side start old) (next : IsLeastOpen old r e) where
   place : r < length old
   place = open-in old r e next.opens
 
-  turn-settled : (q : ℕ) (d : Label) → mark_at (set old r (Settled e)) q ≡ Settled d → ((q ≡ r) × (e ≡ d)) ⊎ (mark_at old q ≡ Settled d)
-  turn-settled q d closed = elim (cases_write old r (Settled e) q place) [
+  turn-settled : (q : ℕ) (d : Label) → mark (set old r (Settled e)) q ≡ Settled d → ((q ≡ r) × (e ≡ d)) ⊎ (mark old q ≡ Settled d)
+  turn-settled q d closed = elim (cases_put (put-set old r (Settled e) place) q) [
     | inl w ↦ inl (w.at, settled-settled (sym w.reads ∙ closed))
     | inr k ↦ inr (sym k.reads ∙ closed)
   ]
 
-  turn-open : (q : ℕ) (d : Label) → mark_at (set old r (Settled e)) q ≡ Open d → mark_at old q ≡ Open d
-  turn-open q d opens = elim (cases_write old r (Settled e) q place) [
+  turn-open : (q : ℕ) (d : Label) → mark (set old r (Settled e)) q ≡ Open d → mark old q ≡ Open d
+  turn-open q d opens = elim (cases_put (put-set old r (Settled e) place) q) [
     | inl w ↦ absurd (open-settled (sym opens ∙ w.reads))
     | inr k ↦ sym k.reads ∙ opens
   ]
 
-  turn-stays : (q : ℕ) (d : Label) → mark_at old q ≡ Settled d → mark_at (set old r (Settled e)) q ≡ Settled d
-  turn-stays q d closed = elim (cases_write old r (Settled e) q place) [
-    | inl w ↦ absurd (open-settled (sym next.opens ∙ subst (λ p. mark_at old p ≡ Settled d) w.at closed))
+  turn-stays : (q : ℕ) (d : Label) → mark old q ≡ Settled d → mark (set old r (Settled e)) q ≡ Settled d
+  turn-stays q d closed = elim (cases_put (put-set old r (Settled e) place) q) [
+    | inl w ↦ absurd (open-settled (sym next.opens ∙ subst (λ p. mark old p ≡ Settled d) w.at closed))
     | inr k ↦ k.reads ∙ closed
   ]
 
@@ -148,23 +149,23 @@ module _ (h : Hierarchy) (side : Side) (start : ℕ) (old : List Mark) (r : ℕ)
   ]
 
   pub turn-fits : IsOfWalks r e.cost
-  turn-fits = is.fits r e (label-open _ e next.opens)
+  turn-fits = is.fits r e (label_open _ e next.opens)
 
   pub turn-short : IsNoLonger e.cost h.bound
-  turn-short = is.short r e (label-open _ e next.opens)
+  turn-short = is.short r e (label_open _ e next.opens)
 
   turn-kept : (q : ℕ) (c : Cost) → HasAtMost (costs_of old) q c → HasAtMost (costs_of (set old r (Settled e))) q c
   turn-kept q c has = record { cost = has.cost; labelled = ap (λ (o : Option Label). option_cost o) (settle-label old r e next.opens q) ∙ has.labelled; at_most = has.at_most }
 
-  module _ (new : List Mark) (opened : IsOpenedBy h side r e.cost (set old r (Settled e)) new) where
+  module _ (new : List (Mark Label)) (opened : IsOpenedBy h side r e.cost (set old r (Settled e)) new) where
     -- where a label comes from: it was there, or a link from the node led to it
-    came : (q : ℕ) (d : Label) → label_at new q ≡ Some d → (label_at old q ≡ Some d) ⊎ ClimbsTo h side r e.cost q d
-    came q d label = elim (label_cases (mark_at new q) d label) [
+    came : (q : ℕ) (d : Label) → HasLabel (mark new q) d → (HasLabel (mark old q) d) ⊎ ClimbsTo h side r e.cost q d
+    came q d label = elim (label_cases (mark new q) d label) [
       | inl opens ↦ elim (opened.opened q d opens) [
-        | inl there ↦ inl (label-open _ d (turn-open q d there))
+        | inl there ↦ inl (label_open _ d (turn-open q d there))
         | inr climbs ↦ inr climbs
       ]
-      | inr closed ↦ inl (sym (settle-label old r e next.opens q) ∙ label-settled _ d (opened.settled q d closed))
+      | inr closed ↦ inl (sym (settle-label old r e next.opens q) ∙ label_settled _ d (opened.settled q d closed))
     ]
 
     from-more : (q : ℕ) (d : Label) → IsFrom h side start old q d → IsFrom h side start new q d
@@ -179,15 +180,15 @@ module _ (h : Hierarchy) (side : Side) (start : ℕ) (old : List Mark) (r : ℕ)
       })
     ]
 
-    here_settled : mark_at new r ≡ Settled e
-    here_settled = opened.stays r e (write_here old r (Settled e) place)
+    here_settled : mark new r ≡ Settled e
+    here_settled = opened.stays r e ((put-set old r (Settled e) place).here)
 
     climbed-from : (q : ℕ) (d : Label) → ClimbsTo h side r e.cost q d → IsFrom h side start new q d
     climbed-from q d climbs = inr (record {
       link = climbs.link;
       leads = subst (λ p. LeadsUp h side p q climbs.link) (sym climbs.foot) climbs.leads;
       foot = e;
-      settled = subst (λ p. mark_at new p ≡ Settled e) (sym climbs.foot) here_settled;
+      settled = subst (λ p. mark new p ≡ Settled e) (sym climbs.foot) here_settled;
       sum = climbs.sum;
     })
 
@@ -204,7 +205,7 @@ module _ (h : Hierarchy) (side : Side) (start : ℕ) (old : List Mark) (r : ℕ)
         subst (λ (c : Cost). costs_of new (rank_of h start) ≡ Some c) (at_most_antisym has.at_most (zero_cost_at_most has.cost)) has.labelled
 
     -- no open node comes before the node that was settled
-    turn-above : (q : ℕ) (d : Label) → mark_at new q ≡ Open d → IsNoLater e.cost r d.cost q
+    turn-above : (q : ℕ) (d : Label) → mark new q ≡ Open d → IsNoLater e.cost r d.cost q
     turn-above q d opens = elim (opened.opened q d opens) [
       | inl there ↦ next.least q d (turn-open q d there)
       | inr climbs ↦ subst (λ (c : Cost). IsNoLater e.cost r c q) (sym climbs.sum) (no_later-climb e.cost (cost_at h climbs.link) (omega (arith, climbs.leads.climbs.rises, climbs.leads.foot, climbs.leads.head)))
@@ -220,14 +221,14 @@ module _ (h : Hierarchy) (side : Side) (start : ℕ) (old : List Mark) (r : ℕ)
     turn-more q c has = opened.kept q c (turn-kept q c has)
 
     -- the best meeting so far, once the other side was looked at there
-    pub best-turn : (there : List Mark) (best found : Option Meeting) → IsBestSoFar h old there best → IsLooked h r e.cost (costs_of there r) best found → IsBestSoFar h new there found
+    pub best-turn : (there : List (Mark Label)) (best found : Option Meeting) → IsBestSoFar h old there best → IsLooked h r e.cost (costs_of there r) best found → IsBestSoFar h new there found
     best-turn there best found was looked = record {
       met = λ m is. met-kept turn-more (elim (looked.from m is) [
         | inl before ↦ was.met m before
         | inr here ↦ met-from m (meets_here m here.0 here.1)
       ]);
       least = λ q c m.
-          let d = settled_is (mark_at new q) m.rise m.risen in
+          let d = settled_is (mark new q) m.rise m.risen in
           let cost : Some d.0.cost ≡ Some m.rise = ap (λ (a : Cost). Some a) d.2 in
           elim (turn-settled q d.0 (opened.settled q d.0 d.1)) [
             | inl this ↦ looked.seen c (record {
@@ -253,7 +254,7 @@ module _ (h : Hierarchy) (side : Side) (start : ℕ) (old : List Mark) (r : ℕ)
         meets_here m at short = subst (λ p. Meets h (costs_of old) (costs_of there) p m.cost) (sym at) (record {
           rise = short.rise;
           fall = short.fall;
-          risen = cost_is old r e (label-open _ e next.opens) ∙ short.risen;
+          risen = cost_is old r e (label_open _ e next.opens) ∙ short.risen;
           fallen = short.fallen;
           sum = short.sum;
           short = short.short;
@@ -279,4 +280,4 @@ module _ (h : Hierarchy) (side : Side) (start : ℕ) (old : List Mark) (r : ℕ)
     }
 
     pub turn-count : settled_count new ≡ settled_count old + 1
-    turn-count = opened.count ∙ count-settle old r e e place next.opens
+    turn-count = opened.count ∙ count-settle old r e e next.opens

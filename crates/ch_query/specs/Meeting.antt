@@ -3,10 +3,11 @@ use Rattle.std.specs.Prelude.{ℕ, ◌≡◌, ◌⊎◌, List, Option, Some, Non
 use Rattle.ch_cost.specs.declared.cost.Cost.{Cost}
 use Rattle.ch_cost.specs.Cost.{◌≼◌, IsNoLonger}
 use Rattle.ch_graph.specs.Hierarchy.{Hierarchy}
-use Rattle.ch_query.specs.declared.mark.Mark.{Mark}
+use Rattle.ch_graph.specs.declared.mark.Mark.{Mark}
 use Rattle.ch_query.specs.declared.meeting.Meeting.{Meeting}
 use Rattle.ch_query.specs.Labels.{AreShort, Meets}
 use Rattle.ch_query.specs.Marks.{costs_of, settled_costs, HasLimit, IsNoMore}
+use Rattle.ch_query.specs.declared.label.Label.{Label}
 
 -- two labels have a short sum, or there is none
 abbrev pub IsShortSum : Hierarchy → Option Cost → Option Cost → Option Cost → Type 0
@@ -35,7 +36,7 @@ pub record IsMet (h : Hierarchy) (up down : ℕ → Option Cost) (m : Meeting) :
   pub short : IsNoLonger m.cost h.bound
 
 -- The best meeting so far: it was met, and no node that both sides settled has a lesser sum.
-pub record IsBestSoFar (h : Hierarchy) (up down : List Mark) (best : Option Meeting) : Type 0 where
+pub record IsBestSoFar (h : Hierarchy) (up down : List (Mark Label)) (best : Option Meeting) : Type 0 where
   pub met : (m : Meeting) → best ≡ Some m → IsMet h (costs_of up) (costs_of down) m
   pub least : (r : ℕ) (c : Cost) → Meets h (settled_costs up) (settled_costs down) r c → HasLimit (cost_of best) c
 

@@ -1,10 +1,11 @@
 ghost use Rattle.std.specs.Prelude.{◌<◌, ◌≡◌, ◌≢◌, ℕ, Some, length, IfOk, IfSome, IfNone};
 ghost use Rattle.ch_cost.specs.declared.cost.Cost.{Cost as cost};
 ghost use Rattle.ch_graph.specs.Hierarchy.{IsWellMade, rank_of};
+ghost use Rattle.ch_graph.specs.Marks.{mark, HasLabel};
 ghost use Rattle.ch_query.specs.Climb.{Descends};
 ghost use Rattle.ch_query.specs.declared.label.Label.{Label};
 ghost use Rattle.ch_query.specs.Upward.{IsLaidOut};
-ghost use Rattle.ch_query.specs.Marks.{label_at, costs_of};
+ghost use Rattle.ch_query.specs.Marks.{costs_of};
 ghost use Rattle.ch_query.specs.Searching.{IsSearching};
 
 use crate::frontier::Frontier;
@@ -42,8 +43,8 @@ pub fn descent(
 /// The rank of the node that the climb to the node of a rank came from, if it has a label and isn't the start.
 fn came_from(frontier: &Frontier, rank: u32) -> Option<u32>
     requires { rank < length frontier.now }
-    ensures some { IfSome result (λ foot. (e : Label) × (label_at frontier.now rank ≡ Some e) × (e.foot ≡ foot) × (foot ≢ rank)) }
-    ensures none { IfNone result ((e : Label) → label_at frontier.now rank ≡ Some e → e.foot ≡ rank) }
+    ensures some { IfSome result (λ foot. (e : Label) × (HasLabel (mark frontier.now rank) e) × (e.foot ≡ foot) × (foot ≢ rank)) }
+    ensures none { IfNone result ((e : Label) → HasLabel (mark frontier.now rank) e → e.foot ≡ rank) }
 {
     let label = frontier.label(rank)?;
     if label.foot == rank {

@@ -1,15 +1,17 @@
 ghost use Rattle.std.specs.Prelude.{◌≡◌, ◌<◌, ◌+◌, ◌↔◌, ℕ, ◌∷◌, length, replicate, slice_set, All, Contains, IfOk, OnOk, IfSome, IfNone, IsTrue, OnSome};
 ghost use Rattle.std.specs.BinaryHeap.{heap_items, heap_len, IsHeap, IsUpperBound};
 ghost use Rattle.std.specs.List.Sorted.{IsPermutation};
-ghost use Rattle.ch_query.specs.Front.{entry_cmp};
-ghost use Rattle.ch_query.specs.Marks.{mark_at, label_at, costs_of, IsSettledAtMost, Improves, IsUpTo, IsLeastOpen, IsStopped};
-ghost use Rattle.ch_query.specs.declared.mark.Mark.TheVariants.{Unseen, Open, Settled};
+ghost use Rattle.std.specs.Ordering.{nat_cmp};
+ghost use Rattle.ch_graph.specs.Marks.{mark, label_in, Improves};
+ghost use Rattle.ch_graph.specs.Queue.{entry_cmp};
+ghost use Rattle.ch_query.specs.Marks.{label_cost, costs_of, IsSettledAtMost, IsUpTo, IsLeastOpen, IsStopped};
+ghost use Rattle.ch_graph.specs.declared.mark.Mark.TheVariants.{Unseen, Open, Settled};
 
 use crate::kept_mark::KeptMark;
 use crate::label::Label;
 use crate::limit::is_up_to;
-use crate::mark::Mark;
 use ch_cost::Cost;
+use ch_graph::Mark;
 use std::alloc::{AllocError, Global};
 use std::cmp::Reverse;
 use std::collections::BinaryHeap;
@@ -32,11 +34,12 @@ pub struct Frontier {
 impl Model for Frontier {
     ghost use Rattle.std.specs.Prelude.{List};
     ghost use Rattle.std.specs.BinaryHeap.{heap_items};
-    ghost use Rattle.ch_query.specs.declared.mark.Mark.{Mark};
+    ghost use Rattle.ch_graph.specs.declared.mark.Mark.{Mark};
+    ghost use Rattle.ch_query.specs.declared.label.Label.{Label};
     ghost use Rattle.ch_query.specs.Marks.{marks_in};
     ghost use Rattle.ch_query.specs.Front.{IsFront};
 
-    ghost Value = { List Mark };
+    ghost Value = { List (Mark Label) };
 
     ghost view = { λ f. marks_in f.marks.items };
 
@@ -75,9 +78,9 @@ impl Frontier {
     }
 
     /// The mark of the node of a rank.
-    fn mark(&self, rank: u32) -> Mark
+    fn mark(&self, rank: u32) -> Mark<Label>
         requires { rank < length self.now }
-        ensures { result ≡ mark_at self.now rank }
+        ensures { result ≡ mark self.now rank }
     {
         self.marks[rank as usize].mark()
     }
@@ -85,7 +88,7 @@ impl Frontier {
     /// The label of the node of a rank, if it has one.
     pub fn label(&self, rank: u32) -> Option<Label>
         requires { rank < length self.now }
-        ensures { result ≡ label_at self.now rank }
+        ensures { result ≡ label_in (mark self.now rank) }
     {
         self.mark(rank).label()
     }
@@ -106,7 +109,7 @@ impl Frontier {
     pub fn is_improved_by(&self, rank: u32, cost: Cost) -> bool
         requires rank_in { rank < length self.now }
         requires settled { IsSettledAtMost self.now rank cost }
-        ensures { IsTrue result ↔ Improves cost (mark_at self.now rank) }
+        ensures { IsTrue result ↔ Improves label_cost cost (mark self.now rank) }
     {
         self.marks[rank as usize].is_improved_by(cost)
     }
@@ -116,7 +119,7 @@ impl Frontier {
     /// Takes time by the logarithm of the number of entries.
     pub fn open(&mut self, rank: u32, label: Label) -> Result<(), AllocError>
         requires rank_in { rank < length self.old }
-        requires improves { Improves label.cost (mark_at self.old rank) }
+        requires improves { Improves label_cost label.cost (mark self.old rank) }
         ensures nodes { length self.new ≡ length self.old }
         ensures opened { OnOk result (self.new ≡ slice_set self.old rank (Open label)) }
     {
@@ -146,7 +149,7 @@ impl Frontier {
 }
 
 /// Puts a rank into the list of touched ones, if its node isn't seen yet.
-fn touch(touched: &mut Vec<u32>, rank: u32, mark: Mark) -> Result<(), AllocError>
+fn touch(touched: &mut Vec<u32>, rank: u32, mark: Mark<Label>) -> Result<(), AllocError>
     ensures kept { (r : ℕ) → Contains touched.old.items r → Contains touched.new.items r }
     ensures within { (nodes : ℕ) → rank < nodes → All (λ r. r < nodes) touched.old.items → All (λ r. r < nodes) touched.new.items }
     ensures put { OnOk result (mark ≡ Unseen → Contains touched.new.items rank) }
@@ -162,12 +165,12 @@ fn pop_up_to(
     queue: &mut BinaryHeap<Reverse<(u64, u32)>>,
     limit: Option<Cost>,
 ) -> Option<Reverse<(u64, u32)>>
-    requires { IsHeap entry_cmp (heap_items queue.old) }
+    requires { IsHeap (entry_cmp nat_cmp) (heap_items queue.old) }
     ensures none { IfNone result (All (λ e. IsUpTo e.0.0 limit → ⊥) (heap_items queue.old)) }
     ensures unchanged { IfNone result (heap_items queue.new ≡ heap_items queue.old) }
     ensures moved { IfSome result (λ e. IsPermutation (heap_items queue.old) (e ∷ heap_items queue.new)) }
-    ensures heap { IsHeap entry_cmp (heap_items queue.new) }
-    ensures top { IfSome result (λ e. IsUpperBound entry_cmp e (heap_items queue.old)) }
+    ensures heap { IsHeap (entry_cmp nat_cmp) (heap_items queue.new) }
+    ensures top { IfSome result (λ e. IsUpperBound (entry_cmp nat_cmp) e (heap_items queue.old)) }
     ensures len { OnSome result (heap_len queue.new + 1 ≡ heap_len queue.old) }
 {
     let Reverse((length, _)) = *queue.peek()?;

@@ -3,8 +3,8 @@ ghost use Rattle.ch_cost.specs.Cost.{length_of};
 ghost use Rattle.ch_query.specs.declared.kept_mark.State.TheVariants.{Unseen as not_seen};
 
 use crate::label::Label;
-use crate::mark::Mark;
 use ch_cost::Cost;
+use ch_graph::Mark;
 
 /// How far a side of a query is with a node.
 #[derive(Clone, Copy)]
@@ -30,9 +30,10 @@ pub struct KeptMark {
 impl KeptMark {
     ghost use Rattle.std.specs.Prelude.{◌↔◌, IsTrue};
     ghost use Rattle.ch_cost.specs.Cost.{◌≼◌};
-    ghost use Rattle.ch_query.specs.Marks.{mark_in, Improves};
+    ghost use Rattle.ch_graph.specs.Marks.{Improves};
+    ghost use Rattle.ch_query.specs.Marks.{mark_in, label_cost};
     ghost use Rattle.ch_query.specs.declared.label.Label.{Label};
-    ghost use Rattle.ch_query.specs.declared.mark.Mark.TheVariants.{Unseen, Open, Settled};
+    ghost use Rattle.ch_graph.specs.declared.mark.Mark.TheVariants.{Unseen, Open, Settled};
 
     /// The mark of a node that isn't seen.
     pub fn unseen() -> KeptMark
@@ -68,7 +69,7 @@ impl KeptMark {
     }
 
     /// The mark itself.
-    pub fn mark(self) -> Mark
+    pub fn mark(self) -> Mark<Label>
         ensures { result ≡ mark_in self }
     {
         let label = Label {
@@ -85,7 +86,7 @@ impl KeptMark {
     /// so that open and settled ones need not be told apart.
     pub fn is_improved_by(&self, cost: Cost) -> bool
         requires { (e : Label) → mark_in self.now ≡ Settled e → e.cost ≼ cost }
-        ensures { IsTrue result ↔ Improves cost (mark_in self.now) }
+        ensures { IsTrue result ↔ Improves label_cost cost (mark_in self.now) }
     {
         if cost.length() > self.cost.length() {
             return false;

@@ -29,7 +29,6 @@ mod laws;
 mod layout;
 mod limit;
 mod link_numbers;
-mod mark;
 mod meet;
 mod meeting;
 mod place;

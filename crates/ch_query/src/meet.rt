@@ -1,7 +1,7 @@
 ghost use Rattle.std.specs.Prelude.{◌≡◌, ◌<◌, length, replicate, slice_set, None, IfOk, OnOk};
 ghost use Rattle.ch_cost.specs.Cost.{zero_cost};
 ghost use Rattle.ch_graph.specs.Hierarchy.{IsWellMade, rank_of};
-ghost use Rattle.ch_query.specs.declared.mark.Mark.TheVariants.{Unseen, Open};
+ghost use Rattle.ch_graph.specs.declared.mark.Mark.TheVariants.{Unseen, Open};
 ghost use Rattle.ch_query.specs.declared.side.Side.TheVariants.{Rise, Fall};
 ghost use Rattle.ch_query.specs.Ready.{IsReady};
 ghost use Rattle.ch_query.specs.Marks.{costs_of, IsStopped};

@@ -2,7 +2,7 @@ use Rattle.std.proofs.Common.{◌≡◌, set, OnOk, subst}
 use Rattle.ch_cost.specs.declared.cost.Cost.{Cost}
 use Rattle.ch_cost.specs.Cost.{zero_cost}
 use Rattle.ch_cost.specs.Cost.Laws.{ZERO-is}
-use Rattle.ch_query.specs.declared.mark.Mark.TheVariants.{Open}
+use Rattle.ch_graph.specs.declared.mark.Mark.TheVariants.{Open}
 use Rattle.ch_query.proofs.meet.begin.Goals as goal
 
 pub returns-clause-begun : goal.returns-clause-begun

@@ -1,9 +1,10 @@
 use Rattle.std.proofs.Common.{◌≡◌, ◌+◌, ◌≤◌, None, arith}
 use Rattle.std.proofs.lemmas.Grind.{common_steps}
+use Rattle.ch_graph.specs.Marks.{settled_count}
+use Rattle.ch_graph.specs.Marks.Laws.{count-most}
 use Rattle.ch_query.specs.declared.side.Side.TheVariants.{Rise, Fall}
-use Rattle.ch_query.specs.Marks.{IsStopped, settled_count}
+use Rattle.ch_query.specs.Marks.{IsStopped}
 use Rattle.ch_query.specs.Meeting.{cost_of}
-use Rattle.ch_query.proofs.Marking.{count-most}
 use Rattle.ch_query.proofs.BestMeetings.{best-flip, best-stopped}
 use Rattle.ch_query.proofs.Turning.{labels_fit}
 use Rattle.ch_query.proofs.Beginning.{searching-begun, followed-begun, followed-less, best-begun, turned-count, not-turned, both-stopped, neither, either-one, one_if}

@@ -1,6 +1,6 @@
 use Rattle.std.proofs.Common.{◌+◌, ◌-◌, length}
+use Rattle.ch_graph.specs.Marks.{settled_count}
 use Rattle.ch_query.specs.declared.side.Side.TheVariants.{Rise, Fall}
-use Rattle.ch_query.specs.Marks.{settled_count}
 use Rattle.ch_query.specs.Searching.{IsSearching, AreFollowed}
 use Rattle.ch_query.specs.Meeting.{IsBestSoFar, cost_of}
 use Rattle.ch_query.proofs.meet.meet.Given as goal

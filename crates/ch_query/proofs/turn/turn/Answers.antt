@@ -1,20 +1,20 @@
 use Rattle.std.proofs.Common.{List, Option, set, sym, subst, arith}
 use Rattle.std.proofs.lemmas.Grind.{common_steps}
 use Rattle.ch_cost.specs.declared.cost.Cost.{Cost}
-use Rattle.ch_query.specs.declared.mark.Mark.{Mark}
-use Rattle.ch_query.specs.declared.mark.Mark.TheVariants.{Settled}
+use Rattle.ch_graph.specs.declared.mark.Mark.{Mark}
+use Rattle.ch_graph.specs.declared.mark.Mark.TheVariants.{Settled}
+use Rattle.ch_graph.specs.Marks.Laws.{label_open, open-in}
 use Rattle.ch_query.specs.Labels.{IsShortLimit}
-use Rattle.ch_query.specs.Marks.{costs_of}
+use Rattle.ch_query.specs.Marks.{costs_of, IsLatest}
 use Rattle.ch_query.specs.Searching.{IsOpenedBy, AreFollowed, ArePassed}
-use Rattle.ch_query.specs.Marks.{IsLatest}
 use Rattle.ch_query.specs.Meeting.{IsLooked, cost_of}
-use Rattle.ch_query.proofs.Marking.{open-in, label-open}
 use Rattle.ch_query.proofs.BestMeetings.{looked-short, no_more-refl}
 use Rattle.ch_query.proofs.Turning.{fits-cost, label_in_limit, turn-latest, turn-fits, turn-short, searching-turn, followed-turn, best-turn}
+use Rattle.ch_query.specs.declared.label.Label.{Label}
 use Rattle.ch_query.proofs.turn.turn.Goals as goal
 
 pub look_at-found-requires-clause-fits : goal.look_at-found-requires-clause-fits
-look_at-found-requires-clause-fits c = label_in_limit c.args.hierarchy.now c.requires.made c.requires.searching c.in-Some.reached.rank c.in-Some.reached.label (label-open _ c.in-Some.reached.label c.in-Some.ensures.least.opens)
+look_at-found-requires-clause-fits c = label_in_limit c.args.hierarchy.now c.requires.made c.requires.searching c.in-Some.reached.rank c.in-Some.reached.label (label_open _ c.in-Some.reached.label c.in-Some.ensures.least.opens)
 
 pub look_at-found-requires-clause-other_fits : goal.look_at-found-requires-clause-other_fits
 look_at-found-requires-clause-other_fits c = fits-cost c.args.there.now c.requires.there_fits c.in-Some.reached.rank c.cost.result c.cost.ensures
@@ -23,7 +23,7 @@ pub pass_over-requires-clause-limit : goal.pass_over-requires-clause-limit
 pass_over-requires-clause-limit c = subst (λ (o : Option Cost). IsShortLimit c.args.hierarchy.now o) (sym c.cost_of-limit.ensures) (looked-short c.args.hierarchy.now c.args.here.now c.args.there.now c.in-Some.reached.rank c.in-Some.reached.label.cost c.cost.result c.args.best.now c.look_at-found.result c.requires.best c.look_at-found.ensures)
 
 pub pass_over-requires-clause-latest : goal.pass_over-requires-clause-latest
-pass_over-requires-clause-latest c = subst (λ (ms : List Mark). IsLatest ms c.in-Some.reached.label.cost c.in-Some.reached.rank) (sym c.in-Some.ensures.settled) (turn-latest c.args.hierarchy.now c.args.climb.side c.args.climb.start c.args.here.now c.in-Some.reached.rank c.in-Some.reached.label c.requires.searching c.in-Some.ensures.least)
+pass_over-requires-clause-latest c = subst (λ (ms : List (Mark Label)). IsLatest ms c.in-Some.reached.label.cost c.in-Some.reached.rank) (sym c.in-Some.ensures.settled) (turn-latest c.args.hierarchy.now c.args.climb.side c.args.climb.start c.args.here.now c.in-Some.reached.rank c.in-Some.reached.label c.requires.searching c.in-Some.ensures.least)
 
 pub pass_over-requires-clause-rank_in : goal.pass_over-requires-clause-rank_in
 pass_over-requires-clause-rank_in c = omega (arith, open-in c.args.here.now c.in-Some.reached.rank c.in-Some.reached.label c.in-Some.ensures.least.opens, c.requires.searching.nodes)
@@ -38,7 +38,7 @@ looked : (c : goal.In_ok-pass_over) → IsLooked c.args.hierarchy.now c.in-Some.
 looked c = subst (λ (o : Option Cost). IsLooked c.args.hierarchy.now c.in-Some.reached.rank c.in-Some.reached.label.cost o c.args.best.now c.look_at-found.result) c.cost.ensures c.look_at-found.ensures
 
 opened : (c : goal.In_ok-pass_over) → IsOpenedBy c.args.hierarchy.now c.args.climb.side c.in-Some.reached.rank c.in-Some.reached.label.cost (set c.args.here.now c.in-Some.reached.rank (Settled c.in-Some.reached.label)) c.pass_over.new.here
-opened c = subst (λ (ms : List Mark). IsOpenedBy c.args.hierarchy.now c.args.climb.side c.in-Some.reached.rank c.in-Some.reached.label.cost ms c.pass_over.new.here) c.in-Some.ensures.settled c.in_ok-pass_over.ensures.opened
+opened c = subst (λ (ms : List (Mark Label)). IsOpenedBy c.args.hierarchy.now c.args.climb.side c.in-Some.reached.rank c.in-Some.reached.label.cost ms c.pass_over.new.here) c.in-Some.ensures.settled c.in_ok-pass_over.ensures.opened
 
 pub returns-clause-searching : goal.returns-clause-searching
 returns-clause-searching c = searching-turn c.args.hierarchy.now c.args.climb.side c.args.climb.start c.args.here.now c.in-Some.reached.rank c.in-Some.reached.label c.requires.searching c.in-Some.ensures.least c.pass_over.new.here (opened c) c.requires.made
@@ -58,7 +58,7 @@ pub returns-in_default-clause-less : goal.returns-in_default-clause-less
 returns-in_default-clause-less c = no_more-refl (cost_of c.args.best.now)
 
 pub returns-in_default-clause-followed : goal.returns-in_default-clause-followed
-returns-in_default-clause-followed c = subst (λ (ms : List Mark). AreFollowed c.args.hierarchy.now c.args.climb.side (cost_of c.args.best.now) ms) (sym c.in_default.ensures.unchanged) c.requires.followed
+returns-in_default-clause-followed c = subst (λ (ms : List (Mark Label)). AreFollowed c.args.hierarchy.now c.args.climb.side (cost_of c.args.best.now) ms) (sym c.in_default.ensures.unchanged) c.requires.followed
 
 pub cost-requires : goal.cost-requires
 cost-requires c = grind (arith, common_steps) steps 200000

@@ -1,11 +1,12 @@
 use Rattle.std.proofs.Common.{◌≡◌, ◌<◌, List, Some, None, replicate, length, refl, sym, subst, arith}
 use Rattle.std.proofs.lemmas.List.Elements.{All-pop}
 use Rattle.std.specs.BinaryHeap.{heap_items}
-use Rattle.ch_query.specs.declared.mark.Mark.{Mark}
-use Rattle.ch_query.specs.declared.mark.Mark.TheVariants.{Unseen}
+use Rattle.ch_graph.specs.declared.mark.Mark.{Mark}
+use Rattle.ch_graph.specs.declared.mark.Mark.TheVariants.{Unseen}
 use Rattle.ch_query.specs.Marks.{marks_in}
 use Rattle.ch_query.proofs.Marking.{mark_written, as_many}
 use Rattle.ch_query.proofs.Entries.{IsClearing, cleared, clearing-more, front-cleared}
+use Rattle.ch_query.specs.declared.label.Label.{Label}
 use Rattle.ch_query.proofs.frontier.Frontier.clear.Goals as goal
 
 pub touched-init : goal.touched-init
@@ -17,7 +18,7 @@ touched-init c = record {
 
 pub touched-preserved : goal.touched-preserved
 touched-preserved c = record {
-  clearing = subst (λ (ms : List Mark). IsClearing (length (marks_in c.self.inside.marks.items)) ms c.pop.new.self.items) (sym (mark_written c.touched.self-inside.marks.items c.in-Some.rank c.unseen.result Unseen c.unseen.ensures))
+  clearing = subst (λ (ms : List (Mark Label)). IsClearing (length (marks_in c.self.inside.marks.items)) ms c.pop.new.self.items) (sym (mark_written c.touched.self-inside.marks.items c.in-Some.rank c.unseen.result Unseen c.unseen.ensures))
       (clearing-more _ (marks_in c.touched.self-inside.marks.items) c.touched.self-inside.touched.items c.pop.new.self.items c.in-Some.rank c.touched.invariant.clearing c.in-Some.ensures.items);
   no_entry = c.touched.invariant.no_entry;
   heap = c.touched.invariant.heap;
@@ -32,7 +33,7 @@ invariant_of-self c =
 pub returns : goal.returns
 returns c =
     let none_left : length c.touched.self-inside.touched.items ≡ 0 = omega (arith, c.in_default.ensures.cases, c.touched.self-inside.touched.ok) in
-    subst (λ (xs : List Mark). marks_in c.touched.self-inside.marks.items ≡ replicate (length xs) Unseen) c.self.view_is (cleared _ (marks_in c.touched.self-inside.marks.items) c.touched.self-inside.touched.items c.touched.invariant.clearing none_left)
+    subst (λ (xs : List (Mark Label)). marks_in c.touched.self-inside.marks.items ≡ replicate (length xs) Unseen) c.self.view_is (cleared _ (marks_in c.touched.self-inside.marks.items) c.touched.self-inside.touched.items c.touched.invariant.clearing none_left)
 
 pub index_mut-requires : goal.index_mut-requires
 index_mut-requires c =

@@ -1,7 +1,7 @@
 use Rattle.std.proofs.Common.{◌≡◌, ◌∙◌, List, replicate, ap}
 use Rattle.std.specs.BinaryHeap.{heap_items}
+use Rattle.ch_graph.specs.declared.mark.Mark.TheVariants.{Unseen}
 use Rattle.ch_query.specs.declared.kept_mark.KeptMark.{KeptMark}
-use Rattle.ch_query.specs.declared.mark.Mark.TheVariants.{Unseen}
 use Rattle.ch_query.specs.Marks.{marks_in}
 use Rattle.ch_query.proofs.Marking.{first_marks}
 use Rattle.ch_query.proofs.Entries.{front-new}

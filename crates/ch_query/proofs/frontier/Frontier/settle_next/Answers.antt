@@ -1,12 +1,14 @@
 use Rattle.std.proofs.Common.{◌≡◌, ◌<◌, ◌∙◌, List, length, set, ap, subst, sym, arith}
 use Rattle.std.specs.BinaryHeap.{heap_items}
+use Rattle.ch_graph.specs.Marks.{mark}
+use Rattle.ch_graph.specs.declared.mark.Mark.{Mark}
+use Rattle.ch_graph.specs.declared.mark.Mark.TheVariants.{Settled}
 use Rattle.ch_query.specs.declared.kept_mark.KeptMark.{KeptMark}
-use Rattle.ch_query.specs.declared.mark.Mark.{Mark}
-use Rattle.ch_query.specs.declared.mark.Mark.TheVariants.{Settled}
 use Rattle.ch_query.specs.Front.{IsFront}
-use Rattle.ch_query.specs.Marks.{mark_at, marks_in, IsLeastOpen, IsStopped}
+use Rattle.ch_query.specs.Marks.{marks_in, IsLeastOpen, IsStopped}
 use Rattle.ch_query.proofs.Marking.{mark_read, mark_written, as_many}
 use Rattle.ch_query.proofs.Entries.{front-in, front-pass, front-settle, front-least, front-stopped}
+use Rattle.ch_query.specs.declared.label.Label.{Label}
 use Rattle.ch_query.proofs.frontier.Frontier.settle_next.Goals as goal
 
 pub index-requires : goal.index-requires
@@ -22,36 +24,36 @@ index_mut-requires c =
 pub invariant_of-self : goal.invariant_of-self
 invariant_of-self c =
     let kept : List KeptMark = c.entries.self-inside.marks.items in
-    let marks : List Mark = marks_in kept in
+    let marks : List (Mark Label) = marks_in kept in
     let place : c.in-Some.field-0.0.1 < length marks = front-in marks (heap_items c.entries.self-inside.queue) (heap_items c.pop_up_to.new.queue) c.entries.self-inside.touched.items c.in-Some.field-0 c.entries.invariant.front c.in-Some.ensures.moved in
-    let read : c.mark.result ≡ mark_at marks c.in-Some.field-0.0.1 = c.mark.ensures ∙ mark_read kept c.in-Some.field-0.0.1 c.index.result.now (omega (arith, place, as_many kept)) c.index.ensures in
-    subst (λ (ms : List Mark). IsFront ms (heap_items c.pop_up_to.new.queue) c.entries.self-inside.touched.items) (sym (mark_written kept c.in-Some.field-0.0.1 c.settled.result (Settled c.in-Open.label) c.settled.ensures))
-    (front-settle marks (heap_items c.entries.self-inside.queue) (heap_items c.pop_up_to.new.queue) c.entries.self-inside.touched.items c.in-Some.field-0 c.in-Open.label c.entries.invariant.front c.in-Some.ensures.moved c.pop_up_to.ensures.heap (sym read ∙ c.in-Open.is))
+    let read : c.mark.result ≡ mark marks c.in-Some.field-0.0.1 = c.mark.ensures ∙ mark_read kept c.in-Some.field-0.0.1 c.index.result.now (omega (arith, place, as_many kept)) c.index.ensures in
+    subst (λ (ms : List (Mark Label)). IsFront ms (heap_items c.pop_up_to.new.queue) c.entries.self-inside.touched.items) (sym (mark_written kept c.in-Some.field-0.0.1 c.settled.result (Settled c.in-Open.label) c.settled.ensures))
+    (front-settle marks (heap_items c.entries.self-inside.queue) (heap_items c.pop_up_to.new.queue) c.entries.self-inside.touched.items c.in-Some.field-0 c.entries.invariant.front c.in-Some.ensures.moved c.in-Open.label (sym read ∙ c.in-Open.is) c.pop_up_to.ensures.heap)
 
 pub returns-in-Open-clause-least : goal.returns-in-Open-clause-least
 returns-in-Open-clause-least c =
     let kept : List KeptMark = c.entries.self-inside.marks.items in
-    let marks : List Mark = marks_in kept in
+    let marks : List (Mark Label) = marks_in kept in
     let place : c.in-Some.field-0.0.1 < length marks = front-in marks (heap_items c.entries.self-inside.queue) (heap_items c.pop_up_to.new.queue) c.entries.self-inside.touched.items c.in-Some.field-0 c.entries.invariant.front c.in-Some.ensures.moved in
-    let read : c.mark.result ≡ mark_at marks c.in-Some.field-0.0.1 = c.mark.ensures ∙ mark_read kept c.in-Some.field-0.0.1 c.index.result.now (omega (arith, place, as_many kept)) c.index.ensures in
-    subst (λ (xs : List Mark). IsLeastOpen xs c.in-Some.field-0.0.1 c.in-Open.label) (ap (λ (ks : List KeptMark). marks_in ks) c.entries.invariant.same ∙ c.self.view_is) (front-least marks (heap_items c.entries.self-inside.queue) (heap_items c.pop_up_to.new.queue) c.entries.self-inside.touched.items c.in-Some.field-0 c.in-Open.label c.entries.invariant.front c.in-Some.ensures.moved c.in-Some.ensures.top (sym read ∙ c.in-Open.is))
+    let read : c.mark.result ≡ mark marks c.in-Some.field-0.0.1 = c.mark.ensures ∙ mark_read kept c.in-Some.field-0.0.1 c.index.result.now (omega (arith, place, as_many kept)) c.index.ensures in
+    subst (λ (xs : List (Mark Label)). IsLeastOpen xs c.in-Some.field-0.0.1 c.in-Open.label) (ap (λ (ks : List KeptMark). marks_in ks) c.entries.invariant.same ∙ c.self.view_is) (front-least marks (heap_items c.entries.self-inside.queue) (heap_items c.pop_up_to.new.queue) c.entries.self-inside.touched.items c.in-Some.field-0 c.entries.invariant.front c.in-Some.ensures.moved c.in-Open.label (sym read ∙ c.in-Open.is) c.in-Some.ensures.top)
 
 pub entries-preserved : goal.entries-preserved
 entries-preserved c =
     let kept : List KeptMark = c.entries.self-inside.marks.items in
-    let marks : List Mark = marks_in kept in
+    let marks : List (Mark Label) = marks_in kept in
     let place : c.in-Some.field-0.0.1 < length marks = front-in marks (heap_items c.entries.self-inside.queue) (heap_items c.pop_up_to.new.queue) c.entries.self-inside.touched.items c.in-Some.field-0 c.entries.invariant.front c.in-Some.ensures.moved in
-    let read : c.mark.result ≡ mark_at marks c.in-Some.field-0.0.1 = c.mark.ensures ∙ mark_read kept c.in-Some.field-0.0.1 c.index.result.now (omega (arith, place, as_many kept)) c.index.ensures in
+    let read : c.mark.result ≡ mark marks c.in-Some.field-0.0.1 = c.mark.ensures ∙ mark_read kept c.in-Some.field-0.0.1 c.index.result.now (omega (arith, place, as_many kept)) c.index.ensures in
     record {
       same = c.entries.invariant.same;
       front = front-pass marks (heap_items c.entries.self-inside.queue) (heap_items c.pop_up_to.new.queue) c.entries.self-inside.touched.items c.in-Some.field-0 c.entries.invariant.front c.in-Some.ensures.moved c.pop_up_to.ensures.heap (λ e is. c.in_default-mark.not-Open e (read ∙ is));
     }
 
 pub returns-clause-none : goal.returns-clause-none
-returns-clause-none c = subst (λ (xs : List Mark). IsStopped xs c.args.limit) (ap (λ (ks : List KeptMark). marks_in ks) c.entries.invariant.same ∙ c.self.view_is) (front-stopped (marks_in c.entries.self-inside.marks.items) (heap_items c.entries.self-inside.queue) c.entries.self-inside.touched.items c.args.limit c.entries.invariant.front c.in_default.ensures.none)
+returns-clause-none c = subst (λ (xs : List (Mark Label)). IsStopped xs c.args.limit) (ap (λ (ks : List KeptMark). marks_in ks) c.entries.invariant.same ∙ c.self.view_is) (front-stopped (marks_in c.entries.self-inside.marks.items) (heap_items c.entries.self-inside.queue) c.entries.self-inside.touched.items c.args.limit c.entries.invariant.front c.in_default.ensures.none)
 
 pub returns-in-Open-clause-settled : goal.returns-in-Open-clause-settled
 returns-in-Open-clause-settled c =
     let kept : List KeptMark = c.entries.self-inside.marks.items in
     mark_written kept c.in-Some.field-0.0.1 c.settled.result (Settled c.in-Open.label) c.settled.ensures
-    ∙ ap (λ (ms : List Mark). set ms c.in-Some.field-0.0.1 (Settled c.in-Open.label)) (ap (λ (ks : List KeptMark). marks_in ks) c.entries.invariant.same ∙ c.self.view_is)
+    ∙ ap (λ (ms : List (Mark Label)). set ms c.in-Some.field-0.0.1 (Settled c.in-Open.label)) (ap (λ (ks : List KeptMark). marks_in ks) c.entries.invariant.same ∙ c.self.view_is)

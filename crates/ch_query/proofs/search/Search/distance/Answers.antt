@@ -2,7 +2,7 @@ use Rattle.std.proofs.Common.{◌≡◌, ◌<◌, length, replicate, None, Optio
 use Rattle.std.proofs.lemmas.Grind.{common_steps}
 use Rattle.ch_cost.specs.declared.cost.Cost.{Cost}
 use Rattle.ch_graph.specs.Hierarchy.{Hierarchy, IsValue}
-use Rattle.ch_query.specs.declared.mark.Mark.TheVariants.{Unseen}
+use Rattle.ch_graph.specs.declared.mark.Mark.TheVariants.{Unseen}
 use Rattle.ch_query.specs.declared.meeting.Meeting.{Meeting}
 use Rattle.ch_query.specs.Meeting.{cost_of}
 use Rattle.ch_query.specs.Places.{IsRiseFallAt}
