@@ -2,36 +2,31 @@
 use Rattle.std.proofs.Common.{ℕ, ◌≡◌, ◌||◌, ◌+◌, ◌<◌, ◌≤◌, true, false, Bool, List, length, set, replicate, Option, None, ap, refl, sym, subst, ◌∙◌, arith}
 use Rattle.ch_cost.specs.declared.cost.Cost.{Cost}
 use Rattle.ch_cost.specs.Cost.{zero_cost}
-use Rattle.ch_graph.specs.Hierarchy.{Hierarchy, IsWellMade, rank_of}
 use Rattle.ch_graph.specs.declared.mark.Mark.{Mark}
 use Rattle.ch_graph.specs.declared.mark.Mark.TheVariants.{Unseen, Open}
+use Rattle.ch_graph.specs.Hierarchy.{Hierarchy, IsWellMade, rank_of}
 use Rattle.ch_graph.specs.Marks.{settled_count}
 use Rattle.ch_query.specs.declared.side.Side.{Side}
-use Rattle.ch_query.specs.declared.side.Side.TheVariants.{Rise}
-use Rattle.ch_query.specs.Marks.{IsStopped, IsNoMore}
-use Rattle.ch_query.specs.Searching.{IsSearching, AreFollowed, IsTurned}
+use Rattle.ch_query.specs.declared.label.Label.{Label}
+use Rattle.ch_query.specs.Marks.{IsStopped}
+use Rattle.ch_query.specs.Searching.{IsClimbing, IsSearching, IsTurned}
 use Rattle.ch_query.specs.Meeting.{IsBestSoFar}
 use Rattle.ch_query.proofs.BestMeetings.{best-none}
-use Rattle.ch_query.proofs.Turning.{first_marks, no_settled, searching-start, followed-start}
-use Rattle.ch_query.proofs.Following.{counts-more}
-use Rattle.ch_query.specs.declared.label.Label.{Label}
+use Rattle.ch_query.proofs.Turning.{first_marks, no_settled, searching-start, climbing-start}
 
-pub searching-begun : (h : Hierarchy) → IsWellMade h → (side : Side) (start : ℕ) → start < length h.ranks → (old new : List (Mark Label)) → old ≡ replicate (length h.ranks) Unseen → new ≡ set old (rank_of h start) (Open (record { cost = zero_cost; foot = rank_of h start })) → IsSearching h side start new
-searching-begun h made side start start_in old new unseen begun =
-    subst (λ (ms : List (Mark Label)). IsSearching h side start ms) (sym (begun ∙ ap (λ (ms : List (Mark Label)). set ms (rank_of h start) (Open (record { cost = zero_cost; foot = rank_of h start }))) unseen)) (searching-start h made side start start_in)
+module _ (h : Hierarchy) (made : IsWellMade h) (side : Side) (start : ℕ) (start_in : start < length h.ranks) (old new : List (Mark Label)) (unseen : old ≡ replicate (length h.ranks) Unseen) (begun : new ≡ set old (rank_of h start) (Open (record { cost = zero_cost; foot = rank_of h start }))) where
+  begins : first_marks h start ≡ new
+  begins = sym (begun ∙ ap (λ (ms : List (Mark Label)). set ms (rank_of h start) (Open (record { cost = zero_cost; foot = rank_of h start }))) unseen)
 
-pub followed-begun : (h : Hierarchy) → IsWellMade h → (side : Side) (start : ℕ) → start < length h.ranks → (old new : List (Mark Label)) → old ≡ replicate (length h.ranks) Unseen → new ≡ set old (rank_of h start) (Open (record { cost = zero_cost; foot = rank_of h start })) → (limit : Option Cost) → AreFollowed h side limit new
-followed-begun h made side start start_in old new unseen begun limit =
-    subst (λ (ms : List (Mark Label)). AreFollowed h side limit ms) (sym (begun ∙ ap (λ (ms : List (Mark Label)). set ms (rank_of h start) (Open (record { cost = zero_cost; foot = rank_of h start }))) unseen)) (followed-start h made side start start_in limit)
+  pub searching-begun : IsSearching h side start new
+  searching-begun = subst (λ (ms : List (Mark Label)). IsSearching h side start ms) begins (searching-start h made side start start_in)
 
--- the other side's turn may make the limit less
-pub followed-less : (h : Hierarchy) (side : Side) (limit found : Option Cost) (marks : List (Mark Label)) → IsNoMore found limit → AreFollowed h side limit marks → AreFollowed h side found marks
-followed-less h side limit found marks less were k e climbs closed counts = were k e climbs closed (counts-more h less counts)
+  pub climbing-begun : (limit : Option Cost) → IsClimbing h side start limit new
+  climbing-begun limit = subst (λ (ms : List (Mark Label)). IsClimbing h side start limit ms) begins (climbing-start h made side start start_in limit)
 
--- the sides haven't met yet
-pub best-begun : (h : Hierarchy) → IsWellMade h → (start : ℕ) → start < length h.ranks → (old new : List (Mark Label)) → old ≡ replicate (length h.ranks) Unseen → new ≡ set old (rank_of h start) (Open (record { cost = zero_cost; foot = rank_of h start })) → (down : List (Mark Label)) → IsBestSoFar h new down None
-best-begun h made start start_in old new unseen begun down =
-    subst (λ (ms : List (Mark Label)). IsBestSoFar h ms down None) (sym (begun ∙ ap (λ (ms : List (Mark Label)). set ms (rank_of h start) (Open (record { cost = zero_cost; foot = rank_of h start }))) unseen)) (best-none h (first_marks h made Rise start start_in) down (no_settled h made Rise start start_in))
+  -- the sides haven't met yet
+  pub best-begun : (down : List (Mark Label)) → IsBestSoFar h new down None
+  best-begun down = subst (λ (ms : List (Mark Label)). IsBestSoFar h ms down None) begins (best-none h (first_marks h start) down (no_settled h made side start start_in))
 
 -- Turns
 

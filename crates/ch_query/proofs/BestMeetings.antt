@@ -3,17 +3,17 @@ use Rattle.std.proofs.Common.{ℕ, ◌≡◌, ◌⊎◌, List, Option, Some, Non
 use Rattle.ch_cost.specs.declared.cost.Cost.{Cost}
 use Rattle.ch_cost.specs.Cost.{◌⊕◌, ◌≼◌, IsNoLonger}
 use Rattle.ch_cost.specs.Cost.Laws.{sum_comm, at_most_refl, at_most_trans, at_most_antisym, at_most-from_below, at_most_sum_left, at_most_sum_right, sum_at_most, no_longer_at_most}
-use Rattle.ch_graph.specs.Hierarchy.{Hierarchy}
-use Rattle.ch_graph.specs.Marks.{mark, label_in, settled}
-use Rattle.ch_graph.specs.Marks.Laws.{label_cases}
 use Rattle.ch_graph.specs.declared.mark.Mark.{Mark}
 use Rattle.ch_graph.specs.declared.mark.Mark.TheVariants.{Settled}
+use Rattle.ch_graph.specs.Hierarchy.{Hierarchy}
+use Rattle.ch_graph.specs.Marks.{mark, label_in, settled, IsAtMost}
+use Rattle.ch_graph.specs.Marks.Laws.{label_cases, at_most-from_label}
 use Rattle.ch_query.specs.declared.label.Label.{Label}
 use Rattle.ch_query.specs.declared.meeting.Meeting.{Meeting}
-use Rattle.ch_query.specs.Labels.{HasAtMost, AreShort, Meets, IsShortLimit}
-use Rattle.ch_query.specs.Marks.{costs_of, settled_in, settled_costs, IsBelow, HasLimit, IsNoMore, IsStopped}
+use Rattle.ch_query.specs.Labels.{AreShort, Meets, IsShortLimit}
+use Rattle.ch_query.specs.Marks.{costs_of, settled_in, settled_costs, IsBelow, HasLimit, IsNoMore, IsStopped, label_cost}
 use Rattle.ch_query.specs.Meeting.{IsShortSum, IsBestMeeting, IsMet, IsBestSoFar, IsLooked, cost_of}
-use Rattle.ch_query.proofs.Marking.{from_cost, settled_is, limit-given}
+use Rattle.ch_query.proofs.Marking.{has_label, cost_is, from_cost, settled_is, limit-given}
 
 same_given : (o : Option Cost) (c d : Cost) → o ≡ Some c → o ≡ Some d → c ≡ d
 same_given o c d is other = cc
@@ -84,15 +84,16 @@ looked-stays h r c other best sum short never = record {
 }
 
 -- where labels get less, a meeting stays
-pub met-kept : {h : Hierarchy} {old new there : ℕ → Option Cost} {m : Meeting} → ((q : ℕ) (c : Cost) → HasAtMost old q c → HasAtMost new q c) → IsMet h old there m → IsMet h new there m
-met-kept {h} {old} {new} {there} {m} kept met =
+pub met-kept : {h : Hierarchy} (old new : List (Mark Label)) {there : ℕ → Option Cost} {m : Meeting} → ((q : ℕ) (c : Cost) → IsAtMost label_cost (mark old q) c → IsAtMost label_cost (mark new q) c) → IsMet h (costs_of old) there m → IsMet h (costs_of new) there m
+met-kept {h} old new {there} {m} kept met =
     let rise : Cost = met.meets.rise in
     let fall : Cost = met.meets.fall in
-    let has : HasAtMost new m.rank rise = kept m.rank rise (record { cost = rise; labelled = met.meets.risen; at_most = at_most_refl rise }) in
-    let sum : has.cost ⊕ fall ≼ met.cost = subst (λ (x : Cost). has.cost ⊕ fall ≼ x) (sym met.meets.sum) (sum_at_most has.at_most (at_most_refl fall)) in
+    let was = from_cost (label_in (mark old m.rank)) rise met.meets.risen in
+    let has = has_label (mark new m.rank) rise (kept m.rank rise (at_most-from_label label_cost (mark old m.rank) was.0 rise was.1 (subst (λ (x : Cost). was.0.cost ≼ x) was.2 (at_most_refl was.0.cost)))) in
+    let sum : has.0.cost ⊕ fall ≼ met.cost = subst (λ (x : Cost). has.0.cost ⊕ fall ≼ x) (sym met.meets.sum) (sum_at_most has.2 (at_most_refl fall)) in
     record {
-      cost = has.cost ⊕ fall;
-      meets = record { rise = has.cost; fall = fall; risen = has.labelled; fallen = met.meets.fallen; sum = refl; short = no_longer_at_most sum met.meets.short };
+      cost = has.0.cost ⊕ fall;
+      meets = record { rise = has.0.cost; fall = fall; risen = cost_is new m.rank has.0 has.1; fallen = met.meets.fallen; sum = refl; short = no_longer_at_most sum met.meets.short };
       at_most = at_most_trans sum met.at_most;
       short = met.short;
     }

@@ -1,5 +1,5 @@
 -- The links of a climb, from its top back to its start.
-use Rattle.std.proofs.Common.{ℕ, zero, suc, ◌≡◌, ◌≢◌, ◌+◌, ◌<◌, arith, List, [], ◌∷◌, ◌++◌, length, map, reverse, Option, Some, inl, inr, All, ap, refl, sym, subst, ◌∙◌, append_assoc}
+use Rattle.std.proofs.Common.{ℕ, ◌≡◌, ◌≢◌, ◌<◌, arith, List, [], ◌∷◌, ◌++◌, length, map, reverse, Option, Some, inl, inr, All, ap, refl, sym, subst, ◌∙◌, append_assoc}
 use Rattle.std.proofs.lemmas.Bool.{cases_eq, cases_lt}
 use Rattle.std.proofs.lemmas.List.{append-nil, map-append, reverse-append}
 use Rattle.std.proofs.lemmas.List.Elements.{All-nil, All-cons, All-same, All-push, All-head, All-tail}
@@ -8,21 +8,20 @@ use Rattle.ch_cost.specs.Cost.{◌⊕◌}
 use Rattle.ch_cost.specs.Cost.Laws.{sum_assoc, sum_comm, zero_cost-sum, sum-zero_cost}
 use Rattle.ch_graph.specs.declared.link.Link.{Link}
 use Rattle.ch_graph.specs.declared.hierarchy.LinkId.{LinkId}
+use Rattle.ch_graph.specs.declared.mark.Mark.{Mark}
 use Rattle.ch_graph.specs.Hierarchy.{Hierarchy, Chain, Chain.nothing, Chain.then, ComesBefore, IsWellMade, IsRising, IsFalling, rank_of}
 use Rattle.ch_graph.specs.Marks.{mark, label_in, HasLabel}
 use Rattle.ch_graph.specs.Marks.Laws.{label_settled}
-use Rattle.ch_graph.specs.declared.mark.Mark.{Mark}
-use Rattle.ch_graph.specs.declared.mark.Mark.TheVariants.{Settled}
 use Rattle.ch_query.specs.declared.label.Label.{Label}
 use Rattle.ch_query.specs.declared.side.Side.{Side}
 use Rattle.ch_query.specs.declared.side.Side.TheVariants.{Rise, Fall}
 use Rattle.ch_query.specs.Places.{link_at}
 use Rattle.ch_query.specs.Climb.{foot_of, head_of, foot_at, head_at, cost_at, Climbs, LeadsUp, ClimbsFrom, Descends, Descends.there, Descends.down}
 use Rattle.ch_query.specs.Marks.{costs_of}
-use Rattle.ch_query.specs.Searching.{IsOfStart, ComesFrom, IsFrom, IsSearching}
+use Rattle.ch_query.specs.Searching.{IsOfStart, ComesFrom, IsSearching}
 use Rattle.ch_query.proofs.Sides.{link-among, foot_in, head_in}
 use Rattle.ch_query.proofs.Ranks.{rank_below, same_node}
-use Rattle.ch_query.proofs.Marking.{from_cost, cost_is}
+use Rattle.ch_query.proofs.Marking.{from_cost, cost_is, arc-rises}
 
 -- the links at these places, in order
 abbrev pub links_at : Hierarchy → List LinkId → List Link
@@ -72,7 +71,7 @@ came_from is r e label other = elim (is.origin r e label) [
 came_first : {h : Hierarchy} {side : Side} {start : ℕ} {marks : List (Mark Label)} → IsSearching h side start marks → (r : ℕ) (e : Label) → HasLabel (mark marks r) e → e.foot ≡ r → IsOfStart h start r e
 came_first is r e label own = elim (is.origin r e label) [
   | inl first ↦ first
-  | inr comes ↦ absurd (omega (arith, own, comes.leads.climbs.rises, comes.leads.foot, comes.leads.head))
+  | inr comes ↦ absurd (omega (arith, own, arc-rises comes.over.goes))
 ]
 
 -- two links of one side with the same ends are one
@@ -105,43 +104,14 @@ one_link h made side f r k j first second = elim (cases_eq k j) [
 own-foot : (h : Hierarchy) (side : Side) (k : ℕ) → Climbs h side k → ClimbsFrom h side (foot_at h side k) k
 own-foot h side k climbs = record { within = climbs.within; foot = refl; climbs = climbs.rises }
 
--- some links of a climb lead to the node at this cost
-abbrev HasDescent : Hierarchy → Side → ℕ → ℕ → Cost → Type 0
-HasDescent h side start x c = (ids : List LinkId) × Descends h side start ids x c
-
 module _ (h : Hierarchy) (made : IsWellMade h) (side : Side) (start : ℕ) (start_in : start < length h.ranks) (marks : List (Mark Label)) (is : IsSearching h side start marks) where
-  descent_from : (x : ℕ) (e : Label) → x < length h.ranks → ((y : ℕ) (d : Label) → y < length h.ranks → rank_of h y < rank_of h x → HasLabel (mark marks (rank_of h y)) d → HasDescent h side start y d.cost) → IsFrom h side start marks (rank_of h x) e → HasDescent h side start x e.cost
-  descent_from x e x_in below from = elim from [
-    | inl first ↦ ([], subst (λ y. Descends h side start [] y e.cost) (sym (same_node h made x start x_in start_in first.rank)) (subst (λ (d : Cost). Descends h side start [] start d) (sym first.cost) there))
-    | inr comes ↦
-        let k : ℕ = comes.link in
-        let id : LinkId = record { 0 = k } in
-        let foot : ℕ = foot_at h side k in
-        let within : k < length h.links = comes.leads.climbs.within in
-        let low : rank_of h foot < rank_of h x = subst (λ q. rank_of h foot < q) comes.leads.head comes.leads.climbs.rises in
-        let label : HasLabel (mark marks (rank_of h foot)) comes.foot = label_settled _ comes.foot (subst (λ q. mark marks q ≡ Settled comes.foot) (sym comes.leads.foot) comes.settled) in
-        let rest : HasDescent h side start foot comes.foot.cost = below foot comes.foot (foot_in h made side k within) low label in
-        let step : Descends h side start (id ∷ rest.0) (head_at h side k) (comes.foot.cost ⊕ cost_at h k) = down (own-foot h side k comes.leads.climbs) rest.1 in
-        let same : head_at h side k ≡ x = same_node h made (head_at h side k) x (head_in h made side k within) x_in comes.leads.head in
-        (id ∷ rest.0, subst (λ (d : Cost). Descends h side start (id ∷ rest.0) x d) (sym comes.sum) (subst (λ y. Descends h side start (id ∷ rest.0) y (comes.foot.cost ⊕ cost_at h k)) same step))
-  ]
-
-  descent_within : (n x : ℕ) (e : Label) → x < length h.ranks → rank_of h x < n → HasLabel (mark marks (rank_of h x)) e → HasDescent h side start x e.cost
-  descent_within zero x e x_in low label = absurd (omega (arith, low))
-  descent_within (suc n) x e x_in low label = descent_from x e x_in (λ y d y_in lower at_y. descent_within n y d y_in (omega (arith, low, lower)) at_y) (is.origin (rank_of h x) e label)
-
-  pub descent_to : (x : ℕ) (c : Cost) → x < length h.ranks → costs_of marks (rank_of h x) ≡ Some c → (ids : List LinkId) × Descends h side start ids x c
-  descent_to x c x_in label =
-      let l = from_cost (label_in (mark marks (rank_of h x))) c label in
-      subst (λ (d : Cost). HasDescent h side start x d) l.2 (descent_within (rank_of h x + 1) x l.0 x_in (omega arith) l.1)
-
   -- each rank with a label is that of a node
   pub node_of : (r : ℕ) (c : Cost) → costs_of marks r ≡ Some c → (x : ℕ) × (x < length h.ranks) × (rank_of h x ≡ r)
   node_of r c label =
       let l = from_cost (label_in (mark marks r)) c label in
       elim (is.origin r l.0 l.1) [
         | inl first ↦ (start, start_in, sym first.rank)
-        | inr comes ↦ (head_at h side comes.link, head_in h made side comes.link comes.leads.climbs.within, comes.leads.head)
+        | inr comes ↦ (head_at h side comes.over.goes.link, head_in h made side comes.over.goes.link comes.over.goes.leads.climbs.within, comes.over.goes.leads.head)
       ]
 
 -- The links so far lead from a node of the top rank down to one of this rank.
@@ -161,8 +131,8 @@ one_cost o c d first second = cc
 pub descending-more : {h : Hierarchy} {side : Side} {start : ℕ} {marks : List (Mark Label)} (made : IsWellMade h) → IsSearching h side start marks → (top rank : ℕ) (e : Label) (k : ℕ) (ids : List LinkId) → HasLabel (mark marks rank) e → e.foot ≢ rank → LeadsUp h side e.foot rank k → IsDescending h side start marks top rank ids → IsDescending h side start marks top e.foot (ids ++ record { 0 = k } ∷ [])
 descending-more {h} {side} {start} {marks} made is top rank e k ids label other leads so_far =
     let comes : ComesFrom h side marks rank e = came_from is rank e label other in
-    let link : comes.link ≡ k = one_link h made side e.foot rank comes.link k comes.leads leads in
-    let sum : e.cost ≡ comes.foot.cost ⊕ cost_at h k = subst (λ j. e.cost ≡ comes.foot.cost ⊕ cost_at h j) link comes.sum in
+    let link : comes.over.goes.link ≡ k = one_link h made side e.foot rank comes.over.goes.link k comes.over.goes.leads leads in
+    let sum : e.cost ≡ comes.foot.cost ⊕ cost_at h k = sym comes.over.sum ∙ ap (λ (a : Cost). comes.foot.cost ⊕ a) (sym comes.over.goes.cost ∙ ap (cost_at h) link) in
     let within : k < length h.links = leads.climbs.within in
     record {
       rank_in = subst (λ q. q < length h.ranks) leads.foot (rank_below h made (foot_at h side k) (foot_in h made side k within));

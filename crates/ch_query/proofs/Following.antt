@@ -3,90 +3,71 @@ use Rattle.std.proofs.Common.{ℕ, ◌≡◌, ◌↔◌, ◌+◌, ◌<◌, ◌�
 use Rattle.std.proofs.lemmas.Bool.{cases_lt}
 use Rattle.std.proofs.lemmas.List.{length-set}
 use Rattle.ch_cost.specs.declared.cost.Cost.{Cost}
-use Rattle.ch_cost.specs.Cost.{◌⊕◌, ◌≼◌, ◌≺◌, IsNoLonger}
+use Rattle.ch_cost.specs.Cost.{◌⊕◌, ◌≺◌, IsNoLonger}
 use Rattle.ch_cost.specs.Cost.Laws.{at_most_refl, at_most-from_below, below_trans_at_most, no_longer_at_most}
-use Rattle.ch_graph.specs.Hierarchy.{Hierarchy, IsWellMade, rank_of}
-use Rattle.ch_graph.specs.Marks.{mark, Improves, settled}
-use Rattle.ch_graph.specs.Marks.Laws.{cases_put, count-open, improves-not_settled, improves-unsettled, open-open, open-settled, put-set}
 use Rattle.ch_graph.specs.declared.mark.Mark.{Mark}
-use Rattle.ch_graph.specs.declared.mark.Mark.TheVariants.{Open, Settled}
+use Rattle.ch_graph.specs.declared.mark.Mark.TheVariants.{Open}
+use Rattle.ch_graph.specs.Hierarchy.{Hierarchy, IsWellMade, rank_of}
+use Rattle.ch_graph.specs.Marks.{mark, IsAtMost, Improves}
+use Rattle.ch_graph.specs.Searching.{LeadsTo}
+use Rattle.ch_graph.specs.Marks.Laws.{put-set, label_open, count-open, improves-unsettled, not_improves-at_most, at_most-from_label}
+use Rattle.ch_graph.specs.Searching.Laws.{opened-none}
+use Rattle.ch_graph.specs.Searching.Laws as searching
 use Rattle.ch_query.specs.declared.label.Label.{Label}
 use Rattle.ch_query.specs.declared.side.Side.{Side}
 use Rattle.ch_query.specs.declared.upward.Step.{Step}
-use Rattle.ch_query.specs.Labels.{HasAtMost, CountsBelow}
-use Rattle.ch_query.specs.Climb.{foot_at, foot_rank, head_rank, cost_at, Climbs, LeadsUp, ClimbsFrom}
+use Rattle.ch_query.specs.Labels.{CountsBelow}
+use Rattle.ch_query.specs.Climb.{foot_at, foot_rank, head_rank, cost_at, Climbs, ClimbsFrom}
 use Rattle.ch_query.specs.Upward.{IsLaidOut}
-use Rattle.ch_query.specs.Marks.{costs_of, IsNoMore, IsLatest, IsSettledAtMost, label_cost}
-use Rattle.ch_query.specs.Searching.{IsStepAt, IsFollowed, ClimbsTo, IsOpenedBy, ArePassed}
+use Rattle.ch_query.specs.Marks.{label_cost, IsNoMore, IsLatest, IsSettledAtMost}
+use Rattle.ch_query.specs.Searching.{LinkArc, IsStepAt, IsFollowed, ClimbsTo, IsOpenedOver, ArePassed}
 use Rattle.ch_query.proofs.Sides.{foot_in}
 use Rattle.ch_query.proofs.Ranks.{same_node, rank_taken}
 use Rattle.ch_query.proofs.Laying.{links_are, step_at, as_many}
-use Rattle.ch_query.proofs.Marking.{not_improves, no_later-settled, open-here, open-kept}
+use Rattle.ch_query.proofs.Marking.{by_lengths}
 
-pub opened-none : (h : Hierarchy) (side : Side) (r : ℕ) (c : Cost) (marks : List (Mark Label)) → IsOpenedBy h side r c marks marks
-opened-none h side r c marks = record {
-  nodes = refl;
-  count = refl;
-  stays = λ q d is. is;
-  settled = λ q d is. is;
-  opened = λ q d is. inl is;
-  kept = λ q a has. has;
-}
+-- no link was followed yet
+pub opened-start : (h : Hierarchy) (side : Side) (r : ℕ) (c : Cost) (marks : List (Mark Label)) → IsOpenedOver h side r c marks marks
+opened-start h side r c marks = record { nodes = refl; count = refl; is = opened-none label_cost (ClimbsTo h side r c) (mark marks) }
 
-pub opened-more : {h : Hierarchy} {side : Side} {r : ℕ} {c : Cost} {old mid new : List (Mark Label)} → IsOpenedBy h side r c old mid → IsOpenedBy h side r c mid new → IsOpenedBy h side r c old new
-opened-more first second = record {
+pub opened-more : {h : Hierarchy} {side : Side} {r : ℕ} {c : Cost} {old mid new : List (Mark Label)} → IsOpenedOver h side r c old mid → IsOpenedOver h side r c mid new → IsOpenedOver h side r c old new
+opened-more {h} {side} {r} {c} first second = record {
   nodes = second.nodes ∙ first.nodes;
   count = second.count ∙ first.count;
-  stays = λ q d is. second.stays q d (first.stays q d is);
-  settled = λ q d is. first.settled q d (second.settled q d is);
-  opened = λ q d is. elim (second.opened q d is) [
-    | inl there ↦ first.opened q d there
-    | inr climbs ↦ inr climbs
-  ];
-  kept = λ q a has. second.kept q a (first.kept q a has);
+  is = searching.opened-more label_cost (ClimbsTo h side r c) first.is second.is;
 }
 
 -- the node of rank q is opened with the label e, to which a link leads
-pub opened-one : (h : Hierarchy) (side : Side) (r : ℕ) (c : Cost) (marks : List (Mark Label)) (q : ℕ) (e : Label) → q < length marks → Improves label_cost e.cost (mark marks q) → ClimbsTo h side r c q e → IsOpenedBy h side r c marks (set marks q (Open e))
+pub opened-one : (h : Hierarchy) (side : Side) (r : ℕ) (c : Cost) (marks : List (Mark Label)) (q : ℕ) (e : Label) → q < length marks → Improves label_cost e.cost (mark marks q) → ClimbsTo h side r c q e → IsOpenedOver h side r c marks (set marks q (Open e))
 opened-one h side r c marks q e within improves climbs = record {
   nodes = length-set marks q (Open e);
   count = count-open marks q e within (improves-unsettled label_cost (mark marks q) e.cost improves);
-  stays = λ p d closed. elim (cases_put (put-set marks q (Open e) within) p) [
-    | inl w ↦ absurd (improves-not_settled label_cost (mark marks q) e.cost d improves (subst (λ x. mark marks x ≡ Settled d) w.at closed))
-    | inr k ↦ k.reads ∙ closed
-  ];
-  settled = λ p d closed. elim (cases_put (put-set marks q (Open e) within) p) [
-    | inl w ↦ absurd (open-settled (sym w.reads ∙ closed))
-    | inr k ↦ sym k.reads ∙ closed
-  ];
-  opened = λ p d opens. elim (cases_put (put-set marks q (Open e) within) p) [
-    | inl w ↦ inr (subst (λ x. ClimbsTo h side r c x d) (sym w.at) (subst (λ (l : Label). ClimbsTo h side r c q l) (open-open (sym w.reads ∙ opens)) climbs))
-    | inr k ↦ inl (sym k.reads ∙ opens)
-  ];
-  kept = open-kept marks q e within improves;
+  is = searching.opened-one label_cost (ClimbsTo h side r c) q e climbs improves (put-set marks q (Open e) within);
 }
 
--- a link was followed: its head got the label
-pub followed-put : (h : Hierarchy) (side : Side) (c : Cost) (limit : Option Cost) (marks : List (Mark Label)) (k : ℕ) (head : ℕ) (e : Label) → head < length marks → Improves label_cost e.cost (mark marks head) → head ≡ head_rank h side k → e.cost ≡ c ⊕ cost_at h k → IsFollowed h side c limit (set marks head (Open e)) k
-followed-put h side c limit marks k head e within improves at sum counts =
-    let here : HasAtMost (costs_of (set marks head (Open e))) head (c ⊕ cost_at h k) = record {
-      cost = e.cost;
-      labelled = open-here marks head e within improves;
-      at_most = subst (λ (d : Cost). e.cost ≼ d) sum (at_most_refl e.cost);
-    } in
-    subst (λ x. HasAtMost (costs_of (set marks head (Open e))) x (c ⊕ cost_at h k)) at here
+-- the step at a place leads on from its foot
+pub leads-step : (h : Hierarchy) (side : Side) (links : List ℕ) (steps : List Step) (place r : ℕ) (c : Cost) → IsStepAt h side links steps place → foot_rank h side (slice_index links place) ≡ r → (head : ℕ) (sum : Cost) → head ≡ head_rank h side (slice_index links place) → sum ≡ c ⊕ cost_at h (slice_index links place) → LeadsTo (LinkArc h side) r c head sum
+leads-step h side links steps place r c step foot head sum at is_sum = record {
+  arc = cost_at h (slice_index links place);
+  goes = record { link = slice_index links place; leads = record { climbs = step.climbs; foot = foot; head = sym at }; cost = refl };
+  sum = sym is_sum;
+}
 
--- if the head is settled, its label costs at most the climb: it is of a higher rank than the foot
-pub climb-settled : (h : Hierarchy) (side : Side) (c : Cost) (marks : List (Mark Label)) (r : ℕ) (k : ℕ) (head : ℕ) (sum : Cost) → LeadsUp h side r head k → IsLatest marks c r → sum ≡ c ⊕ cost_at h k → IsSettledAtMost marks head sum
-climb-settled h side c marks r k head sum leads latest is_sum e closed =
-    subst (λ (d : Cost). e.cost ≼ d) (sym is_sum) (no_later-settled (cost_at h k) (latest head e closed) (omega (arith, leads.climbs.rises, leads.foot, leads.head)))
+-- if its head is settled, the label there costs at most the climb
+pub settled-step : (h : Hierarchy) (side : Side) (marks : List (Mark Label)) (r : ℕ) (c : Cost) (head : ℕ) (sum : Cost) → LeadsTo (LinkArc h side) r c head sum → IsLatest marks c r → IsSettledAtMost marks head sum
+settled-step h side marks r c head sum leads latest e closed = (by_lengths h side).back e.cost c sum r head leads (latest head e closed)
 
--- or it had one of no more
-pub followed-kept : (h : Hierarchy) (side : Side) (c : Cost) (limit : Option Cost) (marks : List (Mark Label)) (k : ℕ) (head : ℕ) (sum : Cost) → (Improves label_cost sum (mark marks head) → ⊥) → IsSettledAtMost marks head sum → head ≡ head_rank h side k → sum ≡ c ⊕ cost_at h k → IsFollowed h side c limit marks k
-followed-kept h side c limit marks k head sum never above at is_sum counts =
-    let label = not_improves (mark marks head) sum never above in
-    let here : HasAtMost (costs_of marks) head (c ⊕ cost_at h k) = record { cost = label.0; labelled = label.1; at_most = subst (λ (d : Cost). label.0 ≼ d) is_sum label.2 } in
-    subst (λ x. HasAtMost (costs_of marks) x (c ⊕ cost_at h k)) at here
+-- the link at k was followed where its head's mark is at most the sum
+followed-head : (h : Hierarchy) (side : Side) (c : Cost) (marks : List (Mark Label)) (k head : ℕ) (sum : Cost) → head ≡ head_rank h side k → sum ≡ c ⊕ cost_at h k → IsAtMost label_cost (mark marks head) sum → IsAtMost label_cost (mark marks (head_rank h side k)) (c ⊕ cost_at h k)
+followed-head h side c marks k head sum at is_sum most = subst (λ q. IsAtMost label_cost (mark marks q) (c ⊕ cost_at h k)) at (subst (λ (d : Cost). IsAtMost label_cost (mark marks head) d) is_sum most)
+
+-- since it got the label
+pub followed-put : (h : Hierarchy) (side : Side) (c : Cost) (limit : Option Cost) (marks : List (Mark Label)) (k head : ℕ) (e : Label) → head < length marks → head ≡ head_rank h side k → e.cost ≡ c ⊕ cost_at h k → IsFollowed h side c limit (set marks head (Open e)) k
+followed-put h side c limit marks k head e within at is_sum counts = followed-head h side c (set marks head (Open e)) k head e.cost at is_sum (at_most-from_label label_cost (mark (set marks head (Open e)) head) e e.cost (label_open (mark (set marks head (Open e)) head) e (put-set marks head (Open e) within).here) (at_most_refl e.cost))
+
+-- or had one of no more
+pub followed-kept : (h : Hierarchy) (side : Side) (c : Cost) (limit : Option Cost) (marks : List (Mark Label)) (k head : ℕ) (sum : Cost) → (Improves label_cost sum (mark marks head) → ⊥) → IsSettledAtMost marks head sum → head ≡ head_rank h side k → sum ≡ c ⊕ cost_at h k → IsFollowed h side c limit marks k
+followed-kept h side c limit marks k head sum never above at is_sum counts = followed-head h side c marks k head sum at is_sum (not_improves-at_most label_cost (mark marks head) sum never above)
 
 -- what counts below a lesser limit counts below the greater one
 pub counts-more : (h : Hierarchy) {less more : Option Cost} {c : Cost} → IsNoMore less more → CountsBelow h less c → CountsBelow h more c
@@ -114,12 +95,9 @@ counts-short h c = (λ short. record { short = short; below = λ a is. absurd (n
     never : (a : Cost) → None ≡ Some a → ⊥
     never a e = cc
 
-pub followed-more : {h : Hierarchy} {side : Side} {r : ℕ} {c : Cost} {limit : Option Cost} {mid new : List (Mark Label)} → IsOpenedBy h side r c mid new → (k : ℕ) → IsFollowed h side c limit mid k → IsFollowed h side c limit new k
-followed-more {h} {side} {c = c} opened k done counts = opened.kept (head_rank h side k) (c ⊕ cost_at h k) (done counts)
-
 -- no more is settled by opening nodes
-pub latest-more : {h : Hierarchy} {side : Side} {r : ℕ} {c : Cost} {old new : List (Mark Label)} → IsOpenedBy h side r c old new → IsLatest old c r → IsLatest new c r
-latest-more opened latest q d closed = latest q d (opened.settled q d closed)
+pub latest-more : {h : Hierarchy} {side : Side} {r : ℕ} {c : Cost} {old new : List (Mark Label)} → IsOpenedOver h side r c old new → IsLatest old c r → IsLatest new c r
+latest-more opened latest q d closed = latest q d (opened.is.settled q d closed)
 
 -- Links by their feet
 
@@ -139,21 +117,21 @@ from-climbs h made side v k v_in climbs foot = record {
 
 -- The links from one place on are followed one by one: those before the next one were.
 pub record IsPassing (h : Hierarchy) (side : Side) (r : ℕ) (c : Cost) (links : List ℕ) (begin next : ℕ) (limit : Option Cost) (old new : List (Mark Label)) : Type 0 where
-  pub opened : IsOpenedBy h side r c old new
+  pub opened : IsOpenedOver h side r c old new
   pub followed : (i : ℕ) → begin ≤ i → i < next → IsFollowed h side c limit new (slice_index links i)
 
 pub passing-none : (h : Hierarchy) (side : Side) (r : ℕ) (c : Cost) (links : List ℕ) (begin : ℕ) (limit : Option Cost) (marks : List (Mark Label)) → IsPassing h side r c links begin begin limit marks marks
 passing-none h side r c links begin limit marks = record {
-  opened = opened-none h side r c marks;
+  opened = opened-start h side r c marks;
   followed = λ i from low. absurd (omega (arith, from, low));
 }
 
 -- one more link was followed
-pub passing-more : {h : Hierarchy} {side : Side} {r : ℕ} {c : Cost} {links : List ℕ} {begin : ℕ} {limit : Option Cost} {old mid new : List (Mark Label)} (next : ℕ) → IsPassing h side r c links begin next limit old mid → IsOpenedBy h side r c mid new → IsFollowed h side c limit new (slice_index links next) → IsPassing h side r c links begin (next + 1) limit old new
+pub passing-more : {h : Hierarchy} {side : Side} {r : ℕ} {c : Cost} {links : List ℕ} {begin : ℕ} {limit : Option Cost} {old mid new : List (Mark Label)} (next : ℕ) → IsPassing h side r c links begin next limit old mid → IsOpenedOver h side r c mid new → IsFollowed h side c limit new (slice_index links next) → IsPassing h side r c links begin (next + 1) limit old new
 passing-more {h} {side} {r} {c} {links} {limit = limit} {new = new} next is opened done = record {
   opened = opened-more is.opened opened;
   followed = λ i from low. elim (cases_lt i next) [
-    | inl before ↦ followed-more opened (slice_index links i) (is.followed i from before)
+    | inl before ↦ λ counts. opened.is.kept (head_rank h side (slice_index links i)) (c ⊕ cost_at h (slice_index links i)) (is.followed i from before counts)
     | inr last ↦
         let same : i ≡ next = omega (arith, low, last) in
         subst (λ j. IsFollowed h side c limit new (slice_index links j)) (sym same) done
@@ -164,11 +142,14 @@ passing-more {h} {side} {r} {c} {links} {limit = limit} {new = new} next is open
 module _ (h : Hierarchy) (made : IsWellMade h) (side : Side) (first links : List ℕ) (steps : List Step) (laid : IsLaidOut h side first links steps) (r : ℕ) (low : r < length h.ranks) where
   -- all its links were followed
   pub passed_over : (c : Cost) (next : ℕ) → slice_index first (r + 1) ≤ next → (limit : Option Cost) (old new : List (Mark Label)) → IsPassing h side r c links (slice_index first r) next limit old new → ArePassed h side r c limit new
-  passed_over c next whole limit old new is k climbs foot =
+  passed_over c next whole limit old new is u d leads counts =
+      let arc : LinkArc h side r u leads.arc = leads.goes in
       let v = rank_taken h made r low in
-      let from : ClimbsFrom h side v.0 k = from-climbs h made side v.0 k v.1 climbs (foot ∙ sym v.2) in
-      let among = (links_are h side first links steps laid v.0 r v.1 v.2).each k from in
-      subst (λ j. IsFollowed h side c limit new j) among.3 (is.followed among.0 among.1 (omega (arith, among.2, whole)))
+      let from : ClimbsFrom h side v.0 arc.link = from-climbs h made side v.0 arc.link v.1 arc.leads.climbs (arc.leads.foot ∙ sym v.2) in
+      let among = (links_are h side first links steps laid v.0 r v.1 v.2).each arc.link from in
+      let followed : IsFollowed h side c limit new arc.link = subst (λ j. IsFollowed h side c limit new j) among.3 (is.followed among.0 among.1 (omega (arith, among.2, whole))) in
+      let sum : c ⊕ cost_at h arc.link ≡ d = ap (λ (a : Cost). c ⊕ a) arc.cost ∙ leads.sum in
+      subst (λ q. IsAtMost label_cost (mark new q) d) arc.leads.head (subst (λ (a : Cost). IsAtMost label_cost (mark new (head_rank h side arc.link)) a) sum (followed (subst (λ (a : Cost). CountsBelow h limit a) (sym sum) counts)))
 
   -- one of its links
   from_here : (i : ℕ) → slice_index first r ≤ i → i < slice_index first (r + 1) → Climbs h side (slice_index links i) × (foot_rank h side (slice_index links i) ≡ r)

@@ -4,15 +4,17 @@ use Rattle.std.proofs.lemmas.Bool.{cases_lt}
 use Rattle.std.proofs.lemmas.List.{length-map, map-set, get_or-map}
 use Rattle.ch_cost.specs.declared.cost.Cost.{Cost}
 use Rattle.ch_cost.specs.Cost.{◌⊕◌, ◌≼◌, ◌≺◌, length_of}
-use Rattle.ch_cost.specs.Cost.Laws.{at_most_refl, at_most_trans, at_most-from_below, below_not_at_most, below-from_lengths, cases_cost, length_of-sum}
-use Rattle.ch_graph.specs.Marks.{mark, label_in, HasLabel, Improves}
-use Rattle.ch_graph.specs.Marks.Laws.{cases_put, label_open, open-in, put-set}
+use Rattle.ch_cost.specs.Cost.Laws.{at_most-from_below, below_not_at_most, below-from_lengths, cases_cost, length_of-sum}
 use Rattle.ch_graph.specs.declared.mark.Mark.{Mark}
 use Rattle.ch_graph.specs.declared.mark.Mark.TheVariants.{Unseen, Open, Settled}
+use Rattle.ch_graph.specs.Marks.{mark, label_in, HasLabel, Improves, IsAtMost}
+use Rattle.ch_graph.specs.Hierarchy.{Hierarchy}
+use Rattle.ch_graph.specs.Searching.{IsOrder}
 use Rattle.ch_query.specs.declared.kept_mark.KeptMark.{KeptMark}
 use Rattle.ch_query.specs.declared.label.Label.{Label}
-use Rattle.ch_query.specs.Labels.{HasAtMost}
+use Rattle.ch_query.specs.declared.side.Side.{Side}
 use Rattle.ch_query.specs.Marks.{option_cost, costs_of, mark_in, marks_in, settled_in, settled_costs, IsNoLater, IsBelow, IsUpTo, HasLimit, label_cost}
+use Rattle.ch_query.specs.Searching.{LinkArc}
 
 -- a cost is that of a label
 pub from_cost : (o : Option Label) (c : Cost) → option_cost o ≡ Some c → (e : Label) × (o ≡ Some e) × (e.cost ≡ c)
@@ -43,26 +45,18 @@ pub limit-longer : (c : Cost) (limit : Option Cost) → (IsUpTo (length_of c) li
 limit-longer c None never = absurd (never tt)
 limit-longer c (Some b) never = (b, refl, elim (cases_lt (length_of b) (length_of c)) [ inl longer ↦ at_most-from_below (below-from_lengths b c longer) | inr most ↦ absurd (never most) ])
 
--- a label gives way to a lesser one
-pub improves-less : (m : Mark Label) (c d a : Cost) → Improves label_cost c m → option_cost (label_in m) ≡ Some a → a ≼ d → c ≼ d
-improves-less Unseen c d a improves is most = absurd (cc)
-improves-less (Open e) c d a improves is most =
-    let same : e.cost ≡ a = cc in
-    at_most_trans (at_most-from_below improves) (subst (λ (b : Cost). b ≼ d) (sym same) most)
-improves-less (Settled e) c d a improves is most = absurd improves
-
--- a cost that isn't better is at least the label's, if it is at least that of each settled node
-pub not_improves : (m : Mark Label) (c : Cost) → (Improves label_cost c m → ⊥) → ((e : Label) → m ≡ Settled e → e.cost ≼ c) → (b : Cost) × (option_cost (label_in m) ≡ Some b) × (b ≼ c)
-not_improves Unseen c never latest = absurd (never tt)
-not_improves (Open e) c never latest = (e.cost, refl, elim (cases_cost c e.cost) [ inl below ↦ absurd (never below) | inr most ↦ most ])
-not_improves (Settled e) c never latest = (e.cost, refl, latest e refl)
+-- what is at most a cost has a label that is
+pub has_label : (m : Mark Label) (c : Cost) → IsAtMost label_cost m c → (e : Label) × HasLabel m e × (e.cost ≼ c)
+has_label Unseen c most = absurd most
+has_label (Open e) c most = (e, refl, most)
+has_label (Settled e) c most = (e, refl, most)
 
 -- The order in which nodes are settled
 
-pub no_later-refl : (c : Cost) (r : ℕ) → IsNoLater c r c r
+no_later-refl : (c : Cost) (r : ℕ) → IsNoLater c r c r
 no_later-refl c r = record { length = omega arith; rank = λ alike. omega arith }
 
-pub no_later-trans : {c d e : Cost} {p q r : ℕ} → IsNoLater c p d q → IsNoLater d q e r → IsNoLater c p e r
+no_later-trans : {c d e : Cost} {p q r : ℕ} → IsNoLater c p d q → IsNoLater d q e r → IsNoLater c p e r
 no_later-trans {c} {d} {e} first second = record {
   length = omega (arith, first.length, second.length);
   rank = λ alike.
@@ -72,15 +66,27 @@ no_later-trans {c} {d} {e} first second = record {
 }
 
 -- where a climb leads on to comes later
-pub no_later-climb : (c w : Cost) {q r : ℕ} → r < q → IsNoLater c r (c ⊕ w) q
+no_later-climb : (c w : Cost) {q r : ℕ} → r < q → IsNoLater c r (c ⊕ w) q
 no_later-climb c w higher = record { length = omega (arith, length_of-sum c w); rank = λ alike. omega (arith, higher) }
 
 -- and if it was settled before, its label is shorter than the climb
-pub no_later-settled : {d c : Cost} {q r : ℕ} (w : Cost) → IsNoLater d q c r → r < q → d ≼ c ⊕ w
+no_later-settled : {d c : Cost} {q r : ℕ} (w : Cost) → IsNoLater d q c r → r < q → d ≼ c ⊕ w
 no_later-settled {d} {c} w before higher = at_most-from_below (below-from_lengths d (c ⊕ w) (elim (cases_lt (length_of d) (length_of c)) [
   | inl shorter ↦ omega (arith, shorter, length_of-sum c w)
   | inr as_long ↦ absurd (omega (arith, higher, before.rank (omega (arith, as_long, before.length))))
 ]))
+
+-- it goes with the arcs of a side
+pub arc-rises : {h : Hierarchy} {side : Side} {q r : ℕ} {c : Cost} → LinkArc h side q r c → q < r
+arc-rises arc = omega (arith, arc.leads.climbs.rises, arc.leads.foot, arc.leads.head)
+
+pub by_lengths : (h : Hierarchy) (side : Side) → IsOrder (LinkArc h side) IsNoLater
+by_lengths h side = record {
+  same = no_later-refl;
+  chain = λ b c d u v w first second. no_later-trans first second;
+  onward = λ c d v u leads. subst (λ (e : Cost). IsNoLater c v e u) leads.sum (no_later-climb c leads.arc (arc-rises leads.goes));
+  back = λ b c d v u leads before. subst (λ (e : Cost). b ≼ e) leads.sum (no_later-settled leads.arc before (arc-rises leads.goes));
+}
 
 -- A climb is better than a label where it costs less
 pub better_than : (m : Mark Label) (c known : Cost) → ((e : Label) → m ≡ Settled e → e.cost ≼ c) → Some known ≡ option_cost (label_in m) → (c ≺ known) ↔ Improves label_cost c m
@@ -106,26 +112,3 @@ mark_written kept r k m is = map-set mark_in kept r k ∙ ap (λ (n : Mark Label
 pub first_marks : (nodes : ℕ) (k : KeptMark) → mark_in k ≡ Unseen → marks_in (replicate nodes k) ≡ replicate nodes Unseen
 first_marks zero k is = refl
 first_marks (suc n) k is = cc (is, first_marks n k is)
-
--- A node is opened
-
-module _ (marks : List (Mark Label)) (r : ℕ) (e : Label) (within : r < length marks) (improves : Improves label_cost e.cost (mark marks r)) where
-  pub open-here : costs_of (set marks r (Open e)) r ≡ Some e.cost
-  open-here = cost_is (set marks r (Open e)) r e (label_open _ e ((put-set marks r (Open e) within).here))
-
-  pub open-kept : (q : ℕ) (c : Cost) → HasAtMost (costs_of marks) q c → HasAtMost (costs_of (set marks r (Open e))) q c
-  open-kept q c has = elim (cases_put (put-set marks r (Open e) within) q) [
-    | inl w ↦ record {
-      cost = e.cost;
-      labelled = subst (λ p. costs_of (set marks r (Open e)) p ≡ Some e.cost) (sym w.at) open-here;
-      at_most = improves-less (mark marks r) e.cost c has.cost improves (subst (λ p. costs_of marks p ≡ Some has.cost) w.at has.labelled) has.at_most;
-    }
-    | inr k ↦ record { cost = has.cost; labelled = ap (λ (m : Mark Label). option_cost (label_in m)) k.reads ∙ has.labelled; at_most = has.at_most }
-  ]
-
--- a node is settled, and no label changes
-pub settle-label : (marks : List (Mark Label)) (r : ℕ) (e : Label) → mark marks r ≡ Open e → (q : ℕ) → label_in (mark (set marks r (Settled e)) q) ≡ label_in (mark marks q)
-settle-label marks r e is q = elim (cases_put (put-set marks r (Settled e) (open-in marks r e is)) q) [
-  | inl w ↦ ap label_in w.reads ∙ sym (ap label_in (subst (λ p. mark marks p ≡ Open e) (sym w.at) is))
-  | inr k ↦ ap label_in k.reads
-]

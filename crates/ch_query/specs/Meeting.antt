@@ -2,12 +2,12 @@
 use Rattle.std.specs.Prelude.{ℕ, ◌≡◌, ◌⊎◌, List, Option, Some, None, option_map}
 use Rattle.ch_cost.specs.declared.cost.Cost.{Cost}
 use Rattle.ch_cost.specs.Cost.{◌≼◌, IsNoLonger}
-use Rattle.ch_graph.specs.Hierarchy.{Hierarchy}
 use Rattle.ch_graph.specs.declared.mark.Mark.{Mark}
+use Rattle.ch_graph.specs.Hierarchy.{Hierarchy}
 use Rattle.ch_query.specs.declared.meeting.Meeting.{Meeting}
+use Rattle.ch_query.specs.declared.label.Label.{Label}
 use Rattle.ch_query.specs.Labels.{AreShort, Meets}
 use Rattle.ch_query.specs.Marks.{costs_of, settled_costs, HasLimit, IsNoMore}
-use Rattle.ch_query.specs.declared.label.Label.{Label}
 
 -- two labels have a short sum, or there is none
 abbrev pub IsShortSum : Hierarchy → Option Cost → Option Cost → Option Cost → Type 0

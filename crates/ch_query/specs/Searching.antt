@@ -1,18 +1,40 @@
--- One side of a query, as its marks tell it.
-use Rattle.std.specs.Prelude.{ℕ, ◌≡◌, ◌+◌, ◌<◌, ◌⊎◌, true, false, Bool, List, length, slice_index, slice_index_or, Option, Some}
+-- One side of a query, as its marks tell it: a search by marks over ranks.
+use Rattle.std.specs.Prelude.{ℕ, ◌≡◌, ◌+◌, ◌<◌, ◌⊎◌, true, false, Bool, List, length, slice_index, slice_index_or, Option}
 use Rattle.ch_cost.specs.declared.cost.Cost.{Cost}
 use Rattle.ch_cost.specs.Cost.{zero_cost, ◌⊕◌, IsNoLonger, IsOfWalks}
-use Rattle.ch_graph.specs.Hierarchy.{Hierarchy, rank_of}
-use Rattle.ch_graph.specs.Marks.{mark, HasLabel, settled, settled_count}
 use Rattle.ch_graph.specs.declared.mark.Mark.{Mark}
-use Rattle.ch_graph.specs.declared.mark.Mark.TheVariants.{Open, Settled}
+use Rattle.ch_graph.specs.declared.mark.Mark.TheVariants.{Settled}
+use Rattle.ch_graph.specs.Hierarchy.{Hierarchy, IsWellMade, IsValue, rank_of}
+use Rattle.ch_graph.specs.Marks.{mark, HasLabel, IsAtMost, settled_count}
+use Rattle.ch_graph.specs.Searching.{LeadsTo, IsOpenedBy, IsSearch}
+use Rattle.ch_graph.specs.Searching as searching
 use Rattle.ch_query.specs.declared.label.Label.{Label}
 use Rattle.ch_query.specs.declared.side.Side.{Side}
+use Rattle.ch_query.specs.declared.side.Side.TheVariants.{Rise, Fall}
 use Rattle.ch_query.specs.declared.upward.Step.{Step}
-use Rattle.ch_query.specs.Climb.{foot_rank, head_rank, cost_at, Climbs, LeadsUp}
-use Rattle.ch_query.specs.Labels.{HasAtMost, CountsBelow}
+use Rattle.ch_query.specs.Climb.{head_rank, cost_at, Climbs, LeadsUp}
+use Rattle.ch_query.specs.Labels.{CountsBelow, IsBest}
 use Rattle.ch_query.specs.Upward.{step_along}
-use Rattle.ch_query.specs.Marks.{costs_of, IsNoLater, IsStopped}
+use Rattle.ch_query.specs.Marks.{label_cost, costs_of, IsNoLater, IsStopped}
+
+-- an arc of a side, from one rank to another: a link that it climbs, and what that costs
+pub record LinkArc (h : Hierarchy) (side : Side) (q r : ℕ) (c : Cost) : Type 0 where
+  pub link : ℕ
+  pub leads : LeadsUp h side q r link
+  pub cost : cost_at h link ≡ c
+
+-- the marks between two turns of a side, of which the sums below the limit count
+abbrev pub IsClimbing : Hierarchy → Side → ℕ → Option Cost → List (Mark Label) → Type 0
+IsClimbing h side start limit marks = IsSearch label_cost IsNoLater (LinkArc h side) (CountsBelow h limit) (rank_of h start) (mark marks)
+
+-- Where two sides have no open node below the best sum of two labels of a node, that sum is the value: they may stop there.
+abbrev pub StopIsRight : Type 0
+StopIsRight =
+    (h : Hierarchy) (s t : ℕ) (up down : List (Mark Label)) (best : Option Cost) → IsWellMade h → s < length h.ranks → t < length h.ranks
+    → IsClimbing h Rise s best up → IsClimbing h Fall t best down → IsStopped up best → IsStopped down best
+    → IsBest h (costs_of up) (costs_of down) best → IsValue h s t best
+
+-- The labels that a side keeps
 
 -- the label e of the rank r is that of the start
 pub record IsOfStart (h : Hierarchy) (start r : ℕ) (e : Label) : Type 0 where
@@ -22,33 +44,20 @@ pub record IsOfStart (h : Hierarchy) (start r : ℕ) (e : Label) : Type 0 where
 
 -- the label e came to the rank r by a link from the rank that it names, whose node is settled
 pub record ComesFrom (h : Hierarchy) (side : Side) (marks : List (Mark Label)) (r : ℕ) (e : Label) : Type 0 where
-  pub link : ℕ
-  pub leads : LeadsUp h side e.foot r link
   pub foot : Label
   pub settled : mark marks e.foot ≡ Settled foot
-  pub sum : e.cost ≡ foot.cost ⊕ cost_at h link
+  pub over : LeadsTo (LinkArc h side) e.foot foot.cost r e.cost
 
 -- where a label is from
 abbrev pub IsFrom : Hierarchy → Side → ℕ → List (Mark Label) → ℕ → Label → Type 0
 IsFrom h side start marks r e = IsOfStart h start r e ⊎ ComesFrom h side marks r e
 
--- the link at k was followed from a foot of cost c, where the sum counts below the limit
-abbrev pub IsFollowed : Hierarchy → Side → Cost → Option Cost → List (Mark Label) → ℕ → Type 0
-IsFollowed h side c limit marks k = CountsBelow h limit (c ⊕ cost_at h k) → HasAtMost (costs_of marks) (head_rank h side k) (c ⊕ cost_at h k)
-
--- each link that climbs from a settled node was
-abbrev pub AreFollowed : Hierarchy → Side → Option Cost → List (Mark Label) → Type 0
-AreFollowed h side limit marks = (k : ℕ) (e : Label) → Climbs h side k → mark marks (foot_rank h side k) ≡ Settled e → IsFollowed h side e.cost limit marks k
-
--- The marks between two turns of a side: each label is the cost of a climb from the start, and no settled node comes
--- later than an open one.
+-- Each label tells where it is from, and its cost stays in range.
 pub record IsSearching (h : Hierarchy) (side : Side) (start : ℕ) (marks : List (Mark Label)) : Type 0 where
   pub nodes : length marks ≡ length h.ranks
-  pub first : costs_of marks (rank_of h start) ≡ Some zero_cost
   pub origin : (r : ℕ) (e : Label) → HasLabel (mark marks r) e → IsFrom h side start marks r e
   pub fits : (r : ℕ) (e : Label) → HasLabel (mark marks r) e → IsOfWalks r e.cost
   pub short : (r : ℕ) (e : Label) → HasLabel (mark marks r) e → IsNoLonger e.cost h.bound
-  pub ordered : (q r : ℕ) (d e : Label) → mark marks q ≡ Settled d → mark marks r ≡ Open e → IsNoLater d.cost q e.cost r
 
 -- One turn
 
@@ -65,24 +74,23 @@ IsOneStepAt h links steps place = (side : Side) × IsStepAt h side links steps p
 
 -- the label e of the rank q, to which some link leads from the rank r, whose own cost is c
 pub record ClimbsTo (h : Hierarchy) (side : Side) (r : ℕ) (c : Cost) (q : ℕ) (e : Label) : Type 0 where
-  pub link : ℕ
-  pub leads : LeadsUp h side r q link
+  pub over : LeadsTo (LinkArc h side) r c q e.cost
   pub foot : e.foot ≡ r
-  pub sum : e.cost ≡ c ⊕ cost_at h link
   pub short : IsNoLonger e.cost h.bound
 
--- Marks that come of others by opening nodes over links from the rank r, whose cost is c. No label grows.
-pub record IsOpenedBy (h : Hierarchy) (side : Side) (r : ℕ) (c : Cost) (old new : List (Mark Label)) : Type 0 where
+-- Marks that come of others by opening nodes over links from the rank r, whose cost is c.
+pub record IsOpenedOver (h : Hierarchy) (side : Side) (r : ℕ) (c : Cost) (old new : List (Mark Label)) : Type 0 where
   pub nodes : length new ≡ length old
   pub count : settled_count new ≡ settled_count old
-  pub stays : (q : ℕ) (d : Label) → mark old q ≡ Settled d → mark new q ≡ Settled d
-  pub settled : (q : ℕ) (d : Label) → mark new q ≡ Settled d → mark old q ≡ Settled d
-  pub opened : (q : ℕ) (d : Label) → mark new q ≡ Open d → (mark old q ≡ Open d) ⊎ ClimbsTo h side r c q d
-  pub kept : (q : ℕ) (a : Cost) → HasAtMost (costs_of old) q a → HasAtMost (costs_of new) q a
+  pub is : IsOpenedBy label_cost (ClimbsTo h side r c) (mark old) (mark new)
 
--- each link that climbs from the rank r was followed
+-- the link at k was followed from a foot of cost c, where the sum counts below the limit
+abbrev pub IsFollowed : Hierarchy → Side → Cost → Option Cost → List (Mark Label) → ℕ → Type 0
+IsFollowed h side c limit marks k = CountsBelow h limit (c ⊕ cost_at h k) → IsAtMost label_cost (mark marks (head_rank h side k)) (c ⊕ cost_at h k)
+
+-- each link that climbs from the rank r, whose cost is c, was
 abbrev pub ArePassed : Hierarchy → Side → ℕ → Cost → Option Cost → List (Mark Label) → Type 0
-ArePassed h side r c limit marks = (k : ℕ) → Climbs h side k → foot_rank h side k ≡ r → IsFollowed h side c limit marks k
+ArePassed h side r c limit marks = searching.IsFollowed label_cost (LinkArc h side) (CountsBelow h limit) (mark marks) r c
 
 -- A turn settled one more node, or there was none to settle below the limit and nothing changed.
 abbrev pub IsTurned : Bool → List (Mark Label) → List (Mark Label) → Option Cost → Option Cost → Type 0

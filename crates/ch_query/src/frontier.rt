@@ -2,10 +2,10 @@ ghost use Rattle.std.specs.Prelude.{◌≡◌, ◌<◌, ◌+◌, ◌↔◌, ℕ,
 ghost use Rattle.std.specs.BinaryHeap.{heap_items, heap_len, IsHeap, IsUpperBound};
 ghost use Rattle.std.specs.List.Sorted.{IsPermutation};
 ghost use Rattle.std.specs.Ordering.{nat_cmp};
+ghost use Rattle.ch_graph.specs.declared.mark.Mark.TheVariants.{Unseen, Open, Settled};
 ghost use Rattle.ch_graph.specs.Marks.{mark, label_in, Improves};
 ghost use Rattle.ch_graph.specs.Queue.{entry_cmp};
 ghost use Rattle.ch_query.specs.Marks.{label_cost, costs_of, IsSettledAtMost, IsUpTo, IsLeastOpen, IsStopped};
-ghost use Rattle.ch_graph.specs.declared.mark.Mark.TheVariants.{Unseen, Open, Settled};
 
 use crate::kept_mark::KeptMark;
 use crate::label::Label;

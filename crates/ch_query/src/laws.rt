@@ -1,7 +1,8 @@
-ghost use Rattle.ch_query.specs.Labels.{StopIsRight};
+ghost use Rattle.ch_query.specs.Searching.{StopIsRight};
 
-/// Labels that are the costs of rises from one node and of falls to another, and that no link improves below their
-/// best sum, give the value of a hierarchy as that sum: so each side may stop there. It does nothing when it runs.
+/// Where two sides were searched by marks, one from a node along links that rise and one from another against links that
+/// fall, until neither has an open node below the best sum of two labels of a node, that sum is the value of a hierarchy:
+/// so they may stop there, whatever their queues and lists are. It does nothing when it runs.
 pub fn labels_are_right()
     ensures { StopIsRight }
 {}

@@ -8,9 +8,9 @@
 //! climbs, by the rank of their feet, and [`layout::Layout`] has those of both; a [`frontier::Frontier`] holds what a
 //! side knows of the nodes, and settles the first open one, by length and rank; [`turn::turn`] looks whether the sides
 //! meet there, and follows its links; and [`meet::meet`] lets the sides take turns, until neither has an open node that
-//! is no longer than the best meeting. [`descent::descent`] finds the links of the walk. Why that gives
-//! the value is the law [`labels_are_right`], which any other way to label has to meet too. A call costs what it
-//! touches: marks and queues are kept between calls.
+//! is no longer than the best meeting. [`descent::descent`] finds the links of the walk. A side is a search by marks, as
+//! the plain one of `ch_graph` is, and why two of them give the value is the law [`labels_are_right`]. A call costs what
+//! it touches: marks and queues are kept between calls.
 //!
 //! A search is made once for a hierarchy, and then asked; here it is that of the arcs 1 to 0 and 0 to 2, of weights 2 and 3:
 //!

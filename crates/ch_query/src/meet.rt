@@ -5,7 +5,7 @@ ghost use Rattle.ch_graph.specs.declared.mark.Mark.TheVariants.{Unseen, Open};
 ghost use Rattle.ch_query.specs.declared.side.Side.TheVariants.{Rise, Fall};
 ghost use Rattle.ch_query.specs.Ready.{IsReady};
 ghost use Rattle.ch_query.specs.Marks.{costs_of, IsStopped};
-ghost use Rattle.ch_query.specs.Searching.{IsSearching, AreFollowed};
+ghost use Rattle.ch_query.specs.Searching.{IsSearching, IsClimbing};
 ghost use Rattle.ch_query.specs.Meeting.{IsBestMeeting, cost_of};
 
 use crate::frontier::Frontier;
@@ -39,8 +39,8 @@ pub fn meet(
     ensures downs { length down.new ≡ length down.old }
     ensures rises { OnOk result (IsSearching hierarchy.now Rise source up.new) }
     ensures falls { OnOk result (IsSearching hierarchy.now Fall target down.new) }
-    ensures up_followed { IfOk result (λ best. AreFollowed hierarchy.now Rise (cost_of best) up.new) }
-    ensures down_followed { IfOk result (λ best. AreFollowed hierarchy.now Fall (cost_of best) down.new) }
+    ensures up_climbing { IfOk result (λ best. IsClimbing hierarchy.now Rise source (cost_of best) up.new) }
+    ensures down_climbing { IfOk result (λ best. IsClimbing hierarchy.now Fall target (cost_of best) down.new) }
     ensures best { IfOk result (λ best. IsBestMeeting hierarchy.now (costs_of up.new) (costs_of down.new) best) }
     ensures up_stopped { IfOk result (λ best. IsStopped up.new (cost_of best)) }
     ensures down_stopped { IfOk result (λ best. IsStopped down.new (cost_of best)) }

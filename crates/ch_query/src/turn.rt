@@ -4,9 +4,8 @@ ghost use Rattle.ch_graph.specs.Hierarchy.{IsWellMade};
 ghost use Rattle.ch_query.specs.Labels.{IsShortLimit};
 ghost use Rattle.ch_query.specs.Climb.{foot_rank};
 ghost use Rattle.ch_query.specs.Upward.{IsLaidOut};
-ghost use Rattle.ch_query.specs.Marks.{FitAll, IsNoMore};
-ghost use Rattle.ch_query.specs.Searching.{IsStepAt, IsOpenedBy, IsFollowed, AreFollowed, ArePassed, IsSearching, IsTurned};
-ghost use Rattle.ch_query.specs.Marks.{IsLatest};
+ghost use Rattle.ch_query.specs.Marks.{FitAll, IsNoMore, IsLatest};
+ghost use Rattle.ch_query.specs.Searching.{IsStepAt, IsOpenedOver, IsFollowed, ArePassed, IsClimbing, IsSearching, IsTurned};
 ghost use Rattle.ch_query.specs.Meeting.{IsBestSoFar, cost_of};
 
 use crate::frontier::Frontier;
@@ -32,13 +31,13 @@ pub fn turn(
     requires made { IsWellMade hierarchy.now }
     requires laid { IsLaidOut hierarchy.now climb.side upward.now.first.items upward.now.links.items upward.now.steps.items }
     requires searching { IsSearching hierarchy.now climb.side climb.start here.old }
-    requires followed { AreFollowed hierarchy.now climb.side (cost_of best.old) here.old }
+    requires climbing { IsClimbing hierarchy.now climb.side climb.start (cost_of best.old) here.old }
     requires there_nodes { length there.now ≡ length hierarchy.now.ranks }
     requires there_fits { FitAll there.now }
     requires best { IsBestSoFar hierarchy.now here.old there.now best.old }
     ensures nodes { length here.new ≡ length here.old }
     ensures searching { OnOk result (IsSearching hierarchy.now climb.side climb.start here.new) }
-    ensures followed { OnOk result (AreFollowed hierarchy.now climb.side (cost_of best.new) here.new) }
+    ensures climbing { OnOk result (IsClimbing hierarchy.now climb.side climb.start (cost_of best.new) here.new) }
     ensures less { OnOk result (IsNoMore (cost_of best.new) (cost_of best.old)) }
     ensures best { OnOk result (IsBestSoFar hierarchy.now here.new there.now best.new) }
     ensures turned { IfOk result (λ goes_on. IsTurned goes_on here.old here.new (cost_of best.old) (cost_of best.new)) }
@@ -74,7 +73,7 @@ fn pass_over(
     requires short { IsNoLonger cost hierarchy.now.bound }
     requires limit { IsShortLimit hierarchy.now limit }
     ensures nodes { length here.new ≡ length here.old }
-    ensures opened { OnOk result (IsOpenedBy hierarchy.now side rank cost here.old here.new) }
+    ensures opened { OnOk result (IsOpenedOver hierarchy.now side rank cost here.old here.new) }
     ensures passed { OnOk result (ArePassed hierarchy.now side rank cost limit here.new) }
 {
     let begin = upward.first.get(rank as usize);
@@ -106,7 +105,7 @@ fn follow(
     requires short { IsNoLonger cost hierarchy.now.bound }
     requires limit { IsShortLimit hierarchy.now limit }
     ensures nodes { length here.new ≡ length here.old }
-    ensures opened { OnOk result (IsOpenedBy hierarchy.now side rank cost here.old here.new) }
+    ensures opened { OnOk result (IsOpenedOver hierarchy.now side rank cost here.old here.new) }
     ensures followed { OnOk result (IsFollowed hierarchy.now side cost limit here.new (slice_index upward.now.links.items place)) }
 {
     let step = upward.steps[place];

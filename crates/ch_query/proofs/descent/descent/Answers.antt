@@ -12,7 +12,7 @@ link_between-at-requires-clause-link c =
     let own = c.in-Some.ensures.some in
     let other : own.0.foot ≢ c.links.rank = λ same. own.3 (sym own.2 ∙ same) in
     let comes = came_from c.requires.searching c.links.rank own.0 own.1 other in
-    (comes.link, subst (λ q. LeadsUp c.args.hierarchy.now c.args.climb.side q c.links.rank comes.link) own.2 comes.leads)
+    (comes.over.goes.link, subst (λ q. LeadsUp c.args.hierarchy.now c.args.climb.side q c.links.rank comes.over.goes.link) own.2 comes.over.goes.leads)
 
 pub links-preserved : goal.links-preserved
 links-preserved c =

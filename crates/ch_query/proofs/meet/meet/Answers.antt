@@ -6,8 +6,8 @@ use Rattle.ch_query.specs.declared.side.Side.TheVariants.{Rise, Fall}
 use Rattle.ch_query.specs.Marks.{IsStopped}
 use Rattle.ch_query.specs.Meeting.{cost_of}
 use Rattle.ch_query.proofs.BestMeetings.{best-flip, best-stopped}
-use Rattle.ch_query.proofs.Turning.{labels_fit}
-use Rattle.ch_query.proofs.Beginning.{searching-begun, followed-begun, followed-less, best-begun, turned-count, not-turned, both-stopped, neither, either-one, one_if}
+use Rattle.ch_query.proofs.Turning.{labels_fit, climbing-less}
+use Rattle.ch_query.proofs.Beginning.{searching-begun, climbing-begun, best-begun, turned-count, not-turned, both-stopped, neither, either-one, one_if}
 use Rattle.ch_query.proofs.meet.meet.Goals as goal
 
 pub turns-init : goal.turns-init
@@ -16,9 +16,9 @@ turns-init c =
     record {
       rises = searching-begun h c.requires.made Rise c.args.source c.requires.source_in c.args.up.now c.begin.new.frontier c.requires.up c.in_ok-begin.ensures.begun;
       falls = searching-begun h c.requires.made Fall c.args.target c.requires.target_in c.args.down.now c.begin-2.new.frontier c.requires.down c.in_ok-begin-2.ensures.begun;
-      up_followed = followed-begun h c.requires.made Rise c.args.source c.requires.source_in c.args.up.now c.begin.new.frontier c.requires.up c.in_ok-begin.ensures.begun None;
-      down_followed = followed-begun h c.requires.made Fall c.args.target c.requires.target_in c.args.down.now c.begin-2.new.frontier c.requires.down c.in_ok-begin-2.ensures.begun None;
-      best = best-begun h c.requires.made c.args.source c.requires.source_in c.args.up.now c.begin.new.frontier c.requires.up c.in_ok-begin.ensures.begun c.begin-2.new.frontier;
+      up_climbing = climbing-begun h c.requires.made Rise c.args.source c.requires.source_in c.args.up.now c.begin.new.frontier c.requires.up c.in_ok-begin.ensures.begun None;
+      down_climbing = climbing-begun h c.requires.made Fall c.args.target c.requires.target_in c.args.down.now c.begin-2.new.frontier c.requires.down c.in_ok-begin-2.ensures.begun None;
+      best = best-begun h c.requires.made Rise c.args.source c.requires.source_in c.args.up.now c.begin.new.frontier c.requires.up c.in_ok-begin.ensures.begun c.begin-2.new.frontier;
     }
 
 pub turn-requires-clause-there_fits : goal.turn-requires-clause-there_fits
@@ -30,11 +30,11 @@ turn-requires-in-turns-clause-there_fits c = labels_fit c.args.hierarchy.now c.r
 pub turn-requires-in-turns-clause-best : goal.turn-requires-in-turns-clause-best
 turn-requires-in-turns-clause-best c = best-flip c.in_ok-rose.ensures.best
 
-pub turn-requires-in-turns-clause-followed : goal.turn-requires-in-turns-clause-followed
-turn-requires-in-turns-clause-followed c = followed-less c.args.hierarchy.now Fall (cost_of c.turns.best) (cost_of c.turn.new.best) c.turns.down c.in_ok-rose.ensures.less c.turns.invariant.down_followed
+pub turn-requires-in-turns-clause-climbing : goal.turn-requires-in-turns-clause-climbing
+turn-requires-in-turns-clause-climbing c = climbing-less c.args.hierarchy.now c.in_ok-rose.ensures.less c.turns.invariant.down_climbing
 
-pub returns-then-not-goes_on-clause-up_followed : goal.returns-then-not-goes_on-clause-up_followed
-returns-then-not-goes_on-clause-up_followed c = followed-less c.args.hierarchy.now Rise (cost_of c.turn.new.best) (cost_of c.turn-in-turns.new.best) c.turn.new.here c.in_ok-fell.ensures.less c.in_ok-rose.ensures.followed
+pub returns-then-not-goes_on-clause-up_climbing : goal.returns-then-not-goes_on-clause-up_climbing
+returns-then-not-goes_on-clause-up_climbing c = climbing-less c.args.hierarchy.now c.in_ok-fell.ensures.less c.in_ok-rose.ensures.climbing
 
 stopped : (c : goal.Then-not-goes_on) → IsStopped c.turn.new.here (cost_of c.turn-in-turns.new.best) × IsStopped c.turn-in-turns.new.here (cost_of c.turn-in-turns.new.best)
 stopped c =
@@ -65,8 +65,8 @@ pub turns-preserved : goal.turns-preserved
 turns-preserved c = record {
   rises = c.in_ok-rose.ensures.searching;
   falls = c.in_ok-fell.ensures.searching;
-  up_followed = followed-less c.args.hierarchy.now Rise (cost_of c.turn.new.best) (cost_of c.turn-in-turns.new.best) c.turn.new.here c.in_ok-fell.ensures.less c.in_ok-rose.ensures.followed;
-  down_followed = c.in_ok-fell.ensures.followed;
+  up_climbing = climbing-less c.args.hierarchy.now c.in_ok-fell.ensures.less c.in_ok-rose.ensures.climbing;
+  down_climbing = c.in_ok-fell.ensures.climbing;
   best = best-flip c.in_ok-fell.ensures.best;
 }
 

@@ -1,7 +1,7 @@
 use Rattle.std.proofs.Common.{◌+◌, ◌-◌, length}
 use Rattle.ch_graph.specs.Marks.{settled_count}
 use Rattle.ch_query.specs.declared.side.Side.TheVariants.{Rise, Fall}
-use Rattle.ch_query.specs.Searching.{IsSearching, AreFollowed}
+use Rattle.ch_query.specs.Searching.{IsSearching, IsClimbing}
 use Rattle.ch_query.specs.Meeting.{IsBestSoFar, cost_of}
 use Rattle.ch_query.proofs.meet.meet.Given as goal
 
@@ -9,8 +9,8 @@ abbrev pub invariant-turns : goal.invariant-turns
 invariant-turns l = record {
   rises : IsSearching l.hierarchy Rise l.source l.up;
   falls : IsSearching l.hierarchy Fall l.target l.down;
-  up_followed : AreFollowed l.hierarchy Rise (cost_of l.best) l.up;
-  down_followed : AreFollowed l.hierarchy Fall (cost_of l.best) l.down;
+  up_climbing : IsClimbing l.hierarchy Rise l.source (cost_of l.best) l.up;
+  down_climbing : IsClimbing l.hierarchy Fall l.target (cost_of l.best) l.down;
   best : IsBestSoFar l.hierarchy l.up l.down l.best;
 }
 

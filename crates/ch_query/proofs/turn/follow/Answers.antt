@@ -3,19 +3,19 @@ use Rattle.std.proofs.lemmas.Bool.{iff_false}
 use Rattle.ch_cost.specs.declared.cost.Cost.{Cost}
 use Rattle.ch_cost.specs.Cost.{◌⊕◌, IsInLimit, IsNoLonger}
 use Rattle.ch_cost.specs.Cost.Laws.{in_limit-from_walks}
-use Rattle.ch_graph.specs.Marks.{mark, Improves}
 use Rattle.ch_graph.specs.declared.mark.Mark.{Mark}
+use Rattle.ch_graph.specs.Marks.{mark, Improves}
 use Rattle.ch_query.specs.declared.upward.Step.{Step}
-use Rattle.ch_query.specs.Upward.{step_along}
 use Rattle.ch_query.specs.declared.label.Label.{Label}
+use Rattle.ch_query.specs.Upward.{step_along}
 use Rattle.ch_query.specs.Labels.{CountsBelow}
 use Rattle.ch_query.specs.Climb.{foot_at, head_at, head_rank, cost_at}
 use Rattle.ch_query.specs.Marks.{IsSettledAtMost, label_cost}
-use Rattle.ch_query.specs.Searching.{IsOpenedBy, IsFollowed, ClimbsTo}
+use Rattle.ch_query.specs.Searching.{IsOpenedOver, IsFollowed, ClimbsTo}
 use Rattle.ch_query.proofs.Sides.{head_in}
 use Rattle.ch_query.proofs.Ranks.{rank_below}
 use Rattle.ch_query.proofs.Turning.{bound_in_limit, link_in_limit, rank_few}
-use Rattle.ch_query.proofs.Following.{opened-one, followed-put, followed-kept, climb-settled}
+use Rattle.ch_query.proofs.Following.{opened-one, followed-put, followed-kept, leads-step, settled-step}
 use Rattle.ch_query.proofs.turn.follow.Goals as goal
 
 pub step_cost-requires : goal.step_cost-requires
@@ -40,7 +40,7 @@ is_improved_by-requires-clause-settled c =
     let is : step ≡ step_along h c.args.side k = c.index-step.ensures ∙ c.requires.step.along step in
     let head : step.head ≡ head_rank h c.args.side k = ap (λ (s : Step). s.head) is in
     let sum : c.plus-sum.result ≡ c.args.cost ⊕ cost_at h k = c.plus-sum.ensures ∙ ap (λ (d : Cost). c.args.cost ⊕ d) c.step_cost.ensures in
-    climb-settled h c.args.side c.args.cost c.args.here.now c.args.rank k step.head c.plus-sum.result (record { climbs = c.requires.step.climbs; foot = c.requires.foot; head = sym head }) c.requires.latest sum
+    settled-step h c.args.side c.args.here.now c.args.rank c.args.cost step.head c.plus-sum.result (leads-step h c.args.side c.args.upward.now.links.items c.args.upward.now.steps.items c.args.place c.args.rank c.args.cost c.requires.step c.requires.foot step.head c.plus-sum.result head sum) c.requires.latest
 
 true_false : {b : Bool} → b ≡ true → b ≡ false → ⊥
 true_false first second = cc
@@ -61,7 +61,7 @@ returns-then-not-is_improved_by-clause-followed c counted =
     let head : step.head ≡ head_rank h c.args.side k = ap (λ (s : Step). s.head) is in
     let sum : c.plus-sum.result ≡ c.args.cost ⊕ cost_at h k = c.plus-sum.ensures ∙ ap (λ (d : Cost). c.args.cost ⊕ d) c.step_cost.ensures in
     let never : Improves label_cost c.plus-sum.result (mark c.args.here.now step.head) → ⊥ = λ improves. true_false (c.is_improved_by.ensures.1 improves) c.if-not-is_improved_by.true in
-    let above : IsSettledAtMost c.args.here.now step.head c.plus-sum.result = climb-settled h c.args.side c.args.cost c.args.here.now c.args.rank k step.head c.plus-sum.result (record { climbs = c.requires.step.climbs; foot = c.requires.foot; head = sym head }) c.requires.latest sum in
+    let above : IsSettledAtMost c.args.here.now step.head c.plus-sum.result = settled-step h c.args.side c.args.here.now c.args.rank c.args.cost step.head c.plus-sum.result (leads-step h c.args.side c.args.upward.now.links.items c.args.upward.now.steps.items c.args.place c.args.rank c.args.cost c.requires.step c.requires.foot step.head c.plus-sum.result head sum) c.requires.latest in
     followed-kept h c.args.side c.args.cost c.args.limit c.args.here.now k step.head c.plus-sum.result never above head sum counted
 
 pub returns-clause-opened : goal.returns-clause-opened
@@ -78,8 +78,8 @@ returns-clause-opened c =
     let improves : Improves label_cost c.plus-sum.result (mark marks step.head) = c.is_improved_by.ensures.0 c.if-not-is_improved_by.false in
     let within : step.head < length marks = omega (arith, c.requires.here_nodes, head, rank_below h c.requires.made (head_at h side k) (head_in h c.requires.made side k c.requires.step.climbs.within)) in
     let e : Label = record { cost = c.plus-sum.result; foot = c.args.rank } in
-    let climbs : ClimbsTo h side c.args.rank c.args.cost step.head e = record { link = k; leads = record { climbs = c.requires.step.climbs; foot = c.requires.foot; head = sym head }; foot = refl; sum = sum; short = short } in
-    subst (λ (ms : List (Mark Label)). IsOpenedBy h side c.args.rank c.args.cost marks ms) (sym c.in_ok-open.ensures.opened) (opened-one h side c.args.rank c.args.cost marks step.head e within improves climbs)
+    let climbs : ClimbsTo h side c.args.rank c.args.cost step.head e = record { over = leads-step h side c.args.upward.now.links.items c.args.upward.now.steps.items c.args.place c.args.rank c.args.cost c.requires.step c.requires.foot step.head c.plus-sum.result head sum; foot = refl; short = short } in
+    subst (λ (ms : List (Mark Label)). IsOpenedOver h side c.args.rank c.args.cost marks ms) (sym c.in_ok-open.ensures.opened) (opened-one h side c.args.rank c.args.cost marks step.head e within improves climbs)
 
 pub returns-clause-followed : goal.returns-clause-followed
 returns-clause-followed c =
@@ -91,7 +91,6 @@ returns-clause-followed c =
     let side = c.args.side in
     let marks : List (Mark Label) = c.args.here.now in
     let sum : c.plus-sum.result ≡ c.args.cost ⊕ cost_at h k = c.plus-sum.ensures ∙ ap (λ (d : Cost). c.args.cost ⊕ d) c.step_cost.ensures in
-    let improves : Improves label_cost c.plus-sum.result (mark marks step.head) = c.is_improved_by.ensures.0 c.if-not-is_improved_by.false in
     let within : step.head < length marks = omega (arith, c.requires.here_nodes, head, rank_below h c.requires.made (head_at h side k) (head_in h c.requires.made side k c.requires.step.climbs.within)) in
     let e : Label = record { cost = c.plus-sum.result; foot = c.args.rank } in
-    subst (λ (ms : List (Mark Label)). IsFollowed h side c.args.cost c.args.limit ms k) (sym c.in_ok-open.ensures.opened) (followed-put h side c.args.cost c.args.limit marks k step.head e within improves head sum)
+    subst (λ (ms : List (Mark Label)). IsFollowed h side c.args.cost c.args.limit ms k) (sym c.in_ok-open.ensures.opened) (followed-put h side c.args.cost c.args.limit marks k step.head e within head sum)

@@ -4,13 +4,13 @@ use Rattle.ch_cost.specs.declared.cost.Cost.{Cost}
 use Rattle.ch_graph.specs.declared.mark.Mark.{Mark}
 use Rattle.ch_graph.specs.declared.mark.Mark.TheVariants.{Settled}
 use Rattle.ch_graph.specs.Marks.Laws.{label_open, open-in}
+use Rattle.ch_query.specs.declared.label.Label.{Label}
 use Rattle.ch_query.specs.Labels.{IsShortLimit}
 use Rattle.ch_query.specs.Marks.{costs_of, IsLatest}
-use Rattle.ch_query.specs.Searching.{IsOpenedBy, AreFollowed, ArePassed}
+use Rattle.ch_query.specs.Searching.{IsOpenedOver, IsClimbing, ArePassed}
 use Rattle.ch_query.specs.Meeting.{IsLooked, cost_of}
 use Rattle.ch_query.proofs.BestMeetings.{looked-short, no_more-refl}
-use Rattle.ch_query.proofs.Turning.{fits-cost, label_in_limit, turn-latest, turn-fits, turn-short, searching-turn, followed-turn, best-turn}
-use Rattle.ch_query.specs.declared.label.Label.{Label}
+use Rattle.ch_query.proofs.Turning.{fits-cost, label_in_limit, turn-latest, turn-fits, turn-short, searching-turn, climbing-turn, best-turn}
 use Rattle.ch_query.proofs.turn.turn.Goals as goal
 
 pub look_at-found-requires-clause-fits : goal.look_at-found-requires-clause-fits
@@ -23,7 +23,7 @@ pub pass_over-requires-clause-limit : goal.pass_over-requires-clause-limit
 pass_over-requires-clause-limit c = subst (λ (o : Option Cost). IsShortLimit c.args.hierarchy.now o) (sym c.cost_of-limit.ensures) (looked-short c.args.hierarchy.now c.args.here.now c.args.there.now c.in-Some.reached.rank c.in-Some.reached.label.cost c.cost.result c.args.best.now c.look_at-found.result c.requires.best c.look_at-found.ensures)
 
 pub pass_over-requires-clause-latest : goal.pass_over-requires-clause-latest
-pass_over-requires-clause-latest c = subst (λ (ms : List (Mark Label)). IsLatest ms c.in-Some.reached.label.cost c.in-Some.reached.rank) (sym c.in-Some.ensures.settled) (turn-latest c.args.hierarchy.now c.args.climb.side c.args.climb.start c.args.here.now c.in-Some.reached.rank c.in-Some.reached.label c.requires.searching c.in-Some.ensures.least)
+pass_over-requires-clause-latest c = subst (λ (ms : List (Mark Label)). IsLatest ms c.in-Some.reached.label.cost c.in-Some.reached.rank) (sym c.in-Some.ensures.settled) (turn-latest c.args.hierarchy.now c.args.climb.side c.args.climb.start c.args.here.now c.in-Some.reached.rank c.in-Some.reached.label c.requires.searching c.in-Some.ensures.least (cost_of c.args.best.now) c.requires.climbing)
 
 pub pass_over-requires-clause-rank_in : goal.pass_over-requires-clause-rank_in
 pass_over-requires-clause-rank_in c = omega (arith, open-in c.args.here.now c.in-Some.reached.rank c.in-Some.reached.label c.in-Some.ensures.least.opens, c.requires.searching.nodes)
@@ -37,8 +37,8 @@ pass_over-requires-clause-short c = turn-short c.args.hierarchy.now c.args.climb
 looked : (c : goal.In_ok-pass_over) → IsLooked c.args.hierarchy.now c.in-Some.reached.rank c.in-Some.reached.label.cost (costs_of c.args.there.now c.in-Some.reached.rank) c.args.best.now c.look_at-found.result
 looked c = subst (λ (o : Option Cost). IsLooked c.args.hierarchy.now c.in-Some.reached.rank c.in-Some.reached.label.cost o c.args.best.now c.look_at-found.result) c.cost.ensures c.look_at-found.ensures
 
-opened : (c : goal.In_ok-pass_over) → IsOpenedBy c.args.hierarchy.now c.args.climb.side c.in-Some.reached.rank c.in-Some.reached.label.cost (set c.args.here.now c.in-Some.reached.rank (Settled c.in-Some.reached.label)) c.pass_over.new.here
-opened c = subst (λ (ms : List (Mark Label)). IsOpenedBy c.args.hierarchy.now c.args.climb.side c.in-Some.reached.rank c.in-Some.reached.label.cost ms c.pass_over.new.here) c.in-Some.ensures.settled c.in_ok-pass_over.ensures.opened
+opened : (c : goal.In_ok-pass_over) → IsOpenedOver c.args.hierarchy.now c.args.climb.side c.in-Some.reached.rank c.in-Some.reached.label.cost (set c.args.here.now c.in-Some.reached.rank (Settled c.in-Some.reached.label)) c.pass_over.new.here
+opened c = subst (λ (ms : List (Mark Label)). IsOpenedOver c.args.hierarchy.now c.args.climb.side c.in-Some.reached.rank c.in-Some.reached.label.cost ms c.pass_over.new.here) c.in-Some.ensures.settled c.in_ok-pass_over.ensures.opened
 
 pub returns-clause-searching : goal.returns-clause-searching
 returns-clause-searching c = searching-turn c.args.hierarchy.now c.args.climb.side c.args.climb.start c.args.here.now c.in-Some.reached.rank c.in-Some.reached.label c.requires.searching c.in-Some.ensures.least c.pass_over.new.here (opened c) c.requires.made
@@ -46,10 +46,10 @@ returns-clause-searching c = searching-turn c.args.hierarchy.now c.args.climb.si
 pub returns-clause-less : goal.returns-clause-less
 returns-clause-less c = (looked c).less
 
-pub returns-clause-followed : goal.returns-clause-followed
-returns-clause-followed c =
+pub returns-clause-climbing : goal.returns-clause-climbing
+returns-clause-climbing c =
     let passed = subst (λ (o : Option Cost). ArePassed c.args.hierarchy.now c.args.climb.side c.in-Some.reached.rank c.in-Some.reached.label.cost o c.pass_over.new.here) c.cost_of-limit.ensures c.in_ok-pass_over.ensures.passed in
-    followed-turn c.args.hierarchy.now c.args.climb.side c.args.climb.start c.args.here.now c.in-Some.reached.rank c.in-Some.reached.label c.requires.searching c.in-Some.ensures.least c.pass_over.new.here (opened c) (cost_of c.args.best.now) (cost_of c.look_at-found.result) (looked c).less c.requires.followed passed
+    climbing-turn c.args.hierarchy.now c.args.climb.side c.args.climb.start c.args.here.now c.in-Some.reached.rank c.in-Some.reached.label c.requires.searching c.in-Some.ensures.least c.pass_over.new.here (opened c) (cost_of c.args.best.now) (cost_of c.look_at-found.result) (looked c).less c.requires.climbing passed
 
 pub returns-clause-best : goal.returns-clause-best
 returns-clause-best c = best-turn c.args.hierarchy.now c.args.climb.side c.args.climb.start c.args.here.now c.in-Some.reached.rank c.in-Some.reached.label c.requires.searching c.in-Some.ensures.least c.pass_over.new.here (opened c) c.args.there.now c.args.best.now c.look_at-found.result c.requires.best (looked c)
@@ -57,8 +57,8 @@ returns-clause-best c = best-turn c.args.hierarchy.now c.args.climb.side c.args.
 pub returns-in_default-clause-less : goal.returns-in_default-clause-less
 returns-in_default-clause-less c = no_more-refl (cost_of c.args.best.now)
 
-pub returns-in_default-clause-followed : goal.returns-in_default-clause-followed
-returns-in_default-clause-followed c = subst (λ (ms : List (Mark Label)). AreFollowed c.args.hierarchy.now c.args.climb.side (cost_of c.args.best.now) ms) (sym c.in_default.ensures.unchanged) c.requires.followed
+pub returns-in_default-clause-climbing : goal.returns-in_default-clause-climbing
+returns-in_default-clause-climbing c = subst (λ (ms : List (Mark Label)). IsClimbing c.args.hierarchy.now c.args.climb.side c.args.climb.start (cost_of c.args.best.now) ms) (sym c.in_default.ensures.unchanged) c.requires.climbing
 
 pub cost-requires : goal.cost-requires
 cost-requires c = grind (arith, common_steps) steps 200000

@@ -3,10 +3,10 @@ use Rattle.std.proofs.lemmas.List.Elements.{All-pop}
 use Rattle.std.specs.BinaryHeap.{heap_items}
 use Rattle.ch_graph.specs.declared.mark.Mark.{Mark}
 use Rattle.ch_graph.specs.declared.mark.Mark.TheVariants.{Unseen}
+use Rattle.ch_query.specs.declared.label.Label.{Label}
 use Rattle.ch_query.specs.Marks.{marks_in}
 use Rattle.ch_query.proofs.Marking.{mark_written, as_many}
 use Rattle.ch_query.proofs.Entries.{IsClearing, cleared, clearing-more, front-cleared}
-use Rattle.ch_query.specs.declared.label.Label.{Label}
 use Rattle.ch_query.proofs.frontier.Frontier.clear.Goals as goal
 
 pub touched-init : goal.touched-init

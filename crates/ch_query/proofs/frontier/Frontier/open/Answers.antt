@@ -2,15 +2,15 @@ use Rattle.std.proofs.Common.{ℕ, ◌≡◌, ◌<◌, ◌∙◌, List, ◌∷�
 use Rattle.std.specs.BinaryHeap.{heap_items}
 use Rattle.std.specs.List.Sorted.{IsPermutation}
 use Rattle.ch_cost.specs.Cost.{length_of}
-use Rattle.ch_graph.specs.Marks.{mark, Improves}
 use Rattle.ch_graph.specs.declared.mark.Mark.{Mark}
 use Rattle.ch_graph.specs.declared.mark.Mark.TheVariants.{Open}
+use Rattle.ch_graph.specs.Marks.{mark, Improves}
 use Rattle.ch_graph.specs.Queue.{Entry, entry}
+use Rattle.ch_query.specs.declared.label.Label.{Label}
 use Rattle.ch_query.specs.Front.{IsFront}
 use Rattle.ch_query.specs.Marks.{marks_in, label_cost}
 use Rattle.ch_query.proofs.Marking.{mark_written}
 use Rattle.ch_query.proofs.Entries.{front-open, front-touched}
-use Rattle.ch_query.specs.declared.label.Label.{Label}
 use Rattle.ch_query.proofs.frontier.Frontier.open.Goals as goal
 
 pub invariant_of-self : goal.invariant_of-self

@@ -1,14 +1,14 @@
 use Rattle.std.proofs.Common.{◌≡◌, ◌<◌, ◌∙◌, List, length, set, ap, subst, sym, arith}
 use Rattle.std.specs.BinaryHeap.{heap_items}
-use Rattle.ch_graph.specs.Marks.{mark}
 use Rattle.ch_graph.specs.declared.mark.Mark.{Mark}
 use Rattle.ch_graph.specs.declared.mark.Mark.TheVariants.{Settled}
+use Rattle.ch_graph.specs.Marks.{mark}
 use Rattle.ch_query.specs.declared.kept_mark.KeptMark.{KeptMark}
+use Rattle.ch_query.specs.declared.label.Label.{Label}
 use Rattle.ch_query.specs.Front.{IsFront}
 use Rattle.ch_query.specs.Marks.{marks_in, IsLeastOpen, IsStopped}
 use Rattle.ch_query.proofs.Marking.{mark_read, mark_written, as_many}
 use Rattle.ch_query.proofs.Entries.{front-in, front-pass, front-settle, front-least, front-stopped}
-use Rattle.ch_query.specs.declared.label.Label.{Label}
 use Rattle.ch_query.proofs.frontier.Frontier.settle_next.Goals as goal
 
 pub index-requires : goal.index-requires
