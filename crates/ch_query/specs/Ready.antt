@@ -1,16 +1,16 @@
 -- What a search keeps of a hierarchy between calls.
-use Rattle.std.specs.Prelude.{ℕ, ◌≡◌, List, length}
+use Rattle.std.specs.Prelude.{◌≡◌, List, length}
 use Rattle.ch_graph.specs.declared.mark.Mark.{Mark}
 use Rattle.ch_graph.specs.Hierarchy.{Hierarchy, IsWellMade}
-use Rattle.ch_query.specs.declared.side.Side.TheVariants.{Rise, Fall}
-use Rattle.ch_query.specs.declared.upward.Step.{Step}
 use Rattle.ch_query.specs.declared.label.Label.{Label}
-use Rattle.ch_query.specs.Upward.{IsLaidOut}
+use Rattle.ch_query.specs.declared.side.Side.TheVariants.{Rise, Fall}
+use Rattle.ch_query.specs.declared.upward.UpwardSteps.{UpwardSteps}
+use Rattle.ch_query.specs.Upward.{AreStepsOf}
 
 -- the steps of either side, and a mark of either side for each node
-pub record IsReady (h : Hierarchy) (first_up links_up : List ℕ) (steps_up : List Step) (first_down links_down : List ℕ) (steps_down : List Step) (up down : List (Mark Label)) : Type 0 where
+pub record IsReady (h : Hierarchy) (rise fall : UpwardSteps) (up down : List (Mark Label)) : Type 0 where
   pub made : IsWellMade h
-  pub rising : IsLaidOut h Rise first_up links_up steps_up
-  pub falling : IsLaidOut h Fall first_down links_down steps_down
+  pub rising : AreStepsOf h Rise rise
+  pub falling : AreStepsOf h Fall fall
   pub ups : length up ≡ length h.ranks
   pub downs : length down ≡ length h.ranks

@@ -4,7 +4,7 @@ ghost use Rattle.ch_graph.specs.Hierarchy.{IsWellMade, rank_of};
 ghost use Rattle.ch_graph.specs.Marks.{mark, HasLabel};
 ghost use Rattle.ch_query.specs.Climb.{Descends};
 ghost use Rattle.ch_query.specs.declared.label.Label.{Label};
-ghost use Rattle.ch_query.specs.Upward.{IsLaidOut};
+ghost use Rattle.ch_query.specs.Upward.{AreStepsOf};
 ghost use Rattle.ch_query.specs.Marks.{costs_of};
 ghost use Rattle.ch_query.specs.Searching.{IsSearching};
 
@@ -24,7 +24,7 @@ pub fn descent(
     top: u32,
 ) -> Result<Vec<LinkId>, AllocError>
     requires made { IsWellMade hierarchy.now }
-    requires laid { IsLaidOut hierarchy.now climb.side upward.now.first.items upward.now.links.items upward.now.steps.items }
+    requires laid { AreStepsOf hierarchy.now climb.side upward.now }
     requires searching { IsSearching hierarchy.now climb.side climb.start frontier.now }
     requires start_in { climb.start < length hierarchy.now.ranks }
     requires top_in { top < length hierarchy.now.ranks }

@@ -30,7 +30,7 @@ pub fn meet(
     down: &mut Frontier,
 ) -> Result<Option<Meeting>, AllocError>
     requires made { IsWellMade hierarchy.now }
-    requires ready { IsReady hierarchy.now rising.now.first.items rising.now.links.items rising.now.steps.items falling.now.first.items falling.now.links.items falling.now.steps.items up.old down.old }
+    requires ready { IsReady hierarchy.now rising.now falling.now up.old down.old }
     requires up { up.old ≡ replicate (length hierarchy.now.ranks) Unseen }
     requires down { down.old ≡ replicate (length hierarchy.now.ranks) Unseen }
     requires source_in { source < length hierarchy.now.ranks }

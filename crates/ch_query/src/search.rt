@@ -6,7 +6,7 @@ ghost use Rattle.ch_query.specs.Labels.{Meets};
 ghost use Rattle.ch_query.specs.Marks.{costs_of};
 ghost use Rattle.ch_query.specs.Searching.{IsSearching};
 ghost use Rattle.ch_query.specs.Places.{IsRiseFallAt};
-ghost use Rattle.ch_query.specs.Upward.{IsLaidOut};
+ghost use Rattle.ch_query.specs.Upward.{AreStepsOf};
 
 use crate::descent::descent;
 use crate::frontier::Frontier;
@@ -53,7 +53,7 @@ impl<'a> Model for Search<'a> {
 
     ghost view = { λ s. s.hierarchy.now };
 
-    ghost invariant = { λ s. IsReady s.hierarchy.now s.rising.first.items s.rising.links.items s.rising.steps.items s.falling.first.items s.falling.links.items s.falling.steps.items s.up s.down };
+    ghost invariant = { λ s. IsReady s.hierarchy.now s.rising s.falling s.up s.down };
 }
 
 impl<'a> Search<'a> {
@@ -152,8 +152,8 @@ fn walk_over(
     requires made { IsWellMade hierarchy.now }
     requires source_in { source < length hierarchy.now.ranks }
     requires target_in { target < length hierarchy.now.ranks }
-    requires rising { IsLaidOut hierarchy.now Rise rising.now.first.items rising.now.links.items rising.now.steps.items }
-    requires falling { IsLaidOut hierarchy.now Fall falling.now.first.items falling.now.links.items falling.now.steps.items }
+    requires rising { AreStepsOf hierarchy.now Rise rising.now }
+    requires falling { AreStepsOf hierarchy.now Fall falling.now }
     requires rises { IsSearching hierarchy.now Rise source up.now }
     requires falls { IsSearching hierarchy.now Fall target down.now }
     requires meets { Meets hierarchy.now (costs_of up.now) (costs_of down.now) meeting.rank meeting.cost }

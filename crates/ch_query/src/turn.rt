@@ -3,7 +3,7 @@ ghost use Rattle.ch_cost.specs.Cost.{IsNoLonger, IsOfWalks};
 ghost use Rattle.ch_graph.specs.Hierarchy.{IsWellMade};
 ghost use Rattle.ch_query.specs.Labels.{IsShortLimit};
 ghost use Rattle.ch_query.specs.Climb.{foot_rank};
-ghost use Rattle.ch_query.specs.Upward.{IsLaidOut};
+ghost use Rattle.ch_query.specs.Upward.{AreStepsOf};
 ghost use Rattle.ch_query.specs.Marks.{FitAll, IsNoMore, IsLatest};
 ghost use Rattle.ch_query.specs.Searching.{IsStepAt, IsOpenedOver, IsFollowed, ArePassed, IsClimbing, IsSearching, IsTurned};
 ghost use Rattle.ch_query.specs.Meeting.{IsBestSoFar, cost_of};
@@ -29,7 +29,7 @@ pub fn turn(
     best: &mut Option<Meeting>,
 ) -> Result<bool, AllocError>
     requires made { IsWellMade hierarchy.now }
-    requires laid { IsLaidOut hierarchy.now climb.side upward.now.first.items upward.now.links.items upward.now.steps.items }
+    requires laid { AreStepsOf hierarchy.now climb.side upward.now }
     requires searching { IsSearching hierarchy.now climb.side climb.start here.old }
     requires climbing { IsClimbing hierarchy.now climb.side climb.start (cost_of best.old) here.old }
     requires there_nodes { length there.now ≡ length hierarchy.now.ranks }
@@ -66,7 +66,7 @@ fn pass_over(
 ) -> Result<(), AllocError>
     requires made { IsWellMade hierarchy.now }
     requires rank_in { rank < length hierarchy.now.ranks }
-    requires laid { IsLaidOut hierarchy.now side upward.now.first.items upward.now.links.items upward.now.steps.items }
+    requires laid { AreStepsOf hierarchy.now side upward.now }
     requires here_nodes { length here.old ≡ length hierarchy.now.ranks }
     requires latest { IsLatest here.old cost rank }
     requires fits { IsOfWalks rank cost }

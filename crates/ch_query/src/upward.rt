@@ -2,8 +2,8 @@ ghost use Rattle.std.specs.Prelude.{◌≡◌, ◌+◌, ◌^◌, ◌<◌, ℕ, l
 ghost use Rattle.ch_graph.specs.Hierarchy.{IsWellMade};
 ghost use Rattle.ch_query.specs.Climb.{cost_at, Climbs, LeadsUp};
 ghost use Rattle.ch_query.specs.LinkNumbers.{HasRoom};
-ghost use Rattle.ch_query.specs.Counting.{all_below, IsCounted, IsSummed, IsFilled};
-ghost use Rattle.ch_query.specs.Upward.{step_along, IsLaidOut};
+ghost use Rattle.ch_query.specs.Counting.{all_below, IsCounted, IsSummed, HoldsFirst};
+ghost use Rattle.ch_query.specs.Upward.{step_along, AreStepsOf};
 ghost use Rattle.ch_query.specs.Searching.{IsOneStepAt};
 
 use crate::link_numbers::LinkNumbers;
@@ -52,7 +52,7 @@ impl UpwardSteps {
         requires few { length hierarchy.now.links < 2 ^ 64 }
         requires counted { IsCounted hierarchy.now side (length hierarchy.now.links) counts.items }
         requires limit { length hierarchy.now.links < counts.limit }
-        ensures filled { IfOk result (λ upward. IsFilled hierarchy.now side 0 upward.first.items upward.links.items upward.steps.items) }
+        ensures filled { IfOk result (λ upward. HoldsFirst hierarchy.now side 0 upward) }
         ensures room { IfOk result (λ upward. HasRoom hierarchy.now upward.first upward.links) }
     {
         let mut first = counts;
@@ -70,9 +70,9 @@ impl UpwardSteps {
     pub fn put(&mut self, hierarchy: &Hierarchy, side: Side, at: usize)
         requires made { IsWellMade hierarchy.now }
         requires climbs { Climbs hierarchy.now side at }
-        requires filled { IsFilled hierarchy.now side at self.old.first.items self.old.links.items self.old.steps.items }
+        requires filled { HoldsFirst hierarchy.now side at self.old }
         requires room { HasRoom hierarchy.now self.old.first self.old.links }
-        ensures filled { IsFilled hierarchy.now side (at + 1) self.new.first.items self.new.links.items self.new.steps.items }
+        ensures filled { HoldsFirst hierarchy.now side (at + 1) self.new }
         ensures room { HasRoom hierarchy.now self.new.first self.new.links }
     {
         let step = step_along(hierarchy, side, at);
@@ -88,7 +88,7 @@ impl UpwardSteps {
     /// Takes time by the number of steps from the lower node.
     pub fn link_between(&self, hierarchy: &Hierarchy, side: Side, foot: u32, head: u32) -> usize
         requires made { IsWellMade hierarchy.now }
-        requires laid { IsLaidOut hierarchy.now side self.now.first.items self.now.links.items self.now.steps.items }
+        requires laid { AreStepsOf hierarchy.now side self.now }
         requires link { (k : ℕ) × LeadsUp hierarchy.now side foot head k }
         ensures { LeadsUp hierarchy.now side foot head result }
     {
