@@ -6,9 +6,11 @@ use Rattle.ch_graph.specs.declared.mark.Mark.{Mark}
 use Rattle.ch_graph.specs.declared.mark.Mark.TheVariants.{Unseen, Open}
 use Rattle.ch_graph.specs.Hierarchy.{Hierarchy, IsWellMade, rank_of}
 use Rattle.ch_graph.specs.Marks.{settled_count}
+use Rattle.ch_query.specs.declared.half.Half.{Half}
 use Rattle.ch_query.specs.declared.side.Side.{Side}
 use Rattle.ch_query.specs.declared.label.Label.{Label}
 use Rattle.ch_query.specs.Marks.{IsStopped}
+use Rattle.ch_query.specs.Ready.{IsReady}
 use Rattle.ch_query.specs.Searching.{IsClimbing, IsSearching, IsTurned}
 use Rattle.ch_query.specs.Meeting.{IsBestSoFar}
 use Rattle.ch_query.proofs.BestMeetings.{best-none}
@@ -27,6 +29,10 @@ module _ (h : Hierarchy) (made : IsWellMade h) (side : Side) (start : ℕ) (star
   -- the sides haven't met yet
   pub best-begun : (down : List (Mark Label)) → IsBestSoFar h new down None
   best-begun down = subst (λ (ms : List (Mark Label)). IsBestSoFar h ms down None) begins (best-none h (first_marks h start) down (no_settled h made side start start_in))
+
+-- a search stays ready while its marks are written
+pub ready-more : {h : Hierarchy} {rising falling : Half} (up down : List (Mark Label)) → IsReady h rising falling → length up ≡ length rising.frontier → length down ≡ length falling.frontier → IsReady h (record { steps = rising.steps; frontier = up }) (record { steps = falling.steps; frontier = down })
+ready-more up down ready ups downs = record { made = ready.made; rising = ready.rising; falling = ready.falling; ups = ups ∙ ready.ups; downs = downs ∙ ready.downs }
 
 -- Turns
 

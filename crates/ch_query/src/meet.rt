@@ -9,11 +9,11 @@ ghost use Rattle.ch_query.specs.Searching.{IsSearching, IsClimbing};
 ghost use Rattle.ch_query.specs.Meeting.{IsBestMeeting, cost_of};
 
 use crate::frontier::Frontier;
+use crate::half::Half;
 use crate::label::Label;
 use crate::meeting::Meeting;
 use crate::side::{Climb, Side};
 use crate::turn::turn;
-use crate::upward::UpwardSteps;
 use ch_cost::Cost;
 use ch_graph::Hierarchy;
 use std::alloc::AllocError;
@@ -22,28 +22,24 @@ use std::alloc::AllocError;
 /// side has stopped. Answers where they meet at the least cost.
 pub fn meet(
     hierarchy: &Hierarchy,
-    rising: &UpwardSteps,
-    falling: &UpwardSteps,
     source: u32,
     target: u32,
-    up: &mut Frontier,
-    down: &mut Frontier,
+    rising: &mut Half,
+    falling: &mut Half,
 ) -> Result<Option<Meeting>, AllocError>
-    requires made { IsWellMade hierarchy.now }
-    requires ready { IsReady hierarchy.now rising.now falling.now up.old down.old }
-    requires up { up.old ≡ replicate (length hierarchy.now.ranks) Unseen }
-    requires down { down.old ≡ replicate (length hierarchy.now.ranks) Unseen }
+    requires ready { IsReady hierarchy.now rising.old falling.old }
+    requires up { rising.old.frontier ≡ replicate (length hierarchy.now.ranks) Unseen }
+    requires down { falling.old.frontier ≡ replicate (length hierarchy.now.ranks) Unseen }
     requires source_in { source < length hierarchy.now.ranks }
     requires target_in { target < length hierarchy.now.ranks }
-    ensures ups { length up.new ≡ length up.old }
-    ensures downs { length down.new ≡ length down.old }
-    ensures rises { OnOk result (IsSearching hierarchy.now Rise source up.new) }
-    ensures falls { OnOk result (IsSearching hierarchy.now Fall target down.new) }
-    ensures up_climbing { IfOk result (λ best. IsClimbing hierarchy.now Rise source (cost_of best) up.new) }
-    ensures down_climbing { IfOk result (λ best. IsClimbing hierarchy.now Fall target (cost_of best) down.new) }
-    ensures best { IfOk result (λ best. IsBestMeeting hierarchy.now (costs_of up.new) (costs_of down.new) best) }
-    ensures up_stopped { IfOk result (λ best. IsStopped up.new (cost_of best)) }
-    ensures down_stopped { IfOk result (λ best. IsStopped down.new (cost_of best)) }
+    ensures ready { IsReady hierarchy.now rising.new falling.new }
+    ensures rises { OnOk result (IsSearching hierarchy.now Rise source rising.new.frontier) }
+    ensures falls { OnOk result (IsSearching hierarchy.now Fall target falling.new.frontier) }
+    ensures up_climbing { IfOk result (λ best. IsClimbing hierarchy.now Rise source (cost_of best) rising.new.frontier) }
+    ensures down_climbing { IfOk result (λ best. IsClimbing hierarchy.now Fall target (cost_of best) falling.new.frontier) }
+    ensures best { IfOk result (λ best. IsBestMeeting hierarchy.now (costs_of rising.new.frontier) (costs_of falling.new.frontier) best) }
+    ensures up_stopped { IfOk result (λ best. IsStopped rising.new.frontier (cost_of best)) }
+    ensures down_stopped { IfOk result (λ best. IsStopped falling.new.frontier (cost_of best)) }
 {
     let rise = Climb {
         side: Side::Rise,
@@ -53,12 +49,26 @@ pub fn meet(
         side: Side::Fall,
         start: target,
     };
-    begin(hierarchy, rise, up)?;
-    begin(hierarchy, fall, down)?;
+    begin(hierarchy, rise, &mut rising.frontier)?;
+    begin(hierarchy, fall, &mut falling.frontier)?;
     let mut best = None;
     'turns: loop {
-        let rose = turn(hierarchy, rising, rise, up, down, &mut best)?;
-        let fell = turn(hierarchy, falling, fall, down, up, &mut best)?;
+        let rose = turn(
+            hierarchy,
+            &rising.steps,
+            rise,
+            &mut rising.frontier,
+            &falling.frontier,
+            &mut best,
+        )?;
+        let fell = turn(
+            hierarchy,
+            &falling.steps,
+            fall,
+            &mut falling.frontier,
+            &rising.frontier,
+            &mut best,
+        )?;
         let goes_on = rose | fell;
         if !goes_on {
             return Ok(best);

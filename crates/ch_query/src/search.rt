@@ -1,20 +1,20 @@
 ghost use Rattle.std.specs.Prelude.{◌≡◌, ◌<◌, length, option_map, IfOk, IfSome};
-ghost use Rattle.ch_graph.specs.Hierarchy.{IsWellMade, IsValue};
+ghost use Rattle.ch_graph.specs.Hierarchy.{IsValue};
 ghost use Rattle.ch_graph.specs.Unfolding.{Joined};
 ghost use Rattle.ch_query.specs.declared.side.Side.TheVariants.{Rise, Fall};
 ghost use Rattle.ch_query.specs.Labels.{Meets};
 ghost use Rattle.ch_query.specs.Marks.{costs_of};
 ghost use Rattle.ch_query.specs.Searching.{IsSearching};
 ghost use Rattle.ch_query.specs.Places.{IsRiseFallAt};
-ghost use Rattle.ch_query.specs.Upward.{AreStepsOf};
+ghost use Rattle.ch_query.specs.Ready.{IsReady};
 
 use crate::descent::descent;
 use crate::frontier::Frontier;
+use crate::half::Half;
 use crate::layout::Layout;
 use crate::meet::meet;
 use crate::meeting::Meeting;
 use crate::side::{Climb, Side};
-use crate::upward::UpwardSteps;
 use ch_cost::Cost;
 use ch_graph::{Hierarchy, LinkId, rise_fall_joins};
 use std::alloc::{AllocError, Global};
@@ -39,10 +39,8 @@ pub struct Found {
 #[derive(Drop)]
 pub struct Search<'a> {
     hierarchy: &'a Hierarchy,
-    rising: UpwardSteps,
-    falling: UpwardSteps,
-    up: Frontier,
-    down: Frontier,
+    rising: Half,
+    falling: Half,
 }
 
 impl<'a> Model for Search<'a> {
@@ -53,7 +51,7 @@ impl<'a> Model for Search<'a> {
 
     ghost view = { λ s. s.hierarchy.now };
 
-    ghost invariant = { λ s. IsReady s.hierarchy.now s.rising s.falling s.up s.down };
+    ghost invariant = { λ s. IsReady s.hierarchy.now s.rising s.falling };
 }
 
 impl<'a> Search<'a> {
@@ -67,10 +65,14 @@ impl<'a> Search<'a> {
         let down = Frontier::new(alloc, nodes)?;
         Ok(Search {
             hierarchy,
-            rising,
-            falling,
-            up,
-            down,
+            rising: Half {
+                steps: rising,
+                frontier: up,
+            },
+            falling: Half {
+                steps: falling,
+                frontier: down,
+            },
         })
     }
 
@@ -106,18 +108,16 @@ impl<'a> Search<'a> {
         ensures joined { IfOk result (λ found. IfSome found (λ f. Joined self.old source f.links.items)) }
         ensures kept { self.new ≡ self.old }
     {
-        let alloc = *self.rising.steps.allocator();
+        let alloc = *self.rising.steps.steps.allocator();
         let hierarchy = self.hierarchy;
-        self.up.clear();
-        self.down.clear();
+        self.rising.frontier.clear();
+        self.falling.frontier.clear();
         let best = meet(
             hierarchy,
-            &self.rising,
-            &self.falling,
             source,
             target,
-            &mut self.up,
-            &mut self.down,
+            &mut self.rising,
+            &mut self.falling,
         )?;
         let Some(meeting) = best else {
             return Ok(None);
@@ -125,12 +125,10 @@ impl<'a> Search<'a> {
         let found = walk_over(
             alloc,
             hierarchy,
-            &self.rising,
-            &self.falling,
             source,
             target,
-            &self.up,
-            &self.down,
+            &self.rising,
+            &self.falling,
             meeting,
         )?;
         Ok(Some(found))
@@ -141,22 +139,18 @@ impl<'a> Search<'a> {
 fn walk_over(
     alloc: Global,
     hierarchy: &Hierarchy,
-    rising: &UpwardSteps,
-    falling: &UpwardSteps,
     source: u32,
     target: u32,
-    up: &Frontier,
-    down: &Frontier,
+    rising: &Half,
+    falling: &Half,
     meeting: Meeting,
 ) -> Result<Found, AllocError>
-    requires made { IsWellMade hierarchy.now }
+    requires ready { IsReady hierarchy.now rising.now falling.now }
     requires source_in { source < length hierarchy.now.ranks }
     requires target_in { target < length hierarchy.now.ranks }
-    requires rising { AreStepsOf hierarchy.now Rise rising.now }
-    requires falling { AreStepsOf hierarchy.now Fall falling.now }
-    requires rises { IsSearching hierarchy.now Rise source up.now }
-    requires falls { IsSearching hierarchy.now Fall target down.now }
-    requires meets { Meets hierarchy.now (costs_of up.now) (costs_of down.now) meeting.rank meeting.cost }
+    requires rises { IsSearching hierarchy.now Rise source rising.now.frontier }
+    requires falls { IsSearching hierarchy.now Fall target falling.now.frontier }
+    requires meets { Meets hierarchy.now (costs_of rising.now.frontier) (costs_of falling.now.frontier) meeting.rank meeting.cost }
     ensures cost { IfOk result (λ f. f.cost ≡ meeting.cost) }
     ensures walk { IfOk result (λ f. IsRiseFallAt hierarchy.now f.links.items source target meeting.cost) }
     ensures joined { IfOk result (λ f. Joined hierarchy.now source f.links.items) }
@@ -170,9 +164,23 @@ fn walk_over(
         side: Side::Fall,
         start: target,
     };
-    let mut links = descent(alloc, hierarchy, rising, rise, up, meeting.rank)?;
+    let mut links = descent(
+        alloc,
+        hierarchy,
+        &rising.steps,
+        rise,
+        &rising.frontier,
+        meeting.rank,
+    )?;
     links.reverse();
-    let fallen = descent(alloc, hierarchy, falling, fall, down, meeting.rank)?;
+    let fallen = descent(
+        alloc,
+        hierarchy,
+        &falling.steps,
+        fall,
+        &falling.frontier,
+        meeting.rank,
+    )?;
     links.extend_from_slice(&fallen)?;
     Ok(Found {
         cost: meeting.cost,

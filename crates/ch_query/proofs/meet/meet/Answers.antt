@@ -7,25 +7,26 @@ use Rattle.ch_query.specs.Marks.{IsStopped}
 use Rattle.ch_query.specs.Meeting.{cost_of}
 use Rattle.ch_query.proofs.BestMeetings.{best-flip, best-stopped}
 use Rattle.ch_query.proofs.Turning.{labels_fit, climbing-less}
-use Rattle.ch_query.proofs.Beginning.{searching-begun, climbing-begun, best-begun, turned-count, not-turned, both-stopped, neither, either-one, one_if}
+use Rattle.ch_query.proofs.Beginning.{searching-begun, climbing-begun, best-begun, ready-more, turned-count, not-turned, both-stopped, neither, either-one, one_if}
 use Rattle.ch_query.proofs.meet.meet.Goals as goal
 
 pub turns-init : goal.turns-init
 turns-init c =
     let h = c.args.hierarchy.now in
     record {
-      rises = searching-begun h c.requires.made Rise c.args.source c.requires.source_in c.args.up.now c.begin.new.frontier c.requires.up c.in_ok-begin.ensures.begun;
-      falls = searching-begun h c.requires.made Fall c.args.target c.requires.target_in c.args.down.now c.begin-2.new.frontier c.requires.down c.in_ok-begin-2.ensures.begun;
-      up_climbing = climbing-begun h c.requires.made Rise c.args.source c.requires.source_in c.args.up.now c.begin.new.frontier c.requires.up c.in_ok-begin.ensures.begun None;
-      down_climbing = climbing-begun h c.requires.made Fall c.args.target c.requires.target_in c.args.down.now c.begin-2.new.frontier c.requires.down c.in_ok-begin-2.ensures.begun None;
-      best = best-begun h c.requires.made Rise c.args.source c.requires.source_in c.args.up.now c.begin.new.frontier c.requires.up c.in_ok-begin.ensures.begun c.begin-2.new.frontier;
+      ready = ready-more c.begin.new.frontier c.begin-2.new.frontier c.requires.ready c.begin.ensures.nodes c.begin-2.ensures.nodes;
+      rises = searching-begun h c.requires.ready.made Rise c.args.source c.requires.source_in c.args.rising.now.frontier c.begin.new.frontier c.requires.up c.in_ok-begin.ensures.begun;
+      falls = searching-begun h c.requires.ready.made Fall c.args.target c.requires.target_in c.args.falling.now.frontier c.begin-2.new.frontier c.requires.down c.in_ok-begin-2.ensures.begun;
+      up_climbing = climbing-begun h c.requires.ready.made Rise c.args.source c.requires.source_in c.args.rising.now.frontier c.begin.new.frontier c.requires.up c.in_ok-begin.ensures.begun None;
+      down_climbing = climbing-begun h c.requires.ready.made Fall c.args.target c.requires.target_in c.args.falling.now.frontier c.begin-2.new.frontier c.requires.down c.in_ok-begin-2.ensures.begun None;
+      best = best-begun h c.requires.ready.made Rise c.args.source c.requires.source_in c.args.rising.now.frontier c.begin.new.frontier c.requires.up c.in_ok-begin.ensures.begun c.begin-2.new.frontier;
     }
 
 pub turn-requires-clause-there_fits : goal.turn-requires-clause-there_fits
-turn-requires-clause-there_fits c = labels_fit c.args.hierarchy.now c.requires.made c.turns.invariant.falls
+turn-requires-clause-there_fits c = labels_fit c.args.hierarchy.now c.requires.ready.made c.turns.invariant.falls
 
 pub turn-requires-in-turns-clause-there_fits : goal.turn-requires-in-turns-clause-there_fits
-turn-requires-in-turns-clause-there_fits c = labels_fit c.args.hierarchy.now c.requires.made c.in_ok-rose.ensures.searching
+turn-requires-in-turns-clause-there_fits c = labels_fit c.args.hierarchy.now c.requires.ready.made c.in_ok-rose.ensures.searching
 
 pub turn-requires-in-turns-clause-best : goal.turn-requires-in-turns-clause-best
 turn-requires-in-turns-clause-best c = best-flip c.in_ok-rose.ensures.best
@@ -39,9 +40,9 @@ returns-then-not-goes_on-clause-up_climbing c = climbing-less c.args.hierarchy.n
 stopped : (c : goal.Then-not-goes_on) → IsStopped c.turn.new.here (cost_of c.turn-in-turns.new.best) × IsStopped c.turn-in-turns.new.here (cost_of c.turn-in-turns.new.best)
 stopped c =
     let both = neither c.in_ok-rose.rose c.in_ok-fell.fell c.if-not-goes_on.true in
-    let rose = not-turned c.in_ok-rose.rose c.turns.up c.turn.new.here (cost_of c.turns.best) (cost_of c.turn.new.best) both.0 c.in_ok-rose.ensures.turned in
-    let fell = not-turned c.in_ok-fell.fell c.turns.down c.turn-in-turns.new.here (cost_of c.turn.new.best) (cost_of c.turn-in-turns.new.best) both.1 c.in_ok-fell.ensures.turned in
-    both-stopped c.turns.up c.turn.new.here c.turns.down c.turn-in-turns.new.here (cost_of c.turns.best) (cost_of c.turn.new.best) (cost_of c.turn-in-turns.new.best) rose fell
+    let rose = not-turned c.in_ok-rose.rose c.turns.rising.frontier c.turn.new.here (cost_of c.turns.best) (cost_of c.turn.new.best) both.0 c.in_ok-rose.ensures.turned in
+    let fell = not-turned c.in_ok-fell.fell c.turns.falling.frontier c.turn-in-turns.new.here (cost_of c.turn.new.best) (cost_of c.turn-in-turns.new.best) both.1 c.in_ok-fell.ensures.turned in
+    both-stopped c.turns.rising.frontier c.turn.new.here c.turns.falling.frontier c.turn-in-turns.new.here (cost_of c.turns.best) (cost_of c.turn.new.best) (cost_of c.turn-in-turns.new.best) rose fell
 
 pub returns-then-not-goes_on-clause-best : goal.returns-then-not-goes_on-clause-best
 returns-then-not-goes_on-clause-best c =
@@ -57,12 +58,13 @@ returns-then-not-goes_on-clause-down_stopped c = (stopped c).1
 pub turns-smaller : goal.turns-smaller
 turns-smaller c =
     let one : 1 ≤ one_if c.in_ok-rose.rose + one_if c.in_ok-fell.fell = either-one c.in_ok-rose.rose c.in_ok-fell.fell c.if-not-goes_on.false in
-    let up : settled_count c.turn.new.here ≡ settled_count c.turns.up + one_if c.in_ok-rose.rose = turned-count c.in_ok-rose.rose c.turns.up c.turn.new.here (cost_of c.turns.best) (cost_of c.turn.new.best) c.in_ok-rose.ensures.turned in
-    let down : settled_count c.turn-in-turns.new.here ≡ settled_count c.turns.down + one_if c.in_ok-fell.fell = turned-count c.in_ok-fell.fell c.turns.down c.turn-in-turns.new.here (cost_of c.turn.new.best) (cost_of c.turn-in-turns.new.best) c.in_ok-fell.ensures.turned in
+    let up : settled_count c.turn.new.here ≡ settled_count c.turns.rising.frontier + one_if c.in_ok-rose.rose = turned-count c.in_ok-rose.rose c.turns.rising.frontier c.turn.new.here (cost_of c.turns.best) (cost_of c.turn.new.best) c.in_ok-rose.ensures.turned in
+    let down : settled_count c.turn-in-turns.new.here ≡ settled_count c.turns.falling.frontier + one_if c.in_ok-fell.fell = turned-count c.in_ok-fell.fell c.turns.falling.frontier c.turn-in-turns.new.here (cost_of c.turn.new.best) (cost_of c.turn-in-turns.new.best) c.in_ok-fell.ensures.turned in
     omega (arith, one, up, down, count-most c.turn.new.here, count-most c.turn-in-turns.new.here, c.in_ok-rose.ensures.searching.nodes, c.in_ok-fell.ensures.searching.nodes)
 
 pub turns-preserved : goal.turns-preserved
 turns-preserved c = record {
+  ready = ready-more c.turn.new.here c.turn-in-turns.new.here c.turns.invariant.ready c.turn.ensures.nodes c.turn-in-turns.ensures.nodes;
   rises = c.in_ok-rose.ensures.searching;
   falls = c.in_ok-fell.ensures.searching;
   up_climbing = climbing-less c.args.hierarchy.now c.in_ok-fell.ensures.less c.in_ok-rose.ensures.climbing;

@@ -1,18 +1,20 @@
 use Rattle.std.proofs.Common.{◌+◌, ◌-◌, length}
 use Rattle.ch_graph.specs.Marks.{settled_count}
 use Rattle.ch_query.specs.declared.side.Side.TheVariants.{Rise, Fall}
+use Rattle.ch_query.specs.Ready.{IsReady}
 use Rattle.ch_query.specs.Searching.{IsSearching, IsClimbing}
 use Rattle.ch_query.specs.Meeting.{IsBestSoFar, cost_of}
 use Rattle.ch_query.proofs.meet.meet.Given as goal
 
 abbrev pub invariant-turns : goal.invariant-turns
 invariant-turns l = record {
-  rises : IsSearching l.hierarchy Rise l.source l.up;
-  falls : IsSearching l.hierarchy Fall l.target l.down;
-  up_climbing : IsClimbing l.hierarchy Rise l.source (cost_of l.best) l.up;
-  down_climbing : IsClimbing l.hierarchy Fall l.target (cost_of l.best) l.down;
-  best : IsBestSoFar l.hierarchy l.up l.down l.best;
+  ready : IsReady l.hierarchy l.rising l.falling;
+  rises : IsSearching l.hierarchy Rise l.source l.rising.frontier;
+  falls : IsSearching l.hierarchy Fall l.target l.falling.frontier;
+  up_climbing : IsClimbing l.hierarchy Rise l.source (cost_of l.best) l.rising.frontier;
+  down_climbing : IsClimbing l.hierarchy Fall l.target (cost_of l.best) l.falling.frontier;
+  best : IsBestSoFar l.hierarchy l.rising.frontier l.falling.frontier l.best;
 }
 
 abbrev pub decreases-turns : goal.decreases-turns
-decreases-turns l = (length l.hierarchy.ranks - settled_count l.up) + (length l.hierarchy.ranks - settled_count l.down)
+decreases-turns l = (length l.hierarchy.ranks - settled_count l.rising.frontier) + (length l.hierarchy.ranks - settled_count l.falling.frontier)

@@ -15,7 +15,7 @@ walk : (c : goal.After-drop-fallen-2) → IsRiseFallAt c.args.hierarchy.now c.ex
 walk c =
     let h = c.args.hierarchy.now in
     let meets = c.requires.meets in
-    let node = node_of h c.requires.made Rise c.args.source c.requires.source_in c.args.up.now c.requires.rises c.args.meeting.rank meets.rise meets.risen in
+    let node = node_of h c.requires.ready.made Rise c.args.source c.requires.source_in c.args.rising.now.frontier c.requires.rises c.args.meeting.rank meets.rise meets.risen in
     subst (λ (ids : List LinkId). IsRiseFallAt h ids c.args.source c.args.target c.args.meeting.cost) (sym (joined c))
     (walk_at h c.args.source c.args.target node.0 meets.rise meets.fall c.args.meeting.cost c.in_ok-links.links.items c.in_ok-fallen.fallen.items (c.in_ok-links.ensures node.0 meets.rise node.1 node.2 meets.risen) (c.in_ok-fallen.ensures node.0 meets.fall node.1 node.2 meets.fallen) meets.sum)
 

@@ -20,7 +20,7 @@ returns-in_default-clause-value c =
     let h : Hierarchy = c.self.inside.hierarchy.now in
     let source_in : c.args.source < length h.ranks = subst (λ (k : Hierarchy). c.args.source < length k.ranks) (sym c.self.view_is) c.requires.source_in in
     let target_in : c.args.target < length h.ranks = subst (λ (k : Hierarchy). c.args.target < length k.ranks) (sym c.self.view_is) c.requires.target_in in
-    let value : IsValue h c.args.source c.args.target (cost_of c.in_ok-best.best) = answered h c.self.invariant.made c.args.source c.args.target source_in target_in c.meet.new.up c.meet.new.down c.in_ok-best.best c.in_ok-best.ensures.up_climbing c.in_ok-best.ensures.down_climbing c.in_ok-best.ensures.up_stopped c.in_ok-best.ensures.down_stopped c.in_ok-best.ensures.best in
+    let value : IsValue h c.args.source c.args.target (cost_of c.in_ok-best.best) = answered h c.self.invariant.made c.args.source c.args.target source_in target_in c.meet.new.rising.frontier c.meet.new.falling.frontier c.in_ok-best.best c.in_ok-best.ensures.up_climbing c.in_ok-best.ensures.down_climbing c.in_ok-best.ensures.up_stopped c.in_ok-best.ensures.down_stopped c.in_ok-best.ensures.best in
     subst (λ (k : Hierarchy). IsValue k c.args.source c.args.target None) c.self.view_is (subst (λ (o : Option Meeting). IsValue h c.args.source c.args.target (cost_of o)) c.in_default.is value)
 
 pub returns-clause-value : goal.returns-clause-value
@@ -28,7 +28,7 @@ returns-clause-value c =
     let h : Hierarchy = c.self.inside.hierarchy.now in
     let source_in : c.args.source < length h.ranks = subst (λ (k : Hierarchy). c.args.source < length k.ranks) (sym c.self.view_is) c.requires.source_in in
     let target_in : c.args.target < length h.ranks = subst (λ (k : Hierarchy). c.args.target < length k.ranks) (sym c.self.view_is) c.requires.target_in in
-    let value : IsValue h c.args.source c.args.target (cost_of c.in_ok-best.best) = answered h c.self.invariant.made c.args.source c.args.target source_in target_in c.meet.new.up c.meet.new.down c.in_ok-best.best c.in_ok-best.ensures.up_climbing c.in_ok-best.ensures.down_climbing c.in_ok-best.ensures.up_stopped c.in_ok-best.ensures.down_stopped c.in_ok-best.ensures.best in
+    let value : IsValue h c.args.source c.args.target (cost_of c.in_ok-best.best) = answered h c.self.invariant.made c.args.source c.args.target source_in target_in c.meet.new.rising.frontier c.meet.new.falling.frontier c.in_ok-best.best c.in_ok-best.ensures.up_climbing c.in_ok-best.ensures.down_climbing c.in_ok-best.ensures.up_stopped c.in_ok-best.ensures.down_stopped c.in_ok-best.ensures.best in
     let found : IsValue h c.args.source c.args.target (Some c.in-Some.meeting.cost) = subst (λ (o : Option Meeting). IsValue h c.args.source c.args.target (cost_of o)) c.in-Some.is value in
     subst (λ (k : Hierarchy). IsValue k c.args.source c.args.target (Some c.in_ok-found.found.cost)) c.self.view_is (subst (λ (d : Cost). IsValue h c.args.source c.args.target (Some d)) (sym c.in_ok-found.ensures.cost) found)
 
