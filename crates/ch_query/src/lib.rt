@@ -1,16 +1,16 @@
 //! Queries of a contraction hierarchy: least rise-fall walks.
 //!
-//! Stands on `ch_graph`, of which it uses that a hierarchy is well made, and on the laws of costs of `ch_cost`. Its
-//! main type is [`Search`]. The promise of the layer is the contract of [`Search::distance`]: the cost is the value
-//! of the hierarchy for the two nodes, none exactly where it has none, and the links are a rise-fall walk of that
-//! cost. A query has two sides, one from the source along links that rise, and one from the target against links
-//! that fall. Both climb in rank, so one program serves them: [`upward::UpwardSteps`] are the links that a side
-//! climbs, by the rank of their feet, and [`layout::Layout`] has those of both; a [`frontier::Frontier`] holds what a
-//! side knows of the nodes, and settles the first open one, by length and rank; both are a [`half::Half`] of the query.
-//! [`turn::turn`] looks whether the sides meet there, and follows its links; and [`meet::meet`] lets the sides take turns,
-//! until neither has an open node that is no longer than the best meeting. [`descent::descent`] finds the links of the walk. A side is a search by marks, as
-//! the plain one of `ch_graph` is, and why two of them give the value is the law [`labels_are_right`]. A call costs what
-//! it touches: marks and queues are kept between calls.
+//! Stands on `ch_graph`, of which it uses that a hierarchy is well made, and on the laws of costs of `ch_cost`. Its main
+//! type is [`Search`]. The promise of the layer is the contract of [`Search::distance`]: the cost is the value of the
+//! hierarchy for the two nodes, none exactly where it has none, and the links are a rise-fall walk of that cost. A query
+//! has two sides, one from the source along links that rise, and one from the target against links that fall. Both climb in
+//! rank, so one program serves them: [`upward::UpwardSteps`] are the links that a side climbs, by the rank of their feet,
+//! and [`layout::Layout`] has those of both; a [`frontier::Frontier`] holds what a side knows of the nodes, and settles the
+//! first open one, by length and rank; both are a [`half::Half`] of the query. [`turn::turn`] looks whether the sides meet
+//! there, and follows its links; and [`meet::meet`] lets the sides take turns, until neither has an open node that is no
+//! longer than the best meeting. [`descent::descent`] finds the links of the walk. A side is a search by marks, as the
+//! plain one of `ch_graph` is, and why two of them give the value is the law [`labels_are_right`]. A call costs what it
+//! touches: marks and queues are kept between calls.
 //!
 //! A search is made once for a hierarchy, and then asked; here it is that of the arcs 1 to 0 and 0 to 2, of weights 2 and 3:
 //!
