@@ -36,13 +36,13 @@ impl Drops {
 }
 
 /// An estimator that counts its drops by its number.
-struct Counted {
+struct Numbered {
     inner: Depth,
     number: usize,
     drops: Arc<Drops>,
 }
 
-impl Estimator for Counted {
+impl Estimator for Numbered {
     ghost heard = { λ c. c.inner };
 
     fn key(&mut self, facts: &Facts) -> u64 {
@@ -58,7 +58,7 @@ impl Estimator for Counted {
     }
 }
 
-impl Drop for Counted {
+impl Drop for Numbered {
     fn drop(self) {
         let Self {
             inner: _,
@@ -85,7 +85,7 @@ pub fn counted(
     let drops = Arc::try_clone(drops)?;
     let estimator: Box<dyn Estimator + Send> = Box::new(
         alloc,
-        Counted {
+        Numbered {
             inner,
             number,
             drops,
