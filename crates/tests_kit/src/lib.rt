@@ -4,10 +4,10 @@
 //! For crates of tests alone: no other crate uses it, and the program has nothing of it.
 #![tactic(auto)]
 
-mod counted;
+mod drops;
 mod rows;
 mod uneven;
 
-pub use counted::{Drops, counted};
+pub use drops::{Drops, counted};
 pub use rows::{Entries, Given, are, are_sound, bound, entry, is_sound, row};
 pub use uneven::Uneven;
