@@ -9,7 +9,7 @@ use std::sync::Arc;
 use std::sync::atomic::{AtomicU64, Ordering};
 use std::test::Fail;
 use std::thread;
-use tests_kit::{Drops, counted};
+use tests_kit::{Drops, Numbered};
 
 /// Tells an estimator of a log, from its start.
 fn tell(estimator: &mut Box<dyn Estimator + Send>, log: &[Contraction]) -> Result<(), AllocError>
@@ -198,8 +198,10 @@ fn boxes_give_their_leases_back(rt: HostRuntime) -> Result<(), Fail> {
     let alloc = rt.alloc();
     let mut leases = Leases::new(alloc)?;
     let drops = Drops::new(alloc)?;
-    let lease = leases.lease()?;
-    drop(counted(alloc, lease, 0, &drops)?);
+    let depth = Depth::new(alloc, leases.lease()?);
+    let counted = Numbered::new(depth, 0, Arc::try_clone(&drops)?);
+    let estimator: Box<dyn Estimator + Send> = Box::new(alloc, counted)?;
+    drop(estimator);
     leases.wait(&rt);
     assert!(rt; drops.are_one_each(1));
     Ok(())

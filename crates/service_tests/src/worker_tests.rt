@@ -11,7 +11,7 @@ use std::sync::atomic::{AtomicU64, Ordering};
 use std::sync::{Arc, Wait};
 use std::test::Fail;
 use std::thread::{self, Threads};
-use tests_kit::{Drops, counted};
+use tests_kit::{Drops, Numbered};
 
 /// Counts the commits that it sees.
 #[derive(Drop)]
@@ -145,8 +145,10 @@ fn counted_list(
 ) -> Result<Lists, AllocError>
     ensures { IfOk result (λ lists. All (λ list. All (λ estimator. heard estimator ≡ []) list.items) lists.items) }
 {
-    let lease = leases.lease()?;
-    one_list(alloc, counted(alloc, lease, 0, drops)?)
+    let depth = Depth::new(alloc, leases.lease()?);
+    let counted = Numbered::new(depth, 0, Arc::try_clone(drops)?);
+    let estimator: Box<dyn Estimator + Send> = Box::new(alloc, counted)?;
+    one_list(alloc, estimator)
 }
 
 /// Whether one worker, which has this list, prepares the row by three commits.

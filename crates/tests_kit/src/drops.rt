@@ -1,7 +1,7 @@
-ghost use Rattle.std.specs.Prelude.{◌≡◌, [], IfOk};
+ghost use Rattle.std.specs.Prelude.{◌≡◌, []};
 
 use ch_contract::{Contraction, Facts};
-use ch_estimate::{Depth, Estimator, Lease, Note};
+use ch_estimate::{Depth, Estimator, Note};
 use std::alloc::{AllocError, Global};
 use std::sync::Arc;
 use std::sync::atomic::{AtomicU64, Ordering};
@@ -35,11 +35,25 @@ impl Drops {
     }
 }
 
-/// An estimator that counts its drops by its number.
-struct Numbered {
+/// An estimator by depth that counts its drops by its number.
+pub struct Numbered {
     inner: Depth,
     number: usize,
     drops: Arc<Drops>,
+}
+
+impl Numbered {
+    /// One of this number, which was told nothing.
+    pub fn new(inner: Depth, number: usize, drops: Arc<Drops>) -> Numbered
+        requires untold { inner ≡ [] }
+        ensures untold { result.inner ≡ [] }
+    {
+        Numbered {
+            inner,
+            number,
+            drops,
+        }
+    }
 }
 
 impl Estimator for Numbered {
@@ -70,26 +84,4 @@ impl Drop for Numbered {
         }
         drop(drops);
     }
-}
-
-/// An estimator by depth, of this number, that was told nothing and counts its drop.
-pub fn counted(
-    alloc: Global,
-    lease: Lease,
-    number: usize,
-    drops: &Arc<Drops>,
-) -> Result<Box<dyn Estimator + Send>, AllocError>
-    ensures untold { IfOk result (λ estimator. heard estimator ≡ []) }
-{
-    let inner = Depth::new(alloc, lease);
-    let drops = Arc::try_clone(drops)?;
-    let estimator: Box<dyn Estimator + Send> = Box::new(
-        alloc,
-        Numbered {
-            inner,
-            number,
-            drops,
-        },
-    )?;
-    Ok(estimator)
 }

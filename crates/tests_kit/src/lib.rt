@@ -8,6 +8,6 @@ mod drops;
 mod rows;
 mod uneven;
 
-pub use drops::{Drops, counted};
+pub use drops::{Drops, Numbered};
 pub use rows::{Entries, Given, are, are_sound, bound, entry, is_sound, row};
 pub use uneven::Uneven;

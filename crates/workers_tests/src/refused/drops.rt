@@ -6,13 +6,27 @@ ghost use Rattle.std.specs.Prelude.{◌≡◌, [], All, IfOk};
 
 use crate::drops::{list_of_three, two_lists};
 use crate::kit::{Lists, TWO, tie};
-use ch_estimate::{Estimator, Leases};
+use ch_estimate::{Depth, Estimator, Lease, Leases};
 use ch_workers::{BuildError, OpenGate, Options, build};
 use std::alloc::{AllocError, Global};
 use std::sync::{Arc, Wait};
 use std::test::Fail;
 use std::thread::Threads;
-use tests_kit::{Drops, counted};
+use tests_kit::{Drops, Numbered};
+
+/// An estimator of this number that was told nothing.
+fn make_numbered(
+    alloc: Global,
+    lease: Lease,
+    number: usize,
+    drops: &Arc<Drops>,
+) -> Result<Box<dyn Estimator + Send>, AllocError>
+    ensures untold { IfOk result (λ estimator. heard estimator ≡ []) }
+{
+    let numbered = Numbered::new(Depth::new(alloc, lease), number, Arc::try_clone(drops)?);
+    let estimator: Box<dyn Estimator + Send> = Box::new(alloc, numbered)?;
+    Ok(estimator)
+}
 
 /// A list of three estimators of these numbers.
 fn list_of(
@@ -26,9 +40,9 @@ fn list_of(
     let [first, second, third] = numbers;
     list_of_three(
         alloc,
-        counted(alloc, leases.lease()?, first, drops)?,
-        counted(alloc, leases.lease()?, second, drops)?,
-        counted(alloc, leases.lease()?, third, drops)?,
+        make_numbered(alloc, leases.lease()?, first, drops)?,
+        make_numbered(alloc, leases.lease()?, second, drops)?,
+        make_numbered(alloc, leases.lease()?, third, drops)?,
     )
 }
 
