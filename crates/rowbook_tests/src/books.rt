@@ -4,13 +4,13 @@ ghost use Rattle.ch_overlay.specs.Source.{IsBound};
 ghost use Rattle.ch_overlay.specs.Records.{AreSoundRows, IsSoundRow};
 ghost use Rattle.ch_rowbook.specs.Blanks.{name_of};
 
-use tests_kit::{Entries, are, are_sound, bound, is_sound, row};
 use ch_overlay::{Row, RowSource, SeeError, Seen};
 use ch_rowbook::{Blank, Book, Pen, Reader, open};
 use std::alloc::{AllocError, Global};
 use std::marker::Brand;
 use std::sync::{Arc, Wait};
 use std::test::Fail;
+use tests_kit::{Entries, are, are_sound, bound, is_sound, row};
 
 /// The opening rows of three nodes: 1 leads to 0, and 0 to 2.
 const ROWS: [(Entries<'static>, Entries<'static>); 3] = [

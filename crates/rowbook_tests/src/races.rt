@@ -2,7 +2,6 @@ ghost use Rattle.std.specs.Prelude.{◌≡◌};
 ghost use Rattle.ch_overlay.specs.Source.{IsBound};
 ghost use Rattle.ch_rowbook.specs.Blanks.{name_of};
 
-use tests_kit::{Given, are, are_sound, bound, is_sound, row};
 use ch_cost::Cost;
 use ch_overlay::{Row, SeeError, Seen};
 use ch_rowbook::{Blank, Book, BookError, Pen, Reader, open};
@@ -13,6 +12,7 @@ use std::sync::{Arc, Wait};
 use std::test::Fail;
 use std::thread;
 use std::thread::Threads;
+use tests_kit::{Given, are, are_sound, bound, is_sound, row};
 
 /// The nodes, each of which leads to the next, and the last to the first.
 const NODES: u32 = 3;

@@ -9,7 +9,6 @@ ghost use Rattle.ch_overlay.specs.Source.{IsBound};
 ghost use Rattle.ch_overlay.specs.Records.{AreSoundRows, IsSoundRow};
 ghost use Rattle.ch_rowbook.specs.Blanks.{name_of};
 
-use tests_kit::{Given, are, are_sound, bound, is_sound, row};
 use ch_cost::Cost;
 use ch_overlay::{Row, SeeError, Seen};
 use ch_rowbook::{Blank, Book, BookError, Pen, Reader, open};
@@ -17,6 +16,7 @@ use std::alloc::{AllocError, Global};
 use std::marker::Brand;
 use std::sync::{Arc, Wait};
 use std::test::Fail;
+use tests_kit::{Given, are, are_sound, bound, is_sound, row};
 
 /// The row of node 1 once node 0 is contracted.
 fn later(alloc: Global, limit: Cost) -> Result<Arc<Row>, Fail>

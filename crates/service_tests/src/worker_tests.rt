@@ -138,11 +138,7 @@ fn worked_examples_by_two_workers(rt: HostRuntime) -> Result<(), Fail> {
 }
 
 /// The list of one worker, of an estimator that was told nothing and counts its drop here.
-fn counted_list(
-    alloc: Global,
-    leases: &mut Leases,
-    drops: &Arc<Drops>,
-) -> Result<Lists, AllocError>
+fn counted_list(alloc: Global, leases: &mut Leases, drops: &Arc<Drops>) -> Result<Lists, AllocError>
     ensures { IfOk result (λ lists. All (λ list. All (λ estimator. heard estimator ≡ []) list.items) lists.items) }
 {
     let depth = Depth::new(alloc, leases.lease()?);
