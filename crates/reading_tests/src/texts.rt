@@ -5,6 +5,7 @@ use grfile::{
     GrError, GrErrorKind, GrReader, QueryReader, read_graph, read_graph_within, read_queries,
 };
 use std::alloc::Global;
+use std::io;
 use tests_kit::Uneven;
 
 /// What a text has to say.
