@@ -14,7 +14,9 @@ pub mod Sweeping
 pub mod NodesLeft
 pub mod Logs
 pub mod Links
-pub mod Sorting
+pub mod Chaining
+pub mod Merges
+pub mod Placing
 pub mod Finishing
 pub mod Current
 pub mod ShownRows

@@ -21,6 +21,7 @@
 
 mod accepting;
 mod board;
+mod chains;
 mod contraction;
 mod draft;
 mod error;

@@ -1,10 +1,13 @@
-ghost use Rattle.std.specs.Prelude.{◌≡◌, ◌<◌, ◌++◌, IfOk, length, map};
+ghost use Rattle.std.specs.Prelude.{◌<◌, ◌++◌, List, All, IfOk, length, map};
+ghost use Rattle.ch_graph.specs.declared.link.Link.{Link};
 ghost use Rattle.ch_laws.specs.Contraction.{IsOver};
 ghost use Rattle.ch_overlay.specs.Overlay.{state_of};
-ghost use Rattle.ch_contract.specs.Finish.{AreRanks, AreLinks, link_out, link_in, row_links};
+ghost use Rattle.ch_contract.specs.Chains.{AreChainsOf, links_in};
+ghost use Rattle.ch_contract.specs.Finish.{AreRanks, AreLinks, link_in};
 
+use crate::chains::Chains;
 use ch_graph::Link;
-use ch_overlay::{Entry, Overlay, Row};
+use ch_overlay::{Entry, Overlay};
 use std::alloc::{AllocError, Global};
 
 /// The rank of each node of an overlay whose nodes are all contracted.
@@ -23,61 +26,79 @@ pub fn ranks_of(alloc: Global, overlay: &Overlay) -> Result<Vec<u32>, AllocError
     Ok(ranks)
 }
 
-/// The links that all rows of an overlay tell of, by their ends. Takes memory for them once, as many as there are.
+/// The links that all rows of an overlay tell of, by their ends.
+///
+/// Those into a node of a row are put in chains by the nodes that they leave, and each chain is merged with the row of its
+/// node, so that nothing is sorted: it takes time by the number of nodes and links. Takes memory for the links once, as
+/// many as there are, and while it works 32 bytes for each link into the node of its row and 8 for each node.
 pub fn links_of(alloc: Global, overlay: &Overlay) -> Result<Vec<Link>, AllocError>
     ensures { IfOk result (λ links. AreLinks overlay.now links.items) }
 {
-    let mut links = Vec::with_capacity(alloc, count_entries(overlay))?;
+    let into = count_in(overlay);
+    let chains = chain_rows(alloc, overlay, into)?;
+    merge_rows(
+        alloc,
+        overlay,
+        &chains,
+        count_out(overlay).saturating_add(into),
+    )
+}
+
+/// The links of all rows, each row merged with the chain of its node, with room for so many.
+fn merge_rows(
+    alloc: Global,
+    overlay: &Overlay,
+    chains: &Chains,
+    room: usize,
+) -> Result<Vec<Link>, AllocError>
+    requires { AreChainsOf (length overlay.now.rows) (links_in overlay.now.rows 0 (length overlay.now.rows)) 0 chains.now }
+    ensures { IfOk result (λ links. AreLinks overlay.now links.items) }
+{
+    let mut links = Vec::with_capacity(alloc, room)?;
     for node in 0..overlay.nodes() {
-        push_row(&mut links, node, overlay.row(node))?;
+        chains.push_merged(&mut links, node, overlay.row(node).out.as_slice())?;
     }
-    links.sort_unstable_by_key(|link| (link.from, link.to));
     Ok(links)
 }
 
-/// How many entries the rows have.
-fn count_entries(overlay: &Overlay) -> usize {
+/// The links into the nodes of all rows in chains, which rise, with room for so many.
+fn chain_rows(alloc: Global, overlay: &Overlay, room: usize) -> Result<Chains, AllocError>
+    ensures { IfOk result (AreChainsOf (length overlay.now.rows) (links_in overlay.now.rows 0 (length overlay.now.rows)) 0) }
+{
+    let nodes = overlay.nodes();
+    let mut chains = Chains::new(alloc, nodes, room)?;
+    for done in 0..nodes {
+        let node = nodes - 1 - done;
+        chain_row(&mut chains, node, overlay.row(node).inn.as_slice())?;
+    }
+    Ok(chains)
+}
+
+/// Puts the links into the node of a row into chains whose links come to higher nodes.
+fn chain_row(chains: &mut Chains, node: u32, inn: &[Entry]) -> Result<(), AllocError>
+    requires { All (λ e. e.other < length chains.old) inn.now }
+    ensures { IfOk result (λ _. (links : List Link) → AreChainsOf (length chains.old) links node chains.old → AreChainsOf (length chains.old) (map (link_in node) inn.now ++ links) node chains.new) }
+{
+    for entry in inn {
+        chains.push(entry.other, Entry { other: node, ..*entry })?;
+    }
+    Ok(())
+}
+
+/// How many entries for arcs out of their nodes the rows have. Only the memory that is taken goes by it.
+fn count_out(overlay: &Overlay) -> usize {
     let mut count = 0usize;
     for row in overlay.rows() {
-        count = count
-            .saturating_add(row.out.len())
-            .saturating_add(row.inn.len());
+        count = count.saturating_add(row.out.len());
     }
     count
 }
 
-/// The links that the row of a node tells of.
-fn push_row(links: &mut Vec<Link>, node: u32, row: &Row) -> Result<(), AllocError>
-    ensures { IfOk result (λ _. links.new.items ≡ links.old.items ++ row_links row.now node) }
-{
-    push_out(links, node, row.out.as_slice())?;
-    push_in(links, node, row.inn.as_slice())
-}
-
-fn push_out(links: &mut Vec<Link>, node: u32, entries: &[Entry]) -> Result<(), AllocError>
-    ensures { IfOk result (λ _. links.new.items ≡ links.old.items ++ map (link_out node) entries.now) }
-{
-    for entry in entries {
-        links.push(Link {
-            from: node,
-            to: entry.other,
-            cost: entry.cost.cost(),
-            middle: entry.middle.node(),
-        })?;
+/// How many entries for arcs into their nodes the rows have. Only the memory that is taken goes by it.
+fn count_in(overlay: &Overlay) -> usize {
+    let mut count = 0usize;
+    for row in overlay.rows() {
+        count = count.saturating_add(row.inn.len());
     }
-    Ok(())
-}
-
-fn push_in(links: &mut Vec<Link>, node: u32, entries: &[Entry]) -> Result<(), AllocError>
-    ensures { IfOk result (λ _. links.new.items ≡ links.old.items ++ map (link_in node) entries.now) }
-{
-    for entry in entries {
-        links.push(Link {
-            from: entry.other,
-            to: node,
-            cost: entry.cost.cost(),
-            middle: entry.middle.node(),
-        })?;
-    }
-    Ok(())
+    count
 }

@@ -1,6 +1,6 @@
 use Rattle.std.proofs.Common.{◌-◌, ◌^◌, inr, ap, arith, subst, sym, ◌∙◌}
 use Rattle.ch_cost.specs.declared.cost.Cost.{Cost}
-use Rattle.ch_cost.specs.Cost.{arcs_of, cost_of_arcs, IsWithin}
+use Rattle.ch_cost.specs.Cost.{IsWithin}
 use Rattle.ch_cost.specs.Cost.Numbers.{arcs-from_within, arcs_of-cost_of_arcs}
 use Rattle.ch_laws.specs.declared.entry.Entry.{Entry}
 use Rattle.ch_laws.specs.declared.shortcut.Shortcut.{Shortcut}

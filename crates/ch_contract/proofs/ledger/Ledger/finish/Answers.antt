@@ -1,4 +1,4 @@
-use Rattle.std.proofs.Common.{ap, ◌∙◌, arith}
+use Rattle.std.proofs.Common.{ap, arith}
 use Rattle.std.proofs.lemmas.Grind.{common_steps}
 use Rattle.ch_contract.specs.Ledger.{Ledger}
 use Rattle.ch_contract.proofs.ledger.Ledger.finish.Goals as goal
