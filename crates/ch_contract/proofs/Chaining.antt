@@ -36,8 +36,7 @@ chain-at arcs (suc place) c fall inside some here =
     let within : place < length arcs = omega (arith, inside) in
     let before : suc place - 1 ≡ place = omega arith in
     let is : c ≡ chained_at arcs place = here ∙ ap (λ k. get_or arcs k c) before ∙ get_or_default arcs place c _ within in
-    let next : c.next ≤ place = subst (λ (k : Chained). k.next ≤ place) (sym is) (fall place within) in
-    (
+    let next : c.next ≤ place = subst (λ (k : Chained). k.next ≤ place) (sym is) (fall place within) in (
       chain-first arcs place fall within ∙ ap (λ (k : Chained). k.arc ∷ chain arcs k.next) (sym is),
       omega (arith, next, within),
       omega (arith, next),

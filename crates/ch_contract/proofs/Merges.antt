@@ -24,7 +24,6 @@ exchanged xs ys zs =
 pub behind : {X : Type 0} (x : X) (xs ys : List X) → IsPermutation (x ∷ (xs ++ ys)) (xs ++ x ∷ ys)
 behind x xs ys = IsPermutation-sym (xs ++ x ∷ ys) (x ∷ (xs ++ ys)) (IsPermutation-middle xs x ys)
 
-
 -- what is taken and what is left
 
 parts : (end : ℕ) (es : List Entry) → take_while (comes_before end) es ++ dropped_while (comes_before end) es ≡ es

@@ -13,7 +13,7 @@ use Rattle.ch_laws.specs.declared.entry.Entry.{Entry}
 use Rattle.ch_laws.specs.Rows.{Row}
 use Rattle.ch_laws.specs.Members.{contains_first, contains_later, contains_cases, contains_none, contains-mapped}
 use Rattle.ch_overlay.specs.Overlay.{Overlay, IsOverlay, row_at}
-use Rattle.ch_contract.specs.Chains.{AreChainsOf, chain_links, links_in, merged_below, merged_by_other}
+use Rattle.ch_contract.specs.Chains.{AreChainsOf, AreChainsOfRows, chain_links, links_in, merged_below, merged_by_other}
 use Rattle.ch_contract.specs.Finish.{AreLinks, link_out, link_in, links_below}
 use Rattle.ch_contract.proofs.Links.{pairs-flat_map}
 use Rattle.ch_contract.proofs.Merges.{behind, exchanged, merged-all, merged-rises}
@@ -52,7 +52,7 @@ module _ {Y : Type 0} (F G : ℕ → List Y) where
         let rest : flat_map G zs ≡ flat_map F zs = same_parts zs (λ w later. others w (λ is. absurd (omega (arith, All-contains (λ b. z < b) zs w (AllPairs-head (λ a b. a < b) z zs rises) later, is, same)))) in
         subst (λ (l : List Y). IsPermutation (y ∷ (F z ++ flat_map F zs)) l) (sym (ap (λ (l : List Y). l ++ flat_map G zs) first ∙ ap (λ (l : List Y). (y ∷ F z) ++ l) rest)) (IsPermutation-refl (y ∷ (F z ++ flat_map F zs)))
     | inr other ↦
-        let later : Contains zs x = elim (contains_cases z zs x among) [ | inl is ↦ absurd (other is) | inr there ↦ there ] in
+        let later : Contains zs x = elim (contains_cases z zs x among) [ inl is ↦ absurd (other is) | inr there ↦ there ] in
         let rest = one_more y x zs (AllPairs-tail (λ a b. a < b) z zs rises) later here others in
         subst (λ (l : List Y). IsPermutation (y ∷ (F z ++ flat_map F zs)) (l ++ flat_map G zs)) (sym (others z other))
         (IsPermutation-trans (y ∷ (F z ++ flat_map F zs)) (F z ++ y ∷ flat_map F zs) (F z ++ flat_map G zs) (behind y (F z) (flat_map F zs)) (IsPermutation-append (F z) (F z) (y ∷ flat_map F zs) (flat_map G zs) (IsPermutation-refl (F z)) rest))
@@ -152,7 +152,7 @@ merged_below-more rows chains n =
     let here : 0 + n ≡ n = omega arith in
     ap (flat_map f) (range_with_len-more 0 n) ∙ flat_map-append f (range_with_len 0 n) ((0 + n) ∷ []) ∙ ap (λ x. merged_below rows chains n ++ flat_map f (x ∷ [])) here ∙ ap (λ ls. merged_below rows chains n ++ ls) (append-nil (f n))
 
-pub merged-links : (o : Overlay) (chains : List (List Entry)) → IsOverlay o → AreChainsOf (length o.rows) (links_in o.rows 0 (length o.rows)) 0 chains → AreLinks o (merged_below o.rows chains (length o.rows))
+pub merged-links : (o : Overlay) (chains : List (List Entry)) → IsOverlay o → AreChainsOfRows o.rows chains → AreLinks o (merged_below o.rows chains (length o.rows))
 merged-links o chains is are = record { all = all; no_later = no_later }
   where
     n : ℕ

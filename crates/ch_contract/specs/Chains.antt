@@ -62,6 +62,10 @@ pub record AreChainsOf (nodes : ℕ) (links : List Link) (least : ℕ) (chains :
   pub rise : (x : ℕ) → x < nodes → AllPairs (λ a b. a.other ≤ b.other) (slice_index_or chains x [])
   pub above : (x : ℕ) → x < nodes → All (λ e. least ≤ e.other) (slice_index_or chains x [])
 
+-- the chains are the links that the rows have into their nodes
+abbrev pub AreChainsOfRows : List Row → List (List Entry) → Type 0
+AreChainsOfRows rows = AreChainsOf (length rows) (links_in rows 0 (length rows)) 0
+
 -- the links of the rows and chains of the first nodes
 abbrev pub merged_below : List Row → List (List Entry) → ℕ → List Link
 merged_below rows chains n = flat_map (λ x. map (link_out x) (merged_by_other (row_at rows x).out (slice_index_or chains x []))) (range_with_len 0 n)

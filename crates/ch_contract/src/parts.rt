@@ -2,7 +2,7 @@ ghost use Rattle.std.specs.Prelude.{◌<◌, ◌++◌, List, All, IfOk, length, 
 ghost use Rattle.ch_graph.specs.declared.link.Link.{Link};
 ghost use Rattle.ch_laws.specs.Contraction.{IsOver};
 ghost use Rattle.ch_overlay.specs.Overlay.{state_of};
-ghost use Rattle.ch_contract.specs.Chains.{AreChainsOf, links_in};
+ghost use Rattle.ch_contract.specs.Chains.{AreChainsOf, AreChainsOfRows};
 ghost use Rattle.ch_contract.specs.Finish.{AreRanks, AreLinks, link_in};
 
 use crate::chains::Chains;
@@ -28,9 +28,9 @@ pub fn ranks_of(alloc: Global, overlay: &Overlay) -> Result<Vec<u32>, AllocError
 
 /// The links that all rows of an overlay tell of, by their ends.
 ///
-/// Those into a node of a row are put in chains by the nodes that they leave, and each chain is merged with the row of its
-/// node, so that nothing is sorted: it takes time by the number of nodes and links. Takes memory for the links once, as
-/// many as there are, and while it works 32 bytes for each link into the node of its row and 8 for each node.
+/// What rows tell of arcs into their nodes is put in chains, by the nodes that the arcs leave. Each chain rises, and is merged
+/// with the row of its node, so that nothing is sorted: it takes time by the number of nodes and links. Takes memory for the
+/// links once, as many as there are, and while it works 32 bytes for each of those arcs and 8 for each node.
 pub fn links_of(alloc: Global, overlay: &Overlay) -> Result<Vec<Link>, AllocError>
     ensures { IfOk result (λ links. AreLinks overlay.now links.items) }
 {
@@ -51,7 +51,7 @@ fn merge_rows(
     chains: &Chains,
     room: usize,
 ) -> Result<Vec<Link>, AllocError>
-    requires { AreChainsOf (length overlay.now.rows) (links_in overlay.now.rows 0 (length overlay.now.rows)) 0 chains.now }
+    requires { AreChainsOfRows overlay.now.rows chains.now }
     ensures { IfOk result (λ links. AreLinks overlay.now links.items) }
 {
     let mut links = Vec::with_capacity(alloc, room)?;
@@ -61,9 +61,10 @@ fn merge_rows(
     Ok(links)
 }
 
-/// The links into the nodes of all rows in chains, which rise, with room for so many.
+/// The arcs into the nodes of all rows in chains by the nodes that they leave, with room for so many. The nodes are taken from
+/// the last to the first, so that each chain rises.
 fn chain_rows(alloc: Global, overlay: &Overlay, room: usize) -> Result<Chains, AllocError>
-    ensures { IfOk result (AreChainsOf (length overlay.now.rows) (links_in overlay.now.rows 0 (length overlay.now.rows)) 0) }
+    ensures { IfOk result (AreChainsOfRows overlay.now.rows) }
 {
     let nodes = overlay.nodes();
     let mut chains = Chains::new(alloc, nodes, room)?;
@@ -74,13 +75,19 @@ fn chain_rows(alloc: Global, overlay: &Overlay, room: usize) -> Result<Chains, A
     Ok(chains)
 }
 
-/// Puts the links into the node of a row into chains whose links come to higher nodes.
+/// Puts the arcs into the node of a row before those of the chains, which come to nodes that are not below it.
 fn chain_row(chains: &mut Chains, node: u32, inn: &[Entry]) -> Result<(), AllocError>
     requires { All (λ e. e.other < length chains.old) inn.now }
     ensures { IfOk result (λ _. (links : List Link) → AreChainsOf (length chains.old) links node chains.old → AreChainsOf (length chains.old) (map (link_in node) inn.now ++ links) node chains.new) }
 {
     for entry in inn {
-        chains.push(entry.other, Entry { other: node, ..*entry })?;
+        chains.push(
+            entry.other,
+            Entry {
+                other: node,
+                ..*entry
+            },
+        )?;
     }
     Ok(())
 }

@@ -39,13 +39,13 @@ loop-done-preserved c =
     let count : length c.loop-done.chains ≡ length rows = c.loop-done.invariant.are.count in
     let inn : c.as_slice.result.now ≡ (row_at rows node).inn = c.as_slice.ensures.value ∙ ap (λ (r : Row). r.inn) (c.behind-row.view_is ∙ c.deref.ensures ∙ c.row.ensures) in
     let old : AreChainsOf (length rows) (links_in rows (node + 1) done) node c.loop-done.chains =
-        chains-from (length rows) (links_in rows (node + 1) done) (n - done) node c.loop-done.chains (omega arith)
-        (subst (λ k. AreChainsOf (length rows) (links_in rows k done) (n - done) c.loop-done.chains) (sym above) c.loop-done.invariant.are) in
+    chains-from (length rows) (links_in rows (node + 1) done) (n - done) node c.loop-done.chains (omega arith)
+    (subst (λ k. AreChainsOf (length rows) (links_in rows k done) (n - done) c.loop-done.chains) (sym above) c.loop-done.invariant.are) in
     let put = c.in_ok-chain_row.ensures (links_in rows (node + 1) done) (subst (λ m. AreChainsOf m (links_in rows (node + 1) done) node c.loop-done.chains) (sym count) old) in
     let new : AreChainsOf (length rows) (links_in rows node (done + 1)) node c.chain_row.new.chains =
-        subst (λ (ls : List Link). AreChainsOf (length rows) ls node c.chain_row.new.chains) (sym (links_in-more rows node done))
-        (subst (λ (es : List Entry). AreChainsOf (length rows) (map (link_in node) es ++ links_in rows (node + 1) done) node c.chain_row.new.chains) inn
-        (subst (λ m. AreChainsOf m (map (link_in node) c.as_slice.result.now ++ links_in rows (node + 1) done) node c.chain_row.new.chains) count put)) in
+    subst (λ (ls : List Link). AreChainsOf (length rows) ls node c.chain_row.new.chains) (sym (links_in-more rows node done))
+    (subst (λ (es : List Entry). AreChainsOf (length rows) (map (link_in node) es ++ links_in rows (node + 1) done) node c.chain_row.new.chains) inn
+    (subst (λ m. AreChainsOf m (map (link_in node) c.as_slice.result.now ++ links_in rows (node + 1) done) node c.chain_row.new.chains) count put)) in
     record {
       nodes = c.loop-done.invariant.nodes;
       holds = c.loop-done.invariant.holds;
