@@ -55,10 +55,14 @@ class Measured:
         found = self.least(network, f"search {name} {kind}")
         return None if found is None else found * 1e6 / FEW
 
-    def fewest(self, network):
-        """The fewest rounds of a job, but for the searches that have one alone."""
-        jobs = [rows for (name, job), rows in self.runs.items() if name == network and job.split()[1:2] not in ONE_ROUND]
-        return min(map(len, jobs), default=0)
+    def rounds(self):
+        """How many rounds the jobs of each kind had, from the fewest to the most, but for the searches that have one alone."""
+        told = {}
+        for (_, job), rows in self.runs.items():
+            kind, *others = job.split()
+            if others[:1] not in ONE_ROUND:
+                told.setdefault(kind.removesuffix(".cpp"), []).append(len(rows))
+        return {kind: (min(counts), max(counts)) for kind, counts in told.items()}
 
     def names(self):
         return list(self.networks)
@@ -102,13 +106,11 @@ def table(heads, rows):
 def when(measured):
     first, last = (f(row["when"] for row in measured.rows)[:16].replace("T", " ") for f in (min, max))
     loads = [float(row["load"]) for row in measured.rows]
-    rounds = max(int(row["round"]) for row in measured.rows)
-    told = f"Measured from {first} to {last} (UTC), one program at a time, in {rounds} round{'s' * (rounds > 1)}, on a machine of "
+    rounds = measured.rounds()
+    told = f"Measured from {first} to {last} (UTC), one program at a time, on a machine of "
     told += f"{measured.about['machine']}; {measured.about['system']}. It is `{measured.about['version']}`. "
-    told += f"The load after a run was {min(loads):.1f} to {max(loads):.1f}, of which the run itself is a part."
-    fewer = [measured.title(name) for name in measured.names() if measured.fewest(name) < rounds]
-    if fewer:
-        told += f" Some jobs had fewer rounds, at {'; '.join(fewer)} nodes."
+    told += f"The load after a run was {min(loads):.1f} to {max(loads):.1f}, of which the run itself is a part. Rounds: "
+    told += ", ".join(f"`{kind}` {few}" + (f" to {most}" if most > few else "") for kind, (few, most) in rounds.items()) + "."
     return textwrap.fill(told, 122, break_long_words=False, break_on_hyphens=False)
 
 
