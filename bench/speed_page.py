@@ -236,7 +236,9 @@ def draw(measured, file):
     for axes, title, unit in [(left, "prepare", "seconds"), (right, "a random pair", "millionths of a second")]:
         axes.set(xscale="log", yscale="log", title=title, xlabel="nodes", ylabel=unit)
         axes.grid(True, which="major", alpha=0.3)
-        axes.legend(fontsize=8)
+        low, high = axes.get_ylim()
+        axes.set_ylim(low, high * (high / low) ** 0.25)  # room for the legend above all lines
+        axes.legend(fontsize=8, ncols=2, loc="upper left")
     figure.tight_layout()
     figure.savefig(file, metadata={"Date": None, "Creator": None})
 
