@@ -1,0 +1,482 @@
+ghost use Rattle.std.specs.Prelude.{◌≤◌, length};
+
+use ch_graph::{Graph, Road};
+use grfile::{
+    GrError, GrErrorKind, GrReader, QueryReader, read_graph, read_graph_within, read_queries,
+};
+use std::alloc::Global;
+use std::io;
+use test_kit::Uneven;
+
+/// What a text has to say.
+#[derive(Clone, Copy)]
+enum Wanted {
+    Graph(u32, &'static [Road]),
+    Pairs(&'static [(u32, u32)]),
+    Fault(GrErrorKind, u64),
+}
+
+/// A text, and what it has to say.
+type Case = (&'static [u8], Wanted);
+
+const SEVEN: &[Road] = &[Road {
+    from: 0,
+    to: 1,
+    weight: 7,
+}];
+
+const FREE: &[Road] = &[Road {
+    from: 0,
+    to: 1,
+    weight: 0,
+}];
+
+const PARALLEL: &[Road] = &[
+    Road {
+        from: 0,
+        to: 0,
+        weight: 12,
+    },
+    Road {
+        from: 0,
+        to: 1,
+        weight: 9,
+    },
+    Road {
+        from: 0,
+        to: 1,
+        weight: 4,
+    },
+    Road {
+        from: 0,
+        to: 1,
+        weight: 4_294_967_295,
+    },
+];
+
+/// Blanks and line ends, then a weight of 0, loops and parallel arcs in order, then no arcs.
+const GRAPHS: [Case; 11] = [
+    (
+        b"c x\r\n\r\np\tsp 02 01\r\na  1\t2 007 ",
+        Wanted::Graph(2, SEVEN),
+    ),
+    (b"p sp 2 1\na 1 2 7", Wanted::Graph(2, SEVEN)),
+    (b"p sp 2 1\na 1 2 7\n", Wanted::Graph(2, SEVEN)),
+    (b"p sp 2 1\r\na 1 2 7\r", Wanted::Graph(2, SEVEN)),
+    (
+        b"\n\r\n \t \r\ncomment\n\tp  sp\t2 1\n c \xff 1\n\na 1 2 7\nc\xfe\r",
+        Wanted::Graph(2, SEVEN),
+    ),
+    (
+        b"p sp 000000000000000000000000000002 1\na 01 02 00000000000000000000000000000007",
+        Wanted::Graph(2, SEVEN),
+    ),
+    // A weight of 0.
+    (b"p sp 2 1\na 1 2 000", Wanted::Graph(2, FREE)),
+    // Loops and parallel arcs, in order.
+    (
+        b"p sp 2 4\na 1 1 12\na 1 2 9\na 1 2 4\nc\na 1 2 4294967295\n",
+        Wanted::Graph(2, PARALLEL),
+    ),
+    // No arcs.
+    (b"p sp 0 0", Wanted::Graph(0, &[])),
+    (b"p sp 1 0\n", Wanted::Graph(1, &[])),
+    (b"p sp 33554432 0\n", Wanted::Graph(33_554_432, &[])),
+];
+
+/// Places of lines.
+const PLACES: [Case; 11] = [
+    (b"", Wanted::Fault(GrErrorKind::NoProblemLine, 0)),
+    (b"c\n\n", Wanted::Fault(GrErrorKind::NoProblemLine, 2)),
+    (b"a 1 2 7", Wanted::Fault(GrErrorKind::NoProblemLine, 1)),
+    (b"a", Wanted::Fault(GrErrorKind::NoProblemLine, 1)),
+    (
+        b"p sp 2 1\np sp 2 1\n",
+        Wanted::Fault(GrErrorKind::SecondProblemLine, 2),
+    ),
+    (
+        b"p sp 2 0\nc\np",
+        Wanted::Fault(GrErrorKind::SecondProblemLine, 3),
+    ),
+    (
+        b"p sp 2 2\na 1 2 7\n",
+        Wanted::Fault(GrErrorKind::ArcCount, 2),
+    ),
+    (
+        b"p sp 2 2\na 1 2 7\nc",
+        Wanted::Fault(GrErrorKind::ArcCount, 3),
+    ),
+    (
+        b"p sp 2 0\na 1 2 7\n",
+        Wanted::Fault(GrErrorKind::ArcCount, 2),
+    ),
+    (b"p sp 2 0\na\n", Wanted::Fault(GrErrorKind::ArcCount, 2)),
+    (
+        b"p sp 0 134217728\n",
+        Wanted::Fault(GrErrorKind::ArcCount, 1),
+    ),
+];
+
+/// Kinds and fields of lines.
+const KINDS: [Case; 12] = [
+    (b"x", Wanted::Fault(GrErrorKind::UnknownLine, 1)),
+    (b"pp sp 2 1", Wanted::Fault(GrErrorKind::UnknownLine, 1)),
+    (b"p max 2 1", Wanted::Fault(GrErrorKind::UnknownLine, 1)),
+    (b"p max x y", Wanted::Fault(GrErrorKind::UnknownLine, 1)),
+    (
+        b"p sp 2 1\nab 1 2 7",
+        Wanted::Fault(GrErrorKind::UnknownLine, 2),
+    ),
+    (
+        b"p sp 2 1\nq 1 2",
+        Wanted::Fault(GrErrorKind::UnknownLine, 2),
+    ),
+    (
+        b"p sp 2 1\n\ra 1 2 7",
+        Wanted::Fault(GrErrorKind::UnknownLine, 2),
+    ),
+    (b"p max 2", Wanted::Fault(GrErrorKind::FieldCount, 1)),
+    (b"p sp 2 1 1", Wanted::Fault(GrErrorKind::FieldCount, 1)),
+    (
+        b"p sp 2 1\na 1 2",
+        Wanted::Fault(GrErrorKind::FieldCount, 2),
+    ),
+    (
+        b"p sp 2 1\na 1 2 7 c",
+        Wanted::Fault(GrErrorKind::FieldCount, 2),
+    ),
+    (
+        b"c\r\np sp 2 2\na 1 2 7\na 1 2\n",
+        Wanted::Fault(GrErrorKind::FieldCount, 4),
+    ),
+];
+
+/// Numbers and ranges of a problem line.
+const PROBLEMS: [Case; 7] = [
+    (b"p sp x 1", Wanted::Fault(GrErrorKind::NotANumber, 1)),
+    (
+        b"p sp 33554433 -1",
+        Wanted::Fault(GrErrorKind::NotANumber, 1),
+    ),
+    (b"p sp 2 1\r\r\n", Wanted::Fault(GrErrorKind::NotANumber, 1)),
+    (
+        b"p sp 33554433 134217729",
+        Wanted::Fault(GrErrorKind::TooManyNodes, 1),
+    ),
+    (
+        b"p sp 99999999999999999999999999999999 0",
+        Wanted::Fault(GrErrorKind::TooManyNodes, 1),
+    ),
+    (
+        b"p sp 2 134217729",
+        Wanted::Fault(GrErrorKind::TooManyArcs, 1),
+    ),
+    (
+        b"p sp 2 18446744073709551616",
+        Wanted::Fault(GrErrorKind::TooManyArcs, 1),
+    ),
+];
+
+/// Numbers and ranges of an arc line.
+const ARCS: [Case; 9] = [
+    (
+        b"p sp 2 1\na 1 3 7",
+        Wanted::Fault(GrErrorKind::NodeRange, 2),
+    ),
+    (
+        b"p sp 2 1\na 3 1 0",
+        Wanted::Fault(GrErrorKind::NodeRange, 2),
+    ),
+    (
+        b"p sp 2 1\na 0 2 7",
+        Wanted::Fault(GrErrorKind::NodeRange, 2),
+    ),
+    (
+        b"p sp 2 1\na 18446744073709551617 2 7",
+        Wanted::Fault(GrErrorKind::NodeRange, 2),
+    ),
+    (
+        b"p sp 2 1\na 0 2 x",
+        Wanted::Fault(GrErrorKind::NotANumber, 2),
+    ),
+    (
+        b"p sp 2 1\na 1 2 7x",
+        Wanted::Fault(GrErrorKind::NotANumber, 2),
+    ),
+    (
+        b"p sp 2 1\na 1 2 +7",
+        Wanted::Fault(GrErrorKind::NotANumber, 2),
+    ),
+    (
+        b"p sp 2 1\na 1 2 4294967296",
+        Wanted::Fault(GrErrorKind::WeightTooBig, 2),
+    ),
+    (
+        b"p sp 2 1\na 1 2 18446744073709551623",
+        Wanted::Fault(GrErrorKind::WeightTooBig, 2),
+    ),
+];
+
+const PAIRS: [Case; 14] = [
+    (
+        b"c\np aux sp p2p 3\r\nq 1 3\n\nq\t3 3\r\nc\nq 2 01 ",
+        Wanted::Pairs(&[(0, 2), (2, 2), (1, 0)]),
+    ),
+    (b"p aux sp p2p 0", Wanted::Pairs(&[])),
+    (b"", Wanted::Fault(GrErrorKind::NoProblemLine, 0)),
+    (b"q 1 1", Wanted::Fault(GrErrorKind::NoProblemLine, 1)),
+    (b"p sp 2 1", Wanted::Fault(GrErrorKind::FieldCount, 1)),
+    (b"p aux sp sp 1", Wanted::Fault(GrErrorKind::UnknownLine, 1)),
+    (b"p aux sp p2p x", Wanted::Fault(GrErrorKind::NotANumber, 1)),
+    (
+        b"p aux sp p2p 134217729",
+        Wanted::Fault(GrErrorKind::TooManyArcs, 1),
+    ),
+    (
+        b"p aux sp p2p 1\na 1 1 1",
+        Wanted::Fault(GrErrorKind::UnknownLine, 2),
+    ),
+    (
+        b"p aux sp p2p 1\nq 1 4",
+        Wanted::Fault(GrErrorKind::NodeRange, 2),
+    ),
+    (
+        b"p aux sp p2p 1\nq 0 1",
+        Wanted::Fault(GrErrorKind::NodeRange, 2),
+    ),
+    (
+        b"p aux sp p2p 2\nq 1 1\n",
+        Wanted::Fault(GrErrorKind::ArcCount, 2),
+    ),
+    (
+        b"p aux sp p2p 1\nq 1 1\nq",
+        Wanted::Fault(GrErrorKind::ArcCount, 3),
+    ),
+    (
+        b"p aux sp p2p 1\nq 1",
+        Wanted::Fault(GrErrorKind::FieldCount, 2),
+    ),
+];
+
+fn is_fault(e: GrError, wanted: Wanted) -> bool {
+    match wanted {
+        Wanted::Fault(kind, line) => e.kind == kind && e.line == line,
+        _ => false,
+    }
+}
+
+fn is_graph(answer: Result<Graph, GrError>, wanted: Wanted) -> bool {
+    match (answer, wanted) {
+        (Ok(g), Wanted::Graph(nodes, arcs)) => g.nodes() == nodes && g.arcs() == arcs,
+        (Ok(_), _) => false,
+        (Err(e), wanted) => is_fault(e, wanted),
+    }
+}
+
+fn are_pairs(answer: Result<Vec<(u32, u32)>, GrError>, wanted: Wanted) -> bool {
+    match (answer, wanted) {
+        (Ok(v), Wanted::Pairs(pairs)) => v.as_slice() == pairs,
+        (Ok(_), _) => false,
+        (Err(e), wanted) => is_fault(e, wanted),
+    }
+}
+
+/// The graph of a text that is cut at this place, and byte by byte after it where it says so.
+fn graph_cut(alloc: Global, text: &[u8], at: usize, by_bytes: bool) -> Result<Graph, GrError>
+    requires { at ≤ length text.now }
+{
+    let mut reader = GrReader::new(alloc);
+    reader.feed(&text[..at])?;
+    if by_bytes {
+        for byte in &text[at..] {
+            reader.feed(&[*byte])?;
+        }
+    } else {
+        reader.feed(&text[at..])?;
+    }
+    reader.finish()
+}
+
+/// The pairs of three nodes of a text that is cut as in `graph_cut`.
+fn pairs_cut(
+    alloc: Global,
+    text: &[u8],
+    at: usize,
+    by_bytes: bool,
+) -> Result<Vec<(u32, u32)>, GrError>
+    requires { at ≤ length text.now }
+{
+    let mut reader = QueryReader::new(alloc, 3);
+    reader.feed(&text[..at])?;
+    if by_bytes {
+        for byte in &text[at..] {
+            reader.feed(&[*byte])?;
+        }
+    } else {
+        reader.feed(&text[at..])?;
+    }
+    reader.finish()
+}
+
+/// Whether the graph's text is read as it is said, whole or cut in two at any place, and byte by byte.
+fn is_read(alloc: Global, (text, want): Case) -> bool {
+    for at in 0..text.len() {
+        if !is_graph(graph_cut(alloc, text, at, false), want) {
+            return false;
+        }
+    }
+    is_graph(graph_cut(alloc, text, 0, true), want)
+}
+
+/// Whether each of these texts is read as it is said.
+fn is_each_read(alloc: Global, cases: &[Case]) -> bool {
+    for case in cases {
+        if !is_read(alloc, *case) {
+            return false;
+        }
+    }
+    true
+}
+
+/// Whether the graphs are read.
+fn reads_graphs(alloc: Global) -> bool {
+    is_each_read(alloc, &GRAPHS)
+}
+
+/// Whether the faults of the places of lines are told.
+fn tells_places(alloc: Global) -> bool {
+    is_each_read(alloc, &PLACES)
+}
+
+/// Whether the faults of the kinds and fields of lines are told.
+fn tells_kinds(alloc: Global) -> bool {
+    is_each_read(alloc, &KINDS)
+}
+
+/// Whether the faults of problem lines are told.
+fn tells_problems(alloc: Global) -> bool {
+    is_each_read(alloc, &PROBLEMS)
+}
+
+/// Whether the faults of arc lines are told.
+fn tells_arcs(alloc: Global) -> bool {
+    is_each_read(alloc, &ARCS)
+}
+
+#[test]
+fn graphs_however_cut(rt: HostRuntime) {
+    assert!(rt; reads_graphs(rt.alloc()));
+    assert!(rt; tells_places(rt.alloc()));
+    assert!(rt; tells_kinds(rt.alloc()));
+    assert!(rt; tells_problems(rt.alloc()));
+    assert!(rt; tells_arcs(rt.alloc()));
+}
+
+/// Whether the text of pairs is read as it is said, whole or cut in two at any place, and byte by byte.
+fn are_read(alloc: Global, (text, want): Case) -> bool {
+    for at in 0..text.len() {
+        if !are_pairs(pairs_cut(alloc, text, at, false), want) {
+            return false;
+        }
+    }
+    are_pairs(pairs_cut(alloc, text, 0, true), want)
+}
+
+#[test]
+fn pairs_however_cut(rt: HostRuntime) {
+    for case in PAIRS {
+        assert!(rt; are_read(rt.alloc(), case));
+    }
+}
+
+/// The last answer of a reader that is fed a problem line of another problem and then a long line in pieces.
+fn long_line(alloc: Global) -> Result<Graph, GrError> {
+    let mut reader = GrReader::new(alloc);
+    let mut answer = reader.feed(b"p max 2 1");
+    if answer.is_ok() {
+        answer = reader.feed(b"\n");
+    }
+    let piece = [b'c'; 1000];
+    for _ in 0..1000 {
+        answer = reader.feed(piece.as_slice());
+    }
+    answer?;
+    reader.finish()
+}
+
+#[test]
+fn a_fault_stays_before_a_long_line(rt: HostRuntime) {
+    let answer = long_line(rt.alloc());
+    assert!(rt;
+        matches!(
+            &answer,
+            Err(GrError {
+                kind: GrErrorKind::UnknownLine | GrErrorKind::OutOfMemory,
+                line: 1
+            })
+        )
+    );
+}
+
+/// More calls than any reader here gets.
+const MANY: u64 = 1 << 40;
+
+/// Whether a reader that fails at this call, 0 for none, is read so by so many calls.
+fn is_read_so(alloc: Global, text: &[u8], fails_at: u32, calls: u64, wanted: Wanted) -> bool {
+    let mut reader = Uneven::new(text, 3, u64::from(fails_at));
+    is_graph(read_graph_within(alloc, &mut reader, calls), wanted)
+}
+
+/// Whether the faults of a reader that fails, or may not be called again, are of the lines that were reached.
+fn fails_at_lines(alloc: Global) -> bool {
+    let text = b"c\n\nc y\n".as_slice();
+    for (fails_at, before, line) in [
+        (1, 0, 1),
+        (2, 1, 1),
+        (4, 3, 2),
+        (5, 4, 3),
+        (10, 9, 3),
+        (11, 10, 4),
+    ] {
+        let wanted = Wanted::Fault(GrErrorKind::Read, line);
+        if !is_read_so(alloc, text, fails_at, MANY, wanted)
+            || !is_read_so(alloc, text, 0, before, wanted)
+        {
+            return false;
+        }
+    }
+    true
+}
+
+#[test]
+fn readers(rt: HostRuntime) {
+    let seven = Wanted::Graph(2, SEVEN);
+    assert!(rt; is_read_so(rt.alloc(), b"p sp 2 1\na 1 2 7\n", 0, MANY, seven));
+    assert!(rt; fails_at_lines(rt.alloc()));
+    let mut failing = Uneven::new(b"p aux sp p2p 0".as_slice(), 3, 2);
+    let read = read_queries(rt.alloc(), &mut failing, 1);
+    assert!(rt; are_pairs(read, Wanted::Fault(GrErrorKind::Read, 1)));
+    let mut text = b"p sp 2 1\na 1 2 7\n".as_slice();
+    assert!(rt; is_graph(read_graph(rt.alloc(), &mut text), seven));
+    let mut text = b"p aux sp p2p 1\nq 2 1\n".as_slice();
+    let read = read_queries(rt.alloc(), &mut text, 2);
+    assert!(rt; are_pairs(read, Wanted::Pairs(&[(1, 0)])));
+}
+
+#[test]
+fn printed_refusals(rt: HostRuntime) -> io::Result<()> {
+    let e = GrError {
+        kind: GrErrorKind::WeightTooBig,
+        line: 12,
+    };
+    assert!(rt; e.to_string(rt.alloc())?.as_str() == "WeightTooBig line 12");
+    assert!(rt; e.kind.to_string(rt.alloc())?.as_str() == "WeightTooBig");
+    let numbers = (
+        GrErrorKind::OutOfMemory as u8,
+        GrErrorKind::NodeRange as u8,
+        GrErrorKind::WeightTooBig as u8,
+        GrErrorKind::ArcCount as u8,
+    );
+    assert!(rt; numbers == (1, 8, 10, 13));
+    Ok(())
+}

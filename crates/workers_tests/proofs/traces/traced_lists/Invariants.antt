@@ -1,5 +1,0 @@
-use Rattle.std.proofs.Common.{◌≡◌, [], All}
-use Rattle.workers_tests.proofs.traces.traced_lists.Given as goal
-
-abbrev pub invariant-workers : goal.invariant-workers
-invariant-workers g l = All (λ list. All (λ e. (goal.Estimator-dyn g (e.vtable, e.value)).heard e.value ≡ []) list.items) l.lists.items
