@@ -4,7 +4,6 @@ pub mod FromBuild
 pub mod JoinedFaults
 pub mod JoinedLines
 pub mod LineFeeds
-pub mod Naming
 pub mod Prepared
 pub mod Progress
 pub mod Refusals

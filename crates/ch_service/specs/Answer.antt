@@ -1,29 +1,9 @@
 -- Answered texts: one line for each pair of nodes, in their order.
-use Rattle.std.specs.Prelude.{ℕ, ◌≡◌, ◌+◌, ◌-◌, List, [], ◌∷◌, ◌++◌, length, map, take, codes, decimal, Option, Some, None, Ok}
-use Rattle.std.specs.List.{concat}
-use Rattle.ch_cost.specs.Cost.{length_of}
+use Rattle.std.specs.Prelude.{ℕ, ◌≡◌, List, [], ◌∷◌, ◌++◌, take, Option, Ok}
 use Rattle.ch_graph.specs.Graph.{Graph}
 pub use Rattle.ch_route.specs.Routes.{Route, IsLeastWalk, HasFewestArcs, IsFewestWalk}
+pub use Rattle.ch_answer.specs.Line.{named, told, line_of, IsAnswer}
 use Rattle.grfile.specs.Reading.{graph_of, pairs_of}
-
--- nodes as a text names them, numbered from 1, a space before each
-abbrev pub named : List ℕ → List ℕ
-named nodes = concat (map (λ (n : ℕ). codes " " ++ decimal (n + 1)) nodes)
-
--- what a line tells of a route: its length, how many arcs it has, and its nodes
-abbrev pub told : Route → List ℕ
-told r = codes " " ++ decimal (length_of r.cost) ++ codes " " ++ decimal (length r.nodes - 1) ++ named r.nodes
-
--- the line of a pair and its route, or that there is none
-abbrev pub line_of : ℕ × ℕ → Option Route → List ℕ
-line_of pair (Some r) = codes "r" ++ named (pair.0 ∷ pair.1 ∷ []) ++ told r ++ codes "\n"
-line_of pair None = codes "n" ++ named (pair.0 ∷ pair.1 ∷ []) ++ codes "\n"
-
--- the line answers the pair: it tells a route from the first node to the second, of the kind that is asked for
-pub record IsAnswer (IsRoute : ℕ → ℕ → Option Route → Type 0) (pair : ℕ × ℕ) (line : List ℕ) : Type 0 where
-  pub route : Option Route
-  pub leads : IsRoute pair.0 pair.1 route
-  pub tells : line ≡ line_of pair route
 
 -- the text has one answer for each pair, in order, and nothing else
 pub data AreAnswers (IsRoute : ℕ → ℕ → Option Route → Type 0) : List (ℕ × ℕ) → List ℕ → Type 0 where

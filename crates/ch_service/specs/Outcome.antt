@@ -1,6 +1,7 @@
 -- What an answering call has done where it refuses.
-use Rattle.std.specs.Prelude.{ℕ, ◌≡◌, ◌<◌, ◌⊎◌, ⊤, List, take, length, Option, Some, IfSome, Ok, Err}
-use Rattle.std.specs.Io.KnownBytes.{Appends, Keeps}
+use Rattle.std.specs.Prelude.{ℕ, ◌≡◌, ◌⊎◌, ⊤, List, length, Option, Some, IfSome, Ok, Err}
+use Rattle.std.specs.Io.KnownBytes.{Keeps}
+pub use Rattle.ch_answer.specs.Written.{IfTold, Writes, WritesFirst}
 use Rattle.ch_graph.specs.Graph.{Graph}
 use Rattle.ch_graph.specs.Hierarchy.{Hierarchy}
 use Rattle.grfile.specs.Outcome.{FromText, next_line}
@@ -17,18 +18,6 @@ use Rattle.ch_unpack.specs.declared.error.UnpackError.TheVariants as unpacking
 use Rattle.ch_unpack.specs.declared.error.UnpackError.TheVariants.{TooLong}
 use Rattle.ch_service.specs.Joined.{graph_part, pairs_part}
 use Rattle.ch_service.specs.Route.{Spells, HasTooLong}
-
--- a fact of two texts, where both readers tell theirs
-abbrev pub IfTold : Option (List ℕ) → Option (List ℕ) → (List ℕ → List ℕ → Type 0) → Type 0
-IfTold graph pairs P = IfSome graph (λ graph_text. IfSome pairs (λ pairs_text. P graph_text pairs_text))
-
--- the writer took a text of this kind, and nothing else
-abbrev pub Writes : (List ℕ → Type 0) → Option (List ℕ) → Option (List ℕ) → Type 0
-Writes P old new = (text : List ℕ) × P text × Appends old new text
-
--- the writer took so many bytes of a text of this kind, from the first on, but not all
-abbrev pub WritesFirst : (List ℕ → Type 0) → Option (List ℕ) → Option (List ℕ) → ℕ → Type 0
-WritesFirst P old new written = (text : List ℕ) × P text × (written < length text) × Appends old new (take written text)
 
 -- the text spells a graph
 abbrev pub IsGraphText : List ℕ → Type 0

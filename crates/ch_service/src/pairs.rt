@@ -5,8 +5,7 @@ ghost use Rattle.ch_service.specs.Outcome.{Writes, StopsShort, IsPairFault, Come
 ghost use Rattle.ch_service.specs.Route.{IsRouteBy, Routed, StopsAtTooLong};
 
 use crate::error::ServiceError;
-use crate::line::push_line;
-use crate::output::Output;
+use ch_answer::{Output, push_line};
 use ch_graph::Hierarchy;
 use ch_route::Router;
 use std::alloc::Global;

@@ -1,6 +1,0 @@
-use Rattle.std.proofs.Common.{◌≡◌, ◌++◌, take}
-use Rattle.ch_service.specs.Answer.{named}
-use Rattle.ch_service.proofs.line.push_nodes.Given as goal
-
-abbrev pub invariant-nodes : goal.invariant-nodes
-invariant-nodes l = l.lines.items ≡ l.fn.lines.items ++ named (take l.node-index l.nodes)
