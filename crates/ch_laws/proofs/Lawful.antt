@@ -3,7 +3,7 @@ use Rattle.std.proofs.Common.{ℕ, ◌≡◌, true, false, nat_eq, List, [], ◌
 use Rattle.std.proofs.lemmas.Bool.{cases_eq}
 use Rattle.std.proofs.lemmas.Bool.Decides.{nat_tests}
 use Rattle.ch_laws.specs.declared.shortcut.Shortcut.{Shortcut}
-use Rattle.ch_laws.specs.Contraction.{State, StateArc, IsFor, NoShortcut, shortcut_arc, or_else}
+use Rattle.ch_laws.specs.Contraction.{StateArc, IsFor, NoShortcut, shortcut_arc, or_else}
 use Rattle.ch_laws.specs.Theorems.{ReachesOn, PlanIsLawful}
 use Rattle.ch_laws.specs.Orders.{run_push}
 use Rattle.ch_laws.specs.Members.{pairs_first, pairs_later, contains_first, contains_later, contains_cases}
