@@ -12,7 +12,7 @@ use Rattle.ch_overlay.specs.declared.source.Seen.{Seen}
 use Rattle.ch_overlay.specs.Source.{row_in}
 use Rattle.ch_witness.specs.declared.way.Way.{Way}
 use Rattle.ch_witness.specs.Kept.{HasAll, IsKept, Kept}
-use Rattle.ch_witness.specs.Ways.{AreWays, IsFound, IsStartRow, way_at}
+use Rattle.ch_witness.specs.Ways.{AreWays, IsFound, IsStartRead, way_at}
 use Rattle.ch_contract.specs.declared.draft.Draft.{Draft}
 use Rattle.ch_contract.specs.Listed.{AreNamed, IsNamedBy, Parts}
 use Rattle.ch_contract.specs.Proposal.{ShortcutBefore}
@@ -79,7 +79,7 @@ pub record AreSearched (v u : ℕ) (pairs : List Shortcut) (kept : Kept) (old ne
   pub ways : List (Option Way)
   pub found : AreWays rows u v cutoff (map (λ p. p.to) pairs) ways
   pub most : (p : Shortcut) → Contains pairs p → p.cost ≼ cutoff
-  pub direct : (k : ℕ) → k < length (map (λ (p : Shortcut). p.to) pairs) → slice_index (map (λ (p : Shortcut). p.to) pairs) k ≢ u → (s : Seen) × IsKept kept s × IsStartRow rows u cutoff (map (λ p. p.to) pairs) ways s
+  pub direct : (k : ℕ) → k < length (map (λ (p : Shortcut). p.to) pairs) → slice_index (map (λ (p : Shortcut). p.to) pairs) k ≢ u → (s : Seen) × IsKept kept s × IsStartRead rows u cutoff (map (λ p. p.to) pairs) ways s
   pub rows_kept : All (IsKept kept) rows
   pub judged : AreJudged pairs ways (length pairs) old new
 

@@ -2,7 +2,7 @@
 ghost use Rattle.std.specs.Prelude.{◌≡◌, ◌<◌, All, IfOk, length, map};
 ghost use Rattle.std.specs.Arc.{arc_value};
 ghost use Rattle.ch_overlay.specs.Change.{puts};
-ghost use Rattle.ch_overlay.specs.Records.{IsSoundRow, row_of};
+ghost use Rattle.ch_overlay.specs.Records.{IsSoundRow, recorded_row};
 ghost use Rattle.ch_rowbook.specs.Showing.{IsShowable, of_node};
 
 use crate::book::Book;
@@ -35,7 +35,7 @@ impl<B: Book> Pen<B> {
         requires rows { All (λ a. IsSoundRow B.book.bound a.0 (arc_value a.1)) rows.now }
         ensures versions { self.new.versions ≡ self.old.versions }
         ensures rows { self.new.rows ≡ self.old.rows }
-        ensures laid { IfOk result (λ all. map (λ l. of_node l.node (row_of l.token.value)) all.items ≡ map (λ a. of_node a.0 (arc_value a.1)) rows.now) }
+        ensures laid { IfOk result (λ all. map (λ l. of_node l.node (recorded_row l.token.value)) all.items ≡ map (λ a. of_node a.0 (arc_value a.1)) rows.now) }
         ensures showable { IfOk result (λ all. IsShowable self.new.versions self.new.next (map (λ l. l.token.index) all.items)) }
     {
         self.known();
@@ -55,7 +55,7 @@ impl<B: Book> Pen<B> {
     pub fn show_all(&mut self, laid: &[Laid<B>])
         requires { IsShowable self.old.versions self.old.next (map (λ l. l.token.index) laid.now) }
         ensures versions { self.new.versions ≡ puts self.old.versions (map (λ l. (l.node, l.token.index)) laid.now) }
-        ensures rows { self.new.rows ≡ puts self.old.rows (map (λ l. of_node l.node (row_of l.token.value)) laid.now) }
+        ensures rows { self.new.rows ≡ puts self.old.rows (map (λ l. of_node l.node (recorded_row l.token.value)) laid.now) }
         ensures next { self.new.next ≡ self.old.next }
     {
         self.known();
