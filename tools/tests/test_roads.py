@@ -6,7 +6,7 @@ import subprocess
 import textwrap
 from unittest import mock
 
-from tool_case import TOOLS, ToolCase, roads
+from tool_case import TAKES_SIGNALS, TOOLS, ToolCase, roads
 
 
 class RoadsCase(ToolCase):
@@ -89,7 +89,7 @@ class Ends(RoadsCase):
         text = "import sys\nsys.path.insert(0, sys.argv[1])\nimport roads\ndef main():\n"
         script = self.write("tool", text + textwrap.indent(textwrap.dedent(body), "    ") + "\nroads.run(main)\n")
         streams = {"stdout": subprocess.PIPE, "stderr": subprocess.PIPE, **streams}
-        return subprocess.Popen(["/usr/bin/python3", script, TOOLS], cwd=self.folder, encoding="utf-8", **streams)
+        return subprocess.Popen([*TAKES_SIGNALS, "/usr/bin/python3", script, TOOLS], cwd=self.folder, encoding="utf-8", **streams)
 
     def assert_ends(self, child, status, says):
         stdout, stderr = child.communicate(timeout=60)

@@ -13,7 +13,7 @@ import subprocess
 import sys
 import time
 
-from tool_case import TOOLS, ToolCase, roads
+from tool_case import TAKES_SIGNALS, TOOLS, ToolCase, roads
 
 import parts
 
@@ -117,7 +117,7 @@ class RouteManyCase(ToolCase):
     def start(self, words, log):
         """A process that runs beside the test, its output into a file, and that is killed at the test's end."""
         with open(self.folder / log, "wb") as file:
-            words = ["/usr/bin/env", "--default-signal=INT", *map(str, words)]
+            words = [*TAKES_SIGNALS, *map(str, words)]
             process = subprocess.Popen(words, cwd=self.folder, stdin=subprocess.DEVNULL, stdout=file, stderr=file)
         self.addCleanup(end, process)
         self.before = sorted({*self.before, log})

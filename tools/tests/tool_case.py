@@ -11,6 +11,10 @@ TOOLS = pathlib.Path(__file__).resolve().parent.parent
 VILLAGE = TOOLS / "tests/village.osm"
 sys.path.insert(0, str(TOOLS))
 
+# Before the words of a program that is sent signals. What a test inherits may ignore them, as a shell's background job
+# does, and Python makes no KeyboardInterrupt of an interrupt that it was started to ignore.
+TAKES_SIGNALS = ["/usr/bin/env", "--default-signal=HUP,INT,QUIT,TERM"]
+
 import roads  # noqa: E402  (found by the path above)
 
 
