@@ -24,7 +24,7 @@ use Rattle.ch_witness.specs.Kept.{HasAll, Kept, IsKept}
 use Rattle.ch_witness.specs.Ways.{AreWays, IsFound, IsStartRead, IsWay, way_at}
 use Rattle.ch_contract.specs.declared.draft.Draft.{Draft}
 use Rattle.ch_contract.specs.Listed.{HasInner, IsInnerOf, IsNamedBy, LeadsOn, NeedsWay, Parts, ends}
-use Rattle.ch_contract.specs.Drafts.{Agrees, AreJudged, ArePairs, IsDraftedFrom, IsInner, IsJoined, IsJudgedBy, IsPairOf, IsPairPart, Lengthens, over}
+use Rattle.ch_contract.specs.Drafts.{AgreesWithKept, AreJudged, ArePairs, IsDraftedFrom, IsInner, IsJoined, IsJudgedBy, IsPairOf, IsPairPart, Lengthens, over}
 use Rattle.ch_contract.proofs.Drafting.{inner_leaves, inner_moved}
 use Rattle.ch_contract.proofs.PartByPart.{parts_at, parts_compose, parts_first, parts_from, parts_map, parts_none}
 use Rattle.ch_overlay.specs.Finding.{row_among}
@@ -239,7 +239,7 @@ module _ (bound : Cost) (v : ℕ) (row : Row) (into : Entry) (pairs : List Short
   all_listed : new.listed.items ≡ (old.listed.items ++ into.other ∷ []) ++ judged.more
   all_listed = judged.listed ∙ ap (λ (ns : List ℕ). ns ++ judged.more) longer
 
-  module _ (seen : ℕ → Option Row) (agrees : Agrees seen kept new.listed.items) where
+  module _ (seen : ℕ → Option Row) (agrees : AgreesWithKept seen kept new.listed.items) where
     -- the neighbour's row was read
     first_read : seen into.other ≡ Some (row_in first)
     first_read = agrees into.other first (subst (λ (ns : List ℕ). Contains ns into.other) (sym all_listed) (Contains-append_left (old.listed.items ++ into.other ∷ []) judged.more into.other (Contains-push old.listed.items into.other))) first_kept

@@ -1,4 +1,4 @@
--- Proposals in the making.
+-- Proposals in the making. Contracts of private functions alone cite it.
 use Rattle.std.specs.Prelude.{ℕ, ◌≡◌, ◌≢◌, ◌<◌, ◌≤◌, ◌⊎◌, length, map, take, List, [], ◌∷◌, ◌++◌, Option, Some, None, All, AllPairs, Contains, IsSomeAnd, slice_index}
 use Rattle.std.specs.List.{slice_get}
 use Rattle.ch_cost.specs.declared.cost.Cost.{Cost}
@@ -18,8 +18,8 @@ use Rattle.ch_contract.specs.Listed.{AreNamed, IsNamedBy, Parts}
 use Rattle.ch_contract.specs.Proposal.{ShortcutBefore}
 
 -- for each node of the list it has the row that is kept
-abbrev pub Agrees : (ℕ → Option Row) → Kept → List ℕ → Type 0
-Agrees seen kept listed = (x : ℕ) (s : Seen) → Contains listed x → kept x ≡ Some s → seen x ≡ Some (row_in s)
+abbrev pub AgreesWithKept : (ℕ → Option Row) → Kept → List ℕ → Type 0
+AgreesWithKept seen kept listed = (x : ℕ) (s : Seen) → Contains listed x → kept x ≡ Some s → seen x ≡ Some (row_in s)
 
 -- all of the nodes but the first and the last
 abbrev pub IsInner : List ℕ → List ℕ → Type 0
@@ -98,8 +98,8 @@ pub record IsDraftedFrom (bound : Cost) (v : ℕ) (row : Row) (into : Entry) (ke
   pub listed : Lengthens more old new
   pub from_it : (p : Shortcut) → Contains put p → p.from ≡ into.other
   pub sorted : AllPairs (λ p q. p.to < q.to) put
-  pub joined : (seen : ℕ → Option Row) → Agrees seen kept new.listed.items → IsJoined bound seen row v into.other put
-  pub named : (seen : ℕ → Option Row) → Agrees seen kept new.listed.items → IsNamedBy bound seen v row put into more
+  pub joined : (seen : ℕ → Option Row) → AgreesWithKept seen kept new.listed.items → IsJoined bound seen row v into.other put
+  pub named : (seen : ℕ → Option Row) → AgreesWithKept seen kept new.listed.items → IsNamedBy bound seen v row put into more
   pub has_all : HasAll kept more
 
 -- no pair is worked out yet, and the node's own row is listed
@@ -117,7 +117,7 @@ pub record IsDrafted (bound : Cost) (v : ℕ) (row : Row) (inns : List Entry) (k
   pub listed : d.listed.items ≡ v ∷ others
   pub from_them : (p : Shortcut) → Contains d.shortcuts.items p → Names inns p.from
   pub sorted : AllPairs ShortcutBefore d.shortcuts.items
-  pub shortcuts : (seen : ℕ → Option Row) → Agrees seen kept d.listed.items → (p : Shortcut) → Contains d.shortcuts.items p → IsForShortcut bound seen row p
-  pub ways : (seen : ℕ → Option Row) → Agrees seen kept d.listed.items → (u w : ℕ) (sum : Cost) → Names inns u → ListsThrough row u w sum → IsWithin sum bound → NoShortcut d.shortcuts.items u w → HasWay seen v u w sum
-  pub named : (seen : ℕ → Option Row) → Agrees seen kept d.listed.items → AreNamed bound seen v row d.shortcuts.items inns others
+  pub shortcuts : (seen : ℕ → Option Row) → AgreesWithKept seen kept d.listed.items → (p : Shortcut) → Contains d.shortcuts.items p → IsForShortcut bound seen row p
+  pub ways : (seen : ℕ → Option Row) → AgreesWithKept seen kept d.listed.items → (u w : ℕ) (sum : Cost) → Names inns u → ListsThrough row u w sum → IsWithin sum bound → NoShortcut d.shortcuts.items u w → HasWay seen v u w sum
+  pub named : (seen : ℕ → Option Row) → AgreesWithKept seen kept d.listed.items → AreNamed bound seen v row d.shortcuts.items inns others
   pub has_all : HasAll kept others

@@ -106,13 +106,15 @@ impl<B: Book> Pen<B> {
         self.current[laid.node as usize] = laid.token.again();
     }
 
-    /// Lays a row and shows it, and answers its version. On a refusal nothing changes.
+    /// Lays a row and shows it, and returns its version. On a refusal nothing changes. The next version is above it.
     pub fn write<R: Wait>(&mut self, rt: &R, node: u32, row: Arc<Row>) -> Result<u64, BookError>
         requires within { node < B.book.nodes }
         requires row { IsSoundRow B.book.bound node (arc_value row) }
         ensures above { IfOk result (λ v. slice_index self.old.versions node < v) }
         ensures versions { IfOk result (λ v. self.new.versions ≡ slice_set self.old.versions node v) }
         ensures rows { IfOk result (λ _. self.new.rows ≡ slice_set self.old.rows node (arc_value row)) }
+        ensures later { IfOk result (λ v. self.old.next ≤ v) }
+        ensures next { IfOk result (λ v. self.new.next ≡ v + 1) }
         ensures err { OnErr result (self.new ≡ self.old) }
     {
         let laid = self.lay(rt, node, row)?;
@@ -136,7 +138,8 @@ impl<B: Book> Pen<B> {
         places_of(alloc, self.current.as_slice())
     }
 
-    /// The current row of a node, which is in range. Takes no memory: the row is shared.
+    /// The current row of a node, which is in range. The row is shared, so no memory is taken; refused where it can't
+    /// have one more owner.
     pub fn see(&self, node: u32) -> Result<Seen, AllocError>
         requires { node < B.book.nodes }
         ensures node { IfOk result (λ s. s.node ≡ node) }

@@ -15,11 +15,11 @@ use Rattle.ch_contract.proofs.InBook.{from_map, laid_count, laid_versions, risin
 use Rattle.ch_contract.proofs.board.Board.contract.Goals as goal
 
 -- each new row is of a node and can be relied on
-sound : (g : _) (c : goal.After-rows g) → All (λ a. (a.0 < length c.self.inside.ledger.overlay.rows) × IsSoundRow c.self.inside.ledger.overlay.bound a.0 (arc_value a.1)) c.rows.result.now
+sound : (g : _) (c : goal.After-rows-2 g) → All (λ a. (a.0 < length c.self.inside.ledger.overlay.rows) × IsSoundRow c.self.inside.ledger.overlay.bound a.0 (arc_value a.1)) c.rows-2.result.now
 sound g c =
     let l = c.self.inside.ledger in
     let change = c.in_ok-planned.planned.change in
-    from_map (λ (a : ℕ × Row). (a.0 < length l.overlay.rows) × IsSoundRow l.overlay.bound a.0 a.1) (λ a. (a.0, arc_value a.1)) c.rows.result.now change.rows c.rows.ensures
+    from_map (λ (a : ℕ × Row). (a.0 < length l.overlay.rows) × IsSoundRow l.overlay.bound a.0 a.1) (λ a. (a.0, arc_value a.1)) c.rows-2.result.now change.rows c.rows-2.ensures
     (c.changes_are_sound.ensures l.overlay change c.holds.ensures.overlay (c.args.shortcuts.now, c.in_ok-planned.ensures.change))
 
 pub lay_all-requires-clause-within : goal.lay_all-requires-clause-within
@@ -29,7 +29,7 @@ lay_all-requires-clause-within g c k d h =
     omega (arith, inside, nodes)
 
 pub lay_all-requires-clause-rows : goal.lay_all-requires-clause-rows
-lay_all-requires-clause-rows g c k d h = subst (λ (b : Cost). IsSoundRow b (slice_index_or c.rows.result.now k d).0 (arc_value (slice_index_or c.rows.result.now k d).1)) (sym c.self.invariant.bound) (sound g c k d h).1
+lay_all-requires-clause-rows g c k d h = subst (λ (b : Cost). IsSoundRow b (slice_index_or c.rows-2.result.now k d).0 (arc_value (slice_index_or c.rows-2.result.now k d).1)) (sym c.self.invariant.bound) (sound g c k d h).1
 
 -- the versions are those of what was laid
 versions_are : (g : _) (c : goal.After-as_slice-3 g) → c.as_slice-3.result.now ≡ map (λ r. r.token.index) c.in_ok-laid.laid.items
@@ -37,7 +37,7 @@ versions_are g c = c.as_slice-3.ensures.value ∙ c.in_ok-versions.ensures ∙ a
 
 -- what was laid is the change
 laid_are : (g : _) (c : goal.After-as_slice-3 g) → map (λ r. (r.node, recorded_row r.token.value)) c.in_ok-laid.laid.items ≡ c.in_ok-planned.planned.change.rows
-laid_are g c = c.in_ok-laid.ensures.laid ∙ c.rows.ensures
+laid_are g c = c.in_ok-laid.ensures.laid ∙ c.rows-2.ensures
 
 pub enter-receipt-requires-clause-versions : goal.enter-receipt-requires-clause-versions
 enter-receipt-requires-clause-versions g c =
@@ -63,7 +63,7 @@ invariant_of-self-2 g c =
     let after = c.show_all.new.self in
     let done = c.enter-receipt.ensures.contracted c.args.node c.args.shortcuts.now c.in_ok-planned.ensures in
     let shown : c.as_slice-2.result.now ≡ laid = c.as_slice-2.ensures.value in
-    let laid_are = c.in_ok-laid.ensures.laid ∙ c.rows.ensures in
+    let laid_are = c.in_ok-laid.ensures.laid ∙ c.rows-2.ensures in
     let versions_are = c.as_slice-3.ensures.value ∙ c.in_ok-versions.ensures ∙ ap (λ l. map (λ r. r.token.index) l) c.as_slice.ensures.value in
     let rows : after.rows ≡ new.overlay.rows =
     c.show_all.ensures.rows ∙ ap (λ r. puts pen.rows (map (λ r. (r.node, recorded_row r.token.value)) r)) shown ∙ ap (λ (rs : List Row). puts rs (map (λ r. (r.node, recorded_row r.token.value)) laid)) (c.lay_all.ensures.rows ∙ c.self.invariant.rows)

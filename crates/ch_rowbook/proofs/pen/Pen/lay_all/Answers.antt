@@ -1,6 +1,6 @@
 use Rattle.std.proofs.lemmas.Grind.{common_steps}
 use Rattle.std.specs.Prelude.{ℕ, List, [], ◌∷◌, ◌++◌, ◌≡◌, ◌<◌, ◌≤◌, ◌+◌, length, map, slice_index_or}
-use Rattle.std.proofs.Common.{sym, subst, ◌∙◌, ap, arith, take}
+use Rattle.std.proofs.Common.{sym, subst, ◌∙◌, ap, arith, take, inr}
 use Rattle.std.specs.Arc.{arc_value}
 use Rattle.std.proofs.lemmas.Bool.Decides.{nat_tests}
 use Rattle.std.proofs.lemmas.List.{get_or_default, map-append, map_more}
@@ -41,6 +41,8 @@ loop-at-preserved g c =
           ∙ ap (λ (l : List (ℕ × Row)). l ++ of_node x.node (recorded_row x.token.value) ∷ []) c.loop-at.invariant.laid
           ∙ ap (λ (p : ℕ × Row). map (λ a. of_node a.0 (arc_value a.1)) (take at rows) ++ p ∷ []) is
           ∙ sym (map_more (λ (a : ℕ × Arc shared.Row Global). of_node a.0 (arc_value a.1)) rows at d less);
+      later = omega (arith, c.loop-at.invariant.later, later, ap (λ (v : PenView). v.next) pen);
+      next = inr (x.token, c.in_ok-laid.laid.shown, ap (λ (v : PenView). v.next) pen);
       rising = subst (λ (n : ℕ). IsRising low (map (λ y. y.token.index) c.push.new.self.items) n) (sym (ap (λ (v : PenView). v.next) pen))
           (subst (λ vs. IsRising low vs (x.token.index + 1)) (sym (ap (λ l. map (λ y. y.token.index) l) items ∙ map-append (λ y. y.token.index) all (x ∷ []))) rising);
     }
