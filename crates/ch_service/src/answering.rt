@@ -71,11 +71,7 @@ pub fn answer<G: Read, Q: Read, W: Write, P: Gate, R: Threads + Wait + Sync>(
     };
     least_route_is_a_least_walk();
     least_route_is_never_too_long();
-    let Built {
-        hierarchy,
-        receipts: _,
-        log: _,
-    } = build(rt, alloc, graph, options, lists, leases, gate)?;
+    let Built { hierarchy, .. } = build(rt, alloc, graph, options, lists, leases, gate)?;
     answer_pairs(alloc, &hierarchy, pairs.as_slice(), out)
 }
 
