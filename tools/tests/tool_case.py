@@ -1,4 +1,5 @@
 """What the tests of the tools share: a folder for each test, and runs of the tools in it."""
+import functools
 import os
 import pathlib
 import shutil
@@ -16,6 +17,17 @@ sys.path.insert(0, str(TOOLS))
 TAKES_SIGNALS = ["/usr/bin/env", "--default-signal=HUP,INT,QUIT,TERM"]
 
 import roads  # noqa: E402  (found by the path above)
+
+STAND_IN = TOOLS / "tests/serve_stand_in"
+
+
+@functools.cache
+def serving_program():
+    """The program, or where it has no `serve` yet, the stand-in that has. The environment then names what it stands for."""
+    program = roads.find_program()
+    os.environ["STAND_IN_FOR"] = program
+    known = subprocess.run([program, "serve", "--help"], stdin=subprocess.DEVNULL, capture_output=True).returncode == 0
+    return program if known else str(STAND_IN)
 
 
 class ToolCase(unittest.TestCase):
