@@ -268,7 +268,7 @@ def main():
     except OSError as error:
         words.error(f"{asked.folder} has nothing measured: {error.strerror}")
     draw(measured, docs / "speed.svg")
-    shutil.copy(folder / "runs.csv", docs / "speed.csv")
+    shutil.copy(asked.folder / "runs.csv", docs / "speed.csv")
     put(docs / "SPEED.md", page(measured))
     put(readme, summary(measured))
 

@@ -52,7 +52,8 @@ def run(number):
 def main():
     words = parser(__doc__)
     words.add_argument("words", nargs="*", metavar="WORD")
-    named = {name for word in words.parse_args().words or [""] for name in chosen(words, map(unittest.TestCase.id, TESTS), word)}
+    ids = [test.id() for test in TESTS]
+    named = {name for word in words.parse_args().words or [""] for name in chosen(words, ids, word)}
     start, failed, times = time.monotonic(), [], []
     at_a_time = len(os.sched_getaffinity(0))
     # (a process that forks has the tests already)
