@@ -1,5 +1,5 @@
 use Rattle.std.proofs.Common.{◌∙◌}
-use Rattle.ch_route.proofs.Unpacked.{found-none}
+use Rattle.ch_route.proofs.Found.{found-none}
 use Rattle.ch_route.proofs.router.Router.least_route.Goals as goal
 
 pub returns-in_default-clause-found : goal.returns-in_default-clause-found

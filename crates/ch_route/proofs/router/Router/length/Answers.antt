@@ -1,7 +1,7 @@
 use Rattle.std.proofs.Common.{refl, ap, ◌∙◌}
 use Rattle.std.specs.Prelude.{Some, None}
 use Rattle.ch_route.proofs.Least.{length_over}
-use Rattle.ch_route.proofs.Unpacked.{found-none, found-value}
+use Rattle.ch_route.proofs.Found.{found-none, found-value}
 use Rattle.ch_route.proofs.router.Router.length.Goals as goal
 
 pub returns-in_default-clause-exact : goal.returns-in_default-clause-exact
