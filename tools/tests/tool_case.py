@@ -12,7 +12,7 @@ TOOLS = pathlib.Path(__file__).resolve().parent.parent
 VILLAGE = TOOLS / "tests/village.osm"
 sys.path.insert(0, str(TOOLS))
 
-import roads  # noqa: E402  (found by the path above)
+from tool import find_program  # noqa: E402  (found by the path above)
 
 STAND_IN = TOOLS / "tests/serve_stand_in"
 
@@ -20,7 +20,7 @@ STAND_IN = TOOLS / "tests/serve_stand_in"
 @functools.cache
 def serving_program():
     """The program, or where it has no `serve` yet, the stand-in that has. The environment then names what it stands for."""
-    program = roads.find_program()
+    program = find_program()
     os.environ["STAND_IN_FOR"] = program
     known = subprocess.run([program, "serve", "--help"], stdin=subprocess.DEVNULL, capture_output=True).returncode == 0
     return program if known else str(STAND_IN)
