@@ -5,7 +5,7 @@ import numpy as np
 from tool_case import VILLAGE, ToolCase, serving_program
 
 import domethyme
-import roads
+from texts import read_graph
 
 STEP = 0.001
 
@@ -56,7 +56,7 @@ class NetworkTests(ToolCase):
 
     def test_frames_count_from_zero(self):
         nodes, arcs = self.network.nodes_frame(), self.network.arcs_frame()
-        graph = roads.read_graph(self.folder / "v.gr")
+        graph = read_graph(self.folder / "v.gr")
         self.assertEqual((len(nodes), arcs["from"].tolist()), (graph.nodes, [start - 1 for start in graph.starts]))
         self.assertEqual((nodes.index[0], nodes["osm"][0]), (0, 1))
         np.testing.assert_array_equal(nodes["lon"], self.network.lon)

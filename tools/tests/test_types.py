@@ -16,16 +16,19 @@ class TypeTests(unittest.TestCase):
         self.assertEqual(ended.returncode, 0, ended.stdout + ended.stderr)
 
     def test_types_of_the_package(self):
-        self.run_module("mypy", "--cache-dir=/dev/null", "--config-file=pyproject.toml", "domethyme", folder=PACKAGE)
+        self.run_module("mypy", "--config-file=pyproject.toml", "domethyme", folder=PACKAGE)
+
+    def test_types_of_the_tools(self):
+        tools = [path.name for path in scripts(TOOLS) if path.name != "domethyme.py"]
+        self.run_module("mypy", "--config-file=mypy.ini", *tools, folder=TOOLS)
 
     def test_names(self):
-        self.run_module("pyflakes", PACKAGE, *scripts(TOOLS), folder=ROOT)
+        self.run_module("pyflakes", PACKAGE, *scripts(TOOLS), *scripts(TOOLS / "tests"), folder=ROOT)
 
 
 def scripts(folder):
-    """The files of Python in a folder and its tests, those without an ending too."""
-    files = [path for each in (folder, folder / "tests") for path in each.iterdir() if path.is_file()]
-    return sorted(path for path in files if is_python(path))
+    """The files of Python in a folder, those without an ending too."""
+    return sorted(path for path in folder.iterdir() if path.is_file() and is_python(path))
 
 
 def is_python(path: pathlib.Path):

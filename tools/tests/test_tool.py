@@ -1,4 +1,4 @@
-"""Tests of roads.py: files that are whole or as they were, tables, texts, and how tools end."""
+"""Tests of tool.py, texts.py and network.py: files that are whole or as they were, tables, texts, and how tools end."""
 import os
 import signal
 import stat
@@ -6,25 +6,29 @@ import subprocess
 import textwrap
 from unittest import mock
 
-from tool_case import TAKES_SIGNALS, TOOLS, ToolCase, roads
+from tool_case import TAKES_SIGNALS, TOOLS, ToolCase
+
+import network
+import texts
+import tool
 
 
-class RoadsCase(ToolCase):
+class SharedCase(ToolCase):
     def assert_fault(self, says, call, *values):
-        with self.assertRaises(roads.Fault) as caught:
+        with self.assertRaises(tool.Fault) as caught:
             result = call(*values)
             if hasattr(result, "__next__"):
                 list(result)
         self.assertEqual(str(caught.exception), says)
 
 
-class WholeFiles(RoadsCase):
+class WholeFiles(SharedCase):
     def setUp(self):
         super().setUp()
         self.paths = [self.folder / name for name in ("first", "second", "third")]
 
     def write_all(self, text):
-        with roads.whole_files(*self.paths) as files:
+        with tool.whole_files(*self.paths) as files:
             for file in files:
                 file.write(text)
 
@@ -38,7 +42,7 @@ class WholeFiles(RoadsCase):
 
     def test_nothing_is_seen_before_the_end(self):
         self.write_all("old")
-        with roads.whole_files(*self.paths) as files:
+        with tool.whole_files(*self.paths) as files:
             for file in files:
                 file.write("new")
                 file.flush()
@@ -47,7 +51,7 @@ class WholeFiles(RoadsCase):
 
     def test_an_exception_leaves_the_old_files(self):
         self.write_all("old")
-        with self.assertRaises(ZeroDivisionError), roads.whole_files(*self.paths) as files:
+        with self.assertRaises(ZeroDivisionError), tool.whole_files(*self.paths) as files:
             files[0].write("new")
             raise ZeroDivisionError
         self.assertEqual(self.texts(), ["old"] * 3)
@@ -55,7 +59,7 @@ class WholeFiles(RoadsCase):
 
     def test_where_one_can_not_take_its_name_all_are_as_they_were(self):
         self.paths[1].write_text("old", encoding="utf-8")
-        with self.assertRaises(OSError), roads.whole_files(*self.paths) as files:
+        with self.assertRaises(OSError), tool.whole_files(*self.paths) as files:
             files[0].write("new")
             (self.paths[2] / "folder").mkdir(parents=True)
         self.assertEqual(self.contents(), {self.paths[1]: b"old"})
@@ -77,17 +81,17 @@ class WholeFiles(RoadsCase):
         self.assertEqual(stat.S_IMODE(self.paths[0].stat().st_mode), 0o640)
 
     def test_a_device_is_written_straight(self):
-        with roads.writing("/dev/null") as file:
+        with tool.writing("/dev/null") as file:
             file.write("text")
         self.assertTrue(stat.S_ISCHR(os.stat("/dev/null").st_mode))
 
 
-class Ends(RoadsCase):
+class Ends(SharedCase):
     """How a tool ends that calls run()."""
 
     def start(self, body, **streams):
-        text = "import sys\nsys.path.insert(0, sys.argv[1])\nimport roads\ndef main():\n"
-        script = self.write("tool", text + textwrap.indent(textwrap.dedent(body), "    ") + "\nroads.run(main)\n")
+        text = "import sys\nsys.path.insert(0, sys.argv[1])\nimport tool, texts, network\ndef main():\n"
+        script = self.write("tool", text + textwrap.indent(textwrap.dedent(body), "    ") + "\ntool.run(main)\n")
         streams = {"stdout": subprocess.PIPE, "stderr": subprocess.PIPE, **streams}
         return subprocess.Popen([*TAKES_SIGNALS, "/usr/bin/python3", script, TOOLS], cwd=self.folder, encoding="utf-8", **streams)
 
@@ -100,9 +104,9 @@ class Ends(RoadsCase):
         self.assertEqual(self.assert_ends(self.start("print('told')"), 0, ""), "told\n")
 
     def test_a_fault(self):
-        self.assert_ends(self.start("raise roads.Fault('is wrong', 'file', 3)"), 1, "tool: file, row 3: is wrong\n")
+        self.assert_ends(self.start("raise tool.Fault('is wrong', 'file', 3)"), 1, "tool: file, row 3: is wrong\n")
         told = "tool: standard input: two lines\n"
-        self.assert_ends(self.start("raise roads.Fault('two\\nlines', '-', status=5)"), 5, told)
+        self.assert_ends(self.start("raise tool.Fault('two\\nlines', '-', status=5)"), 5, told)
 
     def test_a_full_device(self):
         with open("/dev/full", "w", encoding="ascii") as full:
@@ -117,7 +121,7 @@ class Ends(RoadsCase):
 
     def test_signals_leave_nothing(self):
         body = """
-            with roads.whole_files('first', 'second') as files:
+            with tool.whole_files('first', 'second') as files:
                 print('ready', flush=True)
                 sys.stdin.read()
             """
@@ -130,16 +134,16 @@ class Ends(RoadsCase):
             self.assertEqual(len(self.contents()), 1)
 
     def test_a_missing_module(self):
-        body = "with roads.packages():\n    import no_such_module\n"
-        says = "tool: Python's module no_such_module is missing: run tools/check_packages\n"
+        body = "with tool.packages():\n    import no_such_module\n"
+        says = "tool: Python's module no_such_module is missing: run tools/check_packages, and the tool by /usr/bin/python3\n"
         self.assert_ends(self.start(body), 1, says)
 
 
-class Tables(RoadsCase):
+class Tables(SharedCase):
     def rows(self, text, needed=("a", "b")):
         path = self.folder / "table.csv"
         path.write_bytes(text)
-        with roads.table(path, needed) as table:
+        with tool.table(path, needed) as table:
             return table.columns, list(table)
 
     def assert_table_fault(self, says, text):
@@ -159,19 +163,19 @@ class Tables(RoadsCase):
         self.assert_table_fault(", row 2: isn't CSV: unexpected end of data", b'a,b\n"1,2\n')
 
     def test_numbers(self):
-        self.assertEqual(roads.whole_number("-3", "n", "f", 1, -5, 5), -3)
-        self.assertEqual(roads.whole_number(b"007", "n", "f", 1), 7)
-        self.assertEqual(roads.number("1.5e1", "n", "f", 1), 15.0)
+        self.assertEqual(tool.whole_number("-3", "n", "f", 1, -5, 5), -3)
+        self.assertEqual(tool.whole_number(b"007", "n", "f", 1), 7)
+        self.assertEqual(tool.number("1.5e1", "n", "f", 1), 15.0)
         for text in ("", "1_0", "1.0", "٣", "x" * 50, "9" * 5000):
             shown = repr(text if len(text) <= 40 else text[:40] + "..")
-            self.assert_fault(f"f, row 1: n {shown} is no whole number", roads.whole_number, text, "n", "f", 1)
-        self.assert_fault("f, row 1: n 6 isn't from 0 to 5", roads.whole_number, "6", "n", "f", 1, 0, 5)
-        self.assert_fault("f, row 1: lon '181' isn't from -180 to 180", roads.number, "181", "lon", "f", 1, -180, 180)
-        self.assert_fault("f, row 1: n 'nan' isn't from -inf to inf", roads.number, "nan", "n", "f", 1)
-        self.assert_fault("f, row 1: n 'x' is no number", roads.number, "x", "n", "f", 1)
+            self.assert_fault(f"f, row 1: n {shown} is no whole number", tool.whole_number, text, "n", "f", 1)
+        self.assert_fault("f, row 1: n 6 isn't from 0 to 5", tool.whole_number, "6", "n", "f", 1, 0, 5)
+        self.assert_fault("f, row 1: lon '181' isn't from -180 to 180", tool.number, "181", "lon", "f", 1, -180, 180)
+        self.assert_fault("f, row 1: n 'nan' isn't from -inf to inf", tool.number, "nan", "n", "f", 1)
+        self.assert_fault("f, row 1: n 'x' is no number", tool.number, "x", "n", "f", 1)
 
 
-class Networks(RoadsCase):
+class Networks(SharedCase):
     def write_and(self, read, name, text):
         path = self.write(name, text)
         result = read(path)
@@ -181,10 +185,10 @@ class Networks(RoadsCase):
         self.assert_fault(f"{self.folder / name}{says}", self.write_and, read, name, text)
 
     def test_nodes_there_and_back(self):
-        nodes = roads.Nodes([5, None, -7], [-180.0, 0.1234567, 180.0], [-90.0, 0.0, 90.0])
-        with roads.writing(self.folder / "n.nodes.csv") as file:
-            roads.write_nodes(file, nodes)
-        self.assertEqual(roads.read_nodes(self.folder / "n.nodes.csv"), nodes)
+        nodes = network.Nodes([5, None, -7], [-180.0, 0.1234567, 180.0], [-90.0, 0.0, 90.0])
+        with tool.writing(self.folder / "n.nodes.csv") as file:
+            network.write_nodes(file, nodes)
+        self.assertEqual(network.read_nodes(self.folder / "n.nodes.csv"), nodes)
 
     def test_nodes_with_faults(self):
         head = "node,osm,lon,lat\n"
@@ -194,14 +198,14 @@ class Networks(RoadsCase):
             (head + "1,x,0,0\n", ", row 2: osm 'x' is no whole number"),
         ]
         for text, says in cases:
-            self.assert_text_fault(roads.read_nodes, "n.nodes.csv", text, says)
+            self.assert_text_fault(network.read_nodes, "n.nodes.csv", text, says)
 
     def test_coordinates_of_dimacs(self):
         text = "c New York\np aux sp co 2\nv 2 -73530767 41085396\nv 1 -73530538 41086098\n"
-        nodes = self.write_and(roads.read_nodes, "ny.co", text)
-        self.assertEqual(nodes, roads.Nodes([None, None], [-73.530538, -73.530767], [41.086098, 41.085396]))
-        self.assertEqual(roads.nodes_file("ny.co"), "ny.co")
-        self.assertEqual(roads.nodes_file("ny"), "ny.nodes.csv")
+        nodes = self.write_and(network.read_nodes, "ny.co", text)
+        self.assertEqual(nodes, network.Nodes([None, None], [-73.530538, -73.530767], [41.086098, 41.085396]))
+        self.assertEqual(network.nodes_file("ny.co"), "ny.co")
+        self.assertEqual(network.nodes_file("ny"), "ny.nodes.csv")
 
     def test_coordinates_with_faults(self):
         cases = [
@@ -212,38 +216,38 @@ class Networks(RoadsCase):
             ("p aux sp p2p 2\n", ", row 1: is no problem line `p aux sp co NUMBER`"),
         ]
         for text, says in cases:
-            self.assert_text_fault(roads.read_nodes, "n.co", text, says)
+            self.assert_text_fault(network.read_nodes, "n.co", text, says)
 
     def test_arcs_there_and_back(self):
         arcs = [
-            roads.Arc(1, 2, 16012, 16.012, 222.39, 101, "tertiary", 'High "Street", N', "LINESTRING (0 0, 1 1)"),
-            roads.Arc(2, 1, 1, 0.0, 0.0, -5, "residential", "", "LINESTRING (1 1, 0 0)"),
+            network.Arc(1, 2, 16012, 16.012, 222.39, 101, "tertiary", 'High "Street", N', "LINESTRING (0 0, 1 1)"),
+            network.Arc(2, 1, 1, 0.0, 0.0, -5, "residential", "", "LINESTRING (1 1, 0 0)"),
         ]
-        with roads.writing(self.folder / "n.arcs.csv") as file:
-            roads.write_arcs(file, arcs)
-        self.assertEqual(list(roads.read_arcs(self.folder / "n.arcs.csv")), arcs)
+        with tool.writing(self.folder / "n.arcs.csv") as file:
+            network.write_arcs(file, arcs)
+        self.assertEqual(list(network.read_arcs(self.folder / "n.arcs.csv")), arcs)
 
     def test_the_lightest_of_parallel_arcs(self):
         arcs = [
-            roads.Arc(start, end, weight, 0, 0, osm, "", "", "")
+            network.Arc(start, end, weight, 0, 0, osm, "", "", "")
             for start, end, weight, osm in ((1, 2, 9, 1), (1, 2, 5, 2), (1, 2, 5, 3), (2, 1, 7, 4))
         ]
-        self.assertEqual({pair: arc.osm for pair, arc in roads.lightest(arcs).items()}, {(1, 2): 2, (2, 1): 4})
+        self.assertEqual({pair: arc.osm for pair, arc in network.lightest(arcs).items()}, {(1, 2): 2, (2, 1): 4})
 
     def test_lines(self):
         points = [(-0.0016667, 0.0), (9.5, 47.1878542)]
-        self.assertEqual(roads.wkt_of(points), "LINESTRING (-0.0016667 0.0000000, 9.5000000 47.1878542)")
-        self.assertEqual(roads.points_of(roads.wkt_of(points)), points)
+        self.assertEqual(network.wkt_of(points), "LINESTRING (-0.0016667 0.0000000, 9.5000000 47.1878542)")
+        self.assertEqual(network.points_of(network.wkt_of(points)), points)
         bodies = ("(1 2)", "(1 2, 3)", "(1 2, 3 4", "EMPTY", "(1 2, 3 4) 5", "(1 2, 3 x)")
         for text in ("", "POINT (1 2, 3 4)", *(f"LINESTRING {body}" for body in bodies)):
-            self.assert_fault(f"f, row 7: WKT {text!r} is no line", roads.points_of, text, "f", 7)
+            self.assert_fault(f"f, row 7: WKT {text!r} is no line", network.points_of, text, "f", 7)
 
     def test_graph_there_and_back(self):
-        with roads.writing(self.folder / "n.gr") as file:
-            roads.write_graph(file, 3, [(1, 2, 7), (1, 2, 8), (3, 3, 1)], ["a comment"])
+        with tool.writing(self.folder / "n.gr") as file:
+            texts.write_graph(file, 3, [(1, 2, 7), (1, 2, 8), (3, 3, 1)], ["a comment"])
         text = (self.folder / "n.gr").read_text(encoding="ascii")
         self.assertEqual(text, "c a comment\np sp 3 3\na 1 2 7\na 1 2 8\na 3 3 1\n")
-        self.assertEqual(roads.read_graph(self.folder / "n.gr"), roads.Graph(3, [1, 1, 3], [2, 2, 3], [7, 8, 1]))
+        self.assertEqual(texts.read_graph(self.folder / "n.gr"), texts.Graph(3, [1, 1, 3], [2, 2, 3], [7, 8, 1]))
 
     def test_graph_with_faults(self):
         cases = [
@@ -255,13 +259,13 @@ class Networks(RoadsCase):
             ("p sp 2 1\np sp 2 1\n", ", row 2: is no line of a graph"),
         ]
         for text, says in cases:
-            self.assert_text_fault(roads.read_graph, "n.gr", text, says)
+            self.assert_text_fault(texts.read_graph, "n.gr", text, says)
 
     def test_pairs_there_and_back(self):
-        with roads.writing(self.folder / "pairs") as file:
-            roads.write_pairs(file, [(1, 2), (3, 3)])
+        with tool.writing(self.folder / "pairs") as file:
+            texts.write_pairs(file, [(1, 2), (3, 3)])
         self.assertEqual((self.folder / "pairs").read_text(encoding="ascii"), "p aux sp p2p 2\nq 1 2\nq 3 3\n")
-        self.assertEqual(roads.read_pairs(self.folder / "pairs"), [(1, 2), (3, 3)])
+        self.assertEqual(texts.read_pairs(self.folder / "pairs"), [(1, 2), (3, 3)])
 
     def test_pairs_with_faults(self):
         cases = [
@@ -270,11 +274,11 @@ class Networks(RoadsCase):
             ("p aux sp p2p 2\nq 1 2\n", ": has 1 pairs and announces 2"),
         ]
         for text, says in cases:
-            self.assert_text_fault(roads.read_pairs, "pairs", text, says)
+            self.assert_text_fault(texts.read_pairs, "pairs", text, says)
 
     def test_answers(self):
-        answers = self.write_and(roads.read_answers, "answers", "r 1 2 9 2 1 5 2\nn 2 1\nr 3 3 0 0 3\n")
-        expected = [roads.Answer(1, 2, 9, (1, 5, 2)), roads.Answer(2, 1, None, ()), roads.Answer(3, 3, 0, (3,))]
+        answers = self.write_and(texts.read_answers, "answers", "r 1 2 9 2 1 5 2\nn 2 1\nr 3 3 0 0 3\n")
+        expected = [texts.Answer(1, 2, 9, (1, 5, 2)), texts.Answer(2, 1, None, ()), texts.Answer(3, 3, 0, (3,))]
         self.assertEqual(answers, expected)
 
     def test_answers_with_faults(self):
@@ -287,10 +291,10 @@ class Networks(RoadsCase):
             ("r 1 2 9 1 1 3\n", ", row 1: has nodes that don't fit its pair and its number of arcs"),
         ]
         for text, says in cases:
-            self.assert_text_fault(roads.read_answers, "answers", text, says)
+            self.assert_text_fault(texts.read_answers, "answers", text, says)
 
 
-class Program(RoadsCase):
+class Program(SharedCase):
     def put_program(self, name):
         path = self.write(name, "#!/bin/sh\n")
         path.chmod(0o755)
@@ -299,7 +303,7 @@ class Program(RoadsCase):
     def find(self, named=None, **environment):
         """The program that is found under an environment."""
         with mock.patch.dict(os.environ, {"PATH": "/nowhere", **environment}, clear=True):
-            return roads.find_program(named)
+            return tool.find_program(named)
 
     def test_order(self):
         named, told, on_path = (str(self.put_program(name)) for name in ("named", "told", "routecli"))
@@ -315,12 +319,12 @@ class Program(RoadsCase):
         self.assert_fault("/none: is no program that can be run", lambda: self.find(ROUTECLI="/none"))
 
 
-class Earth(RoadsCase):
+class Earth(SharedCase):
     def test_distances(self):
         # a degree of a circle of radius 6371008.8 m; at 60 degrees north half of that
-        self.assertAlmostEqual(roads.metres_between(0, 0, 1, 0), 111195.080, 3)
-        self.assertAlmostEqual(roads.metres_between(7, -3, 7, -4), 111195.080, 3)
-        self.assertAlmostEqual(roads.metres_between(0, 60, 0.001, 60), 55.59754, 4)
-        self.assertAlmostEqual(roads.metres_between(179.5, 0, -179.5, 0), 111195.080, 3)
-        self.assertAlmostEqual(roads.metres_between(0, 90, 0, -90), 20015114.4, 0)
-        self.assertEqual(roads.metres_between(5, 5, 5, 5), 0)
+        self.assertAlmostEqual(network.metres_between(0, 0, 1, 0), 111195.080, 3)
+        self.assertAlmostEqual(network.metres_between(7, -3, 7, -4), 111195.080, 3)
+        self.assertAlmostEqual(network.metres_between(0, 60, 0.001, 60), 55.59754, 4)
+        self.assertAlmostEqual(network.metres_between(179.5, 0, -179.5, 0), 111195.080, 3)
+        self.assertAlmostEqual(network.metres_between(0, 90, 0, -90), 20015114.4, 0)
+        self.assertEqual(network.metres_between(5, 5, 5, 5), 0)
