@@ -12,15 +12,11 @@ TOOLS = pathlib.Path(__file__).resolve().parent.parent
 VILLAGE = TOOLS / "tests/village.osm"
 sys.path.insert(0, str(TOOLS))
 
-<<<<<<< HEAD
+from tool import find_program  # noqa: E402  (found by the path above)
+
 # Before the words of a program that is sent signals. What a test inherits may ignore them, as a shell's background job
 # does, and Python makes no KeyboardInterrupt of an interrupt that it was started to ignore.
 TAKES_SIGNALS = ["/usr/bin/env", "--default-signal=HUP,INT,QUIT,TERM"]
-
-import roads  # noqa: E402  (found by the path above)
-=======
-from tool import find_program  # noqa: E402  (found by the path above)
->>>>>>> a666bc6407b68a5ede531ed5ce11da9694771723
 
 STAND_IN = TOOLS / "tests/serve_stand_in"
 
