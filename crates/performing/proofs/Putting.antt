@@ -57,7 +57,8 @@ whole graph None stands put file = absurd file.2
 whole graph (Some ys) stands put file = (file.0, file.1, put ∙ ap (λ (bytes : List ℕ). Some (Some bytes)) file.2)
 
 -- the draft that was put is the file of the hierarchy
-pub has_prepared : (graph : Option (List ℕ)) (stood : Option (Option (List ℕ))) (old new : Option (List ℕ)) (stands : Option (Option (List ℕ))) → old ≡ option_map (λ _. []) stood → stands ≡ option_map Some new → IfSome graph (λ text. Writes (Prepares text) old new) → HasPrepared graph stood stands
+pub has_prepared : (graph : Option (List ℕ)) (stood : Option (Option (List ℕ))) (old new : Option (List ℕ)) (stands : Option (Option (List ℕ))) → old ≡ option_map (λ _. []) stood → stands ≡ option_map Some new
+    → IfSome graph (λ text. Writes (Prepares text) old new) → HasPrepared graph stood stands
 has_prepared None stood old new stands starts put file = tt
 has_prepared (Some text) None old new stands starts put file = tt
 has_prepared (Some text) (Some before) old new stands starts put file = whole text new stands put (subst (λ (o : Option (List ℕ)). Writes (Prepares text) o new) starts file)

@@ -11,7 +11,7 @@ use Rattle.ch_service.specs.declared.cause.Cause.{Cause}
 use Rattle.ch_service.specs.declared.cause.Cause.TheVariants as causes
 use Rattle.ch_service.specs.declared.error.ServiceError.{ServiceError}
 use Rattle.ch_service.specs.declared.error.ServiceError.TheVariants.{Build, OutOfMemory}
-use Rattle.ch_service.specs.Answer.{Answers}
+use Rattle.ch_service.specs.Answer.{AnswersByFewest}
 use Rattle.ch_service.specs.Cause.{cause_of}
 use Rattle.ch_service.specs.Joined.{graph_part, pairs_part}
 use Rattle.ch_service.specs.Outcome.{Writes}
@@ -52,7 +52,7 @@ unwritten (Some graph) None old new k = tt
 unwritten (Some graph) (Some pairs) old new k = inl k
 
 -- where both texts stand in one input
-pub joined_told : (input old new : Option (List ℕ)) (r : Result ⊤ ServiceError) → OnOk r (IfSome input (λ text. Writes (Answers (graph_part text) (pairs_part text)) old new))
+pub joined_told : (input old new : Option (List ℕ)) (r : Result ⊤ ServiceError) → OnOk r (IfSome input (λ text. Writes (AnswersByFewest (graph_part text) (pairs_part text)) old new))
     → IfErr r (λ e. RefusesAnswers (option_map graph_part input) (option_map pairs_part input) old new (cause_of e)) → Tells (status_after r) (option_map graph_part input) (option_map pairs_part input) old new
 joined_told None old new (Ok x) w f = told (Ok x) _ _ tt f
 joined_told None old new (Err e) w f = told (Err e) _ _ tt f
@@ -129,11 +129,10 @@ of_preparation j n preparation is status = rw is status
 pub of_route : (j : Job) (n : ℕ) (hierarchy queries : _) → j ≡ Route hierarchy queries → IsRoutingStatus n → IsStatusOf j n
 of_route j n hierarchy queries is status = rw is status
 
--- where a file can't be opened
-pub file_status : (j : Job) (n : ℕ) → (n ≡ 6) ⊎ (n ≡ 7) → IsStatusOf j n
-file_status (Answer graph queries) n (inl is) = inr (inr (inr (inl is)))
-file_status (Answer graph queries) n (inr is) = inr (inr (inr (inr (inl is))))
-file_status (Prepare preparation) n (inl is) = inr (inr (inl is))
-file_status (Prepare preparation) n (inr is) = inr (inr (inr (inl is)))
-file_status (Route hierarchy queries) n (inl is) = inr (inr (inr (inl is)))
-file_status (Route hierarchy queries) n (inr is) = inr (inr (inr (inr is)))
+-- there are no workers to disagree where pairs are routed
+pub no_disagreement : (n : ℕ) (P : Type 0) → IsRoutingStatus n → n ≡ 8 → P
+no_disagreement n P (inl is) eight = absurd (cc)
+no_disagreement n P (inr (inl is)) eight = absurd (cc)
+no_disagreement n P (inr (inr (inl is))) eight = absurd (cc)
+no_disagreement n P (inr (inr (inr (inl is)))) eight = absurd (cc)
+no_disagreement n P (inr (inr (inr (inr is)))) eight = absurd (cc)

@@ -3,7 +3,7 @@ use Rattle.std.specs.Prelude.{ℕ, ◌≡◌, ◌≢◌, ◌⊎◌, List, Option
 use Rattle.ch_service.specs.declared.cause.Cause.{Cause}
 use Rattle.ch_service.specs.declared.cause.Cause.TheVariants as causes
 use Rattle.ch_service.specs.declared.error.ServiceError.{ServiceError}
-use Rattle.ch_service.specs.Answer.{Answers}
+use Rattle.ch_service.specs.Answer.{AnswersByFewest}
 use Rattle.ch_service.specs.Cause.{cause_of}
 use Rattle.ch_service.specs.Outcome.{IfTold, Writes}
 use Rattle.ch_service.specs.Refusals.{RefusesAnswers, RefusesPreparing, RefusesRoutes}
@@ -36,7 +36,7 @@ pub record Ends (status : ℕ) (Done : Type 0) (Refuses : Cause → Type 0) : Ty
 
 -- what the status of an answering job tells of the texts of the graph and the pairs, and of what was written
 abbrev pub Tells : ℕ → Option (List ℕ) → Option (List ℕ) → Option (List ℕ) → Option (List ℕ) → Type 0
-Tells status graph pairs old new = Ends status (IfTold graph pairs (λ graph_text pairs_text. Writes (Answers graph_text pairs_text) old new)) (RefusesAnswers graph pairs old new)
+Tells status graph pairs old new = Ends status (IfTold graph pairs (λ graph_text pairs_text. Writes (AnswersByFewest graph_text pairs_text) old new)) (RefusesAnswers graph pairs old new)
 
 -- that of a preparing job, of the text of the graph
 abbrev pub TellsPrepared : ℕ → Option (List ℕ) → Option (List ℕ) → Option (List ℕ) → Type 0

@@ -1,9 +1,11 @@
 ghost use Rattle.std.specs.Prelude.{◌≡◌, [], IfOk};
+ghost use Rattle.std.specs.Io.KnownBytes.{Keeps};
 ghost use Rattle.ch_workers.specs.Options.{AreGood};
 ghost use Rattle.jobs.specs.Orders.{stint_of};
-ghost use Rattle.performing.specs.Status.{TellsPrepared, status_after};
+ghost use Rattle.performing.specs.Status.{IsPreparingStatus, TellsPrepared, status_after};
 
 use crate::lists::a_list_each;
+use crate::status::status_after;
 use ch_estimate::{Depth, EdgeDifference, Estimator, Lease, Leases, Neighbours};
 use ch_service::{ServiceError, causes_tell_refusals, prepare};
 use ch_workers::{Gate, Options};
@@ -29,11 +31,30 @@ pub fn options(workers: Workers, seed: u64, stint: Stint) -> Options
     }
 }
 
-/// Prepares a hierarchy of a graph by workers, each with an estimator for each of its orders.
+/// Prepares a hierarchy of a graph, and returns the program's exit status.
 ///
-/// `graph` gives the graph's text, and `out` gets the hierarchy. The workers pass the gate. Takes memory for the estimators, and then that of
-/// [`prepare`].
-pub fn prepare_by<G: Read, W: Write, P: Gate, R: Threads + Wait + Sync>(
+/// `graph` gives the graph's text, and `out` gets the hierarchy. Of a refusal one line goes to `err`. The workers pass the
+/// gate. Takes the time and memory of [`prepare`].
+pub fn perform_preparation<G: Read, W: Write, E: Write, P: Gate, R: Threads + Wait + Sync>(
+    rt: &R,
+    alloc: Global,
+    preparation: &Preparation<'_>,
+    graph: &mut G,
+    out: &mut W,
+    err: &mut E,
+    gate: &P,
+) -> u8
+    ensures told { TellsPrepared result (G.remaining graph.old) (W.contents out.old) (W.contents out.new) }
+    ensures status { IsPreparingStatus result }
+    ensures mixed { result ≡ 8 → Keeps (W.contents out.old) (W.contents out.new) }
+    ensures quiet { result ≡ 0 → err.new ≡ err.old }
+{
+    status_after(prepare_by(rt, alloc, graph, out, preparation, gate), err)
+}
+
+// Prepares a hierarchy of a graph by workers, each with an estimator for each of its orders. Takes memory for the
+// estimators, and then that of `prepare`.
+fn prepare_by<G: Read, W: Write, P: Gate, R: Threads + Wait + Sync>(
     rt: &R,
     alloc: Global,
     graph: &mut G,

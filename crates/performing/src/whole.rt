@@ -2,8 +2,7 @@ ghost use Rattle.std.specs.Prelude.{◌≡◌, ◌≢◌, ◌⊎◌, Some, None,
 ghost use Rattle.performing.specs.Destination.{HasPrepared};
 ghost use Rattle.performing.specs.Status.{IsPreparingStatus, TellsPrepared};
 
-use crate::doing::status_after;
-use crate::preparing::prepare_by;
+use crate::preparing::perform_preparation;
 use ch_workers::Gate;
 use jobs::{Preparation, end};
 use std::alloc::Global;
@@ -15,8 +14,8 @@ use whole_file::Destination;
 /// Prepares a hierarchy and lets it stand at its destination, whole, and answers the program's exit status.
 ///
 /// `graph` gives the graph's text. With a status of 0 the file of the hierarchy stands at the destination, and with any
-/// other what stood there before. What the status tells of the text is what it tells in [`perform`](crate::perform). The
-/// workers pass the gate. Of a refusal one line goes to `err`.
+/// other what stood there before. What the status tells of the text is what it tells in
+/// [`perform_preparation`]. The workers pass the gate. Of a refusal one line goes to `err`.
 pub fn prepare_whole<G: Read, D: Destination, E: Write, P: Gate, R: Threads + Wait + Sync>(
     rt: &R,
     alloc: Global,
@@ -35,8 +34,7 @@ pub fn prepare_whole<G: Read, D: Destination, E: Write, P: Gate, R: Threads + Wa
     let Ok(mut draft) = destination.draft() else {
         return end(6, "memory", err);
     };
-    let ended = prepare_by(rt, alloc, graph, &mut draft, preparation, gate);
-    let status = status_after(ended, err);
+    let status = perform_preparation(rt, alloc, preparation, graph, &mut draft, err, gate);
     finish(destination, draft, status, err)
 }
 

@@ -6,12 +6,12 @@
 #![tactic(auto)]
 
 ghost use Rattle.std.specs.Prelude.{◌≡◌, ◌⊎◌};
-ghost use Rattle.performing.specs.Status.{IsPreparingStatus, IsStatusOf};
+ghost use Rattle.performing.specs.Status.{IsAnsweringStatus, IsPreparingStatus, IsRoutingStatus};
 
 use ch_workers::{Gate, OpenGate};
 use command_line::command;
 use jobs::{Job, Preparation, Stop, end, show_stop};
-use performing::{perform, prepare_whole};
+use performing::{perform_answer, perform_joined, perform_route, prepare_whole};
 use progress::{Cleared, Meter, Watched};
 use std::env::Env;
 use std::io::{ErrorKind, IsTerminal};
@@ -34,25 +34,12 @@ fn main(rt: HostRuntime) -> ExitCode {
         Ok(job) => job,
         Err(why) => return ExitCode::from(show_stop(&why, &mut out, &mut err)),
     };
-    let mut nothing: &[u8] = b"";
     let status = match job {
-        Job::Answer { .. } if job.is_joined() => perform(
-            &rt,
-            rt.alloc(),
-            &job,
-            &mut rt.stdin(),
-            &mut nothing,
-            &mut out,
-            &mut err,
-        ),
-        Job::Answer {
-            graph: first,
-            queries: second,
+        Job::Answer { .. } if job.is_joined() => {
+            perform_joined(&rt, rt.alloc(), &mut rt.stdin(), &mut out, &mut err)
         }
-        | Job::Route {
-            hierarchy: first,
-            queries: second,
-        } => perform_files(&rt, &job, first, second, &mut out, &mut err),
+        Job::Answer { graph, queries } => answer(&rt, graph, queries, &mut out, &mut err),
+        Job::Route { hierarchy, queries } => route(&rt, hierarchy, queries, &mut out, &mut err),
         Job::Prepare(preparation) if is_one_file(&rt, preparation.graph, preparation.out) => {
             show_stop(&Stop::OneFile, &mut out, &mut err)
         }
@@ -61,21 +48,40 @@ fn main(rt: HostRuntime) -> ExitCode {
     ExitCode::from(status)
 }
 
-// Does a job that reads two files.
-fn perform_files<R: Files + AllocGlobal + Threads + Wait + Sync, W: io::Write, E: io::Write>(
+// Answers the pairs of one file over the graph of another.
+fn answer<R: Files + AllocGlobal + Threads + Wait + Sync, W: io::Write, E: io::Write>(
     rt: &R,
-    job: &Job<'_>,
-    first: &str,
-    second: &str,
+    graph: &str,
+    queries: &str,
     out: &mut W,
     err: &mut E,
 ) -> u8
-    ensures status { IsStatusOf job.now result }
+    ensures status { IsAnsweringStatus result }
     ensures quiet { result ≡ 0 → err.new ≡ err.old }
 {
-    match (fs::open(rt, first), fs::open(rt, second)) {
-        (Ok(mut first), Ok(mut second)) => {
-            perform(rt, rt.alloc(), job, &mut first, &mut second, out, err)
+    match (fs::open(rt, graph), fs::open(rt, queries)) {
+        (Ok(mut graph), Ok(mut queries)) => {
+            perform_answer(rt, rt.alloc(), &mut graph, &mut queries, out, err)
+        }
+        (Err(error), _) => refuse_file(&error, err),
+        (_, Err(error)) => refuse_file(&error, err),
+    }
+}
+
+// Answers the pairs of one file by the hierarchy of another.
+fn route<R: Files + AllocGlobal, W: io::Write, E: io::Write>(
+    rt: &R,
+    hierarchy: &str,
+    queries: &str,
+    out: &mut W,
+    err: &mut E,
+) -> u8
+    ensures status { IsRoutingStatus result }
+    ensures quiet { result ≡ 0 → err.new ≡ err.old }
+{
+    match (fs::open(rt, hierarchy), fs::open(rt, queries)) {
+        (Ok(mut hierarchy), Ok(mut queries)) => {
+            perform_route(rt.alloc(), &mut hierarchy, &mut queries, out, err)
         }
         (Err(error), _) => refuse_file(&error, err),
         (_, Err(error)) => refuse_file(&error, err),

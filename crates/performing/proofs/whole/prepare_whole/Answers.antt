@@ -1,7 +1,6 @@
 use Rattle.std.proofs.Common.{◌≡◌, [], rules}
 use Rattle.std.specs.Prelude.{option_map}
 use Rattle.performing.proofs.Putting.{no_memory, finished, was_done, has_prepared}
-use Rattle.performing.proofs.Statuses.{after}
 use Rattle.performing.proofs.whole.prepare_whole.Goals as goal
 
 -- where memory is refused
@@ -14,13 +13,10 @@ returns-in_default-clause-told g c = no_memory _ c.end.result c.end.ensures
 pub returns-clause-done : goal.returns-clause-done
 returns-clause-done g c zero =
     let starts : g.D.Draft.Write.contents c.in-Ok.draft ≡ option_map (λ _. []) (g.D.Destination.stands c.args.destination.now) = search rules in
-    let ends = after c.prepare_by-ended.result _ _ _ c.status_after-status.ensures.status c.prepare_by-ended.ensures in
-    has_prepared _ _ _ _ _ starts (c.finish.ensures.done zero) (ends.done (was_done _ _ c.finish.ensures.status zero))
+    has_prepared _ _ _ _ _ starts (c.finish.ensures.done zero) (c.perform_preparation-status.ensures.told.done (was_done _ _ c.finish.ensures.status zero))
 
 pub returns-clause-kept : goal.returns-clause-kept
 returns-clause-kept g c = c.finish.ensures.kept
 
 pub returns-clause-told : goal.returns-clause-told
-returns-clause-told g c =
-    let ends = after c.prepare_by-ended.result _ _ _ c.status_after-status.ensures.status c.prepare_by-ended.ensures in
-    finished _ _ _ c.status_after-status.result c.finish.result c.finish.ensures.status ends
+returns-clause-told g c = finished _ _ _ c.perform_preparation-status.result c.finish.result c.finish.ensures.status c.perform_preparation-status.ensures.told

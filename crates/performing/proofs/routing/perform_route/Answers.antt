@@ -1,0 +1,13 @@
+use Rattle.performing.proofs.Statuses.{told, after, routing_end}
+use Rattle.performing.proofs.routing.perform_route.Goals as goal
+
+tells : goal.returns-clause-told
+tells g c =
+    after c.route.result _ _ _ c.status_after.ensures.status (told c.route.result _ _ c.route.ensures.routes
+    (c.causes_tell_refusals.ensures.routes _ _ _ _ c.route.result c.route.ensures.kinds c.route.ensures.fault c.route.ensures.untouched c.route.ensures.stops))
+
+pub returns-clause-told : goal.returns-clause-told
+returns-clause-told g c = tells g c
+
+pub returns-clause-status : goal.returns-clause-status
+returns-clause-status g c = (routing_end _ _ _ _ _ (tells g c)).0
