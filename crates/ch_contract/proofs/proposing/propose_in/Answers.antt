@@ -28,36 +28,37 @@ none-kept kept empty IsKind x s is = absurd (apart (kept x) is (empty x)) where
   apart : (o : Option Seen) → o ≡ Some s → o ≡ None → ⊥
   apart o e f = cc
 
--- what is owed where there is no proposal
-refused : {Bears Shows : Seen → Type 0} {limit : Cost} {Moved Same IsWhole : Type 0} {v : ℕ} (r : Result Proposal ProposeError) (e : ProposeError) → r ≡ Err e → TellsContracted Bears Shows v r → (e ≡ Unseen → Same ⊎ IsReadUnranked Bears Shows v) → Moved → (IsWhole → e ≡ Unseen → ⊥) → IsProposedBy Bears Shows limit Moved Same IsWhole v r
-refused {Bears} {Shows} {limit} {Moved} {Same} {IsWhole} {v} r e is tells missed moved found =
-    subst (λ (o : Result Proposal ProposeError). IsProposedBy Bears Shows limit Moved Same IsWhole v o) (sym is) (record {
-      node = tt;
-      bound = tt;
-      holds = tt;
-      bears = tt;
-      shows = tt;
-      contracted = subst (TellsContracted Bears Shows v) is tells;
-      missed = λ missing. let it : e ≡ Unseen = cc (missing) in missed it;
-      stays = moved;
-      found = λ whole missing. let it : e ≡ Unseen = cc (missing) in found whole it;
-    })
-
 apart : (e : ProposeError) → e ≡ OutOfMemory → e ≡ Unseen → ⊥
 apart e f h = absurd (cc)
-
--- where memory was refused
-short : {Bears Shows : Seen → Type 0} {limit : Cost} {Moved Same IsWhole : Type 0} {v : ℕ} (r : Result Proposal ProposeError) (e : ProposeError) → r ≡ Err e → e ≡ OutOfMemory → Moved → IsProposedBy Bears Shows limit Moved Same IsWhole v r
-short r e is memory moved = refused r e is (λ other unseen. let it : r ≡ Err OutOfMemory = cc (is, memory) in absurd (other it)) (λ missing. absurd (apart e memory missing)) moved (λ whole missing. apart e memory missing)
 
 not-contracted : (r : Result Proposal ProposeError) (e : ProposeError) → r ≡ Err e → e ≢ Contracted → (r ≡ Err OutOfMemory → ⊥) → (r ≡ Err Unseen → ⊥) → ⊥
 not-contracted r OutOfMemory is other memory unseen = memory is
 not-contracted r Unseen is other memory unseen = unseen is
 not-contracted r Contracted is other memory unseen = other refl
 
--- where a row wasn't read
-unread : {Bears Shows : Seen → Type 0} {limit : Cost} {Moved Same IsWhole : Type 0} {v : ℕ} (r : Result Proposal ProposeError) (e : ProposeError) → r ≡ Err e → e ≢ Contracted → (e ≡ Unseen → Same ⊎ IsReadUnranked Bears Shows v) → Moved → (IsWhole → e ≡ Unseen → ⊥) → IsProposedBy Bears Shows limit Moved Same IsWhole v r
-unread r e is other missed moved found = refused r e is (λ memory unseen. absurd (not-contracted r e is other memory unseen)) missed moved found
+module _ {Bears Shows : Seen → Type 0} {limit : Cost} {Moved Same IsWhole : Type 0} {v : ℕ} (r : Result Proposal ProposeError) (e : ProposeError) (is : r ≡ Err e) where
+  -- what is owed where there is no proposal
+  refused : TellsContracted Bears Shows v r → (e ≡ Unseen → Same ⊎ IsReadUnranked Bears Shows v) → Moved → (IsWhole → e ≡ Unseen → ⊥) → IsProposedBy Bears Shows limit Moved Same IsWhole v r
+  refused tells missed moved found =
+      subst (λ (o : Result Proposal ProposeError). IsProposedBy Bears Shows limit Moved Same IsWhole v o) (sym is) (record {
+        node = tt;
+        bound = tt;
+        holds = tt;
+        bears = tt;
+        shows = tt;
+        contracted = subst (TellsContracted Bears Shows v) is tells;
+        missed = λ missing. let it : e ≡ Unseen = cc (missing) in missed it;
+        stays = moved;
+        found = λ whole missing. let it : e ≡ Unseen = cc (missing) in found whole it;
+      })
+
+  -- where memory was refused
+  short : e ≡ OutOfMemory → Moved → IsProposedBy Bears Shows limit Moved Same IsWhole v r
+  short memory moved = refused (λ other unseen. let it : r ≡ Err OutOfMemory = cc (is, memory) in absurd (other it)) (λ missing. absurd (apart e memory missing)) moved (λ whole missing. apart e memory missing)
+
+  -- where a row wasn't read
+  unread : e ≢ Contracted → (e ≡ Unseen → Same ⊎ IsReadUnranked Bears Shows v) → Moved → (IsWhole → e ≡ Unseen → ⊥) → IsProposedBy Bears Shows limit Moved Same IsWhole v r
+  unread other missed moved found = refused (λ memory unseen. absurd (not-contracted r e is other memory unseen)) missed moved found
 
 pub returns-in_err-place : goal.returns-in_err-place
 returns-in_err-place g c =
@@ -119,7 +120,8 @@ pub invariant_of-result : goal.invariant_of-result
 invariant_of-result g c =
     let there = read_there _ _ _ _ _ _ _ c.in_ok-place.ensures.here c.at-own.ensures in
     let own = c.at-own.result.now in
-    let bound : g.S.RowSource.bound_of c.draft_all.new.source ≡ c.bound.result = g.met.S.RowSource.same_bound c.read.new.source c.draft_all.new.source c.in_ok-draft_all.ensures.read.stays ∙ g.met.S.RowSource.same_bound c.args.source.now c.read.new.source c.in_ok-place.ensures.read.stays ∙ sym c.bound.ensures.bound in
+    let moved = g.met.S.RowSource.stays_more c.args.source.now c.read.new.source c.draft_all.new.source c.in_ok-place.ensures.read.stays c.in_ok-draft_all.ensures.read.stays in
+    let bound : g.S.RowSource.bound_of c.draft_all.new.source ≡ c.bound.result = g.met.S.RowSource.same_bound c.args.source.now c.draft_all.new.source moved ∙ sym c.bound.ensures.bound in
     proposed g.S.RowSource.bears (g.S.RowSource.shows c.draft_all.new.source) c.bound.result c.args.node (row_in own) (kept_of c.draft_all.new.desk.searcher.rows) c.draft_all.new.draft c.in_ok-rests_on.rests_on.items own c.bound.ensures.limit
     (subst (λ (b : Cost). AreKept g.S.RowSource.bears (g.S.RowSource.shows c.draft_all.new.source) b (kept_of c.draft_all.new.desk.searcher.rows)) bound c.in_ok-draft_all.ensures.read.kept)
     (subst (λ (x : ℕ). kept_of c.draft_all.new.desk.searcher.rows x ≡ Some own) there.1.node (c.in_ok-draft_all.ensures.read.more own.node own there.0))
@@ -132,7 +134,8 @@ pub returns : goal.returns
 returns g c =
     let there = read_there _ _ _ _ _ _ _ c.in_ok-place.ensures.here c.at-own.ensures in
     let own = c.at-own.result.now in
-    let bound : g.S.RowSource.bound_of c.draft_all.new.source ≡ c.bound.result = g.met.S.RowSource.same_bound c.read.new.source c.draft_all.new.source c.in_ok-draft_all.ensures.read.stays ∙ g.met.S.RowSource.same_bound c.args.source.now c.read.new.source c.in_ok-place.ensures.read.stays ∙ sym c.bound.ensures.bound in
+    let moved = g.met.S.RowSource.stays_more c.args.source.now c.read.new.source c.draft_all.new.source c.in_ok-place.ensures.read.stays c.in_ok-draft_all.ensures.read.stays in
+    let bound : g.S.RowSource.bound_of c.draft_all.new.source ≡ c.bound.result = g.met.S.RowSource.same_bound c.args.source.now c.draft_all.new.source moved ∙ sym c.bound.ensures.bound in
     let a = c.in_ok-draft_all.ensures.read.kept own.node own (c.in_ok-draft_all.ensures.read.more own.node own there.0) in
     let unranked = ap (λ (r : Row). r.rank) (sym (c.behind-own.view_is ∙ c.deref.ensures)) ∙ nothing c.behind-own.inside.rank c.if-is_some.ensures in
     record {
@@ -145,8 +148,8 @@ returns g c =
           unranked
           (subst (λ (r : Row). IsDrafted c.bound.result c.args.node r r.inn (kept_of c.draft_all.new.desk.searcher.rows) c.draft_all.new.draft) (c.deref-2.ensures ∙ c.in_ok-row.ensures) c.in_ok-draft_all.ensures.draft)
           (subst (λ (ns : List ℕ). AreListed (kept_of c.draft_all.new.desk.searcher.rows) ns c.in_ok-rests_on.rests_on.items) c.deref-3.ensures.value c.in_ok-rests_on.ensures);
-      bears = all_listed_are g.S.RowSource.bears (g.S.RowSource.shows c.draft_all.new.source) g.S.RowSource.bears (g.S.RowSource.bound_of c.draft_all.new.source) (kept_of c.draft_all.new.desk.searcher.rows) c.deref-3.result.now c.in_ok-rests_on.rests_on.items c.in_ok-draft_all.ensures.read.kept c.in_ok-rests_on.ensures (λ x s a. a.bears);
-      shows = all_listed_are g.S.RowSource.bears (g.S.RowSource.shows c.draft_all.new.source) (g.S.RowSource.shows c.draft_all.new.source) (g.S.RowSource.bound_of c.draft_all.new.source) (kept_of c.draft_all.new.desk.searcher.rows) c.deref-3.result.now c.in_ok-rests_on.rests_on.items c.in_ok-draft_all.ensures.read.kept c.in_ok-rests_on.ensures (λ x s a. a.shows);
+      bears = all_listed_are _ _ g.S.RowSource.bears _ _ _ _ c.in_ok-draft_all.ensures.read.kept c.in_ok-rests_on.ensures (λ x s a. a.bears);
+      shows = all_listed_are _ _ (g.S.RowSource.shows c.draft_all.new.source) _ _ _ _ c.in_ok-draft_all.ensures.read.kept c.in_ok-rests_on.ensures (λ x s a. a.shows);
       contracted = λ memory unseen. record {
         row = own;
         of_node = there.1.node;
@@ -155,7 +158,7 @@ returns g c =
         ranked = (λ done. absurd (cc), λ some. absurd (some unranked));
       };
       missed = λ missing. absurd (cc);
-      stays = g.met.S.RowSource.stays_more c.args.source.now c.read.new.source c.draft_all.new.source c.in_ok-place.ensures.read.stays c.in_ok-draft_all.ensures.read.stays;
+      stays = moved;
       found = λ whole missing. absurd (cc);
     }
 
