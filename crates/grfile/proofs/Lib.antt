@@ -9,3 +9,4 @@ pub mod Faults
 pub mod Cuttings
 pub mod PlainFields
 pub mod PlainTaken
+pub mod Before
