@@ -2,26 +2,18 @@
 use Rattle.std.proofs.Common.{ℕ, suc, ◌≡◌, ◌-◌, ◌<◌, ◌≤◌, List, [], ◌∷◌, ◌++◌, length, take, Option, inl, inr, ap, refl, sym, subst, arith}
 use Rattle.std.specs.Prelude.{⊤, Some, None, IfSome, All, Result, OnOk, Ok, Err, IfErr, IsErrAnd, MatchResult}
 use Rattle.std.proofs.lemmas.List.Elements.{All-take}
-use Rattle.ch_cost.specs.declared.cost.Cost.{Cost}
-use Rattle.ch_cost.specs.Cost.{length_of, arcs_of}
-use Rattle.ch_cost.specs.Cost.Laws.{length_of-at_most, arcs_of-at_most}
-use Rattle.ch_graph.specs.Walk.{Walk, visited, Along}
-use Rattle.ch_graph.specs.Graph.{Graph, ArcOf}
+use Rattle.ch_graph.specs.Graph.{Graph}
 use Rattle.ch_graph.specs.Limits.{IsGraph}
-use Rattle.ch_graph.specs.Limits.Laws.{walk-arcs}
 use Rattle.ch_graph.specs.Hierarchy.{Hierarchy, IsWellMade, IsRight}
-use Rattle.ch_graph.specs.declared.link.Link.{Link}
 use Rattle.ch_graph.specs.declared.version.Version.{Version}
 use Rattle.ch_graph.specs.declared.version.Version.TheVariants.{One, Two}
-use Rattle.ch_laws.specs.ByWeight.{IsShortest, RouteIsShortest, NeverTooLongByWeight}
-use Rattle.ch_laws.specs.Theorems.{IsLeastRoute, RouteIsLeast, NeverTooLong}
+use Rattle.ch_route.specs.Laws.{RoutesAreFewest, RoutesAreLeastByWeight, NoneTooLong, NoneTooLongByWeight}
 use Rattle.grfile.specs.Outcome.{FromText}
 use Rattle.grfile.specs.declared.error.GrError.{GrError}
 use Rattle.grfile.specs.Reading.{IsPair, graph_of, pairs_of}
-use Rattle.ch_service.specs.Answer.{Route, IsAnswer, AreAnswers, nothing, one_more, IsLeastWalk, IsFewestWalk, AnswersBy, AnswersFirst}
+use Rattle.ch_service.specs.Answer.{Route, IsAnswer, AreAnswers, nothing, one_more, IsLeastWalk, AnswersBy, AnswersFirst}
 use Rattle.ch_service.specs.Outcome.{IfTold, IfTextFault, Writes, IsFaultOf, IsRoutingFault, StopsShort, ComesOfTexts, ComesOfRouting, ComesOfAnswering}
-use Rattle.ch_unpack.specs.declared.error.UnpackError.TheVariants as unpacking
-use Rattle.ch_service.specs.Route.{Spells, IsRightIn, IsRouteBy, Routed, StopsAtTooLong, Routes, RoutesFirst, RoutesToTooLong}
+use Rattle.ch_service.specs.Route.{Spells, IsRightIn, IsRouteBy, HasTooLong, Routed, StopsAtTooLong, Routes, RoutesFirst, RoutesToTooLong}
 use Rattle.ch_workers.specs.declared.error.BuildError.{BuildError}
 use Rattle.ch_service.specs.declared.error.ServiceError.{ServiceError}
 use Rattle.ch_service.specs.declared.error.ServiceError.TheVariants.{Graph as GraphFault, Queries, Hierarchy as HierarchyFault, Build, Unpack, Write, OutOfMemory}
@@ -35,30 +27,14 @@ right-nodes Two g h right = right.nodes
 abbrev pub RightRoutesAre : Version → (Graph → ℕ → ℕ → Option Route → Type 0) → Type 0
 RightRoutesAre v Is = (g : Graph) (h : Hierarchy) (s t : ℕ) (r : Option Route) → IsGraph g → IsRightIn v g h → s < g.nodes → t < g.nodes → IsRouteBy h s t r → Is g s t r
 
--- it is a least walk with the fewest arcs, since its cost is the distance, which counts arcs
-pub fewest-right : RouteIsLeast → RightRoutesAre Two IsFewestWalk
-fewest-right law g h s t None graph right source target none = (right.value s t None source target).1 none
-fewest-right law g h s t (Some r) graph right source target found =
-    let least = law g h s t r.cost found.links found.arcs graph right source target found.least in
-    let along : Along (ArcOf g) r.nodes s t r.cost = subst (λ (ns : List ℕ). Along (ArcOf g) ns s t r.cost) (sym found.along) least.0 in
-    let no_shorter : (d : Cost) → Walk (ArcOf g) s t d → length_of r.cost ≤ length_of d = λ d w. length_of-at_most (least.1.1 d w) in
-    let count : length r.nodes ≡ suc (length (visited along.0)) = ap (λ (ns : List ℕ). length ns) along.1 in (
-      ((r.cost, along.0, refl, no_shorter), (r.cost, along, refl)),
-      λ d w same.
-          let no_fewer : arcs_of r.cost ≤ arcs_of d = arcs_of-at_most (least.1.1 d w) (sym same) in
-          omega (arith, no_fewer, walk-arcs g w, walk-arcs g along.0, count),
-    )
-
--- and so a least walk
-pub walk-right : RouteIsLeast → RightRoutesAre Two IsLeastWalk
-walk-right law g h s t None graph right source target none = fewest-right law g h s t None graph right source target none
-walk-right law g h s t (Some r) graph right source target found = (fewest-right law g h s t (Some r) graph right source target found).0
+-- a least walk with the fewest arcs is a least walk
+pub walk-right : RoutesAreFewest → RightRoutesAre Two IsLeastWalk
+walk-right law g h s t None graph right source target found = law g h s t None graph right source target found
+walk-right law g h s t (Some r) graph right source target found = (law g h s t (Some r) graph right source target found).0
 
 -- which it is in version 1 too
-pub walk-right_by_weight : RouteIsShortest → RightRoutesAre One IsLeastWalk
-walk-right_by_weight law g h s t None graph right source target none = right.value s t None source target none
-walk-right_by_weight law g h s t (Some r) graph right source target found =
-    subst (λ (ns : List ℕ). IsShortest g ns s t r.cost) (sym found.along) (law g h s t r.cost found.links found.arcs right source target found.least)
+pub walk-right_by_weight : RoutesAreLeastByWeight → RightRoutesAre One IsLeastWalk
+walk-right_by_weight law g h s t r graph right source target found = law g h s t r right source target found
 
 module _ (v : Version) {Is : Graph → ℕ → ℕ → Option Route → Type 0} (are : RightRoutesAre v Is) where
   answer-right : (g : Graph) (h : Hierarchy) (pair : ℕ × ℕ) (line : List ℕ) → IsGraph g → IsRightIn v g h → IsPair (length h.ranks) pair → IsAnswer (IsRouteBy h) pair line → IsAnswer (Is g) pair line
@@ -85,43 +61,33 @@ stops-weaker P P' Q Q' old new (GraphFault fault) f g s = tt
 stops-weaker P P' Q Q' old new (Queries fault) f g s = tt
 stops-weaker P P' Q Q' old new (HierarchyFault fault) f g s = tt
 stops-weaker P P' Q Q' old new (Build e) f g s = s
-stops-weaker P P' Q Q' old new (Unpack unpacking.OutOfMemory) f g s = (s.0, f s.0 s.1, s.2)
-stops-weaker P P' Q Q' old new (Unpack unpacking.TooLong) f g s = (s.0, g s.0 s.1, s.2)
+stops-weaker P P' Q Q' old new (Unpack e) f g s = (s.0, g s.0 s.1, s.2)
 stops-weaker P P' Q Q' old new (Write fault) f g s = (s.0, f s.0 s.1, s.2, s.3)
 stops-weaker P P' Q Q' old new OutOfMemory f g s = elim s [ inl kept ↦ inl kept | inr w ↦ inr (w.0, f w.0 w.1, w.2) ]
 
--- each least route of the hierarchy has fewer arcs than the graph has nodes
-abbrev pub HasShortRoutes : Graph → Hierarchy → Type 0
-HasShortRoutes g h = (s t : ℕ) (c : Cost) (links arcs : List Link) → s < g.nodes → t < g.nodes → IsLeastRoute h s t c links arcs → length arcs ≤ g.nodes - 1
-
--- so it is where it is right for the graph
-short-right : NeverTooLong → (g : Graph) (h : Hierarchy) → IsGraph g → IsRight g h → HasShortRoutes g h
-short-right law g h graph right s t c links arcs source target least = (law g h s t c links arcs graph right source target least).1
-
--- in either version, where it is of that version and well made
+-- no route of a hierarchy is too long that is right for a graph, of this version and well made
 abbrev pub RightRoutesAreShort : Version → Type 0
-RightRoutesAreShort v = (g : Graph) (h : Hierarchy) → IsGraph g → IsRightIn v g h → h.version ≡ v → IsWellMade h → HasShortRoutes g h
+RightRoutesAreShort v = (g : Graph) (h : Hierarchy) (s t : ℕ) → IsGraph g → IsRightIn v g h → h.version ≡ v → IsWellMade h → s < g.nodes → t < g.nodes → HasTooLong h s t → ⊥
 
-pub short-in_two : NeverTooLong → RightRoutesAreShort Two
-short-in_two law g h graph right version made = short-right law g h graph right
+pub short-in_two : NoneTooLong → RightRoutesAreShort Two
+short-in_two law g h s t graph right version made source target = law g h s t graph right source target
 
-pub short-in_one : NeverTooLongByWeight → RightRoutesAreShort One
-short-in_one law g h graph right version made s t c links arcs source target least = law g h s t c links arcs graph right version made source target least
+pub short-in_one : NoneTooLongByWeight → RightRoutesAreShort One
+short-in_one law g h s t graph right version made source target = law g h s t graph right version made source target
 
--- so no route of it is too long
+-- so no text stops at one
 
 at_seam : (P : ℕ × ℕ → Type 0) (first rest : List (ℕ × ℕ)) (pair : ℕ × ℕ) → All P (first ++ pair ∷ rest) → P pair
 at_seam P [] rest pair all = all 0 pair (omega arith)
 at_seam P (p ∷ first) rest pair all = at_seam P first rest pair (λ k d less. all (suc k) d (omega arith))
 
-pub none_too_long : (g : Graph) (h : Hierarchy) (pairs : List (ℕ × ℕ)) (text : List ℕ) → length h.ranks ≡ g.nodes → HasShortRoutes g h → All (IsPair (length h.ranks)) pairs → StopsAtTooLong h pairs text → ⊥
+pub none_too_long : (g : Graph) (h : Hierarchy) (pairs : List (ℕ × ℕ)) (text : List ℕ) → length h.ranks ≡ g.nodes → ((s t : ℕ) → s < g.nodes → t < g.nodes → HasTooLong h s t → ⊥) → All (IsPair (length h.ranks)) pairs
+    → StopsAtTooLong h pairs text → ⊥
 none_too_long g h pairs text nodes short within s =
     let ends : IsPair (length h.ranks) s.pair = at_seam (IsPair (length h.ranks)) s.first s.rest s.pair (subst (All (IsPair (length h.ranks))) s.parts within) in
-    let long = s.too_long in
     let source : s.pair.0 < g.nodes = subst (λ n. s.pair.0 < n) nodes ends.0 in
     let target : s.pair.1 < g.nodes = subst (λ n. s.pair.1 < n) nodes ends.1 in
-    let few : length long.arcs ≤ g.nodes - 1 = short s.pair.0 s.pair.1 long.cost long.links long.arcs source target long.least in
-    omega (arith, few, long.many, nodes)
+    short s.pair.0 s.pair.1 source target s.too_long
 
 -- the texts of the readers, where they are told
 
@@ -184,7 +150,7 @@ routing-kind (GraphFault fault) f = f
 routing-kind (Queries fault) f = tt
 routing-kind (HierarchyFault e) f = tt
 routing-kind (Build e) f = f
-routing-kind (Unpack e) f = tt
+routing-kind (Unpack e) f = f
 routing-kind (Write fault) f = tt
 routing-kind OutOfMemory f = tt
 
@@ -204,7 +170,8 @@ no_text_fault P Q (Err (Write fault)) f = tt
 no_text_fault P Q (Err OutOfMemory) f = tt
 
 -- answers by a hierarchy that is right for the graph that the reader told
-pub answers-told : {Is : Graph → ℕ → ℕ → Option Route → Type 0} → RightRoutesAre Two Is → (g : Graph) (h : Hierarchy) (pairs : List (ℕ × ℕ)) (gr queries old new : Option (List ℕ)) (r : Result ⊤ ServiceError) → IfSome gr (λ text. graph_of text ≡ Ok g) → IfSome queries (λ text. pairs_of g.nodes text ≡ Ok pairs)
+pub answers-told : {Is : Graph → ℕ → ℕ → Option Route → Type 0} → RightRoutesAre Two Is → (g : Graph) (h : Hierarchy) (pairs : List (ℕ × ℕ)) (gr queries old new : Option (List ℕ)) (r : Result ⊤ ServiceError)
+    → IfSome gr (λ text. graph_of text ≡ Ok g) → IfSome queries (λ text. pairs_of g.nodes text ≡ Ok pairs)
     → IsGraph g → IsRight g h → All (IsPair g.nodes) pairs → OnOk r (Writes (Routed h pairs) old new) → OnOk r (IfTold gr queries (λ graph_text pairs_text. Writes (AnswersBy Is graph_text pairs_text) old new))
 answers-told are g h pairs gr queries old new (Err e) reads read graph right within w = tt
 answers-told are g h pairs None queries old new (Ok x) reads read graph right within w = tt
@@ -212,7 +179,7 @@ answers-told are g h pairs (Some text) None old new (Ok x) reads read graph righ
 answers-told are g h pairs (Some text) (Some pairs_text) old new (Ok x) reads read graph right within w =
     (w.0, record { graph = g; pairs = pairs; graph_reads = reads; pairs_read = read; answered = right-routes Two are g h pairs w.0 graph right within w.1 }, w.2)
 
-first-answered : RouteIsLeast → (g : Graph) (h : Hierarchy) (pairs : List (ℕ × ℕ)) (graph_text pairs_text text : List ℕ) → graph_of graph_text ≡ Ok g → pairs_of g.nodes pairs_text ≡ Ok pairs → IsGraph g → IsRight g h → All (IsPair g.nodes) pairs
+first-answered : RoutesAreFewest → (g : Graph) (h : Hierarchy) (pairs : List (ℕ × ℕ)) (graph_text pairs_text text : List ℕ) → graph_of graph_text ≡ Ok g → pairs_of g.nodes pairs_text ≡ Ok pairs → IsGraph g → IsRight g h → All (IsPair g.nodes) pairs
     → ((count : ℕ) × Routed h (take count pairs) text) → AnswersFirst graph_text pairs_text text
 first-answered law g h pairs graph_text pairs_text text reads read graph right within first = record {
   graph = g;
@@ -223,7 +190,7 @@ first-answered law g h pairs graph_text pairs_text text reads read graph right w
   answered = right-routes Two (walk-right law) g h (take first.0 pairs) text graph right (All-take (IsPair g.nodes) first.0 pairs within) first.1;
 }
 
-pub stops-answered : RouteIsLeast → NeverTooLong → (g : Graph) (h : Hierarchy) (pairs : List (ℕ × ℕ)) (gr queries old new : Option (List ℕ)) (r : Result ⊤ ServiceError) → IfSome gr (λ text. graph_of text ≡ Ok g) → IfSome queries (λ text. pairs_of g.nodes text ≡ Ok pairs)
+pub stops-answered : RoutesAreFewest → NoneTooLong → (g : Graph) (h : Hierarchy) (pairs : List (ℕ × ℕ)) (gr queries old new : Option (List ℕ)) (r : Result ⊤ ServiceError) → IfSome gr (λ text. graph_of text ≡ Ok g) → IfSome queries (λ text. pairs_of g.nodes text ≡ Ok pairs)
     → IsGraph g → IsRight g h → All (IsPair g.nodes) pairs → IfErr r (StopsShort (λ text. (count : ℕ) × Routed h (take count pairs) text) (StopsAtTooLong h pairs) old new)
     → IfErr r (λ e. IfTold gr queries (λ graph_text pairs_text. StopsShort (AnswersFirst graph_text pairs_text) (λ _. ⊥) old new e))
 stops-answered law never g h pairs gr queries old new (Ok x) reads read graph right within s = tt
@@ -231,7 +198,7 @@ stops-answered law never g h pairs None queries old new (Err e) reads read graph
 stops-answered law never g h pairs (Some text) None old new (Err e) reads read graph right within s = tt
 stops-answered law never g h pairs (Some text) (Some pairs_text) old new (Err e) reads read graph right within s =
     let in_range : All (IsPair (length h.ranks)) pairs = subst (λ n. All (IsPair n) pairs) (sym right.nodes) within in
-    stops-weaker _ _ _ _ old new e (λ answered_text. first-answered law g h pairs text pairs_text answered_text reads read graph right within) (λ answered_text stops. none_too_long g h pairs answered_text right.nodes (short-right never g h graph right) in_range stops) s
+    stops-weaker _ _ _ _ old new e (λ answered_text. first-answered law g h pairs text pairs_text answered_text reads read graph right within) (λ answered_text stops. none_too_long g h pairs answered_text right.nodes (λ s t. never g h s t graph right) in_range stops) s
 
 -- a refusal while they are answered comes only where both texts were read
 
@@ -241,23 +208,21 @@ fault-over g pairs old new graph_text pairs_text P (GraphFault fault) reads read
 fault-over g pairs old new graph_text pairs_text P (Queries fault) reads read f s = absurd f
 fault-over g pairs old new graph_text pairs_text P (HierarchyFault e) reads read f s = f
 fault-over g pairs old new graph_text pairs_text P (Build e) reads read f s = absurd f
-fault-over g pairs old new graph_text pairs_text P (Unpack unpacking.OutOfMemory) reads read f s = (refl, (g, reads, (pairs, read)))
-fault-over g pairs old new graph_text pairs_text P (Unpack unpacking.TooLong) reads read f s = absurd s.1
+fault-over g pairs old new graph_text pairs_text P (Unpack e) reads read f s = absurd s.1
 fault-over g pairs old new graph_text pairs_text P (Write fault) reads read f s = (g, reads, (pairs, read))
 fault-over g pairs old new graph_text pairs_text P OutOfMemory reads read f s = (g, reads, (pairs, read))
 
-texts-kind : (g : Graph) (h : Hierarchy) (pairs : List (ℕ × ℕ)) (old new : Option (List ℕ)) (P : List ℕ → Type 0) (e : ServiceError) → NeverTooLong → IsGraph g → IsRight g h → All (IsPair (length h.ranks)) pairs
+texts-kind : (g : Graph) (h : Hierarchy) (pairs : List (ℕ × ℕ)) (old new : Option (List ℕ)) (P : List ℕ → Type 0) (e : ServiceError) → NoneTooLong → IsGraph g → IsRight g h → All (IsPair (length h.ranks)) pairs
     → ComesOfAnswering e → StopsShort P (StopsAtTooLong h pairs) old new e → ComesOfTexts e
 texts-kind g h pairs old new P (GraphFault fault) never graph right within f s = tt
 texts-kind g h pairs old new P (Queries fault) never graph right within f s = tt
 texts-kind g h pairs old new P (HierarchyFault e) never graph right within f s = f
 texts-kind g h pairs old new P (Build e) never graph right within f s = tt
-texts-kind g h pairs old new P (Unpack unpacking.OutOfMemory) never graph right within f s = refl
-texts-kind g h pairs old new P (Unpack unpacking.TooLong) never graph right within f s = absurd (none_too_long g h pairs s.0 right.nodes (short-right never g h graph right) within s.1)
+texts-kind g h pairs old new P (Unpack e) never graph right within f s = none_too_long g h pairs s.0 right.nodes (λ s t. never g h s t graph right) within s.1
 texts-kind g h pairs old new P (Write fault) never graph right within f s = tt
 texts-kind g h pairs old new P OutOfMemory never graph right within f s = tt
 
-pub texts-kinds : NeverTooLong → (g : Graph) (h : Hierarchy) (pairs : List (ℕ × ℕ)) (old new : Option (List ℕ)) (r : Result ⊤ ServiceError) → IsGraph g → IsRight g h → All (IsPair g.nodes) pairs → IfErr r ComesOfAnswering
+pub texts-kinds : NoneTooLong → (g : Graph) (h : Hierarchy) (pairs : List (ℕ × ℕ)) (old new : Option (List ℕ)) (r : Result ⊤ ServiceError) → IsGraph g → IsRight g h → All (IsPair g.nodes) pairs → IfErr r ComesOfAnswering
     → IfErr r (StopsShort (λ text. (count : ℕ) × Routed h (take count pairs) text) (StopsAtTooLong h pairs) old new) → IfErr r ComesOfTexts
 texts-kinds never g h pairs old new (Ok x) graph right within f s = tt
 texts-kinds never g h pairs old new (Err e) graph right within f s = texts-kind g h pairs old new _ e never graph right (subst (λ n. All (IsPair n) pairs) (sym right.nodes) within) f s

@@ -64,7 +64,8 @@ module _ (v : Version) where
       }
 
   -- what a call wrote by bytes that were prepared
-  pub prepared-told : {Is : Graph → ℕ → ℕ → Option Route → Type 0} → RoutesAre Is v → (h : Hierarchy) (pairs : List (ℕ × ℕ)) (hier queries old new : Option (List ℕ)) (r : Result ⊤ ServiceError) → IfSome hier (λ bytes. Spells bytes h) → IfSome queries (λ text. pairs_of (length h.ranks) text ≡ Ok pairs)
+  pub prepared-told : {Is : Graph → ℕ → ℕ → Option Route → Type 0} → RoutesAre Is v → (h : Hierarchy) (pairs : List (ℕ × ℕ)) (hier queries old new : Option (List ℕ)) (r : Result ⊤ ServiceError)
+      → IfSome hier (λ bytes. Spells bytes h) → IfSome queries (λ text. pairs_of (length h.ranks) text ≡ Ok pairs)
       → OnOk r (Writes (Routed h pairs) old new) → OnOk r (IfTold hier queries (λ bytes pairs_text. (graph_text : List ℕ) → PreparesIn v graph_text bytes → Writes (AnswersBy Is graph_text pairs_text) old new))
   prepared-told are h pairs hier queries old new (Err e) spells read w = tt
   prepared-told are h pairs None queries old new (Ok x) spells read w = tt
@@ -73,14 +74,16 @@ module _ (v : Version) where
       (w.0, are graph_text bytes pairs_text w.0 p (record { hierarchy = h; pairs = pairs; spells = spells; pairs_read = read; routed = w.1 }), w.2)
 
   -- no route by them is too long
-  never_long : HierarchiesHaveOneSpelling → SpelledGraphsAreInRange → RightRoutesAreShort v → (h : Hierarchy) (pairs : List (ℕ × ℕ)) (hier : Option (List ℕ)) (text : List ℕ) → IfSome hier (λ bytes. Spells bytes h) → All (IsPair (length h.ranks)) pairs → StopsAtTooLong h pairs text
+  never_long : HierarchiesHaveOneSpelling → SpelledGraphsAreInRange → RightRoutesAreShort v → (h : Hierarchy) (pairs : List (ℕ × ℕ)) (hier : Option (List ℕ)) (text : List ℕ)
+      → IfSome hier (λ bytes. Spells bytes h) → All (IsPair (length h.ranks)) pairs → StopsAtTooLong h pairs text
       → IfSome hier (λ bytes. (graph_text : List ℕ) → PreparesIn v graph_text bytes → ⊥)
   never_long one graphs short h pairs None text spells within s = tt
   never_long one graphs short h pairs (Some bytes) text spells within s = λ graph_text p.
       let q = is_prepared one graphs graph_text bytes h p spells in
-      none_too_long q.graph h pairs text (right-nodes v q.graph h q.right) (short q.graph h q.within q.right q.version spells.made) within s
+      none_too_long q.graph h pairs text (right-nodes v q.graph h q.right) (λ s t. short q.graph h s t q.within q.right q.version spells.made) within s
 
-  pub never_long-told : HierarchiesHaveOneSpelling → SpelledGraphsAreInRange → RightRoutesAreShort v → (h : Hierarchy) (pairs : List (ℕ × ℕ)) (hier old new : Option (List ℕ)) (P : List ℕ → Type 0) (r : Result ⊤ ServiceError) → IfSome hier (λ bytes. Spells bytes h) → All (IsPair (length h.ranks)) pairs
+  pub never_long-told : HierarchiesHaveOneSpelling → SpelledGraphsAreInRange → RightRoutesAreShort v → (h : Hierarchy) (pairs : List (ℕ × ℕ)) (hier old new : Option (List ℕ)) (P : List ℕ → Type 0) (r : Result ⊤ ServiceError)
+      → IfSome hier (λ bytes. Spells bytes h) → All (IsPair (length h.ranks)) pairs
       → IfErr r (StopsShort P (StopsAtTooLong h pairs) old new) → r ≡ Err (Unpack TooLong) → IfSome hier (λ bytes. (graph_text : List ℕ) → PreparesIn v graph_text bytes → ⊥)
   never_long-told one graphs short h pairs hier old new P r spells within stops is =
       let written : Writes (StopsAtTooLong h pairs) old new = subst (λ (q : Result ⊤ ServiceError). IfErr q (StopsShort P (StopsAtTooLong h pairs) old new)) is stops in

@@ -8,5 +8,4 @@ pub mod Naming
 pub mod Prepared
 pub mod Progress
 pub mod Refusals
-pub mod Unpacked
 mod TextFaults

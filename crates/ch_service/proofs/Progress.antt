@@ -4,11 +4,11 @@ use Rattle.std.specs.Io.KnownBytes.{Appends}
 use Rattle.std.proofs.KnownBytes.{Appends-trans, Appends-nil}
 use Rattle.std.proofs.Math.Seq.{take-append_seam}
 use Rattle.ch_service.specs.Answer.{Route, IsAnswer, AreAnswers, nothing, one_more}
+use Rattle.grfile.specs.Reading.{IsPair}
 use Rattle.counted_io.specs.Handing.{HandsOn, HandsOnPart}
-use Rattle.ch_service.specs.Outcome.{Writes, StopsShort, IsSearchFault, ComesOfAnswering}
-use Rattle.ch_service.specs.Route.{Routed, StopsAtTooLong}
+use Rattle.ch_service.specs.Outcome.{Writes, StopsShort, IsPairFault, ComesOfAnswering}
+use Rattle.ch_service.specs.Route.{IsRouteBy, Routed, StopsAtTooLong}
 use Rattle.ch_graph.specs.Hierarchy.{Hierarchy}
-use Rattle.ch_unpack.specs.declared.error.UnpackError.TheVariants as unpacking
 use Rattle.counted_io.specs.declared.writing.WriteFault.{WriteFault}
 use Rattle.ch_service.specs.declared.error.ServiceError.{ServiceError}
 use Rattle.ch_service.specs.declared.error.ServiceError.TheVariants.{Graph, Queries, Hierarchy as HierarchyFault, Build, Unpack, Write, OutOfMemory}
@@ -104,14 +104,13 @@ parted_at pairs i within =
     sym (take-append-drop (i + 1) pairs) ∙ ap (λ (l : List (ℕ × ℕ)). l ++ drop (i + 1) pairs) (take_more pairs i (0, 0) within)
     ∙ append_assoc (take i pairs) (get_or pairs i (0, 0) ∷ []) (drop (i + 1) pairs)
 
-pub stops-at_next : (h : Hierarchy) (pairs : List (ℕ × ℕ)) (i : ℕ) (old new : Option (List ℕ)) (e : ServiceError) → i < length pairs → IsSearchFault h (get_or pairs i (0, 0)) e → Writes (Routed h (take i pairs)) old new
+pub stops-at_next : (h : Hierarchy) (pairs : List (ℕ × ℕ)) (i : ℕ) (old new : Option (List ℕ)) (e : ServiceError) → i < length pairs → IsPairFault h (get_or pairs i (0, 0)) e → Writes (Routed h (take i pairs)) old new
     → StopsShort (λ text. (count : ℕ) × Routed h (take count pairs) text) (StopsAtTooLong h pairs) old new e
 stops-at_next h pairs i old new (Graph fault) within f w = tt
 stops-at_next h pairs i old new (Queries fault) within f w = tt
 stops-at_next h pairs i old new (HierarchyFault fault) within f w = tt
 stops-at_next h pairs i old new (Build e) within f w = absurd f
-stops-at_next h pairs i old new (Unpack unpacking.OutOfMemory) within f w = (w.0, (i, w.1), w.2)
-stops-at_next h pairs i old new (Unpack unpacking.TooLong) within f w = (
+stops-at_next h pairs i old new (Unpack e) within f w = (
   w.0,
   record {
     first = take i pairs;
@@ -119,21 +118,32 @@ stops-at_next h pairs i old new (Unpack unpacking.TooLong) within f w = (
     rest = drop (i + 1) pairs;
     parts = parted_at pairs i within;
     routed = w.1;
-    too_long = f;
+    too_long = f.1;
   },
   w.2,
 )
 stops-at_next h pairs i old new (Write fault) within f w = absurd f
 stops-at_next h pairs i old new OutOfMemory within f w = inr (w.0, (i, w.1), w.2)
 
-pub comes_of_answering : (h : Hierarchy) (pair : ℕ × ℕ) (e : ServiceError) → IsSearchFault h pair e → ComesOfAnswering e
+pub comes_of_answering : (h : Hierarchy) (pair : ℕ × ℕ) (e : ServiceError) → IsPairFault h pair e → ComesOfAnswering e
 comes_of_answering h pair (Graph fault) f = f
 comes_of_answering h pair (Queries fault) f = f
 comes_of_answering h pair (HierarchyFault fault) f = f
 comes_of_answering h pair (Build e) f = f
-comes_of_answering h pair (Unpack e) f = tt
+comes_of_answering h pair (Unpack e) f = f.0
 comes_of_answering h pair (Write fault) f = tt
 comes_of_answering h pair OutOfMemory f = tt
+
+-- what a router of the same hierarchy answered, or refused
+
+pub in_range-by : {k h : Hierarchy} (pair : ℕ × ℕ) → k ≡ h → IsPair (length h.ranks) pair → IsPair (length k.ranks) pair
+in_range-by pair same within = subst (λ (m : Hierarchy). IsPair (length m.ranks) pair) (sym same) within
+
+pub answer-by : {k h : Hierarchy} (pair : ℕ × ℕ) (lines more : List ℕ) → k ≡ h → ((line : List ℕ) × IsAnswer (IsRouteBy k) pair line × (more ≡ lines ++ line)) → (line : List ℕ) × IsAnswer (IsRouteBy h) pair line × (more ≡ lines ++ line)
+answer-by pair lines more same a = (a.0, subst (λ (m : Hierarchy). IsAnswer (IsRouteBy m) pair a.0) same a.1, a.2)
+
+pub fault-by : {k h : Hierarchy} (pair : ℕ × ℕ) (e : ServiceError) → k ≡ h → IsPairFault k pair e → IsPairFault h pair e
+fault-by pair e same f = subst (λ (m : Hierarchy). IsPairFault m pair e) same f
 
 -- the answer to the next of the pairs
 pub gathered-next : {Is : Told} (pairs : List (ℕ × ℕ)) (i : ℕ) {old new : Option (List ℕ)} {lines more : List ℕ} {written : ℕ} → i < length pairs → IsGathered Is (take i pairs) old new lines written

@@ -1,16 +1,10 @@
 -- Answered texts: one line for each pair of nodes, in their order.
-use Rattle.std.specs.Prelude.{ℕ, ◌≡◌, ◌+◌, ◌-◌, ◌≤◌, List, [], ◌∷◌, ◌++◌, length, map, take, codes, decimal, Option, Some, None, Ok}
+use Rattle.std.specs.Prelude.{ℕ, ◌≡◌, ◌+◌, ◌-◌, List, [], ◌∷◌, ◌++◌, length, map, take, codes, decimal, Option, Some, None, Ok}
 use Rattle.std.specs.List.{concat}
-use Rattle.ch_cost.specs.declared.cost.Cost.{Cost}
 use Rattle.ch_cost.specs.Cost.{length_of}
-use Rattle.ch_graph.specs.Walk.{Walk, visited, Along}
-use Rattle.ch_graph.specs.Graph.{Graph, ArcOf, IsLeastLength}
+use Rattle.ch_graph.specs.Graph.{Graph}
+pub use Rattle.ch_route.specs.Routes.{Route, IsLeastWalk, HasFewestArcs, IsFewestWalk}
 use Rattle.grfile.specs.Reading.{graph_of, pairs_of}
-
--- what a way from one node to another costs, and the nodes along it, both ends among them
-pub record Route : Type 0 where
-  pub cost : Cost
-  pub nodes : List ℕ
 
 -- nodes as a text names them, numbered from 1, a space before each
 abbrev pub named : List ℕ → List ℕ
@@ -35,21 +29,6 @@ pub record IsAnswer (IsRoute : ℕ → ℕ → Option Route → Type 0) (pair : 
 pub data AreAnswers (IsRoute : ℕ → ℕ → Option Route → Type 0) : List (ℕ × ℕ) → List ℕ → Type 0 where
   nothing : AreAnswers IsRoute [] []
   one_more : {pair : ℕ × ℕ} {pairs : List (ℕ × ℕ)} {line rest : List ℕ} → IsAnswer IsRoute pair line → AreAnswers IsRoute pairs rest → AreAnswers IsRoute (pair ∷ pairs) (line ++ rest)
-
--- the length is the least over all walks of the graph, and some walk of exactly that length goes along the nodes; or
--- there is no walk
-abbrev pub IsLeastWalk : Graph → ℕ → ℕ → Option Route → Type 0
-IsLeastWalk g s t (Some r) = IsLeastLength g s t (Some (length_of r.cost)) × ((c : Cost) × Along (ArcOf g) r.nodes s t c × (length_of c ≡ length_of r.cost))
-IsLeastWalk g s t None = IsLeastLength g s t None
-
--- no walk of the same length has fewer arcs than there are from node to node
-abbrev pub HasFewestArcs : Graph → ℕ → ℕ → Route → Type 0
-HasFewestArcs g s t r = (c : Cost) (w : Walk (ArcOf g) s t c) → length_of c ≡ length_of r.cost → length r.nodes - 1 ≤ length (visited w)
-
--- a least walk, and of all least walks one with the fewest arcs; or there is no walk
-abbrev pub IsFewestWalk : Graph → ℕ → ℕ → Option Route → Type 0
-IsFewestWalk g s t (Some r) = IsLeastWalk g s t (Some r) × HasFewestArcs g s t r
-IsFewestWalk g s t None = IsLeastLength g s t None
 
 -- answers by least walks of a graph
 abbrev pub Answered : Graph → List (ℕ × ℕ) → List ℕ → Type 0

@@ -12,7 +12,9 @@ use Rattle.hierfile.specs.Bytes.{OfBytes}
 use Rattle.hierfile.specs.Fault.{first_fault}
 use Rattle.ch_service.specs.declared.error.ServiceError.{ServiceError}
 use Rattle.ch_service.specs.declared.error.ServiceError.TheVariants.{Graph as GraphFault, Queries, Hierarchy as HierarchyFault, Build, Unpack, Write, OutOfMemory}
+use Rattle.ch_unpack.specs.declared.error.UnpackError.{UnpackError}
 use Rattle.ch_unpack.specs.declared.error.UnpackError.TheVariants as unpacking
+use Rattle.ch_unpack.specs.declared.error.UnpackError.TheVariants.{TooLong}
 use Rattle.ch_service.specs.Joined.{graph_part, pairs_part}
 use Rattle.ch_service.specs.Route.{Spells, HasTooLong}
 
@@ -47,7 +49,7 @@ IsFaultOf graph_text pairs_text (GraphFault fault) = FromText fault.kind (graph_
 IsFaultOf graph_text pairs_text (Queries fault) = (g : Graph) × (graph_of graph_text ≡ Ok g) × FromText fault.kind (pairs_of g.nodes pairs_text ≡ Err fault)
 IsFaultOf graph_text pairs_text (HierarchyFault e) = ⊥
 IsFaultOf graph_text pairs_text (Build e) = AreTexts graph_text pairs_text
-IsFaultOf graph_text pairs_text (Unpack e) = (e ≡ unpacking.OutOfMemory) × AreTexts graph_text pairs_text
+IsFaultOf graph_text pairs_text (Unpack e) = ⊥
 IsFaultOf graph_text pairs_text (Write fault) = AreTexts graph_text pairs_text
 IsFaultOf graph_text pairs_text OutOfMemory = AreTexts graph_text pairs_text
 
@@ -80,7 +82,7 @@ IsRoutingFault bytes pairs_text OutOfMemory = AreRoutingTexts bytes pairs_text
 -- The refusals of a call that answers from the texts of a graph and of pairs, whatever is known of its readers.
 abbrev pub ComesOfTexts : ServiceError → Type 0
 ComesOfTexts (HierarchyFault e) = ⊥
-ComesOfTexts (Unpack e) = e ≡ unpacking.OutOfMemory
+ComesOfTexts (Unpack e) = ⊥
 ComesOfTexts e = ⊤
 
 -- those of one that prepares a hierarchy
@@ -94,6 +96,7 @@ ComesOfPreparing e = ⊥
 abbrev pub ComesOfRouting : ServiceError → Type 0
 ComesOfRouting (GraphFault fault) = ⊥
 ComesOfRouting (Build e) = ⊥
+ComesOfRouting (Unpack e) = e ≡ TooLong
 ComesOfRouting e = ⊤
 
 -- these facts of a fault, where a refusal is one of the graph's text or one of the pairs'
@@ -142,8 +145,7 @@ StopsShort P Q old new (GraphFault fault) = ⊤
 StopsShort P Q old new (Queries fault) = ⊤
 StopsShort P Q old new (HierarchyFault e) = ⊤
 StopsShort P Q old new (Build e) = Keeps old new
-StopsShort P Q old new (Unpack unpacking.OutOfMemory) = Writes P old new
-StopsShort P Q old new (Unpack unpacking.TooLong) = Writes Q old new
+StopsShort P Q old new (Unpack e) = Writes Q old new
 StopsShort P Q old new (Write fault) = WritesFirst P old new fault.written
 StopsShort P Q old new OutOfMemory = Keeps old new ⊎ Writes P old new
 
@@ -153,16 +155,20 @@ ComesOfAnswering (GraphFault fault) = ⊥
 ComesOfAnswering (Queries fault) = ⊥
 ComesOfAnswering (HierarchyFault e) = ⊥
 ComesOfAnswering (Build e) = ⊥
-ComesOfAnswering (Unpack e) = ⊤
+ComesOfAnswering (Unpack e) = e ≡ TooLong
 ComesOfAnswering (Write fault) = ⊤
 ComesOfAnswering OutOfMemory = ⊤
 
--- the refusals that come while the route of a pair is found: it is too long only where it is that pair's
-abbrev pub IsSearchFault : Hierarchy → ℕ × ℕ → ServiceError → Type 0
-IsSearchFault h pair (Unpack unpacking.OutOfMemory) = ⊤
-IsSearchFault h pair (Unpack unpacking.TooLong) = HasTooLong h pair.0 pair.1
-IsSearchFault h pair OutOfMemory = ⊤
-IsSearchFault h pair e = ⊥
+-- what the refusal of a pair is told as: memory is refused for a pair as it is beside the pairs
+abbrev pub of_pair : UnpackError → ServiceError
+of_pair unpacking.OutOfMemory = OutOfMemory
+of_pair TooLong = Unpack TooLong
+
+-- the refusals that come while a pair is answered: a route is too long only where it is that pair's
+abbrev pub IsPairFault : Hierarchy → ℕ × ℕ → ServiceError → Type 0
+IsPairFault h pair (Unpack e) = (e ≡ TooLong) × HasTooLong h pair.0 pair.1
+IsPairFault h pair OutOfMemory = ⊤
+IsPairFault h pair e = ⊥
 
 -- the refusals that come while a joined input is read
 abbrev pub ComesOfReading : ServiceError → Type 0

@@ -1,14 +1,12 @@
 -- Hierarchies as they are written, and answers by them.
-use Rattle.std.specs.Prelude.{ℕ, ◌≡◌, ◌-◌, ◌<◌, ◌≤◌, List, ◌∷◌, ◌++◌, length, map, take, Option, Some, None, Ok, All}
-use Rattle.ch_cost.specs.declared.cost.Cost.{Cost}
-use Rattle.ch_graph.specs.declared.link.Link.{Link}
+use Rattle.std.specs.Prelude.{ℕ, ◌≡◌, List, ◌∷◌, ◌++◌, length, take, Option, Ok, All}
 use Rattle.ch_graph.specs.Graph.{Graph}
 use Rattle.ch_graph.specs.Limits.{IsGraph}
 use Rattle.ch_graph.specs.declared.version.Version.{Version}
 use Rattle.ch_graph.specs.declared.version.Version.TheVariants.{One, Two}
-use Rattle.ch_graph.specs.Hierarchy.{Hierarchy, IsWellMade, IsRight, IsValue}
-use Rattle.ch_laws.specs.Theorems.{IsLeastRoute}
+use Rattle.ch_graph.specs.Hierarchy.{Hierarchy, IsWellMade, IsRight}
 use Rattle.ch_laws.specs.ByWeight.{IsRightByWeight}
+pub use Rattle.ch_route.specs.Routes.{IsUnfoldedRoute, IsRouteBy, HasTooLong}
 use Rattle.grfile.specs.Reading.{graph_of, pairs_of, IsPair}
 use Rattle.hierfile.specs.Spelling.{bytes_of}
 use Rattle.ch_service.specs.Answer.{Route, AreAnswers, Answered, IsLeastWalk, IsFewestWalk, AnswersBy, AnswersFirst}
@@ -37,31 +35,9 @@ pub record PreparesIn (v : Version) (graph_text bytes : List ℕ) : Type 0 where
 abbrev pub Prepares : List ℕ → List ℕ → Type 0
 Prepares = PreparesIn Two
 
--- The cost is the value of the hierarchy, and the nodes are those of the arcs that a rise-fall walk of that cost stands
--- for, fewer than there are nodes.
-pub record IsUnfoldedRoute (h : Hierarchy) (s t : ℕ) (r : Route) : Type 0 where
-  pub links : List Link
-  pub arcs : List Link
-  pub least : IsLeastRoute h s t r.cost links arcs
-  pub few : length arcs ≤ length h.ranks - 1
-  pub along : r.nodes ≡ s ∷ map (λ (l : Link). l.to) arcs
-
--- such a route, or none where the hierarchy has no value
-abbrev pub IsRouteBy : Hierarchy → ℕ → ℕ → Option Route → Type 0
-IsRouteBy h s t (Some r) = IsUnfoldedRoute h s t r
-IsRouteBy h s t None = IsValue h s t None
-
 -- the text answers the pairs by routes of the hierarchy
 abbrev pub Routed : Hierarchy → List (ℕ × ℕ) → List ℕ → Type 0
 Routed h = AreAnswers (IsRouteBy h)
-
--- a least rise-fall walk from s to t stands for as many arcs as there are nodes, or more
-pub record HasTooLong (h : Hierarchy) (s t : ℕ) : Type 0 where
-  pub cost : Cost
-  pub links : List Link
-  pub arcs : List Link
-  pub least : IsLeastRoute h s t cost links arcs
-  pub many : length h.ranks - 1 < length arcs
 
 -- the text answers the first of the pairs, and the route of the next one is too long
 pub record StopsAtTooLong (h : Hierarchy) (pairs : List (ℕ × ℕ)) (text : List ℕ) : Type 0 where

@@ -14,7 +14,7 @@ use crate::joined::parts;
 use crate::pairs::answer_pairs;
 use crate::refusing::refuse;
 use ch_estimate::{Estimator, Leases};
-use ch_laws::{least_route_is_a_least_walk, least_route_is_never_too_long};
+use ch_route::routes_are_least;
 use ch_workers::{Built, Gate, OpenGate, Options, build};
 use grfile::{read_graph, read_queries};
 use std::alloc::Global;
@@ -69,13 +69,8 @@ pub fn answer<G: Read, Q: Read, W: Write, P: Gate, R: Threads + Wait + Sync>(
         Ok(pairs) => pairs,
         Err(fault) => return refuse(rt, ServiceError::Queries(fault), lists, leases),
     };
-    least_route_is_a_least_walk();
-    least_route_is_never_too_long();
-    let Built {
-        hierarchy,
-        receipts: _,
-        log: _,
-    } = build(rt, alloc, graph, options, lists, leases, gate)?;
+    routes_are_least();
+    let Built { hierarchy, .. } = build(rt, alloc, graph, options, lists, leases, gate)?;
     answer_pairs(alloc, &hierarchy, pairs.as_slice(), out)
 }
 

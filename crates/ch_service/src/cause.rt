@@ -2,7 +2,7 @@ ghost use Rattle.std.specs.Prelude.{◌≡◌, Some};
 ghost use Rattle.ch_service.specs.Cause.{cause_of, of_text, of_file, shown};
 
 use crate::error::ServiceError;
-use ch_unpack::UnpackError;
+use ch_route::UnpackError;
 use ch_workers::BuildError;
 use counted_io::WriteFault;
 use grfile::{GrError, GrErrorKind};

@@ -1,8 +1,9 @@
 ghost use Rattle.std.specs.Prelude.{◌≡◌, Some};
 ghost use Rattle.ch_service.specs.Cause.{cause_of, shown};
-ghost use Rattle.ch_service.specs.declared.error.ServiceError.TheVariants.{Build, OutOfMemory, Unpack, Write};
+ghost use Rattle.ch_service.specs.declared.error.ServiceError.TheVariants.{Build, OutOfMemory, Write};
+ghost use Rattle.ch_service.specs.Outcome.{of_pair};
 
-use ch_unpack::UnpackError;
+use ch_route::UnpackError;
 use ch_workers::BuildError;
 use counted_io::WriteFault;
 use grfile::GrError;
@@ -24,12 +25,12 @@ pub enum ServiceError {
     Hierarchy(HierError),
     /// No hierarchy was built: memory was refused, the options are bad, or what the workers told doesn't agree.
     Build(BuildError),
-    /// A route couldn't be told node by node: memory was refused, or the hierarchy isn't right for any graph, since
-    /// the route would repeat a node.
+    /// A route is too long: it would repeat a node, so the hierarchy isn't right for any graph. No call of this crate
+    /// fails with `Unpack(OutOfMemory)`: where a pair runs out of memory it is `OutOfMemory`.
     Unpack(UnpackError),
     /// The answers, or the file of the hierarchy, couldn't be written.
     Write(WriteFault),
-    /// Memory was refused beside the reading.
+    /// Memory was refused beside the reading and the build.
     OutOfMemory,
 }
 
@@ -69,9 +70,12 @@ impl From<WriteFault> for ServiceError {
 }
 
 impl From<UnpackError> for ServiceError {
-    ghost from_gives = { λ fault e. e ≡ Unpack fault };
+    ghost from_gives = { λ fault e. e ≡ of_pair fault };
 
     fn from(fault: UnpackError) -> ServiceError {
-        ServiceError::Unpack(fault)
+        match fault {
+            UnpackError::OutOfMemory => ServiceError::OutOfMemory,
+            UnpackError::TooLong => ServiceError::Unpack(UnpackError::TooLong),
+        }
     }
 }

@@ -2,7 +2,7 @@ ghost use Rattle.ch_graph.specs.declared.version.Version.TheVariants.{One, Two};
 ghost use Rattle.ch_service.specs.Refusals.{AnswersTell, JoinedAnswersTell, PreparationsTell, RoutesTell};
 ghost use Rattle.ch_service.specs.Route.{FirstRoutesAreExact, RightRoutesAreLeast, RoutesAreExact, RoutesHaveFewestArcs};
 
-use ch_laws::{least_route_is_a_least_walk, route_is_a_shortest_walk};
+use ch_route::routes_are_least;
 use grfile::{spelled_graphs_are_in_range, spelled_pairs_are_in_range};
 use hierfile::hierarchies_have_one_spelling;
 
@@ -12,8 +12,7 @@ pub fn right_routes_are_least()
     ensures least { RightRoutesAreLeast Two }
     ensures by_weight { RightRoutesAreLeast One }
 {
-    least_route_is_a_least_walk();
-    route_is_a_shortest_walk();
+    routes_are_least();
 }
 
 /// Routes are exact: whenever [`prepare`](crate::prepare) has written a hierarchy from the text of a graph,
@@ -29,8 +28,7 @@ pub fn routes_are_exact()
     hierarchies_have_one_spelling();
     spelled_graphs_are_in_range();
     spelled_pairs_are_in_range();
-    least_route_is_a_least_walk();
-    route_is_a_shortest_walk();
+    routes_are_least();
 }
 
 /// And so are the first of them, where a call was refused later. It does nothing when it runs.
@@ -41,8 +39,7 @@ pub fn first_routes_are_exact()
     hierarchies_have_one_spelling();
     spelled_graphs_are_in_range();
     spelled_pairs_are_in_range();
-    least_route_is_a_least_walk();
-    route_is_a_shortest_walk();
+    routes_are_least();
 }
 
 /// By its cause alone a refusal tells which text is at fault, and what was written. It does nothing when it runs.

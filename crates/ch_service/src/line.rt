@@ -2,11 +2,12 @@ ghost use Rattle.std.specs.Prelude.{◌≡◌, ◌+◌, ◌++◌, [], ◌∷◌,
 ghost use Rattle.std.specs.Io.{StartsWith};
 ghost use Rattle.ch_service.specs.Answer.{named, told, line_of};
 
-use crate::finding::Route;
+use ch_route::Route;
 use itoa::Buffer;
 use std::alloc::AllocError;
 
-/// Appends the line that answers the pair by the route. Where memory is refused the lines stay as they were. Takes
+/// Appends the line that answers the pair by the route: `r`, the two nodes, the length, how many arcs, and the nodes of
+/// the route; or `n` and the two nodes, where there is none. Where memory is refused the lines stay as they were. Takes
 /// memory for the line.
 pub fn push_line(
     pair: (u32, u32),
@@ -58,8 +59,9 @@ fn push_route(route: &Route, lines: &mut Vec<u8>) -> Result<(), AllocError>
     push_nodes(route.nodes.as_slice(), lines)
 }
 
-// Appends the nodes, or a part of them where memory is refused.
-fn push_nodes(nodes: &[u32], lines: &mut Vec<u8>) -> Result<(), AllocError>
+/// Appends the nodes as a line names them, numbered from 1, a space before each. Where memory is refused a part of that
+/// text may be there.
+pub fn push_nodes(nodes: &[u32], lines: &mut Vec<u8>) -> Result<(), AllocError>
     ensures ok { OnOk result (lines.new.items ≡ lines.old.items ++ named nodes.now) }
     ensures err { StartsWith lines.new.items lines.old.items }
 {
@@ -69,8 +71,8 @@ fn push_nodes(nodes: &[u32], lines: &mut Vec<u8>) -> Result<(), AllocError>
     Ok(())
 }
 
-// Appends a space and the number, or a part of them where memory is refused.
-fn push_number(number: u64, lines: &mut Vec<u8>) -> Result<(), AllocError>
+/// Appends a space and the number in decimals. Where memory is refused a part of that text may be there.
+pub fn push_number(number: u64, lines: &mut Vec<u8>) -> Result<(), AllocError>
     ensures ok { OnOk result (lines.new.items ≡ lines.old.items ++ codes " " ++ decimal number) }
     ensures err { StartsWith lines.new.items lines.old.items }
 {

@@ -1,19 +1,18 @@
-ghost use Rattle.std.specs.Prelude.{◌≡◌, ◌++◌, ℕ, List, [], All, OnOk, IfErr, length, take};
+ghost use Rattle.std.specs.Prelude.{◌≡◌, ◌++◌, ℕ, List, All, OnOk, IfErr, length, take};
 ghost use Rattle.grfile.specs.Reading.{IsPair};
 ghost use Rattle.ch_service.specs.Answer.{IsAnswer};
-ghost use Rattle.ch_service.specs.Outcome.{Writes, StopsShort, IsSearchFault, ComesOfAnswering};
+ghost use Rattle.ch_service.specs.Outcome.{Writes, StopsShort, IsPairFault, ComesOfAnswering};
 ghost use Rattle.ch_service.specs.Route.{IsRouteBy, Routed, StopsAtTooLong};
 
 use crate::error::ServiceError;
-use crate::finding::least_route;
 use crate::line::push_line;
 use crate::output::Output;
 use ch_graph::Hierarchy;
-use ch_query::Search;
+use ch_route::Router;
 use std::alloc::Global;
 use std::io::Write;
 
-/// Writes the answers to the pairs, in order, by one search of the hierarchy. Where one of them is refused, the lines
+/// Writes the answers to the pairs, in order, by one router of the hierarchy. Where one of them is refused, the lines
 /// of the pairs before are written first.
 pub fn answer_pairs<W: Write>(
     alloc: Global,
@@ -26,30 +25,10 @@ pub fn answer_pairs<W: Write>(
     ensures fault { IfErr result ComesOfAnswering }
     ensures stops { IfErr result (StopsShort (λ text. (count : ℕ) × Routed hierarchy.now (take count pairs.now) text) (StopsAtTooLong hierarchy.now pairs.now) (W.contents out.old) (W.contents out.new)) }
 {
-    let mut search = Search::new(alloc, hierarchy)?;
+    let mut router = Router::new(alloc, hierarchy)?;
     let mut output = Output::new(alloc);
-    answer_each(alloc, hierarchy, &mut search, pairs, &mut output, out)
-}
-
-// Writes the answers by a search and an output that has gathered nothing.
-fn answer_each<W: Write>(
-    alloc: Global,
-    hierarchy: &Hierarchy,
-    search: &mut Search<'_>,
-    pairs: &[(u32, u32)],
-    output: &mut Output,
-    out: &mut W,
-) -> Result<(), ServiceError>
-    requires same { search.old ≡ hierarchy.now }
-    requires in_range { All (IsPair (length hierarchy.now.ranks)) pairs.now }
-    requires lines { output.old.lines.items ≡ [] }
-    requires written { output.old.calls.written ≡ 0 }
-    ensures routed { OnOk result (Writes (Routed hierarchy.now pairs.now) (W.contents out.old) (W.contents out.new)) }
-    ensures fault { IfErr result ComesOfAnswering }
-    ensures stops { IfErr result (StopsShort (λ text. (count : ℕ) × Routed hierarchy.now (take count pairs.now) text) (StopsAtTooLong hierarchy.now pairs.now) (W.contents out.old) (W.contents out.new)) }
-{
     'pairs: for pair in pairs {
-        if let Err(refused) = push_pair(alloc, hierarchy, search, *pair, &mut output.lines) {
+        if let Err(refused) = answer_pair(&mut router, *pair, &mut output.lines) {
             output.hand_over(out)?;
             return Err(refused);
         }
@@ -60,20 +39,17 @@ fn answer_each<W: Write>(
 }
 
 // Appends the line that answers the pair. Where it is refused the lines stay as they were.
-fn push_pair(
-    alloc: Global,
-    hierarchy: &Hierarchy,
-    search: &mut Search<'_>,
+fn answer_pair(
+    router: &mut Router<'_>,
     pair: (u32, u32),
     lines: &mut Vec<u8>,
 ) -> Result<(), ServiceError>
-    requires same { search.old ≡ hierarchy.now }
-    requires in_range { IsPair (length hierarchy.now.ranks) pair }
-    ensures ok { OnOk result ((line : List ℕ) × IsAnswer (IsRouteBy hierarchy.now) pair line × (lines.new.items ≡ lines.old.items ++ line)) }
-    ensures err { IfErr result (λ e. IsSearchFault hierarchy.now pair e × (lines.new.items ≡ lines.old.items)) }
-    ensures kept { search.new ≡ search.old }
+    requires in_range { IsPair (length router.old.ranks) pair }
+    ensures ok { OnOk result ((line : List ℕ) × IsAnswer (IsRouteBy router.old) pair line × (lines.new.items ≡ lines.old.items ++ line)) }
+    ensures err { IfErr result (λ e. IsPairFault router.old pair e × (lines.new.items ≡ lines.old.items)) }
+    ensures kept { router.new ≡ router.old }
 {
-    let route = least_route(alloc, hierarchy, search, pair)?;
+    let route = router.route(pair)?;
     push_line(pair, &route, lines)?;
     Ok(())
 }

@@ -10,7 +10,7 @@ ghost use Rattle.ch_unpack.specs.declared.error.UnpackError.TheVariants.{TooLong
 use crate::error::ServiceError;
 use crate::laws::routes_are_exact;
 use crate::pairs::answer_pairs;
-use ch_laws::{least_route_is_never_too_long, route_by_weight_is_never_too_long};
+use ch_route::routes_are_least;
 use grfile::{read_queries, spelled_graphs_are_in_range};
 use hierfile::hierarchies_have_one_spelling;
 use std::alloc::Global;
@@ -61,8 +61,7 @@ pub fn route<H: Read, Q: Read, W: Write>(
     routes_are_exact();
     hierarchies_have_one_spelling();
     spelled_graphs_are_in_range();
-    least_route_is_never_too_long();
-    route_by_weight_is_never_too_long();
+    routes_are_least();
     let hierarchy = hierfile::read(alloc, hier).map_err(ServiceError::Hierarchy)?;
     let pairs = read_queries(alloc, queries, hierarchy.nodes()).map_err(ServiceError::Queries)?;
     answer_pairs(alloc, &hierarchy, pairs.as_slice(), out)

@@ -49,7 +49,7 @@ cut_onto b begun (c ∷ text) = elim (eqb c 10) as (λ t. cond t ((b ∷ begun) 
   | false ↦ cut_onto b (begun ++ c ∷ []) text
 ]
 
-cut_first : (text : List ℕ) → cut_after [] text ≡ cut_lines text
+pub cut_first : (text : List ℕ) → cut_after [] text ≡ cut_lines text
 cut_first [] = refl
 cut_first (b ∷ text) = elim (eqb b 10) as (λ t. cond t ([] ∷ cut_after [] text) (cut_after (b ∷ []) text) ≡ cond t ([] ∷ cut_lines text) (onto_first b (cut_lines text))) [
   | true ↦ ap (λ (lines : List (List ℕ)). [] ∷ lines) (cut_first text)

@@ -19,15 +19,15 @@ use Rattle.grfile.specs.Roads.{graph_grammar, graph_size, size_in_range, road_of
 use Rattle.grfile.specs.Pairs.{pair_grammar, pairs_size, count_in_range, pair_of}
 use Rattle.grfile.specs.Reading.{IsPair}
 
-bind_ok : {A B : Type 0} (r : Result A GrError) (f : A → Result B GrError) (P : A → Type 0) (Q : B → Type 0) → IfOk r P → ((a : A) → P a → IfOk (f a) Q) → IfOk (r >>= f) Q
+pub bind_ok : {A B : Type 0} (r : Result A GrError) (f : A → Result B GrError) (P : A → Type 0) (Q : B → Type 0) → IfOk r P → ((a : A) → P a → IfOk (f a) Q) → IfOk (r >>= f) Q
 bind_ok (Ok x) f P Q h next = next x h
 bind_ok (Err e) f P Q h next = tt
 
-then_ok : {A B : Type 0} (r : Result A GrError) (f : A → Result B GrError) (Q : B → Type 0) → ((a : A) → IfOk (f a) Q) → IfOk (r >>= f) Q
+pub then_ok : {A B : Type 0} (r : Result A GrError) (f : A → Result B GrError) (Q : B → Type 0) → ((a : A) → IfOk (f a) Q) → IfOk (r >>= f) Q
 then_ok (Ok x) f Q next = next x
 then_ok (Err e) f Q next = tt
 
-test_ok : {A : Type 0} (b : Bool) (e : GrError) (r : Result A GrError) (Q : A → Type 0) → (b ≡ false → IfOk r Q) → IfOk (if b then Err e else r) Q
+pub test_ok : {A : Type 0} (b : Bool) (e : GrError) (r : Result A GrError) (Q : A → Type 0) → (b ≡ false → IfOk r Q) → IfOk (if b then Err e else r) Q
 test_ok true e r Q h = tt
 test_ok false e r Q h = h refl
 
@@ -87,7 +87,7 @@ graph_size_ok line (word ∷ n ∷ m ∷ []) = cond_both (bytes_eq word (codes "
 graph_size_ok line (a ∷ b ∷ c ∷ d ∷ more) = tt
 
 -- a node that isn't outside has a number from 0 that is below
-below : (nodes n : ℕ) → is_outside nodes n ≡ false → n - 1 < nodes
+pub below : (nodes n : ℕ) → is_outside nodes n ≡ false → n - 1 < nodes
 below nodes n within =
     let parts = or_parts (eqb n 0) (ltb nodes n) within in
     let some = eqb-false n 0 parts.0 in
@@ -127,7 +127,7 @@ pairs_size_ok nodes line (a ∷ b ∷ c ∷ []) = tt
 pairs_size_ok nodes line (first ∷ second ∷ third ∷ k ∷ []) = cond_both (bytes_eq first (codes "aux") && bytes_eq second (codes "sp") && bytes_eq third (codes "p2p")) (number_in line k >>= (λ count. count_in_range nodes line count)) (fault UnknownLine line) (λ r. IfOk r (λ (size : Size). size.nodes ≡ nodes)) (λ _. then_ok (number_in line k) _ (λ (size : Size). size.nodes ≡ nodes) (λ count. test_ok (ltb (2 ^ 27) count) _ _ (λ (size : Size). size.nodes ≡ nodes) (λ _. refl))) (λ _. tt)
 pairs_size_ok nodes line (a ∷ b ∷ c ∷ d ∷ e ∷ more) = tt
 
-pair_ok : (size : Size) (line : ℕ) (fields : List (List ℕ)) → IfOk (pair_of size.nodes line fields) (IsPair size.nodes)
+pub pair_ok : (size : Size) (line : ℕ) (fields : List (List ℕ)) → IfOk (pair_of size.nodes line fields) (IsPair size.nodes)
 unfolding pair_of
 pair_ok size line [] = tt
 pair_ok size line (a ∷ []) = tt

@@ -10,3 +10,4 @@ pub mod Reading
 pub mod Taken
 pub mod PlainLines
 pub mod ToTheEnd
+pub mod Requests

@@ -51,13 +51,12 @@ impl GrErrorKind {
     {
         GrError { kind: self, line }
     }
-}
 
-impl fmt::Display for GrErrorKind {
-    ghost output = { λ kind. Some (kind_name kind) };
-
-    fn fmt<W: fmt::Write>(&self, f: &mut fmt::Formatter<W>) -> fmt::Result {
-        f.write_str(match self {
+    /// The variant's name.
+    pub fn name(self) -> &'static str
+        ensures { result.now ≡ kind_name self }
+    {
+        match self {
             GrErrorKind::OutOfMemory => "OutOfMemory",
             GrErrorKind::Read => "Read",
             GrErrorKind::UnknownLine => "UnknownLine",
@@ -70,7 +69,15 @@ impl fmt::Display for GrErrorKind {
             GrErrorKind::TooManyNodes => "TooManyNodes",
             GrErrorKind::TooManyArcs => "TooManyArcs",
             GrErrorKind::ArcCount => "ArcCount",
-        })
+        }
+    }
+}
+
+impl fmt::Display for GrErrorKind {
+    ghost output = { λ kind. Some (kind_name kind) };
+
+    fn fmt<W: fmt::Write>(&self, f: &mut fmt::Formatter<W>) -> fmt::Result {
+        f.write_str(self.name())
     }
 }
 

@@ -70,7 +70,7 @@ fn count_in_range(nodes: u32, line: u64, count: u64) -> Result<Size, GrError>
     })
 }
 
-fn pair_of(nodes: u32, line: u64, fields: Fields<'_>) -> Result<(u32, u32), GrError>
+pub(crate) fn pair_of(nodes: u32, line: u64, fields: Fields<'_>) -> Result<(u32, u32), GrError>
     ensures { result ≡ pair_of nodes line fields.entry }
 {
     let Some((source, target)) = fields.two() else {

@@ -16,6 +16,8 @@ mod links;
 #[cfg(test)]
 mod refused;
 #[cfg(test)]
+mod routers;
+#[cfg(test)]
 mod routes;
 #[cfg(test)]
 mod searches;

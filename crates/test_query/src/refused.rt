@@ -2,6 +2,8 @@
 //! here once for each of its growths.
 ghost use Rattle.std.specs.Prelude.{◌≡◌, IfOk};
 
+mod routers;
+
 use ch_cost::Cost;
 use ch_graph::{Graph, Hierarchy, HierarchyError, Link, LinkId, Road};
 use std::alloc::{AllocError, Global};

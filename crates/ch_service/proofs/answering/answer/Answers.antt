@@ -3,30 +3,30 @@ use Rattle.std.proofs.lemmas.Grind.{common_steps}
 use Rattle.ch_graph.specs.Graph.{Graph}
 use Rattle.ch_graph.specs.Limits.{IsGraph}
 use Rattle.ch_service.specs.Answer.{IsLeastWalk, IsFewestWalk}
-use Rattle.ch_service.proofs.ByWalks.{walk-right, fewest-right, answers-told, stops-answered, fault-answering, texts-kinds, fault-answered, no_text_fault, pairs_refused}
+use Rattle.ch_service.proofs.ByWalks.{walk-right, answers-told, stops-answered, fault-answering, texts-kinds, fault-answered, no_text_fault, pairs_refused}
 use Rattle.ch_service.proofs.FromBuild.{built-good}
 use Rattle.ch_service.proofs.TextFaults.{fault-built}
 use Rattle.ch_service.proofs.answering.answer.Goals as goal
 
 pub returns-clause-answers : goal.returns-clause-answers
 returns-clause-answers g c =
-    answers-told {Is = IsLeastWalk} (walk-right c.least_route_is_a_least_walk.ensures) c.in-Ok.graph c.in_ok-hierarchy.field-0.hierarchy c.as_slice.result.now _ _ _ _ c.answer_pairs.result (search rules) (search rules)
+    answers-told {Is = IsLeastWalk} (walk-right c.routes_are_least.ensures.fewest) c.in-Ok.graph c.in_ok-hierarchy.field-0.hierarchy c.as_slice.result.now _ _ _ _ c.answer_pairs.result (search rules) (search rules)
     (subst (λ (g : Graph). IsGraph g) c.graph.view_is c.graph.invariant.0) c.in_ok-hierarchy.ensures.right (search rules) c.answer_pairs.ensures.routed
 
 pub returns-clause-fewest : goal.returns-clause-fewest
 returns-clause-fewest g c =
-    answers-told {Is = IsFewestWalk} (fewest-right c.least_route_is_a_least_walk.ensures) c.in-Ok.graph c.in_ok-hierarchy.field-0.hierarchy c.as_slice.result.now _ _ _ _ c.answer_pairs.result (search rules) (search rules)
+    answers-told {Is = IsFewestWalk} c.routes_are_least.ensures.fewest c.in-Ok.graph c.in_ok-hierarchy.field-0.hierarchy c.as_slice.result.now _ _ _ _ c.answer_pairs.result (search rules) (search rules)
     (subst (λ (g : Graph). IsGraph g) c.graph.view_is c.graph.invariant.0) c.in_ok-hierarchy.ensures.right (search rules) c.answer_pairs.ensures.routed
 
 pub returns-clause-stops : goal.returns-clause-stops
 returns-clause-stops g c =
-    stops-answered c.least_route_is_a_least_walk.ensures c.least_route_is_never_too_long.ensures c.in-Ok.graph c.in_ok-hierarchy.field-0.hierarchy c.as_slice.result.now _ _ _ _ c.answer_pairs.result (search rules) (search rules)
+    stops-answered c.routes_are_least.ensures.fewest c.routes_are_least.ensures.never_long c.in-Ok.graph c.in_ok-hierarchy.field-0.hierarchy c.as_slice.result.now _ _ _ _ c.answer_pairs.result (search rules) (search rules)
     (subst (λ (g : Graph). IsGraph g) c.graph.view_is c.graph.invariant.0) c.in_ok-hierarchy.ensures.right (search rules) c.answer_pairs.ensures.stops
 
 pub returns-clause-fault : goal.returns-clause-fault
 returns-clause-fault g c =
     fault-answering c.in-Ok.graph c.as_slice.result.now _ _ _ _ c.answer_pairs.result (search rules) (search rules) c.answer_pairs.ensures.fault
-    (stops-answered c.least_route_is_a_least_walk.ensures c.least_route_is_never_too_long.ensures c.in-Ok.graph c.in_ok-hierarchy.field-0.hierarchy c.as_slice.result.now _ _ _ _ c.answer_pairs.result (search rules) (search rules)
+    (stops-answered c.routes_are_least.ensures.fewest c.routes_are_least.ensures.never_long c.in-Ok.graph c.in_ok-hierarchy.field-0.hierarchy c.as_slice.result.now _ _ _ _ c.answer_pairs.result (search rules) (search rules)
     (subst (λ (g : Graph). IsGraph g) c.graph.view_is c.graph.invariant.0) c.in_ok-hierarchy.ensures.right (search rules) c.answer_pairs.ensures.stops)
 
 pub returns-in-Err-read_queries-clause-fault : goal.returns-in-Err-read_queries-clause-fault
@@ -41,7 +41,7 @@ returns-in-Err-read_queries-clause-untouched g c = rw c.refuse-in-Err-read_queri
 
 pub returns-clause-kinds : goal.returns-clause-kinds
 returns-clause-kinds g c =
-    texts-kinds c.least_route_is_never_too_long.ensures c.in-Ok.graph c.in_ok-hierarchy.field-0.hierarchy c.as_slice.result.now _ _ c.answer_pairs.result
+    texts-kinds c.routes_are_least.ensures.never_long c.in-Ok.graph c.in_ok-hierarchy.field-0.hierarchy c.as_slice.result.now _ _ c.answer_pairs.result
     (subst (λ (g : Graph). IsGraph g) c.graph.view_is c.graph.invariant.0) c.in_ok-hierarchy.ensures.right (search rules) c.answer_pairs.ensures.fault c.answer_pairs.ensures.stops
 
 pub returns-clause-good : goal.returns-clause-good

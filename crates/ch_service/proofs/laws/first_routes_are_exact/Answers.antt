@@ -4,7 +4,7 @@ use Rattle.ch_service.proofs.Exact.{first-routes}
 use Rattle.ch_service.proofs.laws.first_routes_are_exact.Goals as goal
 
 pub returns-clause-exact : goal.returns-clause-exact
-returns-clause-exact c = first-routes Two c.hierarchies_have_one_spelling.ensures c.spelled_graphs_are_in_range.ensures c.spelled_pairs_are_in_range.ensures (walk-right c.least_route_is_a_least_walk.ensures)
+returns-clause-exact c = first-routes Two c.hierarchies_have_one_spelling.ensures c.spelled_graphs_are_in_range.ensures c.spelled_pairs_are_in_range.ensures (walk-right c.routes_are_least.ensures.fewest)
 
 pub returns-clause-by_weight : goal.returns-clause-by_weight
-returns-clause-by_weight c = first-routes One c.hierarchies_have_one_spelling.ensures c.spelled_graphs_are_in_range.ensures c.spelled_pairs_are_in_range.ensures (walk-right_by_weight c.route_is_a_shortest_walk.ensures)
+returns-clause-by_weight c = first-routes One c.hierarchies_have_one_spelling.ensures c.spelled_graphs_are_in_range.ensures c.spelled_pairs_are_in_range.ensures (walk-right_by_weight c.routes_are_least.ensures.by_weight)

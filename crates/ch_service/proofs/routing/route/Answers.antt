@@ -30,7 +30,7 @@ returns-clause-fewest g c =
 
 pub returns-clause-never_long : goal.returns-clause-never_long
 returns-clause-never_long g c =
-    never_long-told Two c.hierarchies_have_one_spelling.ensures c.spelled_graphs_are_in_range.ensures (short-in_two c.least_route_is_never_too_long.ensures) c.in_ok-hierarchy.hierarchy c.as_slice.result.now _ _ _ _ c.answer_pairs.result (search rules) (search rules)
+    never_long-told Two c.hierarchies_have_one_spelling.ensures c.spelled_graphs_are_in_range.ensures (short-in_two c.routes_are_least.ensures.never_long) c.in_ok-hierarchy.hierarchy c.as_slice.result.now _ _ _ _ c.answer_pairs.result (search rules) (search rules)
     c.answer_pairs.ensures.stops
 
 pub returns-clause-exact_by_weight : goal.returns-clause-exact_by_weight
@@ -40,7 +40,7 @@ returns-clause-exact_by_weight g c =
 
 pub returns-clause-never_long_by_weight : goal.returns-clause-never_long_by_weight
 returns-clause-never_long_by_weight g c =
-    never_long-told One c.hierarchies_have_one_spelling.ensures c.spelled_graphs_are_in_range.ensures (short-in_one c.route_by_weight_is_never_too_long.ensures) c.in_ok-hierarchy.hierarchy c.as_slice.result.now _ _ _ _ c.answer_pairs.result (search rules) (search rules)
+    never_long-told One c.hierarchies_have_one_spelling.ensures c.spelled_graphs_are_in_range.ensures (short-in_one c.routes_are_least.ensures.never_long_by_weight) c.in_ok-hierarchy.hierarchy c.as_slice.result.now _ _ _ _ c.answer_pairs.result (search rules) (search rules)
     c.answer_pairs.ensures.stops
 
 pub returns-clause-kinds : goal.returns-clause-kinds

@@ -1,0 +1,81 @@
+ghost use Rattle.std.specs.Prelude.{◌≡◌, ◌+◌, ◌++◌, [], ◌∷◌, OnOk, OnErr, codes, decimal};
+ghost use Rattle.std.specs.Io.{StartsWith};
+ghost use Rattle.ch_answer.specs.Line.{named, told_along, line_of};
+
+use ch_route::Route;
+use itoa::Buffer;
+use std::alloc::AllocError;
+
+/// Appends the line that answers the pair by the route. Where memory is refused the lines stay as they were. Takes
+/// memory for the line.
+pub fn push_line(
+    pair: (u32, u32),
+    route: &Option<Route>,
+    lines: &mut Vec<u8>,
+) -> Result<(), AllocError>
+    ensures ok { OnOk result (lines.new.items ≡ lines.old.items ++ line_of pair route.now) }
+    ensures err { OnErr result (lines.new.items ≡ lines.old.items) }
+{
+    let start = lines.len();
+    let pushed = push_answer(pair, route, lines);
+    if pushed.is_err() {
+        lines.truncate(start);
+    }
+    pushed
+}
+
+// Appends the line that answers the pair, or a part of it where memory is refused.
+fn push_answer(
+    pair: (u32, u32),
+    route: &Option<Route>,
+    lines: &mut Vec<u8>,
+) -> Result<(), AllocError>
+    ensures ok { OnOk result (lines.new.items ≡ lines.old.items ++ line_of pair route.now) }
+    ensures err { StartsWith lines.new.items lines.old.items }
+{
+    match route {
+        Some(route) => {
+            lines.push(b'r')?;
+            push_nodes(&[pair.0, pair.1], lines)?;
+            push_along(route.cost.length(), route.nodes.as_slice(), lines)?;
+        }
+        None => {
+            lines.push(b'n')?;
+            push_nodes(&[pair.0, pair.1], lines)?;
+        }
+    }
+    lines.push(b'\n')?;
+    Ok(())
+}
+
+/// Appends a length, how many arcs there are from node to node, and the nodes. Where memory is refused a part of that
+/// text may be there.
+pub fn push_along(length: u64, nodes: &[u32], lines: &mut Vec<u8>) -> Result<(), AllocError>
+    ensures ok { OnOk result (lines.new.items ≡ lines.old.items ++ told_along length nodes.now) }
+    ensures err { StartsWith lines.new.items lines.old.items }
+{
+    push_number(length, lines)?;
+    push_number(nodes.len().saturating_sub(1) as u64, lines)?;
+    push_nodes(nodes, lines)
+}
+
+/// Appends the nodes as a line names them, numbered from 1, a space before each. Where memory is refused a part of that
+/// text may be there.
+pub fn push_nodes(nodes: &[u32], lines: &mut Vec<u8>) -> Result<(), AllocError>
+    ensures ok { OnOk result (lines.new.items ≡ lines.old.items ++ named nodes.now) }
+    ensures err { StartsWith lines.new.items lines.old.items }
+{
+    'nodes: for node in nodes {
+        push_number(u64::from(*node) + 1, lines)?;
+    }
+    Ok(())
+}
+
+/// Appends a space and the number in decimals. Where memory is refused a part of that text may be there.
+pub fn push_number(number: u64, lines: &mut Vec<u8>) -> Result<(), AllocError>
+    ensures ok { OnOk result (lines.new.items ≡ lines.old.items ++ codes " " ++ decimal number) }
+    ensures err { StartsWith lines.new.items lines.old.items }
+{
+    lines.push(b' ')?;
+    lines.extend_from_slice(Buffer::new().format(number).as_bytes())
+}

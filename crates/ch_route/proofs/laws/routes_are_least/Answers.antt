@@ -1,0 +1,20 @@
+use Rattle.ch_route.proofs.Least.{routes-fewest, routes-least, lengths-least, lengths-least-by_weight, none-too_long, none-too_long-by_weight}
+use Rattle.ch_route.proofs.laws.routes_are_least.Goals as goal
+
+pub returns-clause-fewest : goal.returns-clause-fewest
+returns-clause-fewest c = routes-fewest c.least_route_is_a_least_walk.ensures
+
+pub returns-clause-by_weight : goal.returns-clause-by_weight
+returns-clause-by_weight c = routes-least c.route_is_a_shortest_walk.ensures
+
+pub returns-clause-lengths : goal.returns-clause-lengths
+returns-clause-lengths c = lengths-least c.right_is_right_by_weight.ensures
+
+pub returns-clause-lengths_by_weight : goal.returns-clause-lengths_by_weight
+returns-clause-lengths_by_weight c = lengths-least-by_weight
+
+pub returns-clause-never_long : goal.returns-clause-never_long
+returns-clause-never_long c = none-too_long c.least_route_is_never_too_long.ensures
+
+pub returns-clause-never_long_by_weight : goal.returns-clause-never_long_by_weight
+returns-clause-never_long_by_weight c = none-too_long-by_weight c.route_by_weight_is_never_too_long.ensures

@@ -1,0 +1,128 @@
+ghost use Rattle.std.specs.Prelude.{◌≡◌, ◌<◌, length, Err, IfOk, ℕ};
+ghost use Rattle.ch_graph.specs.declared.version.Version.TheVariants.{One};
+ghost use Rattle.ch_graph.specs.Graph.{Graph, IsLeastLength};
+ghost use Rattle.ch_graph.specs.Hierarchy.{IsRight, IsWellMade};
+ghost use Rattle.ch_graph.specs.Limits.{IsGraph};
+ghost use Rattle.ch_laws.specs.ByWeight.{IsRightByWeight};
+ghost use Rattle.ch_route.specs.Routes.{HasTooLong, IsFewestWalk, IsLeastWalk, IsLengthBy, IsRouteBy};
+ghost use Rattle.ch_unpack.specs.declared.error.UnpackError.TheVariants.{TooLong};
+
+use crate::laws::routes_are_least;
+use crate::route::Route;
+use ch_graph::{Hierarchy, places_name_links};
+use ch_query::Search;
+use ch_unpack::{UnpackError, unpack};
+use std::alloc::{AllocError, Global};
+use std::marker::Model;
+
+/// Answers pairs of nodes by one hierarchy, each with a least route or with its length alone.
+///
+/// It holds what [`Search`] holds: about 56 bytes a node and 16 a link, or 64 and 20 where there are 2^32 links or more,
+/// and what the largest call so far needed beside it. After a call that failed it answers as a new one.
+#[derive(Drop)]
+pub struct Router<'a> {
+    alloc: Global,
+    hierarchy: &'a Hierarchy,
+    search: Search<'a>,
+}
+
+impl<'a> Model for Router<'a> {
+    ghost use Rattle.std.specs.Prelude.{◌≡◌};
+    ghost use Rattle.ch_graph.specs.Hierarchy as hierarchies;
+
+    ghost Value = { hierarchies.Hierarchy };
+
+    ghost view = { λ r. r.hierarchy.now };
+
+    ghost invariant = { λ r. r.search ≡ r.hierarchy.now };
+}
+
+impl<'a> Router<'a> {
+    /// A router of a hierarchy. Looks at each node a fixed number of times and at each link twice.
+    pub fn new(alloc: Global, hierarchy: &'a Hierarchy) -> Result<Router<'a>, AllocError>
+        ensures { IfOk result (λ router. router ≡ hierarchy.now) }
+    {
+        let search = Search::new(alloc, hierarchy)?;
+        Ok(Router {
+            alloc,
+            hierarchy,
+            search,
+        })
+    }
+
+    /// How many nodes the hierarchy has.
+    pub fn nodes(&self) -> u32
+        ensures count { result ≡ length self.now.ranks }
+        ensures made { IsWellMade self.now }
+    {
+        self.hierarchy.nodes()
+    }
+
+    /// The least route from the first node of the pair to the second, or none where there is no way.
+    ///
+    /// The cost is the value of the hierarchy, and the nodes are those of the arcs that a rise-fall walk of that cost
+    /// stands for. Where the hierarchy is right for a graph the route is a least walk of it, and of all least walks one
+    /// with the fewest arcs; where it is right by weight, as in version 1, it is any least walk. From a node to itself it
+    /// is that node alone, at no cost.
+    ///
+    /// Fails with `TooLong` where the route would repeat a node, which it doesn't by a hierarchy that is right for some
+    /// graph, in the sense of its version, and with `OutOfMemory`. Takes the time of [`Search::distance`] and of
+    /// [`unpack`], and memory for the nodes of the route beside what the search keeps.
+    #[tactic(auto, using(crate::proofs::Least::never_long))]
+    pub fn route(&mut self, pair: (u32, u32)) -> Result<Option<Route>, UnpackError>
+        requires source_in { pair.0 < length self.old.ranks }
+        requires target_in { pair.1 < length self.old.ranks }
+        ensures found { IfOk result (IsRouteBy self.old pair.0 pair.1) }
+        ensures exact { IfOk result (λ route. (g : Graph) → IsGraph g → IsRight g self.old → IsFewestWalk g pair.0 pair.1 route) }
+        ensures by_weight { IfOk result (λ route. (g : Graph) → IsRightByWeight g self.old → IsLeastWalk g pair.0 pair.1 route) }
+        ensures kept { self.new ≡ self.old }
+
+        // Where it is refused as too long.
+        ensures too_long { result ≡ Err TooLong → HasTooLong self.old pair.0 pair.1 }
+        ensures never_long { result ≡ Err TooLong → (g : Graph) → IsGraph g → IsRight g self.old → ⊥ }
+        ensures never_long_by_weight { result ≡ Err TooLong → self.old.version ≡ One → (g : Graph) → IsGraph g → IsRightByWeight g self.old → ⊥ }
+    {
+        routes_are_least();
+        let _well_made = self.nodes();
+        self.least_route(pair)
+    }
+
+    /// The least length of a way from the first node of the pair to the second, or none where there is no way.
+    ///
+    /// It is the length of the route that [`Router::route`] finds, also where that is too long. Where the hierarchy is
+    /// right for a graph, be it by weight alone, it is the least over all walks of the graph. Takes the time of
+    /// [`Search::distance`], and memory for what the search keeps.
+    pub fn length(&mut self, pair: (u32, u32)) -> Result<Option<u64>, AllocError>
+        requires source_in { pair.0 < length self.old.ranks }
+        requires target_in { pair.1 < length self.old.ranks }
+        ensures found { IfOk result (IsLengthBy self.old pair.0 pair.1) }
+        ensures exact { IfOk result (λ length. (g : Graph) → IsRight g self.old → IsLeastLength g pair.0 pair.1 length) }
+        ensures by_weight { IfOk result (λ length. (g : Graph) → IsRightByWeight g self.old → IsLeastLength g pair.0 pair.1 length) }
+        ensures kept { self.new ≡ self.old }
+    {
+        routes_are_least();
+        let Some(found) = self.search.distance(pair.0, pair.1)? else {
+            return Ok(None);
+        };
+        Ok(Some(found.cost.length()))
+    }
+
+    // The route by the hierarchy alone.
+    fn least_route(&mut self, pair: (u32, u32)) -> Result<Option<Route>, UnpackError>
+        requires source_in { pair.0 < length self.old.ranks }
+        requires target_in { pair.1 < length self.old.ranks }
+        ensures found { IfOk result (IsRouteBy self.old pair.0 pair.1) }
+        ensures too_long { result ≡ Err TooLong → HasTooLong self.old pair.0 pair.1 }
+        ensures kept { self.new ≡ self.old }
+    {
+        places_name_links();
+        let Some(found) = self.search.distance(pair.0, pair.1)? else {
+            return Ok(None);
+        };
+        let nodes = unpack(self.alloc, self.hierarchy, pair.0, found.links.as_slice())?;
+        Ok(Some(Route {
+            cost: found.cost,
+            nodes,
+        }))
+    }
+}

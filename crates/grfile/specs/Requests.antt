@@ -1,0 +1,152 @@
+-- Requests of a service, one on each line, and how a text of them is read.
+use Rattle.std.specs.Prelude.{ℕ, ◌≡◌, true, suc, zero, ◌-◌, ◌/◌, ◌^◌, ◌<◌, ◌==◌, Bool, ◌||◌, ◌&&◌, ⊤, if◌then◌else◌, nat_lt, List, [], ◌∷◌, length, map, drop, codes, All, Result, Ok, Err}
+use Rattle.std.specs.Str.{bytes_eq}
+use Rattle.std.specs.Str.Lines.{strip_carriage_return}
+use Rattle.grfile.specs.Letters.{letter_q}
+use Rattle.grfile.specs.declared.error.GrError.{GrError}
+use Rattle.grfile.specs.declared.error.GrErrorKind.TheVariants.{UnknownLine, FieldCount, NodeRange, WeightTooBig}
+use Rattle.grfile.specs.declared.fields.LineKind.TheVariants.{Skipped, Problem, Entry, Unknown}
+use Rattle.grfile.specs.declared.requests.Ends.{Ends}
+use Rattle.grfile.specs.declared.requests.Place.{Place}
+use Rattle.grfile.specs.declared.requests.Request.{Request}
+use Rattle.grfile.specs.declared.requests.Sides.{Sides}
+use Rattle.grfile.specs.declared.requests.Request.TheVariants.{Comment, Route, Length, Between, Fault, LineTooLong}
+use Rattle.grfile.specs.Lines.{cut_lines, fields_of}
+use Rattle.grfile.specs.Outcome.{◌>>=◌, fault}
+use Rattle.grfile.specs.Grammar.{kind_of, number_in}
+use Rattle.grfile.specs.Pairs.{pair_of}
+use Rattle.grfile.specs.Reading.{IsPair}
+use Rattle.grfile.specs.Roads.{is_outside}
+use Rattle.grfile.specs.Taken.{cut_after}
+
+abbrev pub letter_b : ℕ
+letter_b = 98
+
+abbrev pub letter_d : ℕ
+letter_d = 100
+
+-- a line of more bytes than these isn't read; its carriage return counts, its line feed doesn't
+abbrev pub most_bytes : ℕ
+most_bytes = 4096
+
+-- a place: a node and the length that is added there
+abbrev pub place_in_range : ℕ → ℕ → ℕ → Result Place GrError
+place_in_range nodes node weight =
+    if is_outside nodes node then fault NodeRange 0
+    else if nat_lt (2 ^ 32 - 1) weight then fault WeightTooBig 0
+    else Ok (record { node = node - 1; weight = weight })
+
+abbrev pub place_of : ℕ → List ℕ → List ℕ → Result Place GrError
+place_of nodes s c = number_in 0 s >>= (λ node. number_in 0 c >>= (λ weight. place_in_range nodes node weight))
+
+-- so many places, which stand at the front of these fields, two fields each
+abbrev pub places_of : ℕ → ℕ → List (List ℕ) → Result (List Place) GrError
+places_of nodes zero fields = Ok []
+places_of nodes (suc n) (s ∷ c ∷ more) = place_of nodes s c >>= (λ place. places_of nodes n more >>= (λ places. Ok (place ∷ places)))
+places_of nodes (suc n) fields = fault FieldCount 0
+
+-- how many fields stand before the first that is a colon; all of them, if none is
+abbrev pub colon_at : List (List ℕ) → ℕ
+colon_at [] = 0
+colon_at (field ∷ fields) = if bytes_eq field (codes ":") then 0 else suc (colon_at fields)
+
+-- the fields behind that colon
+abbrev pub behind_colon : List (List ℕ) → List (List ℕ)
+behind_colon fields = drop (suc (colon_at fields)) fields
+
+-- so many fields are those of one to eight places
+abbrev pub is_of_places : ℕ → Bool
+is_of_places n = n == 2 || n == 4 || n == 6 || n == 8 || n == 10 || n == 12 || n == 14 || n == 16
+
+-- there are one to eight places, a colon, and one to eight places
+abbrev pub are_ends : List (List ℕ) → Bool
+are_ends fields = is_of_places (colon_at fields) && is_of_places (length (behind_colon fields))
+
+abbrev pub ends_from : List Place → List Place → Ends
+ends_from starts ends = record { starts = record { items = starts }; ends = record { items = ends } }
+
+-- the fields after the b: where a way may start, a colon, and where it may end
+abbrev pub ends_of : ℕ → List (List ℕ) → Result Ends GrError
+ends_of nodes fields =
+    if are_ends fields then places_of nodes (colon_at fields / 2) fields >>= (λ starts. places_of nodes (length (behind_colon fields) / 2) (behind_colon fields) >>= (λ ends. Ok (ends_from starts ends)))
+    else fault FieldCount 0
+
+-- so many fields stand on each side of the colon, and they are those of places
+pub record AreSides (fields : List (List ℕ)) (sides : Sides) : Type 0 where
+  pub are : are_ends fields ≡ true
+  pub starts : sides.starts ≡ colon_at fields
+  pub ends : sides.ends ≡ length (behind_colon fields)
+
+-- a place, and those behind it
+abbrev pub place_then : Place → Result (List Place) GrError → Result (List Place) GrError
+place_then place told = told >>= (λ places. Ok (place ∷ places))
+
+abbrev pub of_pair : (ℕ × ℕ → Request) → Result (ℕ × ℕ) GrError → Request
+of_pair ask (Ok pair) = ask pair
+of_pair ask (Err e) = Fault e.kind
+
+abbrev pub of_ends : Result Ends GrError → Request
+of_ends (Ok ends) = Between ends
+of_ends (Err e) = Fault e.kind
+
+-- what a line with these fields asks for, where its letter isn't q or d
+unfoldable pub between_by : ℕ → List (List ℕ) → Request
+between_by nodes fields = elim (kind_of letter_b fields) [
+  | Entry ↦ of_ends (ends_of nodes (drop 1 fields))
+  | Skipped ↦ Fault UnknownLine
+  | Problem ↦ Fault UnknownLine
+  | Unknown ↦ Fault UnknownLine
+]
+
+-- where its letter isn't q
+unfoldable pub length_by : ℕ → List (List ℕ) → Request
+length_by nodes fields = elim (kind_of letter_d fields) [
+  | Entry ↦ of_pair Length (pair_of nodes 0 (drop 1 fields))
+  | Skipped ↦ between_by nodes fields
+  | Problem ↦ between_by nodes fields
+  | Unknown ↦ between_by nodes fields
+]
+
+-- what a line with these fields asks for
+unfoldable pub request_by : ℕ → List (List ℕ) → Request
+request_by nodes fields = elim (kind_of letter_q fields) [
+  | Skipped ↦ Comment
+  | Problem ↦ Fault UnknownLine
+  | Entry ↦ of_pair Route (pair_of nodes 0 (drop 1 fields))
+  | Unknown ↦ length_by nodes fields
+]
+
+-- what a line asks for
+unfoldable pub request_of : ℕ → List ℕ → Request
+request_of nodes line =
+    if nat_lt most_bytes (length line) then LineTooLong
+    else request_by nodes (fields_of (strip_carriage_return line))
+
+-- The requests of a text by a hierarchy of so many nodes: one for each line.
+abbrev pub requests_of : ℕ → List ℕ → List Request
+requests_of nodes text = map (request_of nodes) (cut_lines text)
+
+-- what is kept of a text of requests: the first bytes of the line that hasn't ended
+pub record RequestsTaken : Type 0 where
+  pub nodes : ℕ
+  pub begun : List ℕ
+
+-- the requests that are still to come, if these bytes follow
+abbrev pub requests_with : RequestsTaken → List ℕ → List Request
+requests_with taken text = map (request_of taken.nodes) (cut_after taken.begun text)
+
+-- one of so many nodes, and a length as a text has it
+abbrev pub IsPlace : ℕ → Place → Type 0
+IsPlace nodes place = (place.node < nodes) × (place.weight < 2 ^ 32)
+
+-- A request names nodes that there are.
+abbrev pub IsInRange : ℕ → Request → Type 0
+IsInRange nodes (Route pair) = IsPair nodes pair
+IsInRange nodes (Length pair) = IsPair nodes pair
+IsInRange nodes (Between ends) = All (IsPlace nodes) ends.starts.items × All (IsPlace nodes) ends.ends.items
+IsInRange nodes Comment = ⊤
+IsInRange nodes (Fault kind) = ⊤
+IsInRange nodes LineTooLong = ⊤
+
+abbrev pub RequestsAreInRange : Type 0
+RequestsAreInRange = (nodes : ℕ) (line : List ℕ) → IsInRange nodes (request_of nodes line)
