@@ -16,9 +16,14 @@ and motorways alone: so long ways lead over few roads, as in real networks. By `
 With `--nodes` there are the first N places alone, row by row. Both ends of a pair are drawn from all places; with `--near`
 another text has so many pairs whose ends are at most so many rows and columns apart.
 """
-import argparse
 import math
+import pathlib
 import random
+import sys
+
+sys.path.insert(0, str(pathlib.Path(__file__).resolve().parent.parent))
+
+from common.counted import parser, positive
 
 # How many lines lie between two of a kind, and how much faster it is, the fastest last.
 SQUARE = [(1, 1), (16, 3)]
@@ -89,8 +94,8 @@ def arcs_of(draw, side, nodes, lines):
 
 
 def main():
-    words = argparse.ArgumentParser(description=__doc__, formatter_class=argparse.RawDescriptionHelpFormatter)
-    words.add_argument("side", type=int)
+    words = parser(__doc__)
+    words.add_argument("side", type=positive)
     words.add_argument("pairs", type=int)
     words.add_argument("seed", type=int)
     words.add_argument("network")
@@ -98,19 +103,19 @@ def main():
     words.add_argument("--roads", action="store_true")
     words.add_argument("--nodes", type=int)
     words.add_argument("--near", nargs=3, metavar=("STEPS", "COUNT", "FILE"))
-    words = words.parse_args()
-    side, draw = words.side, random.Random(words.seed)
-    nodes = side * side if words.nodes is None else words.nodes
+    asked = words.parse_args()
+    side, draw = asked.side, random.Random(asked.seed)
+    nodes = side * side if asked.nodes is None else asked.nodes
     if not 0 <= nodes <= side * side:
-        raise SystemExit(f"a square of {side} has no {nodes} places")
-    arcs = arcs_of(draw, side, nodes, Lines(ROADS if words.roads else SQUARE))
-    with open(words.network, "w") as out:
-        kind = "network of roads" if words.roads else "road-like network"
-        out.write(f"c a {kind}, side {side}, seed {words.seed}\np sp {nodes} {len(arcs)}\n")
+        words.error(f"a square of {side} has no {nodes} places")
+    arcs = arcs_of(draw, side, nodes, Lines(ROADS if asked.roads else SQUARE))
+    with open(asked.network, "w") as out:
+        kind = "network of roads" if asked.roads else "road-like network"
+        out.write(f"c a {kind}, side {side}, seed {asked.seed}\np sp {nodes} {len(arcs)}\n")
         out.writelines(f"a {u + 1} {v + 1} {w}\n" for u, v, w in arcs)
-    write_pairs(words.queries, [(draw.randrange(nodes), draw.randrange(nodes)) for _ in range(words.pairs)])
-    if words.near:
-        steps, count, file = words.near
+    write_pairs(asked.queries, [(draw.randrange(nodes), draw.randrange(nodes)) for _ in range(asked.pairs)])
+    if asked.near:
+        steps, count, file = asked.near
         write_pairs(file, [near_pair(draw, side, nodes, int(steps)) for _ in range(int(count))])
 
 

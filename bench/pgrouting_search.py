@@ -1,5 +1,7 @@
 #!/usr/bin/python3
-"""The search of pgRouting, to compare times with: pgrouting_search.py NETWORK.gr NETWORK.pairs
+"""The search of pgRouting, to compare times with.
+
+    bench/pgrouting_search.py NETWORK.gr NETWORK.pairs
 
 `pgr_dijkstraCost` over a table of arcs in a PostgreSQL of its own, which listens on no port and is gone at the end. Each call
 reads all arcs anew, as pgRouting does. It takes well-formed texts alone, and prints a line `r S T LENGTH` or `n S T` for each
@@ -12,6 +14,10 @@ import subprocess
 import sys
 import tempfile
 import time
+
+sys.path.insert(0, str(pathlib.Path(__file__).resolve().parent.parent))
+
+from common.counted import parser
 
 BIN = pathlib.Path("/usr/lib/postgresql/15/bin")
 # A server isn't started for root.
@@ -56,13 +62,16 @@ def answers(server, graph, pairs):
 
 
 def main():
-    graph, queries = sys.argv[1:]
-    with open(queries) as lines:
+    words = parser(__doc__)
+    words.add_argument("graph", metavar="NETWORK.gr")
+    words.add_argument("pairs", metavar="NETWORK.pairs")
+    asked = words.parse_args()
+    with open(asked.pairs) as lines:
         pairs = [tuple(map(int, line.split()[1:])) for line in lines if line.startswith("q ")]
     with tempfile.TemporaryDirectory() as folder:
         server = Server(pathlib.Path(folder))
         try:
-            found = answers(server, graph, pairs)
+            found = answers(server, asked.graph, pairs)
         finally:
             server.stop()
     for source, target in pairs:

@@ -1,12 +1,19 @@
 #!/usr/bin/python3
-"""The searches of NetworkX and of igraph, to compare times with: python_search.py networkx|igraph NETWORK.gr NETWORK.pairs
+"""The searches of NetworkX and of igraph, to compare times with.
+
+    bench/python_search.py networkx|igraph NETWORK.gr NETWORK.pairs
 
 NetworkX's `bidirectional_dijkstra`, and igraph's `distances` from the source to the target. It takes well-formed texts alone,
 and prints a line `r S T LENGTH` or `n S T` for each pair; on standard error the seconds to read and to search. It needs
 Debian's python3-networkx and python3-igraph.
 """
+import pathlib
 import sys
 import time
+
+sys.path.insert(0, str(pathlib.Path(__file__).resolve().parent.parent))
+
+from common.counted import parser
 
 
 def arcs_of(text):
@@ -53,10 +60,15 @@ def by_igraph(nodes, least):
 
 
 def main():
-    kind, text, queries = sys.argv[1:]
+    searches = {"networkx": by_networkx, "igraph": by_igraph}
+    words = parser(__doc__)
+    words.add_argument("kind", choices=searches)
+    words.add_argument("graph", metavar="NETWORK.gr")
+    words.add_argument("pairs", metavar="NETWORK.pairs")
+    asked = words.parse_args()
     start = time.perf_counter()
-    length = {"networkx": by_networkx, "igraph": by_igraph}[kind](*arcs_of(text))
-    with open(queries) as lines:
+    length = searches[asked.kind](*arcs_of(asked.graph))
+    with open(asked.pairs) as lines:
         pairs = [tuple(map(int, line.split()[1:])) for line in lines if line.startswith("q ")]
     read = time.perf_counter()
     found = [length(source - 1, target - 1) for source, target in pairs]

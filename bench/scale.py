@@ -19,7 +19,6 @@ takes beyond one with no pairs.
 It needs g++ and the proved program, which is crates/routecli/out/routecli (README.md says how to build it) or the path in
 the environment variable ROUTECLI.
 """
-import argparse
 import contextlib
 import itertools
 import os
@@ -32,6 +31,7 @@ import time
 
 sys.path.insert(0, str(pathlib.Path(__file__).resolve().parent.parent))
 
+from common import counted
 from common.answers import costs_in
 from common.hierarchy_file import links_in
 from common.networks import arcs_in, made
@@ -210,13 +210,13 @@ def batches(network, folder):
 
 
 def main():
-    parser = argparse.ArgumentParser(description=__doc__, formatter_class=argparse.RawDescriptionHelpFormatter)
+    parser = counted.parser(__doc__)
     parser.add_argument("--order", default="depth")
     parser.add_argument("--workers", type=int, default=2)
-    parser.add_argument("--pairs", type=int, default=10_000)
+    parser.add_argument("--pairs", type=counted.positive, default=10_000)
     for more in ["--allocators", "--lists", "--batches"]:
         parser.add_argument(more, action="store_true")
-    parser.add_argument("sides", nargs="*", type=int, default=[256, 512, 1000], metavar="SIDE")
+    parser.add_argument("sides", nargs="*", type=counted.positive, default=[256, 512, 1000], metavar="SIDE")
     options = parser.parse_args()
     need_program()
     with tempfile.TemporaryDirectory() as folder:

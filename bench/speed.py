@@ -25,12 +25,12 @@ wall clock and of the processors; memory is the greatest resident size.
 
 All answers are compared: lengths and numbers of arcs with route.cpp, which searches by itself, nodes along the arcs of the
 network, and the first 20 of each text with every search. Each hierarchy that is prepared answers 100 pairs, as that of one
-worker does.
+worker does. At the end the tables of docs/SPEED.md are printed, of all that was measured; with `--page` they are written, and
+the pictures.
 
 It needs g++ and the proved program, which is crates/routecli/out/routecli (README.md says how to build it) or the path in the
 environment variable ROUTECLI. What of Debian's packages is missing (bench/packages.txt) is left out, and told.
 """
-import argparse
 import csv
 import datetime
 import hashlib
@@ -46,7 +46,8 @@ import sys
 
 sys.path.insert(0, str(pathlib.Path(__file__).resolve().parent.parent))
 
-from common import networks
+import speed_page
+from common import counted, networks
 from common.answers import are_answers, costs_in, least_arcs_of
 from common.hierarchy_file import links_in
 from common.program import PROGRAM, ROOT, Runs, compiled, need_compiled, need_program
@@ -327,9 +328,9 @@ def all_networks(options, folder):
 
 
 def main():
-    words = argparse.ArgumentParser(description=__doc__, formatter_class=argparse.RawDescriptionHelpFormatter)
+    words = counted.parser(__doc__)
     words.add_argument("--nodes", type=int, nargs="+", default=NODES)
-    words.add_argument("--rounds", type=int, default=3)
+    words.add_argument("--rounds", type=counted.positive, default=3)
     words.add_argument("--kept", type=pathlib.Path, default=ROOT / "out/speed")
     words.add_argument("--only", default="")
     words.add_argument("--no-python", action="store_true", help="without igraph, NetworkX and pgRouting")
@@ -338,6 +339,7 @@ def main():
     words.add_argument("--anew", action="store_true", help="drops what was measured before")
     options = words.parse_args()
     need_program()
+    tried = False
     if options.anew:
         shutil.rmtree(options.kept, ignore_errors=True)
     options.kept.mkdir(parents=True, exist_ok=True)
@@ -348,13 +350,19 @@ def main():
     for number in range(1, options.rounds + 1):
         for network in made:
             for job, go in bench.jobs(network).items():
-                if options.only not in job or (network.name, job, number) in bench.done:
+                if options.only not in job:
+                    continue
+                tried = True
+                if (network.name, job, number) in bench.done:
                     continue
                 if number > 1 and any(name in job for name in SLOW):
                     continue
                 print(f"round {number}, {network.name}: {job}", file=sys.stderr, flush=True)
                 bench.note(network, job, number, *shortest(go))
                 bench.save()
+    if not tried:
+        words.error(f"no job has {options.only!r} in its name")
+    print(speed_page.page(speed_page.Measured(bench.folder)), end="")
     if options.page:
         subprocess.run([PYTHON, ROOT / "bench/speed_page.py", bench.folder], check=True)
 

@@ -1,5 +1,7 @@
 #!/usr/bin/python3
-"""Writes the tables and the picture of what speed.py measured: speed_page.py [FOLDER [DOCS [README]]]
+"""Writes the tables and the picture of what speed.py measured.
+
+    bench/speed_page.py [FOLDER [DOCS [README]]]
 
 By default of out/speed, into docs/SPEED.md and README.md, between the lines `<!-- speed: begin -->` and `<!-- speed: end -->`;
 the picture is speed.svg and the runs are speed.csv, beside SPEED.md. Each time is the least of its rounds, and each memory the
@@ -13,12 +15,11 @@ import shutil
 import sys
 import textwrap
 
-import matplotlib
-
-matplotlib.use("svg")
-import matplotlib.pyplot
-
 ROOT = pathlib.Path(__file__).resolve().parent.parent
+sys.path.insert(0, str(ROOT))
+
+from common.counted import parser
+
 BEGIN, END = "<!-- speed: begin -->\n", "<!-- speed: end -->"
 ORDERS, ROUTED, WORKERS = ["edges", "neighbours", "depth"], ["edges", "depth"], [1, 2, 4]
 COUNTS = {"random": 10_000, "near": 2_000}
@@ -215,6 +216,12 @@ def summary(measured):
 
 def draw(measured, file):
     """Times against nodes, both by their logarithms: those of preparing, and those of a random pair."""
+    # (the tables need no such package)
+    import matplotlib
+
+    matplotlib.use("svg")
+    import matplotlib.pyplot
+
     matplotlib.rcParams.update({"svg.fonttype": "none", "svg.hashsalt": "speed", "font.family": "sans-serif", "font.size": 9})
     figure, (left, right) = matplotlib.pyplot.subplots(1, 2, figsize=(9.5, 4))
     names = measured.roads()
@@ -251,11 +258,17 @@ def put(file, text):
 
 
 def main():
-    words = [pathlib.Path(word) for word in sys.argv[1:]]
-    folder, docs, readme = [*words, *[ROOT / "out/speed", ROOT / "docs", ROOT / "README.md"][len(words) :]]
-    measured = Measured(folder)
+    words = parser(__doc__)
+    for name, place in [("folder", "out/speed"), ("docs", "docs"), ("readme", "README.md")]:
+        words.add_argument(name, nargs="?", type=pathlib.Path, default=ROOT / place, metavar=name.upper())
+    asked = words.parse_args()
+    docs, readme = asked.docs, asked.readme
+    try:
+        measured = Measured(asked.folder)
+    except OSError as error:
+        words.error(f"{asked.folder} has nothing measured: {error.strerror}")
     draw(measured, docs / "speed.svg")
-    shutil.copy(folder / "runs.csv", docs / "speed.csv")
+    shutil.copy(asked.folder / "runs.csv", docs / "speed.csv")
     put(docs / "SPEED.md", page(measured))
     put(readme, summary(measured))
 

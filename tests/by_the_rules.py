@@ -19,6 +19,7 @@ import tempfile
 
 sys.path.insert(0, str(pathlib.Path(__file__).resolve().parent.parent))
 
+from common.counted import parser, positive
 from common.hierarchy_file import NONE, spelled
 from common.networks import WEIGHTS, drawn_arcs, text_of
 from common.program import PROGRAM, need_program
@@ -202,7 +203,9 @@ def random_network(draw):
 
 
 def main():
-    networks = int(sys.argv[1]) if len(sys.argv) > 1 else 200
+    words = parser(__doc__)
+    words.add_argument("networks", nargs="?", type=positive, default=200, metavar="NETWORKS")
+    networks = words.parse_args().networks
     need_program()
     draw = random.Random(1)
     with tempfile.TemporaryDirectory() as folder:

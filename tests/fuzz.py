@@ -15,7 +15,6 @@ A graph of more than 2,000 nodes with pairs to answer is left out, since its mem
 It needs g++ and the proved program, which is crates/routecli/out/routecli (README.md says how to build it) or the path in
 the environment variable ROUTECLI.
 """
-import argparse
 import collections
 import multiprocessing
 import os
@@ -32,7 +31,7 @@ import plain
 
 sys.path.insert(0, str(pathlib.Path(__file__).resolve().parent.parent))
 
-from common import networks
+from common import counted, networks
 from common.answers import is_walk, least_arcs
 from common.hierarchy_file import HEAD_BYTES, LINK_BYTES, spelled
 from common.program import PROGRAM, ROOT, need_compiled, need_program
@@ -382,9 +381,9 @@ def corpus_in(folder):
 
 
 def main():
-    words = argparse.ArgumentParser(description=__doc__, formatter_class=argparse.RawDescriptionHelpFormatter)
+    words = counted.parser(__doc__)
     words.add_argument("--seconds", type=float, default=3600)
-    words.add_argument("--jobs", type=int, default=2)
+    words.add_argument("--jobs", type=counted.positive, default=2)
     words.add_argument("--seed", type=int, default=1)
     options = words.parse_args()
     need_program()
@@ -401,7 +400,7 @@ def main():
         print(f"{counts[name]:9,} {name}")
     print(f"{counts['runs']:,} runs, {counts['left out']:,} left out: {counts['crash']} crashes, {counts['hang']} hangs,", end=" ")
     print(f"{counts['differs']} answers that differ; at most {greatest:,} kB, for an input of {longest:,} bytes")
-    sys.exit(1 if counts["crash"] + counts["hang"] + counts["differs"] else 0)
+    sys.exit(1 if counts["crash"] + counts["hang"] + counts["differs"] or not counts["runs"] else 0)
 
 
 if __name__ == "__main__":

@@ -19,6 +19,7 @@ import tempfile
 
 sys.path.insert(0, str(pathlib.Path(__file__).resolve().parent.parent))
 
+from common.counted import parser
 from common.hierarchy_file import NONE, head, link, ranks, spelled
 from common.program import PROGRAM, need_compiled, need_program
 
@@ -84,6 +85,7 @@ def cascade():
 
 
 def main():
+    parser(__doc__).parse_args()
     need_program()
     print("| File | bytes | refusal | resident, kB | beyond no byte, kB | for each byte |\n|---|---|---|---|---|---|")
     with tempfile.TemporaryDirectory() as folder:

@@ -14,7 +14,6 @@ that takes more than a minute is told as stuck. The network of a build is drawn 
 and the proved program, which is crates/routecli/out/routecli (README.md says how to build it) or the path in the
 environment variable ROUTECLI.
 """
-import argparse
 import multiprocessing
 import os
 import pathlib
@@ -26,6 +25,7 @@ import time
 
 sys.path.insert(0, str(pathlib.Path(__file__).resolve().parent.parent))
 
+from common import counted
 from common.answers import are_answers, least_arcs_of
 from common.networks import drawn_arcs, pairs_text, text_of
 from common.program import PROGRAM, need_compiled, need_program
@@ -85,8 +85,8 @@ def count():
 
 
 def main():
-    parser = argparse.ArgumentParser(description=__doc__, formatter_class=argparse.RawDescriptionHelpFormatter)
-    parser.add_argument("builds", nargs="?", type=int, default=1000, metavar="BUILDS")
+    parser = counted.parser(__doc__)
+    parser.add_argument("builds", nargs="?", type=counted.positive, default=1000, metavar="BUILDS")
     parser.add_argument("seed", nargs="?", type=int, default=1, metavar="SEED")
     parser.add_argument("--first", type=int, default=0, metavar="BUILD")
     asked = parser.parse_args()

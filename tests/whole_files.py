@@ -1,11 +1,12 @@
 #!/usr/bin/env python3
 """Runs the proved program where files, memory or time are refused, and looks at what stands in the files then.
 
-    tests/whole_files.py [WORD]        only the cases whose names have this word
+    tests/whole_files.py [WORD]        only the cases whose names have this word; it is refused where none has it
 
 A file tells no contract what it keeps, so this is tested and not proved: OUT of `prepare` is whole, the old one or the
 new one, whatever happens; nothing is left beside it, but where the program is killed; and the statuses are those of
-docs/FORMATS.md. Each case is a line, and the last line counts them; the exit status is 1 if one has failed.
+docs/FORMATS.md. Each case is a line, and the last line counts them; the exit status is 1 where one has failed, or where the
+only ones that were named couldn't be tried.
 
 It needs the proved program, which is crates/routecli/out/routecli (README.md says how to build it) or the path in the
 environment variable ROUTECLI. With a C compiler as `cc` single calls of the system are refused too, by refuse_call.c; as
@@ -26,6 +27,7 @@ import time
 HERE = pathlib.Path(__file__).resolve().parent
 sys.path.insert(0, str(HERE.parent))
 
+from common.counted import chosen, end, parser
 from common.hierarchy_file import NONE, spelled
 from common.networks import made
 from common.program import PROGRAM, need_program
@@ -484,15 +486,17 @@ def refuse_library(top):
 
 
 def main():
+    words = parser(__doc__)
+    words.add_argument("word", nargs="?", default="", metavar="WORD")
+    names = chosen(words, (name for name, _ in CASES), words.parse_args().word)
     need_program()
-    word = sys.argv[1] if len(sys.argv) > 1 else ""
     failed = ran = 0
     with tempfile.TemporaryDirectory() as top:
         top = pathlib.Path(top)
         top.chmod(0o755)
         shared = Shared(top, 64)
         for name, test in CASES:
-            if word not in name:
+            if name not in names:
                 continue
             if shared.refuse is None and name.startswith(("refused", "borne")):
                 print(f"not run, without cc: {name}")
@@ -507,8 +511,7 @@ def main():
                 failed += 1
                 print(f"FAILED: {name}: {why}")
             shutil.rmtree(bench.folder)
-    print(f"{ran} cases, {failed} failed")
-    sys.exit(failed > 0)
+    end("tests/whole_files.py", ran - failed, failed)
 
 
 if __name__ == "__main__":

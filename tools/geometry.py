@@ -15,49 +15,58 @@ on a sphere: x goes from 0 at 180 degrees west to 1 at 180 degrees east, and y f
 import collections
 import itertools
 import math
-import typing
+from collections.abc import Iterable, Sequence
+from typing import NamedTuple, TypeVar
 
-from roads import EARTH_RADIUS
+from network import EARTH_RADIUS
+
+Point = tuple[float, float]
+Line = Sequence[Point]
+Piece = tuple[int, list[Point]]
 
 GREATEST_LATITUDE = 85.05
 MILLIONTHS = 1_000_000
 TENTHS = 10
 
+Value = TypeVar("Value")
+Edges = collections.Counter[tuple[Point, Point]]
 
-def plane_of(places):
+
+def plane_of(places: Iterable[Point]) -> list[Point]:
     """The points of places on the plane. Latitudes beyond 85.05 degrees are taken as 85.05, as web maps do."""
     return [(0.5 + lon / 360, 0.5 - height_of(lat)) for lon, lat in places]
 
 
-def height_of(latitude):
+def height_of(latitude: float) -> float:
     """How far north of the equator a latitude lies on the plane, in the width of the world."""
     phi = math.radians(max(-GREATEST_LATITUDE, min(GREATEST_LATITUDE, latitude)))
     return math.asinh(math.tan(phi)) / (2 * math.pi)
 
 
-def joined(lines):
+def joined(lines: Iterable[Iterable[Point]]) -> list[Point]:
     """One line through all places of several lines, in order, without a place that is the one before it again."""
     return without_repeats(itertools.chain.from_iterable(lines))
 
 
-def without_repeats(values):
+def without_repeats(values: Iterable[Value]) -> list[Value]:
     """The values in order, but those that are equal to the one before."""
     return [value for value, _ in itertools.groupby(values)]
 
 
-def nested(lines, most):
+def nested(lines: Sequence[Line], most: int) -> list[list[Piece]]:
     """For each line its pieces in order, (depth, places): along a piece go `depth` of the later lines, or `most` where
     there are more, in either direction."""
-    later, found = collections.Counter(), []
+    later: Edges = collections.Counter()
+    found: list[list[Piece]] = []
     for line in reversed(lines):
         found.append(pieces_of(line, later, most))
         later.update({undirected(edge) for edge in itertools.pairwise(line)})
     return found[::-1]
 
 
-def pieces_of(line, later, most):
+def pieces_of(line: Line, later: Edges, most: int) -> list[Piece]:
     """The pieces of a line, where `later` counts the lines along each of its undirected edges."""
-    pieces = []
+    pieces: list[Piece] = []
     by_depth = itertools.groupby(itertools.pairwise(line), key=lambda edge: min(later[undirected(edge)], most))
     for depth, edges in by_depth:
         starts, ends = zip(*edges)
@@ -65,11 +74,11 @@ def pieces_of(line, later, most):
     return pieces
 
 
-def undirected(edge):
+def undirected(edge: tuple[Point, Point]) -> tuple[Point, Point]:
     return min(edge), max(edge)
 
 
-class Box(typing.NamedTuple):
+class Box(NamedTuple):
     """A rectangle of the plane, its sides along the axes; `top` is the smaller y."""
 
     left: float
@@ -78,30 +87,30 @@ class Box(typing.NamedTuple):
     bottom: float
 
     @property
-    def width(self):
+    def width(self) -> float:
         return self.right - self.left
 
     @property
-    def height(self):
+    def height(self) -> float:
         return self.bottom - self.top
 
-    def grown(self, margin):
+    def grown(self, margin: float) -> "Box":
         """The box with a margin on each side."""
         return Box(self.left - margin, self.top - margin, self.right + margin, self.bottom + margin)
 
-    def shaped(self, least, most):
+    def shaped(self, least: float, most: float) -> "Box":
         """The box, made wider or higher about its middle until height / width is from `least` to `most`."""
         wider = max(0, self.height / most - self.width) / 2
         higher = max(0, self.width * least - self.height) / 2
         return Box(self.left - wider, self.top - higher, self.right + wider, self.bottom + higher)
 
-    def meets(self, other):
+    def meets(self, other: "Box") -> bool:
         """Whether the boxes have a point in common."""
         beside = self.right < other.left or other.right < self.left
         return not (beside or self.bottom < other.top or other.bottom < self.top)
 
 
-def box_of(points):
+def box_of(points: Iterable[Point]) -> Box:
     """The least box around one or more points."""
     across, down = zip(*points)
     return Box(min(across), min(down), max(across), max(down))
@@ -110,24 +119,24 @@ def box_of(points):
 class View:
     """A picture, so many pixels wide, of a box of the plane whose width is above 0."""
 
-    def __init__(self, box, width):
+    def __init__(self, box: Box, width: float) -> None:
         self.box = box
         self.width = width
         self.scale = width / box.width
         self.height = round(box.height * self.scale)
 
-    def pixels(self, points):
+    def pixels(self, points: Iterable[Point]) -> list[Point]:
         """Where points of the plane lie in the picture, from its upper left corner."""
         return [((x - self.box.left) * self.scale, (y - self.box.top) * self.scale) for x, y in points]
 
     @property
-    def metres_of_a_pixel(self):
+    def metres_of_a_pixel(self) -> float:
         """The length of a pixel on the ground, in the middle of the picture."""
         north = 0.5 - (self.box.top + self.box.bottom) / 2
         return 2 * math.pi * EARTH_RADIUS / math.cosh(2 * math.pi * north) / self.scale
 
 
-def path_of(pixels):
+def path_of(pixels: Iterable[Point]) -> str:
     """A line as the text of an SVG path, in steps from pixel to pixel; steps of less than a tenth are left out."""
     rounded = without_repeats([(round(x * TENTHS), round(y * TENTHS)) for x, y in pixels])
     (x, y), *steps = rounded
@@ -139,12 +148,12 @@ def path_of(pixels):
     return "".join(text).rstrip()
 
 
-def tenths(number):
+def tenths(number: int) -> str:
     """The decimal number of so many tenths, without a zero behind the point."""
     return f"{number / TENTHS:g}"
 
 
-def differences(places):
+def differences(places: Iterable[Point]) -> list[int]:
     """A line as a flat list of whole millionths of a degree: the first place, and each other as its difference from the
     one before, longitude first."""
     whole = [(round(lon * MILLIONTHS), round(lat * MILLIONTHS)) for lon, lat in places]
@@ -154,7 +163,7 @@ def differences(places):
     return numbers
 
 
-def bar_for(metres):
+def bar_for(metres: float) -> float:
     """The greatest of .., 0.5, 1, 2, 5, 10, 20, .. that is at most so many metres, which are above 0."""
     below = math.floor(math.log10(metres)) - 1
     bars = [step * 10.0**power for power in (below, below + 1) for step in (1, 2, 5)]

@@ -28,7 +28,8 @@ import socket
 import typing
 import uuid
 
-import roads
+from texts import MOST_LINES
+from tool import Fault, reading, remove_if_there, writing
 
 BLOCK = 1 << 20
 PROBLEM_WORDS = [b"p", b"aux", b"sp", b"p2p"]
@@ -51,7 +52,7 @@ class Survey(typing.NamedTuple):
 def spool(path, to):
     """Copies the text of pairs (`-` is standard input) to the new file `to`, and gives its Survey."""
     digest, kinds = hashlib.sha256(), KindsOfLines()
-    with roads.reading(path) as text, open(to, "xb") as copy:
+    with reading(path) as text, open(to, "xb") as copy:
         for line in text:
             digest.update(line)
             copy.write(line)
@@ -90,7 +91,7 @@ def is_pair(line):
 def number_announced(fields):
     """The number of a problem line's fields; None where they are no problem line, or one that is refused."""
     digits = re.fullmatch(b"0*([0-9]{1,9})", fields[-1])
-    if fields[:-1] != PROBLEM_WORDS or digits is None or int(digits[1]) > roads.MOST_LINES:
+    if fields[:-1] != PROBLEM_WORDS or digits is None or int(digits[1]) > MOST_LINES:
         return None
     return int(digits[1])
 
@@ -164,7 +165,7 @@ class Folder:
             os.rename(path, gone)
             shutil.rmtree(gone, ignore_errors=True)
         else:
-            roads.remove_if_there(path)
+            remove_if_there(path)
 
     def begin(self, anew):
         """Removes the drafts of older runs, and all where there is no plan or it begins anew; makes a folder of drafts."""
@@ -177,7 +178,7 @@ class Folder:
 
     def forget(self):
         """Drops the plan, and with it all that `end` then finds here."""
-        roads.remove_if_there(self.plan_file)
+        remove_if_there(self.plan_file)
 
     def end(self):
         """Removes this run's drafts, and the whole folder where there is no plan: without one nothing is worth keeping."""
@@ -197,7 +198,7 @@ class Folder:
         except FileNotFoundError:
             return None
         except (ValueError, TypeError) as error:
-            raise roads.Fault("is no plan of route_many: --anew drops it", self.plan_file) from error
+            raise Fault("is no plan of route_many: --anew drops it", self.plan_file) from error
 
     def cut(self, plan, spooled):
         """Cuts the spooled text by the plan; gives the plan with its parts, which is then kept."""
@@ -209,7 +210,7 @@ class Folder:
                     file.write(text)
                 parts.append([pairs, len(text)])
         plan = plan._replace(parts=parts)
-        with roads.writing(self.plan_file) as file:
+        with writing(self.plan_file) as file:
             json.dump(plan._asdict(), file)
         return plan
 
@@ -224,7 +225,7 @@ class Folder:
                     progress(len(block))
             if lines != pairs:
                 problem = f"has {lines} lines for {pairs} pairs: remove it and give the same call again"
-                raise roads.Fault(problem, self.answers(number))
+                raise Fault(problem, self.answers(number))
 
 
 @contextlib.contextmanager
@@ -266,7 +267,7 @@ def take_lock(lock, out):
         if error.errno not in (errno.EAGAIN, errno.EACCES):
             raise
         lock.seek(0)
-        raise roads.Fault(f"another run works on it: {lock.read().strip()}", out) from error
+        raise Fault(f"another run works on it: {lock.read().strip()}", out) from error
 
 
 def is_at(file, path):

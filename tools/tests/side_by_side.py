@@ -1,7 +1,9 @@
-"""Runs all tests of this folder, as many at a time as there are processors, each in a process apart from the others'.
+"""Runs the tests of this folder, as many at a time as there are processors, each in a process apart from the others'.
 
-What a test that fails has to say is told as soon as it ends, and at the end how many ran, how many failed and which took
-longest. The status is 0 only where tests ran and all of them passed.
+    side_by_side.py [WORD ..]       by default all tests, else those whose names have one of the words
+
+What a test that fails has to say is printed as soon as it ends, and at the end which took longest. The last line counts the
+tests. The status is 0 only where tests ran and all of them passed, and 2 where a word is in no name.
 """
 import concurrent.futures
 import io
@@ -11,6 +13,11 @@ import pathlib
 import sys
 import time
 import unittest
+
+ROOT = pathlib.Path(__file__).resolve().parent.parent.parent
+sys.path.insert(0, str(ROOT))
+
+from common.counted import chosen, end, parser  # noqa: E402  (found by the path above)
 
 # Those that start a scheduler and workers take longest, so they begin first.
 FIRST = "DaskTests"
@@ -43,12 +50,16 @@ def run(number):
 
 
 def main():
+    words = parser(__doc__)
+    words.add_argument("words", nargs="*", metavar="WORD")
+    ids = [test.id() for test in TESTS]
+    named = {name for word in words.parse_args().words or [""] for name in chosen(words, ids, word)}
     start, failed, times = time.monotonic(), [], []
     at_a_time = len(os.sched_getaffinity(0))
     # (a process that forks has the tests already)
     forking = multiprocessing.get_context("fork")
     with concurrent.futures.ProcessPoolExecutor(at_a_time, forking) as pool:
-        runs = {pool.submit(run, number): test.id() for number, test in enumerate(TESTS)}
+        runs = {pool.submit(run, number): test.id() for number, test in enumerate(TESTS) if test.id() in named}
         for done in concurrent.futures.as_completed(runs):
             passed, said, seconds = done.result()
             times.append((seconds, runs[done]))
@@ -57,8 +68,9 @@ def main():
                 print(f"{runs[done]}\n{said}", flush=True)
     slowest = ", ".join(f"{test} {seconds:.1f} s" for seconds, test in sorted(times, reverse=True)[:SLOWEST])
     print(f"map tools: {len(times)} tests in {time.monotonic() - start:.0f} s, {at_a_time} at a time; the slowest: {slowest}")
-    if failed or not times:
-        sys.exit(f"map tools: {len(failed)} of {len(times)} tests failed: {' '.join(sorted(failed))}")
+    if failed:
+        print(f"map tools: {len(failed)} of {len(times)} tests failed: {' '.join(sorted(failed))}")
+    end("tools/tests/run", len(times) - len(failed), len(failed))
 
 
 if __name__ == "__main__":

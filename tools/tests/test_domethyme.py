@@ -1,21 +1,31 @@
-"""Tests of domethyme.py: what goes through arrays, files and the proved program, beside scipy's plain search."""
+"""Tests of the package domethyme: what goes through arrays, files and the program, beside scipy's plain search."""
+import pickle
 import unittest.mock
 
 import numpy as np
+import pandas as pd
 from scipy.sparse import coo_array
 from scipy.sparse.csgraph import dijkstra
-from tool_case import ToolCase
+from tool_case import ToolCase, serving_program
 
 import domethyme
+from domethyme import service
 
 # Four nodes: two ways from 0 to 2, of 3 + 4 = 7 and of 9; back from 2 to 0 by 5; node 3 leads to 0 by 6, and nothing to it.
 SQUARE = ([0, 1, 0, 2, 3], [1, 2, 2, 0, 0], [3, 4, 9, 5, 6])
 
 
 class DomethymeTests(ToolCase):
+    def prepared(self, name, *graph, **options):
+        """The hierarchy of a graph, which ends with the test."""
+        domethyme.write_graph(self.folder / f"{name}.gr", *graph, nodes=options.pop("nodes", None))
+        words = {"program": serving_program(), **options}
+        hierarchy = domethyme.prepare(self.folder / f"{name}.gr", self.folder / f"{name}.rch", **words)
+        self.addCleanup(hierarchy.close)
+        return hierarchy
+
     def square(self):
-        domethyme.write_graph(self.folder / "square.gr", *SQUARE)
-        return domethyme.prepare(self.folder / "square.gr", self.folder / "square.rch")
+        return self.prepared("square", *SQUARE)
 
     def test_graph_text(self):
         domethyme.write_graph(self.folder / "square.gr", *map(np.array, SQUARE))
@@ -47,21 +57,30 @@ class DomethymeTests(ToolCase):
         self.assertEqual((routes.lengths.tolist(), routes.offsets.tolist()), ([-1, -1], [0, 0, 0]))
 
     def test_lengths_beyond_32_bits(self):
-        domethyme.write_graph(self.folder / "line.gr", [0, 1, 2], [1, 2, 3], [4294967295] * 3)
-        routes = domethyme.prepare(self.folder / "line.gr", self.folder / "line.rch").routes([[0, 3]])
+        hierarchy = self.prepared("line", [0, 1, 2], [1, 2, 3], [4294967295] * 3)
+        routes = hierarchy.routes([[0, 3]])
         self.assertEqual(routes.lengths.tolist(), [12884901885])
         self.assertEqual(routes[0].tolist(), [0, 1, 2, 3])
+        for by in ("serve", "sweeps"):
+            self.assertEqual(hierarchy.matrix([0, 3], by=by).tolist(), [[0, 12884901885], [-1, 0]])
+        self.assertEqual(hierarchy.between({0: 4294967295}, {3: 4294967295}).length, 5 * 4294967295)
 
     def test_random_networks_beside_a_plain_search(self):
         draw = np.random.default_rng(1)
         for nodes, arcs, heaviest in [(1, 0, 1), (40, 60, 1000), (300, 1000, 1000), (300, 400, 1000), (300, 600, 2)]:
             with self.subTest(nodes=nodes, arcs=arcs):
                 ends, weights = draw.integers(0, nodes, (2, arcs)), draw.integers(0, heaviest + 1, arcs)
-                domethyme.write_graph(self.folder / "network.gr", *ends, weights, nodes=nodes)
-                hierarchy = domethyme.prepare(self.folder / "network.gr", self.folder / "network.rch", seed=3, workers=2)
+                hierarchy = self.prepared("network", *ends, weights, nodes=nodes, seed=3, workers=2)
                 pairs = np.stack(np.meshgrid(np.arange(nodes), np.arange(nodes), indexing="ij"), axis=-1).reshape(-1, 2)
                 least = least_weights(nodes, *ends, weights)
-                self.check(hierarchy.routes(pairs[: 40 * nodes]), pairs[: 40 * nodes], least)
+                self.check(hierarchy.routes(pairs[: 4 * nodes]), pairs[: 4 * nodes], least)
+                self.assertEqual(hierarchy.lengths(pairs[:nodes]).tolist(), hierarchy.routes(pairs[:nodes]).lengths.tolist())
+                wanted = dijkstra(least)
+                wanted = np.where(np.isinf(wanted), -1, wanted).astype(np.int64)
+                np.testing.assert_array_equal(hierarchy.matrix(np.arange(nodes), by="sweeps"), wanted)
+                some = draw.integers(0, nodes, 7)
+                np.testing.assert_array_equal(hierarchy.matrix(some, some[:3], by="serve"), wanted[some][:, some[:3]])
+                np.testing.assert_array_equal(hierarchy.matrix(some, some[:3], by="sweeps"), wanted[some][:, some[:3]])
 
     def check(self, routes, pairs, least):
         """The lengths are those of scipy, and each route is a walk of that length between its nodes."""
@@ -80,8 +99,8 @@ class DomethymeTests(ToolCase):
     def test_answers_in_many_blocks(self):
         lengths = [[0, 3, 7, -1], [9, 0, 4, -1], [5, 8, 0, -1], [6, 9, 13, 0]]
         hierarchy, pairs = self.square(), [[row // 4 % 4, row % 4] for row in range(1000)]
-        for size in [1, 5, 64, 1000]:
-            with self.subTest(size=size), unittest.mock.patch.object(domethyme, "BLOCK", size):
+        for size in [3, 64, 1000]:
+            with self.subTest(size=size), unittest.mock.patch.object(service, "BLOCK", size):
                 routes = hierarchy.routes(pairs)
                 self.assertEqual(routes.lengths.tolist(), [lengths[start][end] for start, end in pairs])
                 for row in range(14, 1000, 16):
@@ -116,28 +135,127 @@ class DomethymeTests(ToolCase):
             with self.subTest(says=says), self.assertRaisesRegex(ValueError, says):
                 hierarchy.routes(wrong)
 
-    def test_refusals_of_the_program(self):
+    def test_refusals(self):
         graph, file = self.write("bad.gr", "p sp 2 1\na 1 3 5\n"), self.folder / "bad.rch"
-        for fault, status, attempt in [
-            ("routecli: graph: NodeRange line 2", 3, lambda: domethyme.prepare(graph, file)),
-            ("routecli: hierarchy: BadMagic", 4, lambda: domethyme.Hierarchy(graph).routes([[0, 1]])),
-            ("routecli: read", 7, lambda: domethyme.Hierarchy(file).routes([[0, 1]])),
-            ("no: is no program that can be run", 1, lambda: domethyme.Hierarchy(file, program="no")),
+        for kind, message, status, attempt in [
+            (domethyme.GraphError, "routecli: graph: NodeRange line 2", 3, lambda: domethyme.prepare(graph, file)),
+            (domethyme.ReadWriteError, "no.gr: No such file or directory", 7, lambda: domethyme.prepare("no.gr", file)),
+            (domethyme.HierarchyError, f"{graph}: is no file that `routecli prepare` wrote", 4,
+             lambda: domethyme.Hierarchy(graph)),
+            (domethyme.HierarchyError, f"{self.folder}: Is a directory", 7, lambda: domethyme.Hierarchy(self.folder)),
+            (domethyme.HierarchyNotFound, f"{file}: No such file or directory", 7, lambda: domethyme.Hierarchy(file)),
+            (FileNotFoundError, f"{file}: No such file or directory", 7, lambda: domethyme.Hierarchy(file)),
+            (domethyme.ProgramNotFound, "no: is no program that can be run", 1,
+             lambda: domethyme.Hierarchy(file, program="no")),
         ]:
-            with self.subTest(fault=fault), self.assertRaises(domethyme.Fault) as caught:
+            with self.subTest(message=message), self.assertRaises(kind) as caught:
                 attempt()
-            self.assertEqual((str(caught.exception), caught.exception.status), (fault, status))
+            self.assertIsInstance(caught.exception, domethyme.Fault)
+            told = str(caught.exception).splitlines()[0]
+            self.assertEqual((told, caught.exception.status), (message, status))
         self.assertEqual(list(self.contents()), [graph])
 
-    def test_a_program_that_is_killed(self):
-        program = self.write("program", "#!/bin/sh\nkill -9 $$\n")
-        program.chmod(0o755)
-        for attempt in [
-            lambda: domethyme.prepare("no.gr", "no.rch", program=str(program)),
-            lambda: domethyme.Hierarchy("no.rch", program=str(program)).routes([[0, 1]]),
-        ]:
-            with self.assertRaisesRegex(domethyme.Fault, "routecli was ended by signal 9"):
-                attempt()
+    def test_a_hierarchy_that_is_cut_off_or_no_hierarchy_inside(self):
+        hierarchy = self.square()
+        whole = (self.folder / "square.rch").read_bytes()
+        cut = self.folder / "cut.rch"
+        cut.write_bytes(whole[:-1])
+        with self.assertRaisesRegex(domethyme.HierarchyError, r"cut.rch: has \d+ bytes, and its head"):
+            domethyme.Hierarchy(cut)
+        cut.write_bytes(whole[:24] + whole[28:32] * 2 + whole[32:])
+        with domethyme.Hierarchy(cut, program=serving_program()) as broken:
+            with self.assertRaises(domethyme.HierarchyError):
+                broken.matrix([0, 1], by="sweeps")
+        self.assertEqual((hierarchy.nodes, hierarchy.links), (4, (len(whole) - 24 - 16) // 24))
+
+    def test_one_question_at_a_time(self):
+        hierarchy = self.square()
+        self.assertEqual([hierarchy.length(0, end) for end in range(4)], [0, 3, 7, None])
+        route = hierarchy.route(np.int64(3), 2)
+        self.assertEqual((route.source, route.target, route.length, route.nodes, route.arcs), (3, 2, 13, [3, 0, 1, 2], 3))
+        self.assertIsNone(hierarchy.route(0, 3))
+        for node in (4, -1, np.uint64(1 << 63)):
+            with self.assertRaisesRegex(domethyme.NoSuchNode, "nodes 0 to 3"):
+                hierarchy.length(0, node)
+        for node in ("0", 0.0, None):
+            with self.assertRaisesRegex(ValueError, "is no node"):
+                hierarchy.route(node, 0)
+
+    def test_between_places_on_arcs(self):
+        hierarchy = self.square()
+        # from 3 (6 to node 0) with 1 added, or from 1 with 9: 1 + 13 = 14 to node 2, and 9 + 4 = 13
+        for starts in ({3: 1, 1: 9}, [(3, 1), (1, 9)]):
+            taken = hierarchy.between(starts, [2])
+            self.assertEqual((taken.source, taken.target, taken.length, taken.nodes), (1, 2, 13, [1, 2]))
+        self.assertEqual(hierarchy.between([3], {2: 5, 0: 20}).length, 18)
+        self.assertEqual(hierarchy.between([0, 1, 2], [2]).nodes, [2])
+        self.assertIsNone(hierarchy.between([0, 1, 2], [3]))
+        for starts, ends, says in [([], [0], "1 to 8"), ([0] * 9, [0], "1 to 8"), ({0: -1}, [0], "from 0 to 4294967295"),
+                                   ([0], {0: 1 << 32}, "from 0 to 4294967295"), ([7], [0], "nodes 0 to 3")]:
+            with self.subTest(says=says), self.assertRaisesRegex(ValueError, says):
+                hierarchy.between(starts, ends)
+
+    def test_slices_and_equality(self):
+        hierarchy, pairs = self.square(), [[0, 2], [0, 3], [3, 2], [1, 1]]
+        routes = hierarchy.routes(pairs)
+        for rows in (slice(1, 3), slice(None, None, -1), slice(4, 9), slice(0, 4, 2)):
+            with self.subTest(rows=rows):
+                part = routes[rows]
+                self.assertEqual([nodes.tolist() for nodes in part], [nodes.tolist() for nodes in routes][rows])
+                self.assertEqual(part, hierarchy.routes(np.array(pairs)[rows].reshape(-1, 2)))
+        self.assertNotEqual(routes, routes[1:])
+        self.assertEqual(routes.arcs.tolist(), [2, -1, 3, 0])
+
+    def test_keys_of_any_kind(self):
+        graph = domethyme.Graph.of_keys(["a", "b", "a", ("c", 3)], ["b", ("c", 3), ("c", 3), "a"], [3, 4, 9, 5])
+        with graph.prepare(self.folder / "keys.rch", program=serving_program()) as hierarchy:
+            self.assertEqual(hierarchy.route("a", ("c", 3)).nodes, ["a", "b", ("c", 3)])
+            self.assertEqual(hierarchy.routes([("a", ("c", 3)), ("b", "a")])[1].tolist(), ["b", ("c", 3), "a"])
+            self.assertEqual(hierarchy.matrix(["b"], ["a", "b"]).tolist(), [[9, 0]])
+            self.assertEqual(hierarchy.between({"a": 1}, ["b"]).length, 4)
+            for attempt in (lambda: hierarchy.length("a", "z"), lambda: hierarchy.lengths([("a", "z")])):
+                with self.assertRaisesRegex(domethyme.NoSuchNode, "key 'z' names no node"):
+                    attempt()
+
+    def test_keys_given_as_numbers_arrays_or_mappings(self):
+        self.square()
+        large = [1 << 40, -5, 7, 9]
+        for keys in (large, np.array(large), dict(zip(large, range(4))), domethyme.Keys(large)):
+            with domethyme.Hierarchy(self.folder / "square.rch", serving_program(), keys=keys) as hierarchy:
+                self.assertEqual(hierarchy.routes([[1 << 40, 7]])[0].tolist(), [1 << 40, -5, 7])
+                self.assertEqual(hierarchy.length(np.int64(1 << 40), -5), 3)
+        for keys, says in [([1, 1], "key 1 names two nodes"), (range(5), "has 4"), ({"a": 0, "b": 0}, "name one node"),
+                           ({"a": -1}, "is no node")]:
+            with self.subTest(says=says), self.assertRaisesRegex(ValueError, says):
+                domethyme.Hierarchy(self.folder / "square.rch", serving_program(), keys=keys)
+
+    def test_weights_that_are_no_whole_numbers(self):
+        graph = domethyme.Graph.of_keys(["a", "b"], ["b", "c"], [0.5, 2.0004], scale=1000)
+        self.assertEqual(graph.weights.tolist(), [500, 2000])
+        for weights in ([1.0, -1.0], [1.0, 5e6], [1.0, float("nan")]):
+            with self.assertRaisesRegex(ValueError, "weights times 1000 have to be from 0"):
+                domethyme.Graph.of_keys(["a", "b"], ["b", "c"], weights, scale=1000)
+
+    def test_frames_in_and_out(self):
+        frame = pd.DataFrame({"from": ["a", "b", "a"], "to": ["b", "c", "c"], "weight": [3, 4, 9]})
+        with domethyme.Graph.of_frame(frame).prepare(self.folder / "f.rch", program=serving_program()) as hierarchy:
+            asked = pd.DataFrame({"name": [1, 2], "from": ["a", "c"], "to": ["c", "a"]}, index=[7, 9])
+            self.assertEqual(hierarchy.lengths(asked).to_dict(), {7: 7, 9: -1})
+            told = hierarchy.routes(asked).to_frame()
+            self.assertEqual(told.to_dict("index"), {7: {"from": "a", "to": "c", "length": 7, "arcs": 2},
+                                                     9: {"from": "c", "to": "a", "length": -1, "arcs": -1}})
+            table = hierarchy.matrix(asked["from"], ["b", "c"])
+            self.assertEqual(table.loc["a"].to_dict(), {"b": 3, "c": 7})
+            with self.assertRaisesRegex(ValueError, "columns from and to"):
+                hierarchy.lengths(asked[["name", "from", "to"]].rename(columns={"to": "there"}))
+
+    def test_a_hierarchy_that_was_pickled_or_replaced(self):
+        hierarchy = self.square()
+        with pickle.loads(pickle.dumps(hierarchy)) as other:
+            self.assertEqual(other.length(0, 2), 7)
+        self.prepared("other", [0, 1], [1, 0], [8, 8])
+        (self.folder / "other.rch").replace(self.folder / "square.rch")
+        self.assertEqual((hierarchy.length(0, 2), hierarchy.matrix([0], [2], by="sweeps").tolist()), (7, [[7]]))
 
 
 def least_weights(nodes, starts, ends, weights):

@@ -6,7 +6,11 @@ import json
 import xml.etree.ElementTree as xml
 
 import osmium
-from tool_case import TOOLS, VILLAGE, ToolCase, roads
+from tool_case import TOOLS, VILLAGE, ToolCase
+
+from network import attribution_of, lightest, read_arcs, read_nodes
+from texts import read_answers, read_graph, write_pairs
+from tool import find_program
 
 # A step of the drawing is a thousandth of a degree: 6371008.8 m * pi / 180 / 1000 = 111.19508 m. At 1 km/h that takes
 # 400302.289 ms; so 1 step at 50 km/h 8006.05 ms, at 30 km/h 13343.41, at 15 km/h 26686.82, at 30 mph (48.28032 km/h)
@@ -97,13 +101,13 @@ class NetworkCase(ToolCase):
         return self.run_tool("osm_to_gr", source, out, *words)
 
     def nodes(self, out="village"):
-        return roads.read_nodes(self.folder / f"{out}.nodes.csv")
+        return read_nodes(self.folder / f"{out}.nodes.csv")
 
     def rows(self, out="village"):
-        return list(roads.read_arcs(self.folder / f"{out}.arcs.csv"))
+        return list(read_arcs(self.folder / f"{out}.arcs.csv"))
 
     def graph(self, out="village"):
-        return roads.read_graph(self.folder / f"{out}.gr")
+        return read_graph(self.folder / f"{out}.gr")
 
     def labels(self, out="village"):
         """The name of each node by its number: its id in the map, or its place in the drawing."""
@@ -204,11 +208,11 @@ class Village(NetworkCase):
 
     def test_attribution_is_a_comment_of_the_graph(self):
         self.convert()
-        self.assertEqual(roads.attribution_of(self.folder / "village"), "© OpenStreetMap contributors (ODbL 1.0)")
+        self.assertEqual(attribution_of(self.folder / "village"), "© OpenStreetMap contributors (ODbL 1.0)")
         self.convert("--attribution", "Drawn\nby hand")
-        self.assertEqual(roads.attribution_of(self.folder / "village"), "Drawn by hand")
+        self.assertEqual(attribution_of(self.folder / "village"), "Drawn by hand")
         self.convert("--attribution", "")
-        self.assertEqual(roads.attribution_of(self.folder / "village"), "")
+        self.assertEqual(attribution_of(self.folder / "village"), "")
         self.assertEqual(self.graph().nodes, 35)
 
     def test_old_files_are_replaced(self):
@@ -417,11 +421,11 @@ class Routes(NetworkCase):
         self.convert(*words)
         count = len(self.nodes().osm)
         with open(self.folder / "all.pairs", "w", encoding="utf-8") as file:
-            roads.write_pairs(file, list(itertools.product(range(1, count + 1), repeat=2)))
-        program = roads.find_program()
+            write_pairs(file, list(itertools.product(range(1, count + 1), repeat=2)))
+        program = find_program()
         self.run_program([program, "prepare", "--order", "depth", "village.gr", "village.rch"])
         told = self.run_program([program, "route", "village.rch", "all.pairs"])
-        return list(roads.read_answers(self.write("answers", told.stdout)))
+        return list(read_answers(self.write("answers", told.stdout)))
 
     def lengths(self, answers):
         """The length from a node to another, by their ids in the map: the least where an id has two nodes."""
@@ -465,7 +469,7 @@ class Routes(NetworkCase):
         answers = self.answers()
         rows = self.rows()
         least = least_lengths(len(self.nodes().osm), rows)
-        weight = {pair: arc.weight for pair, arc in roads.lightest(rows).items()}
+        weight = {pair: arc.weight for pair, arc in lightest(rows).items()}
         self.assertEqual(len(answers), 35 * 35)
         for answer in answers:
             steps = itertools.pairwise(answer.nodes)

@@ -13,7 +13,10 @@ import subprocess
 import sys
 import time
 
-from tool_case import TOOLS, ToolCase, roads
+from tool_case import TAKES_SIGNALS, TOOLS, ToolCase
+
+from texts import write_graph
+from tool import find_program
 
 import parts
 
@@ -48,8 +51,8 @@ class RouteManyCase(ToolCase):
         draw = random.Random(1)
         arcs = [(draw.randint(1, 280), draw.randint(1, 300), draw.randint(1, 1000)) for _ in range(900)]
         with open(self.folder / "network.gr", "w", encoding="utf-8") as file:
-            roads.write_graph(file, 300, arcs)
-        self.program = roads.find_program()
+            write_graph(file, 300, arcs)
+        self.program = find_program()
         self.run_program([self.program, "prepare", "--workers", "1", "network.gr", "network.rch"])
         pairs = [(draw.randint(1, 300), draw.randint(1, 300)) for _ in range(1000)]
         self.write("pairs", text_of(pairs))
@@ -117,7 +120,7 @@ class RouteManyCase(ToolCase):
     def start(self, words, log):
         """A process that runs beside the test, its output into a file, and that is killed at the test's end."""
         with open(self.folder / log, "wb") as file:
-            words = ["/usr/bin/env", "--default-signal=INT", *map(str, words)]
+            words = [*TAKES_SIGNALS, *map(str, words)]
             process = subprocess.Popen(words, cwd=self.folder, stdin=subprocess.DEVNULL, stdout=file, stderr=file)
         self.addCleanup(end, process)
         self.before = sorted({*self.before, log})

@@ -3,7 +3,11 @@ import csv
 import itertools
 import json
 
-from tool_case import TOOLS, VILLAGE, ToolCase, roads
+from tool_case import TOOLS, VILLAGE, ToolCase
+
+from network import metres_between, read_nodes
+from texts import read_graph
+from tool import find_program
 
 # From 2 to 3 the second arc is the lightest, and the first of two as light; 4 can't be reached.
 NODES = "node,osm,lon,lat\n1,11,0,0\n2,12,0.001,0\n3,13,0.002,0\n4,14,0.003,0\n"
@@ -210,10 +214,10 @@ class Village(ToolCase):
 
     def setUp(self):
         super().setUp()
-        self.program = roads.find_program()
+        self.program = find_program()
         self.run_tool("osm_to_gr", VILLAGE, "village", "--islands")
         self.run_program([self.program, "prepare", "village.gr", "village.rch"])
-        nodes = roads.read_nodes(self.folder / "village.nodes.csv")
+        nodes = read_nodes(self.folder / "village.nodes.csv")
         self.places = [list(place) for place in zip(nodes.lon, nodes.lat)]
         self.write("places.csv", "lon,lat\n" + "".join(f"{lon},{lat}\n" for lon, lat in self.places))
 
@@ -222,7 +226,7 @@ class Village(ToolCase):
         self.run_program(["bash", "-c", f"set -o pipefail; {self.PIPE}"], environment=environment)
         features = [json.loads(line) for line in (self.folder / "routes").read_text().splitlines()]
         self.assertEqual(len(features), len(self.places) ** 2)
-        least = least_lengths(roads.read_graph(self.folder / "village.gr"))
+        least = least_lengths(read_graph(self.folder / "village.gr"))
         for found in features:
             told = found["properties"]
             self.assertEqual(told["length"], least.get((told["from_node"], told["to_node"])))
@@ -234,7 +238,7 @@ class Village(ToolCase):
         self.assertEqual([line[0], line[-1]], [self.places[told["from_node"] - 1], self.places[told["to_node"] - 1]])
         for figure in ("metres", "seconds"):
             self.assertAlmostEqual(sum(step[figure] for step in told["steps"]), told[figure], 6)
-        way = sum(roads.metres_between(*start, *end) for start, end in itertools.pairwise(line))
+        way = sum(metres_between(*start, *end) for start, end in itertools.pairwise(line))
         # Metres are rounded to the hundredth, and each end of an arc to the ten-millionth of a degree, 11 mm.
         self.assertAlmostEqual(way, told["metres"], delta=0.02 * told["arcs"])
         # The link between the twins takes no time, and weighs a millisecond.

@@ -1,4 +1,5 @@
 """What the tests of the tools share: a folder for each test, and runs of the tools in it."""
+import functools
 import os
 import pathlib
 import shutil
@@ -11,7 +12,22 @@ TOOLS = pathlib.Path(__file__).resolve().parent.parent
 VILLAGE = TOOLS / "tests/village.osm"
 sys.path.insert(0, str(TOOLS))
 
-import roads  # noqa: E402  (found by the path above)
+from tool import find_program  # noqa: E402  (found by the path above)
+
+# Before the words of a program that is sent signals. What a test inherits may ignore them, as a shell's background job
+# does, and Python makes no KeyboardInterrupt of an interrupt that it was started to ignore.
+TAKES_SIGNALS = ["/usr/bin/env", "--default-signal=HUP,INT,QUIT,TERM"]
+
+STAND_IN = TOOLS / "tests/serve_stand_in"
+
+
+@functools.cache
+def serving_program():
+    """The program, or where it has no `serve` yet, the stand-in that has. The environment then names what it stands for."""
+    program = find_program()
+    os.environ["STAND_IN_FOR"] = program
+    known = subprocess.run([program, "serve", "--help"], stdin=subprocess.DEVNULL, capture_output=True).returncode == 0
+    return program if known else str(STAND_IN)
 
 
 class ToolCase(unittest.TestCase):

@@ -8,7 +8,7 @@ use Rattle.std.proofs.lemmas.List.Elements.{All-head, All-tail, All-set, All-wea
 use Rattle.std.proofs.lemmas.List.Sums.{take_while-cons}
 use Rattle.ch_laws.specs.declared.entry.Entry.{Entry}
 use Rattle.ch_contract.specs.declared.chains.Chained.{Chained}
-use Rattle.ch_contract.specs.Chains.{ArePlaced, Fall, chain, chain_within, chained_at, comes_before, dropped_while}
+use Rattle.ch_contract.specs.Chains.{ChainsFall, Fall, chain, chain_within, chained_at, comes_before, dropped_while}
 
 nothing : (n : ℕ) (arcs : List Chained) → chain_within n arcs zero ≡ []
 nothing zero arcs = refl
@@ -78,11 +78,11 @@ empty-chains zero arcs = refl
 empty-chains (suc n) arcs = ap (λ ess. [] ∷ ess) (empty-chains n arcs)
 
 -- one more arc in the list, which one chain begins with
-module _ (firsts : List ℕ) (arcs : List Chained) (x : ℕ) (c : Chained) (placed : ArePlaced firsts arcs) (inside : x < length firsts) (next : c.next ≡ slice_index firsts x) where
+module _ (firsts : List ℕ) (arcs : List Chained) (x : ℕ) (c : Chained) (placed : ChainsFall firsts arcs) (inside : x < length firsts) (next : c.next ≡ slice_index firsts x) where
   next_in : c.next ≤ length arcs
   next_in = subst (λ n. n ≤ length arcs) (sym next) (placed.begin x 0 inside)
 
-  pub placed-more : (n : ℕ) → n ≡ length (arcs ++ c ∷ []) → ArePlaced (slice_set firsts x n) (arcs ++ c ∷ [])
+  pub placed-more : (n : ℕ) → n ≡ length (arcs ++ c ∷ []) → ChainsFall (slice_set firsts x n) (arcs ++ c ∷ [])
   placed-more n end = record {
     begin = All-set (λ m. m ≤ length (arcs ++ c ∷ [])) firsts x n (omega (arith, end)) (All-weaker (λ m. m ≤ length arcs) (λ m. m ≤ length (arcs ++ c ∷ [])) (λ m h. omega (arith, h, length-append arcs (c ∷ []))) firsts placed.begin);
     fall = fall-more arcs c placed.fall next_in;

@@ -3,17 +3,8 @@ use Rattle.std.proofs.Common.{ℕ, ◌≡◌, ◌≢◌, List, [], ◌∷◌, �
 use Rattle.ch_cost.specs.declared.cost.Cost.{Cost}
 use Rattle.ch_graph.specs.Walk.{Along, Walk, visited, Walk.stay, Walk.go}
 use Rattle.ch_laws.specs.Members.{contains_cases, contains_later}
-use Rattle.ch_laws.specs.Moving.{moved}
+use Rattle.ch_laws.specs.Moving.{heads, moved, tails, too-long}
 use Rattle.ch_contract.specs.Drafts.{IsInner}
-
-heads : (x y : ℕ) (xs ys : List ℕ) → x ∷ xs ≡ y ∷ ys → x ≡ y
-heads x y xs ys e = cc
-
-tails : (x y : ℕ) (xs ys : List ℕ) → x ∷ xs ≡ y ∷ ys → xs ≡ ys
-tails x y xs ys e = cc
-
-too-long : (x y z : ℕ) (xs : List ℕ) → x ∷ y ∷ xs ≡ z ∷ [] → ⊥
-too-long x y z xs e = absurd (cc)
 
 not-last : (n last : ℕ) (xs : List ℕ) → [] ≡ xs ++ last ∷ [] → ⊥
 not-last n last [] e = absurd (cc)

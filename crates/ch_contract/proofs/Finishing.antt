@@ -1,6 +1,5 @@
 -- The hierarchy of a ledger whose nodes are all contracted.
-use Rattle.std.proofs.Common.{ℕ, ◌≡◌, List, Result, Ok, Err, ap}
-use Rattle.std.specs.Result.{IsErrOf}
+use Rattle.std.proofs.Common.{ℕ, ◌≡◌, List}
 use Rattle.ch_cost.specs.declared.cost.Cost.{Cost}
 use Rattle.ch_graph.specs.declared.link.Link.{Link}
 use Rattle.ch_graph.specs.Limits.{bound_of}
@@ -9,8 +8,6 @@ use Rattle.ch_graph.specs.Hierarchy.{Hierarchy, IsWellMade, IsRight}
 use Rattle.ch_laws.specs.Contraction.{IsOver, IsMade}
 use Rattle.ch_laws.specs.Theorems.{AlwaysRight, AlwaysWellMade}
 use Rattle.ch_overlay.specs.Overlay.{state_of}
-use Rattle.ch_contract.specs.declared.error.FinishError.{FinishError}
-use Rattle.ch_contract.specs.declared.error.FinishError.TheVariants.{OutOfMemory, NodesLeft}
 use Rattle.ch_contract.specs.Ledger.{Ledger, IsLedger}
 use Rattle.ch_contract.specs.Finish.{AreRanks, AreLinks, HasNodesLeft}
 use Rattle.ch_contract.proofs.Links.{made_of_parts}
@@ -35,14 +32,3 @@ finished always_right always_well_made l ranks links bound is over ranked linked
 
 pub over-leaves_none : (l : Ledger) → IsOver (state_of l.overlay) → HasNodesLeft l → ⊥
 over-leaves_none l over left = left.1.waits (over left.0 left.1.in_range)
-
--- want of memory is another refusal than a node that is left
-pub memory-not_left : (l : Ledger) → IsErrOf {T = Hierarchy} {E = Ledger × FinishError} (Err (l, OutOfMemory)) (l, NodesLeft) → ⊥
-memory-not_left l e = error-apart (ap (λ (r : Result Hierarchy (Ledger × FinishError)). error_of r) e)
-  where
-    error_of : Result Hierarchy (Ledger × FinishError) → FinishError
-    error_of (Ok h) = OutOfMemory
-    error_of (Err refused) = refused.1
-
-    error-apart : OutOfMemory ≡ NodesLeft → ⊥
-    error-apart e = absurd (cc)

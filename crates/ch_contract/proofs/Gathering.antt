@@ -14,7 +14,7 @@ use Rattle.ch_witness.specs.FirstPlaces.{first_places}
 use Rattle.ch_contract.specs.declared.draft.Draft.{Draft}
 use Rattle.ch_contract.specs.Listed.{AreNamed, IsInnerOf, IsNamedBy, NeedsWay, ends}
 use Rattle.ch_contract.proofs.PartByPart.{parts_map, parts_push}
-use Rattle.ch_contract.specs.Drafts.{Agrees, IsBegun, IsDrafted, IsDraftedFrom}
+use Rattle.ch_contract.specs.Drafts.{AgreesWithKept, IsBegun, IsDrafted, IsDraftedFrom}
 use Rattle.ch_contract.specs.Proposal.{IsProposal, ShortcutBefore}
 use Rattle.ch_contract.proofs.Ranges.{AllPairs-append, AllPairs-take}
 use Rattle.ch_overlay.specs.Finding.{row_found}
@@ -53,7 +53,7 @@ drafted_none bound v row kept d begun = record {
 }
 
 module _ (bound : Cost) (v : ℕ) (row : Row) (inns : List Entry) (e : Entry) (kept now : Kept) (old new : Draft) (more : IsMore kept now) (rises : Rises (inns ++ e ∷ [])) (was : IsDrafted bound v row inns kept old) (this : IsDraftedFrom bound v row e now old new) where
-  earlier : (seen : ℕ → Option Row) → Agrees seen now new.listed.items → Agrees seen kept old.listed.items
+  earlier : (seen : ℕ → Option Row) → AgreesWithKept seen now new.listed.items → AgreesWithKept seen kept old.listed.items
   earlier seen agrees x s among is = agrees x s (subst (λ (ns : List ℕ). Contains ns x) (sym this.listed) (Contains-append_left old.listed.items this.more x among)) (more x s is)
 
   cases : (p : Shortcut) → Contains new.shortcuts.items p → Contains old.shortcuts.items p ⊎ Contains this.put p
@@ -94,7 +94,7 @@ module _ (bound : Cost) (v : ℕ) (row : Row) (inns : List Entry) (e : Entry) (k
     λ none p h is. none p (subst (λ (ps : List Shortcut). Contains ps p) (sym this.shortcuts) (Contains-append_right old.shortcuts.items this.put p h)) is,
   )
 
-  named_next : (seen : ℕ → Option Row) → Agrees seen now new.listed.items → AreNamed bound seen v row new.shortcuts.items (inns ++ e ∷ []) (was.others ++ this.more)
+  named_next : (seen : ℕ → Option Row) → AgreesWithKept seen now new.listed.items → AreNamed bound seen v row new.shortcuts.items (inns ++ e ∷ []) (was.others ++ this.more)
   named_next seen agrees =
       parts_push (IsNamedBy bound seen v row new.shortcuts.items) e this.more
       (parts_map (IsNamedBy bound seen v row old.shortcuts.items) (IsNamedBy bound seen v row new.shortcuts.items) inns (λ u part among inside. named_by bound seen v row old.shortcuts.items new.shortcuts.items u part (from_before u among)) (was.named seen (earlier seen agrees)))
@@ -170,7 +170,7 @@ proposed Bears Shows bound v row kept d rows own limit are own_kept row_is unran
   begun : (more : List Seen) × (rows ≡ own ∷ more)
   begun = listed.first v drafted.others own drafted.listed own_kept
 
-  agrees : Agrees (row_of rows) kept d.listed.items
+  agrees : AgreesWithKept (row_of rows) kept d.listed.items
   agrees x s among is = subst (λ (y : ℕ). row_of rows y ≡ Some (row_in s)) (are x s is).node (row_found rows listed.once s (listed.every x s among is))
 
   all_listed : HasAll kept d.listed.items

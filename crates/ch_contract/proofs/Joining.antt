@@ -21,10 +21,10 @@ use Rattle.ch_overlay.specs.declared.source.Seen.{Seen}
 use Rattle.ch_overlay.specs.Source.{row_in, row_of}
 use Rattle.ch_witness.specs.declared.way.Way.{Way}
 use Rattle.ch_witness.specs.Kept.{HasAll, Kept, IsKept}
-use Rattle.ch_witness.specs.Ways.{AreWays, IsFound, IsStartRow, IsWay, way_at}
+use Rattle.ch_witness.specs.Ways.{AreWays, IsFound, IsStartRead, IsWay, way_at}
 use Rattle.ch_contract.specs.declared.draft.Draft.{Draft}
 use Rattle.ch_contract.specs.Listed.{HasInner, IsInnerOf, IsNamedBy, LeadsOn, NeedsWay, Parts, ends}
-use Rattle.ch_contract.specs.Drafts.{Agrees, AreJudged, ArePairs, IsDraftedFrom, IsInner, IsJoined, IsJudgedBy, IsPairOf, IsPairPart, Lengthens, over}
+use Rattle.ch_contract.specs.Drafts.{AgreesWithKept, AreJudged, ArePairs, IsDraftedFrom, IsInner, IsJoined, IsJudgedBy, IsPairOf, IsPairPart, Lengthens, over}
 use Rattle.ch_contract.proofs.Drafting.{inner_leaves, inner_moved}
 use Rattle.ch_contract.proofs.PartByPart.{parts_at, parts_compose, parts_first, parts_from, parts_map, parts_none}
 use Rattle.ch_overlay.specs.Finding.{row_among}
@@ -199,7 +199,7 @@ module _ (bound : Cost) (v : ℕ) (row : Row) (into : Entry) (pairs : List Short
     (kept : Kept) (first : Seen) (first_kept : kept into.other ≡ Some first)
     (rows : List Seen) (cutoff : Cost) (ways : List (Option Way)) (found : AreWays rows into.other v cutoff (map (λ (q : Shortcut). q.to) pairs) ways)
     (most : (p : Shortcut) → Contains pairs p → p.cost ≼ cutoff)
-    (direct : (k : ℕ) → k < length (map (λ (q : Shortcut). q.to) pairs) → slice_index (map (λ (q : Shortcut). q.to) pairs) k ≢ into.other → (s : Seen) × IsKept kept s × IsStartRow rows into.other cutoff (map (λ (q : Shortcut). q.to) pairs) ways s)
+    (direct : (k : ℕ) → k < length (map (λ (q : Shortcut). q.to) pairs) → slice_index (map (λ (q : Shortcut). q.to) pairs) k ≢ into.other → (s : Seen) × IsKept kept s × IsStartRead rows into.other cutoff (map (λ (q : Shortcut). q.to) pairs) ways s)
     (rows_kept : All (IsKept kept) rows)
     (old mid new : Draft) (judged : AreJudged pairs ways (length pairs) mid new) (same : mid.shortcuts.items ≡ old.shortcuts.items) (longer : mid.listed.items ≡ old.listed.items ++ into.other ∷ []) where
   among_pairs : (k : ℕ) (p : Shortcut) → slice_get pairs k ≡ Some p → Contains pairs p
@@ -239,7 +239,7 @@ module _ (bound : Cost) (v : ℕ) (row : Row) (into : Entry) (pairs : List Short
   all_listed : new.listed.items ≡ (old.listed.items ++ into.other ∷ []) ++ judged.more
   all_listed = judged.listed ∙ ap (λ (ns : List ℕ). ns ++ judged.more) longer
 
-  module _ (seen : ℕ → Option Row) (agrees : Agrees seen kept new.listed.items) where
+  module _ (seen : ℕ → Option Row) (agrees : AgreesWithKept seen kept new.listed.items) where
     -- the neighbour's row was read
     first_read : seen into.other ≡ Some (row_in first)
     first_read = agrees into.other first (subst (λ (ns : List ℕ). Contains ns into.other) (sym all_listed) (Contains-append_left (old.listed.items ++ into.other ∷ []) judged.more into.other (Contains-push old.listed.items into.other))) first_kept
@@ -375,8 +375,8 @@ no_target bound v row into pairs are entries among =
     (All-contains (IsEntry (2 ^ 25) bound v) row.out was.0 entries.out was.1).apart (sym (ap (λ (q : Shortcut). q.to) was.2.2) ∙ p.2)
 
 -- the start's row, for the same targets
-pub direct_for : (kept : Kept) (rows : List Seen) (u : ℕ) (cutoff : Cost) (ways : List (Option Way)) (ts us : List ℕ) → ts ≡ us → ((k : ℕ) → k < length ts → slice_index ts k ≢ u → (s : Seen) × IsKept kept s × IsStartRow rows u cutoff ts ways s) → (k : ℕ) → k < length us → slice_index us k ≢ u → (s : Seen) × IsKept kept s × IsStartRow rows u cutoff us ways s
-direct_for kept rows u cutoff ways ts us e h = subst (λ (vs : List ℕ). (k : ℕ) → k < length vs → slice_index vs k ≢ u → (s : Seen) × IsKept kept s × IsStartRow rows u cutoff vs ways s) e h
+pub direct_for : (kept : Kept) (rows : List Seen) (u : ℕ) (cutoff : Cost) (ways : List (Option Way)) (ts us : List ℕ) → ts ≡ us → ((k : ℕ) → k < length ts → slice_index ts k ≢ u → (s : Seen) × IsKept kept s × IsStartRead rows u cutoff ts ways s) → (k : ℕ) → k < length us → slice_index us k ≢ u → (s : Seen) × IsKept kept s × IsStartRead rows u cutoff us ways s
+direct_for kept rows u cutoff ways ts us e h = subst (λ (vs : List ℕ). (k : ℕ) → k < length vs → slice_index vs k ≢ u → (s : Seen) × IsKept kept s × IsStartRead rows u cutoff vs ways s) e h
 
 -- the judgement, for the same pairs and ways
 pub judged_for : (ps pairs : List Shortcut) (ws ways : List (Option Way)) (old new : Draft) → ps ≡ pairs → ws ≡ ways → AreJudged ps ws (length ps) old new → AreJudged pairs ways (length pairs) old new

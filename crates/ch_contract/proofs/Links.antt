@@ -16,6 +16,7 @@ use Rattle.ch_graph.specs.declared.version.Version.TheVariants.{Two}
 use Rattle.ch_graph.specs.Hierarchy.{ComesBefore}
 use Rattle.ch_laws.specs.declared.entry.Entry.{Entry}
 use Rattle.ch_laws.specs.Contraction.{Before, IsOver, IsMade}
+use Rattle.ch_laws.specs.Orders.{before_not_both}
 use Rattle.ch_laws.specs.Members.{contains_first, contains_later, contains_cases, place_of, contains-map, contains-mapped}
 use Rattle.ch_overlay.specs.Overlay.{Overlay, IsOverlay, row_at, state_of}
 use Rattle.ch_contract.specs.Finish.{AreRanks, AreLinks, link_out, link_in, row_links, links_below}
@@ -116,12 +117,6 @@ pub apart-permutation : (xs ys : List Link) → IsPermutation xs ys → AllPairs
 apart-permutation xs ys moved apart = pairs-from_distinct ys (IsDistinct-IsPermutation same same-flips xs ys moved (distinct-from_pairs xs apart))
 
 -- The arcs of a state that is over
-
-before_not_both : {order : List ℕ} {x y : ℕ} → Before order x y → Before order y x → ⊥
-before_not_both first second = elim (cases_lt second.place first.place) [
-  | inl less ↦ first.not_yet second.place (omega (arith, less)) second.here
-  | inr at_most ↦ second.not_yet first.place at_most first.here
-]
 
 -- of two nodes in an order without repeats the one of the earlier place stands before the other
 before_by_place : (order : List ℕ) (x y p q : ℕ) → AllPairs (λ x y. x ≢ y) order → p < q → q < length order → get_or order p 0 ≡ x → get_or order q 0 ≡ y → Before order x y

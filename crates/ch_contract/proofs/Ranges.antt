@@ -70,9 +70,6 @@ rising-short (x ∷ xs) a n few rises within =
     let rest : All (λ y. (a + 1 ≤ y) × (y < n)) xs = λ k d h. (omega (arith, above k d h, head.0), (All-tail (λ y. (a ≤ y) × (y < n)) x xs within k d h).1) in
     omega (arith, rising-short xs (a + 1) n (omega (arith, head)) (AllPairs-tail (λ y z. y < z) x xs rises) rest)
 
-pub rising_below-short : (xs : List ℕ) (n : ℕ) → AllPairs (λ x y. x < y) xs → All (λ x. x < n) xs → length xs ≤ n
-rising_below-short xs n rises within = omega (arith, rising-short xs 0 n (omega arith) rises (λ k d h. (omega arith, within k d h)))
-
 -- of the images of elements it holds where it holds of the elements through the map
 pub pairs-map : {X Y : Type 0} (R : Y → Y → Type 0) (f : X → Y) (xs : List X) → AllPairs (λ a b. R (f a) (f b)) xs → AllPairs R (map f xs)
 pairs-map R f [] pairs = λ i j d low high. absurd (omega (arith, high))

@@ -5,10 +5,10 @@ use Rattle.std.proofs.lemmas.Bool.{cases_Bool, false≢true}
 use Rattle.std.proofs.lemmas.List.{append-nil, map-append}
 use Rattle.std.proofs.lemmas.List.Elements.{All-contains, All-filter, Contains-append_left, Contains-append_right, Contains-append_cases, filter-append}
 use Rattle.std.proofs.lemmas.List.FromFn.{get_or-range_with_len, length-range_with_len}
-use Rattle.ch_cost.specs.declared.cost.Cost.{Cost}
 use Rattle.ch_graph.specs.Graph.{Graph}
 use Rattle.ch_graph.specs.Limits.{bound_of}
-use Rattle.ch_laws.specs.Contraction.{State, Contraction, Step, Run, rest, next, IsAlive}
+use Rattle.ch_laws.specs.Contraction.{State, Contraction, Step, rest, IsAlive}
+use Rattle.ch_laws.specs.Orders.{run_push}
 use Rattle.ch_laws.specs.Rows.{Row, IsRow}
 use Rattle.ch_laws.specs.Members.{contains_first, contains_later, contains_cases, contains_place, place_of}
 use Rattle.ch_overlay.specs.Overlay.{Overlay, IsOverlay, row_at, state_of}
@@ -45,11 +45,6 @@ module _ (o : Overlay) (is : IsOverlay o) (x : ℕ) (in_range : x < length o.row
   ]
 
 -- Node by node
-
--- a lawful contraction goes on from a run
-run-more : {bound : Cost} {old mid new : State} {e : Contraction} {log : List Contraction} → Run bound old log mid → Step bound mid e new → Run bound old (log ++ e ∷ []) new
-run-more rest step = next step rest
-run-more (next first run) step = next first (run-more run step)
 
 -- the nodes below this one that weren't contracted before the sweep
 abbrev pub alive_below : Ledger → ℕ → List ℕ
@@ -134,7 +129,7 @@ module _ (old now : Ledger) (i : ℕ) (receipts : List Receipt) (is : IsOverlay 
           graph = t.contracted.contracts.graph ∙ so_far.contracted.graph;
           log = t.contracted.contracts.log ∙ ap (λ (es : List Contraction). es ++ e ∷ []) so_far.contracted.log ∙ append_assoc old.log so_far.entries (e ∷ []);
           of_nodes = map-append (λ (f : Contraction). f.node) so_far.entries (e ∷ []) ∙ ap (λ ns. ns ++ e.node ∷ []) so_far.contracted.of_nodes ∙ ap (λ n. alive_below old i ++ n ∷ []) t.contracted.of_node ∙ sym nodes;
-          run = run-more so_far.contracted.run (subst (λ (g : Graph). Step (bound_of g) (state_of now.overlay) e (state_of new.overlay)) so_far.contracted.graph t.contracted.contracts.step);
+          run = run_push so_far.contracted.run (subst (λ (g : Graph). Step (bound_of g) (state_of now.overlay) e (state_of new.overlay)) so_far.contracted.graph t.contracted.contracts.step);
         };
         handed = t.handed ∙ ap (λ (rs : List Receipt). rs ++ t.receipt ∷ []) so_far.handed ∙ ap (λ (r : Receipt). map receipt_of so_far.entries ++ r ∷ []) t.contracted.handed ∙ sym (map-append receipt_of so_far.entries (e ∷ []));
         count = ap (λ (s : State). s.nodes) t.contracted.state ∙ so_far.count;

@@ -1,4 +1,5 @@
--- Arcs out of each node in chains, and how a chain and a row become one list.
+-- Arcs out of each node in chains, and how a chain and a row become one list. Contracts of private functions alone cite
+-- it.
 use Rattle.std.specs.Prelude.{ℕ, zero, suc, ◌≡◌, ◌<◌, ◌≤◌, Bool, cond, nat_lt, List, [], ◌∷◌, ◌++◌, length, map, None, All, AllPairs, slice_index_or}
 use Rattle.std.specs.List.{flat_map, range_with_len, take_while}
 use Rattle.std.specs.List.Sorted.{IsPermutation}
@@ -29,7 +30,7 @@ abbrev pub Fall : List Chained → Type 0
 Fall arcs = (place : ℕ) → place < length arcs → (chained_at arcs place).next ≤ place
 
 -- and each chain begins at one that stands there
-pub record ArePlaced (firsts : List ℕ) (arcs : List Chained) : Type 0 where
+pub record ChainsFall (firsts : List ℕ) (arcs : List Chained) : Type 0 where
   pub begin : All (λ number. number ≤ length arcs) firsts
   pub fall : Fall arcs
 

@@ -1,4 +1,4 @@
--- Proposals in the making.
+-- Proposals in the making. Contracts of private functions alone cite it.
 use Rattle.std.specs.Prelude.{ℕ, ◌≡◌, ◌≢◌, ◌<◌, ◌≤◌, ◌⊎◌, length, map, take, List, [], ◌∷◌, ◌++◌, Option, Some, None, All, AllPairs, Contains, IsSomeAnd, slice_index}
 use Rattle.std.specs.List.{slice_get}
 use Rattle.ch_cost.specs.declared.cost.Cost.{Cost}
@@ -12,14 +12,14 @@ use Rattle.ch_overlay.specs.declared.source.Seen.{Seen}
 use Rattle.ch_overlay.specs.Source.{row_in}
 use Rattle.ch_witness.specs.declared.way.Way.{Way}
 use Rattle.ch_witness.specs.Kept.{HasAll, IsKept, Kept}
-use Rattle.ch_witness.specs.Ways.{AreWays, IsFound, IsStartRow, way_at}
+use Rattle.ch_witness.specs.Ways.{AreWays, IsFound, IsStartRead, way_at}
 use Rattle.ch_contract.specs.declared.draft.Draft.{Draft}
 use Rattle.ch_contract.specs.Listed.{AreNamed, IsNamedBy, Parts}
 use Rattle.ch_contract.specs.Proposal.{ShortcutBefore}
 
 -- for each node of the list it has the row that is kept
-abbrev pub Agrees : (ℕ → Option Row) → Kept → List ℕ → Type 0
-Agrees seen kept listed = (x : ℕ) (s : Seen) → Contains listed x → kept x ≡ Some s → seen x ≡ Some (row_in s)
+abbrev pub AgreesWithKept : (ℕ → Option Row) → Kept → List ℕ → Type 0
+AgreesWithKept seen kept listed = (x : ℕ) (s : Seen) → Contains listed x → kept x ≡ Some s → seen x ≡ Some (row_in s)
 
 -- all of the nodes but the first and the last
 abbrev pub IsInner : List ℕ → List ℕ → Type 0
@@ -79,7 +79,7 @@ pub record AreSearched (v u : ℕ) (pairs : List Shortcut) (kept : Kept) (old ne
   pub ways : List (Option Way)
   pub found : AreWays rows u v cutoff (map (λ p. p.to) pairs) ways
   pub most : (p : Shortcut) → Contains pairs p → p.cost ≼ cutoff
-  pub direct : (k : ℕ) → k < length (map (λ (p : Shortcut). p.to) pairs) → slice_index (map (λ (p : Shortcut). p.to) pairs) k ≢ u → (s : Seen) × IsKept kept s × IsStartRow rows u cutoff (map (λ p. p.to) pairs) ways s
+  pub direct : (k : ℕ) → k < length (map (λ (p : Shortcut). p.to) pairs) → slice_index (map (λ (p : Shortcut). p.to) pairs) k ≢ u → (s : Seen) × IsKept kept s × IsStartRead rows u cutoff (map (λ p. p.to) pairs) ways s
   pub rows_kept : All (IsKept kept) rows
   pub judged : AreJudged pairs ways (length pairs) old new
 
@@ -98,8 +98,8 @@ pub record IsDraftedFrom (bound : Cost) (v : ℕ) (row : Row) (into : Entry) (ke
   pub listed : Lengthens more old new
   pub from_it : (p : Shortcut) → Contains put p → p.from ≡ into.other
   pub sorted : AllPairs (λ p q. p.to < q.to) put
-  pub joined : (seen : ℕ → Option Row) → Agrees seen kept new.listed.items → IsJoined bound seen row v into.other put
-  pub named : (seen : ℕ → Option Row) → Agrees seen kept new.listed.items → IsNamedBy bound seen v row put into more
+  pub joined : (seen : ℕ → Option Row) → AgreesWithKept seen kept new.listed.items → IsJoined bound seen row v into.other put
+  pub named : (seen : ℕ → Option Row) → AgreesWithKept seen kept new.listed.items → IsNamedBy bound seen v row put into more
   pub has_all : HasAll kept more
 
 -- no pair is worked out yet, and the node's own row is listed
@@ -117,7 +117,7 @@ pub record IsDrafted (bound : Cost) (v : ℕ) (row : Row) (inns : List Entry) (k
   pub listed : d.listed.items ≡ v ∷ others
   pub from_them : (p : Shortcut) → Contains d.shortcuts.items p → Names inns p.from
   pub sorted : AllPairs ShortcutBefore d.shortcuts.items
-  pub shortcuts : (seen : ℕ → Option Row) → Agrees seen kept d.listed.items → (p : Shortcut) → Contains d.shortcuts.items p → IsForShortcut bound seen row p
-  pub ways : (seen : ℕ → Option Row) → Agrees seen kept d.listed.items → (u w : ℕ) (sum : Cost) → Names inns u → ListsThrough row u w sum → IsWithin sum bound → NoShortcut d.shortcuts.items u w → HasWay seen v u w sum
-  pub named : (seen : ℕ → Option Row) → Agrees seen kept d.listed.items → AreNamed bound seen v row d.shortcuts.items inns others
+  pub shortcuts : (seen : ℕ → Option Row) → AgreesWithKept seen kept d.listed.items → (p : Shortcut) → Contains d.shortcuts.items p → IsForShortcut bound seen row p
+  pub ways : (seen : ℕ → Option Row) → AgreesWithKept seen kept d.listed.items → (u w : ℕ) (sum : Cost) → Names inns u → ListsThrough row u w sum → IsWithin sum bound → NoShortcut d.shortcuts.items u w → HasWay seen v u w sum
+  pub named : (seen : ℕ → Option Row) → AgreesWithKept seen kept d.listed.items → AreNamed bound seen v row d.shortcuts.items inns others
   pub has_all : HasAll kept others

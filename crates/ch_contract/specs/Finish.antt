@@ -1,4 +1,5 @@
--- The ranks and the links that the rows of a ledger come to.
+-- The ranks and the links that the rows of a ledger come to. But for HasNodesLeft, contracts of private functions alone
+-- cite it.
 use Rattle.std.specs.Prelude.{ℕ, ◌≡◌, ◌<◌, ◌≤◌, List, ◌++◌, length, map, Some, AllPairs, slice_index}
 use Rattle.std.specs.List.{flat_map, range_with_len}
 use Rattle.std.specs.List.Sorted.{IsPermutation}

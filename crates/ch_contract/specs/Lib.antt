@@ -8,5 +8,4 @@ pub mod Listed
 pub mod Proposal
 pub mod Commit
 pub mod Names
-pub mod Reading
 pub mod Drafts

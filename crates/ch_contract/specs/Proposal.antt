@@ -102,15 +102,29 @@ pub record IsToldByRank (Bears Shows : Seen → Type 0) (node : ℕ) (result : R
 abbrev pub TellsContracted : (Seen → Type 0) → (Seen → Type 0) → ℕ → Result Proposal ProposeError → Type 0
 TellsContracted Bears Shows node result = (result ≡ Err OutOfMemory → ⊥) → (result ≡ Err Unseen → ⊥) → IsToldByRank Bears Shows node result
 
--- What is answered where a node is to be proposed under a bound, by a source that moved in this way: a proposal by
--- answers that the source bears and shows; `Contracted` exactly where the node's row has a rank; and `Unseen` nowhere
--- where the source is whole around the node.
-pub record IsProposedBy (Bears Shows : Seen → Type 0) (limit : Cost) (Moved IsWhole : Type 0) (v : ℕ) (result : Result Proposal ProposeError) : Type 0 where
+-- a row of the node was read that has no rank
+pub record IsReadUnranked (Bears Shows : Seen → Type 0) (node : ℕ) : Type 0 where
+  pub row : Seen
+  pub of_node : row.node ≡ node
+  pub bears : Bears row
+  pub shows : Shows row
+  pub unranked : (row_in row).rank ≡ None
+
+-- A row is missing: that of the node itself, and the source is what it was; or another, asked for after a row of the node
+-- that has no rank.
+abbrev pub MissesRow : (Seen → Type 0) → (Seen → Type 0) → Type 0 → ℕ → Result Proposal ProposeError → Type 0
+MissesRow Bears Shows Same node result = result ≡ Err Unseen → Same ⊎ IsReadUnranked Bears Shows node
+
+-- What is answered where a node is to be proposed under a bound, by a source that moved in this way, or is the same: a
+-- proposal by answers that the source bears and shows; `Contracted` exactly where the node's row has a rank, and before
+-- another row is asked for; and `Unseen` nowhere where the source is whole around the node.
+pub record IsProposedBy (Bears Shows : Seen → Type 0) (limit : Cost) (Moved Same IsWhole : Type 0) (v : ℕ) (result : Result Proposal ProposeError) : Type 0 where
   pub node : IfOk result (λ p. p.node ≡ v)
   pub bound : IfOk result (λ p. p.bound ≡ limit)
   pub holds : IfOk result IsProposal
   pub bears : IfOk result (λ p. All Bears p.rests_on)
   pub shows : IfOk result (λ p. All Shows p.rests_on)
   pub contracted : TellsContracted Bears Shows v result
+  pub missed : MissesRow Bears Shows Same v result
   pub stays : Moved
   pub found : IsWhole → result ≡ Err Unseen → ⊥

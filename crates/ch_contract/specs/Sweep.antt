@@ -30,7 +30,7 @@ pub record IsPartlySwept (old new : Ledger) : Type 0 where
   pub contracted : AreContracted old nodes entries new
   pub first : alive_nodes old ≡ nodes ++ left
 
--- one node was, if it wasn't contracted before
+-- one node was, if it wasn't contracted before; contracts of private functions alone cite what follows
 pub record IsTaken (old : Ledger) (node : ℕ) (before : List Receipt) (new : Ledger) (after : List Receipt) : Type 0 where
   pub alive : IsAlive (state_of old.overlay) node
   pub put : List Shortcut

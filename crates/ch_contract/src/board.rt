@@ -158,12 +158,14 @@ impl<S: Site> Board<S> {
     /// Contracts the node of a proposal, whose rows are still the board's, and answers a receipt.
     ///
     /// The proposal was made by the board itself or by a reader of its book. Refused, in this order, where the node is
-    /// contracted already, where a row that the proposal rests on has another version now, and for want of memory or
-    /// where the book gives a place that isn't above the earlier ones (`Slot`), whichever comes first: memory is asked for
-    /// the new rows, then for the record of each row before it has its place, and last for a list of these places. The
-    /// board is then as it was. No row is compared: an answer of the book whose version is current has the current row.
+    /// contracted already, where a row that the proposal rests on has another version now, for want of memory, and where
+    /// the book gives a place that isn't above the earlier ones (`Slot`): all memory, for the new rows, for lists and for
+    /// the records, is taken before the first row has its place. The board is then as it was. No row is compared: an
+    /// answer of the book whose version is current has the current row.
+    ///
     /// The new rows are all laid, first the node's and then those of its neighbours by rising number, before the first is
-    /// shown, in that order. Takes memory for the rows that change, and waits while another thread makes room for records.
+    /// shown. They are shown in that order too, by this code and by no clause: they are of different nodes, so nothing rests
+    /// on it. Takes memory for the rows that change, and waits while another thread makes room for records.
     pub fn commit<R: Wait>(&mut self, rt: &R, proposal: Proposal) -> Result<Receipt, CommitError>
         requires of_book { All (IsOfBook S.book) proposal.rests_on }
         requires bound { proposal.bound ≡ S.book.bound }
@@ -255,8 +257,9 @@ impl<S: Site> Board<S> {
         changes_are_sound();
         let alloc = self.ledger.allocator();
         let planned = self.ledger.plan(node, shortcuts)?;
+        let room: Vec<u64> = Vec::with_capacity(alloc, planned.rows().len())?;
         let laid = self.pen.lay_all(rt, alloc, planned.rows())?;
-        let versions = versions_of(alloc, laid.as_slice())?;
+        let versions = versions_of(room, laid.as_slice())?;
         self.pen.show_all(laid.as_slice());
         let receipt = self.ledger.enter(planned, versions.as_slice());
         self.ledger.holds();
@@ -290,7 +293,7 @@ impl<S: Site> Board<S> {
     /// before it, and the links are the arcs that the rows have, by their ends. It is right for the graph.
     ///
     /// Refused while a node isn't contracted, which is tested first, or for want of memory; the board is handed back as
-    /// it was. Takes memory for the ranks and the links, which it sorts.
+    /// it was. Takes memory for the ranks and the links, and for chains of the links while it works.
     pub fn into_hierarchy(self) -> Result<Hierarchy, (Board<S>, FinishError)>
         ensures made { IfOk result (λ h. IsMade self.graph (state_of self.overlay) h) }
         ensures right { IfOk result (λ h. IsRight S.graph h) }
@@ -382,11 +385,12 @@ impl<S: Site> Board<S> {
     }
 }
 
-/// The versions of these rows, in order.
-fn versions_of<S: Site>(alloc: Global, laid: &[Laid<S>]) -> Result<Vec<u64>, AllocError>
+/// The versions of these rows, in order, in the memory of an empty list that has room for them.
+fn versions_of<S: Site>(room: Vec<u64>, laid: &[Laid<S>]) -> Result<Vec<u64>, AllocError>
+    requires { room.items ≡ [] }
     ensures { IfOk result (λ versions. versions.items ≡ map (λ l. l.token.index) laid.now) }
 {
-    let mut versions = Vec::with_capacity(alloc, laid.len())?;
+    let mut versions = room;
     'laid: for at in 0..laid.len() {
         versions.push(laid[at].version())?;
     }

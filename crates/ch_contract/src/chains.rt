@@ -29,13 +29,13 @@ pub(crate) struct Chained {
 impl Model for Chains {
     ghost use Rattle.std.specs.Prelude.{List, map};
     ghost use Rattle.ch_laws.specs.declared.entry.Entry.{Entry};
-    ghost use Rattle.ch_contract.specs.Chains.{ArePlaced, chain};
+    ghost use Rattle.ch_contract.specs.Chains.{ChainsFall, chain};
 
     ghost Value = { List (List Entry) };
 
     ghost view = { λ c. map (chain c.arcs.items) c.firsts.items };
 
-    ghost invariant = { λ c. ArePlaced c.firsts.items c.arcs.items };
+    ghost invariant = { λ c. ChainsFall c.firsts.items c.arcs.items };
 }
 
 impl Chains {

@@ -5,10 +5,10 @@ ghost use Rattle.ch_laws.specs.declared.shortcut.Shortcut.{Shortcut};
 ghost use Rattle.ch_laws.specs.Rows.{Rises};
 ghost use Rattle.ch_overlay.specs.Overlay.{AreEntries};
 ghost use Rattle.ch_overlay.specs.Source.{IsBound, NamesAlone};
-ghost use Rattle.ch_witness.specs.Kept.{kept_of, AllNamed, AreKept};
+ghost use Rattle.ch_witness.specs.Kept.{kept_of, AllNamed, AreKept, FindsRows, IsReadOn};
+ghost use Rattle.ch_witness.specs.declared.error.SearchError.TheVariants.{Unseen};
 ghost use Rattle.ch_contract.specs.Drafts.{ArePairs, AreJudged, AreSearched, IsPairAdded, IsPairJudged, IsPairOf, IsDraftedFrom, IsInner, Lengthens};
 ghost use Rattle.ch_contract.specs.Listed.{LeadsOn};
-ghost use Rattle.ch_contract.specs.Reading.{FindsRows, IsReadOn};
 
 use crate::scratch::{Desk, Pairs};
 use ch_cost::{Cost, NarrowCost};
@@ -121,7 +121,7 @@ pub fn draft_pairs<S: RowSource>(
     requires kept { AreKept S.bears (S.shows source.old) (S.bound_of source.old) (kept_of desk.old.searcher.rows) }
     ensures draft { OnOk result (IsDraftedFrom task.bound task.node row.now into.now (kept_of desk.new.searcher.rows) draft.old draft.new) }
     ensures read { IsReadOn S.bears (S.shows source.new) (S.bound_of source.new) (S.stays source.old source.new) (kept_of desk.old.searcher.rows) (kept_of desk.new.searcher.rows) }
-    ensures found { AllNamed (S.whole source.old) (kept_of desk.old.searcher.rows) → NamesAlone (S.whole source.old) row.now → FindsRows (S.whole source.new) (kept_of desk.new.searcher.rows) result }
+    ensures found { AllNamed (S.whole source.old) (kept_of desk.old.searcher.rows) → NamesAlone (S.whole source.old) row.now → FindsRows Unseen (S.whole source.new) (kept_of desk.new.searcher.rows) result }
 {
     let from = into.other;
     if !leads_on(&row.out, from) {
@@ -154,7 +154,7 @@ fn judge_by_search<S: RowSource>(
     requires kept { AreKept S.bears (S.shows source.old) (S.bound_of source.old) (kept_of desk.old.searcher.rows) }
     ensures searched { OnOk result (AreSearched task.node from desk.old.pairs.light.items (kept_of desk.new.searcher.rows) draft.old draft.new) }
     ensures read { IsReadOn S.bears (S.shows source.new) (S.bound_of source.new) (S.stays source.old source.new) (kept_of desk.old.searcher.rows) (kept_of desk.new.searcher.rows) }
-    ensures found { AllNamed (S.whole source.old) (kept_of desk.old.searcher.rows) → S.whole source.old from → FindsRows (S.whole source.new) (kept_of desk.new.searcher.rows) result }
+    ensures found { AllNamed (S.whole source.old) (kept_of desk.old.searcher.rows) → S.whole source.old from → FindsRows Unseen (S.whole source.new) (kept_of desk.new.searcher.rows) result }
 {
     let rule = Rule {
         from,

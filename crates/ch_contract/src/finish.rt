@@ -25,8 +25,8 @@ pub struct Finished {
 
 /// The hierarchy that the contractions of a ledger lead to, with an index and the places of the halves of links.
 ///
-/// Refused while a node isn't contracted, which is tested first, or for want of memory. Takes memory for the ranks and
-/// the links, which it sorts, and for where links and their halves are.
+/// Refused while a node isn't contracted, which is tested first, or for want of memory. Takes memory for the ranks, for the
+/// links, and for where links and their halves are.
 pub fn hierarchy_of(ledger: &Ledger) -> Result<Hierarchy, FinishError>
     ensures made { IfOk result (λ h. IsMade ledger.now.graph (state_of ledger.now.overlay) h) }
     ensures right { IfOk result (λ h. IsRight ledger.now.graph h) }
@@ -45,7 +45,7 @@ pub fn hierarchy_of(ledger: &Ledger) -> Result<Hierarchy, FinishError>
 /// The hierarchy that the contractions of a ledger lead to, with no index.
 ///
 /// Refused while a node isn't contracted, which is tested first, or for want of memory. Takes memory for the ranks and
-/// the links, which it sorts.
+/// the links, and for chains of the links while it works.
 pub fn plain_hierarchy_of(ledger: &Ledger) -> Result<Hierarchy, FinishError>
     ensures made { IfOk result (λ h. IsMade ledger.now.graph (state_of ledger.now.overlay) h) }
     ensures right { IfOk result (λ h. IsRight ledger.now.graph h) }

@@ -136,7 +136,7 @@ impl Ledger {
     /// graph, and has no index yet, so that the rows can be dropped before or beside the making of one.
     ///
     /// Refused while a node isn't contracted, which is tested first, or for want of memory; the ledger is handed back as
-    /// it was. Takes memory for the ranks and the links, which it sorts.
+    /// it was. Takes memory for the ranks and the links, and for chains of the links while it works.
     pub fn finish(self) -> Result<Finished, (Ledger, FinishError)>
         ensures made { IfOk result (λ f. IsMade self.graph (state_of self.overlay) f.hierarchy) }
         ensures right { IfOk result (λ f. IsRight self.graph f.hierarchy) }

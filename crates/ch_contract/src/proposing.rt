@@ -2,10 +2,10 @@ ghost use Rattle.std.specs.Prelude.{◌≡◌, ◌≤◌, ◌^◌, ℕ, IfOk, On
 ghost use Rattle.ch_overlay.specs.Overlay.{AreEntries};
 ghost use Rattle.ch_overlay.specs.Source.{IsBound, NamesAlone};
 ghost use Rattle.ch_laws.specs.Rows.{Rises};
-ghost use Rattle.ch_witness.specs.Kept.{kept_of, AllNamed, AreKept, IsMore};
+ghost use Rattle.ch_witness.specs.Kept.{kept_of, AllNamed, AreKept, FindsRows, IsReadOn};
+ghost use Rattle.ch_witness.specs.declared.error.SearchError.TheVariants as search;
 ghost use Rattle.ch_contract.specs.Drafts.{IsBegun, IsDrafted};
-ghost use Rattle.ch_contract.specs.Reading.{FindsRows, IsReadOn};
-ghost use Rattle.ch_contract.specs.Proposal.{IsProposal, IsProposedBy, TellsContracted};
+ghost use Rattle.ch_contract.specs.Proposal.{IsProposal, IsProposedBy, MissesRow, TellsContracted};
 ghost use Rattle.ch_contract.specs.declared.error.ProposeError.TheVariants.{Unseen};
 ghost use Rattle.ch_overlay.specs.declared.source.SeeError.TheVariants as see;
 
@@ -24,8 +24,8 @@ use std::sync::Arc;
 /// A pair of neighbours, an arc from the first to the node and one from there to the second, gets a shortcut unless
 /// the arcs cost more than the bound together, or a search finds another way that costs at most as much. A search
 /// settles at most `settle` nodes (1 to 65,536). `OutOfMemory` where a growth was refused, `Unseen` where the source
-/// has no row of a node that is asked for, `Contracted` exactly where the node's row, which is read first, has a rank;
-/// the source has then moved as reading moves it, and nothing else. Memory and time go by the nodes that are settled and
+/// has no row of a node that is asked for, `Contracted` exactly where the node's row, which is read first, has a rank, and
+/// before a row of another node is asked for; the source has then moved as reading moves it, and nothing else. Memory and time go by the nodes that are settled and
 /// their neighbours, with 8 bytes for each number up to the greatest of them, which [`propose_with`] takes once.
 pub fn propose<S: RowSource>(
     alloc: Global,
@@ -41,6 +41,7 @@ pub fn propose<S: RowSource>(
     ensures bears { IfOk result (λ p. All S.bears p.rests_on) }
     ensures shows { IfOk result (λ p. All (S.shows source.new) p.rests_on) }
     ensures contracted { TellsContracted S.bears (S.shows source.new) node result }
+    ensures missed { MissesRow S.bears (S.shows source.new) (source.new ≡ source.old) node result }
     ensures stays { S.stays source.old source.new }
     ensures found { S.whole source.old node → result ≡ Err Unseen → ⊥ }
 {
@@ -66,6 +67,7 @@ pub fn propose_with<S: RowSource>(
     ensures bears { IfOk result (λ p. All S.bears p.rests_on) }
     ensures shows { IfOk result (λ p. All (S.shows source.new) p.rests_on) }
     ensures contracted { TellsContracted S.bears (S.shows source.new) node result }
+    ensures missed { MissesRow S.bears (S.shows source.new) (source.new ≡ source.old) node result }
     ensures stays { S.stays source.old source.new }
     ensures found { S.whole source.old node → result ≡ Err Unseen → ⊥ }
 {
@@ -84,7 +86,7 @@ fn propose_in<S: RowSource>(
     requires none { (x : ℕ) → kept_of desk.old.searcher.rows x ≡ None }
     requires some { 1 ≤ settle }
     requires few { settle ≤ 65536 }
-    ensures { IsProposedBy S.bears (S.shows source.new) (S.bound_of source.old) (S.stays source.old source.new) (S.whole source.old node) node result }
+    ensures { IsProposedBy S.bears (S.shows source.new) (S.bound_of source.old) (S.stays source.old source.new) (source.new ≡ source.old) (S.whole source.old node) node result }
 {
     let task = Task {
         node,
@@ -130,7 +132,7 @@ fn draft_all<S: RowSource>(
     requires begun { IsBegun task.node draft.old }
     ensures draft { OnOk result (IsDrafted task.bound task.node row.now row.now.inn (kept_of desk.new.searcher.rows) draft.new) }
     ensures read { IsReadOn S.bears (S.shows source.new) (S.bound_of source.new) (S.stays source.old source.new) (kept_of desk.old.searcher.rows) (kept_of desk.new.searcher.rows) }
-    ensures found { AllNamed (S.whole source.old) (kept_of desk.old.searcher.rows) → NamesAlone (S.whole source.old) row.now → FindsRows (S.whole source.new) (kept_of desk.new.searcher.rows) result }
+    ensures found { AllNamed (S.whole source.old) (kept_of desk.old.searcher.rows) → NamesAlone (S.whole source.old) row.now → FindsRows search.Unseen (S.whole source.new) (kept_of desk.new.searcher.rows) result }
 {
     read_neighbours(source, &mut desk.searcher.rows, row)?;
     let mut traced = Traced::new(alloc);
@@ -144,11 +146,8 @@ fn draft_all<S: RowSource>(
 /// is to find.
 fn read_neighbours<S: RowSource>(source: &mut S, rows: &mut Rows, row: &Row) -> Result<(), SeeError>
     requires kept { AreKept S.bears (S.shows source.old) (S.bound_of source.old) (kept_of rows.old) }
-    ensures kept { AreKept S.bears (S.shows source.new) (S.bound_of source.new) (kept_of rows.new) }
-    ensures more { IsMore (kept_of rows.old) (kept_of rows.new) }
-    ensures stays { S.stays source.old source.new }
-    ensures found { AllNamed (S.whole source.old) (kept_of rows.old) → NamesAlone (S.whole source.old) row.now → result ≡ Err see.Unseen → ⊥ }
-    ensures names { AllNamed (S.whole source.old) (kept_of rows.old) → NamesAlone (S.whole source.old) row.now → OnOk result (AllNamed (S.whole source.new) (kept_of rows.new)) }
+    ensures read { IsReadOn S.bears (S.shows source.new) (S.bound_of source.new) (S.stays source.old source.new) (kept_of rows.old) (kept_of rows.new) }
+    ensures found { AllNamed (S.whole source.old) (kept_of rows.old) → NamesAlone (S.whole source.old) row.now → FindsRows see.Unseen (S.whole source.new) (kept_of rows.new) result }
 {
     'inns: for into in &row.inn {
         if !leads_on(&row.out, into.other) {

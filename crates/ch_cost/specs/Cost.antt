@@ -79,6 +79,11 @@ pub record IsInLimit (c : Cost) : Type 0 where
   weight : c.weight ≤ 2 ^ 57
   arcs : c.arcs ≤ 2 ^ 57
 
+-- small enough that the sum of two fits 64 bits, and is compared and added to once more
+pub record IsSummable (c : Cost) : Type 0 where
+  weight : c.weight ≤ 2 ^ 62
+  arcs : c.arcs ≤ 2 ^ 62
+
 -- at most what so many arcs can cost
 pub record IsOfArcs (count : ℕ) (c : Cost) : Type 0 where
   weight : c.weight ≤ count * 2 ^ 32

@@ -1,5 +1,5 @@
 ghost use Rattle.std.specs.Prelude.{◌≡◌, ◌↔◌, IsTrue, Some, SomeIff, refl};
-ghost use Rattle.ch_cost.specs.Cost.{◌⊕◌, of_weight, cost_of_arcs, of_walk, length_of, arcs_of, ◌≼◌, ◌≺◌, compare, same, FitsWords, IsWithin, IsNoLonger, IsInLimit};
+ghost use Rattle.ch_cost.specs.Cost.{◌⊕◌, of_weight, cost_of_arcs, of_walk, length_of, arcs_of, ◌≼◌, ◌≺◌, compare, same, FitsWords, IsWithin, IsNoLonger, IsInLimit, IsSummable};
 ghost use Rattle.ch_cost.specs.Cost.Laws.{same-laws, same-partial, same-compare, compare-total, compare-partial};
 
 use std::cmp::Ordering;
@@ -60,6 +60,16 @@ impl Cost {
     pub fn plus(self, other: Cost) -> Cost
         requires first { IsInLimit self }
         requires second { IsInLimit other }
+        ensures { result ≡ self ⊕ other }
+    {
+        self.plus_wide(other)
+    }
+
+    /// The cost of two walks, one after the other, where each number of both is at most 2^62: as [`Cost::plus`], for walks
+    /// that are longer than a graph's, since more was added to them at their ends.
+    pub fn plus_wide(self, other: Cost) -> Cost
+        requires first { IsSummable self }
+        requires second { IsSummable other }
         ensures { result ≡ self ⊕ other }
     {
         Cost {

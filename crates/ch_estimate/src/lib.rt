@@ -3,10 +3,11 @@
 //! Stands on `ch_contract`, of which it uses the counts of a proposal and the entries of the log, and for the leases on
 //! `atomic_table`, which counts them, and `crossbeam_utils`, by which they are waited for. Its main item is the trait
 //! [`Estimator`]: it is told of each contraction in turn, and gives keys, smaller ones first. Three kinds are here:
-//! [`EdgeDifference`], [`Neighbours`] and [`Depth`]. What they know of the nodes stands in a [`WorkSpace`], and each
-//! works under a [`Lease`]. The promise of the layer is the contract of `note`, that a note is what the told entries
-//! tell, that of each kind's `key`, which says which number it is, and that of [`Leases::wait`], that no lease is out;
-//! [`Leases::none_is_left`] says what that means. No promise on answers rests on any of these.
+//! [`EdgeDifference`], [`Neighbours`] and [`Depth`]. They are one type, [`ByKey`], with three kinds of [`Key`]. What they
+//! know of the nodes is kept in a [`WorkSpace`], and each works under a [`Lease`]. The promise of the layer is the contract
+//! of `note`, that a note is what the told entries tell, that of each kind's `key`, which says which number it is, and that
+//! of [`Leases::wait`], that no lease is out; [`Leases::none_is_left`] says what that means. No promise on answers rests on
+//! any of these.
 //!
 //! An estimator works under a lease, is told the log from its start, and gives the key of a node by the counts of its
 //! proposal. Once it is dropped the wait is over:
@@ -21,21 +22,20 @@
 //! ```
 #![tactic(auto)]
 
+mod by_key;
 mod counted;
-mod depth;
 mod edge_difference;
 mod estimator;
 mod heard;
+mod key;
 mod lease;
-mod neighbours;
 mod note;
 mod notes;
 mod work_space;
 
-pub use depth::Depth;
-pub use edge_difference::EdgeDifference;
+pub use by_key::{ByKey, Depth, EdgeDifference, Neighbours};
 pub use estimator::Estimator;
+pub use key::{Arcs, ArcsAndDepth, ArcsAndGone, Key};
 pub use lease::{Lease, Leases};
-pub use neighbours::Neighbours;
 pub use note::Note;
 pub use work_space::WorkSpace;

@@ -14,7 +14,7 @@ use Rattle.ch_graph.specs.Searching.{LeadsTo, IsOrder, IsDownward, IsTurn}
 use Rattle.ch_graph.specs.Search.{SettledIsLeast, own_cost, Any, IsNoDearer, IsOffered, NoneOpen, IsLeastOpen, IsLatest, IsOpenedFrom, IsFollowed, IsSearchTo, AreDistances}
 use Rattle.ch_graph.specs.Marks.Laws.{cases_put, put-set, mark-replicate, open-in, label_open, label_settled, unseen-label, one_label, unseen-settled, open-settled, count-settle}
 use Rattle.ch_graph.specs.Searching.Laws as searching
-use Rattle.ch_graph.specs.Searching.Laws.{settle-settled, settle-latest, turn-settled, turn-label, least_open_is_least, none_open-no_walk}
+use Rattle.ch_graph.specs.Searching.Laws.{only-walk, only-started, settle-settled, settle-latest, turn-settled, turn-label, least_open_is_least, none_open-no_walk}
 
 -- an arc makes a walk no cheaper, so the order of costs is one of settling
 above : (g : Graph) (c d : Cost) (v u : ℕ) → LeadsTo (ArcOf g) v c u d → c ≼ d
@@ -36,7 +36,7 @@ arc-fits g x y c graph arc = subst (IsOfArcs 1) arc.costs (of_arcs_arc (All-cont
 
 -- what is settled has its distance
 pub settled_is_least : SettledIsLeast
-settled_is_least g s marks search v c is = (search.walks v c (label_settled (marks v) c is), λ d walk. searching.settled_is_least own_cost any_downward search (by_costs g) v c is d walk tt)
+settled_is_least g s marks search v c is = (only-walk (search.walks v c (label_settled (marks v) c is)), λ d walk. searching.settled_is_least own_cost any_downward search (by_costs g) v c is d (only-started walk) tt)
 
 -- The start: only s is open, and its walk costs nothing
 
@@ -96,7 +96,7 @@ module _ (g : Graph) (s t : ℕ) (old : List (Mark Cost)) (v : ℕ) (c : Cost) (
 
   -- v has its distance
   pub found-then : IsDistance g s v (Some c)
-  found-then = (search.is.walks v c (label_open (mark old v) c next.opens), λ d walk. least_open_is_least own_cost any_downward search.is (by_costs g) v c next d walk tt)
+  found-then = (only-walk (search.is.walks v c (label_open (mark old v) c next.opens)), λ d walk. least_open_is_least own_cost any_downward search.is (by_costs g) v c next d (only-started walk) tt)
 
   -- and so has what is settled then
   pub settled-then : AreDistances g s (mark (set old v (Settled c)))
@@ -134,4 +134,4 @@ module _ (g : Graph) (s t : ℕ) (old : List (Mark Cost)) (v : ℕ) (c : Cost) (
 module _ (g : Graph) (s t : ℕ) (marks : List (Mark Cost)) (search : IsSearchTo g s t marks) where
   -- where no node is open, no walk leads to the target
   pub search-not_found : NoneOpen marks → IsDistance g s t None
-  search-not_found none d walk = none_open-no_walk own_cost any_downward search.is none search.unsettled walk tt
+  search-not_found none d walk = none_open-no_walk own_cost any_downward search.is none search.unsettled (only-started walk) tt

@@ -14,5 +14,4 @@ pub mod Places
 pub mod LinkPlaces
 pub mod TakenRanks
 pub mod LinkTests
-pub mod Refusals
 pub mod Entries

@@ -1,29 +1,14 @@
 -- Marks of the numbers that have come as ranks.
-use Rattle.std.proofs.Common.{ℕ, ◌≡◌, ◌≢◌, ◌+◌, ◌<◌, ◌≤◌, List, length, slice_index, get_or, set, replicate, Bool, true, false, All, AllPairs, inl, inr, sym, subst, ◌∙◌, arith}
+use Rattle.std.proofs.Common.{ℕ, ◌≡◌, ◌≢◌, ◌+◌, ◌<◌, ◌≤◌, List, length, slice_index, get_or, set, Bool, true, false, All, AllPairs, inl, inr, sym, subst, ◌∙◌, arith}
 use Rattle.std.proofs.lemmas.Bool.{cases_lt, cases_eq}
 use Rattle.std.proofs.lemmas.Grind.{get_or_default_zero}
-use Rattle.std.proofs.lemmas.List.{get_or-replicate, get_or_past, get_or-set_same, get_or-set_other, length-replicate}
+use Rattle.std.proofs.lemmas.List.{get_or-set_same, get_or-set_other}
 use Rattle.ch_graph.specs.Checking.{IsNewRank}
 
 -- the marks say of each number whether it is one of the ranks before a place
 pub record AreTaken (ranks : List ℕ) (place : ℕ) (marks : List Bool) : Type 0 where
   pub free : (r : ℕ) → get_or marks r false ≡ false → (k : ℕ) → k < place → slice_index ranks k ≢ r
   pub had : (r : ℕ) → get_or marks r false ≡ true → (k : ℕ) × (k < place) × (slice_index ranks k ≡ r)
-
-none_marked : (n r : ℕ) → get_or (replicate n false) r false ≡ false
-none_marked n r = elim (cases_lt r n) [
-  | inl h ↦ get_or-replicate n r false false h
-  | inr h ↦ get_or_past (replicate n false) r false (omega (arith, h, length-replicate n false))
-]
-
-pub none_taken : (ranks : List ℕ) (n : ℕ) → AreTaken ranks 0 (replicate n false)
-none_taken ranks n = record {
-  free = λ r is k low. absurd (omega (arith, low));
-  had = λ r is. absurd (not_both _ (none_marked n r) is);
-}
-  where
-    not_both : (b : Bool) → b ≡ false → b ≡ true → ⊥
-    not_both b off on = cc
 
 module _ (ranks : List ℕ) (place rank : ℕ) (marks : List Bool) (within : rank < length marks) (here : slice_index ranks place ≡ rank) (are : AreTaken ranks place marks) where
   marked : (r : ℕ) → r ≡ rank → get_or (set marks rank true) r false ≡ true
@@ -75,7 +60,3 @@ ranks_once ranks new i j d less within same =
     let first : get_or ranks i d ≡ get_or ranks i 0 = get_or_default_zero ranks i d (omega arith) in
     let second : get_or ranks j d ≡ get_or ranks j 0 = get_or_default_zero ranks j d within in
     (new j within).new i less (sym first ∙ (same ∙ second))
-
--- and the other way round
-pub ranks_new : (ranks : List ℕ) → All (λ r. r < length ranks) ranks → AllPairs (λ q r. q ≢ r) ranks → (k : ℕ) → k < length ranks → IsNewRank ranks k
-ranks_new ranks in_range once k h = record { in_range = in_range k 0 h; new = λ i less. once i k 0 less h }

@@ -16,6 +16,10 @@ pub record Hierarchy : Type 0 where
   pub links : List Link
   pub bound : Cost
 
+-- the hierarchy of these
+abbrev pub hierarchy_of : Version → List ℕ → List Link → Cost → Hierarchy
+hierarchy_of version ranks links bound = record { version = version; ranks = ranks; links = links; bound = bound }
+
 -- the rank of a node
 abbrev pub rank_of : Hierarchy → ℕ → ℕ
 rank_of h x = slice_index h.ranks x

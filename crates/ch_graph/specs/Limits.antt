@@ -27,10 +27,10 @@ pub record IsFirstBad (nodes : ℕ) (arcs : List Road) (place : ℕ) : Type 0 wh
   pub before : (k : ℕ) (d : Road) → k < place → IsRoad nodes (slice_index_or arcs k d)
 
 -- why these arcs between so many nodes are no graph within the limits
-abbrev pub IsRefusal : ℕ → List Road → GraphError → Type 0
-IsRefusal nodes arcs TooManyNodes = 2 ^ 25 < nodes
-IsRefusal nodes arcs TooManyArcs = 2 ^ 27 < length arcs
-IsRefusal nodes arcs (BadArc place) = IsFirstBad nodes arcs place
+abbrev pub IsGraphRefusal : ℕ → List Road → GraphError → Type 0
+IsGraphRefusal nodes arcs TooManyNodes = 2 ^ 25 < nodes
+IsGraphRefusal nodes arcs TooManyArcs = 2 ^ 27 < length arcs
+IsGraphRefusal nodes arcs (BadArc place) = IsFirstBad nodes arcs place
 
 -- the greatest weight of an arc, loops and parallel arcs included; 0 where there is none
 abbrev pub heaviest : List Road → ℕ

@@ -9,7 +9,7 @@ use Rattle.ch_graph.specs.Marks as marked
 use Rattle.ch_graph.specs.Marks.{mark, HasLabel, IsAtMost, Improves, settled_count}
 use Rattle.ch_graph.specs.Queue.{Entry, IsQueue}
 use Rattle.ch_graph.specs.Searching as searching
-use Rattle.ch_graph.specs.Searching.{LeadsTo, IsOpenedBy, IsSearch}
+use Rattle.ch_graph.specs.Searching.{Only, LeadsTo, IsOpenedBy, IsSearch}
 
 -- what a label costs
 abbrev pub own_cost : Cost → Cost
@@ -56,7 +56,7 @@ pub record IsOpenedFrom (g : Graph) (v : ℕ) (c : Cost) (old new : List (Mark C
 
 -- the marks between two turns of a search of a graph from s
 abbrev pub IsGraphSearch : Graph → ℕ → (ℕ → Mark Cost) → Type 0
-IsGraphSearch g s marks = IsSearch own_cost IsNoDearer (ArcOf g) Any s marks
+IsGraphSearch g s marks = IsSearch own_cost IsNoDearer (ArcOf g) Any (Only s) marks
 
 -- and of one that goes on until t is settled, of which the costs stay in range
 pub record IsSearchTo (g : Graph) (s t : ℕ) (marks : List (Mark Cost)) : Type 0 where

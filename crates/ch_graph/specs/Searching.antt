@@ -1,5 +1,5 @@
 -- A search by marks, over arcs of any kind: what holds between its turns, and what a turn does. It is told of by what a
--- label costs, its arcs, the costs that count, and the order in which it may settle nodes.
+-- label costs, its arcs, the costs that count, where it begins, and the order in which it may settle nodes.
 use Rattle.std.specs.Prelude.{ℕ, ◌≡◌, ◌⊎◌}
 use Rattle.ch_cost.specs.declared.cost.Cost.{Cost}
 use Rattle.ch_cost.specs.Cost.{zero_cost, ◌⊕◌, ◌≼◌}
@@ -9,13 +9,30 @@ use Rattle.ch_graph.specs.Walk.{Walk}
 use Rattle.ch_graph.specs.Marks.{HasLabel, IsAtMost, IsPut}
 pub mod Laws
 
--- arcs, and orders of settling: `Arc v u c` says that an arc from v to u costs c, and `NoLater c v d u` that v, reached
--- at the cost c, is settled no later than u, reached at the cost d
+-- arcs, beginnings, and orders of settling: `Arc v u c` says that an arc from v to u costs c, `Begins v c` that a search
+-- may begin at v, which costs c then, and `NoLater c v d u` that v, reached at the cost c, is settled no later than u,
+-- reached at the cost d
 abbrev pub Arcs : Type 1
 Arcs = ℕ → ℕ → Cost → Type 0
 
+abbrev pub Beginning : Type 1
+Beginning = ℕ → Cost → Type 0
+
 abbrev pub Order : Type 1
 Order = Cost → ℕ → Cost → ℕ → Type 0
+
+-- at one node, which costs nothing
+abbrev pub Only : ℕ → Beginning
+Only s v c = (v ≡ s) × (c ≡ zero_cost)
+
+-- a walk to v from where a search may begin, which costs c with what it costs to begin there
+pub record StartedWalk (Arc : Arcs) (Begins : Beginning) (v : ℕ) (c : Cost) : Type 0 where
+  pub start : ℕ
+  pub first : Cost
+  pub begins : Begins start first
+  pub rest : Cost
+  pub walk : Walk Arc start v rest
+  pub sum : first ⊕ rest ≡ c
 
 -- an arc from v to u after a walk of cost c makes one of cost d
 pub record LeadsTo (Arc : Arcs) (v : ℕ) (c : Cost) (u : ℕ) (d : Cost) : Type 0 where
@@ -58,11 +75,11 @@ module _ {L : Type 0} (cost : L → Cost) where
       pub opens : marks v ≡ Open e
       pub least : (u : ℕ) (d : L) → marks u ≡ Open d → NoLater (cost e) v (cost d) u
 
-    -- The marks between two turns of a search from s: a label is the cost of a walk from s, no open node comes before a
-    -- settled one, and each arc from a settled node was followed.
-    pub record IsSearch (Arc : Arcs) (Counts : Cost → Type 0) (s : ℕ) (marks : ℕ → Mark L) : Type 0 where
-      pub source : IsAtMost cost (marks s) zero_cost
-      pub walks : (v : ℕ) (e : L) → HasLabel (marks v) e → Walk Arc s v (cost e)
+    -- The marks between two turns of a search: where it begins there are labels of no more, a label is the cost of a walk
+    -- from there, no open node comes before a settled one, and each arc from a settled node was followed.
+    pub record IsSearch (Arc : Arcs) (Counts : Cost → Type 0) (Begins : Beginning) (marks : ℕ → Mark L) : Type 0 where
+      pub starts : (v : ℕ) (c : Cost) → Begins v c → Counts c → IsAtMost cost (marks v) c
+      pub walks : (v : ℕ) (e : L) → HasLabel (marks v) e → StartedWalk Arc Begins v (cost e)
       pub ordered : (v : ℕ) (e : L) → marks v ≡ Open e → IsLatest marks (cost e) v
       pub followed : (v : ℕ) (e : L) → marks v ≡ Settled e → IsFollowed Arc Counts marks v (cost e)
 

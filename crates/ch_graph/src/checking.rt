@@ -1,7 +1,7 @@
 ghost use Rattle.std.specs.Prelude.{◌≡◌, ◌≢◌, ◌<◌, ◌↔◌, ℕ, length, slice_index, All, AllPairs, Some, ◌-◌, ◌^◌, ◌≤◌, IfErr, IfNone, IfOk, IfSome, IsTrue, OnOk};
 ghost use Rattle.ch_cost.specs.Cost.{◌⊕◌, cost_of_arcs, arcs_of, IsWithin};
 ghost use Rattle.ch_graph.specs.declared.link.Link.{Link};
-ghost use Rattle.ch_graph.specs.Hierarchy.{ComesBefore, Counts, CountsArcs, CountsWeight, IsLinkWellMade, IsWellMade, bound_arcs};
+ghost use Rattle.ch_graph.specs.Hierarchy.{ComesBefore, hierarchy_of, Counts, CountsArcs, CountsWeight, IsLinkWellMade, IsWellMade, bound_arcs};
 ghost use Rattle.ch_graph.specs.Checking.{ComesNext, HaveSum, IsAllowed, IsFirstWithout, IsHierarchyRefusal, IsLow, IsNewRank, IsWellMadeAt};
 
 use crate::error::HierarchyError;
@@ -21,8 +21,8 @@ pub fn check(
     links: &[Link],
     bound: Cost,
 ) -> Result<(), HierarchyError>
-    ensures made { OnOk result (IsWellMade (record { version = version; ranks = ranks.now; links = links.now; bound = bound })) }
-    ensures refused { IfErr result (IsHierarchyRefusal (record { version = version; ranks = ranks.now; links = links.now; bound = bound })) }
+    ensures made { OnOk result (IsWellMade (hierarchy_of version ranks.now links.now bound)) }
+    ensures refused { IfErr result (IsHierarchyRefusal (hierarchy_of version ranks.now links.now bound)) }
 {
     if ranks.len() > 1 << 25 {
         return Err(HierarchyError::TooManyNodes);
@@ -110,8 +110,8 @@ fn comes_before(link: Link, later: Link) -> bool
 // The place of the first link that isn't well made, or none where each is.
 fn first_bad_link(version: Version, ranks: &[u32], links: &[Link], bound: Cost) -> Option<usize>
     requires { AllPairs ComesBefore links.now }
-    ensures found { IfSome result (IsFirstWithout (IsWellMadeAt (record { version = version; ranks = ranks.now; links = links.now; bound = bound })) (length links.now)) }
-    ensures none { IfNone result (All (IsLinkWellMade (record { version = version; ranks = ranks.now; links = links.now; bound = bound })) links.now) }
+    ensures found { IfSome result (IsFirstWithout (IsWellMadeAt (hierarchy_of version ranks.now links.now bound)) (length links.now)) }
+    ensures none { IfNone result (All (IsLinkWellMade (hierarchy_of version ranks.now links.now bound)) links.now) }
 {
     'links: for place in 0..links.len() {
         if !is_link_well_made(version, ranks, links, bound, links[place]) {
@@ -130,7 +130,7 @@ fn is_link_well_made(
     link: Link,
 ) -> bool
     requires { AllPairs ComesBefore links.now }
-    ensures { IsTrue result ↔ IsLinkWellMade (record { version = version; ranks = ranks.now; links = links.now; bound = bound }) link }
+    ensures { IsTrue result ↔ IsLinkWellMade (hierarchy_of version ranks.now links.now bound) link }
 {
     is_allowed(version, ranks.len(), bound, link) & has_halves(ranks, links, link)
 }

@@ -1,7 +1,7 @@
 ghost use Rattle.std.specs.Prelude.{◌≡◌, ◌<◌, ◌↔◌, All, IfErr, IfNone, IfOk, IfSome, IsTrue};
 ghost use Rattle.ch_cost.specs.Cost.{IsWithin};
 ghost use Rattle.ch_graph.specs.Graph.{IsDistance};
-ghost use Rattle.ch_graph.specs.Limits.{IsRoad, IsFirstBad, IsGraph, IsRefusal, bound_of};
+ghost use Rattle.ch_graph.specs.Limits.{IsRoad, IsFirstBad, IsGraph, IsGraphRefusal, bound_of};
 ghost use Rattle.ch_graph.specs.LeastArcs.{IsWalkThrough};
 
 use crate::error::GraphError;
@@ -36,7 +36,7 @@ impl Model for Graph {
 impl Graph {
     /// The graph of these arcs, in this order, between so many nodes.
     ///
-    /// There are at most 2^25 nodes and 2^27 arcs, each end is below `nodes`, and weights are from 1. Takes no
+    /// There are at most 2^25 nodes and 2^27 arcs, each end is below `nodes`, and a weight may be 0. Takes no
     /// memory, and looks at each arc once.
     pub fn new(nodes: u32, arcs: Vec<Road>) -> Graph
         requires { IsGraph (record { nodes = nodes; arcs = arcs.items }) }
@@ -58,7 +58,7 @@ impl Graph {
     /// Takes no memory, and looks at each arc twice. The arcs are dropped where they are refused.
     pub fn checked(nodes: u32, arcs: Vec<Road>) -> Result<Graph, GraphError>
         ensures graph { IfOk result (λ g. g ≡ record { nodes = nodes; arcs = arcs.items }) }
-        ensures refused { IfErr result (IsRefusal nodes arcs.items) }
+        ensures refused { IfErr result (IsGraphRefusal nodes arcs.items) }
     {
         if nodes > 1 << 25 {
             return Err(GraphError::TooManyNodes);
@@ -98,8 +98,9 @@ impl Graph {
 
     /// The least cost over all walks from `source` to `target`, or none where there is no walk.
     ///
-    /// By Dijkstra's algorithm (1959). Of N nodes and M arcs it takes time by (N + M) log N, and memory for two
-    /// numbers a node and one an arc, and for a queue of at most M + 1 entries. Fails only for want of memory.
+    /// By Dijkstra's algorithm (1959). Of N nodes and M arcs it takes time by (N + M) log N, and memory for a mark a node (a
+    /// cost and a state), a place of an arc a node and one an arc, and for a queue of at most M + 1 entries. Fails only
+    /// where memory runs out.
     ///
     /// In this graph the line from 0 to 1 is one arc, and each other line is two of one weight, there and back:
     ///

@@ -1,6 +1,6 @@
 ghost use Rattle.std.specs.Prelude.{◌≡◌, ◌<◌, ℕ, length, slice_index, slice_index_or, AllPairs, None, IfErr, IfOk, IfSome, IfNone};
 ghost use Rattle.ch_cost.specs.Cost.{of_weight};
-ghost use Rattle.ch_graph.specs.Hierarchy.{IsWellMade, IsLinkAt, ComesBefore, version_number};
+ghost use Rattle.ch_graph.specs.Hierarchy.{hierarchy_of, IsWellMade, IsLinkAt, ComesBefore, version_number};
 ghost use Rattle.ch_graph.specs.declared.error.HierarchyError.TheVariants.{OutOfMemory};
 ghost use Rattle.ch_graph.specs.declared.version.Version.TheVariants.{One, Two};
 ghost use Rattle.ch_graph.specs.Checking.{IsHierarchyRefusal};
@@ -27,8 +27,7 @@ pub struct LinkId(pub usize);
 ///
 /// Every hierarchy is well made, so that a file can hold it. Whether it is right for a graph is said where it is
 /// made. It holds 4 bytes a node and 32 a link, with an index 8 bytes a node and 8 a link more, and no call takes memory
-/// but [`Hierarchy::checked`] and [`Hierarchy::checked_v1`] while they run, [`Hierarchy::indexed`] and
-/// [`Hierarchy::into_indexed`].
+/// but [`Hierarchy::checked`] and [`Hierarchy::checked_v1`] while they run, and [`Hierarchy::into_indexed`].
 #[derive(Drop)]
 pub struct Hierarchy {
     version: Version,
@@ -48,9 +47,9 @@ impl Model for Hierarchy {
 
     ghost Value = { hierarchies.Hierarchy };
 
-    ghost view = { λ h. record { version = h.version; ranks = h.ranks.items; links = h.links.items; bound = h.bound } };
+    ghost view = { λ h. hierarchies.hierarchy_of h.version h.ranks.items h.links.items h.bound };
 
-    ghost invariant = { λ h. hierarchies.IsWellMade (record { version = h.version; ranks = h.ranks.items; links = h.links.items; bound = h.bound }) × IsIndexOf h.links.items h.index × AreHalvesOf h.links.items h.halves };
+    ghost invariant = { λ h. hierarchies.IsWellMade (hierarchies.hierarchy_of h.version h.ranks.items h.links.items h.bound) × IsIndexOf h.links.items h.index × AreHalvesOf h.links.items h.halves };
 }
 
 impl Hierarchy {
@@ -59,8 +58,8 @@ impl Hierarchy {
     ///
     /// It has no index: a link is looked for among all, and so are its halves. Takes no memory.
     pub fn new(ranks: Vec<u32>, links: Vec<Link>, bound: Cost) -> Hierarchy
-        requires { IsWellMade (record { version = Two; ranks = ranks.items; links = links.items; bound = bound }) }
-        ensures { result ≡ record { version = Two; ranks = ranks.items; links = links.items; bound = bound } }
+        requires { IsWellMade (hierarchy_of Two ranks.items links.items bound) }
+        ensures { result ≡ hierarchy_of Two ranks.items links.items bound }
     {
         let alloc = *ranks.allocator();
         let index = LinkIndex::none(alloc);
@@ -70,8 +69,8 @@ impl Hierarchy {
 
     /// The same of version 1, whose costs count no arcs.
     pub fn new_v1(ranks: Vec<u32>, links: Vec<Link>, bound: Cost) -> Hierarchy
-        requires { IsWellMade (record { version = One; ranks = ranks.items; links = links.items; bound = bound }) }
-        ensures { result ≡ record { version = One; ranks = ranks.items; links = links.items; bound = bound } }
+        requires { IsWellMade (hierarchy_of One ranks.items links.items bound) }
+        ensures { result ≡ hierarchy_of One ranks.items links.items bound }
     {
         let alloc = *ranks.allocator();
         let index = LinkIndex::none(alloc);
@@ -84,16 +83,16 @@ impl Hierarchy {
     ///
     /// It is refused only where it isn't well made, or for want of memory. Takes a byte a node while it runs. It looks at
     /// each rank and each link once, and looks for the halves of each link among all. All are dropped where they are
-    /// refused. The hierarchy has no index; [`Hierarchy::into_indexed`] gives it one, as [`Hierarchy::indexed`] does.
+    /// refused. The hierarchy has no index; [`Hierarchy::into_indexed`] gives it one.
     pub fn checked(
         alloc: Global,
         ranks: Vec<u32>,
         links: Vec<Link>,
         bound: Cost,
     ) -> Result<Hierarchy, HierarchyError>
-        ensures hierarchy { IfOk result (λ h. h ≡ record { version = Two; ranks = ranks.items; links = links.items; bound = bound }) }
-        ensures refused { IfErr result (IsHierarchyRefusal (record { version = Two; ranks = ranks.items; links = links.items; bound = bound })) }
-        ensures accepted { IsWellMade (record { version = Two; ranks = ranks.items; links = links.items; bound = bound }) → IfErr result (λ e. e ≡ OutOfMemory) }
+        ensures hierarchy { IfOk result (λ h. h ≡ hierarchy_of Two ranks.items links.items bound) }
+        ensures refused { IfErr result (IsHierarchyRefusal (hierarchy_of Two ranks.items links.items bound)) }
+        ensures accepted { IsWellMade (hierarchy_of Two ranks.items links.items bound) → IfErr result (λ e. e ≡ OutOfMemory) }
     {
         checking::check(
             alloc,
@@ -112,9 +111,9 @@ impl Hierarchy {
         links: Vec<Link>,
         bound: Cost,
     ) -> Result<Hierarchy, HierarchyError>
-        ensures hierarchy { IfOk result (λ h. h ≡ record { version = One; ranks = ranks.items; links = links.items; bound = bound }) }
-        ensures refused { IfErr result (IsHierarchyRefusal (record { version = One; ranks = ranks.items; links = links.items; bound = bound })) }
-        ensures accepted { IsWellMade (record { version = One; ranks = ranks.items; links = links.items; bound = bound }) → IfErr result (λ e. e ≡ OutOfMemory) }
+        ensures hierarchy { IfOk result (λ h. h ≡ hierarchy_of One ranks.items links.items bound) }
+        ensures refused { IfErr result (IsHierarchyRefusal (hierarchy_of One ranks.items links.items bound)) }
+        ensures accepted { IsWellMade (hierarchy_of One ranks.items links.items bound) → IfErr result (λ e. e ≡ OutOfMemory) }
     {
         checking::check(
             alloc,
@@ -126,30 +125,11 @@ impl Hierarchy {
         Ok(Hierarchy::new_v1(ranks, links, bound))
     }
 
-    /// The same hierarchy as by [`Hierarchy::new`], with an index, so that a link is looked for among those that leave
-    /// its first node, and with the places of the halves of links.
+    /// The same hierarchy, with an index, so that a link is looked for among those that leave its first node, and with the
+    /// places of the halves of links.
     ///
-    /// Takes 8 bytes a node and 8 a link. It looks at each link once, and looks for the halves of each. Fails only for
-    /// want of memory.
-    pub fn indexed(
-        alloc: Global,
-        ranks: Vec<u32>,
-        links: Vec<Link>,
-        bound: Cost,
-    ) -> Result<Hierarchy, AllocError>
-        requires { IsWellMade (record { version = Two; ranks = ranks.items; links = links.items; bound = bound }) }
-        ensures { IfOk result (λ h. h ≡ record { version = Two; ranks = ranks.items; links = links.items; bound = bound }) }
-    {
-        let index = LinkIndex::new(alloc, ranks.len() as u32, links.as_slice())?;
-        let none = LinkHalves::none(alloc);
-        let mut hierarchy = Hierarchy::with_index(Version::Two, ranks, links, bound, index, none);
-        hierarchy.halves = hierarchy.find_all_halves(alloc)?;
-        Ok(hierarchy)
-    }
-
-    /// The same hierarchy, with an index and the places of the halves of links, as [`Hierarchy::indexed`] makes them.
-    ///
-    /// Takes 8 bytes a node and 8 a link. It fails only for want of memory, and the hierarchy is dropped then.
+    /// Takes 8 bytes a node and 8 a link. It looks at each link once, and looks for the halves of each. It fails only where
+    /// memory runs out, and the hierarchy is dropped then.
     pub fn into_indexed(mut self, alloc: Global) -> Result<Hierarchy, AllocError>
         ensures { IfOk result (λ h. h ≡ self) }
     {
@@ -167,10 +147,10 @@ impl Hierarchy {
         index: LinkIndex,
         halves: LinkHalves,
     ) -> Hierarchy
-        requires made { IsWellMade (record { version = version; ranks = ranks.items; links = links.items; bound = bound }) }
+        requires made { IsWellMade (hierarchy_of version ranks.items links.items bound) }
         requires index { IsIndexOf links.items index }
         requires halves { AreHalvesOf links.items halves }
-        ensures { result ≡ record { version = version; ranks = ranks.items; links = links.items; bound = bound } }
+        ensures { result ≡ hierarchy_of version ranks.items links.items bound }
     {
         Hierarchy {
             version,

@@ -1,23 +1,18 @@
 -- Lawful contractions: one more after a run, and what a plan makes of a state.
-use Rattle.std.proofs.Common.{ℕ, ◌≡◌, true, false, nat_eq, List, [], ◌∷◌, ◌++◌, Option, Some, None, AllPairs, Contains, arith, refl, ◌∙◌, ap, subst, inl, inr}
+use Rattle.std.proofs.Common.{ℕ, ◌≡◌, true, false, nat_eq, List, [], ◌∷◌, Option, Some, None, AllPairs, Contains, arith, refl, ◌∙◌, ap, subst, inl, inr}
 use Rattle.std.proofs.lemmas.Bool.{cases_eq}
 use Rattle.std.proofs.lemmas.Bool.Decides.{nat_tests}
-use Rattle.ch_cost.specs.declared.cost.Cost.{Cost}
 use Rattle.ch_laws.specs.declared.shortcut.Shortcut.{Shortcut}
-use Rattle.ch_laws.specs.Contraction.{State, StateArc, IsFor, NoShortcut, shortcut_arc, or_else, Contraction, Step, Run, Run.rest, Run.next}
+use Rattle.ch_laws.specs.Contraction.{StateArc, IsFor, NoShortcut, shortcut_arc, or_else}
 use Rattle.ch_laws.specs.Theorems.{ReachesOn, PlanIsLawful}
+use Rattle.ch_laws.specs.Orders.{run_push}
 use Rattle.ch_laws.specs.Members.{pairs_first, pairs_later, contains_first, contains_later, contains_cases}
 
 -- One more contraction
 
--- a run and one more step
-run-push : {bound : Cost} {old mid new : State} {e : Contraction} {log : List Contraction} → Run bound old log mid → Step bound mid e new → Run bound old (log ++ e ∷ []) new
-run-push rest step = next step rest
-run-push (next first more) step = next first (run-push more step)
-
--- so what is reached goes on
+-- what is reached goes on
 pub reaches_on : ReachesOn
-reaches_on g log s e new reached step = record { start = reached.start; starts = reached.starts; run = run-push reached.run step }
+reaches_on g log s e new reached step = record { start = reached.start; starts = reached.starts; run = run_push reached.run step }
 
 -- The shortcuts of a list
 

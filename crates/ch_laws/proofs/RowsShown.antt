@@ -7,14 +7,8 @@ use Rattle.ch_cost.specs.declared.cost.Cost.{Cost}
 use Rattle.ch_laws.specs.Contraction.{State, StateArc, Before, or_else}
 use Rattle.ch_laws.specs.Rows.{Entry, IsPlain, Row, arc_of, arc_to, shown, no_arcs, row_at, arc_by_rows, IsRow, AreRows}
 use Rattle.ch_laws.specs.Theorems.{RowsShow, RowsAreState}
+use Rattle.ch_laws.specs.Orders.{before_not_both}
 use Rattle.ch_laws.specs.Members.{contains_first, contains_later, contains_cases}
-
--- two nodes don't both stand before each other
-before_not_both : {order : List ℕ} {x y : ℕ} → Before order x y → Before order y x → ⊥
-before_not_both first second = elim (cases_lt second.place first.place) [
-  | inl less ↦ first.not_yet second.place (omega (arith, less)) second.here
-  | inr at_most ↦ second.not_yet first.place at_most first.here
-]
 
 -- Entries
 

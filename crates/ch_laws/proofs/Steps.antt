@@ -1,7 +1,7 @@
 -- One contraction: which arcs it changes, and which nodes stay alive.
 use Rattle.std.proofs.Common.{ℕ, ◌≡◌, ◌≢◌, ◌⊎◌, List, [], ◌∷◌, Option, Some, Contains, arith, refl, sym, ◌∙◌, ap, subst, inl, inr}
 use Rattle.std.proofs.lemmas.Bool.{cases_eq}
-use Rattle.std.proofs.lemmas.List.Elements.{Contains-append_left, Contains-push, Contains-push_cases}
+use Rattle.std.proofs.lemmas.List.Elements.{Contains-push_cases}
 use Rattle.ch_cost.specs.declared.cost.Cost.{Cost}
 use Rattle.ch_cost.specs.Cost.{◌≺◌, IsWithin}
 use Rattle.ch_laws.specs.Contraction.{State, StateArc, IsAlive, HasArc, Through, Shortcut, IsFor, NoShortcut, Puts}
@@ -106,15 +106,4 @@ alive-next {old = old} {v = v} puts {x} alive apart = record {
     | inl before ↦ alive.waits before
     | inr is_v ↦ apart (sym is_v)
   ];
-}
-
--- v isn't alive any more
-pub contracted_not_alive : {bound : Cost} {old new : State} {v : ℕ} {put : List Shortcut} → Puts bound old v put new → IsAlive new v → ⊥
-contracted_not_alive {old = old} {v = v} puts alive = alive.waits (subst (λ (order : List ℕ). Contains order v) (sym puts.order) (Contains-push old.order v))
-
--- what is alive afterwards was alive before
-pub alive-back : {bound : Cost} {old new : State} {v : ℕ} {put : List Shortcut} → Puts bound old v put new → {x : ℕ} → IsAlive new x → IsAlive old x
-alive-back {old = old} {v = v} puts {x} alive = record {
-  in_range = omega (arith, alive.in_range, puts.nodes);
-  waits = λ among. alive.waits (subst (λ (order : List ℕ). Contains order x) (sym puts.order) (Contains-append_left old.order (v ∷ []) x among));
 }

@@ -3,6 +3,7 @@ pub mod Contraction
 pub mod Members
 pub mod Middle
 pub mod Moving
+pub mod Orders
 pub mod Rows
 pub mod Theorems
 pub mod Verdicts

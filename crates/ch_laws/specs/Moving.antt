@@ -5,14 +5,21 @@ use Rattle.ch_cost.specs.declared.cost.Cost.{Cost}
 use Rattle.ch_graph.specs.Walk.{Along, Walk, visited, Walk.stay, Walk.go}
 use Rattle.ch_laws.specs.Members.{contains_first, contains_later}
 
-heads : (x y : ℕ) (xs ys : List ℕ) → x ∷ xs ≡ y ∷ ys → x ≡ y
+-- Equal lists
+
+-- equal lists have equal first elements
+pub heads : (x y : ℕ) (xs ys : List ℕ) → x ∷ xs ≡ y ∷ ys → x ≡ y
 heads x y xs ys e = cc
 
-tails : (x y : ℕ) (xs ys : List ℕ) → x ∷ xs ≡ y ∷ ys → xs ≡ ys
+-- and equal rests
+pub tails : (x y : ℕ) (xs ys : List ℕ) → x ∷ xs ≡ y ∷ ys → xs ≡ ys
 tails x y xs ys e = cc
 
-too-long : (x y z : ℕ) (xs : List ℕ) → x ∷ y ∷ xs ≡ z ∷ [] → ⊥
+-- a list of two elements or more isn't one of one
+pub too-long : (x y z : ℕ) (xs : List ℕ) → x ∷ y ∷ xs ≡ z ∷ [] → ⊥
 too-long x y z xs e = absurd (cc)
+
+-- Walks
 
 module _ (A B : ℕ → ℕ → Cost → Type 0) where
   -- a walk whose arcs are of another kind too, where they leave one of its nodes but the last

@@ -1,8 +1,14 @@
--- When a queue isn't closed.
+-- Queues that were closed, and when one isn't.
 use Rattle.std.specs.Prelude.{ℕ, ◌≡◌, ◌<◌, List, codes, Any}
 use Rattle.ch_multiqueue.specs.declared.error.CloseError.{CloseError}
 use Rattle.ch_multiqueue.specs.declared.error.CloseError.TheVariants.{OutOfMemory, PassMissing, Mixed}
-use Rattle.ch_multiqueue.specs.Passes.{Pass}
+use Rattle.ch_multiqueue.specs.declared.item.Item.{Item}
+use Rattle.ch_multiqueue.specs.Passes.{Pass, Queue}
+
+-- the queue that was closed, as it was then, and what was left in it
+pub record Closed : Type 0 where
+  pub queue : Queue
+  pub left : List Item
 
 -- the pass of this number is among those
 abbrev pub IsAmong : ℕ → List Pass → Type 0

@@ -27,12 +27,14 @@
 
 mod account;
 mod better;
+mod closed;
 mod error;
 mod heap;
 mod item;
 mod multi_queue;
 mod pass;
 
+pub use closed::Closed;
 pub use error::CloseError;
 pub use item::Item;
 pub use multi_queue::MultiQueue;

@@ -6,6 +6,7 @@ ghost use Rattle.ch_multiqueue.specs.Passes.{pass_of, moved_on, having_put, havi
 
 use crate::account::{are_balanced, in_order};
 use crate::better::{Better, better_of};
+use crate::closed::Closed;
 use crate::error::CloseError;
 use crate::heap::Heap;
 use crate::item::Item;
@@ -119,7 +120,7 @@ impl MultiQueue {
         self.take_first_found(rt, pass)
     }
 
-    /// Ends the queue, and answers what is left in it, in order: each item was put through one of the passes exactly as
+    /// Ends the queue, and returns what is left in it, in order: each item was put through one of the passes exactly as
     /// often as it was taken through one or is left.
     ///
     /// All passes that were made are to be handed in, in any order. Refused where one is missing, then where memory is
@@ -133,12 +134,32 @@ impl MultiQueue {
         ensures queue { IfErr result (λ refused. refused.1 ≡ self) }
         ensures passes { IfErr result (λ refused. refused.2 ≡ passes) }
     {
+        match self.end(passes) {
+            Ok(closed) => Ok(closed.into_left()),
+            Err(refused) => Err(refused),
+        }
+    }
+
+    /// The same as [`close`](MultiQueue::close), and returns which queue it was, too.
+    pub fn end(self, passes: Vec<Pass>) -> Result<Closed, (CloseError, MultiQueue, Vec<Pass>)>
+        ensures closed { IfOk result (λ closed. closed.queue ≡ self) }
+        ensures missing { IsErrAnd result (λ refused. refused.0 ≡ CloseError.PassMissing) ↔ IsLacking self.passes passes.items }
+        ensures sorted { IfOk result (λ closed. AllPairs IsNotAfter closed.left) }
+        ensures balanced { IfOk result (λ closed. AreBalanced passes.items closed.left) }
+        ensures queue { IfErr result (λ refused. refused.1 ≡ self) }
+        ensures passes { IfErr result (λ refused. refused.2 ≡ passes) }
+    {
         let mut queue = self;
         if is_lacking(passes.as_slice(), queue.passes) {
             return Err((CloseError::PassMissing, queue, passes));
         }
         match queue.settle(passes.as_slice()) {
-            Ok(items) => Ok(items),
+            Ok(left) => Ok(Closed {
+                heaps: queue.heaps.len(),
+                passes: queue.passes,
+                seed: queue.seed,
+                left,
+            }),
             Err(error) => Err((error, queue, passes)),
         }
     }

@@ -1,4 +1,4 @@
--- Two lists of entries become one.
+-- Two lists of entries become one. Contracts of private functions alone cite it.
 use Rattle.std.specs.Prelude.{cond, nat_lt, nat_eq, List, [], ◌∷◌}
 use Rattle.ch_laws.specs.declared.entry.Entry.{Entry}
 

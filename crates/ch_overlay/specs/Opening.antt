@@ -1,4 +1,4 @@
--- The rows of a graph in which no node is contracted.
+-- The rows of a graph in which no node is contracted. Contracts of private functions alone cite it.
 use Rattle.std.specs.Prelude.{ℕ, ◌≡◌, ◌≢◌, ◌<◌, ◌≤◌, ◌⊎◌, ◌++◌, ◌&&◌, Bool, cond, nat_eq, List, [], ◌∷◌, None, map, filter, All, AllPairs, Contains}
 use Rattle.ch_cost.specs.Cost.{of_weight}
 use Rattle.ch_graph.specs.declared.road.Road.{Road}

@@ -1,4 +1,4 @@
--- The entries that shortcuts make, with the nodes whose rows they are for.
+-- The entries that shortcuts make, with the nodes whose rows they are for. Contracts of private functions alone cite it.
 use Rattle.std.specs.Prelude.{ℕ, ◌≡◌, ◌≢◌, ◌<◌, ◌⊎◌, ◌++◌, List, Option, Some, length, map, All, AllPairs, Contains}
 use Rattle.std.specs.List.Sorted.{IsPermutation}
 use Rattle.ch_laws.specs.declared.shortcut.Shortcut.{Shortcut}

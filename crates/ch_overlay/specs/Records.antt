@@ -37,19 +37,19 @@ marked (n ∷ []) = zero_cost
 marked (n ∷ m ∷ rest) = of_walk n m
 
 -- the row of a record
-abbrev pub row_of : Record → Row
-row_of r = arc_value r.row
+abbrev pub recorded_row : Record → Row
+recorded_row r = arc_value r.row
 
 -- each record of a list has a row that can be relied on under the list's bound
 abbrev pub IsSoundRecord : List ℕ → ℕ → Record → Type 0
-IsSoundRecord mark place r = IsSoundRow (marked mark) r.node (row_of r)
+IsSoundRecord mark place r = IsSoundRow (marked mark) r.node (recorded_row r)
 
 -- the answer is what a record of the list says, which stands at the answer's version
 pub record IsRecorded (list : Shelves) (s : Seen) (token : Where Record) : Type 0 where
   pub shown : Shows list token
   pub version : token.index ≡ s.version
   pub node : token.value.node ≡ s.node
-  pub row : row_of token.value ≡ row_in s
+  pub row : recorded_row token.value ≡ row_in s
 
 -- The answer is the record of the list at its version, and it has the token of that record.
 abbrev pub Bears : Shelves → Seen → Type 0

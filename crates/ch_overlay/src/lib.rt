@@ -1,12 +1,15 @@
 //! The rows of a graph under contraction: what each node has of its arcs and shortcuts, and how a contraction changes
 //! them.
 //!
-//! Stands on `ch_graph` for graphs and on `ch_laws` for what contraction is. Its main types are [`Row`], what one
-//! node has, [`Overlay`], the rows of all nodes with a version number each, and [`Change`], the new rows of one
-//! contraction. [`RowSource`] is what gives rows one by one.
-//! Rows are shared by `Arc` and never changed in place, so who has read a row keeps it. The promise of the layer stands
-//! on [`Overlay::start`], [`Overlay::plan`] and [`Overlay::apply`]: the rows are those of the state that the
-//! contractions so far lead to. [`Record`] is what a book of rows keeps of one, and [`Token`] shows where.
+//! Stands on `ch_graph` for graphs and on `ch_laws` for what contraction is. Its main types:
+//!
+//! - [`Row`], what one node has. Rows are shared by `Arc` and never changed in place, so who has read a row keeps it.
+//! - [`Overlay`], the rows of all nodes with a version number each, and [`Change`], the new rows of one contraction.
+//! - [`RowSource`], which gives rows one by one.
+//! - [`Record`], what a book of rows keeps of one, and [`Token`], which shows where.
+//!
+//! The promise of the layer is in the contracts of [`Overlay::start`], [`Overlay::plan`] and [`Overlay::apply`]: the rows
+//! are those of the state that the contractions so far lead to.
 //!
 //! A contraction is planned, and then put in, with a version for each row that it changes. Here node 0 of the arcs 1 to 0
 //! and 0 to 2 goes, for a shortcut from 1 to 2, and versions 0 to 2 are those of the start:

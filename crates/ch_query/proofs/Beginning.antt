@@ -1,34 +1,154 @@
 -- Both sides of a query begin, and both have stopped.
-use Rattle.std.proofs.Common.{ℕ, ◌≡◌, ◌||◌, ◌+◌, ◌<◌, ◌≤◌, true, false, Bool, List, length, set, replicate, Option, None, ap, refl, sym, subst, ◌∙◌, arith}
+use Rattle.std.proofs.Common.{ℕ, ◌≡◌, ◌||◌, ◌+◌, ◌<◌, ◌≤◌, ◌⊎◌, true, false, Bool, List, length, set, replicate, Option, Some, None, slice_get, ap, refl, sym, subst, ◌∙◌, inl, inr, arith}
+use Rattle.std.proofs.lemmas.Bool.{cases_lt}
+use Rattle.std.proofs.lemmas.List.{length-replicate}
 use Rattle.ch_cost.specs.declared.cost.Cost.{Cost}
-use Rattle.ch_cost.specs.Cost.{zero_cost}
+use Rattle.ch_cost.specs.Cost.{IsNoLonger, IsOfWalks}
+use Rattle.ch_cost.specs.Cost.Laws.{at_most_refl, of_walks_more}
+use Rattle.ch_cost.specs.Cost.Numbers.{of_walks-from_arcs}
 use Rattle.ch_graph.specs.declared.mark.Mark.{Mark}
-use Rattle.ch_graph.specs.declared.mark.Mark.TheVariants.{Unseen, Open}
-use Rattle.ch_graph.specs.Hierarchy.{Hierarchy, IsWellMade, rank_of}
-use Rattle.ch_graph.specs.Marks.{settled_count}
+use Rattle.ch_graph.specs.declared.mark.Mark.TheVariants.{Unseen, Open, Settled}
+use Rattle.ch_graph.specs.Hierarchy.{Hierarchy, rank_of}
+use Rattle.ch_graph.specs.Marks.{mark, HasLabel, IsAtMost, settled_count}
+use Rattle.ch_graph.specs.Marks.Laws.{cases_put, put-set, mark-replicate, label_open, one_label, unseen-label, unseen-settled, open-settled, at_most-from_label, improves-below}
+use Rattle.ch_graph.specs.Searching.Laws.{search-begin}
 use Rattle.ch_query.specs.declared.half.Half.{Half}
+use Rattle.ch_query.specs.declared.seed.Seed.{Seed}
 use Rattle.ch_query.specs.declared.side.Side.{Side}
 use Rattle.ch_query.specs.declared.label.Label.{Label}
-use Rattle.ch_query.specs.Marks.{IsStopped}
+use Rattle.ch_query.specs.Seeds.{AreSeeds, IsSeedAt}
+use Rattle.ch_query.specs.Labels.{CountsBelow}
+use Rattle.ch_query.specs.Marks.{label_cost, IsStopped}
 use Rattle.ch_query.specs.Ready.{IsReady}
-use Rattle.ch_query.specs.Searching.{IsClimbing, IsSearching, IsTurned}
+use Rattle.ch_query.specs.Searching.{IsOfSeed, IsClimbing, IsSearching, IsTurned}
+use Rattle.ch_query.specs.Beginning.{NoneSettled, IsPlanted, IsBegun}
 use Rattle.ch_query.specs.Meeting.{IsBestSoFar}
+use Rattle.ch_query.proofs.SeedPlaces.{among-from_get, get-from_among, seed-in}
 use Rattle.ch_query.proofs.BestMeetings.{best-none}
-use Rattle.ch_query.proofs.Turning.{first_marks, no_settled, searching-start, climbing-start}
 
-module _ (h : Hierarchy) (made : IsWellMade h) (side : Side) (start : ℕ) (start_in : start < length h.ranks) (old new : List (Mark Label)) (unseen : old ≡ replicate (length h.ranks) Unseen) (begun : new ≡ set old (rank_of h start) (Open (record { cost = zero_cost; foot = rank_of h start }))) where
-  begins : first_marks h start ≡ new
-  begins = sym (begun ∙ ap (λ (ms : List (Mark Label)). set ms (rank_of h start) (Open (record { cost = zero_cost; foot = rank_of h start }))) unseen)
+-- No seed is planted yet
 
-  pub searching-begun : IsSearching h side start new
-  searching-begun = subst (λ (ms : List (Mark Label)). IsSearching h side start ms) begins (searching-start h made side start start_in)
+pub begun-none : (h : Hierarchy) (seeds : List Seed) (bound : Cost) (n : ℕ) → n ≡ length h.ranks → (marks : List (Mark Label)) → marks ≡ replicate n Unseen → IsBegun h seeds bound 0 marks
+begun-none h seeds bound n nodes marks unseen = record {
+  nodes = ap length unseen ∙ (length-replicate {A = Mark Label} n Unseen ∙ nodes);
+  none = λ r e closed. unseen-settled (sym (unseen_at r) ∙ closed);
+  of_seed = λ r e has. absurd (unseen-label (mark marks r) e (unseen_at r) has);
+  short = λ r e has. absurd (unseen-label (mark marks r) e (unseen_at r) has);
+  planted = λ k seed low is short. absurd (omega (arith, low));
+}
+  where
+    unseen_at : (r : ℕ) → mark marks r ≡ Unseen
+    unseen_at r = subst (λ (ms : List (Mark Label)). mark ms r ≡ Unseen) (sym unseen) (mark-replicate n r)
 
-  pub climbing-begun : (limit : Option Cost) → IsClimbing h side start limit new
-  climbing-begun limit = subst (λ (ms : List (Mark Label)). IsClimbing h side start limit ms) begins (climbing-start h made side start start_in limit)
+-- One more is
+
+-- each label stays at most what it was
+planted-kept : (bound : Cost) (r : ℕ) (c : Cost) (old new : List (Mark Label)) → r < length old → IsPlanted bound r c old new → (q : ℕ) (d : Cost) → IsAtMost label_cost (mark old q) d → IsAtMost label_cost (mark new q) d
+planted-kept bound r c old new within (inl put) q d most = subst (λ (ms : List (Mark Label)). IsAtMost label_cost (mark ms q) d) (sym put.2) (elim (cases_put (put-set old r (Open (record { cost = c; foot = r })) within) q) [
+  | inl w ↦
+      let e : Label = record { cost = c; foot = r } in
+      let less = improves-below label_cost (mark old r) c d put.1 (subst (λ p. IsAtMost label_cost (mark old p) d) w.at most) in
+      at_most-from_label label_cost (mark (set old r (Open e)) q) e d (label_open (mark (set old r (Open e)) q) e w.reads) less
+  | inr k ↦ subst (λ (m : Mark Label). IsAtMost label_cost m d) (sym k.reads) most
+])
+planted-kept bound r c old new within (inr kept) q d most = subst (λ (ms : List (Mark Label)). IsAtMost label_cost (mark ms q) d) (sym kept.1) most
+
+-- and where the seed is short, that of its node is at most its cost
+planted-here : (bound : Cost) (r : ℕ) (c : Cost) (old new : List (Mark Label)) → r < length old → IsPlanted bound r c old new → IsNoLonger c bound → IsAtMost label_cost (mark new r) c
+planted-here bound r c old new within (inl put) short =
+    let e : Label = record { cost = c; foot = r } in
+    subst (λ (ms : List (Mark Label)). IsAtMost label_cost (mark ms r) c) (sym put.2)
+    (at_most-from_label label_cost (mark (set old r (Open e)) r) e c (label_open (mark (set old r (Open e)) r) e (put-set old r (Open e) within).here) (at_most_refl c))
+planted-here bound r c old new within (inr kept) short = subst (λ (ms : List (Mark Label)). IsAtMost label_cost (mark ms r) c) (sym kept.1) (kept.0 short)
+
+-- a label is an older one, or that of the seed
+record IsNew (bound : Cost) (r : ℕ) (c : Cost) (q : ℕ) (e : Label) : Type 0 where
+  at : q ≡ r
+  cost : e.cost ≡ c
+  foot : e.foot ≡ r
+  short : IsNoLonger c bound
+
+planted-label : (bound : Cost) (r : ℕ) (c : Cost) (old new : List (Mark Label)) → r < length old → IsPlanted bound r c old new → (q : ℕ) (e : Label) → HasLabel (mark new q) e → HasLabel (mark old q) e ⊎ IsNew bound r c q e
+planted-label bound r c old new within (inl put) q e has = elim (cases_put (put-set old r (Open (record { cost = c; foot = r })) within) q) [
+  | inl w ↦
+      let first : Label = record { cost = c; foot = r } in
+      let same : first ≡ e = one_label (mark (set old r (Open first)) q) first e (label_open (mark (set old r (Open first)) q) first w.reads) there in
+      inr (record { at = w.at; cost = ap (λ (l : Label). l.cost) (sym same); foot = ap (λ (l : Label). l.foot) (sym same); short = put.0 })
+  | inr k ↦ inl (subst (λ (m : Mark Label). HasLabel m e) k.reads there)
+]
+  where
+    there : HasLabel (mark (set old r (Open (record { cost = c; foot = r }))) q) e
+    there = subst (λ (ms : List (Mark Label)). HasLabel (mark ms q) e) put.2 has
+planted-label bound r c old new within (inr kept) q e has = inl (subst (λ (ms : List (Mark Label)). HasLabel (mark ms q) e) kept.1 has)
+
+planted-none : (bound : Cost) (r : ℕ) (c : Cost) (old new : List (Mark Label)) → r < length old → IsPlanted bound r c old new → NoneSettled old → NoneSettled new
+planted-none bound r c old new within (inl put) none q e closed = elim (cases_put (put-set old r (Open (record { cost = c; foot = r })) within) q) [
+  | inl w ↦ open-settled (sym w.reads ∙ there)
+  | inr k ↦ none q e (sym k.reads ∙ there)
+]
+  where
+    there : mark (set old r (Open (record { cost = c; foot = r }))) q ≡ Settled e
+    there = subst (λ (ms : List (Mark Label)). mark ms q ≡ Settled e) put.2 closed
+planted-none bound r c old new within (inr kept) none q e closed = none q e (subst (λ (ms : List (Mark Label)). mark ms q ≡ Settled e) kept.1 closed)
+
+some_seed : (a b : Seed) → Some a ≡ Some b → a ≡ b
+some_seed a b is = cc
+
+pub begun-more : (h : Hierarchy) (seeds : List Seed) (bound : Cost) (n : ℕ) (seed : Seed) (old new : List (Mark Label)) → slice_get seeds n ≡ Some seed → rank_of h seed.node < length h.ranks → length new ≡ length old → IsPlanted bound (rank_of h seed.node) seed.cost old new → IsBegun h seeds bound n old → IsBegun h seeds bound (n + 1) new
+begun-more h seeds bound n seed old new at rank_in count planted was = record {
+  nodes = count ∙ was.nodes;
+  none = planted-none bound r seed.cost old new within planted was.none;
+  of_seed = λ q e has. elim (planted-label bound r seed.cost old new within planted q e has) [
+    | inl there ↦ was.of_seed q e there
+    | inr is_new ↦ record {
+      seed = record { seed = seed; among = among-from_get seeds n seed at; rank = sym is_new.at; cost = sym is_new.cost };
+      foot = is_new.foot ∙ sym is_new.at;
+    }
+  ];
+  short = λ q e has. elim (planted-label bound r seed.cost old new within planted q e has) [
+    | inl there ↦ was.short q e there
+    | inr is_new ↦ subst (λ (d : Cost). IsNoLonger d bound) (sym is_new.cost) is_new.short
+  ];
+  planted = λ k other low is short. elim (cases_lt k n) [
+    | inl before ↦ planted-kept bound r seed.cost old new within planted (rank_of h other.node) other.cost (was.planted k other before is short)
+    | inr last ↦
+        let here : k ≡ n = omega (arith, low, last) in
+        let same : seed ≡ other = some_seed seed other (sym at ∙ (ap (slice_get seeds) (sym here) ∙ is)) in
+        subst (λ (s : Seed). IsAtMost label_cost (mark new (rank_of h s.node)) s.cost) same (planted-here bound r seed.cost old new within planted (subst (λ (s : Seed). IsNoLonger s.cost bound) (sym same) short))
+  ];
+}
+  where
+    r : ℕ
+    r = rank_of h seed.node
+
+    within : rank_of h seed.node < length old
+    within = omega (arith, rank_in, was.nodes)
+
+-- All are: a side has begun
+
+module _ (h : Hierarchy) (side : Side) (seeds : List Seed) (are : AreSeeds h seeds) (bound : Cost) (marks : List (Mark Label)) (begun : IsBegun h seeds bound (length seeds) marks) where
+  pub searching-begun : IsSearching h side seeds bound marks
+  searching-begun = record {
+    nodes = begun.nodes;
+    origin = λ r e has. inl (begun.of_seed r e has);
+    fits = λ r e has.
+        let from : IsOfSeed h seeds r e = begun.of_seed r e has in
+        subst (λ (c : Cost). IsOfWalks (r + 1) c) from.seed.cost (of_walks_more {m = 1} {n = r + 1} (omega arith) (of_walks-from_arcs from.seed.seed.cost (seed-in h seeds from.seed.seed are from.seed.among).arcs));
+    short = begun.short;
+  }
+
+  pub climbing-begun : (limit : Option Cost) → IsClimbing h side seeds bound limit marks
+  climbing-begun limit = search-begin label_cost begun.none at_starts (λ r e has. (begun.of_seed r e has).seed)
+    where
+      at_starts : (r : ℕ) (c : Cost) → IsSeedAt h seeds r c → CountsBelow bound limit c → IsAtMost label_cost (mark marks r) c
+      at_starts r c is counts =
+          let short : IsNoLonger is.seed.cost bound = subst (λ (d : Cost). IsNoLonger d bound) (sym is.cost) counts.short in
+          let there = begun.planted is.among.0 is.seed is.among.1 (get-from_among seeds is.seed is.among) short in
+          subst (λ (d : Cost). IsAtMost label_cost (mark marks r) d) is.cost (subst (λ q. IsAtMost label_cost (mark marks q) is.seed.cost) is.rank there)
 
   -- the sides haven't met yet
-  pub best-begun : (down : List (Mark Label)) → IsBestSoFar h new down None
-  best-begun down = subst (λ (ms : List (Mark Label)). IsBestSoFar h ms down None) begins (best-none h (first_marks h start) down (no_settled h made side start start_in))
+  pub best-begun : (down : List (Mark Label)) → IsBestSoFar bound marks down None
+  best-begun down = best-none bound marks down begun.none
 
 -- a search stays ready while its marks are written
 pub ready-more : {h : Hierarchy} {rising falling : Half} (up down : List (Mark Label)) → IsReady h rising falling → length up ≡ length rising.frontier → length down ≡ length falling.frontier → IsReady h (record { steps = rising.steps; frontier = up }) (record { steps = falling.steps; frontier = down })

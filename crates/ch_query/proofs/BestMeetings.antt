@@ -5,7 +5,6 @@ use Rattle.ch_cost.specs.Cost.{◌⊕◌, ◌≼◌, IsNoLonger}
 use Rattle.ch_cost.specs.Cost.Laws.{sum_comm, at_most_refl, at_most_trans, at_most_antisym, at_most-from_below, at_most_sum_left, at_most_sum_right, sum_at_most, no_longer_at_most}
 use Rattle.ch_graph.specs.declared.mark.Mark.{Mark}
 use Rattle.ch_graph.specs.declared.mark.Mark.TheVariants.{Settled}
-use Rattle.ch_graph.specs.Hierarchy.{Hierarchy}
 use Rattle.ch_graph.specs.Marks.{mark, label_in, settled, IsAtMost}
 use Rattle.ch_graph.specs.Marks.Laws.{label_cases, at_most-from_label}
 use Rattle.ch_query.specs.declared.label.Label.{Label}
@@ -19,28 +18,28 @@ same_given : (o : Option Cost) (c d : Cost) → o ≡ Some c → o ≡ Some d �
 same_given o c d is other = cc
 
 -- two labels have one sum
-one_sum : (h : Hierarchy) (up down : Option Cost) (c d : Cost) → AreShort h up down c → AreShort h up down d → c ≡ d
-one_sum h up down c d first second =
+one_sum : (bound : Cost) (up down : Option Cost) (c d : Cost) → AreShort bound up down c → AreShort bound up down d → c ≡ d
+one_sum bound up down c d first second =
     let rise : first.rise ≡ second.rise = same_given up first.rise second.rise first.risen second.risen in
     let fall : first.fall ≡ second.fall = same_given down first.fall second.fall first.fallen second.fallen in
     first.sum ∙ ap (λ (a : Cost). a ⊕ first.fall) rise ∙ ap (λ (b : Cost). second.rise ⊕ b) fall ∙ sym second.sum
 
 -- either side may be named first
-meets-flip : (h : Hierarchy) (up down : ℕ → Option Cost) (r : ℕ) (c : Cost) → Meets h up down r c → Meets h down up r c
-meets-flip h up down r c m = record { rise = m.fall; fall = m.rise; risen = m.fallen; fallen = m.risen; sum = m.sum ∙ sum_comm m.rise m.fall; short = m.short }
+meets-flip : (bound : Cost) (up down : ℕ → Option Cost) (r : ℕ) (c : Cost) → Meets bound up down r c → Meets bound down up r c
+meets-flip bound up down r c m = record { rise = m.fall; fall = m.rise; risen = m.fallen; fallen = m.risen; sum = m.sum ∙ sum_comm m.rise m.fall; short = m.short }
 
-met-flip : {h : Hierarchy} {up down : ℕ → Option Cost} {m : Meeting} → IsMet h up down m → IsMet h down up m
-met-flip {h} {up} {down} {m} met = record { cost = met.cost; meets = meets-flip h up down m.rank met.cost met.meets; at_most = met.at_most; short = met.short }
+met-flip : {bound : Cost} {up down : ℕ → Option Cost} {m : Meeting} → IsMet bound up down m → IsMet bound down up m
+met-flip {bound} {up} {down} {m} met = record { cost = met.cost; meets = meets-flip bound up down m.rank met.cost met.meets; at_most = met.at_most; short = met.short }
 
-pub best-flip : {h : Hierarchy} {up down : List (Mark Label)} {best : Option Meeting} → IsBestSoFar h up down best → IsBestSoFar h down up best
-best-flip {h} {up} {down} is = record {
+pub best-flip : {bound : Cost} {up down : List (Mark Label)} {best : Option Meeting} → IsBestSoFar bound up down best → IsBestSoFar bound down up best
+best-flip {bound} {up} {down} is = record {
   met = λ m e. met-flip (is.met m e);
-  least = λ r c m. is.least r c (meets-flip h (settled_costs down) (settled_costs up) r c m);
+  least = λ r c m. is.least r c (meets-flip bound (settled_costs down) (settled_costs up) r c m);
 }
 
 -- where one side has settled no node, there is no meeting yet
-pub best-none : (h : Hierarchy) (up down : List (Mark Label)) → ((r : ℕ) (e : Label) → mark up r ≡ Settled e → ⊥) → IsBestSoFar h up down None
-best-none h up down never = record {
+pub best-none : (bound : Cost) (up down : List (Mark Label)) → ((r : ℕ) (e : Label) → mark up r ≡ Settled e → ⊥) → IsBestSoFar bound up down None
+best-none bound up down never = record {
   met = λ m e. absurd (no_meeting m e);
   least = λ r c m. let e = settled_is (mark up r) m.rise m.risen in absurd (never r e.0 e.1);
 }
@@ -57,35 +56,35 @@ limit-less no_more has = let b = no_more has.0 has.1 in (b.0, b.1, at_most_trans
 
 -- One look at a node, by whether the two labels make a short sum and whether that is below the best so far
 
-pub looked-skips : (h : Hierarchy) (r : ℕ) (c : Cost) (other : Option Cost) (best : Option Meeting) → IsShortSum h (Some c) other None → IsLooked h r c other best best
-looked-skips h r c other best never = record {
+pub looked-skips : (bound : Cost) (r : ℕ) (c : Cost) (other : Option Cost) (best : Option Meeting) → IsShortSum bound (Some c) other None → IsLooked bound r c other best best
+looked-skips bound r c other best never = record {
   less = no_more-refl (cost_of best);
   seen = λ d short. absurd (never d short);
   from = λ m e. inl e;
 }
 
-pub looked-less : (h : Hierarchy) (r : ℕ) (c : Cost) (other : Option Cost) (best : Option Meeting) (sum : Cost) → AreShort h (Some c) other sum → IsBelow sum (cost_of best) → IsLooked h r c other best (Some (record { rank = r; cost = sum }))
-looked-less h r c other best sum short below = record {
+pub looked-less : (bound : Cost) (r : ℕ) (c : Cost) (other : Option Cost) (best : Option Meeting) (sum : Cost) → AreShort bound (Some c) other sum → IsBelow sum (cost_of best) → IsLooked bound r c other best (Some (record { rank = r; cost = sum }))
+looked-less bound r c other best sum short below = record {
   less = λ a is. (sum, refl, at_most-from_below (subst (λ (o : Option Cost). IsBelow sum o) is below));
-  seen = λ d other_sum. (sum, refl, subst (λ (e : Cost). sum ≼ e) (one_sum h (Some c) other sum d short other_sum) (at_most_refl sum));
+  seen = λ d other_sum. (sum, refl, subst (λ (e : Cost). sum ≼ e) (one_sum bound (Some c) other sum d short other_sum) (at_most_refl sum));
   from = λ m e.
       let same : record { rank = r; cost = sum } ≡ m = given m e in
-      inr (ap (λ (n : Meeting). n.rank) (sym same), subst (λ (n : Meeting). AreShort h (Some c) other n.cost) same short);
+      inr (ap (λ (n : Meeting). n.rank) (sym same), subst (λ (n : Meeting). AreShort bound (Some c) other n.cost) same short);
 }
   where
     given : (m : Meeting) → Some (record { rank = r; cost = sum }) ≡ Some m → record { rank = r; cost = sum } ≡ m
     given m e = cc
 
-pub looked-stays : (h : Hierarchy) (r : ℕ) (c : Cost) (other : Option Cost) (best : Option Meeting) (sum : Cost) → AreShort h (Some c) other sum → (IsBelow sum (cost_of best) → ⊥) → IsLooked h r c other best best
-looked-stays h r c other best sum short never = record {
+pub looked-stays : (bound : Cost) (r : ℕ) (c : Cost) (other : Option Cost) (best : Option Meeting) (sum : Cost) → AreShort bound (Some c) other sum → (IsBelow sum (cost_of best) → ⊥) → IsLooked bound r c other best best
+looked-stays bound r c other best sum short never = record {
   less = no_more-refl (cost_of best);
-  seen = λ d other_sum. subst (λ (e : Cost). HasLimit (cost_of best) e) (one_sum h (Some c) other sum d short other_sum) (limit-given sum (cost_of best) never);
+  seen = λ d other_sum. subst (λ (e : Cost). HasLimit (cost_of best) e) (one_sum bound (Some c) other sum d short other_sum) (limit-given sum (cost_of best) never);
   from = λ m e. inl e;
 }
 
 -- where labels get less, a meeting stays
-pub met-kept : {h : Hierarchy} (old new : List (Mark Label)) {there : ℕ → Option Cost} {m : Meeting} → ((q : ℕ) (c : Cost) → IsAtMost label_cost (mark old q) c → IsAtMost label_cost (mark new q) c) → IsMet h (costs_of old) there m → IsMet h (costs_of new) there m
-met-kept {h} old new {there} {m} kept met =
+pub met-kept : {bound : Cost} (old new : List (Mark Label)) {there : ℕ → Option Cost} {m : Meeting} → ((q : ℕ) (c : Cost) → IsAtMost label_cost (mark old q) c → IsAtMost label_cost (mark new q) c) → IsMet bound (costs_of old) there m → IsMet bound (costs_of new) there m
+met-kept {bound} old new {there} {m} kept met =
     let rise : Cost = met.meets.rise in
     let fall : Cost = met.meets.fall in
     let was = from_cost (label_in (mark old m.rank)) rise met.meets.risen in
@@ -99,12 +98,12 @@ met-kept {h} old new {there} {m} kept met =
     }
 
 -- a sum of two labels is a meeting
-pub met-from : {h : Hierarchy} {up down : ℕ → Option Cost} (m : Meeting) → Meets h up down m.rank m.cost → IsMet h up down m
+pub met-from : {bound : Cost} {up down : ℕ → Option Cost} (m : Meeting) → Meets bound up down m.rank m.cost → IsMet bound up down m
 met-from m meets = record { cost = m.cost; meets = meets; at_most = at_most_refl m.cost; short = meets.short }
 
 -- Both sides have stopped: a node that one of them didn't settle has no lesser sum
 
-module _ (h : Hierarchy) (up down : List (Mark Label)) where
+module _ (bound : Cost) (up down : List (Mark Label)) where
   settled_or_stopped : (marks : List (Mark Label)) (limit : Option Cost) → IsStopped marks limit → (r : ℕ) (a : Cost) → costs_of marks r ≡ Some a → (settled_costs marks r ≡ Some a) ⊎ HasLimit limit a
   settled_or_stopped marks limit stopped r a label =
       let l = from_cost (label_in (mark marks r)) a label in
@@ -116,7 +115,7 @@ module _ (h : Hierarchy) (up down : List (Mark Label)) where
   limit-more : {limit : Option Cost} {c d : Cost} → c ≼ d → HasLimit limit c → HasLimit limit d
   limit-more less has = (has.0, has.1, at_most_trans has.2 less)
 
-  limit-of_meeting : (best : Option Meeting) → IsBestSoFar h up down best → IsStopped up (cost_of best) → IsStopped down (cost_of best) → (r : ℕ) (c : Cost) → Meets h (costs_of up) (costs_of down) r c → HasLimit (cost_of best) c
+  limit-of_meeting : (best : Option Meeting) → IsBestSoFar bound up down best → IsStopped up (cost_of best) → IsStopped down (cost_of best) → (r : ℕ) (c : Cost) → Meets bound (costs_of up) (costs_of down) r c → HasLimit (cost_of best) c
   limit-of_meeting best is up_stopped down_stopped r c m = elim (settled_or_stopped up (cost_of best) up_stopped r m.rise m.risen) [
     | inl risen ↦ elim (settled_or_stopped down (cost_of best) down_stopped r m.fall m.fallen) [
       | inl fallen ↦ is.least r c (record { rise = m.rise; fall = m.fall; risen = risen; fallen = fallen; sum = m.sum; short = m.short })
@@ -131,30 +130,30 @@ module _ (h : Hierarchy) (up down : List (Mark Label)) where
   same_limit : (a b : Cost) → Some a ≡ Some b → b ≡ a
   same_limit a b e = cc
 
-  pub best-stopped : (best : Option Meeting) → IsBestSoFar h up down best → IsStopped up (cost_of best) → IsStopped down (cost_of best) → IsBestMeeting h (costs_of up) (costs_of down) best
+  pub best-stopped : (best : Option Meeting) → IsBestSoFar bound up down best → IsStopped up (cost_of best) → IsStopped down (cost_of best) → IsBestMeeting bound (costs_of up) (costs_of down) best
   best-stopped None is up_stopped down_stopped = λ r d m.
       let limit = limit-of_meeting None is up_stopped down_stopped r d m in
       no_limit limit.0 limit.1
   best-stopped (Some m) is up_stopped down_stopped =
-      let met : IsMet h (costs_of up) (costs_of down) m = is.met m refl in
+      let met : IsMet bound (costs_of up) (costs_of down) m = is.met m refl in
       let back : m.cost ≼ met.cost = least m.rank met.cost met.meets in
       record {
-        meets = subst (λ (c : Cost). Meets h (costs_of up) (costs_of down) m.rank c) (at_most_antisym met.at_most back) met.meets;
+        meets = subst (λ (c : Cost). Meets bound (costs_of up) (costs_of down) m.rank c) (at_most_antisym met.at_most back) met.meets;
         least = least;
       }
     where
-      least : (r : ℕ) (d : Cost) → Meets h (costs_of up) (costs_of down) r d → m.cost ≼ d
+      least : (r : ℕ) (d : Cost) → Meets bound (costs_of up) (costs_of down) r d → m.cost ≼ d
       least r d meets =
           let limit = limit-of_meeting (Some m) is up_stopped down_stopped r d meets in
           subst (λ (c : Cost). c ≼ d) (same_limit m.cost limit.0 limit.1) limit.2
 
 -- what is found is within the bound
-pub looked-short : (h : Hierarchy) (up down : List (Mark Label)) (r : ℕ) (c : Cost) (other : Option Cost) (best found : Option Meeting) → IsBestSoFar h up down best → IsLooked h r c other best found → IsShortLimit h (cost_of found)
-looked-short h up down r c other best None was looked = λ b e. absurd (none_some b e)
+pub looked-short : (bound : Cost) (up down : List (Mark Label)) (r : ℕ) (c : Cost) (other : Option Cost) (best found : Option Meeting) → IsBestSoFar bound up down best → IsLooked bound r c other best found → IsShortLimit bound (cost_of found)
+looked-short bound up down r c other best None was looked = λ b e. absurd (none_some b e)
   where
     none_some : (b : Cost) → None ≡ Some b → ⊥
     none_some b e = cc
-looked-short h up down r c other best (Some m) was looked = λ b e. subst (λ (d : Cost). IsNoLonger d h.bound) (some_some m.cost b e) (elim (looked.from m refl) [
+looked-short bound up down r c other best (Some m) was looked = λ b e. subst (λ (d : Cost). IsNoLonger d bound) (some_some m.cost b e) (elim (looked.from m refl) [
   | inl before ↦ (was.met m before).short
   | inr here ↦ here.1.short
 ])

@@ -27,22 +27,22 @@ use Rattle.ch_query.proofs.Laying.{links_are, step_at, as_many}
 use Rattle.ch_query.proofs.Marking.{by_lengths}
 
 -- no link was followed yet
-pub opened-start : (h : Hierarchy) (side : Side) (r : ℕ) (c : Cost) (marks : List (Mark Label)) → IsOpenedOver h side r c marks marks
-opened-start h side r c marks = record { nodes = refl; count = refl; is = opened-none label_cost (ClimbsTo h side r c) (mark marks) }
+pub opened-start : (h : Hierarchy) (side : Side) (bound : Cost) (r : ℕ) (c : Cost) (marks : List (Mark Label)) → IsOpenedOver h side bound r c marks marks
+opened-start h side bound r c marks = record { nodes = refl; count = refl; is = opened-none label_cost (ClimbsTo h side bound r c) (mark marks) }
 
-pub opened-more : {h : Hierarchy} {side : Side} {r : ℕ} {c : Cost} {old mid new : List (Mark Label)} → IsOpenedOver h side r c old mid → IsOpenedOver h side r c mid new → IsOpenedOver h side r c old new
-opened-more {h} {side} {r} {c} first second = record {
+pub opened-more : {h : Hierarchy} {side : Side} {bound : Cost} {r : ℕ} {c : Cost} {old mid new : List (Mark Label)} → IsOpenedOver h side bound r c old mid → IsOpenedOver h side bound r c mid new → IsOpenedOver h side bound r c old new
+opened-more {h} {side} {bound} {r} {c} first second = record {
   nodes = second.nodes ∙ first.nodes;
   count = second.count ∙ first.count;
-  is = searching.opened-more label_cost (ClimbsTo h side r c) first.is second.is;
+  is = searching.opened-more label_cost (ClimbsTo h side bound r c) first.is second.is;
 }
 
 -- the node of rank q is opened with the label e, to which a link leads
-pub opened-one : (h : Hierarchy) (side : Side) (r : ℕ) (c : Cost) (marks : List (Mark Label)) (q : ℕ) (e : Label) → q < length marks → Improves label_cost e.cost (mark marks q) → ClimbsTo h side r c q e → IsOpenedOver h side r c marks (set marks q (Open e))
-opened-one h side r c marks q e within improves climbs = record {
+pub opened-one : (h : Hierarchy) (side : Side) (bound : Cost) (r : ℕ) (c : Cost) (marks : List (Mark Label)) (q : ℕ) (e : Label) → q < length marks → Improves label_cost e.cost (mark marks q) → ClimbsTo h side bound r c q e → IsOpenedOver h side bound r c marks (set marks q (Open e))
+opened-one h side bound r c marks q e within improves climbs = record {
   nodes = length-set marks q (Open e);
   count = count-open marks q e within (improves-unsettled label_cost (mark marks q) e.cost improves);
-  is = searching.opened-one label_cost (ClimbsTo h side r c) q e climbs improves (put-set marks q (Open e) within);
+  is = searching.opened-one label_cost (ClimbsTo h side bound r c) q e climbs improves (put-set marks q (Open e) within);
 }
 
 -- the step at a place leads on from its foot
@@ -62,23 +62,23 @@ followed-head : (h : Hierarchy) (side : Side) (c : Cost) (marks : List (Mark Lab
 followed-head h side c marks k head sum at is_sum most = subst (λ q. IsAtMost label_cost (mark marks q) (c ⊕ cost_at h k)) at (subst (λ (d : Cost). IsAtMost label_cost (mark marks head) d) is_sum most)
 
 -- since it got the label
-pub followed-put : (h : Hierarchy) (side : Side) (c : Cost) (limit : Option Cost) (marks : List (Mark Label)) (k head : ℕ) (e : Label) → head < length marks → head ≡ head_rank h side k → e.cost ≡ c ⊕ cost_at h k → IsFollowed h side c limit (set marks head (Open e)) k
-followed-put h side c limit marks k head e within at is_sum counts = followed-head h side c (set marks head (Open e)) k head e.cost at is_sum (at_most-from_label label_cost (mark (set marks head (Open e)) head) e e.cost (label_open (mark (set marks head (Open e)) head) e (put-set marks head (Open e) within).here) (at_most_refl e.cost))
+pub followed-put : (h : Hierarchy) (side : Side) (bound c : Cost) (limit : Option Cost) (marks : List (Mark Label)) (k head : ℕ) (e : Label) → head < length marks → head ≡ head_rank h side k → e.cost ≡ c ⊕ cost_at h k → IsFollowed h side bound c limit (set marks head (Open e)) k
+followed-put h side bound c limit marks k head e within at is_sum counts = followed-head h side c (set marks head (Open e)) k head e.cost at is_sum (at_most-from_label label_cost (mark (set marks head (Open e)) head) e e.cost (label_open (mark (set marks head (Open e)) head) e (put-set marks head (Open e) within).here) (at_most_refl e.cost))
 
 -- or had one of no more
-pub followed-kept : (h : Hierarchy) (side : Side) (c : Cost) (limit : Option Cost) (marks : List (Mark Label)) (k head : ℕ) (sum : Cost) → (Improves label_cost sum (mark marks head) → ⊥) → IsSettledAtMost marks head sum → head ≡ head_rank h side k → sum ≡ c ⊕ cost_at h k → IsFollowed h side c limit marks k
-followed-kept h side c limit marks k head sum never above at is_sum counts = followed-head h side c marks k head sum at is_sum (not_improves-at_most label_cost (mark marks head) sum never above)
+pub followed-kept : (h : Hierarchy) (side : Side) (bound c : Cost) (limit : Option Cost) (marks : List (Mark Label)) (k head : ℕ) (sum : Cost) → (Improves label_cost sum (mark marks head) → ⊥) → IsSettledAtMost marks head sum → head ≡ head_rank h side k → sum ≡ c ⊕ cost_at h k → IsFollowed h side bound c limit marks k
+followed-kept h side bound c limit marks k head sum never above at is_sum counts = followed-head h side c marks k head sum at is_sum (not_improves-at_most label_cost (mark marks head) sum never above)
 
 -- what counts below a lesser limit counts below the greater one
-pub counts-more : (h : Hierarchy) {less more : Option Cost} {c : Cost} → IsNoMore less more → CountsBelow h less c → CountsBelow h more c
-counts-more h no_more counts = record {
+pub counts-more : (bound : Cost) {less more : Option Cost} {c : Cost} → IsNoMore less more → CountsBelow bound less c → CountsBelow bound more c
+counts-more bound no_more counts = record {
   short = counts.short;
   below = λ a is. let limit = no_more a is in below_trans_at_most (counts.below limit.0 limit.1) limit.2;
 }
 
--- what is below a limit within the bound, is within the bound too
-pub counts-below : (h : Hierarchy) (b c : Cost) → IsNoLonger b h.bound → (c ≺ b) ↔ CountsBelow h (Some b) c
-counts-below h b c short = (
+-- what is below a limit no longer than the bound is so too
+pub counts-below : (bound b c : Cost) → IsNoLonger b bound → (c ≺ b) ↔ CountsBelow bound (Some b) c
+counts-below bound b c short = (
   λ below. record {
     short = no_longer_at_most (at_most-from_below below) short;
     below = λ a is. subst (λ (d : Cost). c ≺ d) (same b a is) below;
@@ -89,14 +89,14 @@ counts-below h b c short = (
     same : (x y : Cost) → Some x ≡ Some y → x ≡ y
     same x y e = cc
 
-pub counts-short : (h : Hierarchy) (c : Cost) → IsNoLonger c h.bound ↔ CountsBelow h None c
-counts-short h c = (λ short. record { short = short; below = λ a is. absurd (never a is) }, λ counts. counts.short)
+pub counts-short : (bound c : Cost) → IsNoLonger c bound ↔ CountsBelow bound None c
+counts-short bound c = (λ short. record { short = short; below = λ a is. absurd (never a is) }, λ counts. counts.short)
   where
     never : (a : Cost) → None ≡ Some a → ⊥
     never a e = cc
 
 -- no more is settled by opening nodes
-pub latest-more : {h : Hierarchy} {side : Side} {r : ℕ} {c : Cost} {old new : List (Mark Label)} → IsOpenedOver h side r c old new → IsLatest old c r → IsLatest new c r
+pub latest-more : {h : Hierarchy} {side : Side} {bound : Cost} {r : ℕ} {c : Cost} {old new : List (Mark Label)} → IsOpenedOver h side bound r c old new → IsLatest old c r → IsLatest new c r
 latest-more opened latest q d closed = latest q d (opened.is.settled q d closed)
 
 -- Links by their feet
@@ -116,40 +116,40 @@ from-climbs h made side v k v_in climbs foot = record {
 }
 
 -- The links from one place on are followed one by one: those before the next one were.
-pub record IsPassing (h : Hierarchy) (side : Side) (r : ℕ) (c : Cost) (links : List ℕ) (begin next : ℕ) (limit : Option Cost) (old new : List (Mark Label)) : Type 0 where
-  pub opened : IsOpenedOver h side r c old new
-  pub followed : (i : ℕ) → begin ≤ i → i < next → IsFollowed h side c limit new (slice_index links i)
+pub record IsPassing (h : Hierarchy) (side : Side) (bound : Cost) (r : ℕ) (c : Cost) (links : List ℕ) (begin next : ℕ) (limit : Option Cost) (old new : List (Mark Label)) : Type 0 where
+  pub opened : IsOpenedOver h side bound r c old new
+  pub followed : (i : ℕ) → begin ≤ i → i < next → IsFollowed h side bound c limit new (slice_index links i)
 
-pub passing-none : (h : Hierarchy) (side : Side) (r : ℕ) (c : Cost) (links : List ℕ) (begin : ℕ) (limit : Option Cost) (marks : List (Mark Label)) → IsPassing h side r c links begin begin limit marks marks
-passing-none h side r c links begin limit marks = record {
-  opened = opened-start h side r c marks;
+pub passing-none : (h : Hierarchy) (side : Side) (bound : Cost) (r : ℕ) (c : Cost) (links : List ℕ) (begin : ℕ) (limit : Option Cost) (marks : List (Mark Label)) → IsPassing h side bound r c links begin begin limit marks marks
+passing-none h side bound r c links begin limit marks = record {
+  opened = opened-start h side bound r c marks;
   followed = λ i from low. absurd (omega (arith, from, low));
 }
 
 -- one more link was followed
-pub passing-more : {h : Hierarchy} {side : Side} {r : ℕ} {c : Cost} {links : List ℕ} {begin : ℕ} {limit : Option Cost} {old mid new : List (Mark Label)} (next : ℕ) → IsPassing h side r c links begin next limit old mid → IsOpenedOver h side r c mid new → IsFollowed h side c limit new (slice_index links next) → IsPassing h side r c links begin (next + 1) limit old new
-passing-more {h} {side} {r} {c} {links} {limit = limit} {new = new} next is opened done = record {
+pub passing-more : {h : Hierarchy} {side : Side} {bound : Cost} {r : ℕ} {c : Cost} {links : List ℕ} {begin : ℕ} {limit : Option Cost} {old mid new : List (Mark Label)} (next : ℕ) → IsPassing h side bound r c links begin next limit old mid → IsOpenedOver h side bound r c mid new → IsFollowed h side bound c limit new (slice_index links next) → IsPassing h side bound r c links begin (next + 1) limit old new
+passing-more {h} {side} {bound} {r} {c} {links} {limit = limit} {new = new} next is opened done = record {
   opened = opened-more is.opened opened;
   followed = λ i from low. elim (cases_lt i next) [
     | inl before ↦ λ counts. opened.is.kept (head_rank h side (slice_index links i)) (c ⊕ cost_at h (slice_index links i)) (is.followed i from before counts)
     | inr last ↦
         let same : i ≡ next = omega (arith, low, last) in
-        subst (λ j. IsFollowed h side c limit new (slice_index links j)) (sym same) done
+        subst (λ j. IsFollowed h side bound c limit new (slice_index links j)) (sym same) done
   ];
 }
 
 -- what a rank has in the lists of a side
 module _ (h : Hierarchy) (made : IsWellMade h) (side : Side) (first links : List ℕ) (steps : List Step) (laid : IsLaidOut h side first links steps) (r : ℕ) (low : r < length h.ranks) where
   -- all its links were followed
-  pub passed_over : (c : Cost) (next : ℕ) → slice_index first (r + 1) ≤ next → (limit : Option Cost) (old new : List (Mark Label)) → IsPassing h side r c links (slice_index first r) next limit old new → ArePassed h side r c limit new
-  passed_over c next whole limit old new is u d leads counts =
+  pub passed_over : (bound c : Cost) (next : ℕ) → slice_index first (r + 1) ≤ next → (limit : Option Cost) (old new : List (Mark Label)) → IsPassing h side bound r c links (slice_index first r) next limit old new → ArePassed h side bound r c limit new
+  passed_over bound c next whole limit old new is u d leads counts =
       let arc : LinkArc h side r u leads.arc = leads.goes in
       let v = rank_taken h made r low in
       let from : ClimbsFrom h side v.0 arc.link = from-climbs h made side v.0 arc.link v.1 arc.leads.climbs (arc.leads.foot ∙ sym v.2) in
       let among = (links_are h side first links steps laid v.0 r v.1 v.2).each arc.link from in
-      let followed : IsFollowed h side c limit new arc.link = subst (λ j. IsFollowed h side c limit new j) among.3 (is.followed among.0 among.1 (omega (arith, among.2, whole))) in
+      let followed : IsFollowed h side bound c limit new arc.link = subst (λ j. IsFollowed h side bound c limit new j) among.3 (is.followed among.0 among.1 (omega (arith, among.2, whole))) in
       let sum : c ⊕ cost_at h arc.link ≡ d = ap (λ (a : Cost). c ⊕ a) arc.cost ∙ leads.sum in
-      subst (λ q. IsAtMost label_cost (mark new q) d) arc.leads.head (subst (λ (a : Cost). IsAtMost label_cost (mark new (head_rank h side arc.link)) a) sum (followed (subst (λ (a : Cost). CountsBelow h limit a) (sym sum) counts)))
+      subst (λ q. IsAtMost label_cost (mark new q) d) arc.leads.head (subst (λ (a : Cost). IsAtMost label_cost (mark new (head_rank h side arc.link)) a) sum (followed (subst (λ (a : Cost). CountsBelow bound limit a) (sym sum) counts)))
 
   -- one of its links
   from_here : (i : ℕ) → slice_index first r ≤ i → i < slice_index first (r + 1) → Climbs h side (slice_index links i) × (foot_rank h side (slice_index links i) ≡ r)

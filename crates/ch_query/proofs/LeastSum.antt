@@ -3,22 +3,25 @@ use Rattle.std.proofs.Common.{ℕ, ◌≡◌, ◌<◌, List, [], ◌∷◌, ◌+
 use Rattle.std.proofs.lemmas.List.{get_or_default}
 use Rattle.ch_cost.specs.declared.cost.Cost.{Cost}
 use Rattle.ch_cost.specs.Cost.{zero_cost, ◌⊕◌, ◌≼◌, ◌≺◌}
-use Rattle.ch_cost.specs.Cost.Laws.{sum_comm, at_most_trans, at_most_trans_below, below_not_at_most, cases_cost, sum_at_most, no_longer_at_most}
+use Rattle.ch_cost.specs.Cost.Laws.{sum_assoc, sum_comm, at_most_trans, at_most_trans_below, below_not_at_most, cases_cost, sum_at_most, no_longer_at_most}
 use Rattle.ch_graph.specs.declared.link.Link.{Link}
 use Rattle.ch_graph.specs.declared.mark.Mark.{Mark}
 use Rattle.ch_graph.specs.Walk.{Walk, Walk.stay, Walk.go}
-use Rattle.ch_graph.specs.Hierarchy.{Hierarchy, Chain, Chain.nothing, Chain.then, IsWellMade, IsRising, IsFalling, HasRiseFall, rank_of}
+use Rattle.ch_graph.specs.Hierarchy.{Hierarchy, Chain, Chain.nothing, Chain.then, IsWellMade, IsRising, IsFalling, rank_of}
 use Rattle.ch_graph.specs.Marks.{mark, label_in}
-use Rattle.ch_graph.specs.Searching.{IsDownward}
+use Rattle.ch_graph.specs.Searching.{StartedWalk, IsDownward}
 use Rattle.ch_graph.specs.Walk.Laws.{one_arc, join}
 use Rattle.ch_graph.specs.Hierarchy.Chains.{chain-same, chain-join, one_link}
 use Rattle.ch_graph.specs.Searching.Laws.{HasOpen, both_labelled_or_open}
 use Rattle.ch_query.specs.declared.label.Label.{Label}
+use Rattle.ch_query.specs.declared.seed.Seed.{Seed}
 use Rattle.ch_query.specs.declared.side.Side.{Side}
 use Rattle.ch_query.specs.declared.side.Side.TheVariants.{Rise, Fall}
 use Rattle.ch_query.specs.Places.{link_at}
 use Rattle.ch_query.specs.Climb.{foot_of, head_of, head_at}
 use Rattle.ch_query.specs.Labels.{Meets, CountsBelow}
+use Rattle.ch_query.specs.Seeds.{AreSeeds, IsSeedAt, HasWalkBetween, cost_between}
+use Rattle.ch_query.proofs.SeedPlaces.{seed-in}
 use Rattle.ch_query.specs.Marks.{label_cost, costs_of, IsStopped}
 use Rattle.ch_query.specs.Searching.{LinkArc, IsClimbing, StopIsRight}
 use Rattle.ch_query.proofs.Sides.{link-among, foot_in, head_in}
@@ -79,52 +82,77 @@ module _ (h : Hierarchy) (made : IsWellMade h) where
 -- The law of the stop
 
 -- what costs no more than one that counts, counts too
-counts_less : (h : Hierarchy) (best : Option Cost) → IsDownward (CountsBelow h best)
-counts_less h best c d less counts = record {
+counts_less : (bound : Cost) (best : Option Cost) → IsDownward (CountsBelow bound best)
+counts_less bound best c d less counts = record {
   short = no_longer_at_most less counts.short;
   below = λ b is. at_most_trans_below less (counts.below b is);
 }
 
-module _ (h : Hierarchy) (made : IsWellMade h) (s t : ℕ) (s_in : s < length h.ranks) (t_in : t < length h.ranks) (up down : List (Mark Label)) (best : Option Cost) (rises : IsClimbing h Rise s best up) (falls : IsClimbing h Fall t best down) where
+-- two walks, each with a seed's cost before it, cost together what both and the seeds do
+pub both_parts : (p a q b : Cost) → (p ⊕ a) ⊕ (q ⊕ b) ≡ (p ⊕ (a ⊕ b)) ⊕ q
+both_parts p a q b =
+    ap (λ (d : Cost). (p ⊕ a) ⊕ d) (sum_comm q b)
+    ∙ (sym (sum_assoc (p ⊕ a) b q) ∙ ap (λ (d : Cost). d ⊕ q) (sum_assoc p a b))
+
+-- what the walk to a label costs, by its seed and the rest
+seed_parts : {h : Hierarchy} {side : Side} {seeds : List Seed} {r : ℕ} {d c : Cost} (w : StartedWalk (LinkArc h side) (IsSeedAt h seeds) r d) → d ≡ c → c ≡ w.begins.seed.cost ⊕ w.rest
+seed_parts w is = sym is ∙ (sym w.sum ∙ ap (λ (e : Cost). e ⊕ w.rest) (sym w.begins.cost))
+
+module _ (h : Hierarchy) (made : IsWellMade h) (starts ends : List Seed) (begins : AreSeeds h starts) (stops : AreSeeds h ends) (bound : Cost) (up down : List (Mark Label)) (best : Option Cost) (rises : IsClimbing h Rise starts bound best up) (falls : IsClimbing h Fall ends bound best down) where
   -- two labels of a node are the two parts of a rise-fall walk
-  meeting_walk : (r : ℕ) (c : Cost) → Meets h (costs_of up) (costs_of down) r c → HasRiseFall h s t c
+  meeting_walk : (r : ℕ) (c : Cost) → Meets bound (costs_of up) (costs_of down) r c → HasWalkBetween h starts ends bound c
   meeting_walk r c meets =
       let e = from_cost (label_in (mark up r)) meets.rise meets.risen in
       let f = from_cost (label_in (mark down r)) meets.fall meets.fallen in
-      let node = rank_taken h made r (end_in h made (rises.walks r e.0 e.1) (rank_below h made s s_in)) in
-      let rise = walk-rise h made (rises.walks r e.0 e.1) s node.0 s_in node.1 refl node.2 in
-      let fall = walk-fall h made (falls.walks r f.0 f.1) t node.0 t_in node.1 refl node.2 in
+      let w : StartedWalk (LinkArc h Rise) (IsSeedAt h starts) r e.0.cost = rises.walks r e.0 e.1 in
+      let v : StartedWalk (LinkArc h Fall) (IsSeedAt h ends) r f.0.cost = falls.walks r f.0 f.1 in
+      let a : Seed = w.begins.seed in
+      let b : Seed = v.begins.seed in
+      let a_in : a.node < length h.ranks = (seed-in h starts a begins w.begins.among).node_in in
+      let b_in : b.node < length h.ranks = (seed-in h ends b stops v.begins.among).node_in in
+      let low : w.start < length h.ranks = subst (λ q. q < length h.ranks) w.begins.rank (rank_below h made a.node a_in) in
+      let node = rank_taken h made r (end_in h made w.walk low) in
+      let rise = walk-rise h made w.walk a.node node.0 a_in node.1 w.begins.rank node.2 in
+      let fall = walk-fall h made v.walk b.node node.0 b_in node.1 v.begins.rank node.2 in
+      let risen : meets.rise ≡ a.cost ⊕ w.rest = seed_parts w e.2 in
+      let fallen : meets.fall ≡ b.cost ⊕ v.rest = seed_parts v f.2 in
       record {
+        start = a;
+        stop = b;
+        begins = w.begins.among;
+        stops = v.begins.among;
         links = rise.0 ++ fall.0;
+        way = w.rest ⊕ v.rest;
         leads = record {
           rise = rise.0;
           fall = fall.0;
           top = node.0;
-          up = meets.rise;
-          down = meets.fall;
+          up = w.rest;
+          down = v.rest;
           parts = refl;
-          rises = chain-same e.2 rise.1;
-          falls = chain-same f.2 fall.1;
-          sum = meets.sum;
+          rises = rise.1;
+          falls = fall.1;
+          sum = refl;
         };
+        sum = meets.sum ∙ (ap (λ (d : Cost). d ⊕ meets.fall) risen ∙ (ap (λ (d : Cost). (a.cost ⊕ w.rest) ⊕ d) fallen ∙ both_parts a.cost w.rest b.cost v.rest));
         short = meets.short;
       }
 
   module _ (up_stopped : IsStopped up best) (down_stopped : IsStopped down best) where
     -- a walk below the best sum has a node whose two labels cost no more
-    met_below : {c : Cost} → HasRiseFall h s t c → CountsBelow h best c → (r : ℕ) × (d : Cost) × Meets h (costs_of up) (costs_of down) r d × (d ≼ c)
-    met_below {c} walk counts = elim (both_labelled_or_open label_cost (counts_less h best) rises falls (rise-walk h walk.leads.rises) (fall-walk h walk.leads.falls) (subst (λ (d : Cost). CountsBelow h best d) walk.leads.sum counts)) [
+    met_below : {c : Cost} → HasWalkBetween h starts ends bound c → CountsBelow bound best c → (r : ℕ) × (d : Cost) × Meets bound (costs_of up) (costs_of down) r d × (d ≼ c)
+    met_below {c} walk counts = elim (both_labelled_or_open label_cost (counts_less bound best) rises falls risen fallen (subst (λ (d : Cost). CountsBelow bound best d) sum counts)) [
       | inl both ↦
-          let e = has_label (mark up (rank_of h walk.leads.top)) walk.leads.up both.0 in
-          let f = has_label (mark down (rank_of h walk.leads.top)) walk.leads.down both.1 in
-          let less : e.0.cost ⊕ f.0.cost ≼ c = subst (λ (d : Cost). e.0.cost ⊕ f.0.cost ≼ d) (sym walk.leads.sum) (sum_at_most e.2 f.2) in (
-            rank_of h walk.leads.top,
+          let e = has_label (mark up top) rise both.0 in
+          let f = has_label (mark down top) fall both.1 in
+          let less : e.0.cost ⊕ f.0.cost ≼ c = subst (λ (d : Cost). e.0.cost ⊕ f.0.cost ≼ d) (sym sum) (sum_at_most e.2 f.2) in (
+            top,
             e.0.cost ⊕ f.0.cost,
             record {
               rise = e.0.cost;
               fall = f.0.cost;
-              risen = cost_is up (rank_of h walk.leads.top) e.0 e.1;
-              fallen = cost_is down (rank_of h walk.leads.top) f.0 f.1;
+              risen = cost_is up top e.0 e.1;
+              fallen = cost_is down top f.0 f.1;
               sum = refl;
               short = no_longer_at_most less walk.short;
             },
@@ -136,11 +164,43 @@ module _ (h : Hierarchy) (made : IsWellMade h) (s t : ℕ) (s_in : s < length h.
       ]
     ]
       where
+        top : ℕ
+        top = rank_of h walk.leads.top
+
+        rise : Cost
+        rise = walk.start.cost ⊕ walk.leads.up
+
+        fall : Cost
+        fall = walk.stop.cost ⊕ walk.leads.down
+
+        sum : c ≡ (walk.start.cost ⊕ walk.leads.up) ⊕ (walk.stop.cost ⊕ walk.leads.down)
+        sum = walk.sum ∙ (ap (λ (d : Cost). cost_between walk.start d walk.stop) walk.leads.sum ∙ sym (both_parts walk.start.cost walk.leads.up walk.stop.cost walk.leads.down))
+
+        risen : StartedWalk (LinkArc h Rise) (IsSeedAt h starts) (rank_of h walk.leads.top) (walk.start.cost ⊕ walk.leads.up)
+        risen = record {
+          start = rank_of h walk.start.node;
+          first = walk.start.cost;
+          begins = record { seed = walk.start; among = walk.begins; rank = refl; cost = refl };
+          rest = walk.leads.up;
+          walk = rise-walk h walk.leads.rises;
+          sum = refl;
+        }
+
+        fallen : StartedWalk (LinkArc h Fall) (IsSeedAt h ends) (rank_of h walk.leads.top) (walk.stop.cost ⊕ walk.leads.down)
+        fallen = record {
+          start = rank_of h walk.stop.node;
+          first = walk.stop.cost;
+          begins = record { seed = walk.stop; among = walk.stops; rank = refl; cost = refl };
+          rest = walk.leads.down;
+          walk = fall-walk h walk.leads.falls;
+          sum = refl;
+        }
+
         -- but no open node is below the best sum
-        above : (marks : List (Mark Label)) → IsStopped marks best → HasOpen label_cost (mark marks) (walk.leads.up ⊕ walk.leads.down) → ⊥
+        above : (marks : List (Mark Label)) → IsStopped marks best → HasOpen label_cost (mark marks) ((walk.start.cost ⊕ walk.leads.up) ⊕ (walk.stop.cost ⊕ walk.leads.down)) → ⊥
         above marks stopped is =
             let limit = stopped is.node is.label is.opens in
-            below_not_at_most (counts.below limit.0 limit.1) (at_most_trans limit.2 (subst (λ (d : Cost). is.label.cost ≼ d) (sym walk.leads.sum) is.at_most))
+            below_not_at_most (counts.below limit.0 limit.1) (at_most_trans limit.2 (subst (λ (d : Cost). is.label.cost ≼ d) (sym sum) is.at_most))
 
 some_same : (b a : Cost) → Some b ≡ Some a → b ≡ a
 some_same b a is = cc
@@ -149,16 +209,16 @@ some_none : (a : Cost) → None ≡ Some a → ⊥
 some_none a is = cc
 
 pub stop_right : StopIsRight
-stop_right h s t up down None made s_in t_in rises falls up_stopped down_stopped is = λ c walk.
-    let counts : CountsBelow h None c = record { short = walk.short; below = λ b none_is. absurd (some_none b none_is) } in
-    let met = met_below h made s t s_in t_in up down None rises falls up_stopped down_stopped walk counts in
+stop_right h starts ends bound up down None made begins stops rises falls up_stopped down_stopped is = λ c walk.
+    let counts : CountsBelow bound None c = record { short = walk.short; below = λ b none_is. absurd (some_none b none_is) } in
+    let met = met_below h made starts ends begins stops bound up down None rises falls up_stopped down_stopped walk counts in
     is met.1 (met.0, met.2)
-stop_right h s t up down (Some b) made s_in t_in rises falls up_stopped down_stopped is = (
-  meeting_walk h made s t s_in t_in up down (Some b) rises falls is.0.0 b is.0.1,
+stop_right h starts ends bound up down (Some b) made begins stops rises falls up_stopped down_stopped is = (
+  meeting_walk h made starts ends begins stops bound up down (Some b) rises falls is.0.0 b is.0.1,
   λ d walk. elim (cases_cost d b) [
     | inl below ↦
-        let counts : CountsBelow h (Some b) d = record { short = walk.short; below = λ a same. subst (λ (e : Cost). d ≺ e) (some_same b a same) below } in
-        let met = met_below h made s t s_in t_in up down (Some b) rises falls up_stopped down_stopped walk counts in
+        let counts : CountsBelow bound (Some b) d = record { short = walk.short; below = λ a same. subst (λ (e : Cost). d ≺ e) (some_same b a same) below } in
+        let met = met_below h made starts ends begins stops bound up down (Some b) rises falls up_stopped down_stopped walk counts in
         at_most_trans (is.1 met.1 (met.0, met.2)) met.3
     | inr most ↦ most
   ],

@@ -1,3 +1,4 @@
+pub mod SeedPlaces
 pub mod LeastSum
 pub mod Ranks
 pub mod Counts
@@ -12,3 +13,6 @@ pub mod Descents
 pub mod Answering
 pub mod Beginning
 pub mod Between
+pub mod FreeSeeds
+pub mod Pairs
+pub mod Results

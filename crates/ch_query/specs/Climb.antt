@@ -1,10 +1,12 @@
 -- Both sides of a query climb in rank: the one from s along rising links, the other from t against falling ones.
-use Rattle.std.specs.Prelude.{ℕ, ◌≡◌, ◌<◌, List, [], ◌∷◌, length}
+use Rattle.std.specs.Prelude.{ℕ, ◌≡◌, ◌<◌, List, [], ◌∷◌, length, Some, slice_get}
 use Rattle.ch_cost.specs.declared.cost.Cost.{Cost}
-use Rattle.ch_cost.specs.Cost.{zero_cost, ◌⊕◌}
+use Rattle.ch_cost.specs.Cost.{◌⊕◌}
 use Rattle.ch_graph.specs.declared.link.Link.{Link}
 use Rattle.ch_graph.specs.declared.hierarchy.LinkId.{LinkId}
 use Rattle.ch_graph.specs.Hierarchy.{Hierarchy, rank_of}
+use Rattle.ch_query.specs.declared.descent.WayBack.{WayBack}
+use Rattle.ch_query.specs.declared.seed.Seed.{Seed}
 use Rattle.ch_query.specs.declared.side.Side.{Side}
 use Rattle.ch_query.specs.declared.side.Side.TheVariants.{Rise, Fall}
 use Rattle.ch_query.specs.Places.{link_at}
@@ -53,7 +55,13 @@ pub record ClimbsFrom (h : Hierarchy) (side : Side) (v k : ℕ) : Type 0 where
   pub foot : foot_at h side k ≡ v
   pub climbs : rank_of h v < rank_of h (head_at h side k)
 
--- The links at these places lead from a node back down to where a side began, and cost c together.
-pub data Descends (h : Hierarchy) (side : Side) (start : ℕ) : List LinkId → ℕ → Cost → Type 0 where
-  there : Descends h side start [] start zero_cost
-  down : {id : LinkId} {ids : List LinkId} {v : ℕ} {c : Cost} → ClimbsFrom h side v id.0 → Descends h side start ids v c → Descends h side start (id ∷ ids) (head_at h side id.0) (c ⊕ cost_at h id.0)
+-- The links at these places lead from a node back down to a seed where a side began, and cost c together with it.
+pub data Descends (h : Hierarchy) (side : Side) (seed : Seed) : List LinkId → ℕ → Cost → Type 0 where
+  there : Descends h side seed [] seed.node seed.cost
+  down : {id : LinkId} {ids : List LinkId} {v : ℕ} {c : Cost} → ClimbsFrom h side v id.0 → Descends h side seed ids v c → Descends h side seed (id ∷ ids) (head_at h side id.0) (c ⊕ cost_at h id.0)
+
+-- The links lead back from the node x, whose label costs c, to the seed at a place of the list where the side began.
+pub record IsWayBack (h : Hierarchy) (side : Side) (seeds : List Seed) (x : ℕ) (c : Cost) (back : WayBack) : Type 0 where
+  pub seed : Seed
+  pub at : slice_get seeds back.seed ≡ Some seed
+  pub descends : Descends h side seed back.links.items x c

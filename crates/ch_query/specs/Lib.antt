@@ -1,6 +1,7 @@
 pub mod Labels
 pub mod Places
 pub mod LinkNumbers
+pub mod Seeds
 pub mod Climb
 pub mod Upward
 pub mod Counting
@@ -8,4 +9,5 @@ pub mod Marks
 pub mod Front
 pub mod Ready
 pub mod Searching
+pub mod Beginning
 pub mod Meeting

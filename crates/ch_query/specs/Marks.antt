@@ -2,7 +2,7 @@
 -- rank that the climb came from.
 use Rattle.std.specs.Prelude.{ℕ, ◌≡◌, ◌≤◌, List, map, Option, Some, None}
 use Rattle.ch_cost.specs.declared.cost.Cost.{Cost}
-use Rattle.ch_cost.specs.Cost.{◌≼◌, ◌≺◌, length_of, IsInLimit}
+use Rattle.ch_cost.specs.Cost.{◌≼◌, ◌≺◌, length_of, IsSummable}
 use Rattle.ch_graph.specs.declared.mark.Mark.{Mark}
 use Rattle.ch_graph.specs.declared.mark.Mark.TheVariants.{Unseen, Open, Settled}
 use Rattle.ch_graph.specs.Marks.{mark, label_in, HasLabel}
@@ -87,4 +87,4 @@ IsStopped marks limit = (r : ℕ) (e : Label) → mark marks r ≡ Open e → Ha
 
 -- each label costs little enough to be a summand
 abbrev pub FitAll : List (Mark Label) → Type 0
-FitAll marks = (r : ℕ) (e : Label) → HasLabel (mark marks r) e → IsInLimit e.cost
+FitAll marks = (r : ℕ) (e : Label) → HasLabel (mark marks r) e → IsSummable e.cost

@@ -2,8 +2,9 @@
 //!
 //! Stands on `ch_graph`, of which it uses that a hierarchy is well made, and on the laws of costs of `ch_cost`. Its main
 //! type is [`Search`]. The promise of the layer is the contract of [`Search::distance`]: the cost is the value of the
-//! hierarchy for the two nodes, none exactly where it has none, and the links are a rise-fall walk of that cost. A query
-//! has two sides, one from the source along links that rise, and one from the target against links that fall. Both climb in
+//! hierarchy for the two nodes, none exactly where it has none, and the links are a rise-fall walk of that cost. It is the
+//! case of one start and one end of [`Search::between`], which takes several, each with a cost of its own. A query
+//! has two sides, one from the starts along links that rise, and one from the ends against links that fall. Both climb in
 //! rank, so one program serves them: [`upward::UpwardSteps`] are the links that a side climbs, by the rank of their feet,
 //! and [`layout::Layout`] has those of both; a [`frontier::Frontier`] holds what a side knows of the nodes, and settles the
 //! first open one, by length and rank; both are a [`half::Half`] of the query. [`turn::turn`] looks whether the sides meet
@@ -34,9 +35,11 @@ mod meet;
 mod meeting;
 mod place;
 mod search;
+mod seed;
 mod side;
 mod turn;
 mod upward;
 
 pub use laws::labels_are_right;
-pub use search::{Found, Search};
+pub use search::{Found, FoundBetween, Search};
+pub use seed::Seed;

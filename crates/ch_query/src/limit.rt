@@ -4,7 +4,6 @@ ghost use Rattle.ch_query.specs.Labels.{IsShortLimit, CountsBelow};
 ghost use Rattle.ch_query.specs.Marks.{IsBelow, IsUpTo};
 
 use ch_cost::Cost;
-use ch_graph::Hierarchy;
 
 /// Whether a cost is below a limit, if there is one.
 pub fn is_below(cost: Cost, limit: Option<Cost>) -> bool
@@ -26,20 +25,20 @@ pub fn is_up_to(length: u64, limit: Option<Cost>) -> bool
     }
 }
 
-/// Whether the length of a cost is within the bound of a hierarchy: no longer one is kept.
+/// Whether a cost is no longer than the bound of a query: no longer one is kept.
 pub fn is_short(cost: Cost, bound: Cost) -> bool
     ensures { IsTrue result ↔ IsNoLonger cost bound }
 {
     cost.is_no_longer(bound)
 }
 
-/// Whether a sum counts: it is below the limit, or where there is none, its length is within the hierarchy's bound.
-pub fn counts(hierarchy: &Hierarchy, sum: Cost, limit: Option<Cost>) -> bool
-    requires { IsShortLimit hierarchy.now limit }
-    ensures { IsTrue result ↔ CountsBelow hierarchy.now limit sum }
+/// Whether a sum counts: it is below the limit, or where there is none, no longer than the bound.
+pub fn counts(sum: Cost, limit: Option<Cost>, bound: Cost) -> bool
+    requires { IsShortLimit bound limit }
+    ensures { IsTrue result ↔ CountsBelow bound limit sum }
 {
     match limit {
         Some(limit) => sum.is_below(limit),
-        None => is_short(sum, hierarchy.bound()),
+        None => is_short(sum, bound),
     }
 }

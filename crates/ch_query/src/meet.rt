@@ -1,9 +1,10 @@
-ghost use Rattle.std.specs.Prelude.{◌≡◌, ◌<◌, length, replicate, slice_set, None, IfOk, OnOk};
-ghost use Rattle.ch_cost.specs.Cost.{zero_cost};
+ghost use Rattle.std.specs.Prelude.{◌≡◌, ◌<◌, length, IfOk, OnOk};
+ghost use Rattle.ch_cost.specs.Cost.{IsSummable};
 ghost use Rattle.ch_graph.specs.Hierarchy.{IsWellMade, rank_of};
-ghost use Rattle.ch_graph.specs.declared.mark.Mark.TheVariants.{Unseen, Open};
 ghost use Rattle.ch_query.specs.declared.side.Side.TheVariants.{Rise, Fall};
 ghost use Rattle.ch_query.specs.Ready.{IsReady};
+ghost use Rattle.ch_query.specs.Seeds.{IsSeed, AreSeeds};
+ghost use Rattle.ch_query.specs.Beginning.{NoneSettled, IsPlanted, IsBegun};
 ghost use Rattle.ch_query.specs.Marks.{costs_of, IsStopped};
 ghost use Rattle.ch_query.specs.Searching.{IsSearching, IsClimbing};
 ghost use Rattle.ch_query.specs.Meeting.{IsBestMeeting, cost_of};
@@ -11,52 +12,48 @@ ghost use Rattle.ch_query.specs.Meeting.{IsBestMeeting, cost_of};
 use crate::frontier::Frontier;
 use crate::half::Half;
 use crate::label::Label;
+use crate::limit::is_short;
 use crate::meeting::Meeting;
-use crate::side::{Climb, Side};
+use crate::seed::Seed;
+use crate::side::Side;
 use crate::turn::turn;
 use ch_cost::Cost;
 use ch_graph::Hierarchy;
 use std::alloc::AllocError;
 
-/// Searches from the source along links that rise and from the target against links that fall, in turn, until each
-/// side has stopped. Answers where they meet at the least cost.
+/// Searches anew from the starts along links that rise and from the ends against links that fall, in turn, until each
+/// side has stopped. Returns where they meet at the least cost, of those that are no longer than the bound.
 pub fn meet(
     hierarchy: &Hierarchy,
-    source: u32,
-    target: u32,
+    starts: &[Seed],
+    ends: &[Seed],
+    bound: Cost,
     rising: &mut Half,
     falling: &mut Half,
 ) -> Result<Option<Meeting>, AllocError>
     requires ready { IsReady hierarchy.now rising.old falling.old }
-    requires up { rising.old.frontier ≡ replicate (length hierarchy.now.ranks) Unseen }
-    requires down { falling.old.frontier ≡ replicate (length hierarchy.now.ranks) Unseen }
-    requires source_in { source < length hierarchy.now.ranks }
-    requires target_in { target < length hierarchy.now.ranks }
+    requires starts { AreSeeds hierarchy.now starts.now }
+    requires ends { AreSeeds hierarchy.now ends.now }
+    requires bound { IsSummable bound }
     ensures ready { IsReady hierarchy.now rising.new falling.new }
-    ensures rises { OnOk result (IsSearching hierarchy.now Rise source rising.new.frontier) }
-    ensures falls { OnOk result (IsSearching hierarchy.now Fall target falling.new.frontier) }
-    ensures up_climbing { IfOk result (λ best. IsClimbing hierarchy.now Rise source (cost_of best) rising.new.frontier) }
-    ensures down_climbing { IfOk result (λ best. IsClimbing hierarchy.now Fall target (cost_of best) falling.new.frontier) }
-    ensures best { IfOk result (λ best. IsBestMeeting hierarchy.now (costs_of rising.new.frontier) (costs_of falling.new.frontier) best) }
+    ensures rises { OnOk result (IsSearching hierarchy.now Rise starts.now bound rising.new.frontier) }
+    ensures falls { OnOk result (IsSearching hierarchy.now Fall ends.now bound falling.new.frontier) }
+    ensures up_climbing { IfOk result (λ best. IsClimbing hierarchy.now Rise starts.now bound (cost_of best) rising.new.frontier) }
+    ensures down_climbing { IfOk result (λ best. IsClimbing hierarchy.now Fall ends.now bound (cost_of best) falling.new.frontier) }
+    ensures best { IfOk result (λ best. IsBestMeeting bound (costs_of rising.new.frontier) (costs_of falling.new.frontier) best) }
     ensures up_stopped { IfOk result (λ best. IsStopped rising.new.frontier (cost_of best)) }
     ensures down_stopped { IfOk result (λ best. IsStopped falling.new.frontier (cost_of best)) }
 {
-    let rise = Climb {
-        side: Side::Rise,
-        start: source,
-    };
-    let fall = Climb {
-        side: Side::Fall,
-        start: target,
-    };
-    begin(hierarchy, rise, &mut rising.frontier)?;
-    begin(hierarchy, fall, &mut falling.frontier)?;
+    begin(hierarchy, starts, bound, &mut rising.frontier)?;
+    begin(hierarchy, ends, bound, &mut falling.frontier)?;
     let mut best = None;
     'turns: loop {
         let rose = turn(
             hierarchy,
             &rising.steps,
-            rise,
+            Side::Rise,
+            starts,
+            bound,
             &mut rising.frontier,
             &falling.frontier,
             &mut best,
@@ -64,7 +61,9 @@ pub fn meet(
         let fell = turn(
             hierarchy,
             &falling.steps,
-            fall,
+            Side::Fall,
+            ends,
+            bound,
             &mut falling.frontier,
             &rising.frontier,
             &mut best,
@@ -76,18 +75,48 @@ pub fn meet(
     }
 }
 
-/// A side begins: its start is labelled, at no cost.
-fn begin(hierarchy: &Hierarchy, climb: Climb, frontier: &mut Frontier) -> Result<(), AllocError>
+/// A side begins: it forgets what it saw, and each of its seeds that is short gets a label.
+fn begin(
+    hierarchy: &Hierarchy,
+    seeds: &[Seed],
+    bound: Cost,
+    frontier: &mut Frontier,
+) -> Result<(), AllocError>
     requires made { IsWellMade hierarchy.now }
-    requires start_in { climb.start < length hierarchy.now.ranks }
-    requires unseen { frontier.old ≡ replicate (length hierarchy.now.ranks) Unseen }
+    requires seeds { AreSeeds hierarchy.now seeds.now }
+    requires nodes { length frontier.old ≡ length hierarchy.now.ranks }
     ensures nodes { length frontier.new ≡ length frontier.old }
-    ensures begun { OnOk result (frontier.new ≡ slice_set frontier.old (rank_of hierarchy.now climb.start) (Open (record { cost = zero_cost; foot = rank_of hierarchy.now climb.start }))) }
+    ensures begun { OnOk result (IsBegun hierarchy.now seeds.now bound (length seeds.now) frontier.new) }
 {
-    let rank = hierarchy.rank(climb.start);
-    let label = Label {
-        cost: Cost::ZERO,
-        foot: rank,
-    };
-    frontier.open(rank, label)
+    frontier.clear();
+    'seeds: for at in 0..seeds.len() {
+        plant(hierarchy, seeds[at], bound, frontier)?;
+    }
+    Ok(())
+}
+
+/// Opens the node of a seed with what the seed costs, if that is short and less than what is known of the node.
+fn plant(
+    hierarchy: &Hierarchy,
+    seed: Seed,
+    bound: Cost,
+    frontier: &mut Frontier,
+) -> Result<(), AllocError>
+    requires made { IsWellMade hierarchy.now }
+    requires seed { IsSeed hierarchy.now seed }
+    requires nodes { length frontier.old ≡ length hierarchy.now.ranks }
+    requires none { NoneSettled frontier.old }
+    ensures nodes { length frontier.new ≡ length frontier.old }
+    ensures planted { OnOk result (IsPlanted bound (rank_of hierarchy.now seed.node) seed.cost frontier.old frontier.new) }
+{
+    let rank = hierarchy.rank(seed.node);
+    let cost = seed.cost;
+    if !is_short(cost, bound) {
+        return Ok(());
+    }
+    if !frontier.is_improved_by(rank, cost) {
+        return Ok(());
+    }
+    frontier.open(rank, Label { cost, foot: rank })?;
+    Ok(())
 }

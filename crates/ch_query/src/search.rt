@@ -1,5 +1,7 @@
-ghost use Rattle.std.specs.Prelude.{◌≡◌, ◌<◌, length, option_map, IfOk, IfSome};
-ghost use Rattle.ch_graph.specs.Hierarchy.{IsValue};
+ghost use Rattle.std.specs.Prelude.{◌≡◌, ◌<◌, length, option_map, Some, IfOk, IfSome};
+ghost use Rattle.ch_cost.specs.Cost.{zero_cost, IsSummable};
+ghost use Rattle.ch_graph.specs.Graph as graphs;
+ghost use Rattle.ch_graph.specs.Hierarchy.{IsRight, IsValue};
 ghost use Rattle.ch_graph.specs.Unfolding.{Joined};
 ghost use Rattle.ch_query.specs.declared.side.Side.TheVariants.{Rise, Fall};
 ghost use Rattle.ch_query.specs.Labels.{Meets};
@@ -7,14 +9,16 @@ ghost use Rattle.ch_query.specs.Marks.{costs_of};
 ghost use Rattle.ch_query.specs.Searching.{IsSearching};
 ghost use Rattle.ch_query.specs.Places.{IsRiseFallAt};
 ghost use Rattle.ch_query.specs.Ready.{IsReady};
+ghost use Rattle.ch_query.specs.Seeds.{AreSeeds, IsValueBetween, IsWalkBetween, IsLeastWalkBetween, IsDistanceBetween, longest};
 
-use crate::descent::descent;
+use crate::descent::{WayBack, descent};
 use crate::frontier::Frontier;
 use crate::half::Half;
 use crate::layout::Layout;
 use crate::meet::meet;
-use crate::meeting::Meeting;
-use crate::side::{Climb, Side};
+use crate::meeting::{Meeting, cost_of};
+use crate::seed::Seed;
+use crate::side::Side;
 use ch_cost::Cost;
 use ch_graph::{Hierarchy, LinkId, rise_fall_joins};
 use std::alloc::{AllocError, Global};
@@ -25,6 +29,20 @@ use std::marker::Model;
 pub struct Found {
     /// What the links cost together.
     pub cost: Cost,
+    /// The places of the links in the hierarchy, in the order of the walk: first those that rise, then those
+    /// that fall.
+    pub links: Vec<LinkId>,
+}
+
+/// A least walk of links from one of several starts to one of several ends.
+#[derive(Drop)]
+pub struct FoundBetween {
+    /// What the start, the links and the end cost together.
+    pub cost: Cost,
+    /// The place of the start in the list of starts.
+    pub start: usize,
+    /// The place of the end in the list of ends.
+    pub end: usize,
     /// The places of the links in the hierarchy, in the order of the walk: first those that rise, then those
     /// that fall.
     pub links: Vec<LinkId>,
@@ -108,67 +126,193 @@ impl<'a> Search<'a> {
         ensures joined { IfOk result (λ found. IfSome found (λ f. Joined self.old source f.links.items)) }
         ensures kept { self.new ≡ self.old }
     {
-        let alloc = *self.rising.steps.steps.allocator();
-        let hierarchy = self.hierarchy;
-        self.rising.frontier.clear();
-        self.falling.frontier.clear();
-        let best = meet(
-            hierarchy,
-            source,
-            target,
+        let start = [free(source)];
+        let end = [free(target)];
+        let bound = self.hierarchy.bound();
+        let found = least_walk(
+            self.hierarchy,
+            &start,
+            &end,
+            bound,
             &mut self.rising,
             &mut self.falling,
         )?;
-        let Some(meeting) = best else {
+        let Some(FoundBetween { cost, links, .. }) = found else {
             return Ok(None);
         };
-        let found = walk_over(
-            alloc,
-            hierarchy,
-            source,
-            target,
-            &self.rising,
-            &self.falling,
-            meeting,
-        )?;
-        Ok(Some(found))
+        Ok(Some(Found { cost, links }))
     }
+
+    /// What the walk of [`Search::distance`] costs, without the walk: none where there is none.
+    ///
+    /// It costs what `distance` costs but for the links, which aren't looked for.
+    pub fn cost(&mut self, source: u32, target: u32) -> Result<Option<Cost>, AllocError>
+        requires source_in { source < length self.old.ranks }
+        requires target_in { target < length self.old.ranks }
+        ensures value { IfOk result (IsValue self.old source target) }
+        ensures kept { self.new ≡ self.old }
+    {
+        let start = [free(source)];
+        let end = [free(target)];
+        let bound = self.hierarchy.bound();
+        least_cost(
+            self.hierarchy,
+            &start,
+            &end,
+            bound,
+            &mut self.rising,
+            &mut self.falling,
+        )
+    }
+
+    /// The least rise-fall walk from one of the starts to one of the ends, by what start, walk and end cost together, and
+    /// the places of these two in their lists. None where no walk leads from a start to an end, as where a list is empty.
+    ///
+    /// In a graph that the hierarchy is right for it is the least over all pairs of a start and an end of the distance
+    /// from the one to the other with what both cost (`exact`), and the links are a least walk of their pair (`walk`). A
+    /// node may be in a list more than once. Where several pairs cost the least, any of them may be found.
+    ///
+    /// Each list has nodes from 0, and costs of at most 2^57 in length and 2^25 arcs. Sums are cut off at 2^62, which no
+    /// walk of a graph comes to. It costs what [`Search::distance`] costs, and a look at each start and at each end more.
+    ///
+    /// Between two places inside of arcs, the starts are the heads of the first place's arcs and the ends the tails of the
+    /// other's, each with the cost of the part of the arc. A way within one arc passes no node, and isn't found here.
+    pub fn between(
+        &mut self,
+        starts: &[Seed],
+        ends: &[Seed],
+    ) -> Result<Option<FoundBetween>, AllocError>
+        requires starts { AreSeeds self.old starts.now }
+        requires ends { AreSeeds self.old ends.now }
+        ensures exact { IfOk result (λ found. (g : graphs.Graph) → IsRight g self.old → IsDistanceBetween g starts.now ends.now (option_map (λ f. f.cost) found)) }
+        ensures value { IfOk result (λ found. IsValueBetween self.old starts.now ends.now longest (option_map (λ f. f.cost) found)) }
+        ensures walk { IfOk result (λ found. IfSome found (λ f. IsLeastWalkBetween self.old starts.now ends.now f.start f.end f.links.items f.cost)) }
+        ensures kept { self.new ≡ self.old }
+    {
+        let limit = Cost::of_walk(LONGEST, 0);
+        least_walk(
+            self.hierarchy,
+            starts,
+            ends,
+            limit,
+            &mut self.rising,
+            &mut self.falling,
+        )
+    }
+
+    /// What start, walk and end of [`Search::between`] cost together, without the walk: none where there is none.
+    pub fn cost_between(
+        &mut self,
+        starts: &[Seed],
+        ends: &[Seed],
+    ) -> Result<Option<Cost>, AllocError>
+        requires starts { AreSeeds self.old starts.now }
+        requires ends { AreSeeds self.old ends.now }
+        ensures exact { IfOk result (λ found. (g : graphs.Graph) → IsRight g self.old → IsDistanceBetween g starts.now ends.now found) }
+        ensures value { IfOk result (IsValueBetween self.old starts.now ends.now longest) }
+        ensures kept { self.new ≡ self.old }
+    {
+        let most = Cost::of_walk(LONGEST, 0);
+        least_cost(
+            self.hierarchy,
+            starts,
+            ends,
+            most,
+            &mut self.rising,
+            &mut self.falling,
+        )
+    }
+}
+
+/// The greatest length that a start, a walk and an end may have together.
+const LONGEST: u64 = 1 << 62;
+
+/// A node as a start or an end that costs nothing.
+fn free(node: u32) -> Seed
+    ensures { result ≡ record { node = node; cost = zero_cost } }
+{
+    Seed {
+        node,
+        cost: Cost::ZERO,
+    }
+}
+
+/// What the least walk from a start to an end costs with both, if one is no longer than the bound.
+fn least_cost(
+    hierarchy: &Hierarchy,
+    starts: &[Seed],
+    ends: &[Seed],
+    bound: Cost,
+    rising: &mut Half,
+    falling: &mut Half,
+) -> Result<Option<Cost>, AllocError>
+    requires ready { IsReady hierarchy.now rising.old falling.old }
+    requires starts { AreSeeds hierarchy.now starts.now }
+    requires ends { AreSeeds hierarchy.now ends.now }
+    requires bound { IsSummable bound }
+    ensures ready { IsReady hierarchy.now rising.new falling.new }
+    ensures value { IfOk result (IsValueBetween hierarchy.now starts.now ends.now bound) }
+{
+    let best = meet(hierarchy, starts, ends, bound, rising, falling)?;
+    Ok(cost_of(best))
+}
+
+/// The least walk from a start to an end, if one is no longer than the bound with both.
+fn least_walk(
+    hierarchy: &Hierarchy,
+    starts: &[Seed],
+    ends: &[Seed],
+    bound: Cost,
+    rising: &mut Half,
+    falling: &mut Half,
+) -> Result<Option<FoundBetween>, AllocError>
+    requires ready { IsReady hierarchy.now rising.old falling.old }
+    requires starts { AreSeeds hierarchy.now starts.now }
+    requires ends { AreSeeds hierarchy.now ends.now }
+    requires bound { IsSummable bound }
+    ensures ready { IsReady hierarchy.now rising.new falling.new }
+    ensures value { IfOk result (λ found. IsValueBetween hierarchy.now starts.now ends.now bound (option_map (λ f. f.cost) found)) }
+    ensures walk { IfOk result (λ found. IfSome found (λ f. IsWalkBetween hierarchy.now starts.now ends.now f.start f.end f.links.items f.cost)) }
+{
+    let best = meet(hierarchy, starts, ends, bound, rising, falling)?;
+    let Some(meeting) = best else {
+        return Ok(None);
+    };
+    let found = walk_over(hierarchy, starts, ends, bound, rising, falling, meeting)?;
+    Ok(Some(found))
 }
 
 /// The walk up to a node where the sides meet, and down from it.
 fn walk_over(
-    alloc: Global,
     hierarchy: &Hierarchy,
-    source: u32,
-    target: u32,
+    starts: &[Seed],
+    ends: &[Seed],
+    bound: Cost,
     rising: &Half,
     falling: &Half,
     meeting: Meeting,
-) -> Result<Found, AllocError>
+) -> Result<FoundBetween, AllocError>
     requires ready { IsReady hierarchy.now rising.now falling.now }
-    requires source_in { source < length hierarchy.now.ranks }
-    requires target_in { target < length hierarchy.now.ranks }
-    requires rises { IsSearching hierarchy.now Rise source rising.now.frontier }
-    requires falls { IsSearching hierarchy.now Fall target falling.now.frontier }
-    requires meets { Meets hierarchy.now (costs_of rising.now.frontier) (costs_of falling.now.frontier) meeting.rank meeting.cost }
+    requires starts { AreSeeds hierarchy.now starts.now }
+    requires ends { AreSeeds hierarchy.now ends.now }
+    requires rises { IsSearching hierarchy.now Rise starts.now bound rising.now.frontier }
+    requires falls { IsSearching hierarchy.now Fall ends.now bound falling.now.frontier }
+    requires meets { Meets bound (costs_of rising.now.frontier) (costs_of falling.now.frontier) meeting.rank meeting.cost }
     ensures cost { IfOk result (λ f. f.cost ≡ meeting.cost) }
-    ensures walk { IfOk result (λ f. IsRiseFallAt hierarchy.now f.links.items source target meeting.cost) }
-    ensures joined { IfOk result (λ f. Joined hierarchy.now source f.links.items) }
+    ensures walk { IfOk result (λ f. IsWalkBetween hierarchy.now starts.now ends.now f.start f.end f.links.items meeting.cost) }
 {
     rise_fall_joins();
-    let rise = Climb {
-        side: Side::Rise,
-        start: source,
-    };
-    let fall = Climb {
-        side: Side::Fall,
-        start: target,
-    };
-    let mut links = descent(
+    let alloc = *rising.steps.steps.allocator();
+    let WayBack {
+        mut links,
+        seed: start,
+    } = descent(
         alloc,
         hierarchy,
         &rising.steps,
-        rise,
+        Side::Rise,
+        starts,
+        bound,
         &rising.frontier,
         meeting.rank,
     )?;
@@ -177,13 +321,17 @@ fn walk_over(
         alloc,
         hierarchy,
         &falling.steps,
-        fall,
+        Side::Fall,
+        ends,
+        bound,
         &falling.frontier,
         meeting.rank,
     )?;
-    links.extend_from_slice(&fallen)?;
-    Ok(Found {
+    links.extend_from_slice(&fallen.links)?;
+    Ok(FoundBetween {
         cost: meeting.cost,
+        start,
+        end: fallen.seed,
         links,
     })
 }

@@ -33,12 +33,3 @@ impl Side {
         }
     }
 }
-
-/// A side of a query, and where it begins.
-#[derive(Clone, Copy)]
-pub struct Climb {
-    /// The side.
-    pub side: Side,
-    /// The node where it begins.
-    pub start: u32,
-}

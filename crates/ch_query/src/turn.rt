@@ -1,5 +1,5 @@
-ghost use Rattle.std.specs.Prelude.{◌≡◌, ◌<◌, length, slice_index, IfOk, OnOk};
-ghost use Rattle.ch_cost.specs.Cost.{IsNoLonger, IsOfWalks};
+ghost use Rattle.std.specs.Prelude.{◌≡◌, ◌+◌, ◌<◌, length, slice_index, IfOk, OnOk};
+ghost use Rattle.ch_cost.specs.Cost.{IsNoLonger, IsSummable, IsOfWalks};
 ghost use Rattle.ch_graph.specs.Hierarchy.{IsWellMade};
 ghost use Rattle.ch_query.specs.Labels.{IsShortLimit};
 ghost use Rattle.ch_query.specs.Climb.{foot_rank};
@@ -12,7 +12,8 @@ use crate::frontier::Frontier;
 use crate::label::Label;
 use crate::limit::counts;
 use crate::meeting::{Meeting, cost_of, look_at};
-use crate::side::{Climb, Side};
+use crate::seed::Seed;
+use crate::side::Side;
 use crate::upward::{UpwardSteps, step_cost};
 use ch_cost::Cost;
 use ch_graph::Hierarchy;
@@ -23,23 +24,26 @@ use std::alloc::AllocError;
 pub fn turn(
     hierarchy: &Hierarchy,
     upward: &UpwardSteps,
-    climb: Climb,
+    side: Side,
+    seeds: &[Seed],
+    bound: Cost,
     here: &mut Frontier,
     there: &Frontier,
     best: &mut Option<Meeting>,
 ) -> Result<bool, AllocError>
     requires made { IsWellMade hierarchy.now }
-    requires laid { AreStepsOf hierarchy.now climb.side upward.now }
-    requires searching { IsSearching hierarchy.now climb.side climb.start here.old }
-    requires climbing { IsClimbing hierarchy.now climb.side climb.start (cost_of best.old) here.old }
+    requires laid { AreStepsOf hierarchy.now side upward.now }
+    requires bound { IsSummable bound }
+    requires searching { IsSearching hierarchy.now side seeds.now bound here.old }
+    requires climbing { IsClimbing hierarchy.now side seeds.now bound (cost_of best.old) here.old }
     requires there_nodes { length there.now ≡ length hierarchy.now.ranks }
     requires there_fits { FitAll there.now }
-    requires best { IsBestSoFar hierarchy.now here.old there.now best.old }
+    requires best { IsBestSoFar bound here.old there.now best.old }
     ensures nodes { length here.new ≡ length here.old }
-    ensures searching { OnOk result (IsSearching hierarchy.now climb.side climb.start here.new) }
-    ensures climbing { OnOk result (IsClimbing hierarchy.now climb.side climb.start (cost_of best.new) here.new) }
+    ensures searching { OnOk result (IsSearching hierarchy.now side seeds.now bound here.new) }
+    ensures climbing { OnOk result (IsClimbing hierarchy.now side seeds.now bound (cost_of best.new) here.new) }
     ensures less { OnOk result (IsNoMore (cost_of best.new) (cost_of best.old)) }
-    ensures best { OnOk result (IsBestSoFar hierarchy.now here.new there.now best.new) }
+    ensures best { OnOk result (IsBestSoFar bound here.new there.now best.new) }
     ensures turned { IfOk result (λ goes_on. IsTurned goes_on here.old here.new (cost_of best.old) (cost_of best.new)) }
 {
     let Some(reached) = here.settle_next(cost_of(*best)) else {
@@ -47,10 +51,10 @@ pub fn turn(
     };
     let rank = reached.rank;
     let cost = reached.label.cost;
-    let found = look_at(hierarchy, rank, cost, there.cost(rank), *best);
+    let found = look_at(rank, cost, there.cost(rank), *best, bound);
     *best = found;
     let limit = cost_of(found);
-    pass_over(hierarchy, upward, climb.side, rank, cost, limit, here)?;
+    pass_over(hierarchy, upward, side, rank, cost, limit, bound, here)?;
     Ok(true)
 }
 
@@ -62,6 +66,7 @@ fn pass_over(
     rank: u32,
     cost: Cost,
     limit: Option<Cost>,
+    bound: Cost,
     here: &mut Frontier,
 ) -> Result<(), AllocError>
     requires made { IsWellMade hierarchy.now }
@@ -69,17 +74,20 @@ fn pass_over(
     requires laid { AreStepsOf hierarchy.now side upward.now }
     requires here_nodes { length here.old ≡ length hierarchy.now.ranks }
     requires latest { IsLatest here.old cost rank }
-    requires fits { IsOfWalks rank cost }
-    requires short { IsNoLonger cost hierarchy.now.bound }
-    requires limit { IsShortLimit hierarchy.now limit }
+    requires fits { IsOfWalks (rank + 1) cost }
+    requires bound { IsSummable bound }
+    requires short { IsNoLonger cost bound }
+    requires limit { IsShortLimit bound limit }
     ensures nodes { length here.new ≡ length here.old }
-    ensures opened { OnOk result (IsOpenedOver hierarchy.now side rank cost here.old here.new) }
-    ensures passed { OnOk result (ArePassed hierarchy.now side rank cost limit here.new) }
+    ensures opened { OnOk result (IsOpenedOver hierarchy.now side bound rank cost here.old here.new) }
+    ensures passed { OnOk result (ArePassed hierarchy.now side bound rank cost limit here.new) }
 {
     let begin = upward.first.get(rank as usize);
     let end = upward.first.get(rank as usize + 1);
     for place in begin..end {
-        follow(hierarchy, upward, side, rank, place, cost, limit, here)?;
+        follow(
+            hierarchy, upward, side, rank, place, cost, limit, bound, here,
+        )?;
     }
     Ok(())
 }
@@ -94,6 +102,7 @@ fn follow(
     place: usize,
     cost: Cost,
     limit: Option<Cost>,
+    bound: Cost,
     here: &mut Frontier,
 ) -> Result<(), AllocError>
     requires made { IsWellMade hierarchy.now }
@@ -101,19 +110,20 @@ fn follow(
     requires step { IsStepAt hierarchy.now side upward.now.links.items upward.now.steps.items place }
     requires here_nodes { length here.old ≡ length hierarchy.now.ranks }
     requires latest { IsLatest here.old cost rank }
-    requires fits { IsOfWalks rank cost }
-    requires short { IsNoLonger cost hierarchy.now.bound }
-    requires limit { IsShortLimit hierarchy.now limit }
+    requires fits { IsOfWalks (rank + 1) cost }
+    requires bound { IsSummable bound }
+    requires short { IsNoLonger cost bound }
+    requires limit { IsShortLimit bound limit }
     ensures nodes { length here.new ≡ length here.old }
-    ensures opened { OnOk result (IsOpenedOver hierarchy.now side rank cost here.old here.new) }
-    ensures followed { OnOk result (IsFollowed hierarchy.now side cost limit here.new (slice_index upward.now.links.items place)) }
+    ensures opened { OnOk result (IsOpenedOver hierarchy.now side bound rank cost here.old here.new) }
+    ensures followed { OnOk result (IsFollowed hierarchy.now side bound cost limit here.new (slice_index upward.now.links.items place)) }
 {
     let step = upward.steps[place];
-    let sum = cost.plus(step_cost(hierarchy, upward, place));
+    let sum = cost.plus_wide(step_cost(hierarchy, upward, place));
     if !here.is_improved_by(step.head, sum) {
         return Ok(());
     }
-    if !counts(hierarchy, sum, limit) {
+    if !counts(sum, limit, bound) {
         return Ok(());
     }
     let label = Label {

@@ -68,10 +68,6 @@ here old new x v words nodes is count wide h =
     let less : x < length old = omega (arith, count, wide, h) in
     ap (λ (l : List ℕ). get_or l x 0) is ∙ get_or-set_same old x v 0 less
 
--- a front that rises in one place is nowhere below
-pub rises_to : (old new : List ℕ) (x v : ℕ) → new ≡ set old x v → get_or old x 0 ≤ v → IsBelow old new
-rises_to old new x v is h j = subst (λ (l : List ℕ). get_or old j 0 ≤ get_or l j 0) (sym is) (below_set old x v j h)
-
 -- a front joined with the words, which it is nowhere above
 pub caught_up : (old kept part words current new : List ℕ) (x : ℕ) → kept ≡ old → part ≡ old → current ≡ words → new ≡ greater kept current → IsBelow part words → get_or new x 0 ≡ get_or words x 0
 caught_up old kept part words current new x same parted now joined below =

@@ -10,7 +10,7 @@ use Rattle.ch_overlay.specs.Source.{IsBound}
 use Rattle.ch_rowbook.specs.declared.words.Known.{Known}
 use Rattle.ch_overlay.specs.declared.record.Record.{Record}
 use Rattle.ch_overlay.specs.declared.source.Seen.{Seen}
-use Rattle.ch_overlay.specs.Records.{Bears, row_of}
+use Rattle.ch_overlay.specs.Records.{Bears, recorded_row}
 use Rattle.ch_rowbook.specs.Words.{pen_with, reader_with, width}
 
 -- which book it is: its list of records and its words, the number of nodes, and the bound of the rows
@@ -44,7 +44,7 @@ abbrev pub versions_of : List (Where Record) → List ℕ
 versions_of tokens = map (λ (t : Where Record). t.index) tokens
 
 abbrev pub rows_of : List (Where Record) → List Row
-rows_of tokens = map (λ (t : Where Record). row_of t.value) tokens
+rows_of tokens = map (λ (t : Where Record). recorded_row t.value) tokens
 
 abbrev pub pen_of : ℕ → List (Where Record) → PenView
 pen_of next current = record { versions = versions_of current; rows = rows_of current; next = next }

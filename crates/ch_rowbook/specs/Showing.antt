@@ -1,6 +1,8 @@
 -- Records that may be shown one after the other.
-use Rattle.std.specs.Prelude.{ℕ, ◌+◌, ◌<◌, ◌≤◌, List, [], ◌∷◌, All}
+use Rattle.std.specs.Prelude.{ℕ, ◌≡◌, ◌⊎◌, ◌+◌, ◌<◌, ◌≤◌, List, [], ◌∷◌, All}
+use Rattle.boxcar.specs.Table.{Shelves, Where, Shows}
 use Rattle.ch_laws.specs.Rows.{Row}
+use Rattle.ch_overlay.specs.declared.record.Record.{Record}
 
 -- a row and the node that it is of
 abbrev pub of_node : ℕ → Row → ℕ × Row
@@ -16,3 +18,7 @@ pub record IsShowable (current : List ℕ) (next : ℕ) (versions : List ℕ) : 
   pub low : ℕ
   pub below : All (λ v. v < low) current
   pub rising : IsRising low versions next
+
+-- the next version is what it was, or the one behind a record of the list
+abbrev pub IsNextOf : Shelves → ℕ → ℕ → Type 0
+IsNextOf list old new = (new ≡ old) ⊎ ((there : Where Record) × Shows list there × (new ≡ there.index + 1))

@@ -1,9 +1,9 @@
 //! Several rows at once: all are laid before the first is shown.
-ghost use Rattle.std.specs.Prelude.{◌≡◌, ◌<◌, All, IfOk, length, map};
+ghost use Rattle.std.specs.Prelude.{◌≡◌, ◌<◌, ◌≤◌, All, IfOk, length, map};
 ghost use Rattle.std.specs.Arc.{arc_value};
 ghost use Rattle.ch_overlay.specs.Change.{puts};
-ghost use Rattle.ch_overlay.specs.Records.{IsSoundRow, row_of};
-ghost use Rattle.ch_rowbook.specs.Showing.{IsShowable, of_node};
+ghost use Rattle.ch_overlay.specs.Records.{IsSoundRow, recorded_row};
+ghost use Rattle.ch_rowbook.specs.Showing.{IsNextOf, IsShowable, of_node};
 
 use crate::book::Book;
 use crate::error::BookError;
@@ -22,9 +22,11 @@ impl<B: Book> Pen<B> {
         let _ = &self.seat;
     }
 
-    /// Lays rows, each of a node in range, first to last. No current row changes, on a refusal neither.
+    /// Lays rows, each of a node in range, first to last. No current row changes, on a refusal neither, and the next
+    /// version is what it was or the one behind a record of the book, so the pen can go on.
     ///
-    /// Takes memory for the records and the list, and waits while another thread makes room for records.
+    /// Takes memory for the list and for the records, all of it before the first is laid, and waits while another thread
+    /// makes room for records.
     pub fn lay_all<R: Wait>(
         &mut self,
         rt: &R,
@@ -35,11 +37,14 @@ impl<B: Book> Pen<B> {
         requires rows { All (λ a. IsSoundRow B.book.bound a.0 (arc_value a.1)) rows.now }
         ensures versions { self.new.versions ≡ self.old.versions }
         ensures rows { self.new.rows ≡ self.old.rows }
-        ensures laid { IfOk result (λ all. map (λ l. of_node l.node (row_of l.token.value)) all.items ≡ map (λ a. of_node a.0 (arc_value a.1)) rows.now) }
+        ensures later { self.old.next ≤ self.new.next }
+        ensures next { IsNextOf B.book.list self.old.next self.new.next }
+        ensures laid { IfOk result (λ all. map (λ l. of_node l.node (recorded_row l.token.value)) all.items ≡ map (λ a. of_node a.0 (arc_value a.1)) rows.now) }
         ensures showable { IfOk result (λ all. IsShowable self.new.versions self.new.next (map (λ l. l.token.index) all.items)) }
     {
         self.known();
         let mut all = Vec::with_capacity(alloc, rows.len())?;
+        self.shelf.reserve(rows.len())?;
         for at in 0..rows.len() {
             let row = Arc::try_clone(&rows[at].1)?;
             let laid = self.lay(rt, rows[at].0, row)?;
@@ -55,7 +60,7 @@ impl<B: Book> Pen<B> {
     pub fn show_all(&mut self, laid: &[Laid<B>])
         requires { IsShowable self.old.versions self.old.next (map (λ l. l.token.index) laid.now) }
         ensures versions { self.new.versions ≡ puts self.old.versions (map (λ l. (l.node, l.token.index)) laid.now) }
-        ensures rows { self.new.rows ≡ puts self.old.rows (map (λ l. of_node l.node (row_of l.token.value)) laid.now) }
+        ensures rows { self.new.rows ≡ puts self.old.rows (map (λ l. of_node l.node (recorded_row l.token.value)) laid.now) }
         ensures next { self.new.next ≡ self.old.next }
     {
         self.known();

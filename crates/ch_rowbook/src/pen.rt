@@ -5,7 +5,7 @@ ghost use Rattle.ch_laws.specs.Rows.{row_at};
 ghost use Rattle.ch_overlay.specs.Source.{IsSeenRow, row_in};
 ghost use Rattle.ch_rowbook.specs.Books.{IsOfBook, PenKeeps, pen_of, versions_of};
 ghost use Rattle.ch_rowbook.specs.Words.{IsBelow};
-ghost use Rattle.ch_overlay.specs.Records.{IsSoundRow, row_of};
+ghost use Rattle.ch_overlay.specs.Records.{IsSoundRow, recorded_row};
 
 use crate::book::Book;
 use crate::error::BookError;
@@ -67,7 +67,7 @@ impl<B: Book> Pen<B> {
         requires within { node < B.book.nodes }
         requires row { IsSoundRow B.book.bound node (arc_value row) }
         ensures node { IfOk result (λ l. l.node ≡ node) }
-        ensures row { IfOk result (λ l. row_of l.token.value ≡ arc_value row) }
+        ensures row { IfOk result (λ l. recorded_row l.token.value ≡ arc_value row) }
         ensures above { IfOk result (λ l. slice_index self.old.versions node < l.token.index) }
         ensures later { IfOk result (λ l. self.old.next ≤ l.token.index) }
         ensures next { IfOk result (λ l. self.new ≡ record self.old { next = l.token.index + 1 }) }
@@ -89,7 +89,7 @@ impl<B: Book> Pen<B> {
         requires above { slice_index self.old.versions laid.node < laid.token.index }
         requires laid { laid.token.index < self.old.next }
         ensures versions { self.new.versions ≡ slice_set self.old.versions laid.node laid.token.index }
-        ensures rows { self.new.rows ≡ slice_set self.old.rows laid.node (row_of laid.token.value) }
+        ensures rows { self.new.rows ≡ slice_set self.old.rows laid.node (recorded_row laid.token.value) }
         ensures next { self.new.next ≡ self.old.next }
     {
         self.show_one(&laid);
@@ -99,20 +99,22 @@ impl<B: Book> Pen<B> {
         requires above { slice_index self.old.versions laid.now.node < laid.now.token.index }
         requires laid { laid.now.token.index < self.old.next }
         ensures versions { self.new.versions ≡ slice_set self.old.versions laid.now.node laid.now.token.index }
-        ensures rows { self.new.rows ≡ slice_set self.old.rows laid.now.node (row_of laid.now.token.value) }
+        ensures rows { self.new.rows ≡ slice_set self.old.rows laid.now.node (recorded_row laid.now.token.value) }
         ensures next { self.new.next ≡ self.old.next }
     {
         self.shelf.store(&mut self.seat, laid.node, laid.version());
         self.current[laid.node as usize] = laid.token.again();
     }
 
-    /// Lays a row and shows it, and answers its version. On a refusal nothing changes.
+    /// Lays a row and shows it, and returns its version. On a refusal nothing changes. The next version is above it.
     pub fn write<R: Wait>(&mut self, rt: &R, node: u32, row: Arc<Row>) -> Result<u64, BookError>
         requires within { node < B.book.nodes }
         requires row { IsSoundRow B.book.bound node (arc_value row) }
         ensures above { IfOk result (λ v. slice_index self.old.versions node < v) }
         ensures versions { IfOk result (λ v. self.new.versions ≡ slice_set self.old.versions node v) }
         ensures rows { IfOk result (λ _. self.new.rows ≡ slice_set self.old.rows node (arc_value row)) }
+        ensures later { IfOk result (λ v. self.old.next ≤ v) }
+        ensures next { IfOk result (λ v. self.new.next ≡ v + 1) }
         ensures err { OnErr result (self.new ≡ self.old) }
     {
         let laid = self.lay(rt, node, row)?;
@@ -136,7 +138,8 @@ impl<B: Book> Pen<B> {
         places_of(alloc, self.current.as_slice())
     }
 
-    /// The current row of a node, which is in range. Takes no memory: the row is shared.
+    /// The current row of a node, which is in range. The row is shared, so no memory is taken; refused where it can't
+    /// have one more owner.
     pub fn see(&self, node: u32) -> Result<Seen, AllocError>
         requires { node < B.book.nodes }
         ensures node { IfOk result (λ s. s.node ≡ node) }

@@ -46,7 +46,8 @@ impl<B: Book> Reader<B> {
     /// The current row of a node, as one load of its word finds it, and the token of its record.
     ///
     /// `Unseen` where the node is out of range. Its version isn't below the front there, and becomes the front there.
-    /// A refusal leaves the front as it was. Takes no memory: the row is shared.
+    /// A refusal leaves the front as it was. The row is shared, so no memory is taken; `OutOfMemory` where it can't have
+    /// one more owner.
     pub fn read(&mut self, node: u32) -> Result<Seen, SeeError>
         ensures node { IfOk result (λ s. s.node ≡ node) }
         ensures record { IfOk result (IsOfBook B.book) }

@@ -3,7 +3,7 @@ ghost use Rattle.std.specs.Prelude.{◌≡◌, ◌+◌, ◌^◌, ◌<◌, ◌≤
 ghost use Rattle.std.specs.Arc.{arc_value};
 ghost use Rattle.boxcar.specs.Table.{Shows};
 ghost use Rattle.ch_overlay.specs.Source.{IsSeenRow};
-ghost use Rattle.ch_overlay.specs.Records.{Bears, IsSoundRow, mark_of, row_of};
+ghost use Rattle.ch_overlay.specs.Records.{Bears, IsSoundRow, mark_of, recorded_row};
 ghost use Rattle.ch_rowbook.specs.Books.{IsPenSeat, IsReaderSeat};
 ghost use Rattle.ch_rowbook.specs.Words.{IsBelow, greater, width};
 
@@ -103,6 +103,11 @@ impl<B: Book> Shelf<B> {
         self.table.shared.load::<Compares>(seat, 0);
     }
 
+    /// Makes room for so many more records, so that laying them takes no more memory.
+    pub(crate) fn reserve(&self, records: usize) -> Result<(), AllocError> {
+        self.list.reserve(records)
+    }
+
     /// Appends a record, whose place isn't below `next`, and answers its token.
     pub(crate) fn append<R: Wait>(
         &self,
@@ -112,7 +117,7 @@ impl<B: Book> Shelf<B> {
         next: u64,
     ) -> Result<Token, BookError>
         requires { IsSoundRow B.book.bound node (arc_value row) }
-        ensures record { IfOk result (λ t. Shows B.book.list t × (t.value.node ≡ node) × (row_of t.value ≡ arc_value row)) }
+        ensures record { IfOk result (λ t. Shows B.book.list t × (t.value.node ≡ node) × (recorded_row t.value ≡ arc_value row)) }
         ensures place { IfOk result (λ t. (next ≤ t.index) × (t.index + 1 < 2 ^ 64)) }
     {
         let Ok(token) = self.list.push_shown(rt, Record { node, row }) else {

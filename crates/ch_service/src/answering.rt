@@ -70,11 +70,7 @@ pub fn answer<G: Read, Q: Read, W: Write, P: Gate, R: Threads + Wait + Sync>(
         Err(fault) => return refuse(rt, ServiceError::Queries(fault), lists, leases),
     };
     routes_are_least();
-    let Built {
-        hierarchy,
-        receipts: _,
-        log: _,
-    } = build(rt, alloc, graph, options, lists, leases, gate)?;
+    let Built { hierarchy, .. } = build(rt, alloc, graph, options, lists, leases, gate)?;
     answer_pairs(alloc, &hierarchy, pairs.as_slice(), out)
 }
 

@@ -52,11 +52,7 @@ pub fn prepare<G: Read, W: Write, P: Gate, R: Threads + Wait + Sync>(
         Ok(graph) => graph,
         Err(fault) => return refuse(rt, ServiceError::Graph(fault), lists, leases),
     };
-    let Built {
-        hierarchy,
-        receipts: _,
-        log: _,
-    } = build(rt, alloc, graph, options, lists, leases, gate)?;
+    let Built { hierarchy, .. } = build(rt, alloc, graph, options, lists, leases, gate)?;
     hierfile::write(&hierarchy, out)?;
     Ok(())
 }

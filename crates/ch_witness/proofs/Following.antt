@@ -6,11 +6,10 @@ use Rattle.ch_cost.specs.declared.cost.Cost.{Cost}
 use Rattle.ch_cost.specs.Cost.{◌⊕◌, ◌≼◌}
 use Rattle.ch_cost.specs.Cost.Laws.{at_most_refl, at_most_trans}
 use Rattle.ch_laws.specs.declared.entry.Entry.{Entry}
-use Rattle.ch_laws.specs.Rows.{Lists}
 use Rattle.ch_witness.specs.declared.label.Label.{Label}
 use Rattle.ch_witness.specs.declared.rule.Rule.{Rule}
 use Rattle.ch_witness.specs.Tree.{Labels, IsSettled, IsAtMost}
-use Rattle.ch_witness.specs.Frontier.{IsOffered, IsFollowed, IsOpened, AreFollowed}
+use Rattle.ch_witness.specs.Frontier.{IsOffered, IsFollowed, IsOpened}
 
 -- the first arcs were told
 pub record AreFollowedSoFar (r : Rule) (entries : List Entry) (c : Cost) (step : Option ℕ) (n : ℕ) (old new : Labels) : Type 0 where
@@ -18,27 +17,6 @@ pub record AreFollowedSoFar (r : Rule) (entries : List Entry) (c : Cost) (step :
   pub settled : (v : ℕ) → IsSettled (old v) → new v ≡ old v
   pub kept : (v : ℕ) (d : Cost) → IsAtMost (old v) d → IsAtMost (new v) d
   pub told : (k : ℕ) (e : Entry) → k < n → slice_index_or entries k e ≡ e → e.other ≢ r.avoid → c ⊕ e.cost ≼ r.cutoff → IsSettled (old e.other) ⊎ IsAtMost (new e.other) (c ⊕ e.cost)
-
-pub followed_none : (r : Rule) (entries : List Entry) (c : Cost) (step : Option ℕ) (old : Labels) → AreFollowedSoFar r entries c step 0 old old
-followed_none r entries c step old = record {
-  opened = λ v l is. inl is;
-  settled = λ v h. refl;
-  kept = λ v d h. h;
-  told = λ k e h is apart most. absurd (omega (arith, h));
-}
-
-pub followed_all : (r : Rule) (entries : List Entry) (c : Cost) (step : Option ℕ) (n : ℕ) (old new : Labels) → length entries ≤ n → AreFollowedSoFar r entries c step n old new → AreFollowed r entries c step old new
-followed_all r entries c step n old new all h = record {
-  opened = h.opened;
-  settled = h.settled;
-  kept = h.kept;
-  told = told;
-} where
-  told : (v : ℕ) (d : Cost) → Lists entries v d → v ≢ r.avoid → c ⊕ d ≼ r.cutoff → IsSettled (old v) ⊎ IsAtMost (new v) (c ⊕ d)
-  told v d among = subst
-      (λ (w : ℕ). w ≢ r.avoid → c ⊕ d ≼ r.cutoff → IsSettled (old w) ⊎ IsAtMost (new w) (c ⊕ d)) among.other
-      (subst (λ (k : Cost). among.entry.other ≢ r.avoid → c ⊕ k ≼ r.cutoff → IsSettled (old among.entry.other) ⊎ IsAtMost (new among.entry.other) (c ⊕ k)) among.costs
-      (h.told among.among.0 among.entry (omega (arith, all, among.among.1)) among.among.2))
 
 -- an entry read at its place is one and the same
 same_entry : (entries : List Entry) (k n : ℕ) (e f : Entry) → n < length entries → slice_index_or entries n e ≡ e → slice_index_or entries k f ≡ f → k ≡ n → f ≡ e

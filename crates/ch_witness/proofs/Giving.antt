@@ -13,7 +13,7 @@ use Rattle.ch_witness.specs.declared.rule.Rule.{Rule}
 use Rattle.ch_witness.specs.declared.step.Step.{Step}
 use Rattle.ch_witness.specs.declared.way.Way.{Way}
 use Rattle.ch_witness.specs.Tree.{Labels, AreSteps, IsTree, IsAtMost, IsStartSeen, AllSeen}
-use Rattle.ch_witness.specs.Ways.{IsWay, IsWayOf, AreWays, AreRows, IsFound, IsStartRow, way_at}
+use Rattle.ch_witness.specs.Ways.{IsWay, IsWayOf, AreWays, AreUnrankedRows, IsFound, IsStartRead, way_at}
 use Rattle.ch_witness.specs.Tree.{seen_of}
 
 some-same : {A : Type 0} (a b : A) → Some a ≡ Some b → a ≡ b
@@ -36,7 +36,7 @@ all_seen IsKind steps all k d h =
     let at = step_of steps k _ (slice_get-get_or (seen_of steps) k d h) in
     subst IsKind at.2 (all k at.0 at.1)
 
-pub rows : (r : Rule) (steps : List Step) → AreSteps r steps → AreRows (seen_of steps)
+pub rows : (r : Rule) (steps : List Step) → AreSteps r steps → AreUnrankedRows (seen_of steps)
 rows r steps are = record {
   once = once;
   unranked = all_seen (λ s. (row_in s).rank ≡ None) steps (λ k s is. (are.each k s is).unranked);
@@ -74,7 +74,7 @@ ways_given r steps labels targets ways tree many each = record {
 }
 
 -- the start's row, and the targets that it has an arc to
-pub start_given : (r : Rule) (steps : List Step) (labels : Labels) (targets : List ℕ) (ways : List (Option Way)) (s : Seen) → (Contains targets r.avoid → ⊥) → ((k : ℕ) → k < length targets → IsWayOf (seen_of steps) r.avoid r.from (slice_index targets k) (labels (slice_index targets k)) (way_at ways k)) → IsStartSeen r s steps labels → IsStartRow (seen_of steps) r.from r.cutoff targets ways s
+pub start_given : (r : Rule) (steps : List Step) (labels : Labels) (targets : List ℕ) (ways : List (Option Way)) (s : Seen) → (Contains targets r.avoid → ⊥) → ((k : ℕ) → k < length targets → IsWayOf (seen_of steps) r.avoid r.from (slice_index targets k) (labels (slice_index targets k)) (way_at ways k)) → IsStartSeen r s steps labels → IsStartRead (seen_of steps) r.from r.cutoff targets ways s
 start_given r steps labels targets ways s free each start = record {
   node = start.node;
   among = among;

@@ -14,8 +14,8 @@ use Rattle.ch_witness.specs.declared.frontier.Reached.{Reached}
 use Rattle.ch_witness.specs.declared.label.Label.{Label}
 use Rattle.ch_witness.specs.declared.rule.Rule.{Rule}
 use Rattle.ch_witness.specs.declared.step.Step.{Step}
-use Rattle.ch_witness.specs.Frontier.{IsStart, IsSettledNow, IsOpened, AreFollowed}
-use Rattle.ch_witness.specs.Tree.{Labels, node_of, row_at, IsReached, IsStep, IsLabel, IsSettled, IsAtMost, IsTree, IsNew, IsGoneOn, IsLater, AllAre, AllSeen, IsStartSeen}
+use Rattle.ch_witness.specs.Frontier.{IsStartAlone, IsSettledNow, IsOpened, AreFollowed}
+use Rattle.ch_witness.specs.Tree.{Labels, node_of, step_row, IsReachedBy, IsTreeStep, IsLabel, IsSettled, IsAtMost, IsTree, IsNew, IsGoneOn, IsLater, AllAre, AllSeen, IsStartSeen}
 use Rattle.ch_witness.proofs.Tracing.{reached_more}
 
 some-same : {A : Type 0} (a b : A) → Some a ≡ Some b → a ≡ b
@@ -48,7 +48,7 @@ more_steps : (xs : List Step) (y : Step) → length (xs ++ y ∷ []) ≡ length 
 more_steps xs y = length-append xs (y ∷ [])
 
 -- what is reached stays so
-reached_still : (from : ℕ) (xs : List Step) (y : Step) (n : ℕ) (before : Option ℕ) (v : ℕ) (c : Cost) → IsReached from xs n before v c → IsReached from (xs ++ y ∷ []) n before v c
+reached_still : (from : ℕ) (xs : List Step) (y : Step) (n : ℕ) (before : Option ℕ) (v : ℕ) (c : Cost) → IsReachedBy from xs n before v c → IsReachedBy from (xs ++ y ∷ []) n before v c
 reached_still from xs y n None v c h = h
 reached_still from xs y n (Some k) v c h = (h.0, (h.1.0, old_step xs y k h.1.0 h.1.1, h.1.2))
 
@@ -57,7 +57,7 @@ reached_still from xs y n (Some k) v c h = (h.0, (h.1.0, old_step xs y k h.1.0 h
 nothing : (k : ℕ) (s : Step) → slice_get {X = Step} [] k ≡ Some s → ⊥
 nothing k s is = absurd (cc)
 
-pub tree_start : (r : Rule) (labels : Labels) → IsStart r.from labels → r.from ≢ r.avoid → IsTree r [] labels
+pub tree_start : (r : Rule) (labels : Labels) → IsStartAlone r.from labels → r.from ≢ r.avoid → IsTree r [] labels
 tree_start r labels start apart = record {
   grown = record { each = λ k s is. absurd (nothing k s is); once = λ j k a b at_j at_k e. absurd (nothing j a at_j) };
   reached = reached;
@@ -122,7 +122,7 @@ settled_kept labels new at now v d h = elim (cases_eq v at.node) [
 
 -- A node becomes a step
 
-pub tree_grown : (r : Rule) (steps : List Step) (labels new : Labels) (s : Step) → IsTree r steps labels → labels (node_of s) ≡ Some (record { cost = s.cost; before = s.before; settled = true }) → IsNew (node_of s) steps → (row_at s).rank ≡ None → ((v : ℕ) (d : Cost) → Lists (row_at s).out v d → IsOfWalks 1 d) → AreFollowed r (row_at s).out s.cost (Some (length steps)) labels new → IsTree r (steps ++ s ∷ []) new
+pub tree_grown : (r : Rule) (steps : List Step) (labels new : Labels) (s : Step) → IsTree r steps labels → labels (node_of s) ≡ Some (record { cost = s.cost; before = s.before; settled = true }) → IsNew (node_of s) steps → (step_row s).rank ≡ None → ((v : ℕ) (d : Cost) → Lists (step_row s).out v d → IsOfWalks 1 d) → AreFollowed r (step_row s).out s.cost (Some (length steps)) labels new → IsTree r (steps ++ s ∷ []) new
 tree_grown r steps labels new s tree label fresh unranked light followed = record {
   grown = record { each = each; once = once };
   reached = reached;
@@ -131,12 +131,12 @@ tree_grown r steps labels new s tree label fresh unranked light followed = recor
   known : IsLabel r steps (node_of s) (record { cost = s.cost; before = s.before; settled = true })
   known = tree.reached (node_of s) _ label
 
-  each : (k : ℕ) (t : Step) → slice_get (steps ++ s ∷ []) k ≡ Some t → IsStep r (steps ++ s ∷ []) k t
+  each : (k : ℕ) (t : Step) → slice_get (steps ++ s ∷ []) k ≡ Some t → IsTreeStep r (steps ++ s ∷ []) k t
   each k t is = elim (step_cases steps s k t is) [
     | inl h ↦
         let was = tree.grown.each k t h in
         record { reached = reached_still r.from steps s k t.before (node_of t) t.cost was.reached; apart = was.apart; unranked = was.unranked }
-    | inr h ↦ subst (λ (u : Step). IsStep r (steps ++ s ∷ []) k u) h.1 (subst (λ (j : ℕ). IsStep r (steps ++ s ∷ []) j s) (sym h.0) (record { reached = reached_still r.from steps s (length steps) s.before (node_of s) s.cost known.reached; apart = known.apart; unranked = unranked }))
+    | inr h ↦ subst (λ (u : Step). IsTreeStep r (steps ++ s ∷ []) k u) h.1 (subst (λ (j : ℕ). IsTreeStep r (steps ++ s ∷ []) j s) (sym h.0) (record { reached = reached_still r.from steps s (length steps) s.before (node_of s) s.cost known.reached; apart = known.apart; unranked = unranked }))
   ]
 
   differs : (k : ℕ) (a b : Step) → slice_get steps k ≡ Some a → s ≡ b → node_of a ≡ node_of b → ⊥
@@ -162,9 +162,9 @@ tree_grown r steps labels new s tree label fresh unranked light followed = recor
     fits = of_walks_more (omega (arith, more_steps steps s)) was.fits;
   }
 
-  opened : (v : ℕ) (l : Label) → IsOpened r (row_at s).out s.cost (Some (length steps)) v l → IsLabel r (steps ++ s ∷ []) v l
+  opened : (v : ℕ) (l : Label) → IsOpened r (step_row s).out s.cost (Some (length steps)) v l → IsLabel r (steps ++ s ∷ []) v l
   opened v l o = record {
-    reached = subst (λ (b : Option ℕ). IsReached r.from (steps ++ s ∷ []) (length (steps ++ s ∷ [])) b v l.cost) (sym o.before) (omega (arith, more_steps steps s), (s, last_step steps s, record { arc = o.arc; listed = o.listed; sum = o.sum }));
+    reached = subst (λ (b : Option ℕ). IsReachedBy r.from (steps ++ s ∷ []) (length (steps ++ s ∷ [])) b v l.cost) (sym o.before) (omega (arith, more_steps steps s), (s, last_step steps s, record { arc = o.arc; listed = o.listed; sum = o.sum }));
     apart = o.apart;
     at_most = o.at_most;
     fits = subst (λ (n : ℕ). IsOfWalks n l.cost) (sym (more_steps steps s)) (subst (λ (c : Cost). IsOfWalks (length steps + 1) c) (sym o.sum) (of_walks_sum known.fits (light v o.arc o.listed)));
@@ -239,7 +239,7 @@ seen_gone IsKind r at seen old new known labels this all gone k s is = elim gone
 ]
 
 -- The start's row is the first that is read, so what it shows is told, and stays so.
-pub start_seen : (r : Rule) (z : Cost) → z ≡ zero_cost → (seen : Seen) (mid steps : List Step) (labels between new : Labels) → IsStart r.from labels → IsLater [] mid labels between → IsGoneOn r (record { node = r.from; cost = z; before = None }) seen [] mid labels between → IsLater mid steps between new → IsStartSeen r seen steps new
+pub start_seen : (r : Rule) (z : Cost) → z ≡ zero_cost → (seen : Seen) (mid steps : List Step) (labels between new : Labels) → IsStartAlone r.from labels → IsLater [] mid labels between → IsGoneOn r (record { node = r.from; cost = z; before = None }) seen [] mid labels between → IsLater mid steps between new → IsStartSeen r seen steps new
 start_seen r z zero_is seen mid steps labels between new start begun gone later = record { node = gone.node; step = step; direct = direct } where
   step : (row_in seen).rank ≡ None → (k : ℕ) × ((s : Step) × (slice_get steps k ≡ Some s) × (s.seen.value ≡ seen))
   step unranked = elim gone.steps [
@@ -269,7 +269,7 @@ pub seen_none : (IsKind : Seen → Type 0) (steps : List Step) → steps ≡ [] 
 seen_none IsKind steps none k s is = absurd (nothing k s (subst (λ (ss : List Step). slice_get ss k ≡ Some s) none is))
 
 -- only the start is known
-pub all_start : (IsKind : ℕ → Type 0) (from : ℕ) (labels : Labels) → IsStart from labels → IsKind from → AllAre IsKind labels
+pub all_start : (IsKind : ℕ → Type 0) (from : ℕ) (labels : Labels) → IsStartAlone from labels → IsKind from → AllAre IsKind labels
 all_start IsKind from labels start kind v l is = elim (cases_eq v from) [
   | inl at ↦ subst IsKind (sym at) kind
   | inr other ↦ absurd (none-some (labels v) l is (start.others v other))

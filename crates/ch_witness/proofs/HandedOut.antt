@@ -13,7 +13,7 @@ use Rattle.ch_overlay.specs.Source.{row_in, row_of}
 use Rattle.ch_overlay.specs.Finding.{row_among, row_found}
 use Rattle.ch_witness.specs.declared.way.Way.{Way}
 use Rattle.ch_witness.specs.Kept.{Kept, AreListed, IsKept}
-use Rattle.ch_witness.specs.Ways.{AreRows, AreWays, IsStartRow, IsWay, way_at}
+use Rattle.ch_witness.specs.Ways.{AreUnrankedRows, AreWays, IsStartRead, IsWay, way_at}
 
 -- the nodes of rows
 abbrev pub nodes_of : List Seen → List ℕ
@@ -62,7 +62,7 @@ module _ (kept : Kept) (rows listed : List Seen) (are : All (IsKept kept) rows) 
     at_most = w.at_most;
   }
 
-  pub rows_still : AreRows rows → AreRows listed
+  pub rows_still : AreUnrankedRows rows → AreUnrankedRows listed
   rows_still unlisted = record {
     once = listing.once;
     unranked = unranked;
@@ -72,7 +72,7 @@ module _ (kept : Kept) (rows listed : List Seen) (are : All (IsKept kept) rows) 
         let among = among_rows (get_or listed k d) (Contains-get_or listed k d h) in
         subst (λ (u : Seen). (row_in u).rank ≡ None) among.2 (unlisted.unranked among.0 (get_or listed k d) among.1)
 
-  pub start_still : (from : ℕ) (cutoff : Cost) (targets : List ℕ) (ways : List (Option Way)) (s : Seen) → IsStartRow rows from cutoff targets ways s → IsStartRow listed from cutoff targets ways s
+  pub start_still : (from : ℕ) (cutoff : Cost) (targets : List ℕ) (ways : List (Option Way)) (s : Seen) → IsStartRead rows from cutoff targets ways s → IsStartRead listed from cutoff targets ways s
   start_still from cutoff targets ways s start = record {
     node = start.node;
     among = λ unranked. among_listed s (start.among unranked);

@@ -1,8 +1,8 @@
 -- What a search adds up is small enough to be a summand.
 use Rattle.std.proofs.Common.{ℕ, ◌^◌, ◌-◌, ◌<◌, ◌≤◌, List, length, slice_index_or, subst, ap, ◌∙◌, arith}
 use Rattle.ch_cost.specs.declared.cost.Cost.{Cost}
-use Rattle.ch_cost.specs.Cost.{IsWithin, IsInLimit, IsOfWalks}
-use Rattle.ch_cost.specs.Cost.Laws.{within_refl, no_longer-from_within, no_longer_at_most, in_limit-from_within, in_limit-from_walks, cost_of_arcs_in_limit, of_walks_one}
+use Rattle.ch_cost.specs.Cost.{◌≼◌, IsWithin, IsInLimit, IsOfWalks}
+use Rattle.ch_cost.specs.Cost.Laws.{at_most_trans, within_refl, no_longer-from_within, no_longer_at_most, in_limit-from_within, in_limit-from_walks, cost_of_arcs_in_limit, of_walks_one}
 use Rattle.ch_laws.specs.declared.entry.Entry.{Entry}
 use Rattle.ch_laws.specs.Rows.{Lists}
 use Rattle.ch_overlay.specs.declared.source.Seen.{Seen}
@@ -15,8 +15,8 @@ use Rattle.ch_witness.specs.Tree.{IsLabel}
 bound_fits : (bound : Cost) → IsBound bound → IsInLimit bound
 bound_fits bound h = in_limit-from_within h (cost_of_arcs_in_limit (2 ^ 25 - 1) (2 ^ 32 - 1) (omega arith) (omega arith))
 
-pub reached_fits : (r : Rule) (steps : List Step) (bound : Cost) (v : ℕ) (l : Label) → length steps ≤ 2 ^ 25 → IsWithin r.cutoff bound → IsBound bound → IsLabel r steps v l → IsInLimit l.cost
-reached_fits r steps bound v l few cutoff limit known = in_limit-from_walks few known.fits (no_longer_at_most known.at_most (no_longer-from_within (within_refl r.cutoff))) (in_limit-from_within cutoff (bound_fits bound limit))
+pub reached_fits : (r : Rule) (steps : List Step) (bound : Cost) (v : ℕ) (l : Label) → length steps ≤ 2 ^ 25 → r.cutoff ≼ bound → IsBound bound → IsLabel r steps v l → IsInLimit l.cost
+reached_fits r steps bound v l few cutoff limit known = in_limit-from_walks few known.fits (no_longer_at_most (at_most_trans known.at_most cutoff) (no_longer-from_within (within_refl bound))) (bound_fits bound limit)
 
 pub entries_fit : (bound : Cost) (s : Seen) → IsBound bound → IsSeenRow bound s → (k : ℕ) (d : Entry) → k < length (row_in s).out → IsInLimit (slice_index_or (row_in s).out k d).cost
 entries_fit bound s limit row k d h = in_limit-from_within (row.entries.out k d h).within (bound_fits bound limit)

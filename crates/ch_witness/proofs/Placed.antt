@@ -8,10 +8,10 @@ use Rattle.std.proofs.lemmas.Map.Made.{IsDistinct-from_AllPairs}
 use Rattle.std.proofs.lemmas.Map.Steps.{length-le_from_distinct_below}
 use Rattle.std.proofs.lemmas.Map.Views.{Contains-from_any}
 use Rattle.ch_laws.specs.Members.{contains_cases, place_of}
-use Rattle.ch_witness.specs.Places.{ArePlaced}
+use Rattle.ch_witness.specs.Places.{ArePlacesOf}
 
 -- no node stands twice
-placed_once : {places nodes : List ℕ} → ArePlaced places nodes → AllPairs (λ x y. x ≢ y) nodes
+placed_once : {places nodes : List ℕ} → ArePlacesOf places nodes → AllPairs (λ x y. x ≢ y) nodes
 placed_once {places} {nodes} placed i j d before within same = omega (arith, before, at_i, at_j)
   where
     low : i < length nodes
@@ -24,7 +24,7 @@ placed_once {places} {nodes} placed i j d before within same = omega (arith, bef
     at_j = ap (λ n. slice_index places n) (get_or_default nodes i 0 d low ∙ same ∙ get_or_default nodes j d 0 within) ∙ placed.here j within
 
 -- so with one more node there are no more of them than places
-pub few_placed : {places nodes : List ℕ} → ArePlaced places nodes → (node : ℕ) → node < length places → ((k : ℕ) → k < length nodes → slice_index nodes k ≢ node) → length nodes < length places
+pub few_placed : {places nodes : List ℕ} → ArePlacesOf places nodes → (node : ℕ) → node < length places → ((k : ℕ) → k < length nodes → slice_index nodes k ≢ node) → length nodes < length places
 few_placed {places} {nodes} placed node room absent = length-le_from_distinct_below (node ∷ nodes) (length places) (IsDistinct-from_AllPairs Decides-eqb (node ∷ nodes) once) (λ q among. below q (Contains-from_any {eq = eqb} (λ x y. λ e. grind (arith, nat_tests, e)) q (node ∷ nodes) among))
   where
     apart : (k : ℕ) → k < length nodes → node ≢ get_or nodes k 0

@@ -13,7 +13,7 @@ use Rattle.ch_laws.specs.Verdicts.{SeenArc}
 use Rattle.ch_overlay.specs.Source.{row_of}
 use Rattle.ch_witness.specs.declared.rule.Rule.{Rule}
 use Rattle.ch_witness.specs.declared.step.Step.{Step}
-use Rattle.ch_witness.specs.Tree.{node_of, row_at, seen_of, LeadsTo, IsReached, IsStep, AreSteps}
+use Rattle.ch_witness.specs.Tree.{node_of, step_row, seen_of, LeadsTo, IsReachedBy, IsTreeStep, AreSteps}
 
 -- how many steps a way may still go back over
 abbrev pub places_to : Option ℕ → ℕ
@@ -26,7 +26,7 @@ pub record IsTraced (r : Rule) (steps : List Step) (target : ℕ) (c : Cost) (ba
   pub known : Cost
   pub rest : Cost
   pub way : Along (SeenArc (row_of (seen_of steps)) r.avoid) (reverse backward) node target rest
-  pub reached : IsReached r.from steps (length steps) before node known
+  pub reached : IsReachedBy r.from steps (length steps) before node known
   pub apart : node ≢ r.avoid
   pub sum : known ⊕ rest ≡ c
 
@@ -48,25 +48,25 @@ some-same : (s t : Step) → Some s ≡ Some t → s ≡ t
 some-same s t e = cc
 
 -- the first step of a node has its row
-row_at_place : (steps : List Step) (k : ℕ) (s : Step) → slice_get steps k ≡ Some s → ((j : ℕ) (t : Step) → j < k → slice_get steps j ≡ Some t → node_of t ≢ node_of s) → row_of (seen_of steps) (node_of s) ≡ Some (row_at s)
+row_at_place : (steps : List Step) (k : ℕ) (s : Step) → slice_get steps k ≡ Some s → ((j : ℕ) (t : Step) → j < k → slice_get steps j ≡ Some t → node_of t ≢ node_of s) → row_of (seen_of steps) (node_of s) ≡ Some (step_row s)
 row_at_place [] k s is first = absurd (cc)
 row_at_place (t ∷ ts) zero s is first =
-    subst (λ (u : Step). row_of (u.seen.value ∷ seen_of ts) (node_of s) ≡ Some (row_at s)) (sym (some-same t s is)) (true-case (nat_eq (node_of s) (node_of s)) (Some (row_at s)) (row_of (seen_of ts) (node_of s)) (equal (node_of s) (node_of s) refl))
+    subst (λ (u : Step). row_of (u.seen.value ∷ seen_of ts) (node_of s) ≡ Some (step_row s)) (sym (some-same t s is)) (true-case (nat_eq (node_of s) (node_of s)) (Some (step_row s)) (row_of (seen_of ts) (node_of s)) (equal (node_of s) (node_of s) refl))
 row_at_place (t ∷ ts) (suc k) s is first =
-    false-case (nat_eq (node_of t) (node_of s)) (Some (row_at t)) (row_of (seen_of ts) (node_of s)) (unlike (node_of t) (node_of s) (first 0 t (omega arith) refl))
+    false-case (nat_eq (node_of t) (node_of s)) (Some (step_row t)) (row_of (seen_of ts) (node_of s)) (unlike (node_of t) (node_of s) (first 0 t (omega arith) refl))
     ∙ row_at_place ts k s is (λ j u h at. first (suc j) u (omega (arith, h)) at)
 
-pub row_of_step : (r : Rule) (steps : List Step) → AreSteps r steps → (k : ℕ) (s : Step) → slice_get steps k ≡ Some s → row_of (seen_of steps) (node_of s) ≡ Some (row_at s)
+pub row_of_step : (r : Rule) (steps : List Step) → AreSteps r steps → (k : ℕ) (s : Step) → slice_get steps k ≡ Some s → row_of (seen_of steps) (node_of s) ≡ Some (step_row s)
 row_of_step r steps are k s is = row_at_place steps k s is (λ j t h at e. omega (arith, h, are.once j k t s at is e))
 
 -- Tracing
 
 -- what is reached within fewer steps is within more
-pub reached_more : (from : ℕ) (steps : List Step) (m n : ℕ) (before : Option ℕ) (v : ℕ) (c : Cost) → m ≤ n → IsReached from steps m before v c → IsReached from steps n before v c
+pub reached_more : (from : ℕ) (steps : List Step) (m n : ℕ) (before : Option ℕ) (v : ℕ) (c : Cost) → m ≤ n → IsReachedBy from steps m before v c → IsReachedBy from steps n before v c
 reached_more from steps m n None v c h k = k
 reached_more from steps m n (Some j) v c h k = (omega (arith, h, k.0), k.1)
 
-pub traced_start : (r : Rule) (steps : List Step) (target : ℕ) (c : Cost) (before : Option ℕ) → IsReached r.from steps (length steps) before target c → target ≢ r.avoid → IsTraced r steps target c (target ∷ []) before
+pub traced_start : (r : Rule) (steps : List Step) (target : ℕ) (c : Cost) (before : Option ℕ) → IsReachedBy r.from steps (length steps) before target c → target ≢ r.avoid → IsTraced r steps target c (target ∷ []) before
 traced_start r steps target c before reached apart = record {
   node = target;
   known = c;
@@ -84,7 +84,7 @@ traced_place r steps target c backward k h = h.reached.0
 -- the step before that one comes earlier
 pub traced_earlier : (r : Rule) (steps : List Step) → AreSteps r steps → (k : ℕ) (s : Step) → slice_get steps k ≡ Some s → places_to s.before < k + 1
 traced_earlier r steps are k s is = earlier s.before (are.each k s is).reached where
-  earlier : (before : Option ℕ) → IsReached r.from steps k before (node_of s) s.cost → places_to before < k + 1
+  earlier : (before : Option ℕ) → IsReachedBy r.from steps k before (node_of s) s.cost → places_to before < k + 1
   earlier None h = omega arith
   earlier (Some j) h = omega (arith, h.0)
 
@@ -99,7 +99,7 @@ traced_more r steps are target c backward k s is h = record {
   apart = step.apart;
   sum = sym (sum_assoc s.cost leads.arc h.rest) ∙ ap (λ (x : Cost). x ⊕ h.rest) (sym leads.sum) ∙ h.sum;
 } where
-  step : IsStep r steps k s
+  step : IsTreeStep r steps k s
   step = are.each k s is
 
   leads : LeadsTo s h.node h.known
@@ -107,7 +107,7 @@ traced_more r steps are target c backward k s is h = record {
 
   arc : SeenArc (row_of (seen_of steps)) r.avoid (node_of s) h.node leads.arc
   arc = record {
-    row = row_at s;
+    row = step_row s;
     read = row_of_step r steps are k s is;
     unranked = step.unranked;
     listed = leads.listed;

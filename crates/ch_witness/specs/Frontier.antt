@@ -10,7 +10,7 @@ use Rattle.ch_witness.specs.declared.rule.Rule.{Rule}
 use Rattle.ch_witness.specs.Tree.{Labels, IsSettled, IsAtMost}
 
 -- only the start is labelled, as settled at no cost
-pub record IsStart (from : ℕ) (labels : Labels) : Type 0 where
+pub record IsStartAlone (from : ℕ) (labels : Labels) : Type 0 where
   pub here : labels from ≡ Some (record { cost = zero_cost; before = None; settled = true })
   pub others : (v : ℕ) → v ≢ from → labels v ≡ None
 

@@ -1,5 +1,5 @@
 -- The answers of a source that are kept.
-use Rattle.std.specs.Prelude.{ℕ, ◌≡◌, ◌≢◌, List, [], ◌∷◌, ◌++◌, Option, Some, None, map, All, AllPairs, Contains, slice_index_or}
+use Rattle.std.specs.Prelude.{ℕ, ◌≡◌, ◌≢◌, List, [], ◌∷◌, ◌++◌, Option, Some, None, Result, Ok, Err, map, All, AllPairs, Contains, slice_index_or}
 use Rattle.std.proofs.lemmas.List.Elements.{Contains-get_or}
 use Rattle.std.proofs.Common.{sym, subst, ap, ◌∙◌}
 use Rattle.std.specs.List.{slice_get}
@@ -57,6 +57,17 @@ IsMore old new = (x : ℕ) (s : Seen) → old x ≡ Some s → new x ≡ Some s
 abbrev pub AllNamed : (ℕ → Type 0) → Kept → Type 0
 AllNamed IsKind kept = (x : ℕ) (s : Seen) → kept x ≡ Some s → NamesAlone IsKind (row_in s)
 
+-- The source moved in this way; it stands by the answers that are kept now, and what was kept is kept on.
+pub record IsReadOn (Bears Shows : Seen → Type 0) (bound : Cost) (Moved : Type 0) (old new : Kept) : Type 0 where
+  pub kept : AreKept Bears Shows bound new
+  pub more : IsMore old new
+  pub stays : Moved
+
+-- no row was missing, and those that are kept name nodes of this kind alone
+abbrev pub FindsRows : {T E : Type 0} → E → (ℕ → Type 0) → Kept → Result T E → Type 0
+FindsRows unseen IsKind kept (Ok _) = AllNamed IsKind kept
+FindsRows unseen IsKind kept (Err e) = e ≢ unseen
+
 -- each answer that is kept is of its node
 abbrev pub OfTheirNodes : Kept → Type 0
 OfTheirNodes kept = (x : ℕ) (s : Seen) → kept x ≡ Some s → s.node ≡ x
@@ -97,3 +108,7 @@ read_there Bears Shows bound x r place s read here =
     (subst (λ (y : ℕ). kept_of r y ≡ Some s) (sym answer.node) (read.kept ∙ ap (λ (t : Seen). Some t) it), answer) where
       same : (o : Option (Option Seen)) (a b : Seen) → o ≡ Some (Some a) → o ≡ Some (Some b) → a ≡ b
       same o a b e f = cc
+
+-- an error but the one of a missing row leaves nothing to say of the rows
+pub finds_unless : {T E : Type 0} (unseen : E) (IsKind : ℕ → Type 0) (kept : Kept) (r : Result T E) (e : E) → r ≡ Err e → e ≢ unseen → FindsRows unseen IsKind kept r
+finds_unless {T} {E} unseen IsKind kept r e is other = subst (λ (o : Result T E). FindsRows unseen IsKind kept o) (sym is) other

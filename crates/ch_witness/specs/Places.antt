@@ -2,7 +2,7 @@
 use Rattle.std.specs.Prelude.{ℕ, ◌≡◌, ◌≢◌, ◌<◌, List, [], ◌∷◌, Option, Some, None, cond, length, nat_eq, slice_index}
 
 -- at the number of each node the list tells its place
-pub record ArePlaced (places nodes : List ℕ) : Type 0 where
+pub record ArePlacesOf (places nodes : List ℕ) : Type 0 where
   pub within : (k : ℕ) → k < length nodes → slice_index nodes k < length places
   pub here : (k : ℕ) → k < length nodes → slice_index places (slice_index nodes k) ≡ k
 

@@ -24,8 +24,8 @@ labels_of f v = value_in f.nodes f.labels.items v
 abbrev pub node_of : Step → ℕ
 node_of s = s.seen.value.node
 
-abbrev pub row_at : Step → Row
-row_at s = row_in s.seen.value
+abbrev pub step_row : Step → Row
+step_row s = row_in s.seen.value
 
 -- the answers that the steps went by
 abbrev pub seen_of : List Step → List Seen
@@ -34,29 +34,29 @@ seen_of steps = map (λ s. s.seen.value) steps
 -- the step at this place goes on to v by an arc of its row, which makes the cost c
 pub record LeadsTo (s : Step) (v : ℕ) (c : Cost) : Type 0 where
   pub arc : Cost
-  pub listed : Lists (row_at s).out v arc
+  pub listed : Lists (step_row s).out v arc
   pub sum : c ≡ s.cost ⊕ arc
 
 -- v is reached at the cost c after the step at the place `before`, one of the first n; or it is where the search
 -- starts
-abbrev pub IsReached : ℕ → List Step → ℕ → Option ℕ → ℕ → Cost → Type 0
-IsReached from steps n None v c = (v ≡ from) × (c ≡ zero_cost)
-IsReached from steps n (Some k) v c = (k < n) × ((s : Step) × (slice_get steps k ≡ Some s) × LeadsTo s v c)
+abbrev pub IsReachedBy : ℕ → List Step → ℕ → Option ℕ → ℕ → Cost → Type 0
+IsReachedBy from steps n None v c = (v ≡ from) × (c ≡ zero_cost)
+IsReachedBy from steps n (Some k) v c = (k < n) × ((s : Step) × (slice_get steps k ≡ Some s) × LeadsTo s v c)
 
 -- a step is of a node that isn't avoided and whose row has no rank, and it is reached after an earlier step
-pub record IsStep (r : Rule) (steps : List Step) (k : ℕ) (s : Step) : Type 0 where
-  pub reached : IsReached r.from steps k s.before (node_of s) s.cost
+pub record IsTreeStep (r : Rule) (steps : List Step) (k : ℕ) (s : Step) : Type 0 where
+  pub reached : IsReachedBy r.from steps k s.before (node_of s) s.cost
   pub apart : node_of s ≢ r.avoid
-  pub unranked : (row_at s).rank ≡ None
+  pub unranked : (step_row s).rank ≡ None
 
 -- the steps of a search, of different nodes
 pub record AreSteps (r : Rule) (steps : List Step) : Type 0 where
-  pub each : (k : ℕ) (s : Step) → slice_get steps k ≡ Some s → IsStep r steps k s
+  pub each : (k : ℕ) (s : Step) → slice_get steps k ≡ Some s → IsTreeStep r steps k s
   pub once : (j k : ℕ) (a b : Step) → slice_get steps j ≡ Some a → slice_get steps k ≡ Some b → node_of a ≡ node_of b → j ≡ k
 
 -- a node that the search may come to, reached after a step at a cost that isn't above the cutoff
 pub record IsLabel (r : Rule) (steps : List Step) (v : ℕ) (l : Label) : Type 0 where
-  pub reached : IsReached r.from steps (length steps) l.before v l.cost
+  pub reached : IsReachedBy r.from steps (length steps) l.before v l.cost
   pub apart : v ≢ r.avoid
   pub at_most : l.cost ≼ r.cutoff
   pub fits : IsOfWalks (length steps) l.cost

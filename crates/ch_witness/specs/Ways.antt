@@ -28,7 +28,7 @@ pub record AreWays (seen : List Seen) (from avoid : ℕ) (cutoff : Cost) (target
   pub at_most : (k : ℕ) → k < length targets → IfSome (way_at ways k) (λ w. w.cost ≼ cutoff)
 
 -- The rows are of different nodes, and none of them has a rank.
-pub record AreRows (seen : List Seen) : Type 0 where
+pub record AreUnrankedRows (seen : List Seen) : Type 0 where
   pub once : AllPairs (λ a b. a.node ≢ b.node) seen
   pub unranked : All (λ s. (row_in s).rank ≡ None) seen
 
@@ -38,7 +38,7 @@ IsFound ways k c = IsSomeAnd (way_at ways k) (λ w. w.cost ≼ c)
 
 -- The row of the start as it was read: where it has no rank, it is among those that the ways rest on, and each
 -- target that it has an arc to is reached at a cost of at most that arc's, where that isn't above the cutoff.
-pub record IsStartRow (seen : List Seen) (from : ℕ) (cutoff : Cost) (targets : List ℕ) (ways : List (Option Way)) (s : Seen) : Type 0 where
+pub record IsStartRead (seen : List Seen) (from : ℕ) (cutoff : Cost) (targets : List ℕ) (ways : List (Option Way)) (s : Seen) : Type 0 where
   pub node : s.node ≡ from
   pub among : (row_in s).rank ≡ None → Contains seen s
   pub direct : (row_in s).rank ≡ None → (k : ℕ) (c : Cost) → k < length targets → Lists (row_in s).out (slice_index targets k) c → c ≼ cutoff → IsFound ways k c

@@ -1,4 +1,4 @@
-ghost use Rattle.std.specs.Prelude.{◌≡◌, All, OnOk};
+ghost use Rattle.std.specs.Prelude.{All, OnOk};
 ghost use Rattle.ch_cost.specs.Cost.{IsInLimit};
 ghost use Rattle.ch_witness.specs.Tree.{labels_of};
 ghost use Rattle.ch_witness.specs.Frontier.{IsFollowed, AreFollowed};

@@ -35,7 +35,7 @@ impl Frontier {
     ghost use Rattle.std.specs.Prelude.{◌≡◌, ◌≢◌, ◌<◌, ℕ, None, OnOk, IfSome, IfNone, slice_index};
     ghost use Rattle.std.specs.BinaryHeap.{heap_len};
     ghost use Rattle.ch_witness.specs.Tree.{labels_of};
-    ghost use Rattle.ch_witness.specs.Frontier.{IsStart, IsOffered, IsSettledNow};
+    ghost use Rattle.ch_witness.specs.Frontier.{IsStartAlone, IsOffered, IsSettledNow};
     ghost use Rattle.ch_witness.specs.Places.{IsFirstAt};
 
     /// Labels no node. It takes no memory yet.
@@ -51,7 +51,7 @@ impl Frontier {
 
     /// Forgets all labels, and labels the start alone, as settled at no cost.
     pub fn start(&mut self, start: u32) -> Result<(), AllocError>
-        ensures { OnOk result (IsStart start (labels_of self.new)) }
+        ensures { OnOk result (IsStartAlone start (labels_of self.new)) }
     {
         self.queue.clear();
         self.labels.clear();

@@ -1,14 +1,17 @@
 //! Searches for witnesses: ways that avoid a node, along the rows that a source answers.
 //!
 //! Stands on `ch_overlay`, of which it uses what a [`ch_overlay::RowSource`] promises, on `ch_laws` for the words of
-//! rows and ways, and on `smallvec` for the nodes of a way. Its calls give a [`Found`]. [`search`] is for one search:
-//! it hands over the source's own answers. A [`Searcher`] is for several searches that are to rest on the same answers, in
-//! memory that is used again: it reads through its [`Rows`], which ask the source for each row once and keep the answer,
-//! and its steps say which they went by; [`Rows::hand_out`] gives the answers at the end. Their contracts carry the promise
-//! of the layer: each way goes along rows that the source showed and that are handed over with it, avoids the node, and
-//! costs what its arcs do.
+//! rows and ways, and on `smallvec` for the nodes of a way.
 //!
-//! A search is told where it starts, which node it avoids, what a way may cost, where the ways are to lead, and how many
+//! - [`search`] makes one search and returns a [`Found`]: the ways, and the source's own answers that they rest on.
+//! - A [`Searcher`] makes several searches that rest on the same answers, in memory that is used again. It reads through
+//!   its [`Rows`], which ask the source for each row once and keep the answer; its steps say which rows they used, and
+//!   [`Rows::hand_out`] returns the answers at the end.
+//!
+//! The contracts of both carry the promise of the layer: each way follows rows that the source showed and that are
+//! returned with it, avoids the node, and costs what its arcs do.
+//!
+//! A search is given where it starts, which node it avoids, what a way may cost, where the ways are to lead, and how many
 //! nodes it settles at most. In rows with two ways from 2 to 3, over 0 and over 1, it finds the one over 1 where it avoids
 //! 0:
 //!

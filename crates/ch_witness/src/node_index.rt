@@ -1,5 +1,5 @@
 ghost use Rattle.std.specs.Prelude.{◌≡◌, ◌≢◌, ◌++◌, ◌∷◌, ◌^◌, [], ℕ, ◌<◌, ◌≤◌, IfSome, IfNone, OnOk, OnErr, length, slice_index};
-ghost use Rattle.ch_witness.specs.Places.{ArePlaced, IsFirstAt};
+ghost use Rattle.ch_witness.specs.Places.{ArePlacesOf, IsFirstAt};
 
 use std::alloc::{AllocError, Global};
 use std::marker::Model;
@@ -17,13 +17,13 @@ pub struct NodeIndex {
 
 impl Model for NodeIndex {
     ghost use Rattle.std.specs.Prelude.{◌≤◌, ◌^◌, ℕ, List, length};
-    ghost use Rattle.ch_witness.specs.Places.{ArePlaced};
+    ghost use Rattle.ch_witness.specs.Places.{ArePlacesOf};
 
     ghost Value = { List ℕ };
 
     ghost view = { λ i. i.nodes.items };
 
-    ghost invariant = { λ i. ArePlaced i.places.items i.nodes.items × (length i.places.items ≤ 2 ^ 32) };
+    ghost invariant = { λ i. ArePlacesOf i.places.items i.nodes.items × (length i.places.items ≤ 2 ^ 32) };
 }
 
 impl NodeIndex {
@@ -74,9 +74,9 @@ impl NodeIndex {
 
 /// Sees to it that a place can be told of the node. Refused for want of memory.
 fn make_room(places: &mut Vec<u32>, nodes: &[u32], node: u32) -> Result<(), AllocError>
-    requires placed { ArePlaced places.old.items nodes.now }
+    requires placed { ArePlacesOf places.old.items nodes.now }
     requires few { length places.old.items ≤ 2 ^ 32 }
-    ensures placed { ArePlaced places.new.items nodes.now }
+    ensures placed { ArePlacesOf places.new.items nodes.now }
     ensures few { length places.new.items ≤ 2 ^ 32 }
     ensures room { OnOk result (node < length places.new.items) }
 {
@@ -90,7 +90,7 @@ fn make_room(places: &mut Vec<u32>, nodes: &[u32], node: u32) -> Result<(), Allo
 /// The place behind these nodes, where another one is to stand: each has a number of its own, so they are fewer than
 /// there are numbers.
 fn next_place(places: &[u32], nodes: &[u32], node: u32) -> u32
-    requires placed { ArePlaced places.now nodes.now }
+    requires placed { ArePlacesOf places.now nodes.now }
     requires few { length places.now ≤ 2 ^ 32 }
     requires room { node < length places.now }
     requires absent { (k : ℕ) → k < length nodes.now → slice_index nodes.now k ≢ node }

@@ -20,7 +20,7 @@ impl Rows {
     ghost use Rattle.std.specs.Prelude.{◌≡◌, ◌≢◌, ◌<◌, ℕ, IfOk, IfSome, IfNone, OnOk, OnErr, None, Some, slice_index};
     ghost use Rattle.ch_overlay.specs.declared.source.Seen.{Seen};
     ghost use Rattle.ch_overlay.specs.declared.source.SeeError.TheVariants.{Unseen};
-    ghost use Rattle.ch_witness.specs.Kept.{kept_of, AllNamed, AreKept, AreListed, IsListed, IsMore, IsReadAt, OfTheirNodes, StandsAt};
+    ghost use Rattle.ch_witness.specs.Kept.{kept_of, AllNamed, AreKept, AreListed, FindsRows, IsListed, IsReadAt, IsReadOn, OfTheirNodes, StandsAt};
     ghost use Rattle.ch_witness.specs.Places.{IsFirstAt};
 
     /// No answers. It takes no memory yet.
@@ -45,15 +45,13 @@ impl Rows {
     /// kept. [`Rows::at`] shows it.
     ///
     /// `OutOfMemory` where a growth was refused, `Unseen` where the source has no row of the node. What was kept
-    /// before is kept on.
+    /// before is kept on, and where there is no row the source is what it was.
     pub fn read<S: RowSource>(&mut self, source: &mut S, node: u32) -> Result<usize, SeeError>
         requires kept { AreKept S.bears (S.shows source.old) (S.bound_of source.old) (kept_of self.old) }
         ensures here { IfOk result (IsReadAt S.bears (S.shows source.new) (S.bound_of source.old) node self.new) }
-        ensures kept { AreKept S.bears (S.shows source.new) (S.bound_of source.new) (kept_of self.new) }
-        ensures more { IsMore (kept_of self.old) (kept_of self.new) }
-        ensures stays { S.stays source.old source.new }
-        ensures found { S.whole source.old node → result ≡ Err Unseen → ⊥ }
-        ensures names { S.whole source.old node → AllNamed (S.whole source.old) (kept_of self.old) → AllNamed (S.whole source.new) (kept_of self.new) }
+        ensures read { IsReadOn S.bears (S.shows source.new) (S.bound_of source.new) (S.stays source.old source.new) (kept_of self.old) (kept_of self.new) }
+        ensures found { AllNamed (S.whole source.old) (kept_of self.old) → S.whole source.old node → FindsRows Unseen (S.whole source.new) (kept_of self.new) result }
+        ensures unseen { result ≡ Err Unseen → source.new ≡ source.old }
     {
         let found = self.nodes.find(node);
         if let Some(place) = self.known(node, found) {

@@ -50,12 +50,12 @@ pub struct Searcher {
 }
 
 impl Searcher {
-    ghost use Rattle.std.specs.Prelude.{◌≢◌, ◌^◌, ◌≤◌, All, Contains, OnOk, None};
-    ghost use Rattle.ch_cost.specs.Cost.{IsWithin};
+    ghost use Rattle.std.specs.Prelude.{◌≢◌, ◌^◌, ◌≤◌, All, Contains, None};
+    ghost use Rattle.ch_cost.specs.Cost.{◌≼◌};
     ghost use Rattle.ch_overlay.specs.declared.source.Seen.{Seen};
     ghost use Rattle.ch_witness.specs.declared.error.SearchError.TheVariants.{Unseen};
-    ghost use Rattle.ch_witness.specs.Kept.{kept_of, AllNamed, AreKept, IsKept, IsMore};
-    ghost use Rattle.ch_witness.specs.Ways.{AreRows, AreWays, IsStartRow};
+    ghost use Rattle.ch_witness.specs.Kept.{kept_of, AllNamed, AreKept, FindsRows, IsKept, IsReadOn};
+    ghost use Rattle.ch_witness.specs.Ways.{AreUnrankedRows, AreWays, IsStartRead};
 
     /// No row was read yet. It takes no memory yet.
     pub fn new(alloc: Global) -> Searcher
@@ -89,19 +89,16 @@ impl Searcher {
     ) -> Result<Traced, SearchError>
         requires start { rule.from ≢ rule.avoid }
         requires targets { Contains targets.now rule.avoid → ⊥ }
-        requires cutoff { IsWithin rule.cutoff (S.bound_of source.old) }
+        requires cutoff { rule.cutoff ≼ S.bound_of source.old }
         requires kept { AreKept S.bears (S.shows source.old) (S.bound_of source.old) (kept_of self.old.rows) }
         requires some { 1 ≤ settle }
         requires few { settle ≤ 2 ^ 16 }
         ensures ways { IfOk result (λ found. AreWays (seen_of found.steps.items) rule.from rule.avoid rule.cutoff targets.now found.ways.items) }
-        ensures direct { IfOk result (λ found. (k : ℕ) → k < length targets.now → slice_index targets.now k ≢ rule.from → (s : Seen) × IsKept (kept_of self.new.rows) s × IsStartRow (seen_of found.steps.items) rule.from rule.cutoff targets.now found.ways.items s) }
-        ensures rows { IfOk result (λ found. AreRows (seen_of found.steps.items)) }
+        ensures direct { IfOk result (λ found. (k : ℕ) → k < length targets.now → slice_index targets.now k ≢ rule.from → (s : Seen) × IsKept (kept_of self.new.rows) s × IsStartRead (seen_of found.steps.items) rule.from rule.cutoff targets.now found.ways.items s) }
+        ensures rows { IfOk result (λ found. AreUnrankedRows (seen_of found.steps.items)) }
         ensures kept_rows { IfOk result (λ found. All (IsKept (kept_of self.new.rows)) (seen_of found.steps.items)) }
-        ensures kept { AreKept S.bears (S.shows source.new) (S.bound_of source.new) (kept_of self.new.rows) }
-        ensures more { IsMore (kept_of self.old.rows) (kept_of self.new.rows) }
-        ensures stays { S.stays source.old source.new }
-        ensures found { AllNamed (S.whole source.old) (kept_of self.old.rows) → S.whole source.old rule.from → result ≡ Err Unseen → ⊥ }
-        ensures names { AllNamed (S.whole source.old) (kept_of self.old.rows) → S.whole source.old rule.from → OnOk result (AllNamed (S.whole source.new) (kept_of self.new.rows)) }
+        ensures read { IsReadOn S.bears (S.shows source.new) (S.bound_of source.new) (S.stays source.old source.new) (kept_of self.old.rows) (kept_of self.new.rows) }
+        ensures found { AllNamed (S.whole source.old) (kept_of self.old.rows) → S.whole source.old rule.from → FindsRows Unseen (S.whole source.new) (kept_of self.new.rows) result }
     {
         let Traced { ways, steps } = earlier;
         let frontier = mem::replace(&mut self.frontier, Frontier::new(alloc));

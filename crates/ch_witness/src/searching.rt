@@ -1,9 +1,9 @@
-ghost use Rattle.std.specs.Prelude.{◌≡◌, ◌≢◌, ◌^◌, ◌<◌, ◌≤◌, ℕ, All, Contains, IfOk, OnOk, length, map, slice_index, slice_index_or, None};
-ghost use Rattle.ch_cost.specs.Cost.{IsWithin};
+ghost use Rattle.std.specs.Prelude.{◌≡◌, ◌≢◌, ◌^◌, ◌<◌, ◌≤◌, ℕ, All, Contains, IfOk, length, map, slice_index};
+ghost use Rattle.ch_cost.specs.Cost.{◌≼◌};
 ghost use Rattle.ch_overlay.specs.declared.source.Seen.{Seen};
 ghost use Rattle.ch_witness.specs.declared.error.SearchError.TheVariants.{Unseen};
 ghost use Rattle.ch_witness.specs.Tree.{seen_of};
-ghost use Rattle.ch_witness.specs.Ways.{AreRows, AreWays, IsStartRow};
+ghost use Rattle.ch_witness.specs.Ways.{AreUnrankedRows, AreWays, IsStartRead};
 
 use crate::error::SearchError;
 use crate::rule::Rule;
@@ -21,7 +21,7 @@ use std::alloc::{AllocError, Global};
 /// asks the source for each of their rows once, and ends early where every target is settled. A target's way is the
 /// best that was reached, settled or not. The rows that it hands over are the source's own answers.
 ///
-/// `from` and the targets differ from `avoid`, and the cutoff is within the bound of the source. `OutOfMemory` where a
+/// `from` and the targets differ from `avoid`, and the cutoff is at most the bound of the source. `OutOfMemory` where a
 /// growth was refused, `Unseen` where the source has no row of a node that is gone on from; the source has then moved
 /// as reading moves it, and nothing else. Memory and time go by the nodes that are settled and their neighbours, with 8
 /// bytes for each number up to the greatest of them: a [`Searcher`] keeps that memory for its next search.
@@ -36,12 +36,12 @@ pub fn search<S: RowSource>(
 ) -> Result<Found, SearchError>
     requires start { from ≢ avoid }
     requires targets { Contains targets.now avoid → ⊥ }
-    requires cutoff { IsWithin cutoff (S.bound_of source.old) }
+    requires cutoff { cutoff ≼ S.bound_of source.old }
     requires some { 1 ≤ settle }
     requires few { settle ≤ 2 ^ 16 }
     ensures ways { IfOk result (λ found. AreWays found.seen.items from avoid cutoff targets.now found.ways.items) }
-    ensures direct { IfOk result (λ found. (k : ℕ) → k < length targets.now → slice_index targets.now k ≢ from → (s : Seen) × S.bears s × S.shows source.new s × IsStartRow found.seen.items from cutoff targets.now found.ways.items s) }
-    ensures rows { IfOk result (λ found. AreRows found.seen.items) }
+    ensures direct { IfOk result (λ found. (k : ℕ) → k < length targets.now → slice_index targets.now k ≢ from → (s : Seen) × S.bears s × S.shows source.new s × IsStartRead found.seen.items from cutoff targets.now found.ways.items s) }
+    ensures rows { IfOk result (λ found. AreUnrankedRows found.seen.items) }
     ensures bears { IfOk result (λ found. All S.bears found.seen.items) }
     ensures shows { IfOk result (λ found. All (S.shows source.new) found.seen.items) }
     ensures stays { S.stays source.old source.new }

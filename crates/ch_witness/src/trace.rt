@@ -1,5 +1,5 @@
 ghost use Rattle.std.specs.Prelude.{◌≡◌, ◌≢◌, IfOk, length, reverse};
-ghost use Rattle.ch_witness.specs.Tree.{AreSteps, IsReached, seen_of};
+ghost use Rattle.ch_witness.specs.Tree.{AreSteps, IsReachedBy, seen_of};
 ghost use Rattle.ch_witness.specs.Ways.{IsWay};
 
 use crate::label::Label;
@@ -18,7 +18,7 @@ pub fn way_to(
     label: Label,
 ) -> Result<Way, AllocError>
     requires steps { AreSteps rule steps.now }
-    requires reached { IsReached rule.from steps.now (length steps.now) label.before target label.cost }
+    requires reached { IsReachedBy rule.from steps.now (length steps.now) label.before target label.cost }
     requires apart { target ≢ rule.avoid }
     ensures leads { IfOk result (IsWay (seen_of steps.now) rule.avoid rule.from target) }
     ensures costs { IfOk result (λ way. way.cost ≡ label.cost) }

@@ -1,8 +1,8 @@
 ghost use Rattle.std.specs.Prelude.{◌≡◌, ◌≢◌, ◌+◌, ◌^◌, ◌<◌, ◌≤◌, ℕ, IsTrue, IfOk, OnOk, Some, true, length, slice_index};
-ghost use Rattle.ch_cost.specs.Cost.{IsWithin};
+ghost use Rattle.ch_cost.specs.Cost.{◌≼◌};
 ghost use Rattle.ch_overlay.specs.declared.source.Seen.{Seen};
 ghost use Rattle.ch_witness.specs.declared.error.SearchError.TheVariants.{Unseen};
-ghost use Rattle.ch_witness.specs.Kept.{kept_of, AllNamed, AreKept, IsKept, IsMore};
+ghost use Rattle.ch_witness.specs.Kept.{kept_of, AllNamed, AreKept, FindsRows, IsKept, IsReadOn};
 ghost use Rattle.ch_witness.specs.Tree.{labels_of, IsTree, IsNew, IsGoneOn, IsLater, IsStartSeen, AllAre, AllSeen};
 
 use crate::aim::Aim;
@@ -40,18 +40,15 @@ impl Tree {
         settle: u32,
     ) -> Result<Tree, SearchError>
         requires start { rule.from ≢ rule.avoid }
-        requires cutoff { IsWithin rule.cutoff (S.bound_of source.old) }
+        requires cutoff { rule.cutoff ≼ S.bound_of source.old }
         requires kept { AreKept S.bears (S.shows source.old) (S.bound_of source.old) (kept_of rows.old) }
         requires some { 1 ≤ settle }
         requires few { settle ≤ 2 ^ 16 }
         ensures tree { IfOk result (λ tree. IsTree rule tree.steps.items (labels_of tree.frontier)) }
         ensures kept_rows { IfOk result (λ tree. AllSeen (IsKept (kept_of rows.new)) tree.steps.items) }
         ensures start { IfOk result (λ tree. (k : ℕ) → k < length targets.now → slice_index targets.now k ≢ rule.from → (seen : Seen) × IsKept (kept_of rows.new) seen × IsStartSeen rule seen tree.steps.items (labels_of tree.frontier)) }
-        ensures kept { AreKept S.bears (S.shows source.new) (S.bound_of source.new) (kept_of rows.new) }
-        ensures more { IsMore (kept_of rows.old) (kept_of rows.new) }
-        ensures stays { S.stays source.old source.new }
-        ensures found { AllNamed (S.whole source.old) (kept_of rows.old) → S.whole source.old rule.from → result ≡ Err Unseen → ⊥ }
-        ensures names { AllNamed (S.whole source.old) (kept_of rows.old) → S.whole source.old rule.from → OnOk result (AllNamed (S.whole source.new) (kept_of rows.new)) }
+        ensures read { IsReadOn S.bears (S.shows source.new) (S.bound_of source.new) (S.stays source.old source.new) (kept_of rows.old) (kept_of rows.new) }
+        ensures found { AllNamed (S.whole source.old) (kept_of rows.old) → S.whole source.old rule.from → FindsRows Unseen (S.whole source.new) (kept_of rows.new) result }
     {
         let mut frontier = earlier.frontier;
         frontier.start(rule.from)?;
@@ -83,16 +80,13 @@ impl Tree {
     ) -> Result<(), SearchError>
         requires tree { IsTree rule self.old.steps.items (labels_of self.old.frontier) }
         requires few { length self.old.steps.items + turns ≤ 2 ^ 16 }
-        requires cutoff { IsWithin rule.cutoff (S.bound_of source.old) }
+        requires cutoff { rule.cutoff ≼ S.bound_of source.old }
         requires kept { AreKept S.bears (S.shows source.old) (S.bound_of source.old) (kept_of rows.old) }
         ensures tree { OnOk result (IsTree rule self.new.steps.items (labels_of self.new.frontier)) }
         ensures later { OnOk result (IsLater self.old.steps.items self.new.steps.items (labels_of self.old.frontier) (labels_of self.new.frontier)) }
         ensures kept_rows { AllSeen (IsKept (kept_of rows.old)) self.old.steps.items → OnOk result (AllSeen (IsKept (kept_of rows.new)) self.new.steps.items) }
-        ensures kept { AreKept S.bears (S.shows source.new) (S.bound_of source.new) (kept_of rows.new) }
-        ensures more { IsMore (kept_of rows.old) (kept_of rows.new) }
-        ensures stays { S.stays source.old source.new }
-        ensures found { AllNamed (S.whole source.old) (kept_of rows.old) → AllAre (S.whole source.old) (labels_of self.old.frontier) → result ≡ Err Unseen → ⊥ }
-        ensures names { AllNamed (S.whole source.old) (kept_of rows.old) → AllAre (S.whole source.old) (labels_of self.old.frontier) → OnOk result (AllNamed (S.whole source.new) (kept_of rows.new)) }
+        ensures read { IsReadOn S.bears (S.shows source.new) (S.bound_of source.new) (S.stays source.old source.new) (kept_of rows.old) (kept_of rows.new) }
+        ensures found { AllNamed (S.whole source.old) (kept_of rows.old) → AllAre (S.whole source.old) (labels_of self.old.frontier) → FindsRows Unseen (S.whole source.new) (kept_of rows.new) result }
     {
         let mut done = 0;
         'turns: for _ in 0..turns {
@@ -149,17 +143,14 @@ impl Tree {
         requires label { labels_of self.old.frontier reached.node ≡ Some (record { cost = reached.cost; before = reached.before; settled = true }) }
         requires new { IsNew reached.node self.old.steps.items }
         requires few { length self.old.steps.items < 2 ^ 16 }
-        requires cutoff { IsWithin rule.cutoff (S.bound_of source.old) }
+        requires cutoff { rule.cutoff ≼ S.bound_of source.old }
         requires kept { AreKept S.bears (S.shows source.old) (S.bound_of source.old) (kept_of rows.old) }
         ensures tree { OnOk result (IsTree rule self.new.steps.items (labels_of self.new.frontier)) }
         ensures later { OnOk result (IsLater self.old.steps.items self.new.steps.items (labels_of self.old.frontier) (labels_of self.new.frontier)) }
         ensures few { OnOk result (length self.new.steps.items ≤ length self.old.steps.items + 1) }
         ensures gone { OnOk result ((seen : Seen) × IsKept (kept_of rows.new) seen × IsGoneOn rule reached seen self.old.steps.items self.new.steps.items (labels_of self.old.frontier) (labels_of self.new.frontier)) }
-        ensures kept { AreKept S.bears (S.shows source.new) (S.bound_of source.new) (kept_of rows.new) }
-        ensures more { IsMore (kept_of rows.old) (kept_of rows.new) }
-        ensures stays { S.stays source.old source.new }
-        ensures found { AllAre (S.whole source.old) (labels_of self.old.frontier) → result ≡ Err Unseen → ⊥ }
-        ensures names { AllNamed (S.whole source.old) (kept_of rows.old) → AllAre (S.whole source.old) (labels_of self.old.frontier) → OnOk result (AllNamed (S.whole source.new) (kept_of rows.new)) }
+        ensures read { IsReadOn S.bears (S.shows source.new) (S.bound_of source.new) (S.stays source.old source.new) (kept_of rows.old) (kept_of rows.new) }
+        ensures found { AllNamed (S.whole source.old) (kept_of rows.old) → AllAre (S.whole source.old) (labels_of self.old.frontier) → FindsRows Unseen (S.whole source.new) (kept_of rows.new) result }
         ensures whole { AllNamed (S.whole source.old) (kept_of rows.old) → AllAre (S.whole source.old) (labels_of self.old.frontier) → OnOk result (AllAre (S.whole source.new) (labels_of self.new.frontier)) }
     {
         let kept_at = rows.read(source, reached.node)?;

@@ -1,5 +1,5 @@
 -- Marks of receipts, one receipt or list after the other.
-use Rattle.std.proofs.Common.{ℕ, All, replicate, zero, suc, take, drop, ◌≡◌, ◌≢◌, ◌<◌, ◌+◌, List, [], ◌∷◌, ◌++◌, Bool, true, false, length, get_or, set, AllPairs, Contains, Some, slice_get, arith, refl, sym, ap, subst, ◌∙◌, ⊎_elim, append_assoc, length-append}
+use Rattle.std.proofs.Common.{ℕ, All, zero, suc, take, drop, ◌≡◌, ◌≢◌, ◌<◌, ◌+◌, List, [], ◌∷◌, ◌++◌, Bool, true, false, length, get_or, set, AllPairs, Contains, Some, slice_get, arith, refl, sym, ap, subst, ◌∙◌, ⊎_elim, append_assoc, length-append}
 use Rattle.std.proofs.lemmas.List.{append-nil, get_or-set_same, get_or-set_other, get_or_append_left, get_or_push, length_push, take_more, take-append-drop, take_all, drop_all}
 use Rattle.std.proofs.lemmas.Grind.{flat_map-append}
 use Rattle.std.proofs.Math.Numerals.{suc-eq-add-one}
@@ -71,12 +71,6 @@ false_is_true e = cc
 
 some_same : {X : Type 0} {x y : X} → Some x ≡ Some y → x ≡ y
 some_same e = cc
-
--- no place of a list of `false` has another
-unmarked : (n k : ℕ) → get_or (replicate n false) k false ≡ false
-unmarked zero k = refl
-unmarked (suc n) zero = refl
-unmarked (suc n) (suc k) = unmarked n k
 
 -- the next receipt, of the log and not marked yet
 pub marked_push : {log : List Contraction} (done : List Receipt) (marks : List Bool) (r : Receipt) → AreMarked log done marks → IsOfLog log r → r.rank < length marks → get_or marks r.rank false ≡ false → AreMarked log (done ++ r ∷ []) (set marks r.rank true)
@@ -176,17 +170,6 @@ marks_from_account {log} is lists marks size m h k inside =
     let at = entry_at log k (omega (arith, size, inside)) in
     let e = at.0 in
     subst (λ n. get_or marks n false ≡ true) (is.ranks k e at.1) (m.set (receipt_of e) (h.each e (k, omega (arith, size, inside), get_or_from_slice_get log k e e at.1)))
-
--- no marks are those of no receipts
-pub no_marks : {log : List Contraction} (n : ℕ) → AreMarked log [] (replicate n false)
-no_marks n = record {
-  apart = record {
-    once = λ i j d less within. absurd (omega arith);
-    only = λ r among. absurd (let none : among.0 < 0 = among.1 in omega arith);
-  };
-  set = λ r among. absurd (let none : among.0 < 0 = among.1 in omega arith);
-  known = λ k is. absurd (false_is_true (sym (unmarked n k) ∙ is));
-}
 
 -- what a vector has after its elements were written
 pub written : {X : Type 0} (n : ℕ) (new old : List X) → n ≡ length old → length new ≡ length old → take n (new ++ drop (length new) old) ≡ new

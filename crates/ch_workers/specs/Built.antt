@@ -1,9 +1,12 @@
 -- What a build comes to.
-use Rattle.std.specs.Prelude.{ℕ, ◌≡◌, List, codes, map, vec_len}
+use Rattle.std.specs.Prelude.{ℕ, ◌≡◌, List, Option, MatchOption, codes, map, vec_len}
 use Rattle.ch_graph.specs.Graph.{Graph}
 use Rattle.ch_graph.specs.Hierarchy.{Hierarchy, IsRight}
 use Rattle.ch_laws.specs.Contraction.{Contraction, State, IsReached, IsOver, IsMade}
+use Rattle.ch_multiqueue.specs.Closing.{Closed}
 use Rattle.ch_workers.specs.Account.{IsAccount}
+use Rattle.ch_workers.specs.Options.{queue_of}
+use Rattle.ch_workers.specs.declared.options.Options.{Options}
 use Rattle.ch_workers.specs.declared.built.Built.{Built}
 use Rattle.ch_workers.specs.declared.error.BuildError.{BuildError}
 use Rattle.ch_workers.specs.declared.error.BuildError.TheVariants.{OutOfMemory, BadOptions, Mixed}
@@ -23,6 +26,10 @@ pub record IsBuilt (graph : Graph) (count : ℕ) (b : Built) : Type 0 where
   pub right : IsRight graph b.hierarchy
   pub account : IsAccount b.log.items (map (λ v. v.items) b.receipts.items)
   pub lists : vec_len b.receipts ≡ count
+
+-- The queue of the workers was closed; without workers there is none.
+abbrev pub IsClosed : Options → Option Closed → Type 0
+IsClosed o queue = MatchOption queue (o.workers ≡ 0) (λ closed. closed.queue ≡ queue_of o)
 
 -- an error's name, as it is printed
 abbrev pub error_name : BuildError → List ℕ

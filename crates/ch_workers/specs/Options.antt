@@ -1,11 +1,17 @@
 -- The options with which workers contract the nodes of a graph.
-use Rattle.std.specs.Prelude.{ℕ, ◌≡◌, ◌<◌, ◌≤◌, ◌^◌}
+use Rattle.std.specs.Prelude.{ℕ, ◌≡◌, ◌*◌, ◌<◌, ◌≤◌, ◌^◌}
+use Rattle.ch_multiqueue.specs.Passes.{Queue}
 use Rattle.ch_workers.specs.declared.options.Options.{Options}
 
 -- from the least to the greatest
 pub record IsFrom (least greatest n : ℕ) : Type 0 where
   pub above : least ≤ n
   pub below : n ≤ greatest
+
+-- The queue in which nodes wait for the workers: so many heaps for each of them, a pass for each, and the seed of their
+-- draws.
+abbrev pub queue_of : Options → Queue
+queue_of o = record { heaps = o.workers * o.heaps; passes = o.workers; seed = o.seed }
 
 -- each number is in its range, and there is a list for each worker
 pub record AreGood (o : Options) (lists : ℕ) : Type 0 where

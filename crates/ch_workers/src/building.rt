@@ -1,8 +1,8 @@
-ghost use Rattle.std.specs.Prelude.{◌≡◌, ◌+◌, ◌<◌, ◌≤◌, ◌↔◌, [], All, IfOk, map, vec_len};
+ghost use Rattle.std.specs.Prelude.{◌≡◌, ◌+◌, ◌<◌, ◌≤◌, ◌↔◌, [], All, IfOk, MatchOption, map, vec_len};
 ghost use Rattle.ch_graph.specs.Hierarchy.{IsRight};
 ghost use Rattle.ch_workers.specs.Account.{IsAccount};
-ghost use Rattle.ch_workers.specs.Built.{IsMadeBy, IsBuilt};
-ghost use Rattle.ch_workers.specs.Options.{AreBad};
+ghost use Rattle.ch_workers.specs.Built.{IsMadeBy, IsBuilt, IsClosed};
+ghost use Rattle.ch_workers.specs.Options.{AreBad, queue_of};
 ghost use Rattle.ch_workers.specs.declared.error.BuildError.TheVariants.{BadOptions};
 
 use crate::boxed::box_lists;
@@ -18,6 +18,7 @@ use crate::trouble::Trouble;
 use ch_contract::Ledger;
 use ch_estimate::{Estimator, Leases};
 use ch_graph::Graph;
+use ch_multiqueue::Closed;
 use std::alloc::Global;
 use std::sync::Wait;
 use std::thread;
@@ -27,12 +28,13 @@ use std::thread::Threads;
 ///
 /// The workers choose nodes by their estimators, of which none was told anything: worker k by those of list k, one after
 /// the other. It goes by the first until it has made `stint` commits by it, drops it behind the gate at `Committed`, and
-/// goes on by the next, and so on; the last one stays. Each is told the log from entry 0. A worker whose thread can't be
-/// started, or who is refused memory, is done without; a sweep contracts what they leave.
+/// goes on by the next, and so on; the last one stays. Each is told the log from entry 0. A worker that is refused memory
+/// ends. One whose thread can't be started does nothing in that shift, and gets a thread in the next one. A sweep contracts
+/// what they leave. Then the queue is closed.
 /// `BadOptions`, which is tested first, where a number of the options is outside its range or there isn't one list for
-/// each worker; `OutOfMemory` where a growth was refused; `Mixed` where the receipts and the log, or the accounts of
-/// the queue, don't agree. On every answer the estimators were dropped and no lease of `leases` is out: so it doesn't
-/// answer as long as one is out elsewhere. Takes memory for the rows of the nodes, shortcuts included, and for those
+/// each worker; `OutOfMemory` where a growth was refused; `Mixed` where the receipts and the log don't agree, or the
+/// accounts of the queue, or where a book of rows has no place left. On every answer the estimators were dropped and no
+/// lease of `leases` is out: so it doesn't answer as long as one is out elsewhere. Takes memory for the rows of the nodes, shortcuts included, and for those
 /// that are replaced in a shift, which have a dozen entries or so for each node of the graph, and are given back by a
 /// thread of its own beside the next shift; for the log, the receipts and the queue.
 pub fn build<G: Gate, R: Threads + Wait + Sync>(
@@ -50,6 +52,7 @@ pub fn build<G: Gate, R: Threads + Wait + Sync>(
     ensures right { IfOk result (λ b. IsRight graph b.hierarchy) }
     ensures account { IfOk result (λ b. IsAccount b.log.items (map (λ v. v.items) b.receipts.items)) }
     ensures lists { IfOk result (λ b. vec_len b.receipts ≡ options.workers + 1) }
+    ensures queue { IfOk result (λ b. IsClosed options b.queue) }
     ensures leases { leases.new ≡ record leases.old { out = 0 } }
 {
     let built = build_with_good(rt, alloc, graph, options, estimators, gate);
@@ -69,6 +72,7 @@ fn build_with_good<G: Gate, R: Threads + Wait + Sync>(
     requires untold { All (λ list. All (λ estimator. heard estimator ≡ []) list.items) estimators.items }
     ensures bad { (result ≡ Err BadOptions) ↔ AreBad options (vec_len estimators) }
     ensures built { IfOk result (IsBuilt graph (options.workers + 1)) }
+    ensures queue { IfOk result (λ b. IsClosed options b.queue) }
 {
     if options.are_bad(estimators.len()) {
         return Err(BuildError::BadOptions);
@@ -96,6 +100,7 @@ fn build_by_good<G: Gate, R: Threads + Wait + Sync>(
     requires as_many { vec_len estimators ≡ good.options.workers }
     requires untold { All (λ list. All (λ estimator. heard estimator ≡ []) list.items) estimators.items }
     ensures built { IfOk result (IsBuilt graph (good.options.workers + 1)) }
+    ensures queue { IfOk result (λ b. IsClosed good.options b.queue) }
 {
     let lists = box_lists(alloc, estimators)?;
     let ledger = Ledger::new(alloc, graph)?;
@@ -103,8 +108,8 @@ fn build_by_good<G: Gate, R: Threads + Wait + Sync>(
     finish_beside(rt, alloc, worked, waiting, good, disposal)
 }
 
-/// Ends the queue, if there is one, in a thread of its own, and makes the hierarchy beside it. Both are done when it
-/// answers, and what the queue is refused for is told first.
+/// Closes the queue, if there is one, in a thread of its own, and makes the hierarchy beside it. Both are done when it
+/// returns, and what the queue is refused for is reported first.
 fn finish_beside<R: Threads + Wait + Sync>(
     rt: &R,
     alloc: Global,
@@ -113,18 +118,22 @@ fn finish_beside<R: Threads + Wait + Sync>(
     good: GoodOptions,
     disposal: &mut Disposal,
 ) -> Result<Built, Trouble>
+    requires waiting { MatchOption waiting (good.options.workers ≡ 0) (λ waiting. waiting.queue ≡ queue_of good.options) }
     ensures built { IfOk result (IsBuilt worked.ledger.graph (vec_len worked.receipts + 1)) }
+    ensures queue { IfOk result (λ b. IsClosed good.options b.queue) }
 {
     let Some(waiting) = waiting else {
         return finish(rt, alloc, worked, good, disposal);
     };
-    let (ended, built) = thread::join(
+    let (closed, built) = thread::join(
         rt,
-        move || waiting.end(),
+        move || -> Result<Closed, Trouble>
+            ensures closed { IfOk result (λ closed. closed.queue ≡ waiting.queue) }
+        { waiting.close() },
         move || -> Result<Built, Trouble>
             ensures built { IfOk result (IsBuilt worked.ledger.graph (vec_len worked.receipts + 1)) }
         { finish(rt, alloc, worked, good, disposal) },
     );
-    ended?;
-    built
+    let queue = Some(closed?);
+    Ok(Built { queue, ..built? })
 }

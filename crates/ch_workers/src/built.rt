@@ -1,5 +1,6 @@
 use ch_contract::{Contraction, Receipt};
 use ch_graph::Hierarchy;
+use ch_multiqueue::Closed;
 
 /// What workers and the sweep made of a graph.
 #[derive(Drop)]
@@ -10,4 +11,6 @@ pub struct Built {
     pub receipts: Vec<Vec<Receipt>>,
     /// What was done, first to last: the entry of rank k stands at k.
     pub log: Vec<Contraction>,
+    /// The queue in which the nodes waited for the workers, closed; none where there was no worker.
+    pub queue: Option<Closed>,
 }

@@ -11,7 +11,7 @@ pub enum BuildError {
     OutOfMemory = 1,
     /// A number of the options is outside its range, or there isn't one list of estimators for each worker.
     BadOptions,
-    /// The receipts and the log, or the accounts of the queue, don't agree.
+    /// The receipts and the log don't agree, or the accounts of the queue, or a book of rows had no place left.
     Mixed,
 }
 

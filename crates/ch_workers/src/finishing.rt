@@ -1,4 +1,4 @@
-ghost use Rattle.std.specs.Prelude.{◌≡◌, ◌+◌, ◌<◌, ◌≤◌, IfOk, length, map, vec_len};
+ghost use Rattle.std.specs.Prelude.{◌≡◌, ◌+◌, ◌<◌, ◌≤◌, IfOk, None, length, map, vec_len};
 ghost use Rattle.ch_laws.specs.Contraction.{IsOver};
 ghost use Rattle.ch_overlay.specs.Overlay.{state_of};
 ghost use Rattle.ch_contract.specs.Ledger.{IsLedger};
@@ -26,7 +26,8 @@ struct Swept {
     receipts: Vec<Receipt>,
 }
 
-/// Contracts what the workers left, and makes the hierarchy. The rows are dropped beside the making of its index.
+/// Contracts what the workers left, and makes the hierarchy. The rows are dropped beside the making of its index. The queue
+/// is put in when it is closed.
 pub(crate) fn finish<R: Threads + Wait>(
     rt: &R,
     alloc: Global,
@@ -35,6 +36,7 @@ pub(crate) fn finish<R: Threads + Wait>(
     disposal: &mut Disposal,
 ) -> Result<Built, Trouble>
     ensures built { IfOk result (IsBuilt worked.ledger.graph (vec_len worked.receipts + 1)) }
+    ensures queue { IfOk result (λ b. b.queue ≡ None) }
 {
     let Worked {
         ledger,
@@ -111,6 +113,7 @@ fn built_of<R: Threads>(
     requires over { IsOver (state_of ledger.overlay) }
     requires account { IsAccount ledger.log (map (λ v. v.items) receipts.items) }
     ensures built { IfOk result (IsBuilt ledger.graph (vec_len receipts)) }
+    ensures queue { IfOk result (λ b. b.queue ≡ None) }
 {
     let finished = match ledger.finish() {
         Ok(finished) => finished,
@@ -123,5 +126,6 @@ fn built_of<R: Threads>(
         hierarchy,
         receipts,
         log: finished.log,
+        queue: None,
     })
 }

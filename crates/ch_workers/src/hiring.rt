@@ -1,4 +1,5 @@
-ghost use Rattle.std.specs.Prelude.{◌≡◌, ◌<◌, ◌≤◌, ◌*◌, [], All, IfOk, vec_len};
+ghost use Rattle.std.specs.Prelude.{◌≡◌, ◌<◌, ◌≤◌, ◌*◌, [], All, IfOk, OnOk, vec_len};
+ghost use Rattle.ch_workers.specs.Options.{queue_of};
 
 use crate::good_options::CrewOptions;
 use crate::listeners::{Listeners, listeners_of};
@@ -24,6 +25,7 @@ pub(crate) fn hire<E: Estimator>(
     requires as_many { vec_len estimators ≡ crew.options.workers }
     requires untold { All (λ list. All (λ estimator. E.heard estimator ≡ []) list.items) estimators.items }
     ensures count { IfOk result (λ hired. vec_len hired.workers ≡ crew.options.workers) }
+    ensures queue { IfOk result (λ hired. hired.queue ≡ queue_of crew.options) }
 {
     let options = crew.options;
     let lists = listeners_of(alloc, estimators)?;
@@ -45,6 +47,7 @@ fn passes_of(
     requires some { 0 < count }
     requires few { count ≤ 64 }
     ensures count { IfOk result (λ passes. vec_len passes ≡ count) }
+    ensures queue { OnOk result (queue.new ≡ record queue.old { passes = count }) }
 {
     let mut passes = Vec::new(alloc);
     passes.push(first)?;

@@ -39,7 +39,7 @@ impl Options {
     /// The greatest number of commits by an estimator that has a next one.
     pub const MAX_STINT: u64 = 1_099_511_627_776;
 
-    /// Nobody works but the calling thread. All else is as the program has it where it isn't told: two heaps for each
+    /// No workers: the calling thread contracts all nodes. The other numbers are the program's defaults: two heaps for each
     /// worker, 64 nodes for a search, 16 nodes put back, 2^32 turns, and one estimator for all of a worker's commits.
     pub const PLAIN: Options = Options {
         workers: 0,

@@ -1,5 +1,6 @@
-ghost use Rattle.std.specs.Prelude.{◌≡◌, ◌<◌, ◌≤◌, [], All, IfOk, vec_len};
+ghost use Rattle.std.specs.Prelude.{◌≡◌, ◌<◌, ◌≤◌, [], All, IfOk, MatchOption, vec_len};
 ghost use Rattle.ch_multiqueue.specs.Accounts.{AreBalanced};
+ghost use Rattle.ch_workers.specs.Options.{queue_of};
 
 use crate::disposal::Disposal;
 use crate::gate::Gate;
@@ -10,7 +11,7 @@ use crate::trouble::Trouble;
 use crate::worker::Worker;
 use ch_contract::{Ledger, Receipt};
 use ch_estimate::Estimator;
-use ch_multiqueue::{CloseError, Item, MultiQueue, Pass};
+use ch_multiqueue::{CloseError, Closed, MultiQueue, Pass};
 use std::alloc::{AllocError, Global};
 use std::sync::Wait;
 use std::thread::Threads;
@@ -51,6 +52,7 @@ pub(crate) fn contract<E: Estimator + Send, G: Gate, R: Threads + Wait + Sync>(
     requires untold { All (λ list. All (λ estimator. E.heard estimator ≡ []) list.items) estimators.items }
     ensures graph { IfOk result (λ made. made.0.ledger.graph ≡ ledger.graph) }
     ensures lists { IfOk result (λ made. vec_len made.0.receipts ≡ good.options.workers) }
+    ensures queue { IfOk result (λ made. MatchOption made.1 (good.options.workers ≡ 0) (λ waiting. waiting.queue ≡ queue_of good.options)) }
 {
     let options = good.options;
     if options.workers == 0 {
@@ -85,6 +87,7 @@ fn go_on<E: Estimator + Send, G: Gate, R: Threads + Wait + Sync>(
 ) -> Result<Work<E>, Trouble>
     ensures graph { IfOk result (λ after. after.ledger.graph ≡ work.ledger.graph) }
     ensures count { IfOk result (λ after. vec_len after.workers ≡ vec_len work.workers) }
+    ensures queue { IfOk result (λ after. after.queue ≡ work.queue) }
 {
     let nodes = work.ledger.overlay().nodes();
     let mut work = shift(rt, alloc, work, crew, gate, disposal)?;
@@ -124,22 +127,17 @@ fn take_apart<E: Estimator>(alloc: Global, workers: Vec<Worker<E>>) -> Result<Le
 }
 
 impl Waiting {
-    /// Ends the queue. `Mixed` where a pass is missing, or where an item was lost, doubled or altered between a push and
+    /// Closes the queue. `Mixed` where a pass is missing, or where an item was lost, doubled or altered between a push and
     /// a pop.
-    pub(crate) fn end(self) -> Result<(), Trouble> {
+    pub(crate) fn close(self) -> Result<Closed, Trouble>
+        ensures closed { IfOk result (λ closed. closed.queue ≡ self.queue) }
+        ensures balanced { IfOk result (λ closed. AreBalanced self.passes.items closed.left) }
+    {
         let Waiting { queue, passes } = self;
-        let _left = close(queue, passes)?;
-        Ok(())
-    }
-}
-
-/// Ends a queue, by the passes of all workers, and answers what is left in it.
-fn close(queue: MultiQueue, passes: Vec<Pass>) -> Result<Vec<Item>, Trouble>
-    ensures { IfOk result (λ left. AreBalanced passes.items left.items) }
-{
-    match queue.close(passes) {
-        Ok(items) => Ok(items),
-        Err((CloseError::OutOfMemory, _, _)) => Err(Trouble::OutOfMemory),
-        Err((CloseError::PassMissing | CloseError::Mixed, _, _)) => Err(Trouble::Mixed),
+        match queue.end(passes) {
+            Ok(closed) => Ok(closed),
+            Err((CloseError::OutOfMemory, _, _)) => Err(Trouble::OutOfMemory),
+            Err((CloseError::PassMissing | CloseError::Mixed, _, _)) => Err(Trouble::Mixed),
+        }
     }
 }

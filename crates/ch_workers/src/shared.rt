@@ -44,7 +44,9 @@ impl<S: Site> Shared<S> {
         board: Board<S>,
         queue: MultiQueue,
         crew: CrewOptions,
-    ) -> Shared<S> {
+    ) -> Shared<S>
+        ensures { result.queue ≡ queue }
+    {
         let nodes = board.graph().nodes();
         let room = FEWEST.max(ROOM * u64::from(nodes));
         Shared {
@@ -59,7 +61,9 @@ impl<S: Site> Shared<S> {
     }
 
     /// The board and the queue, which nobody shares any more.
-    pub(crate) fn into_parts(self) -> (Board<S>, MultiQueue) {
+    pub(crate) fn into_parts(self) -> (Board<S>, MultiQueue)
+        ensures { result.1 ≡ self.queue }
+    {
         let Shared { board, queue, .. } = self;
         (board.into_inner(), queue)
     }

@@ -44,6 +44,7 @@ pub(crate) fn shift<E: Estimator + Send, G: Gate, R: Threads + Wait + Sync>(
 ) -> Result<Work<E>, Trouble>
     ensures graph { IfOk result (λ after. after.ledger.graph ≡ work.ledger.graph) }
     ensures count { IfOk result (λ after. vec_len after.workers ≡ vec_len work.workers) }
+    ensures queue { IfOk result (λ after. after.queue ≡ work.queue) }
 {
     let rows = work.ledger.overlay();
     let blank = Blank::new(alloc, rows.nodes(), rows.bound())?;
@@ -71,6 +72,7 @@ fn shift_named<
     requires bound { blank.bound ≡ work.ledger.overlay.bound }
     ensures graph { IfOk result (λ after. after.ledger.graph ≡ work.ledger.graph) }
     ensures count { IfOk result (λ after. vec_len after.workers ≡ vec_len work.workers) }
+    ensures queue { IfOk result (λ after. after.queue ≡ work.queue) }
 {
     let Work {
         ledger,

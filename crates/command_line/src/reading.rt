@@ -59,7 +59,7 @@ fn preparing<'a>(found: &ArgMatches<'a>) -> Option<Job<'a>> {
     let (graph, out) = files_of(found, "GRAPH", "OUT")?;
     let workers = workers_of(found)?;
     let seed = found.get_one("seed")?;
-    let order = order_of(found.get_str("order")?)?;
+    let order = Order::named(found.get_str("order")?)?;
     let stint = stint_of(found)?;
     let progress = found.get_flag("progress");
     Some(Job::Prepare(Preparation {
@@ -91,16 +91,6 @@ fn files_of<'a>(found: &ArgMatches<'a>, first: &str, second: &str) -> Option<(&'
 // How many workers are asked for, if that is a number of workers.
 fn workers_of(found: &ArgMatches<'_>) -> Option<Workers> {
     Workers::new(found.get_one("workers")?)
-}
-
-// The order of this name, if there is one.
-fn order_of(name: &str) -> Option<Order> {
-    match name {
-        "edges" => Some(Order::Edges),
-        "neighbours" => Some(Order::Neighbours),
-        "depth" => Some(Order::Depth),
-        _ => None,
-    }
 }
 
 // The stint that is asked for, or that there is none, if that is so.
@@ -227,8 +217,8 @@ fn order<'a>(alloc: Global) -> Arg<'a>
     ensures { result.global ≡ false }
 {
     option(alloc, "order", "ORDER", ORDER)
-        .default_value("edges")
-        .value_parser(ORDERS.as_slice())
+        .default_value(Order::ALL[0].name())
+        .value_parser(Order::NAMES.as_slice())
 }
 
 // How many commits they make by one order.
@@ -274,10 +264,8 @@ const SEED: &str = "Seed of the draws by which workers choose nodes, 0 to 184467
 const ORDER: &str =
     "Nodes that go first: of the fewest arcs left, or that and fewest neighbours gone, or that and least depth";
 
-const ORDERS: [&str; 3] = ["edges", "neighbours", "depth"];
-
 const STINT: &str =
-    "After how many commits a worker goes on by the next order, of the one that is asked for and then the other two: 1 to 1099511627776; without it a worker keeps to the one";
+    "After how many commits a worker goes on by the next order, of the one that is asked for and then the others: 1 to 1099511627776; without it a worker keeps to the one";
 
 const PROGRESS: &str =
     "Show on standard error how many nodes are contracted and how long the rest may take, where that is a terminal";

@@ -1,2 +1,3 @@
-/// The version of the program, and the toolchain that has proved and built it, as `rt version` names it.
-pub(crate) const VERSION: &str = "1.0.0, proved with rattle-kit-13f logic dac8208d650f15bf";
+/// What `--version` says behind the program's name: its version, and the logic of the toolchain that has proved it, as
+/// `rt version` names it. This is the one place that names the logic; a test compares what is printed.
+pub(crate) const VERSION: &str = "1.1.0, proved by Rattle, logic dac8208d650f15bf";

@@ -3,7 +3,7 @@ use Rattle.std.proofs.Common.{ℕ, suc, ◌≡◌, ◌≢◌, ◌+◌, ◌-◌, 
 use Rattle.std.specs.IoError.{error_kind}
 use Rattle.std.specs.declared.io.Error.{Error}
 use Rattle.std.specs.declared.io.ErrorKind.TheVariants.{Interrupted}
-use Rattle.counted_io.specs.Calls.{Calls, IsCalled, RefusesBy, IsRefusal, Waits, EndsBy, FailsBy, TakesBy, Takings, StopsBy}
+use Rattle.counted_io.specs.Calls.{Calls, IsCalled, RefusesBy, IsFailedWrite, Waits, EndsBy, FailsBy, TakesBy, Takings, StopsBy}
 
 -- a test that was false
 pub not_so : {P : Type 0} (b : Bool) → (P → IsTrue b) → b ≡ false → P → ⊥
@@ -28,7 +28,7 @@ module _ {S : Type 0} (step : S → S → Result ℕ Error → Type 0) (first le
   take_more n last = (suc takes.0, omega (arith, some, takes.1), Takings.one_more takes.2 last)
 
   -- one more call failed, or took no byte
-  pub stop_by : (answer : Result ℕ Error) → IsRefusal answer → step mid new answer → (calls : ℕ) × (first ≡ left - 1 + calls) × StopsBy step calls (left - 1) taken old new
+  pub stop_by : (answer : Result ℕ Error) → IsFailedWrite answer → step mid new answer → (calls : ℕ) × (first ≡ left - 1 + calls) × StopsBy step calls (left - 1) taken old new
   stop_by answer refuses last =
       (takes.0 + 1, omega (arith, some, takes.1), inl (record { earlier = takes.0; before = mid; answer = answer; takes = takes.2; last = last; refuses = refuses; calls_are = refl }))
 

@@ -1,5 +1,6 @@
 -- Which calls of a reader or a writer were made, and what they answered. A step is one call: it leads from what the reader
--- or writer was to what it is, with the call's answer: how many bytes were given or taken, or an error.
+-- or writer was to what it is, with the call's answer: how many bytes were given or taken, or an error. A step of a writer
+-- is a call that offered it one byte or more.
 use Rattle.std.specs.Prelude.{ℕ, suc, ◌≡◌, ◌≢◌, ◌+◌, ◌<◌, ◌⊎◌, Result, Ok, Err}
 use Rattle.std.specs.IoError.{error_kind}
 use Rattle.std.specs.declared.io.Error.{Error}
@@ -15,10 +16,10 @@ abbrev pub IsFailure : Result ℕ Error → Type 0
 IsFailure (Ok n) = ⊥
 IsFailure (Err e) = error_kind e ≢ Interrupted
 
--- the same of a writer, for which to take no byte is a failure too
-abbrev pub IsRefusal : Result ℕ Error → Type 0
-IsRefusal (Ok n) = n ≡ 0
-IsRefusal (Err e) = IsFailure (Err e)
+-- the same of a writer, for which to take none of the bytes that it was offered is a failure too
+abbrev pub IsFailedWrite : Result ℕ Error → Type 0
+IsFailedWrite (Ok n) = n ≡ 0
+IsFailedWrite (Err e) = IsFailure (Err e)
 
 -- So many calls were made, one after the other, whatever they answered.
 pub data Calls {S : Type 0} (step : S → S → Result ℕ Error → Type 0) : ℕ → S → S → Type 0 where
@@ -64,7 +65,7 @@ pub record RefusesBy {S : Type 0} (step : S → S → Result ℕ Error → Type 
   pub answer : Result ℕ Error
   pub takes : Takings step earlier taken old before
   pub last : step before new answer
-  pub refuses : IsRefusal answer
+  pub refuses : IsFailedWrite answer
   pub calls_are : calls ≡ earlier + 1
 
 -- So many calls of a writer were made, by which so many bytes were taken. The last failed or took no byte, or no call is

@@ -1,7 +1,7 @@
 ghost use Rattle.std.specs.Prelude.{◌≡◌, ◌+◌, ◌*◌, ◌<◌, ◌≤◌, ℕ, [], Some, Result, take, length, min, OnOk, IfErr, MatchOption};
 ghost use Rattle.std.specs.Io.KnownBytes.{Appends, Keeps};
 ghost use Rattle.std.specs.declared.io.Error.{Error as IoError};
-ghost use Rattle.counted_io.specs.Calls.{IsCalled, IsRefusal, StopsBy, TakesBy, Takings};
+ghost use Rattle.counted_io.specs.Calls.{IsCalled, IsFailedWrite, StopsBy, TakesBy, Takings};
 ghost use Rattle.counted_io.specs.Handing.{HandsOn, HandsOnPart};
 ghost use Rattle.counted_io.specs.Names.{fault_text};
 ghost use Rattle.counted_io.specs.declared.TheConstants.{MOST_CALLS, PIECE};
@@ -13,20 +13,20 @@ use std::io::{self, Write};
 
 /// A writer whose calls can be told one by one. Every writer is one.
 pub trait StepWrite: Write {
-    ghost use Rattle.std.specs.Prelude.{ℕ, Result};
+    ghost use Rattle.std.specs.Prelude.{ℕ, ◌<◌, length, Result};
     ghost use Rattle.std.specs.Io.{WritesAtMost};
     ghost use Rattle.std.specs.Io.KnownBytes.{WriteAppends};
     ghost use Rattle.std.specs.declared.io.Error.{Error};
 
-    /// How one call leads from what the writer was to what it is, by the call's answer. What it is for a writer is open,
-    /// so only who has made the call has its step.
+    /// How one call that offers some bytes leads from what the writer was to what it is, by the call's answer. What it is
+    /// for a writer is open, so only who has made such a call has its step. A call that offers none has no step.
     ghost step: { Self → Self → Result ℕ Error → Type 0 };
 
     /// One call of the writer.
     fn write_once(&mut self, bytes: &[u8]) -> io::Result<usize>
         ensures within { WritesAtMost result bytes.now }
         ensures bytes { WriteAppends (Self.contents self.old) (Self.contents self.new) result bytes.now }
-        ensures step { step self.old self.new result };
+        ensures step { 0 < length bytes.now → step self.old self.new result };
 }
 
 impl<W: Write> StepWrite for W {
@@ -63,8 +63,9 @@ impl WriteCalls {
 
     /// Writes the bytes, 64 KiB at most in a call.
     ///
-    /// The writer is called again where it took a part or was interrupted. It is refused where the writer fails or takes
-    /// no byte, or where no more calls may be made. Takes no memory.
+    /// Each call offers one byte or more. The writer is called again where it took a part or was interrupted. The write is
+    /// refused where the writer fails or takes none of the bytes that it was offered, or where no more calls may be made.
+    /// Takes no memory.
     pub fn write<W: StepWrite>(&mut self, writer: &mut W, bytes: &[u8]) -> Result<(), WriteFault>
         ensures ok { OnOk result (HandsOn (W.contents writer.old) (W.contents writer.new) bytes.now [] self.old.written self.new.written) }
         ensures err { IfErr result (λ fault. HandsOnPart (W.contents writer.old) (W.contents writer.new) bytes.now self.old.written fault.written) }
@@ -107,11 +108,12 @@ fn write_bytes<W: StepWrite>(bytes: &[u8], writer: &mut W, left: &mut u64) -> us
     taken
 }
 
-// One call of the writer: how many bytes it took, 0 where it was interrupted, or none where it failed.
+// One call of the writer, with some bytes: how many bytes it took, 0 where it was interrupted, or none where it failed.
 fn write_piece<W: StepWrite>(bytes: &[u8], writer: &mut W) -> Option<usize>
+    requires { 0 < length bytes.now }
     ensures bytes { MatchOption result (Keeps (W.contents writer.old) (W.contents writer.new))
         (λ n. (n ≤ length bytes.now) × (n ≤ PIECE) × Appends (W.contents writer.old) (W.contents writer.new) (take n bytes.now)) }
-    ensures step { MatchOption result ((answer : Result ℕ IoError) × IsRefusal answer × W.step writer.old writer.new answer) (λ n. TakesBy W.step n writer.old writer.new) }
+    ensures step { MatchOption result ((answer : Result ℕ IoError) × IsFailedWrite answer × W.step writer.old writer.new answer) (λ n. TakesBy W.step n writer.old writer.new) }
 {
     let piece = &bytes[..bytes.len().min(PIECE)];
     match writer.write_once(piece) {

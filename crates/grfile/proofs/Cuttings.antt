@@ -13,7 +13,7 @@ use Rattle.grfile.specs.declared.error.GrErrorKind.TheVariants.{OutOfMemory, Rea
 use Rattle.grfile.specs.Lines.{lines_of}
 use Rattle.grfile.specs.Outcome.{◌>>=◌, IsReading, FromText, IsOfLine, SaysNothing, Takes, capped, next_line}
 use Rattle.grfile.specs.Grammar.{Grammar, Listing, listing_after}
-use Rattle.grfile.specs.Taken.{CountsLines, HasTaken, IsAtEndOf, IsReached, IsReachedAfter, StopsAtReached, Taken, line_feeds, told_with}
+use Rattle.grfile.specs.Taken.{CountsLines, HasTaken, IsAtEndOf, IsLineReached, IsReachedAfter, StopsAtReached, Taken, line_feeds, told_with}
 use Rattle.grfile.specs.ToTheEnd.{ReachesEnd, ReadsToEnd}
 use Rattle.grfile.proofs.LineCuts.{feeds_both, lines_first}
 use Rattle.grfile.proofs.Readings.{from_text_map}
@@ -27,7 +27,7 @@ pub counts_kept : (r : Result ⊤ GrError) (old feeds new : ℕ) → IfErr r (λ
 counts_kept (Ok x) old feeds new h count fits = omega arith
 counts_kept (Err e) old feeds new h count fits = record { from = omega arith; to = omega arith; line_is = ap (λ (e : GrError). e.line) h; no_read = λ is. absurd (cc) }
 
-pub counts_after : (old mid new feeds more : ℕ) (e : GrError) → mid ≡ capped (old + 1) → feeds ≡ more + 1 → IsReached mid (mid + more) new e → IsReached old (old + feeds) new e
+pub counts_after : (old mid new feeds more : ℕ) (e : GrError) → mid ≡ capped (old + 1) → feeds ≡ more + 1 → IsLineReached mid (mid + more) new e → IsLineReached old (old + feeds) new e
 counts_after old mid new feeds more e mid_is feeds_are reached = record { from = omega (arith, reached.from); to = omega (arith, reached.to); line_is = reached.line_is; no_read = reached.no_read }
 
 -- what a reader says at first
@@ -35,7 +35,7 @@ pub told_first : {E : Type 0} (grammar : Grammar E) (taken : Taken E) (rest : Li
 told_first {E} grammar taken rest is = ap (λ (t : Taken E). told_with grammar t rest) is ∙ ap (λ (lines : List (List ℕ)). listing_after grammar 0 lines) (lines_first rest)
 
 -- after a refusal
-told_failed : {E : Type 0} (grammar : Grammar E) (taken : Taken E) (e : GrError) (rest : List ℕ) → taken.failed ≡ Some e → told_with grammar taken rest ≡ Err e
+pub told_failed : {E : Type 0} (grammar : Grammar E) (taken : Taken E) (e : GrError) (rest : List ℕ) → taken.failed ≡ Some e → told_with grammar taken rest ≡ Err e
 told_failed grammar taken e rest failed = rw failed refl
 
 module _ {E B : Type 0} (grammar : Grammar E) (old new : Taken E) (piece : List ℕ) (view : Listing E → Result B GrError) where
@@ -52,7 +52,7 @@ module _ {E B : Type 0} (grammar : Grammar E) (old new : Taken E) (piece : List 
 
 -- What is known of the bytes that were taken
 
-known_more : (bytes chunk : List ℕ) (had left later : Option (List ℕ)) → IfSome had (λ text. MatchOption left ⊥ (λ rest. bytes ++ rest ≡ text)) → Consumes left later chunk → IfSome had (λ text. MatchOption later ⊥ (λ rest. (bytes ++ chunk) ++ rest ≡ text))
+pub known_more : (bytes chunk : List ℕ) (had left later : Option (List ℕ)) → IfSome had (λ text. MatchOption left ⊥ (λ rest. bytes ++ rest ≡ text)) → Consumes left later chunk → IfSome had (λ text. MatchOption later ⊥ (λ rest. (bytes ++ chunk) ++ rest ≡ text))
 known_more bytes chunk None left later known consumes = tt
 known_more bytes chunk (Some text) None later known consumes = absurd known
 known_more bytes chunk (Some text) (Some xs) None known consumes = absurd consumes
@@ -86,7 +86,7 @@ stops_after taken (Some text) None e known reached nothing = absurd known
 stops_after taken (Some text) (Some rest) e known reached nothing = (taken, known, reached)
 
 -- in a piece that was taken last
-pub stops_in_piece : {B : Type 0} (old mid : List ℕ → Result B GrError) (line new : ℕ) (had left later : Option (List ℕ)) (chunk : List ℕ) (e : GrError) → HasTaken old mid line had left → Consumes left later chunk → length chunk ≤ 65536 → IsReached line (line + line_feeds chunk) new e → StopsAtReached had later e
+pub stops_in_piece : {B : Type 0} (old mid : List ℕ → Result B GrError) (line new : ℕ) (had left later : Option (List ℕ)) (chunk : List ℕ) (e : GrError) → HasTaken old mid line had left → Consumes left later chunk → length chunk ≤ 65536 → IsLineReached line (line + line_feeds chunk) new e → StopsAtReached had later e
 stops_in_piece old mid line new had left later chunk e taken consumes short reached =
     stops_after (taken.0 ++ chunk) had later e (known_more taken.0 chunk had left later taken.3 consumes) (record {
       before = taken.0;
@@ -112,7 +112,7 @@ stops_between old mid line had left e taken line_is nothing =
       read = λ is. omega (arith, taken.2, at_line);
     }) nothing
 
-wants_memory : (kind : GrErrorKind) → FromText kind ⊥ → kind ≢ Read → kind ≡ OutOfMemory
+pub wants_memory : (kind : GrErrorKind) → FromText kind ⊥ → kind ≢ Read → kind ≡ OutOfMemory
 wants_memory OutOfMemory nothing no_read = refl
 wants_memory Read nothing no_read = absurd (no_read refl)
 wants_memory UnknownLine nothing no_read = absurd nothing

@@ -10,11 +10,11 @@ use Rattle.grfile.specs.Grammar.{number_in}
 use Rattle.grfile.specs.Roads.{graph_size, size_in_range, road_of, road_in_range, is_outside}
 use Rattle.grfile.specs.Pairs.{pairs_size, pair_of}
 
-bind_err : {A B : Type 0} (r : Result A GrError) (f : A → Result B GrError) (P : GrError → Type 0) → IfErr r P → ((a : A) → IfErr (f a) P) → IfErr (r >>= f) P
+pub bind_err : {A B : Type 0} (r : Result A GrError) (f : A → Result B GrError) (P : GrError → Type 0) → IfErr r P → ((a : A) → IfErr (f a) P) → IfErr (r >>= f) P
 bind_err (Ok x) f P h next = next x
 bind_err (Err e) f P h next = h
 
-test_err : {A : Type 0} (b : Bool) (r s : Result A GrError) (P : GrError → Type 0) → IfErr r P → IfErr s P → IfErr (if b then r else s) P
+pub test_err : {A : Type 0} (b : Bool) (r s : Result A GrError) (P : GrError → Type 0) → IfErr r P → IfErr s P → IfErr (if b then r else s) P
 test_err true r s P h k = h
 test_err false r s P h k = k
 

@@ -12,3 +12,4 @@ pub mod PlainTaken
 pub mod KeptBytes
 pub mod AskedInRange
 pub mod Colons
+pub mod Before

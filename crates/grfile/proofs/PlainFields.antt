@@ -42,9 +42,6 @@ pub record AreDigits (text : List ℕ) (i number : ℕ) : Type 0 where
   pub digits : all_ascii_digits (take i text) ≡ true
   pub spell : value_after 0 (take i text) ≡ number
 
-pub digits_none : (text : List ℕ) → AreDigits text 0 0
-digits_none text = record { digits = refl; spell = refl }
-
 pub digits_more : (text : List ℕ) (i n m : ℕ) → i < length text → AreDigits text i n → is_ascii_digit (get_or text i 0) ≡ true → m ≡ 10 * n + (get_or text i 0 - 48) → AreDigits text (i + 1) m
 digits_more text i n m h so_far digit is =
     let more = take_more text i 0 h in

@@ -58,15 +58,6 @@ module _ {E : Type 0} (grammar : Grammar E) (n number : ℕ) (old new : Listed E
         shorter = omega (arith, long, length-append plain.line (10 ∷ rest));
       }
 
--- a line that was cut at its line feed
-pub takes_cut : {E : Type 0} (grammar : Grammar E) (n number : ℕ) (old new : Option (Listing E)) (text cut stripped rest : List ℕ) → ((more : List (List ℕ)) → listing_from grammar number new more ≡ listing_from grammar n old (stripped ∷ more)) → stripped ≡ strip_carriage_return cut → number ≡ next_line n → ((begun more : List ℕ) → cut_after begun (text ++ more) ≡ (begun ++ cut) ∷ cut_after [] (rest ++ more)) → line_feeds text ≡ line_feeds rest + 1 → length rest < length text → TakesLine grammar n number old new text rest
-takes_cut grammar n number old new text cut stripped rest takes is number_is lines feeds shorter = record {
-  told = λ more. takes (lines_after [] (rest ++ more)) ∙ ap (λ (line : List ℕ). listing_from grammar n old (line ∷ lines_after [] (rest ++ more))) is ∙ sym (ap (λ (all : List (List ℕ)). listing_from grammar n old (map strip_carriage_return all)) (lines [] more));
-  line = number_is;
-  feeds = feeds;
-  shorter = shorter;
-}
-
 -- bytes of a line that hasn't ended
 cut_more : (begun text more : List ℕ) → line_feeds text ≡ 0 → cut_after begun (text ++ more) ≡ cut_after (begun ++ text) more
 cut_more begun [] more none = ap (λ (line : List ℕ). cut_after line more) (sym (append-nil begun))

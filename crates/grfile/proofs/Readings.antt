@@ -8,7 +8,7 @@ use Rattle.grfile.specs.declared.error.GrError.{GrError}
 use Rattle.grfile.specs.declared.error.GrErrorKind.{GrErrorKind}
 use Rattle.grfile.specs.declared.error.GrErrorKind.TheVariants.{OutOfMemory, Read, UnknownLine, NoProblemLine, SecondProblemLine, FieldCount, NotANumber, NodeRange, WeightTooBig, TooManyNodes, TooManyArcs, ArcCount}
 use Rattle.grfile.specs.Lines.{lines_of}
-use Rattle.grfile.specs.Outcome.{◌>>=◌, FromText, SaysNothing}
+use Rattle.grfile.specs.Outcome.{◌>>=◌, FromText}
 use Rattle.grfile.specs.Grammar.{Listing, listing_after}
 use Rattle.grfile.specs.Roads.{graph_grammar}
 use Rattle.grfile.specs.Pairs.{pair_grammar}
@@ -28,9 +28,6 @@ from_text_map WeightTooBig f p = f p
 from_text_map TooManyNodes f p = f p
 from_text_map TooManyArcs f p = f p
 from_text_map ArcCount f p = f p
-
-pub from_nothing : (e : GrError) (P : Type 0) → SaysNothing e → FromText e.kind P
-from_nothing e P nothing = from_text_map e.kind (λ h. absurd h) nothing
 
 pub graph_fault : (text : List ℕ) (e : GrError) → FromText e.kind (listing_after graph_grammar 0 (lines_of text) ≡ Err e) → FromText e.kind (graph_of text ≡ Err e)
 unfolding graph_of

@@ -69,7 +69,7 @@ pub record TakesLine {E : Type 0} (grammar : Grammar E) (n number : ℕ) (old ne
 
 -- A refusal of the line that was reached, by no failed read. `old` lines had ended before the call and `new` have
 -- now, of at most so many.
-pub record IsReached (old most new : ℕ) (e : GrError) : Type 0 where
+pub record IsLineReached (old most new : ℕ) (e : GrError) : Type 0 where
   pub from : capped old ≤ new
   pub to : new ≤ most
   pub line_is : e.line ≡ next_line new
@@ -78,7 +78,7 @@ pub record IsReached (old most new : ℕ) (e : GrError) : Type 0 where
 -- How many lines have ended after a call that took bytes with so many line feeds: one for each, or, after a refusal,
 -- those before the line that was reached.
 abbrev pub CountsLines : {A : Type 0} → Result A GrError → ℕ → ℕ → ℕ → Type 0
-CountsLines result old feeds new = MatchResult result (λ _. new ≡ capped (old + feeds)) (IsReached old (old + feeds) new)
+CountsLines result old feeds new = MatchResult result (λ _. new ≡ capped (old + feeds)) (IsLineReached old (old + feeds) new)
 
 -- A refusal at the end of a text of which so many lines had ended: no failed read, and want of memory at the next.
 pub record IsAtEndOf (line : ℕ) (e : GrError) : Type 0 where
@@ -101,7 +101,24 @@ pub record IsReachedAfter (taken : List ℕ) (e : GrError) : Type 0 where
   pub to : e.line ≤ next_line (line_feeds taken)
   pub read : e.kind ≡ Read → e.line ≡ next_line (line_feeds taken)
 
--- A refusal that says nothing of a text is of the line that was reached, where it is known what a reader had and what
--- it has left.
+-- This is said of a refusal that says nothing of a text, and of the bytes of it that were taken, where it is known what a
+-- reader had and what it has left.
+abbrev pub StopsWith : (List ℕ → GrError → Type 0) → Option (List ℕ) → Option (List ℕ) → GrError → Type 0
+StopsWith says had left e = SaysNothing e → IfSome had (λ text. MatchOption left ⊥ (λ rest. (taken : List ℕ) × (taken ++ rest ≡ text) × says taken e))
+
+-- it is of the line that was reached
 abbrev pub StopsAtReached : Option (List ℕ) → Option (List ℕ) → GrError → Type 0
-StopsAtReached had left e = SaysNothing e → IfSome had (λ text. MatchOption left ⊥ (λ rest. (taken : List ℕ) × (taken ++ rest ≡ text) × IsReachedAfter taken e))
+StopsAtReached had left e = StopsWith IsReachedAfter had left e
+
+-- Of a text that begins so no fault is of an earlier line than the refusal, whatever follows.
+abbrev pub ComesFirst : {B : Type 0} → (List ℕ → Result B GrError) → List ℕ → GrError → Type 0
+ComesFirst told taken e = (fault : GrError) → ((rest : List ℕ) → told (taken ++ rest) ≡ Err fault) → e.line ≤ fault.line
+
+-- The lines before that of the refusal were read: what is told of the whole text is told of its bytes from that line on.
+pub record IsReadTo {E : Type 0} (grammar : Grammar E) (told : List ℕ → Result (Listing E) GrError) (e : GrError) : Type 0 where
+  pub number : ℕ
+  pub listing : Option (Listing E)
+  pub begun : List ℕ
+  pub back : List ℕ
+  pub so_far : (rest : List ℕ) → told rest ≡ listing_from grammar number listing (lines_after begun (back ++ rest))
+  pub line_is : e.line ≡ next_line number

@@ -39,8 +39,8 @@ pub struct GrError {
     /// What is wrong.
     pub kind: GrErrorKind,
     /// The line that has the fault, numbered from 1; of a fault at the end of the text, the number of its lines.
-    /// For a failed read, and for want of memory outside an entry's line, one more than the line feeds that were
-    /// taken. A number that would pass 2^64 - 1 stays there.
+    /// For a failed read one more than the line feeds that were taken. For want of memory the line of the entry, or of the
+    /// bytes of a line that hasn't ended, that there was no room for. A number that would pass 2^64 - 1 stays there.
     pub line: u64,
 }
 

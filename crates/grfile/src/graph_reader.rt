@@ -5,7 +5,7 @@ ghost use Rattle.counted_io.specs.Limits.{IsReadWithin, ReadsWithin};
 ghost use Rattle.counted_io.specs.declared.TheConstants.{MOST_CALLS};
 ghost use Rattle.grfile.specs.Outcome.{IsReading, Takes};
 ghost use Rattle.grfile.specs.Reading.{graph_of};
-ghost use Rattle.grfile.specs.Taken.{CountsLines, IsAtEndOf, StopsAtReached, graph_with, line_feeds};
+ghost use Rattle.grfile.specs.Taken.{ComesFirst, CountsLines, IsAtEndOf, StopsAtReached, StopsWith, graph_with, line_feeds};
 ghost use Rattle.grfile.specs.declared.error.GrErrorKind.TheVariants.{Read};
 
 use crate::error::GrError;
@@ -54,10 +54,11 @@ impl GrReader {
     /// Takes the next piece of the text.
     ///
     /// A refusal is of the line that was reached: the fault of a line that has ended, or want of memory, for what
-    /// the line says or for the bytes of one that hasn't ended.
+    /// the line says or for the bytes of one that hasn't ended. No earlier line has a fault, whatever follows.
     pub fn feed(&mut self, piece: &[u8]) -> Result<(), GrError>
         ensures takes { Takes result (λ rest. graph_with self.old (piece.now ++ rest)) (graph_with self.new) }
         ensures lines { self.old.failed ≡ None → CountsLines result self.old.line (line_feeds piece.now) self.new.line }
+        ensures before { self.old.failed ≡ None → IfErr result (ComesFirst (graph_with self.old) piece.now) }
         ensures refused { IfErr result (λ e. self.new.failed ≡ Some e) }
         ensures again { IfSome self.old.failed (λ e. result ≡ Err e) }
     {
@@ -79,13 +80,14 @@ impl GrReader {
 /// Reads the text of a graph to the reader's end.
 ///
 /// The first fault of the text is answered, with its line; `Read` where the reader fails, and `OutOfMemory` where
-/// a growth is refused, both at the line that was reached. What is kept is the arcs so far, one line and 64 KiB:
+/// a growth is refused, both at the line that was reached, and only where no earlier line has a fault. What is kept is the arcs so far, one line and 64 KiB:
 /// memory grows with what the text has spelled, never with what a line announces.
 pub fn read_graph<R: StepRead>(alloc: Global, reader: &mut R) -> Result<Graph, GrError>
     ensures reading { IfSome (R.remaining reader.old) (λ text. IsReading (λ g. g) result (graph_of text)) }
     ensures ended { OnOk result (IsAtEnd (R.remaining reader.new)) }
     ensures few { OnOk result (IsGivenBy MOST_CALLS (R.remaining reader.old)) }
     ensures reached { IfErr result (StopsAtReached (R.remaining reader.old) (R.remaining reader.new)) }
+    ensures before { IfErr result (StopsWith (ComesFirst graph_of) (R.remaining reader.old) (R.remaining reader.new)) }
     ensures calls { OnOk result (IsReadWithin R.step MOST_CALLS reader.old reader.new) }
     ensures stopped { IfErr result (λ e. ReadsWithin R.step MOST_CALLS (e.kind ≡ Read) reader.old reader.new) }
 {
@@ -103,6 +105,7 @@ pub fn read_graph_within<R: StepRead>(
     ensures ended { OnOk result (IsAtEnd (R.remaining reader.new)) }
     ensures few { OnOk result (IsGivenBy (min calls MOST_CALLS) (R.remaining reader.old)) }
     ensures reached { IfErr result (StopsAtReached (R.remaining reader.old) (R.remaining reader.new)) }
+    ensures before { IfErr result (StopsWith (ComesFirst graph_of) (R.remaining reader.old) (R.remaining reader.new)) }
     ensures calls { OnOk result (IsReadWithin R.step (min calls MOST_CALLS) reader.old reader.new) }
     ensures stopped { IfErr result (λ e. ReadsWithin R.step (min calls MOST_CALLS) (e.kind ≡ Read) reader.old reader.new) }
 {

@@ -8,7 +8,7 @@ ghost use Rattle.grfile.specs.Lines.{lines_of};
 ghost use Rattle.grfile.specs.Outcome.{IsReading, FromText, IsOfLine, Takes, capped, next_line};
 ghost use Rattle.grfile.specs.Grammar.{listing_after};
 ghost use Rattle.grfile.specs.Progress.{listing_of, listing_from, told_from};
-ghost use Rattle.grfile.specs.Taken.{CountsLines, HasTaken, IsAtEndOf, IsReached, TakesLine, line_feeds, lines_after, taken_of, told_with};
+ghost use Rattle.grfile.specs.Taken.{CountsLines, HasTaken, IsAtEndOf, IsLineReached, IsReadTo, StopsWith, TakesLine, line_feeds, lines_after, taken_of, told_with};
 ghost use Rattle.grfile.specs.ToTheEnd.{ReadsToEnd};
 ghost use Rattle.grfile.specs.declared.error.GrErrorKind.TheVariants.{OutOfMemory, Read};
 
@@ -54,6 +54,7 @@ pub(crate) fn feed<F: Form>(
 ) -> Result<(), GrError>
     ensures takes { Takes result (λ rest. told_with (F.grammar form) (taken_of pieces.old) (piece.now ++ rest)) (told_with (F.grammar form) (taken_of pieces.new)) }
     ensures lines { pieces.old.failed ≡ None → CountsLines result pieces.old.progress.line (line_feeds piece.now) pieces.new.progress.line }
+    ensures before { pieces.old.failed ≡ None → IfErr result (IsReadTo (F.grammar form) (λ rest. told_with (F.grammar form) (taken_of pieces.old) (piece.now ++ rest))) }
     ensures stays { OnOk result (pieces.new.failed ≡ pieces.old.failed) }
     ensures refused { IfErr result (λ e. pieces.new.failed ≡ Some e) }
     ensures again { IfSome pieces.old.failed (λ e. result ≡ Err e) }
@@ -77,6 +78,7 @@ fn take<F: Form>(
 ) -> Result<(), GrError>
     ensures takes { Takes result (λ rest. told_from (F.grammar form) progress.old (lines_after begun.old.items (piece.now ++ rest))) (λ rest. told_from (F.grammar form) progress.new (lines_after begun.new.items rest)) }
     ensures lines { CountsLines result progress.old.line (line_feeds piece.now) progress.new.line }
+    ensures before { IfErr result (IsReadTo (F.grammar form) (λ rest. told_from (F.grammar form) progress.old (lines_after begun.old.items (piece.now ++ rest)))) }
 {
     let alloc = *begun.allocator();
     let Some(cut) = first_line(piece) else {
@@ -108,6 +110,7 @@ fn end_line<F: Form>(
     ensures takes { Takes result (λ rest. told_from (F.grammar form) progress.old (strip_carriage_return (begun.old.items ++ last.now) ∷ rest)) (told_from (F.grammar form) progress.new) }
     ensures empty { OnOk result (begun.new.items ≡ []) }
     ensures lines { CountsLines result progress.old.line 1 progress.new.line }
+    ensures at { IfErr result (λ e. e.line ≡ next_line progress.old.line) }
 {
     let alloc = *begun.allocator();
     if begun.is_empty() {
@@ -151,7 +154,8 @@ fn take_lines<'a, F: Form>(
     text: &'a [u8],
 ) -> Result<&'a [u8], GrError>
     ensures takes { MatchResult result (λ last. (rest : List ℕ) → told_from (F.grammar form) progress.new (lines_after last.now rest) ≡ told_from (F.grammar form) progress.old (lines_after [] (text.now ++ rest))) (λ e. (rest : List ℕ) → FromText e.kind (told_from (F.grammar form) progress.old (lines_after [] (text.now ++ rest)) ≡ Err e)) }
-    ensures lines { MatchResult result (λ _. capped progress.new.line ≡ capped (progress.old.line + line_feeds text.now)) (IsReached progress.old.line (progress.old.line + line_feeds text.now) progress.new.line) }
+    ensures lines { MatchResult result (λ _. capped progress.new.line ≡ capped (progress.old.line + line_feeds text.now)) (IsLineReached progress.old.line (progress.old.line + line_feeds text.now) progress.new.line) }
+    ensures before { IfErr result (IsReadTo (F.grammar form) (λ rest. told_from (F.grammar form) progress.old (lines_after [] (text.now ++ rest)))) }
 {
     let mut rest = text;
     while let Some(more) = take_first(alloc, progress, form, rest)? {
@@ -195,6 +199,7 @@ pub(crate) fn read_listing<F: Form, R: StepRead>(
     ensures told { IfSome (R.remaining reader.old) (λ text. IsReading listing_of result (listing_after (F.grammar form) 0 (lines_of text))) }
     ensures listed { IfOk result (λ listed. (text : List ℕ) × (listing_after (F.grammar form) 0 (lines_of text) ≡ Ok (listing_of listed))) }
     ensures reads { ReadsToEnd R.step R.remaining (min calls MOST_CALLS) reader.old reader.new result }
+    ensures before { IfErr result (StopsWith (λ taken. IsReadTo (F.grammar form) (λ rest. listing_after (F.grammar form) 0 (lines_of (taken ++ rest)))) (R.remaining reader.old) (R.remaining reader.new)) }
 {
     let mut pieces = Pieces::new(alloc);
     feed_all(&mut pieces, form, reader, calls)?;
@@ -214,6 +219,7 @@ fn feed_all<F: Form, R: StepRead>(
     ensures stays { OnOk result (pieces.new.failed ≡ None) }
     ensures err { IfErr result (λ e. IfSome (R.remaining reader.old) (λ text. FromText e.kind (told_with (F.grammar form) (taken_of pieces.old) text ≡ Err e))) }
     ensures reads { ReadsToEnd R.step R.remaining (min calls MOST_CALLS) reader.old reader.new result }
+    ensures before { IfErr result (StopsWith (λ taken. IsReadTo (F.grammar form) (λ rest. told_with (F.grammar form) (taken_of pieces.old) (taken ++ rest))) (R.remaining reader.old) (R.remaining reader.new)) }
 {
     let mut calls = ReadCalls::new(calls);
     let mut piece = [0u8; 65536];

@@ -5,7 +5,7 @@ ghost use Rattle.counted_io.specs.Limits.{IsReadWithin, ReadsWithin};
 ghost use Rattle.counted_io.specs.declared.TheConstants.{MOST_CALLS};
 ghost use Rattle.grfile.specs.Outcome.{IsReading, Takes};
 ghost use Rattle.grfile.specs.Reading.{pairs_of, IsPair};
-ghost use Rattle.grfile.specs.Taken.{CountsLines, IsAtEndOf, StopsAtReached, line_feeds, pairs_with};
+ghost use Rattle.grfile.specs.Taken.{ComesFirst, CountsLines, IsAtEndOf, StopsAtReached, StopsWith, line_feeds, pairs_with};
 ghost use Rattle.grfile.specs.declared.error.GrErrorKind.TheVariants.{Read};
 
 use crate::error::GrError;
@@ -54,11 +54,12 @@ impl QueryReader {
     /// Takes the next piece of the text.
     ///
     /// A refusal is of the line that was reached: the fault of a line that has ended, or want of memory, for what
-    /// the line says or for the bytes of one that hasn't ended.
+    /// the line says or for the bytes of one that hasn't ended. No earlier line has a fault, whatever follows.
     pub fn feed(&mut self, piece: &[u8]) -> Result<(), GrError>
         ensures takes { Takes result (λ rest. pairs_with self.old (piece.now ++ rest)) (pairs_with self.new) }
         ensures nodes { self.new.nodes ≡ self.old.nodes }
         ensures lines { self.old.taken.failed ≡ None → CountsLines result self.old.taken.line (line_feeds piece.now) self.new.taken.line }
+        ensures before { self.old.taken.failed ≡ None → IfErr result (ComesFirst (pairs_with self.old) piece.now) }
         ensures refused { IfErr result (λ e. self.new.taken.failed ≡ Some e) }
         ensures again { IfSome self.old.taken.failed (λ e. result ≡ Err e) }
     {
@@ -83,7 +84,7 @@ impl QueryReader {
 /// Reads the text of pairs of so many nodes to the reader's end. The pairs are numbered from 0.
 ///
 /// The first fault of the text is answered, with its line; `Read` where the reader fails, and `OutOfMemory` where
-/// a growth is refused, both at the line that was reached. What is kept is the pairs so far, one line and 64 KiB:
+/// a growth is refused, both at the line that was reached, and only where no earlier line has a fault. What is kept is the pairs so far, one line and 64 KiB:
 /// memory grows with what the text has spelled, never with what a line announces.
 pub fn read_queries<R: StepRead>(
     alloc: Global,
@@ -95,6 +96,7 @@ pub fn read_queries<R: StepRead>(
     ensures ended { OnOk result (IsAtEnd (R.remaining reader.new)) }
     ensures few { OnOk result (IsGivenBy MOST_CALLS (R.remaining reader.old)) }
     ensures reached { IfErr result (StopsAtReached (R.remaining reader.old) (R.remaining reader.new)) }
+    ensures before { IfErr result (StopsWith (ComesFirst (pairs_of nodes)) (R.remaining reader.old) (R.remaining reader.new)) }
     ensures calls { OnOk result (IsReadWithin R.step MOST_CALLS reader.old reader.new) }
     ensures stopped { IfErr result (λ e. ReadsWithin R.step MOST_CALLS (e.kind ≡ Read) reader.old reader.new) }
 {
@@ -114,6 +116,7 @@ pub fn read_queries_within<R: StepRead>(
     ensures ended { OnOk result (IsAtEnd (R.remaining reader.new)) }
     ensures few { OnOk result (IsGivenBy (min calls MOST_CALLS) (R.remaining reader.old)) }
     ensures reached { IfErr result (StopsAtReached (R.remaining reader.old) (R.remaining reader.new)) }
+    ensures before { IfErr result (StopsWith (ComesFirst (pairs_of nodes)) (R.remaining reader.old) (R.remaining reader.new)) }
     ensures calls { OnOk result (IsReadWithin R.step (min calls MOST_CALLS) reader.old reader.new) }
     ensures stopped { IfErr result (λ e. ReadsWithin R.step (min calls MOST_CALLS) (e.kind ≡ Read) reader.old reader.new) }
 {

@@ -11,6 +11,7 @@ pub mod Bodies
 pub mod Whole
 pub mod Handing
 mod HandCalls
+mod Came
 pub mod ReadParts
 pub mod WriteParts
 pub mod OneSpelling

@@ -1,5 +1,5 @@
 -- Parts of a file that are read one after the other.
-use Rattle.std.proofs.Common.{ℕ, ◌≡◌, ◌≢◌, List, [], ◌++◌, Option, Some, Result, None, Ok, Err, sym, subst, ap, ◌∙◌, append-nil}
+use Rattle.std.proofs.Common.{ℕ, ◌≡◌, ◌≢◌, ◌<◌, List, [], ◌++◌, length, Option, Some, Result, None, Ok, Err, sym, subst, ap, ◌∙◌, append-nil, inl}
 use Rattle.std.specs.Prelude.{IfSome, MatchResult, IsErrAnd}
 use Rattle.std.specs.Io.KnownBytes.{Consumes, IsAtEnd}
 use Rattle.std.proofs.KnownBytes.{Consumes-nil, Consumes-trans}
@@ -7,10 +7,11 @@ use Rattle.std.specs.declared.io.Error.{Error}
 use Rattle.counted_io.specs.Limits.{IsRead}
 use Rattle.counted_io.specs.Limits.Laws.{read_none, read_then, reads_then, refused_after}
 use Rattle.hierfile.specs.declared.error.HierError.{HierError}
-use Rattle.hierfile.specs.declared.error.HierError.TheVariants.{OutOfMemory, Read}
-use Rattle.hierfile.specs.Bytes.{Buffered, OfBytes, IsFaultOf}
-use Rattle.hierfile.specs.Reading.{HasRead, IsRefused}
+use Rattle.hierfile.specs.declared.error.HierError.TheVariants.{OutOfMemory, Read, Truncated}
+use Rattle.hierfile.specs.Bytes.{Buffered, HasNoneSoFar, IsCut, OfBytes, IsFaultOf}
+use Rattle.hierfile.specs.Reading.{FailsBefore, HasRead, IsRefused, Refuses}
 use Rattle.hierfile.proofs.Faults.{behind, found, memory_is_no_read}
+use Rattle.hierfile.proofs.Came.{stops_behind, stops_where}
 
 -- what a `?` hands on
 pub hands_back : {T E : Type 0} (r : Result T E) (Q : T → Type 0) (P : E → Type 0) (e : E) → IsErrAnd r (λ y. y ≡ e) → P e → MatchResult r Q P
@@ -24,7 +25,7 @@ module _ {S : Type 0} (step : S → S → Result ℕ Error → Type 0) (remainin
 
   -- the bytes to come have this fault
   abbrev pub Faults : Buffered → S → S → (List ℕ → Option HierError) → HierError → Type 0
-  Faults was old new fault_of e = IsRefused step remaining was old new (IsFaultOf fault_of) e
+  Faults was old new fault_of e = IsRefused step remaining was old new (Refuses fault_of (IsCut fault_of)) e
 
   pub takes_none : (x : Buffered) (a : S) → Takes x x a a []
   takes_none x a = record { bytes = Consumes-nil _; calls = read_none step x.left a }
@@ -32,24 +33,39 @@ module _ {S : Type 0} (step : S → S → Result ℕ Error → Type 0) (remainin
   pub takes_then : {x y z : Buffered} {a b c : S} {front more : List ℕ} → Takes x y a b front → Takes y z b c more → Takes x z a c (front ++ more)
   takes_then h k = record { bytes = Consumes-trans _ _ _ _ _ h.bytes k.bytes; calls = read_then step h.calls k.calls }
 
+  -- what is refused of the bytes behind these is refused of them all
+  pub refused_behind : {x y : Buffered} {a b c : S} {front : List ℕ} {e : HierError} {P Q : List ℕ → Type 0} (f g : List ℕ → Option HierError) → Takes x y a b front → ((d : HierError) (rest : List ℕ) → f rest ≡ Some d → g (front ++ rest) ≡ Some d)
+      → ((came : List ℕ) → P came → Q (front ++ came)) → IsRefused step remaining y b c (Refuses f P) e → IsRefused step remaining x a c (Refuses g Q) e
+  refused_behind {front = front} {e = e} {P = P} {Q = Q} f g h leads came k = record {
+    fault = record { told = behind _ f g _ _ e h.bytes (leads e) k.fault.told; read = λ is. stops_behind front P Q _ _ _ h.bytes came (k.fault.read is) };
+    calls = reads_then step h.calls k.calls;
+  }
+
   -- a fault of the bytes behind these is one of them all
-  pub fault_behind : {x y : Buffered} {a b c : S} {front : List ℕ} {e : HierError} (f g : List ℕ → Option HierError) → Takes x y a b front → ((rest : List ℕ) → f rest ≡ Some e → g (front ++ rest) ≡ Some e) → Faults y b c f e → Faults x a c g e
-  fault_behind {e = e} f g h leads k = record { fault = behind _ f g _ _ e h.bytes leads k.fault; calls = reads_then step h.calls k.calls }
+  pub fault_behind : {x y : Buffered} {a b c : S} {front : List ℕ} {e : HierError} (f g : List ℕ → Option HierError) → Takes x y a b front → ((d : HierError) (rest : List ℕ) → f rest ≡ Some d → g (front ++ rest) ≡ Some d) → Faults y b c f e → Faults x a c g e
+  fault_behind f g h leads k = refused_behind f g h leads (λ came is. leads Truncated came is) k
+
+  pub fault_so_far : {x y : Buffered} {a b c : S} {front : List ℕ} {e : HierError} (f g : List ℕ → Option HierError) → Takes x y a b front → ((d : HierError) (rest : List ℕ) → f rest ≡ Some d → g (front ++ rest) ≡ Some d) → Faults y b c f e → IsRefused step remaining x a c (Refuses g (HasNoneSoFar g)) e
+  fault_so_far f g h leads k = refused_behind f g h leads (λ came is. inl (leads Truncated came is)) k
 
   -- a fault that a test found in these
-  pub fault_found : {x y : Buffered} {a b : S} {front : List ℕ} {e : HierError} {P : Type 0} (g : List ℕ → Option HierError) → Takes x y a b front → (P → (rest : List ℕ) → g (front ++ rest) ≡ Some e) → OfBytes e P → e ≢ Read → Faults x a b g e
-  fault_found {e = e} g h leads is no_read = record { fault = found _ g _ _ e h.bytes leads is; calls = refused_after step h.calls no_read }
+  pub fault_found : {x y : Buffered} {a b : S} {front : List ℕ} {e : HierError} {P : Type 0} {Q : List ℕ → Type 0} (g : List ℕ → Option HierError) → Takes x y a b front → (P → (rest : List ℕ) → g (front ++ rest) ≡ Some e) → OfBytes e P → e ≢ Read → IsRefused step remaining x a b (Refuses g Q) e
+  fault_found {e = e} g h leads is no_read = record { fault = record { told = found _ g _ _ e h.bytes leads is; read = λ read. absurd (no_read read) }; calls = refused_after step h.calls no_read }
 
   -- want of memory after calls of the reader
-  pub no_memory : {x : Buffered} {left : ℕ} {a b : S} (g : List ℕ → Option HierError) → IsRead step x.left left a b → Faults x a b g OutOfMemory
-  no_memory g h = record { fault = tt; calls = refused_after step h memory_is_no_read }
+  pub no_memory : {x : Buffered} {left : ℕ} {a b : S} {Q : List ℕ → Type 0} (g : List ℕ → Option HierError) → IsRead step x.left left a b → IsRefused step remaining x a b (Refuses g Q) OutOfMemory
+  no_memory g h = record { fault = record { told = tt; read = λ read. absurd (memory_is_no_read read) }; calls = refused_after step h memory_is_no_read }
 
-  -- a failed read says nothing of the bytes
-  pub read_failed : {x : Buffered} {a b : S} {e : HierError} (g : List ℕ → Option HierError) → IsRefused step remaining x a b (λ _ e. e ≡ Read) e → Faults x a b g e
-  read_failed g h = record { fault = subst (IsFaultOf g _) (sym h.fault) tt; calls = h.calls }
+  -- a failed read says nothing of the bytes, but of those that came before it
+  pub read_failed : {x : Buffered} {a b : S} {e : HierError} {Q : List ℕ → Type 0} (g : List ℕ → Option HierError) (n : ℕ) → ((came : List ℕ) → length came < n → Q came) → IsRefused step remaining x a b (FailsBefore n) e → IsRefused step remaining x a b (Refuses g Q) e
+  read_failed {Q = Q} g n short h = record { fault = record { told = subst (IsFaultOf g _) (sym h.fault.read) tt; read = λ _. stops_where (λ came. length came < n) Q _ _ short h.fault.came }; calls = h.calls }
 
-  pub read_failed_after : {x y : Buffered} {a b c : S} {front : List ℕ} {e : HierError} (g : List ℕ → Option HierError) → Takes x y a b front → IsRefused step remaining y b c (λ _ e. e ≡ Read) e → Faults x a c g e
-  read_failed_after g h k = record { fault = subst (IsFaultOf g _) (sym k.fault) tt; calls = reads_then step h.calls k.calls }
+  pub read_failed_after : {x y : Buffered} {a b c : S} {front : List ℕ} {e : HierError} {Q : List ℕ → Type 0} (g : List ℕ → Option HierError) (n : ℕ) → Takes x y a b front → ((came : List ℕ) → length came < n → Q (front ++ came)) → IsRefused step remaining y b c (FailsBefore n) e
+      → IsRefused step remaining x a c (Refuses g Q) e
+  read_failed_after {front = front} {Q = Q} g n h short k = record {
+    fault = record { told = subst (IsFaultOf g _) (sym k.fault.read) tt; read = λ _. stops_behind front (λ came. length came < n) Q _ _ _ h.bytes short k.fault.came };
+    calls = reads_then step h.calls k.calls;
+  }
 
 -- all bytes were taken
 pub all_taken : (a b : Option (List ℕ)) (bytes : List ℕ) → Consumes a b bytes → IsAtEnd b → IfSome a (λ known. known ≡ bytes)

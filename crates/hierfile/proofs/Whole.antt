@@ -1,5 +1,5 @@
 -- The faults of a whole file.
-use Rattle.std.proofs.Common.{ℕ, zero, suc, ◌≡◌, ◌+◌, ◌^◌, ◌<◌, ◌≤◌, false, List, [], ◌++◌, length, drop, Option, None, Some, sym, refl, ap, ◌∙◌, subst, arith, append_assoc, length-append}
+use Rattle.std.proofs.Common.{ℕ, zero, suc, ◌≡◌, ◌+◌, ◌^◌, ◌<◌, ◌≤◌, false, List, [], ◌++◌, length, drop, Option, None, Some, sym, refl, ap, ◌∙◌, subst, arith, append_assoc, inl, inr, length-append}
 use Rattle.std.specs.Prelude.{IfSome, not, slice_index}
 use Rattle.std.specs.List.{flat_map}
 use Rattle.std.specs.Io.KnownBytes.{Consumes}
@@ -12,7 +12,7 @@ use Rattle.hierfile.specs.declared.error.HierError.{HierError}
 use Rattle.hierfile.specs.declared.error.HierError.TheVariants.{BadMagic}
 use Rattle.hierfile.specs.Spelling.{magic_of, word, word_in, long_in, version_in, link_bytes, head_bytes, bytes_of}
 use Rattle.hierfile.specs.Fault.{◌otherwise◌, cut, is_magic, magic_fault, head_fault, size_fault, body_fault, first_fault, fault_if}
-use Rattle.hierfile.specs.Bytes.{coming, IsBodyOf, IsFaultOf}
+use Rattle.hierfile.specs.Bytes.{coming, HasNoneSoFar, IsBodyOf, IsFaultOf, StopsWhere}
 use Rattle.hierfile.proofs.Faults.{earlier, later, neither, none_below, cut_none, unfound}
 use Rattle.hierfile.proofs.Heads.{sizes, head_fault-sizes, nodes-sizes, links-sizes, bound-sizes, drop-sizes}
 
@@ -87,6 +87,11 @@ first_fault-sizes v n k b rest fits_n fits_k fits_b =
 pub first_body : (v : Version) (n k b : ℕ) (rest : List ℕ) {e : HierError} → n < 2 ^ 32 → k < 2 ^ 64 → b < 2 ^ 64 → size_fault n k b ≡ None → body_fault v n k b rest ≡ Some e → first_fault ((magic_of v ++ sizes n k b) ++ rest) ≡ Some e
 first_body v n k b rest fits_n fits_k fits_b none is = first_fault-sizes v n k b rest fits_n fits_k fits_b ∙ later none is
 
+-- where what came behind a head has no fault but its end, the whole has none
+pub first_so_far : (v : Version) (n k b : ℕ) (rest : List ℕ) → n < 2 ^ 32 → k < 2 ^ 64 → b < 2 ^ 64 → size_fault n k b ≡ None → HasNoneSoFar (body_fault v n k b) rest → HasNoneSoFar first_fault ((magic_of v ++ sizes n k b) ++ rest)
+first_so_far v n k b rest fits_n fits_k fits_b none (inl is) = inl (first_body v n k b rest fits_n fits_k fits_b none is)
+first_so_far v n k b rest fits_n fits_k fits_b none (inr is) = inr (first_fault-sizes v n k b rest fits_n fits_k fits_b ∙ neither none is)
+
 -- no bytes wait at the start
 pub nothing_waits : (waiting : List ℕ) (known : Option (List ℕ)) → waiting ≡ [] → coming waiting known ≡ known
 nothing_waits waiting known e = ap (λ l. coming l known) e ∙ prepend_known-nil known
@@ -94,6 +99,10 @@ nothing_waits waiting known e = ap (λ l. coming l known) e ∙ prepend_known-ni
 -- a fault of the bytes from the start on
 pub from_start : (waiting : List ℕ) (known : Option (List ℕ)) (e : HierError) → waiting ≡ [] → IsFaultOf first_fault (coming waiting known) e → IsFaultOf first_fault known e
 from_start waiting known e none h = subst (λ (o : Option (List ℕ)). IsFaultOf first_fault o e) (nothing_waits waiting known none) h
+
+-- what is said of the bytes that came from the start on
+pub no_fault_from_start : (waiting : List ℕ) (known left : Option (List ℕ)) → waiting ≡ [] → StopsWhere (HasNoneSoFar first_fault) (coming waiting known) left → StopsWhere (HasNoneSoFar first_fault) known left
+no_fault_from_start waiting known left none h = subst (λ (o : Option (List ℕ)). StopsWhere (HasNoneSoFar first_fault) o left) (nothing_waits waiting known none) h
 
 pub same_head : {m n k l b c : ℕ} → m ≡ n → k ≡ l → b ≡ c → sizes m k b ≡ sizes n l c
 same_head p q r = cc

@@ -1,5 +1,5 @@
 -- What is known of the bytes of a reader and of a writer on the way.
-use Rattle.std.specs.Prelude.{ℕ, ◌≡◌, ◌≢◌, ◌+◌, ◌-◌, take, ◌^◌, ◌<◌, List, ◌++◌, length, Option, Some, None, IfSome, IfOk, IfErr, Result, Ok, Err}
+use Rattle.std.specs.Prelude.{ℕ, ◌≡◌, ◌≢◌, ◌+◌, ◌-◌, take, ◌^◌, ◌<◌, List, ◌++◌, length, Option, Some, None, IfSome, MatchOption, ◌⊎◌, IfOk, IfErr, Result, Ok, Err}
 use Rattle.std.specs.Io.KnownBytes.{Appends, prepend_known}
 use Rattle.std.specs.declared.io.Error.{Error}
 use Rattle.counted_io.specs.Handing.{HandsOn}
@@ -11,7 +11,7 @@ use Rattle.ch_graph.specs.declared.version.Version.TheVariants.{One, Two}
 use Rattle.ch_graph.specs.Hierarchy.{Hierarchy, IsWellMade}
 use Rattle.hierfile.specs.Spelling.{bytes_of}
 use Rattle.hierfile.specs.declared.error.HierError.{HierError}
-use Rattle.hierfile.specs.declared.error.HierError.TheVariants.{OutOfMemory, Read}
+use Rattle.hierfile.specs.declared.error.HierError.TheVariants.{OutOfMemory, Read, Truncated}
 
 -- the bytes that are still to come: those that wait in the buffer, and then the reader's
 abbrev pub coming : List ℕ → Option (List ℕ) → Option (List ℕ)
@@ -34,6 +34,18 @@ ReadsSpellings bytes result = (h : Hierarchy) → IsWellMade h → bytes ≡ byt
 -- a refusal is the fault that the coming bytes have, where they are known
 abbrev pub IsFaultOf : (List ℕ → Option HierError) → Option (List ℕ) → HierError → Type 0
 IsFaultOf fault_of bytes e = OfBytes e (IfSome bytes (λ known. fault_of known ≡ Some e))
+
+-- these bytes have this fault alone, that they end too early
+abbrev pub IsCut : (List ℕ → Option HierError) → List ℕ → Type 0
+IsCut fault_of bytes = fault_of bytes ≡ Some Truncated
+
+-- or they have none
+abbrev pub HasNoneSoFar : (List ℕ → Option HierError) → List ℕ → Type 0
+HasNoneSoFar fault_of bytes = IsCut fault_of bytes ⊎ (fault_of bytes ≡ None)
+
+-- The bytes that came are such: of those that were to come, where they are known, all that the reader has not left.
+abbrev pub StopsWhere : (List ℕ → Type 0) → Option (List ℕ) → Option (List ℕ) → Type 0
+StopsWhere came had left = IfSome had (λ bytes. MatchOption left ⊥ (λ rest. (front : List ℕ) × (front ++ rest ≡ bytes) × came front))
 
 -- a test answers this fault, or none; it reads nothing, so Read is no fault of a test
 abbrev pub Tells : {X : Type 0} → Result X HierError → Option HierError → Type 0

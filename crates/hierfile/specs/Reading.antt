@@ -1,12 +1,12 @@
 -- What a call does that reads a part of a file through a buffer. `was` and `now` are the buffer before and after it, `old`
 -- and `new` the reader. A step is one call of the reader, and `remaining` is what it has left, where that is known.
-use Rattle.std.specs.Prelude.{ℕ, ◌≡◌, List, Option, Result, MatchResult}
+use Rattle.std.specs.Prelude.{ℕ, ◌≡◌, ◌<◌, List, length, Option, Result, MatchResult}
 use Rattle.std.specs.Io.KnownBytes.{Consumes}
 use Rattle.std.specs.declared.io.Error.{Error}
 use Rattle.counted_io.specs.Limits.{IsRead, ReadsWithin}
 use Rattle.hierfile.specs.declared.error.HierError.{HierError}
 use Rattle.hierfile.specs.declared.error.HierError.TheVariants.{Read}
-use Rattle.hierfile.specs.Bytes.{Buffered, coming, IsFaultOf}
+use Rattle.hierfile.specs.Bytes.{Buffered, coming, IsCut, IsFaultOf, StopsWhere}
 
 -- The call answered.
 pub record HasRead {S : Type 0} (step : S → S → Result ℕ Error → Type 0) (remaining : S → Option (List ℕ)) (was now : Buffered) (old new : S) (says : Option (List ℕ) → Option (List ℕ) → Type 0) : Type 0 where
@@ -16,16 +16,27 @@ pub record HasRead {S : Type 0} (step : S → S → Result ℕ Error → Type 0)
   pub calls : IsRead step was.left now.left old new
 
 -- The call was refused.
-pub record IsRefused {S : Type 0} (step : S → S → Result ℕ Error → Type 0) (remaining : S → Option (List ℕ)) (was : Buffered) (old new : S) (says : Option (List ℕ) → HierError → Type 0) (e : HierError) : Type 0 where
-  -- what is said of the bytes that were to come before it, and of the refusal
-  pub fault : says (coming was.waiting (remaining old)) e
+pub record IsRefused {S : Type 0} (step : S → S → Result ℕ Error → Type 0) (remaining : S → Option (List ℕ)) (was : Buffered) (old new : S) (says : Option (List ℕ) → Option (List ℕ) → HierError → Type 0) (e : HierError) : Type 0 where
+  -- what is said of the bytes that were to come before it, of those that the reader has left, and of the refusal
+  pub fault : says (coming was.waiting (remaining old)) (remaining new) e
   -- no more calls of the reader were made than were left: it gave out where the refusal is Read, and else none failed
   pub calls : ReadsWithin step was.left (e ≡ Read) old new
 
 -- The call answered, and this is said of its answer and of the bytes; or it was refused, and that is said of the refusal.
-abbrev pub Reads : {S X : Type 0} → (S → S → Result ℕ Error → Type 0) → (S → Option (List ℕ)) → Buffered → Buffered → S → S → (X → Option (List ℕ) → Option (List ℕ) → Type 0) → (Option (List ℕ) → HierError → Type 0) → Result X HierError → Type 0
+abbrev pub Reads : {S X : Type 0} → (S → S → Result ℕ Error → Type 0) → (S → Option (List ℕ)) → Buffered → Buffered → S → S → (X → Option (List ℕ) → Option (List ℕ) → Type 0) → (Option (List ℕ) → Option (List ℕ) → HierError → Type 0) → Result X HierError → Type 0
 Reads step remaining was now old new says refuses result = MatchResult result (λ x. HasRead step remaining was now old new (says x)) (IsRefused step remaining was old new refuses)
 
--- The call took the bytes that spell its answer; or it was refused, and the bytes to come have this fault.
+-- A refusal is the fault of the bytes that were to come. Where it is a failed read, those that came before are such.
+pub record Refuses (fault_of : List ℕ → Option HierError) (came : List ℕ → Type 0) (had left : Option (List ℕ)) (e : HierError) : Type 0 where
+  pub told : IsFaultOf fault_of had e
+  pub read : e ≡ Read → StopsWhere came had left
+
+-- The reader failed when fewer than so many bytes had come.
+pub record FailsBefore (count : ℕ) (had left : Option (List ℕ)) (e : HierError) : Type 0 where
+  pub read : e ≡ Read
+  pub came : StopsWhere (λ came. length came < count) had left
+
+-- The call took the bytes that spell its answer; or it was refused, and the bytes to come have this fault. Where a read
+-- failed, those that came had no other fault than that more of them were wanted.
 abbrev pub ReadsValue : {S X : Type 0} → (S → S → Result ℕ Error → Type 0) → (S → Option (List ℕ)) → Buffered → Buffered → S → S → (X → List ℕ) → (List ℕ → Option HierError) → Result X HierError → Type 0
-ReadsValue step remaining was now old new spelled fault_of result = Reads step remaining was now old new (λ x before after. Consumes before after (spelled x)) (IsFaultOf fault_of) result
+ReadsValue step remaining was now old new spelled fault_of result = Reads step remaining was now old new (λ x before after. Consumes before after (spelled x)) (Refuses fault_of (IsCut fault_of)) result

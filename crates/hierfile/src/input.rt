@@ -4,8 +4,8 @@ ghost use Rattle.counted_io.specs.Limits.{GivesOut, IsRead};
 ghost use Rattle.counted_io.specs.declared.TheConstants.{MOST_CALLS};
 ghost use Rattle.hierfile.specs.Spelling.{word, long};
 ghost use Rattle.hierfile.specs.Fault.{cut};
-ghost use Rattle.hierfile.specs.Bytes.{coming, IsFaultOf};
-ghost use Rattle.hierfile.specs.Reading.{Reads, ReadsValue};
+ghost use Rattle.hierfile.specs.Bytes.{coming, IsCut};
+ghost use Rattle.hierfile.specs.Reading.{FailsBefore, Reads, ReadsValue, Refuses};
 
 use crate::error::HierError;
 use counted_io::{ReadCalls, ReadFault, StepRead};
@@ -54,7 +54,7 @@ impl Input {
 
     /// The next byte, or none at the end of the reader's bytes.
     pub fn byte<R: StepRead>(&mut self, reader: &mut R) -> Result<Option<u8>, HierError>
-        ensures reads { Reads R.step R.remaining self.old self.new reader.old reader.new (λ next before after. MatchOption next (IsAtEnd before) (λ b. Consumes before after (b ∷ []))) (λ _ e. e ≡ HierError.Read) result }
+        ensures reads { Reads R.step R.remaining self.old self.new reader.old reader.new (λ next before after. MatchOption next (IsAtEnd before) (λ b. Consumes before after (b ∷ []))) (FailsBefore 1) result }
     {
         if !self.has(reader, 1)? {
             return Ok(None);
@@ -87,7 +87,7 @@ impl Input {
     // Sees that so many bytes wait.
     fn need<R: StepRead>(&mut self, reader: &mut R, count: usize) -> Result<(), HierError>
         requires { count ≤ 8 }
-        ensures reads { Reads R.step R.remaining self.old self.new reader.old reader.new (λ _. Keeps) (IsFaultOf (cut count)) result }
+        ensures reads { Reads R.step R.remaining self.old self.new reader.old reader.new (λ _. Keeps) (Refuses (cut count) (IsCut (cut count))) result }
         ensures enough { OnOk result (count ≤ length self.new.waiting) }
     {
         if !self.has(reader, count)? {
@@ -100,7 +100,7 @@ impl Input {
     #[inline]
     fn has<R: StepRead>(&mut self, reader: &mut R, count: usize) -> Result<bool, HierError>
         requires { count ≤ 8 }
-        ensures reads { Reads R.step R.remaining self.old self.new reader.old reader.new (λ _. Keeps) (λ _ e. e ≡ HierError.Read) result }
+        ensures reads { Reads R.step R.remaining self.old self.new reader.old reader.new (λ _. Keeps) (FailsBefore count) result }
         ensures ok { IfOk result (λ enough. MatchBool enough (count ≤ length self.new.waiting) ((length self.new.waiting < count) × IsAtEnd (R.remaining reader.new))) }
     {
         if self.end - self.at >= count {
@@ -113,7 +113,7 @@ impl Input {
     #[cold]
     fn fill<R: StepRead>(&mut self, reader: &mut R, count: usize) -> Result<bool, HierError>
         requires { count ≤ 8 }
-        ensures reads { Reads R.step R.remaining self.old self.new reader.old reader.new (λ _. Keeps) (λ _ e. e ≡ HierError.Read) result }
+        ensures reads { Reads R.step R.remaining self.old self.new reader.old reader.new (λ _. Keeps) (FailsBefore count) result }
         ensures ok { IfOk result (λ enough. MatchBool enough (count ≤ length self.new.waiting) ((length self.new.waiting < count) × IsAtEnd (R.remaining reader.new))) }
     {
         self.buffer.copy_within(self.at..self.end, 0);
@@ -148,6 +148,7 @@ fn read_behind<R: StepRead>(
     ensures end { IfOk result (λ n. n ≡ 0 → end < length buffer.new → IsAtEnd (R.remaining reader.new)) }
     ensures calls { OnOk result (IsRead R.step calls.old.left calls.new.left reader.old reader.new) }
     ensures stopped { OnErr result (GivesOut R.step calls.old.left reader.old reader.new) }
+    ensures keeps { OnErr result (Keeps (R.remaining reader.old) (R.remaining reader.new)) }
 {
     let count = calls.read(reader, &mut buffer[end..])?;
     Ok(count)

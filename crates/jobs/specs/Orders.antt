@@ -1,14 +1,28 @@
 -- The orders by which a worker goes, and how long by each.
-use Rattle.std.specs.Prelude.{ℕ, ◌^◌, List, [], ◌∷◌, Option, Some, None}
-use Rattle.jobs.specs.declared.preparation.Order.{Order}
-use Rattle.jobs.specs.declared.preparation.Order.TheVariants.{Edges, Neighbours, Depth}
+use Rattle.std.specs.Prelude.{ℕ, ◌^◌, not, nat_eq, filter, List, [], ◌∷◌, Option, Some, None, codes}
+use Rattle.jobs.specs.declared.orders.Order.{Order}
+use Rattle.jobs.specs.declared.orders.Order.TheVariants.{Edges, Neighbours, Depth}
 use Rattle.jobs.specs.declared.stint.Stint.{Stint}
 
--- all orders, beginning with this one
+-- all orders
+abbrev pub all_orders : List Order
+all_orders = Edges ∷ Neighbours ∷ Depth ∷ []
+
+-- which of them it is, from 0
+abbrev pub place_of : Order → ℕ
+place_of Edges = 0
+place_of Neighbours = 1
+place_of Depth = 2
+
+-- an order's name on a command line
+abbrev pub name_of : Order → List ℕ
+name_of Edges = codes "edges"
+name_of Neighbours = codes "neighbours"
+name_of Depth = codes "depth"
+
+-- all orders, this one first; the others keep their order
 abbrev pub with_the_others : Order → List Order
-with_the_others Edges = Edges ∷ Neighbours ∷ Depth ∷ []
-with_the_others Neighbours = Neighbours ∷ Edges ∷ Depth ∷ []
-with_the_others Depth = Depth ∷ Edges ∷ Neighbours ∷ []
+with_the_others order = order ∷ filter (λ other. not (nat_eq (place_of other) (place_of order))) all_orders
 
 -- by which a worker goes, one after the other
 abbrev pub orders_of : Order → Option Stint → List Order

@@ -14,13 +14,15 @@
 #![tactic(auto)]
 
 mod job;
+mod orders;
 mod preparation;
 mod stint;
 mod stopping;
 mod workers;
 
 pub use job::{Job, Stop};
-pub use preparation::{Order, Preparation};
+pub use orders::{Order, Orders};
+pub use preparation::Preparation;
 pub use stint::Stint;
 pub use stopping::{end, show_stop};
 pub use workers::Workers;

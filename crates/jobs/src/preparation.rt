@@ -1,3 +1,7 @@
+ghost use Rattle.std.specs.Prelude.{◌≡◌};
+ghost use Rattle.jobs.specs.Orders.{orders_of, stint_of};
+
+use crate::orders::{Order, Orders};
 use crate::stint::Stint;
 use crate::workers::Workers;
 
@@ -20,39 +24,20 @@ pub struct Preparation<'a> {
     pub progress: bool,
 }
 
-/// Which nodes workers contract first. Without workers the nodes are contracted by the order of their numbers.
-#[derive(Clone, Copy, Debug, PartialEq, Eq)]
-pub enum Order {
-    /// Those whose contraction leaves the fewest arcs.
-    Edges,
-    /// The same, and each neighbour that is gone puts a node back by one arc.
-    Neighbours,
-    /// The same, and each step of its depth puts a node back by one arc.
-    Depth,
-}
-
-const EDGES_FIRST: [Order; 3] = [Order::Edges, Order::Neighbours, Order::Depth];
-
-const NEIGHBOURS_FIRST: [Order; 3] = [Order::Neighbours, Order::Edges, Order::Depth];
-
-const DEPTH_FIRST: [Order; 3] = [Order::Depth, Order::Edges, Order::Neighbours];
-
 impl Preparation<'_> {
-    ghost use Rattle.std.specs.Prelude.{◌≡◌};
-    ghost use Rattle.jobs.specs.Orders.{orders_of, stint_of};
-
     /// The orders by which each worker goes, one after the other: the one that is asked for, and with stints then the
     /// others.
-    pub fn orders(&self) -> &'static [Order]
-        ensures { result.now ≡ orders_of self.now.order self.now.stint }
+    pub fn orders(&self) -> Orders
+        ensures { result ≡ orders_of self.now.order self.now.stint }
     {
-        match (self.order, self.stint) {
-            (Order::Edges, None) => &EDGES_FIRST[..1],
-            (Order::Edges, Some(_)) => EDGES_FIRST.as_slice(),
-            (Order::Neighbours, None) => &NEIGHBOURS_FIRST[..1],
-            (Order::Neighbours, Some(_)) => NEIGHBOURS_FIRST.as_slice(),
-            (Order::Depth, None) => &DEPTH_FIRST[..1],
-            (Order::Depth, Some(_)) => DEPTH_FIRST.as_slice(),
+        let count = if self.stint.is_some() {
+            Order::ALL.len()
+        } else {
+            1
+        };
+        Orders {
+            all: self.order.with_the_others(),
+            count,
         }
     }
 

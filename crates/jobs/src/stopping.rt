@@ -1,5 +1,5 @@
 ghost use Rattle.std.specs.Prelude.{◌≡◌};
-ghost use Rattle.jobs.specs.Stops.{HasStatus};
+ghost use Rattle.jobs.specs.Stops.{HasStatus, IsShown};
 
 use crate::job::Stop;
 use std::io::Write;
@@ -7,7 +7,8 @@ use std::io::Write;
 /// Shows why the command line names no job, and answers the program's exit status: help and the version go to
 /// `out`, and a refusal to `err`.
 pub fn show_stop<W: Write, E: Write>(stop: &Stop, out: &mut W, err: &mut E) -> u8
-    ensures { HasStatus stop.now result }
+    ensures status { HasStatus stop.now result }
+    ensures shown { result ≡ 0 → IsShown stop.now (W.contents out.old) (W.contents out.new) }
 {
     match stop {
         Stop::Told(text) => match out.write_all(text.as_bytes()) {

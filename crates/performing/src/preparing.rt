@@ -71,7 +71,7 @@ fn prepare_by<G: Read, W: Write, P: Gate, R: Threads + Wait + Sync>(
         alloc,
         &mut leases,
         options.workers,
-        preparation.orders(),
+        preparation.orders().as_slice(),
         |order: Order, lease: Lease| -> Result<Box<dyn Estimator + Send>, AllocError>
             ensures { IfOk result (λ estimator. heard estimator ≡ []) }
         {

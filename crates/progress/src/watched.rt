@@ -2,7 +2,8 @@ use crate::meter::Meter;
 use std::io::{self, Read};
 use std::time::Clock;
 
-/// A reader of a graph's text that tells a meter how many nodes the text announces.
+/// A reader of a graph's text that tells a meter how many nodes the text announces. It gives what the reader behind it
+/// gives, to the byte, and fails where that one does.
 #[derive(Drop)]
 pub struct Watched<'a, G, R> {
     graph: G,
@@ -58,28 +59,31 @@ impl<'a, G: Read, R: Clock> Watched<'a, G, R> {
             place: Place::Head,
         }
     }
+}
 
-    // Looks at the next piece of the text, until the number is known.
-    fn look_at(&mut self, piece: &[u8]) {
-        if self.place == Place::Behind {
-            return;
-        }
-        for byte in piece {
-            let before = self.place;
-            self.place = before.after(*byte);
-            if let (Place::Problem(nodes), Place::Behind) = (before, self.place) {
-                self.meter.announce(nodes);
-                return;
-            }
+// Looks at the next piece of the text from this place on, until the number is known, and returns the place behind it.
+fn look_at<R: Clock>(meter: &Meter<'_, R>, mut place: Place, piece: &[u8]) -> Place {
+    if place == Place::Behind {
+        return place;
+    }
+    for byte in piece {
+        let before = place;
+        place = before.after(*byte);
+        if let (Place::Problem(nodes), Place::Behind) = (before, place) {
+            meter.announce(nodes);
+            return place;
         }
     }
+    place
 }
 
 impl<G: Read, R: Clock> Read for Watched<'_, G, R> {
+    ghost remaining = { λ w. G.remaining w.graph };
+
     fn read(&mut self, buf: &mut [u8]) -> io::Result<usize> {
         let count = self.graph.read(buf)?;
         if let Some(piece) = buf.get(..count) {
-            self.look_at(piece);
+            self.place = look_at(self.meter, self.place, piece);
         }
         Ok(count)
     }

@@ -532,12 +532,12 @@ const VERSION: [&[&str]; 3] = [
     &["routecli", "--version", "prepare"],
 ];
 
-/// Whether the text for the user is one line: the program's name, its version, and the toolchain that proved it.
+/// Whether the text for the user is one line: the program's name, its version, and the logic by which it was proved.
 fn tells_version(why: &Stop) -> bool {
     let Stop::Told(text) = why else {
         return false;
     };
-    text.as_str() == "routecli 1.0.0, proved with rattle-kit-13f logic dac8208d650f15bf\n"
+    text.as_str() == "routecli 1.1.0, proved by Rattle, logic dac8208d650f15bf\n"
 }
 
 #[test]

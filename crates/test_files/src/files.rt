@@ -448,6 +448,61 @@ fn is_read_in_pieces(alloc: Global, bytes: &[u8]) -> bool {
     true
 }
 
+/// Files as numbers of four bytes, how many bytes of each the first fault takes, and that fault: a wrong third byte, too many
+/// nodes, a rank that came before, a link from a node to itself, and a sum that isn't that of the halves.
+const HOSTILE: [(&[u32], u32, HierError); 5] = [
+    (&[0x5243_5832, 0], 3, HierError::BadMagic),
+    (&[MAGIC, 0x0200_0001, 0, 0, 0, 0, 0], 24, HierError::TooBig),
+    (&[MAGIC, 3, 0, 3, 0, 6, 0, 0, 2], 32, HierError::RankTwice),
+    (
+        &[MAGIC, 3, 0, 3, 0, 6, 0, 1, 2, 1, 1, 0, 3, 1, NONE, 0],
+        60,
+        HierError::LinkEnds,
+    ),
+    (
+        &[
+            MAGIC, 3, 0, 3, 0, 6, 0, 1, 2, 0, 2, 0, 3, 1, NONE, 1, 0, 0, 2, 1, NONE, 1, 2, 0, 4, 2,
+            0,
+        ],
+        108,
+        HierError::HalfSum,
+    ),
+];
+
+/// Why a file is refused by a reader that gives so many bytes, one at each call, and then fails.
+fn refusal_before(alloc: Global, bytes: &[u8], calls: u32) -> Option<HierError> {
+    let mut pieces = Pieces {
+        bytes,
+        most: 1,
+        calls,
+        is_odd: false,
+    };
+    read(alloc, &mut pieces).err()
+}
+
+/// Whether a fault is told by a reader that fails right behind it, and not by one that fails a byte before.
+fn comes_before_a_failed_read(
+    alloc: Global,
+    words: &[u32],
+    calls: u32,
+    fault: HierError,
+) -> Result<bool, AllocError> {
+    let file = bytes(alloc, words)?;
+    let before = calls.saturating_sub(1);
+    Ok(
+        (refusal_before(alloc, file.as_slice(), calls) == Some(fault))
+            & (refusal_before(alloc, file.as_slice(), before) == Some(HierError::Read)),
+    )
+}
+
+#[test]
+fn faults_come_before_a_failed_read(rt: HostRuntime) -> Result<(), AllocError> {
+    for (words, calls, fault) in HOSTILE {
+        assert!(rt; comes_before_a_failed_read(rt.alloc(), words, calls, fault)?);
+    }
+    Ok(())
+}
+
 #[test]
 fn reads_in_pieces(rt: HostRuntime) -> Result<(), AllocError> {
     let row = bytes(rt.alloc(), &ROW)?;

@@ -21,16 +21,40 @@ use std::test::Fail;
 const MANY: u64 = 1 << 40;
 
 /// Texts of graphs, each with the fault that it has or none: that of one arc, with blanks and line ends, and others.
-const GRAPHS: [(&[u8], Option<(GrErrorKind, u64)>); 4] = [
+const GRAPHS: [(&[u8], Option<(GrErrorKind, u64)>); 14] = [
     (b"c x\r\n\r\np\tsp 02 01\r\na  1\t2 007 ", None),
+    (b"", Some((GrErrorKind::NoProblemLine, 0))),
+    (b"a 1 2 7", Some((GrErrorKind::NoProblemLine, 1))),
+    (
+        b"p sp 2 1\np sp 2 1\n",
+        Some((GrErrorKind::SecondProblemLine, 2)),
+    ),
+    (b"p sp 2 1\na 1 2\n", Some((GrErrorKind::FieldCount, 2))),
+    (b"p sp 2 1\na 1 2 x\n", Some((GrErrorKind::NotANumber, 2))),
+    (
+        b"p sp 2 1\na 1 2 4294967296\n",
+        Some((GrErrorKind::WeightTooBig, 2)),
+    ),
+    (b"p sp 33554433 0\n", Some((GrErrorKind::TooManyNodes, 1))),
+    (b"p sp 2 134217729\n", Some((GrErrorKind::TooManyArcs, 1))),
+    (b"p sp 2 0\na 1 2 7\n", Some((GrErrorKind::ArcCount, 2))),
+    (b"p sp 2 1\nb 1 2 7\n", Some((GrErrorKind::UnknownLine, 2))),
     (b"p sp 2 1\na 1 3 7\n", Some((GrErrorKind::NodeRange, 2))),
     (b"p sp 2 2\na 1 2 7\n", Some((GrErrorKind::ArcCount, 2))),
     (b"p max 2 1\nccc", Some((GrErrorKind::UnknownLine, 1))),
 ];
 
 /// Texts of pairs of three nodes: that of the pair of 2 and 1, and others.
-const PAIRS: [(&[u8], Option<(GrErrorKind, u64)>); 3] = [
+const PAIRS: [(&[u8], Option<(GrErrorKind, u64)>); 8] = [
     (b"p aux sp p2p 1\nq 2 1\n", None),
+    (b"c\np aux sp p2p 1\r\n\nq\t02 01 ", None),
+    (b"p aux sp sp 1\n", Some((GrErrorKind::UnknownLine, 1))),
+    (
+        b"p aux sp p2p 1\na 1 1 1\n",
+        Some((GrErrorKind::UnknownLine, 2)),
+    ),
+    (b"p sp 2 1\n", Some((GrErrorKind::FieldCount, 1))),
+    (b"p aux sp p2p 1\nq 1\n", Some((GrErrorKind::FieldCount, 2))),
     (
         b"p aux sp p2p 1\nq 1 4\n",
         Some((GrErrorKind::NodeRange, 2)),
@@ -177,6 +201,91 @@ fn read_queries(rt: HostRuntime) {
             answer = read_queries_within(alloc, &mut { text }, 3, MANY);
         }
         assert!(rt; pairs_fault(answer) == fault);
+    }
+}
+
+/// The last answer of a reader that is fed a problem line of another problem and then a long line in pieces.
+fn long_line(alloc: Global) -> Result<Graph, GrError> {
+    let mut reader = GrReader::new(alloc);
+    let mut answer = reader.feed(b"p max 2 1");
+    if answer.is_ok() {
+        answer = reader.feed(b"\n");
+    }
+    let piece = [b'c'; 1000];
+    for _ in 0..1000 {
+        answer = reader.feed(piece.as_slice());
+    }
+    answer?;
+    reader.finish()
+}
+
+/// The fault of the first line is told, or that there was no memory for that line; never want of memory for the second.
+#[test]
+fn before_a_long_line(rt: HostRuntime) {
+    let answer = long_line(rt.alloc());
+    assert!(rt;
+        matches!(
+            &answer,
+            Err(GrError {
+                kind: GrErrorKind::UnknownLine | GrErrorKind::OutOfMemory,
+                line: 1
+            })
+        )
+    );
+}
+
+/// Texts of graphs without a fault, each in two pieces, and the first and last line that may want memory: those of arcs,
+/// and those in which a piece ends.
+const WANTING: [(&[u8], &[u8], u64, u64); 4] = [
+    (b"c\nc\n\np sp 2 2\na 1 2 7\na 2 1 7\n", b"c\n", 5, 6),
+    (b"c\nc\np sp 2", b" 0\nc\nc\n", 3, 3),
+    (b"c\np sp 2 0\n", b"c\nc\nc x", 5, 5),
+    (b"p sp 2 1\na 1 2", b" 7\nc\nc\n", 2, 2),
+];
+
+/// The same of texts of pairs of three nodes.
+const PAIRS_WANTING: [(&[u8], &[u8], u64, u64); 2] = [
+    (b"c\n\np aux sp p2p 2\nq 1 2\nq 2 1\n", b"c\n", 4, 5),
+    (b"c\nc\np aux", b" sp p2p 0\nc\nc\n", 3, 3),
+];
+
+/// Whether nothing was refused, or memory for one of these lines.
+fn is_within<T: Drop>(answer: Result<T, GrError>, first: u64, last: u64) -> bool {
+    match answer {
+        Ok(_) => true,
+        Err(
+            GrError {
+                kind: GrErrorKind::OutOfMemory,
+                line,
+            },
+        ) => first <= line && line <= last,
+        Err(_) => false,
+    }
+}
+
+/// The graph of a text in two pieces.
+fn graph_of_two(alloc: Global, first: &[u8], second: &[u8]) -> Result<Graph, GrError> {
+    let mut reader = GrReader::new(alloc);
+    reader.feed(first)?;
+    reader.feed(second)?;
+    reader.finish()
+}
+
+/// The pairs of a text in two pieces.
+fn pairs_of_two(alloc: Global, first: &[u8], second: &[u8]) -> Result<Vec<(u32, u32)>, GrError> {
+    let mut reader = QueryReader::new(alloc, 3);
+    reader.feed(first)?;
+    reader.feed(second)?;
+    reader.finish()
+}
+
+#[test]
+fn lines_that_want_memory(rt: HostRuntime) {
+    for (text, rest, first, last) in WANTING {
+        assert!(rt; is_within(graph_of_two(rt.alloc(), text, rest), first, last));
+    }
+    for (text, rest, first, last) in PAIRS_WANTING {
+        assert!(rt; is_within(pairs_of_two(rt.alloc(), text, rest), first, last));
     }
 }
 

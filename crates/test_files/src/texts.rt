@@ -389,35 +389,6 @@ fn pairs_however_cut(rt: HostRuntime) {
     }
 }
 
-/// The last answer of a reader that is fed a problem line of another problem and then a long line in pieces.
-fn long_line(alloc: Global) -> Result<Graph, GrError> {
-    let mut reader = GrReader::new(alloc);
-    let mut answer = reader.feed(b"p max 2 1");
-    if answer.is_ok() {
-        answer = reader.feed(b"\n");
-    }
-    let piece = [b'c'; 1000];
-    for _ in 0..1000 {
-        answer = reader.feed(piece.as_slice());
-    }
-    answer?;
-    reader.finish()
-}
-
-#[test]
-fn a_fault_stays_before_a_long_line(rt: HostRuntime) {
-    let answer = long_line(rt.alloc());
-    assert!(rt;
-        matches!(
-            &answer,
-            Err(GrError {
-                kind: GrErrorKind::UnknownLine | GrErrorKind::OutOfMemory,
-                line: 1
-            })
-        )
-    );
-}
-
 /// More calls than any reader here gets.
 const MANY: u64 = 1 << 40;
 
@@ -446,6 +417,32 @@ fn fails_at_lines(alloc: Global) -> bool {
         }
     }
     true
+}
+
+/// Whether the fault of a line is told by readers that fail behind it, and not by ones that fail in that line. They give a
+/// byte at each call, and are interrupted at each third one.
+fn faults_come_before(alloc: Global) -> bool {
+    let text = b"c\nx\nc y\n".as_slice();
+    let in_line = is_read_so(alloc, text, 5, MANY, Wanted::Fault(GrErrorKind::Read, 2));
+    let fault = Wanted::Fault(GrErrorKind::UnknownLine, 2);
+    let behind = is_read_so(alloc, text, 6, MANY, fault) & is_read_so(alloc, text, 8, MANY, fault);
+    in_line & behind & are_read_before(alloc)
+}
+
+/// The same of a text of pairs.
+fn are_read_before(alloc: Global) -> bool {
+    let text = b"c\nx\nc y\n".as_slice();
+    let mut in_line = Uneven::new(text, 3, 5);
+    let mut behind = Uneven::new(text, 3, 6);
+    let read = Wanted::Fault(GrErrorKind::Read, 2);
+    let fault = Wanted::Fault(GrErrorKind::UnknownLine, 2);
+    are_pairs(read_queries(alloc, &mut in_line, 1), read)
+        & are_pairs(read_queries(alloc, &mut behind, 1), fault)
+}
+
+#[test]
+fn faults_come_before_a_failed_read(rt: HostRuntime) {
+    assert!(rt; faults_come_before(rt.alloc()));
 }
 
 #[test]

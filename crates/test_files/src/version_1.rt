@@ -162,6 +162,33 @@ fn is_answered(
     Ok(weight_between(&mut search, source, target)? == weight)
 }
 
+/// Whether the least walk from 37 to 36 is of one link.
+fn goes_by_one_link(search: &mut Search) -> Result<bool, AllocError>
+    requires all { 37 < length search.old.ranks }
+{
+    match search.distance(37, 36)? {
+        Some(found) => Ok((found.cost == Cost::of_walk(1 << 36, 0)) & (found.links.len() == 1)),
+        None => Ok(false),
+    }
+}
+
+/// Whether 37 and 36 are joined so.
+fn joins_37_and_36(alloc: Global, hierarchy: &Hierarchy) -> Result<bool, AllocError> {
+    if hierarchy.nodes() <= 37 {
+        return Ok(false);
+    }
+    let mut search = Search::new(alloc, hierarchy)?;
+    goes_by_one_link(&mut search)
+}
+
+/// Whether a file is read, and its nodes 37 and 36 are joined so.
+fn is_joined(alloc: Global, words: &[u32]) -> Result<bool, AllocError> {
+    match hierarchy_of(alloc, words)? {
+        Some(hierarchy) => joins_37_and_36(alloc, &hierarchy),
+        None => Ok(false),
+    }
+}
+
 /// Whether a file is read, and answers each of these pairs so.
 fn answers(
     alloc: Global,
@@ -221,6 +248,7 @@ fn reads_a_cascade(rt: HostRuntime) -> Result<(), AllocError> {
         (37, 37, Some(0)),
     ];
     assert!(rt; answers(rt.alloc(), words.as_slice(), &pairs)?);
+    assert!(rt; is_joined(rt.alloc(), words.as_slice())?);
     Ok(())
 }
 

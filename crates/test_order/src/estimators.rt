@@ -5,10 +5,11 @@ ghost use Rattle.ch_contract.specs.Proposal.{AreFacts};
 use ch_contract::{Contraction, Facts};
 use ch_estimate::{Depth, EdgeDifference, Estimator, Lease, Leases, Neighbours, Note};
 use std::alloc::{AllocError, Global};
-use std::sync::Arc;
 use std::sync::atomic::{AtomicU64, Ordering};
+use std::sync::{Arc, Wait};
 use std::test::Fail;
 use std::thread;
+use std::thread::Threads;
 use test_kit::{Drops, Numbered};
 
 /// Tells an estimator of a log, from its start.
@@ -109,6 +110,28 @@ fn keys_of_a_chain_and_a_star(rt: HostRuntime) -> Result<(), Fail> {
     Ok(())
 }
 
+/// Does a piece of work in a thread of its own, under a lease, and waits for the lease. Answers whether the work was done
+/// then.
+fn waits_for_work<R: Threads + Wait>(
+    rt: &R,
+    alloc: Global,
+    leases: &mut Leases,
+) -> Result<bool, AllocError> {
+    let lease = leases.lease()?;
+    let done = Arc::new(alloc, AtomicU64::new(0))?;
+    let theirs = Arc::try_clone(&done)?;
+    let child = thread::spawn(rt, move || {
+        theirs.fetch_add(1, Ordering::SeqCst);
+        drop(lease);
+    });
+    leases.wait(rt);
+    let is_done = done.load(Ordering::SeqCst) == 1;
+    if let Ok(child) = child {
+        child.join(rt);
+    }
+    Ok(is_done)
+}
+
 /// Lends two leases, and has them back.
 fn lend_two(leases: &mut Leases) -> Result<(), AllocError> {
     let first = leases.lease()?;
@@ -119,34 +142,16 @@ fn lend_two(leases: &mut Leases) -> Result<(), AllocError> {
 }
 
 #[test]
-fn waits_answer(rt: HostRuntime) -> Result<(), Fail> {
-    let mut leases = Leases::new(rt.alloc())?;
-    leases.wait(&rt);
-    leases.wait(&rt);
-    lend_two(&mut leases)?;
-    leases.wait(&rt);
-    leases.wait(&rt);
-    let third = leases.lease()?;
-    drop(third);
-    leases.wait(&rt);
-    Ok(())
-}
-
-#[test]
-fn waits_for_another_thread(rt: HostRuntime) -> Result<(), Fail> {
+fn each_group_is_waited_for(rt: HostRuntime) -> Result<(), Fail> {
     let alloc = rt.alloc();
     let mut leases = Leases::new(alloc)?;
-    let lease = leases.lease()?;
-    let done = Arc::new(alloc, AtomicU64::new(0))?;
-    let theirs = Arc::try_clone(&done)?;
-    let child = thread::spawn(&rt, move || {
-        theirs.fetch_add(1, Ordering::SeqCst);
-        drop(lease);
-    });
     leases.wait(&rt);
-    assert!(rt; done.load(Ordering::SeqCst) == 1);
-    if let Ok(child) = child {
-        child.join(&rt);
+    leases.wait(&rt);
+    for _ in 0..8 {
+        assert!(rt; waits_for_work(&rt, alloc, &mut leases)?);
+        lend_two(&mut leases)?;
+        leases.wait(&rt);
+        leases.wait(&rt);
     }
     Ok(())
 }

@@ -3,7 +3,7 @@ use Rattle.std.specs.Prelude.{ℕ, ◌≡◌, ◌+◌, ◌*◌, ◌^◌, ◌<◌
 use Rattle.std.specs.Ordering.{nat_cmp, ordering_then}
 use Rattle.std.proofs.Common.{arith}
 use Rattle.ch_cost.specs.declared.cost.Cost.{Cost}
-use Rattle.ch_cost.specs.Cost.{◌⊕◌, of_weight, cost_of_arcs, of_walk, length_of, arcs_of, ◌≼◌, ◌≺◌, compare, same, FitsWords, IsWithin, IsNoLonger, IsInLimit}
+use Rattle.ch_cost.specs.Cost.{◌⊕◌, of_weight, cost_of_arcs, of_walk, length_of, arcs_of, ◌≼◌, ◌≺◌, compare, same, FitsWords, IsWithin, IsNoLonger, IsInLimit, IsSummable}
 
 pub sum-is : (a b : Cost) → record { weight = a.weight + b.weight; arcs = a.arcs + b.arcs } ≡ a ⊕ b
 unfolding ◌⊕◌
@@ -70,6 +70,9 @@ in_limit-from_fields c h k = record { weight = h; arcs = k }
 
 pub fields-from_in_limit : (c : Cost) → IsInLimit c → (c.weight ≤ 2 ^ 57) × (c.arcs ≤ 2 ^ 57)
 fields-from_in_limit c h = (h.weight, h.arcs)
+
+pub fields-from_summable : (c : Cost) → IsSummable c → (c.weight ≤ 2 ^ 62) × (c.arcs ≤ 2 ^ 62)
+fields-from_summable c h = (h.weight, h.arcs)
 
 -- a sum fits where both of its numbers do
 pub sum-from_fields : (a b : Cost) → a.weight + b.weight < 2 ^ 64 → a.arcs + b.arcs < 2 ^ 64 → FitsWords (a ⊕ b)

@@ -8,7 +8,7 @@ use Rattle.std.specs.Cmp.{IsEquivalence, IsPartialEquivalence, IsTotalOrder, IsP
 use Rattle.std.proofs.Common.{zero, suc, ap, sym, ◌∙◌, subst, inl, inr, arith, add_comm, add-one, suc-mul, mul-le-mul, mul-le-mul_left, mul-le-mul_right, eqb-true}
 use Rattle.std.proofs.lemmas.Bool.{cases_lt, cases_eq}
 use Rattle.ch_cost.specs.declared.cost.Cost.{Cost}
-use Rattle.ch_cost.specs.Cost.{zero_cost, ◌⊕◌, of_weight, cost_of_arcs, length_of, arcs_of, IsWeight, ◌≼◌, ◌≺◌, compare, same, IsWithin, IsNoLonger, IsInLimit, IsOfArcs, IsOfWalks}
+use Rattle.ch_cost.specs.Cost.{zero_cost, ◌⊕◌, of_weight, cost_of_arcs, length_of, arcs_of, IsWeight, ◌≼◌, ◌≺◌, compare, same, IsWithin, IsNoLonger, IsInLimit, IsSummable, IsOfArcs, IsOfWalks}
 
 -- two costs are the same where their numbers are
 alike : (a b : Cost) → a.weight ≡ b.weight → a.arcs ≡ b.arcs → a ≡ b
@@ -252,6 +252,12 @@ of_walks_more {m} {n} {a} h k = record { arcs = omega (arith, h, k.arcs) }
 -- the length is bounded by the one fact, and the arcs by the other
 pub in_limit-from_walks : {n : ℕ} {c bound : Cost} → n ≤ 2 ^ 25 → IsOfWalks n c → IsNoLonger c bound → IsInLimit bound → IsInLimit c
 in_limit-from_walks {n} {c} {bound} h k short small = record { weight = omega (arith, short.weight, small.weight); arcs = omega (arith, h, k.arcs) }
+
+pub summable-from_in_limit : {c : Cost} → IsInLimit c → IsSummable c
+summable-from_in_limit {c} h = record { weight = omega (arith, h.weight); arcs = omega (arith, h.arcs) }
+
+pub summable-from_walks : {n : ℕ} {c bound : Cost} → n ≤ 2 ^ 25 → IsOfWalks n c → IsNoLonger c bound → IsSummable bound → IsSummable c
+summable-from_walks {n} {c} {bound} h k short small = record { weight = omega (arith, short.weight, small.weight); arcs = omega (arith, h, k.arcs) }
 
 -- Lengths and arcs
 

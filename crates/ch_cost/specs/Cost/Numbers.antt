@@ -1,7 +1,8 @@
 -- Costs by their two numbers, for what writes costs down and reads them back.
 use Rattle.std.specs.Prelude.{ℕ, ◌≡◌, ◌*◌, ◌^◌, ◌≤◌, refl}
+use Rattle.std.proofs.Common.{arith}
 use Rattle.ch_cost.specs.declared.cost.Cost.{Cost}
-use Rattle.ch_cost.specs.Cost.{cost_of_arcs, of_walk, length_of, arcs_of, IsWithin, IsNoLonger, IsInLimit}
+use Rattle.ch_cost.specs.Cost.{cost_of_arcs, of_walk, length_of, arcs_of, IsWithin, IsNoLonger, IsInLimit, IsSummable, IsOfWalks}
 
 pub length_of-of_walk : (n m : ℕ) → length_of (of_walk n m) ≡ n
 unfolding length_of of_walk
@@ -50,3 +51,11 @@ lengths-in_limit c h = h.weight
 pub arcs-in_limit : (c : Cost) → IsInLimit c → arcs_of c ≤ 2 ^ 57
 unfolding arcs_of
 arcs-in_limit c h = h.arcs
+
+pub summable-from_numbers : (c : Cost) → length_of c ≤ 2 ^ 62 → arcs_of c ≤ 2 ^ 62 → IsSummable c
+unfolding length_of arcs_of
+summable-from_numbers c h k = record { weight = h; arcs = k }
+
+pub of_walks-from_arcs : (c : Cost) → arcs_of c ≤ 2 ^ 25 → IsOfWalks 1 c
+unfolding arcs_of
+of_walks-from_arcs c h = record { arcs = omega (arith, h) }

@@ -7,7 +7,7 @@ use Rattle.ch_graph.specs.declared.mark.Mark.{Mark}
 use Rattle.ch_graph.specs.declared.mark.Mark.TheVariants.{Unseen, Open, Settled}
 use Rattle.ch_graph.specs.Walk.{Walk, stay, go}
 use Rattle.ch_graph.specs.Marks.{HasLabel, IsAtMost, Improves, IsPut, NoneOpen}
-use Rattle.ch_graph.specs.Searching.{Arcs, Order, LeadsTo, IsOrder, IsDownward, IsLatest, IsLeastOpen, IsFollowed, IsSearch, IsOpenedBy, IsTurn}
+use Rattle.ch_graph.specs.Searching.{Arcs, Order, LeadsTo, Beginning, Only, StartedWalk, IsOrder, IsDownward, IsLatest, IsLeastOpen, IsFollowed, IsSearch, IsOpenedBy, IsTurn}
 use Rattle.ch_graph.specs.Walk.Laws.{one_arc, join}
 use Rattle.ch_graph.specs.Marks.Laws.{cases_put, label_open, label_settled, label_cases, unseen-label, one_label, unseen-settled, open-settled, open-open, settled-settled, at_most-label, at_most-from_label, at_most-more, improves-below, improves-not_settled}
 
@@ -127,23 +127,45 @@ module _ {L : Type 0} (cost : L → Cost) (NoLater : Order) (IsNew : ℕ → L �
     | inr closed ↦ inl (settle-label cost NoLater turn.next turn.put u d (label_settled (turn.mid u) d (turn.opened.settled u d closed)))
   ]
 
+-- Walks from where a search begins
+
+module _ {Arc : Arcs} where
+  -- from one node at no cost they are its walks
+  pub only-walk : {s v : ℕ} {c : Cost} → StartedWalk Arc (Only s) v c → Walk Arc s v c
+  only-walk {s} {v} {c} started =
+      let same : started.rest ≡ c = sym (zero_cost-sum started.rest) ∙ (ap (λ (d : Cost). d ⊕ started.rest) (sym started.begins.1) ∙ started.sum) in
+      subst (λ n. Walk Arc n v c) started.begins.0 (subst (λ (d : Cost). Walk Arc started.start v d) same started.walk)
+
+  pub only-started : {s v : ℕ} {c : Cost} → Walk Arc s v c → StartedWalk Arc (Only s) v c
+  only-started {s} {v} {c} w = record { start = s; first = zero_cost; begins = (refl, refl); rest = c; walk = w; sum = zero_cost-sum c }
+
+  -- one goes on over an arc
+  started-more : {Begins : Beginning} {v u : ℕ} {c d : Cost} → StartedWalk Arc Begins v c → LeadsTo Arc v c u d → StartedWalk Arc Begins u d
+  started-more {d = d} started to = record {
+    start = started.start;
+    first = started.first;
+    begins = started.begins;
+    rest = started.rest ⊕ to.arc;
+    walk = join started.walk (one_arc to.goes);
+    sum = sym (sum_assoc started.first started.rest to.arc) ∙ (ap (λ (e : Cost). e ⊕ to.arc) started.sum ∙ to.sum);
+  }
+
 -- Between turns
 
 module _ {L : Type 0} (cost : L → Cost) {Arc : Arcs} {NoLater : Order} where
-  -- a search begins with s alone, which is open and costs nothing
-  pub search-start : {Counts : Cost → Type 0} {old new : ℕ → Mark L} (s : ℕ) (e : L) → ((u : ℕ) → old u ≡ Unseen) → IsPut old s (Open e) new → cost e ≡ zero_cost → IsSearch cost NoLater Arc Counts s new
-  search-start {Counts} {old} {new} s e unseen put free = record {
-    source = at_most-from_label cost (new s) e zero_cost (label_open (new s) e put.here) (subst (λ (c : Cost). cost e ≼ c) free (at_most_refl (cost e)));
-    walks = λ u d has. elim (cases_put put u) [
-      | inl w ↦
-          let same : e ≡ d = one_label (new u) e d (label_open (new u) e w.reads) has in
-          let own : zero_cost ≡ cost d = sym free ∙ ap cost same in
-          subst (λ n. Walk Arc s n (cost d)) (sym w.at) (subst (λ (c : Cost). Walk Arc s s c) own stay)
-      | inr k ↦ absurd (unseen-label (new u) d (k.reads ∙ unseen u) has)
-    ];
-    ordered = λ u d is w f closed. absurd (none w f closed);
-    followed = λ u d closed. absurd (none u d closed);
+  -- A search begins with nothing settled: where it may begin at a cost that counts there is a label of no more, and each
+  -- label is the cost of a beginning.
+  pub search-begin : {Counts : Cost → Type 0} {Begins : Beginning} {marks : ℕ → Mark L} → ((v : ℕ) (e : L) → marks v ≡ Settled e → ⊥) → ((v : ℕ) (c : Cost) → Begins v c → Counts c → IsAtMost cost (marks v) c) → ((v : ℕ) (e : L) → HasLabel (marks v) e → Begins v (cost e)) → IsSearch cost NoLater Arc Counts Begins marks
+  search-begin none starts begins = record {
+    starts = starts;
+    walks = λ v e has. record { start = v; first = cost e; begins = begins v e has; rest = zero_cost; walk = stay; sum = sum-zero_cost (cost e) };
+    ordered = λ v e is u f closed. absurd (none u f closed);
+    followed = λ v e closed. absurd (none v e closed);
   }
+
+  -- at one node alone, which is open and costs nothing
+  pub search-start : {Counts : Cost → Type 0} {old new : ℕ → Mark L} (s : ℕ) (e : L) → ((u : ℕ) → old u ≡ Unseen) → IsPut old s (Open e) new → cost e ≡ zero_cost → IsSearch cost NoLater Arc Counts (Only s) new
+  search-start {Counts} {old} {new} s e unseen put free = search-begin none at_start of_start
     where
       none : (u : ℕ) (d : L) → new u ≡ Settled d → ⊥
       none u d is = elim (cases_put put u) [
@@ -151,24 +173,35 @@ module _ {L : Type 0} (cost : L → Cost) {Arc : Arcs} {NoLater : Order} where
         | inr k ↦ unseen-settled (sym (unseen u) ∙ (sym k.reads ∙ is))
       ]
 
+      at_start : (v : ℕ) (c : Cost) → Only s v c → Counts c → IsAtMost cost (new v) c
+      at_start v c is counts =
+          let own : cost e ≼ c = subst (λ (d : Cost). cost e ≼ d) (free ∙ sym is.1) (at_most_refl (cost e)) in
+          subst (λ n. IsAtMost cost (new n) c) (sym is.0) (at_most-from_label cost (new s) e c (label_open (new s) e put.here) own)
+
+      of_start : (v : ℕ) (d : L) → HasLabel (new v) d → Only s v (cost d)
+      of_start v d has = elim (cases_put put v) [
+        | inl w ↦
+            let same : e ≡ d = one_label (new v) e d (label_open (new v) e w.reads) has in
+            (w.at, ap cost (sym same) ∙ free)
+        | inr k ↦ absurd (unseen-label (new v) d (k.reads ∙ unseen v) has)
+      ]
+
   -- where fewer costs count it is one too
-  pub search-fewer : {Counts Fewer : Cost → Type 0} {s : ℕ} {marks : ℕ → Mark L} → ((c : Cost) → Fewer c → Counts c) → IsSearch cost NoLater Arc Counts s marks → IsSearch cost NoLater Arc Fewer s marks
+  pub search-fewer : {Counts Fewer : Cost → Type 0} {Begins : Beginning} {marks : ℕ → Mark L} → ((c : Cost) → Fewer c → Counts c) → IsSearch cost NoLater Arc Counts Begins marks → IsSearch cost NoLater Arc Fewer Begins marks
   search-fewer fewer search = record {
-    source = search.source;
+    starts = λ v c begins counts. search.starts v c begins (fewer c counts);
     walks = search.walks;
     ordered = search.ordered;
     followed = λ v e is u d leads counts. search.followed v e is u d leads (fewer d counts);
   }
 
   -- and it stays one by a turn whose new labels are those of arcs from its node, and that follows each of these arcs
-  pub search-turn : IsOrder Arc NoLater → {Counts : Cost → Type 0} {IsNew : ℕ → L → Type 0} {s v : ℕ} {e : L} {old new : ℕ → Mark L} → IsSearch cost NoLater Arc Counts s old → IsTurn cost NoLater IsNew v e old new → ((u : ℕ) (d : L) → IsNew u d → LeadsTo Arc v (cost e) u (cost d)) → IsFollowed cost Arc Counts new v (cost e) → IsSearch cost NoLater Arc Counts s new
-  search-turn order {Counts} {IsNew} {s} {v} {e} {old} {new} search turn leads followed = record {
-    source = turn-kept cost NoLater IsNew turn s zero_cost search.source;
+  pub search-turn : IsOrder Arc NoLater → {Counts : Cost → Type 0} {IsNew : ℕ → L → Type 0} {Begins : Beginning} {v : ℕ} {e : L} {old new : ℕ → Mark L} → IsSearch cost NoLater Arc Counts Begins old → IsTurn cost NoLater IsNew v e old new → ((u : ℕ) (d : L) → IsNew u d → LeadsTo Arc v (cost e) u (cost d)) → IsFollowed cost Arc Counts new v (cost e) → IsSearch cost NoLater Arc Counts Begins new
+  search-turn order {Counts} {IsNew} {Begins} {v} {e} {old} {new} search turn leads followed = record {
+    starts = λ u c begins counts. turn-kept cost NoLater IsNew turn u c (search.starts u c begins counts);
     walks = λ u d has. elim (turn-label cost NoLater IsNew turn u d has) [
       | inl there ↦ search.walks u d there
-      | inr is_new ↦
-          let to : LeadsTo Arc v (cost e) u (cost d) = leads u d is_new in
-          subst (λ (c : Cost). Walk Arc s u c) to.sum (join (search.walks v e (label_open (old v) e turn.next.opens)) (one_arc to.goes))
+      | inr is_new ↦ started-more (search.walks v e (label_open (old v) e turn.next.opens)) (leads u d is_new)
     ];
     ordered = λ u d is w f closed. order.chain (cost f) (cost e) (cost d) w v u (latest w f closed) (above u d is);
     followed = λ u d is. elim (turn-settled cost NoLater IsNew turn u d is) [
@@ -186,7 +219,7 @@ module _ {L : Type 0} (cost : L → Cost) {Arc : Arcs} {NoLater : Order} where
         | inr is_new ↦ order.onward (cost e) (cost d) v u (leads u d is_new)
       ]
 
--- Walks from the source
+-- What walks are known to cost
 
 module _ {Arc : Arcs} {NoLater : Order} (order : IsOrder Arc NoLater) where
   -- what comes no later than a node that a walk leads from costs no more
@@ -220,7 +253,7 @@ module _ {L : Type 0} (cost : L → Cost) {Arc : Arcs} {marks : ℕ → Mark L} 
   passes-more : {v : ℕ} {c d : Cost} → c ≼ d → PassesOpen cost Arc marks v c → PassesOpen cost Arc marks v d
   passes-more h passed = record { node = passed.node; label = passed.label; opens = passed.opens; left = passed.left; rest = passed.rest; at_most = at_most_trans passed.at_most h }
 
-  module _ {Counts : Cost → Type 0} {NoLater : Order} {s : ℕ} (down : IsDownward Counts) (search : IsSearch cost NoLater Arc Counts s marks) where
+  module _ {Counts : Cost → Type 0} {NoLater : Order} {Begins : Beginning} (down : IsDownward Counts) (search : IsSearch cost NoLater Arc Counts Begins marks) where
     -- the same from a node that has a label
     from_labelled : {x v : ℕ} (d : Cost) {w : Cost} (m : Mark L) → marks x ≡ m → IsAtMost cost m d → Walk Arc x v w → Counts (d ⊕ w) → IsAtMost cost (marks v) (d ⊕ w) ⊎ PassesOpen cost Arc marks v (d ⊕ w)
     from_labelled d Unseen is most walk counts = absurd most
@@ -236,11 +269,15 @@ module _ {L : Type 0} (cost : L → Cost) {Arc : Arcs} {marks : ℕ → Mark L} 
         ]
 
     -- a walk that counts ends at a label of at most its cost, or passes an open node whose label costs no more
-    pub labelled_or_open : {v : ℕ} {c : Cost} → Walk Arc s v c → Counts c → IsAtMost cost (marks v) c ⊎ PassesOpen cost Arc marks v c
-    labelled_or_open {v} {c} walk counts = subst (λ (d : Cost). IsAtMost cost (marks v) d ⊎ PassesOpen cost Arc marks v d) (zero_cost-sum c) (from_labelled zero_cost (marks s) refl search.source walk (subst (λ (d : Cost). Counts d) (sym (zero_cost-sum c)) counts))
+    pub labelled_or_open : {v : ℕ} {c : Cost} → StartedWalk Arc Begins v c → Counts c → IsAtMost cost (marks v) c ⊎ PassesOpen cost Arc marks v c
+    labelled_or_open {v} {c} started counts =
+        let both : Counts (started.first ⊕ started.rest) = subst (λ (d : Cost). Counts d) (sym started.sum) counts in
+        let first : Counts started.first = down started.first (started.first ⊕ started.rest) (at_most_sum_left started.first started.rest) both in
+        let here : IsAtMost cost (marks started.start) started.first = search.starts started.start started.first started.begins first in
+        subst (λ (d : Cost). IsAtMost cost (marks v) d ⊎ PassesOpen cost Arc marks v d) started.sum (from_labelled started.first (marks started.start) refl here started.walk both)
 
     -- where no node is open, no walk that counts leads to a node that isn't settled
-    pub none_open-no_walk : NoneOpen marks → {v : ℕ} {c : Cost} → ((e : L) → marks v ≡ Settled e → ⊥) → Walk Arc s v c → Counts c → ⊥
+    pub none_open-no_walk : NoneOpen marks → {v : ℕ} {c : Cost} → ((e : L) → marks v ≡ Settled e → ⊥) → StartedWalk Arc Begins v c → Counts c → ⊥
     none_open-no_walk none {v} {c} unsettled walk counts = elim (labelled_or_open walk counts) [
       | inl labelled ↦ never (marks v) refl labelled
       | inr passed ↦ none passed.node passed.label passed.opens
@@ -253,7 +290,7 @@ module _ {L : Type 0} (cost : L → Cost) {Arc : Arcs} {marks : ℕ → Mark L} 
 
     module _ (order : IsOrder Arc NoLater) where
       -- a node that comes no later than all open ones has a label that no walk that counts is cheaper than
-      first_is_least : (v : ℕ) (e : L) → HasLabel (marks v) e → ((u : ℕ) (f : L) → marks u ≡ Open f → NoLater (cost e) v (cost f) u) → (c : Cost) → Walk Arc s v c → Counts c → cost e ≼ c
+      first_is_least : (v : ℕ) (e : L) → HasLabel (marks v) e → ((u : ℕ) (f : L) → marks u ≡ Open f → NoLater (cost e) v (cost f) u) → (c : Cost) → StartedWalk Arc Begins v c → Counts c → cost e ≼ c
       first_is_least v e has first c walk counts = elim (labelled_or_open walk counts) [
         | inl labelled ↦ at_most-label cost (marks v) e c has labelled
         | inr passed ↦ at_most_trans (by_rest passed.label passed.opens (first passed.node passed.label passed.opens) passed.rest) passed.at_most
@@ -266,17 +303,17 @@ module _ {L : Type 0} (cost : L → Cost) {Arc : Arcs} {marks : ℕ → Mark L} 
           by_rest f opens before (go arc rest) = back_along order (cost e) (cost f) arc rest before
 
       -- the label of a settled node is the least of the walks that count
-      pub settled_is_least : (v : ℕ) (e : L) → marks v ≡ Settled e → (c : Cost) → Walk Arc s v c → Counts c → cost e ≼ c
+      pub settled_is_least : (v : ℕ) (e : L) → marks v ≡ Settled e → (c : Cost) → StartedWalk Arc Begins v c → Counts c → cost e ≼ c
       settled_is_least v e is = first_is_least v e (label_settled (marks v) e is) (λ u f opens. search.ordered u f opens v e is)
 
       -- and so is that of the open node that comes first
-      pub least_open_is_least : (v : ℕ) (e : L) → IsLeastOpen cost NoLater marks v e → (c : Cost) → Walk Arc s v c → Counts c → cost e ≼ c
+      pub least_open_is_least : (v : ℕ) (e : L) → IsLeastOpen cost NoLater marks v e → (c : Cost) → StartedWalk Arc Begins v c → Counts c → cost e ≼ c
       least_open_is_least v e next = first_is_least v e (label_open (marks v) e next.opens) next.least
 
 -- The law of the stop: a walk of one search and a walk of another, which count together, end at two labels that cost no
 -- more, or one search has an open node whose label costs no more than both walks.
-module _ {L : Type 0} (cost : L → Cost) {Arc Other : Arcs} {Counts : Cost → Type 0} {NoLater : Order} {s t : ℕ} {up down : ℕ → Mark L} (downward : IsDownward Counts) (rises : IsSearch cost NoLater Arc Counts s up) (falls : IsSearch cost NoLater Other Counts t down) where
-  pub both_labelled_or_open : {x y : ℕ} {c d : Cost} → Walk Arc s x c → Walk Other t y d → Counts (c ⊕ d) → (IsAtMost cost (up x) c × IsAtMost cost (down y) d) ⊎ (HasOpen cost up (c ⊕ d) ⊎ HasOpen cost down (c ⊕ d))
+module _ {L : Type 0} (cost : L → Cost) {Arc Other : Arcs} {Counts : Cost → Type 0} {NoLater : Order} {Starts Ends : Beginning} {up down : ℕ → Mark L} (downward : IsDownward Counts) (rises : IsSearch cost NoLater Arc Counts Starts up) (falls : IsSearch cost NoLater Other Counts Ends down) where
+  pub both_labelled_or_open : {x y : ℕ} {c d : Cost} → StartedWalk Arc Starts x c → StartedWalk Other Ends y d → Counts (c ⊕ d) → (IsAtMost cost (up x) c × IsAtMost cost (down y) d) ⊎ (HasOpen cost up (c ⊕ d) ⊎ HasOpen cost down (c ⊕ d))
   both_labelled_or_open {x} {y} {c} {d} rise fall counts = elim (labelled_or_open cost downward rises rise (downward c (c ⊕ d) (at_most_sum_left c d) counts)) [
     | inr passed ↦ inr (inl (more (at_most_sum_left c d) (open-from_passed cost passed)))
     | inl risen ↦ elim (labelled_or_open cost downward falls fall (downward d (c ⊕ d) (at_most_sum_right c d) counts)) [

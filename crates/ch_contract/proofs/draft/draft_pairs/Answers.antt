@@ -8,10 +8,10 @@ use Rattle.ch_laws.specs.declared.entry.Entry.{Entry}
 use Rattle.ch_laws.specs.declared.shortcut.Shortcut.{Shortcut}
 use Rattle.ch_laws.specs.Rows.{Row, Rises}
 use Rattle.ch_overlay.specs.Overlay.{IsEntry}
-use Rattle.ch_witness.specs.Kept.{kept_of}
+use Rattle.ch_witness.specs.Kept.{kept_of, finds_unless}
 use Rattle.ch_contract.specs.Listed.{LeadsOn}
 use Rattle.ch_contract.specs.Drafts.{ArePairs}
-use Rattle.ch_contract.proofs.Finds.{finds_short, finds_unless, on_ok_too}
+use Rattle.ch_contract.proofs.Finds.{finds_short, on_ok_too}
 use Rattle.ch_contract.proofs.Joining.{drafted_search, idle_alone, idle_read, no_target, pair_through}
 use Rattle.ch_contract.proofs.draft.draft_pairs.Goals as goal
 
@@ -44,25 +44,16 @@ pub read-requires : goal.read-requires
 read-requires g c = record { kept = c.requires.kept }
 
 pub returns-in_err-read-clause-read : goal.returns-in_err-read-clause-read
-returns-in_err-read-clause-read g c = record {
-  kept = c.in_err-read.ensures.kept;
-  more = c.in_err-read.ensures.more;
-  stays = c.in_err-read.ensures.stays;
-}
+returns-in_err-read-clause-read g c = c.in_err-read.ensures.read
 
 pub returns-in_err-read-clause-found : goal.returns-in_err-read-clause-found
 returns-in_err-read-clause-found g c = λ named names.
     let whole = All-contains (λ (x : Entry). g.S.RowSource.whole c.args.source.now x.other) c.args.row.now.inn c.args.into.now names.inn c.requires.among in
     let p = err_from_is_err_and c.from_residual.result c.from_residual.ensures.1 in
-    let was = c.in_err-read.was in
-    finds_unless _ _ _ p.0 p.1 (λ unseen. let refused = p.2.0 unseen in c.in_err-read.ensures.found whole (cc (was, refused)))
+    finds_unless _ _ _ _ p.0 p.1 (λ unseen. c.in_err-read.ensures.found named whole (p.2.0 unseen))
 
 pub returns-in_err-push-clause-read : goal.returns-in_err-push-clause-read
-returns-in_err-push-clause-read g c = record {
-  kept = c.in_ok-read.ensures.kept;
-  more = c.in_ok-read.ensures.more;
-  stays = c.in_ok-read.ensures.stays;
-}
+returns-in_err-push-clause-read g c = c.in_ok-read.ensures.read
 
 pub returns-in_err-push-clause-found : goal.returns-in_err-push-clause-found
 returns-in_err-push-clause-found g c = λ named names.
@@ -70,11 +61,7 @@ returns-in_err-push-clause-found g c = λ named names.
     finds_short _ _ _ p.0 p.1 p.2
 
 pub returns-in_err-find_pairs-clause-read : goal.returns-in_err-find_pairs-clause-read
-returns-in_err-find_pairs-clause-read g c = record {
-  kept = c.in_ok-read.ensures.kept;
-  more = c.in_ok-read.ensures.more;
-  stays = c.in_ok-read.ensures.stays;
-}
+returns-in_err-find_pairs-clause-read g c = c.in_ok-read.ensures.read
 
 pub returns-in_err-find_pairs-clause-found : goal.returns-in_err-find_pairs-clause-found
 returns-in_err-find_pairs-clause-found g c = λ named names.
@@ -96,16 +83,12 @@ returns-then-is_empty-clause-draft g c =
     refl c.in_ok-push.ensures.items
 
 pub returns-then-is_empty-clause-read : goal.returns-then-is_empty-clause-read
-returns-then-is_empty-clause-read g c = record {
-  kept = c.in_ok-read.ensures.kept;
-  more = c.in_ok-read.ensures.more;
-  stays = c.in_ok-read.ensures.stays;
-}
+returns-then-is_empty-clause-read g c = c.in_ok-read.ensures.read
 
 pub returns-then-is_empty-clause-found : goal.returns-then-is_empty-clause-found
 returns-then-is_empty-clause-found g c = λ named names.
     let whole = All-contains (λ (x : Entry). g.S.RowSource.whole c.args.source.now x.other) c.args.row.now.inn c.args.into.now names.inn c.requires.among in
-    c.in_ok-read.ensures.names whole named
+    c.in_ok-read.ensures.found named whole
 
 pub judge_by_search-requires-clause-start : goal.judge_by_search-requires-clause-start
 judge_by_search-requires-clause-start g c = (All-contains (IsEntry (2 ^ 25) c.args.task.bound c.args.task.node) c.args.row.now.inn c.args.into.now c.requires.entries.inn c.requires.among).apart
@@ -118,11 +101,11 @@ judge_by_search-requires-clause-ends g c = c.in_ok-find_pairs.ensures.ends
 
 pub judge_by_search-requires-clause-within : goal.judge_by_search-requires-clause-within
 judge_by_search-requires-clause-within g c = λ p among.
-    let bound : c.args.task.bound ≡ g.S.RowSource.bound_of c.read.new.source = c.requires.bound ∙ sym (g.met.S.RowSource.same_bound c.args.source.now c.read.new.source c.in_ok-read.ensures.stays) in
+    let bound : c.args.task.bound ≡ g.S.RowSource.bound_of c.read.new.source = c.requires.bound ∙ sym (g.met.S.RowSource.same_bound c.args.source.now c.read.new.source c.in_ok-read.ensures.read.stays) in
     subst (λ (b : Cost). IsWithin p.cost b) bound (pair_through c.args.task.bound c.args.row.now c.args.into.now c.find_pairs.new.pairs.light.items c.requires.among c.requires.inn_rises (subst (λ (es : List Entry). ArePairs c.args.task.bound c.args.into.now es c.find_pairs.new.pairs.light.items) (c.deref-2.ensures.value ∙ ap (λ (r : Row). r.out) c.row.view_is) c.in_ok-find_pairs.ensures.light) p among).1
 
 pub judge_by_search-requires-clause-kept : goal.judge_by_search-requires-clause-kept
-judge_by_search-requires-clause-kept g c = c.in_ok-read.ensures.kept
+judge_by_search-requires-clause-kept g c = c.in_ok-read.ensures.read.kept
 
 pub returns-clause-draft : goal.returns-clause-draft
 returns-clause-draft g c =
@@ -139,11 +122,11 @@ returns-clause-read g c =
     let read = c.judge_by_search.ensures.read in
     record {
       kept = read.kept;
-      more = λ x s is. read.more x s (c.in_ok-read.ensures.more x s is);
-      stays = g.met.S.RowSource.stays_more c.args.source.now c.read.new.source c.judge_by_search.new.source c.in_ok-read.ensures.stays read.stays;
+      more = λ x s is. read.more x s (c.in_ok-read.ensures.read.more x s is);
+      stays = g.met.S.RowSource.stays_more c.args.source.now c.read.new.source c.judge_by_search.new.source c.in_ok-read.ensures.read.stays read.stays;
     }
 
 pub returns-clause-found : goal.returns-clause-found
 returns-clause-found g c = λ named names.
     let whole = All-contains (λ (x : Entry). g.S.RowSource.whole c.args.source.now x.other) c.args.row.now.inn c.args.into.now names.inn c.requires.among in
-    c.judge_by_search.ensures.found (c.in_ok-read.ensures.names whole named) (g.met.S.RowSource.still_whole c.args.source.now c.read.new.source c.args.into.now.other c.in_ok-read.ensures.stays whole)
+    c.judge_by_search.ensures.found (c.in_ok-read.ensures.found named whole) (g.met.S.RowSource.still_whole c.args.source.now c.read.new.source c.args.into.now.other c.in_ok-read.ensures.read.stays whole)

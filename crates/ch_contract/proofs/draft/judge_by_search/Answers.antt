@@ -2,10 +2,11 @@ use Rattle.std.proofs.Common.{ℕ, ◌≡◌, List, length, Contains, map, ap, s
 use Rattle.std.proofs.lemmas.List.{length-map}
 use Rattle.std.proofs.lemmas.Result.{err_from_is_err_and}
 use Rattle.ch_laws.specs.declared.shortcut.Shortcut.{Shortcut}
-use Rattle.ch_witness.specs.Kept.{kept_of}
+use Rattle.ch_witness.specs.Kept.{kept_of, finds_unless}
 use Rattle.ch_witness.specs.Tree.{seen_of}
 use Rattle.ch_witness.specs.Ways.{AreWays}
-use Rattle.ch_contract.proofs.Finds.{finds_short, finds_unless}
+use Rattle.ch_contract.proofs.Cutoffs.{at_most-from_within}
+use Rattle.ch_contract.proofs.Finds.{finds_short}
 use Rattle.ch_contract.proofs.Joining.{direct_for, judged_for}
 use Rattle.ch_contract.proofs.draft.judge_by_search.Goals as goal
 
@@ -16,24 +17,19 @@ pub search-requires-clause-targets : goal.search-requires-clause-targets
 search-requires-clause-targets g c = λ among. c.requires.avoided (subst (λ (ts : List ℕ). Contains ts c.args.task.node) (c.deref-2.ensures.value ∙ c.requires.ends) among)
 
 pub search-requires-clause-cutoff : goal.search-requires-clause-cutoff
-search-requires-clause-cutoff g c = c.greatest.ensures.within _ (λ p among. c.requires.within p (subst (λ (ps : List Shortcut). Contains ps p) c.deref.ensures.value among))
+search-requires-clause-cutoff g c = at_most-from_within _ _ (c.greatest.ensures.within _ (λ p among. c.requires.within p (subst (λ (ps : List Shortcut). Contains ps p) c.deref.ensures.value among)))
 
 pub search-requires-clause-kept : goal.search-requires-clause-kept
 search-requires-clause-kept g c = c.requires.kept
 
 pub returns-in_err-found-clause-read : goal.returns-in_err-found-clause-read
-returns-in_err-found-clause-read g c = record {
-  kept = c.in_err-found.ensures.kept;
-  more = c.in_err-found.ensures.more;
-  stays = c.in_err-found.ensures.stays;
-}
+returns-in_err-found-clause-read g c = c.in_err-found.ensures.read
 
 pub returns-in_err-found-clause-found : goal.returns-in_err-found-clause-found
 returns-in_err-found-clause-found g c = λ named whole.
     let p = err_from_is_err_and c.from_residual.result c.from_residual.ensures.1 in
-    let was = c.in_err-found.was in
     let same = p.2 in
-    finds_unless _ _ _ p.0 p.1 (λ unseen. c.in_err-found.ensures.found named whole (cc (was, same, unseen)))
+    finds_unless _ _ _ _ p.0 p.1 (λ unseen. c.in_err-found.ensures.found named whole (cc (same, unseen)))
 
 pub judge-requires : goal.judge-requires
 judge-requires g c =
@@ -42,11 +38,7 @@ judge-requires g c =
     record { many = ap length c.deref-5.ensures.value ∙ c.in_ok-found.ensures.ways.many ∙ ap length targets ∙ length-map pairs (λ (p : Shortcut). p.to) ∙ sym (ap length c.deref-4.ensures.value) }
 
 pub returns-in_err-judge-clause-read : goal.returns-in_err-judge-clause-read
-returns-in_err-judge-clause-read g c = record {
-  kept = c.in_ok-found.ensures.kept;
-  more = c.in_ok-found.ensures.more;
-  stays = c.in_ok-found.ensures.stays;
-}
+returns-in_err-judge-clause-read g c = c.in_ok-found.ensures.read
 
 pub returns-in_err-judge-clause-found : goal.returns-in_err-judge-clause-found
 returns-in_err-judge-clause-found g c = λ named whole.
@@ -71,11 +63,7 @@ returns-clause-searched g c =
     }
 
 pub returns-clause-read : goal.returns-clause-read
-returns-clause-read g c = record {
-  kept = c.in_ok-found.ensures.kept;
-  more = c.in_ok-found.ensures.more;
-  stays = c.in_ok-found.ensures.stays;
-}
+returns-clause-read g c = c.in_ok-found.ensures.read
 
 pub returns-clause-found : goal.returns-clause-found
-returns-clause-found g c = λ named whole. c.in_ok-found.ensures.names named whole
+returns-clause-found g c = λ named whole. c.in_ok-found.ensures.found named whole

@@ -4,19 +4,17 @@ use Rattle.std.proofs.lemmas.Grind.{common_steps}
 use Rattle.ch_laws.specs.declared.entry.Entry.{Entry}
 use Rattle.ch_laws.specs.Members.{contains_place}
 use Rattle.ch_laws.specs.Rows.{Row}
-use Rattle.ch_witness.specs.Kept.{kept_of}
+use Rattle.ch_witness.specs.Kept.{kept_of, finds_unless}
 use Rattle.ch_contract.specs.Drafts.{IsDraftedFrom}
-use Rattle.ch_contract.proofs.Finds.{finds_unless}
 use Rattle.ch_contract.proofs.Gathering.{drafted_none, next_drafted, names_moved}
 use Rattle.ch_contract.proofs.proposing.draft_all.Goals as goal
 
 pub inns-init : goal.inns-init
 inns-init g c =
-    let read = c.in_ok-read_neighbours.ensures in
     record {
       draft = drafted_none c.args.task.bound c.args.task.node c.args.row.now (kept_of c.read_neighbours.new.rows) c.args.draft.now c.requires.begun;
-      read = record { kept = read.kept; more = read.more; stays = read.stays };
-      names = read.names;
+      read = c.in_ok-read_neighbours.ensures.read;
+      names = c.in_ok-read_neighbours.ensures.found;
     }
 
 pub draft_pairs-requires-clause-bound : goal.draft_pairs-requires-clause-bound
@@ -46,15 +44,12 @@ inns-preserved g c =
     }
 
 pub returns-in_err-read_neighbours-clause-read : goal.returns-in_err-read_neighbours-clause-read
-returns-in_err-read_neighbours-clause-read g c =
-    let read = c.in_err-read_neighbours.ensures in
-    record { kept = read.kept; more = read.more; stays = read.stays }
+returns-in_err-read_neighbours-clause-read g c = c.in_err-read_neighbours.ensures.read
 
 pub returns-in_err-read_neighbours-clause-found : goal.returns-in_err-read_neighbours-clause-found
 returns-in_err-read_neighbours-clause-found g c = λ named names.
     let p = err_from_is_err_and c.from_residual.result c.from_residual.ensures.1 in
-    let was = c.in_err-read_neighbours.was in
-    finds_unless _ _ _ p.0 p.1 (λ unseen. let refused = p.2.0 unseen in c.in_err-read_neighbours.ensures.found named names (cc (was, refused)))
+    finds_unless _ _ _ _ p.0 p.1 (λ unseen. c.in_err-read_neighbours.ensures.found named names (p.2.0 unseen))
 
 pub returns-in_err-draft_pairs-clause-read : goal.returns-in_err-draft_pairs-clause-read
 returns-in_err-draft_pairs-clause-read g c =
@@ -72,7 +67,7 @@ returns-in_err-draft_pairs-clause-found g c = λ named names.
     let p = err_from_is_err_and c.from_residual-in_err-draft_pairs.result c.from_residual-in_err-draft_pairs.ensures.1 in
     let same = p.2 in
     let other = c.in_err-draft_pairs.ensures.found (inv.names named names) (names_moved _ _ c.args.row.now (λ v h. g.met.S.RowSource.still_whole c.args.source.now c.inns.source v inv.read.stays h) names) in
-    finds_unless _ _ _ p.0 p.1 (λ unseen. other (cc (same, unseen)))
+    finds_unless _ _ _ _ p.0 p.1 (λ unseen. other (cc (same, unseen)))
 
 pub returns-clause-read : goal.returns-clause-read
 returns-clause-read g c = c.inns.invariant.read

@@ -1,8 +1,7 @@
 use Rattle.std.proofs.Common.{take}
 use Rattle.ch_overlay.specs.Source.{NamesAlone}
-use Rattle.ch_witness.specs.Kept.{kept_of, AllNamed}
+use Rattle.ch_witness.specs.Kept.{kept_of, AllNamed, IsReadOn}
 use Rattle.ch_contract.specs.Drafts.{IsDrafted}
-use Rattle.ch_contract.specs.Reading.{IsReadOn}
 use Rattle.ch_contract.proofs.proposing.draft_all.Given as goal
 
 abbrev pub invariant-inns : goal.invariant-inns

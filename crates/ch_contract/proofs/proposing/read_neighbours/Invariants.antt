@@ -1,11 +1,9 @@
 use Rattle.ch_overlay.specs.Source.{NamesAlone}
-use Rattle.ch_witness.specs.Kept.{kept_of, AllNamed, AreKept, IsMore}
+use Rattle.ch_witness.specs.Kept.{kept_of, AllNamed, IsReadOn}
 use Rattle.ch_contract.proofs.proposing.read_neighbours.Given as goal
 
 abbrev pub invariant-inns : goal.invariant-inns
 invariant-inns g l = record {
-  kept : AreKept g.S.RowSource.bears (g.S.RowSource.shows l.source) (g.S.RowSource.bound_of l.source) (kept_of l.rows);
-  more : IsMore (kept_of l.initial.rows) (kept_of l.rows);
-  stays : g.S.RowSource.stays l.initial.source l.source;
+  read : IsReadOn g.S.RowSource.bears (g.S.RowSource.shows l.source) (g.S.RowSource.bound_of l.source) (g.S.RowSource.stays l.initial.source l.source) (kept_of l.initial.rows) (kept_of l.rows);
   names : AllNamed (g.S.RowSource.whole l.initial.source) (kept_of l.initial.rows) → NamesAlone (g.S.RowSource.whole l.initial.source) l.fn.row → AllNamed (g.S.RowSource.whole l.source) (kept_of l.rows);
 }

@@ -1,19 +1,15 @@
 use Rattle.std.proofs.Common.{◌↔◌, IsTrue, Option, subst, sym}
 use Rattle.ch_cost.specs.declared.cost.Cost.{Cost}
-use Rattle.ch_cost.specs.Cost.{IsNoLonger}
 use Rattle.ch_query.specs.Labels.{CountsBelow}
 use Rattle.ch_query.proofs.Following.{counts-below, counts-short}
 use Rattle.ch_query.proofs.limit.counts.Goals as goal
 
 pub returns-in-Some : goal.returns-in-Some
 returns-in-Some c =
-    let h = c.args.hierarchy.now in
-    let same = counts-below h c.in-Some.limit c.args.sum (c.requires c.in-Some.limit c.in-Some.is) in
-    subst (λ (o : Option Cost). IsTrue c.is_below.result ↔ CountsBelow h o c.args.sum) (sym c.in-Some.is) (λ t. same.0 (c.is_below.ensures.0 t), λ counts. c.is_below.ensures.1 (same.1 counts))
+    let same = counts-below c.args.bound c.in-Some.limit c.args.sum (c.requires c.in-Some.limit c.in-Some.is) in
+    subst (λ (o : Option Cost). IsTrue c.is_below.result ↔ CountsBelow c.args.bound o c.args.sum) (sym c.in-Some.is) (λ t. same.0 (c.is_below.ensures.0 t), λ counts. c.is_below.ensures.1 (same.1 counts))
 
 pub returns-in-None : goal.returns-in-None
 returns-in-None c =
-    let h = c.args.hierarchy.now in
-    let same = counts-short h c.args.sum in
-    let short : IsTrue c.is_short.result ↔ IsNoLonger c.args.sum h.bound = subst (λ (b : Cost). IsTrue c.is_short.result ↔ IsNoLonger c.args.sum b) c.bound.ensures c.is_short.ensures in
-    subst (λ (o : Option Cost). IsTrue c.is_short.result ↔ CountsBelow h o c.args.sum) (sym c.in-None.is) (λ t. same.0 (short.0 t), λ counts. short.1 (same.1 counts))
+    let same = counts-short c.args.bound c.args.sum in
+    subst (λ (o : Option Cost). IsTrue c.is_short.result ↔ CountsBelow c.args.bound o c.args.sum) (sym c.in-None.is) (λ t. same.0 (c.is_short.ensures.0 t), λ counts. c.is_short.ensures.1 (same.1 counts))

@@ -1,11 +1,13 @@
-use Rattle.std.proofs.Common.{◌≡◌, set, OnOk, subst}
-use Rattle.ch_cost.specs.declared.cost.Cost.{Cost}
-use Rattle.ch_cost.specs.Cost.{zero_cost}
-use Rattle.ch_cost.specs.Cost.Laws.{ZERO-is}
-use Rattle.ch_graph.specs.declared.mark.Mark.TheVariants.{Open}
+use Rattle.std.proofs.lemmas.Option.{slice_get-get_or}
+use Rattle.ch_query.proofs.Ranks.{rank_below}
+use Rattle.ch_query.proofs.Beginning.{begun-none, begun-more}
 use Rattle.ch_query.proofs.meet.begin.Goals as goal
 
-pub returns-clause-begun : goal.returns-clause-begun
-returns-clause-begun c =
-    subst (λ r. OnOk c.open.result (c.open.new.self ≡ set c.args.frontier.now r (Open (record { cost = zero_cost; foot = r })))) c.rank-rank.ensures
-    (subst (λ (d : Cost). OnOk c.open.result (c.open.new.self ≡ set c.args.frontier.now c.rank-rank.result (Open (record { cost = d; foot = c.rank-rank.result })))) ZERO-is c.open.ensures.opened)
+pub seeds-init : goal.seeds-init
+seeds-init c = begun-none c.args.hierarchy.now c.args.seeds.now c.args.bound _ c.requires.nodes c.clear.new.self c.clear.ensures
+
+pub seeds-preserved : goal.seeds-preserved
+seeds-preserved c =
+    let h = c.args.hierarchy.now in
+    let seed = c.requires.seeds c.seeds.at _ c.seeds-test.true in
+    begun-more h c.args.seeds.now c.args.bound c.seeds.at _ c.seeds.frontier c.plant.new.frontier (slice_get-get_or c.args.seeds.now c.seeds.at _ c.seeds-test.true) (rank_below h c.requires.made _ seed.node_in) c.plant.ensures.nodes c.in_ok-plant.ensures.planted c.seeds.invariant

@@ -15,27 +15,27 @@ turns-init c =
     let h = c.args.hierarchy.now in
     record {
       ready = ready-more c.begin.new.frontier c.begin-2.new.frontier c.requires.ready c.begin.ensures.nodes c.begin-2.ensures.nodes;
-      rises = searching-begun h c.requires.ready.made Rise c.args.source c.requires.source_in c.args.rising.now.frontier c.begin.new.frontier c.requires.up c.in_ok-begin.ensures.begun;
-      falls = searching-begun h c.requires.ready.made Fall c.args.target c.requires.target_in c.args.falling.now.frontier c.begin-2.new.frontier c.requires.down c.in_ok-begin-2.ensures.begun;
-      up_climbing = climbing-begun h c.requires.ready.made Rise c.args.source c.requires.source_in c.args.rising.now.frontier c.begin.new.frontier c.requires.up c.in_ok-begin.ensures.begun None;
-      down_climbing = climbing-begun h c.requires.ready.made Fall c.args.target c.requires.target_in c.args.falling.now.frontier c.begin-2.new.frontier c.requires.down c.in_ok-begin-2.ensures.begun None;
-      best = best-begun h c.requires.ready.made Rise c.args.source c.requires.source_in c.args.rising.now.frontier c.begin.new.frontier c.requires.up c.in_ok-begin.ensures.begun c.begin-2.new.frontier;
+      rises = searching-begun h Rise c.args.starts.now c.requires.starts c.args.bound c.begin.new.frontier c.in_ok-begin.ensures.begun;
+      falls = searching-begun h Fall c.args.ends.now c.requires.ends c.args.bound c.begin-2.new.frontier c.in_ok-begin-2.ensures.begun;
+      up_climbing = climbing-begun h Rise c.args.starts.now c.requires.starts c.args.bound c.begin.new.frontier c.in_ok-begin.ensures.begun None;
+      down_climbing = climbing-begun h Fall c.args.ends.now c.requires.ends c.args.bound c.begin-2.new.frontier c.in_ok-begin-2.ensures.begun None;
+      best = best-begun h Rise c.args.starts.now c.requires.starts c.args.bound c.begin.new.frontier c.in_ok-begin.ensures.begun c.begin-2.new.frontier;
     }
 
 pub turn-requires-clause-there_fits : goal.turn-requires-clause-there_fits
-turn-requires-clause-there_fits c = labels_fit c.args.hierarchy.now c.requires.ready.made c.turns.invariant.falls
+turn-requires-clause-there_fits c = labels_fit c.args.hierarchy.now c.requires.ready.made c.requires.bound c.turns.invariant.falls
 
 pub turn-requires-in-turns-clause-there_fits : goal.turn-requires-in-turns-clause-there_fits
-turn-requires-in-turns-clause-there_fits c = labels_fit c.args.hierarchy.now c.requires.ready.made c.in_ok-rose.ensures.searching
+turn-requires-in-turns-clause-there_fits c = labels_fit c.args.hierarchy.now c.requires.ready.made c.requires.bound c.in_ok-rose.ensures.searching
 
 pub turn-requires-in-turns-clause-best : goal.turn-requires-in-turns-clause-best
 turn-requires-in-turns-clause-best c = best-flip c.in_ok-rose.ensures.best
 
 pub turn-requires-in-turns-clause-climbing : goal.turn-requires-in-turns-clause-climbing
-turn-requires-in-turns-clause-climbing c = climbing-less c.args.hierarchy.now c.in_ok-rose.ensures.less c.turns.invariant.down_climbing
+turn-requires-in-turns-clause-climbing c = climbing-less c.args.hierarchy.now c.args.bound c.in_ok-rose.ensures.less c.turns.invariant.down_climbing
 
 pub returns-then-not-goes_on-clause-up_climbing : goal.returns-then-not-goes_on-clause-up_climbing
-returns-then-not-goes_on-clause-up_climbing c = climbing-less c.args.hierarchy.now c.in_ok-fell.ensures.less c.in_ok-rose.ensures.climbing
+returns-then-not-goes_on-clause-up_climbing c = climbing-less c.args.hierarchy.now c.args.bound c.in_ok-fell.ensures.less c.in_ok-rose.ensures.climbing
 
 stopped : (c : goal.Then-not-goes_on) → IsStopped c.turn.new.here (cost_of c.turn-in-turns.new.best) × IsStopped c.turn-in-turns.new.here (cost_of c.turn-in-turns.new.best)
 stopped c =
@@ -47,7 +47,7 @@ stopped c =
 pub returns-then-not-goes_on-clause-best : goal.returns-then-not-goes_on-clause-best
 returns-then-not-goes_on-clause-best c =
     let both = stopped c in
-    best-stopped c.args.hierarchy.now c.turn.new.here c.turn-in-turns.new.here c.turn-in-turns.new.best (best-flip c.in_ok-fell.ensures.best) both.0 both.1
+    best-stopped c.args.bound c.turn.new.here c.turn-in-turns.new.here c.turn-in-turns.new.best (best-flip c.in_ok-fell.ensures.best) both.0 both.1
 
 pub returns-then-not-goes_on-clause-up_stopped : goal.returns-then-not-goes_on-clause-up_stopped
 returns-then-not-goes_on-clause-up_stopped c = (stopped c).0
@@ -67,7 +67,7 @@ turns-preserved c = record {
   ready = ready-more c.turn.new.here c.turn-in-turns.new.here c.turns.invariant.ready c.turn.ensures.nodes c.turn-in-turns.ensures.nodes;
   rises = c.in_ok-rose.ensures.searching;
   falls = c.in_ok-fell.ensures.searching;
-  up_climbing = climbing-less c.args.hierarchy.now c.in_ok-fell.ensures.less c.in_ok-rose.ensures.climbing;
+  up_climbing = climbing-less c.args.hierarchy.now c.args.bound c.in_ok-fell.ensures.less c.in_ok-rose.ensures.climbing;
   down_climbing = c.in_ok-fell.ensures.climbing;
   best = best-flip c.in_ok-fell.ensures.best;
 }

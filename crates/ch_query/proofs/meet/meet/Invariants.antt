@@ -9,11 +9,11 @@ use Rattle.ch_query.proofs.meet.meet.Given as goal
 abbrev pub invariant-turns : goal.invariant-turns
 invariant-turns l = record {
   ready : IsReady l.hierarchy l.rising l.falling;
-  rises : IsSearching l.hierarchy Rise l.source l.rising.frontier;
-  falls : IsSearching l.hierarchy Fall l.target l.falling.frontier;
-  up_climbing : IsClimbing l.hierarchy Rise l.source (cost_of l.best) l.rising.frontier;
-  down_climbing : IsClimbing l.hierarchy Fall l.target (cost_of l.best) l.falling.frontier;
-  best : IsBestSoFar l.hierarchy l.rising.frontier l.falling.frontier l.best;
+  rises : IsSearching l.hierarchy Rise l.starts l.bound l.rising.frontier;
+  falls : IsSearching l.hierarchy Fall l.ends l.bound l.falling.frontier;
+  up_climbing : IsClimbing l.hierarchy Rise l.starts l.bound (cost_of l.best) l.rising.frontier;
+  down_climbing : IsClimbing l.hierarchy Fall l.ends l.bound (cost_of l.best) l.falling.frontier;
+  best : IsBestSoFar l.bound l.rising.frontier l.falling.frontier l.best;
 }
 
 abbrev pub decreases-turns : goal.decreases-turns

@@ -6,5 +6,5 @@ abbrev pub invariant-loop-place : goal.invariant-loop-place
 invariant-loop-place l = record {
   from : slice_index l.upward.first.items l.rank ≤ l.place;
   end : l.end ≡ slice_index l.upward.first.items (l.rank + 1);
-  passing : IsPassing l.hierarchy l.side l.rank l.cost l.upward.links.items (slice_index l.upward.first.items l.rank) l.place l.limit l.initial.here l.here;
+  passing : IsPassing l.hierarchy l.side l.bound l.rank l.cost l.upward.links.items (slice_index l.upward.first.items l.rank) l.place l.limit l.initial.here l.here;
 }

@@ -7,7 +7,7 @@ use Rattle.boxcar.specs.Table.{Where}
 use Rattle.ch_laws.specs.Rows.{Row}
 use Rattle.ch_overlay.specs.declared.record.Record.{Record}
 use Rattle.ch_rowbook.specs.Books.{AreOf, IsOf, rows_of}
-use Rattle.ch_overlay.specs.Records.{row_of}
+use Rattle.ch_overlay.specs.Records.{recorded_row}
 use Rattle.ch_rowbook.proofs.Pens.{sound_at, tokens_more}
 use Rattle.ch_rowbook.proofs.opening.lay_rows.Goals as goal
 
@@ -32,12 +32,12 @@ loop-node-preserved g c =
     let below : t.index < c.index.result + 1 = omega (arith, index) in
     let of : IsOf list (c.index.result + 1) node t = record { shown = c.in_ok-token.ensures.record.0; node = c.in_ok-token.ensures.record.1; below = below } in
     let items = c.in_ok-push.ensures.items in
-    let row : row_of t.value ≡ arc_value (slice_index_or rows node c.index-rows-node.result) = c.in_ok-token.ensures.record.2 ∙ c.in_ok-row.ensures ∙ ap arc_value c.index-rows-node.is in
+    let row : recorded_row t.value ≡ arc_value (slice_index_or rows node c.index-rows-node.result) = c.in_ok-token.ensures.record.2 ∙ c.in_ok-row.ensures ∙ ap arc_value c.index-rows-node.is in
     let longer : length (current ++ t ∷ []) ≡ node + 1 = omega (arith, count, length-append current (t ∷ [])) in
     let tokens : AreOf list (c.index.result + 1) (node + 1) (current ++ t ∷ []) = tokens_more list c.loop-node.next (c.index.result + 1) node current t count c.loop-node.invariant.1 later of in
-    let f : Where Record → Row = λ t. row_of t.value in (
+    let f : Where Record → Row = λ t. recorded_row t.value in (
       ap length items ∙ longer,
       subst (λ (ts : List (Where Record)). AreOf list (c.index.result + 1) (node + 1) ts) (sym items) tokens,
-      ap rows_of items ∙ map-append f current (t ∷ []) ∙ ap (λ (l : List Row). l ++ row_of t.value ∷ []) c.loop-node.invariant.2 ∙ ap (λ (r : Row). map arc_value (take node rows) ++ r ∷ []) row
+      ap rows_of items ∙ map-append f current (t ∷ []) ∙ ap (λ (l : List Row). l ++ recorded_row t.value ∷ []) c.loop-node.invariant.2 ∙ ap (λ (r : Row). map arc_value (take node rows) ++ r ∷ []) row
           ∙ sym (map_more arc_value rows node c.index-rows-node.result less),
     )

@@ -22,4 +22,5 @@ returns g c =
         account = rw c.in-Ok.ensures.log c.requires.account;
         lists = refl;
       };
+      queue = refl;
     }

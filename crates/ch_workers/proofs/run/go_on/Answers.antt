@@ -18,3 +18,11 @@ returns-clause-count g c = elim c.shifts-test.branch [
   | then-shifts-test+else-have_ended+in_ok-work-2+then-log-before w ↦
       ap (λ work. vec_len work.workers) w.work-is ∙ (w.in_ok-work-2.ensures.count ∙ c.shifts.invariant.1)
 ]
+
+pub returns-clause-queue : goal.returns-clause-queue
+returns-clause-queue g c = elim c.shifts-test.branch [
+  | else-shifts-test w ↦ ap (λ work. work.queue) w.work-is ∙ c.shifts.invariant.2
+  | then-shifts-test+then-have_ended w ↦ ap (λ work. work.queue) w.work-is ∙ c.shifts.invariant.2
+  | then-shifts-test+else-have_ended+in_ok-work-2+then-log-before w ↦
+      ap (λ work. work.queue) w.work-is ∙ (w.in_ok-work-2.ensures.queue ∙ c.shifts.invariant.2)
+]

@@ -2,6 +2,7 @@ use Rattle.std.proofs.lemmas.Result.{err_from_is_err_and, IfOk-at_ok}
 use Rattle.grfile.specs.Lines.{lines_of}
 use Rattle.grfile.proofs.Sound.{graph_listed}
 use Rattle.grfile.proofs.Readings.{graph_fault_known, graph_read_known}
+use Rattle.grfile.proofs.Before.{graph_stops}
 use Rattle.grfile.proofs.graph_reader.read_graph_within.Goals as goal
 
 pub returns-in_err-size-clause-reading : goal.returns-in_err-size-clause-reading
@@ -20,3 +21,8 @@ pub returns-in_err-size-clause-stopped : goal.returns-in_err-size-clause-stopped
 returns-in_err-size-clause-stopped g c =
     let exit = err_from_is_err_and c.from_residual.result c.from_residual.ensures.1 in
     rw (exit.1, exit.2) c.in_err-size.ensures.reads.calls
+
+pub returns-in_err-size-clause-before : goal.returns-in_err-size-clause-before
+returns-in_err-size-clause-before g c =
+    let exit = err_from_is_err_and c.from_residual.result c.from_residual.ensures.1 in
+    rw (exit.1, exit.2) (graph_stops (g.R.Read.remaining c.args.reader.now) (g.R.Read.remaining c.read_listing.new.reader) _ c.in_err-size.ensures.before)

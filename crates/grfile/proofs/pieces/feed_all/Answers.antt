@@ -1,4 +1,4 @@
-use Rattle.std.proofs.Common.{◌≤◌, [], refl, subst, ◌∙◌, length, take, ap, arith}
+use Rattle.std.proofs.Common.{◌≤◌, [], ◌++◌, refl, subst, ◌∙◌, length, take, ap, arith}
 use Rattle.std.proofs.lemmas.List.{length-take-le}
 use Rattle.std.proofs.lemmas.Result.{err_from_is_err_and}
 use Rattle.std.proofs.lemmas.Grind.{common_steps}
@@ -7,6 +7,8 @@ use Rattle.grfile.specs.Taken.{taken_of, told_with}
 use Rattle.grfile.proofs.Cuttings.{at_none, at_some, nothing_taken, stops_between, stops_in_piece, taken_more, taken_same, within_end, within_first, within_more}
 use Rattle.counted_io.specs.Limits.{IsRead}
 use Rattle.counted_io.specs.Limits.Laws.{failed_after, read_none, read_then, refused_after}
+use Rattle.grfile.proofs.Before.{ReadTo, read_in_piece, read_so_far, stops_there}
+use Rattle.grfile.proofs.Cuttings.{known_more}
 use Rattle.grfile.proofs.pieces.feed_all.Goals as goal
 
 pub loop-count-preserved : goal.loop-count-preserved
@@ -90,3 +92,28 @@ slice_bounds-feed-end c = grind (arith, common_steps) steps 600000
 
 pub slice_bounds-piece-end : goal.slice_bounds-piece-end
 slice_bounds-piece-end c = grind (arith, common_steps) steps 200000
+
+pub returns-in_err-count-clause-before : goal.returns-in_err-count-clause-before
+returns-in_err-count-clause-before g c =
+    let grammar = g.F.Form.grammar c.args.form in
+    let kept = c.loop-count.invariant in
+    let refused = c.in_err-count.ensures.refused in
+    let exit = err_from_is_err_and c.from_residual.result c.from_residual.ensures.1 in
+    let told = taken_same (told_with grammar (taken_of c.args.pieces.now)) (told_with grammar (taken_of c.loop-count.pieces)) c.loop-count.pieces.progress.line (g.R.Read.remaining c.args.reader.now) (g.R.Read.remaining c.loop-count.reader) (g.R.Read.remaining c.read_piece.new.reader) kept.told refused.1 in
+    let first = taken_of c.args.pieces.now in
+    let e = c.in_err-count.field-0.0 in
+    rw (exit.1, exit.2) (stops_there (ReadTo grammar (told_with grammar first)) told.0 (g.R.Read.remaining c.args.reader.now) (g.R.Read.remaining c.read_piece.new.reader) e told.3 (λ _. read_so_far grammar first (taken_of c.loop-count.pieces) told.0 e kept.fresh told.1 (ap (λ (e : GrError). e.line) refused.0)))
+
+pub returns-in_err-feed-clause-before : goal.returns-in_err-feed-clause-before
+returns-in_err-feed-clause-before g c =
+    let grammar = g.F.Form.grammar c.args.form in
+    let kept = c.loop-count.invariant in
+    let given = at_some _ _ _ _ c.in-Some.is c.in_ok-count.ensures.bytes in
+    let chunk = take c.in-Some.count c.read_piece.new.piece in
+    let exit = err_from_is_err_and c.from_residual-in_err-feed.result c.from_residual-in_err-feed.ensures.1 in
+    let had = g.R.Read.remaining c.args.reader.now in
+    let later = g.R.Read.remaining c.read_piece.new.reader in
+    let first = taken_of c.args.pieces.now in
+    let e = c.in_err-feed.field-0.0 in
+    rw (exit.1, exit.2) (stops_there (ReadTo grammar (told_with grammar first)) (kept.told.0 ++ chunk) had later e (known_more kept.told.0 chunk had (g.R.Read.remaining c.loop-count.reader) later kept.told.3 given.1)
+    (λ _. read_in_piece grammar first (taken_of c.loop-count.pieces) kept.told.0 chunk e kept.told.1 (c.in_err-feed.ensures.before kept.fresh)))

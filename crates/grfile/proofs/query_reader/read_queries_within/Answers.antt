@@ -2,6 +2,7 @@ use Rattle.std.proofs.lemmas.Result.{err_from_is_err_and, IfOk-at_ok}
 use Rattle.grfile.specs.Lines.{lines_of}
 use Rattle.grfile.proofs.Sound.{pairs_listed}
 use Rattle.grfile.proofs.Readings.{pairs_fault_known, pairs_read_known}
+use Rattle.grfile.proofs.Before.{pairs_stops}
 use Rattle.grfile.proofs.query_reader.read_queries_within.Goals as goal
 
 pub returns-in_err-listed-clause-reading : goal.returns-in_err-listed-clause-reading
@@ -20,3 +21,8 @@ pub returns-in_err-listed-clause-stopped : goal.returns-in_err-listed-clause-sto
 returns-in_err-listed-clause-stopped g c =
     let exit = err_from_is_err_and c.from_residual.result c.from_residual.ensures.1 in
     rw (exit.1, exit.2) c.in_err-listed.ensures.reads.calls
+
+pub returns-in_err-listed-clause-before : goal.returns-in_err-listed-clause-before
+returns-in_err-listed-clause-before g c =
+    let exit = err_from_is_err_and c.from_residual.result c.from_residual.ensures.1 in
+    rw (exit.1, exit.2) (pairs_stops c.args.nodes (g.R.Read.remaining c.args.reader.now) (g.R.Read.remaining c.read_listing.new.reader) _ c.in_err-listed.ensures.before)

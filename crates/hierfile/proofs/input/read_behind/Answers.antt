@@ -13,3 +13,6 @@ returns-in_err-count-clause-stopped g c = where_err c.from_residual.result (gave
 
 pub returns-clause-calls : goal.returns-clause-calls
 returns-clause-calls g c = read_by g.R.StepRead.step c.args.calls.now.left c.read.new.self.left c.in_ok-count.count c.in_ok-count.ensures.given
+
+pub returns-in_err-count-clause-keeps : goal.returns-in_err-count-clause-keeps
+returns-in_err-count-clause-keeps g c = where_err c.from_residual.result c.in_err-count.ensures.bytes

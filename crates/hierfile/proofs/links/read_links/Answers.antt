@@ -24,7 +24,7 @@ returns-in_err-link-clause-reads g c =
     let before : NoneBelow (length links) (link_fault_at v ranks bound links) = subst (λ m. NoneBelow m (link_fault_at v ranks bound links)) (sym c.links.invariant.count) c.links.invariant.faultless in
     let less : length links < c.args.count = omega arith in
     hands_back c.from_residual.result _ _ _ c.from_residual.ensures.1
-    (fault_behind g.R.StepRead.step g.R.Read.remaining (cut (link_size v)) (links_fault v ranks bound c.args.count) c.links.invariant.taken (λ rest is. links_cut v ranks bound c.args.count links rest _ c.links.invariant.writable less before is) c.in_err-link.ensures.reads)
+    (fault_behind g.R.StepRead.step g.R.Read.remaining (cut (link_size v)) (links_fault v ranks bound c.args.count) c.links.invariant.taken (λ d rest is. links_cut v ranks bound c.args.count links rest _ c.links.invariant.writable less before is) c.in_err-link.ensures.reads)
 
 pub returns-in_err-test_link-clause-reads : goal.returns-in_err-test_link-clause-reads
 returns-in_err-test_link-clause-reads g c =

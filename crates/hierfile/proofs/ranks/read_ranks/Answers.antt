@@ -20,7 +20,7 @@ returns-in_err-rank-clause-reads g c =
     let less : length ranks < n = omega arith in
     let fits : n < 4294967296 = omega arith in
     hands_back c.from_residual.result _ _ _ c.from_residual.ensures.1
-    (fault_behind g.R.StepRead.step g.R.Read.remaining (cut 4) (ranks_fault n) c.nodes.invariant.taken (λ rest is. ranks_cut n ranks rest _ fits less before is) c.in_err-rank.ensures.reads)
+    (fault_behind g.R.StepRead.step g.R.Read.remaining (cut 4) (ranks_fault n) c.nodes.invariant.taken (λ d rest is. ranks_cut n ranks rest _ fits less before is) c.in_err-rank.ensures.reads)
 
 pub returns-in_err-take_rank-clause-reads : goal.returns-in_err-take_rank-clause-reads
 returns-in_err-take_rank-clause-reads g c =

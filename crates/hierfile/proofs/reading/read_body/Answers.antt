@@ -1,4 +1,4 @@
-use Rattle.std.proofs.Common.{ℕ, ◌^◌, ◌<◌, List, length, refl, sym, ◌∙◌, ap, subst, arith, AllPairs}
+use Rattle.std.proofs.Common.{ℕ, ◌^◌, ◌<◌, List, length, refl, sym, ◌∙◌, ap, subst, arith, inr, AllPairs}
 use Rattle.ch_cost.specs.declared.cost.Cost.{Cost}
 use Rattle.ch_cost.specs.Cost.{length_of}
 use Rattle.ch_cost.specs.Cost.Numbers.{length_of-of_walk}
@@ -9,8 +9,8 @@ use Rattle.ch_graph.specs.LinkHalves.{AreHalvesOf}
 use Rattle.hierfile.specs.Spelling.{bound_in}
 use Rattle.hierfile.specs.Fault.{link_fault_at, links_fault, ranks_fault, half_fault, first_along, end_fault, body_fault}
 use Rattle.hierfile.specs.Bytes.{NoneBelow}
-use Rattle.hierfile.proofs.Faults.{earlier, later}
-use Rattle.hierfile.proofs.ReadParts.{all_taken, fault_behind, fault_found, hands_back, no_memory, takes_none, takes_then}
+use Rattle.hierfile.proofs.Faults.{earlier, later, neither}
+use Rattle.hierfile.proofs.ReadParts.{all_taken, fault_found, fault_so_far, hands_back, no_memory, refused_behind, takes_none, takes_then}
 use Rattle.hierfile.proofs.Bodies.{body_ranks, body_links, body_after_links}
 use Rattle.hierfile.proofs.WellMade.{links_sorted, few_nodes, well_made_of}
 use Rattle.counted_io.specs.Limits.Laws.{read_then}
@@ -23,7 +23,7 @@ returns-in_err-ranks-clause-reads g c =
     let remaining = g.R.Read.remaining in
     let head = c.args.head in
     hands_back c.from_residual.result _ _ _ c.from_residual.ensures.1
-    (fault_behind step remaining (ranks_fault head.nodes) (body_fault c.args.version head.nodes head.links head.bound) (takes_none step remaining c.args.input.now c.args.reader.now) (λ rest is. body_ranks c.args.version head.nodes head.links head.bound rest is) c.in_err-ranks.ensures.reads)
+    (fault_so_far step remaining (ranks_fault head.nodes) (body_fault c.args.version head.nodes head.links head.bound) (takes_none step remaining c.args.input.now c.args.reader.now) (λ d rest is. body_ranks c.args.version head.nodes head.links head.bound rest is) c.in_err-ranks.ensures.reads)
 
 pub returns-in_err-links-clause-reads : goal.returns-in_err-links-clause-reads
 returns-in_err-links-clause-reads g c =
@@ -33,8 +33,8 @@ returns-in_err-links-clause-reads g c =
     let ranks = c.in_ok-ranks.ranks.items in
     let small : head.nodes < 2 ^ 32 = omega (arith, few_nodes head.nodes head.links head.bound c.requires) in
     hands_back c.from_residual-in_err-links.result _ _ _ c.from_residual-in_err-links.ensures.1
-    (fault_behind step remaining (links_fault c.args.version c.as_slice.result.now c.bound_of-bound.result head.links) (body_fault c.args.version head.nodes head.links head.bound) c.in_ok-ranks.ensures.reads
-    (λ rest is. body_links c.args.version head.nodes head.links head.bound ranks rest small c.in_ok-ranks.ensures.count c.in_ok-ranks.ensures.faultless
+    (fault_so_far step remaining (links_fault c.args.version c.as_slice.result.now c.bound_of-bound.result head.links) (body_fault c.args.version head.nodes head.links head.bound) c.in_ok-ranks.ensures.reads
+    (λ d rest is. body_links c.args.version head.nodes head.links head.bound ranks rest small c.in_ok-ranks.ensures.count c.in_ok-ranks.ensures.faultless
     (ap (λ (r : List ℕ). links_fault c.args.version r (bound_in c.args.version head.nodes head.bound) head.links rest) (sym c.as_slice.ensures.value) ∙ ap (λ (b : Cost). links_fault c.args.version c.as_slice.result.now b head.links rest) (sym c.bound_of-bound.ensures) ∙ is))
     c.in_err-links.ensures.reads)
 
@@ -81,10 +81,11 @@ returns-in_err-read_end-clause-reads g c =
     let so_far = takes_then step remaining c.in_ok-ranks.ensures.reads c.in_ok-links.ensures.reads in
     let links_ok : NoneBelow head.links (link_fault_at c.args.version ranks (bound_in c.args.version head.nodes head.bound) links) = λ i less. ap (λ (r : List ℕ). link_fault_at c.args.version r (bound_in c.args.version head.nodes head.bound) links i) (sym c.as_slice.ensures.value) ∙ ap (λ (b : Cost). link_fault_at c.args.version c.as_slice.result.now b links i) (sym c.bound_of-bound.ensures) ∙ c.in_ok-links.ensures.faultless i less in
     let halves_ok = ap (λ (l : List Link). first_along (half_fault l) l) (sym c.as_slice-all.ensures.value) ∙ c.in_ok-halves.ensures.faultless in
+    let after = λ (rest : List ℕ). body_after_links c.args.version head.nodes head.links head.bound ranks links rest small c.in_ok-ranks.ensures.count c.in_ok-ranks.ensures.faultless c.in_ok-links.ensures.count c.in_ok-links.ensures.writable links_ok in
     hands_back c.from_residual-in_err-read_end.result _ _ _ c.from_residual-in_err-read_end.ensures.1
-    (fault_behind step remaining end_fault (body_fault c.args.version head.nodes head.links head.bound) so_far
-    (λ rest is. body_after_links c.args.version head.nodes head.links head.bound ranks links rest small c.in_ok-ranks.ensures.count c.in_ok-ranks.ensures.faultless c.in_ok-links.ensures.count c.in_ok-links.ensures.writable links_ok
-    ∙ later halves_ok is)
+    (refused_behind step remaining end_fault (body_fault c.args.version head.nodes head.links head.bound) so_far
+    (λ d rest is. after rest ∙ later halves_ok is)
+    (λ came none. inr (after came ∙ neither halves_ok none))
     c.in_err-read_end.ensures.reads)
 
 pub with_index-requires : goal.with_index-requires

@@ -1,13 +1,15 @@
-use Rattle.std.proofs.Common.{◌≡◌, ◌++◌, [], ap, subst, arith}
+use Rattle.std.proofs.Common.{ℕ, ◌≡◌, ◌++◌, List, [], Option, ap, subst, arith, inl}
 use Rattle.std.specs.Prelude.{IfSome}
 use Rattle.std.proofs.KnownBytes.{Consumes-trans, Consumes-nil}
 use Rattle.std.proofs.lemmas.Grind.{common_steps}
 use Rattle.hierfile.specs.Spelling.{magic_of, bytes_of}
 use Rattle.hierfile.specs.Fault.{magic_fault, head_fault, body_fault, first_fault}
-use Rattle.hierfile.specs.Bytes.{Buffered, coming}
+use Rattle.hierfile.specs.Bytes.{Buffered, HasNoneSoFar, IsCut, coming}
+use Rattle.hierfile.specs.declared.error.HierError.{HierError}
+use Rattle.hierfile.proofs.Came.{stops_behind, stops_where}
 use Rattle.hierfile.proofs.Faults.{hands_on, behind}
 use Rattle.hierfile.proofs.Heads.{sizes}
-use Rattle.hierfile.proofs.Whole.{from_start, first_magic, first_head, first_body, nothing_waits, spelled_whole}
+use Rattle.hierfile.proofs.Whole.{from_start, no_fault_from_start, first_so_far, first_magic, first_head, first_body, nothing_waits, spelled_whole}
 use Rattle.hierfile.proofs.ReadBack.{refused, read_back}
 use Rattle.hierfile.specs.declared.error.HierError.TheVariants.{Read}
 use Rattle.counted_io.specs.Limits.{IsRead, ReadsWithin}
@@ -22,7 +24,7 @@ returns-in_err-version-clause-err g c =
     let known = g.R.Read.remaining c.args.reader.now in
     let e = c.in_err-version.field-0.0 in
     hands_on c.from_residual-in_err-version.result _ _ c.from_residual-in_err-version.ensures.1
-    (from_start input.waiting known e (ap (λ (b : Buffered). b.waiting) c.in_ok-input.ensures) (behind [] magic_fault first_fault (coming input.waiting known) (coming input.waiting known) e (Consumes-nil (coming input.waiting known)) (λ rest is. first_magic rest is) c.in_err-version.ensures.reads.fault))
+    (from_start input.waiting known e (ap (λ (b : Buffered). b.waiting) c.in_ok-input.ensures) (behind [] magic_fault first_fault (coming input.waiting known) (coming input.waiting known) e (Consumes-nil (coming input.waiting known)) (λ rest is. first_magic rest is) c.in_err-version.ensures.reads.fault.told))
 
 pub returns-in_err-head-clause-err : goal.returns-in_err-head-clause-err
 returns-in_err-head-clause-err g c =
@@ -30,7 +32,7 @@ returns-in_err-head-clause-err g c =
     let known = g.R.Read.remaining c.args.reader.now in
     let e = c.in_err-head.field-0.0 in
     hands_on c.from_residual-in_err-head.result _ _ c.from_residual-in_err-head.ensures.1
-    (from_start input.waiting known e (ap (λ (b : Buffered). b.waiting) c.in_ok-input.ensures) (behind (magic_of c.in_ok-version.version) head_fault first_fault (coming input.waiting known) _ e c.in_ok-version.ensures.reads.bytes (λ rest is. first_head c.in_ok-version.version rest is) c.in_err-head.ensures.reads.fault))
+    (from_start input.waiting known e (ap (λ (b : Buffered). b.waiting) c.in_ok-input.ensures) (behind (magic_of c.in_ok-version.version) head_fault first_fault (coming input.waiting known) _ e c.in_ok-version.ensures.reads.bytes (λ rest is. first_head c.in_ok-version.version rest is) c.in_err-head.ensures.reads.fault.told))
 
 pub returns-in_err-hierarchy-clause-err : goal.returns-in_err-hierarchy-clause-err
 returns-in_err-hierarchy-clause-err g c =
@@ -41,7 +43,7 @@ returns-in_err-hierarchy-clause-err g c =
     let so_far = Consumes-trans _ _ _ _ _ c.in_ok-version.ensures.reads.bytes c.in_ok-head.ensures.reads.bytes in
     hands_on c.from_residual-in_err-hierarchy.result _ _ c.from_residual-in_err-hierarchy.ensures.1
     (from_start input.waiting known e (ap (λ (b : Buffered). b.waiting) c.in_ok-input.ensures) (behind (magic_of c.in_ok-version.version ++ sizes head.nodes head.links head.bound) (body_fault c.in_ok-version.version head.nodes head.links head.bound) first_fault (coming input.waiting known) _ e so_far
-    (λ rest is. first_body c.in_ok-version.version head.nodes head.links head.bound rest (omega arith) (omega arith) (omega arith) c.in_ok-head.ensures.sizes is) c.in_err-hierarchy.ensures.reads.fault))
+    (λ rest is. first_body c.in_ok-version.version head.nodes head.links head.bound rest (omega arith) (omega arith) (omega arith) c.in_ok-head.ensures.sizes is) c.in_err-hierarchy.ensures.reads.fault.told))
 
 pub returns-clause-ok : goal.returns-clause-ok
 returns-clause-ok g c =
@@ -98,6 +100,40 @@ pub returns-in_err-input-clause-stopped : goal.returns-in_err-input-clause-stopp
 returns-in_err-input-clause-stopped g c =
     let step = g.R.StepRead.step in
     hands_on c.from_residual.result _ OutOfMemory c.from_residual.ensures.1 (refused_after step (read_none step _ c.args.reader.now) memory_is_no_read)
+
+pub returns-in_err-version-clause-so_far : goal.returns-in_err-version-clause-so_far
+returns-in_err-version-clause-so_far g c =
+    let input = c.in_ok-input.input in
+    let known = g.R.Read.remaining c.args.reader.now in
+    hands_on c.from_residual-in_err-version.result _ _ c.from_residual-in_err-version.ensures.1
+    (λ read. no_fault_from_start input.waiting known _ (ap (λ (b : Buffered). b.waiting) c.in_ok-input.ensures) (stops_where (IsCut magic_fault) (HasNoneSoFar first_fault) (coming input.waiting known) _ (λ came is. inl (first_magic came is)) (c.in_err-version.ensures.reads.fault.read read)))
+
+pub returns-in_err-head-clause-so_far : goal.returns-in_err-head-clause-so_far
+returns-in_err-head-clause-so_far g c =
+    let input = c.in_ok-input.input in
+    let known = g.R.Read.remaining c.args.reader.now in
+    hands_on c.from_residual-in_err-head.result _ _ c.from_residual-in_err-head.ensures.1
+    (λ read. no_fault_from_start input.waiting known _ (ap (λ (b : Buffered). b.waiting) c.in_ok-input.ensures)
+    (stops_behind (magic_of c.in_ok-version.version) (IsCut head_fault) (HasNoneSoFar first_fault) (coming input.waiting known) _ _ c.in_ok-version.ensures.reads.bytes (λ came is. inl (first_head c.in_ok-version.version came is)) (c.in_err-head.ensures.reads.fault.read read)))
+
+pub returns-in_err-hierarchy-clause-so_far : goal.returns-in_err-hierarchy-clause-so_far
+returns-in_err-hierarchy-clause-so_far g c =
+    let head = c.in_ok-head.head in
+    let input = c.in_ok-input.input in
+    let known = g.R.Read.remaining c.args.reader.now in
+    let v = c.in_ok-version.version in
+    let so_far = Consumes-trans _ _ _ _ _ c.in_ok-version.ensures.reads.bytes c.in_ok-head.ensures.reads.bytes in
+    let body : List ℕ → Option HierError = body_fault v head.nodes head.links head.bound in
+    hands_on c.from_residual-in_err-hierarchy.result _ _ c.from_residual-in_err-hierarchy.ensures.1
+    (λ read. no_fault_from_start input.waiting known _ (ap (λ (b : Buffered). b.waiting) c.in_ok-input.ensures)
+    (stops_behind (magic_of v ++ sizes head.nodes head.links head.bound) (HasNoneSoFar body) (HasNoneSoFar first_fault) (coming input.waiting known) _ _ so_far
+    (λ came is. first_so_far v head.nodes head.links head.bound came (omega arith) (omega arith) (omega arith) c.in_ok-head.ensures.sizes is) (c.in_err-hierarchy.ensures.reads.fault.read read)))
+
+pub returns-in_err-input-clause-so_far : goal.returns-in_err-input-clause-so_far
+returns-in_err-input-clause-so_far g c = hands_on c.from_residual.result _ OutOfMemory c.from_residual.ensures.1 (λ read. absurd (memory_is_no_read read))
+
+pub returns-clause-so_far : goal.returns-clause-so_far
+returns-clause-so_far c = grind (arith, common_steps) steps 200000
 
 pub returns-clause-err : goal.returns-clause-err
 returns-clause-err c = grind (arith, common_steps) steps 200000

@@ -1,12 +1,8 @@
-use Rattle.std.proofs.Common.{arith}
-use Rattle.ch_cost.specs.Cost.Fields.{sum-is, fields-from_in_limit}
+use Rattle.ch_cost.specs.Cost.Laws.{summable-from_in_limit}
 use Rattle.ch_cost.proofs.cost.Cost.plus.Goals as goal
 
-pub overflow_add-result : goal.overflow_add-result
-overflow_add-result c = omega (arith, (fields-from_in_limit c.args.self c.requires.first).0, (fields-from_in_limit c.args.other c.requires.second).0)
+pub plus_wide-requires-clause-first : goal.plus_wide-requires-clause-first
+plus_wide-requires-clause-first c = summable-from_in_limit c.requires.first
 
-pub overflow_add-result-2 : goal.overflow_add-result-2
-overflow_add-result-2 c = omega (arith, (fields-from_in_limit c.args.self c.requires.first).1, (fields-from_in_limit c.args.other c.requires.second).1)
-
-pub returns : goal.returns
-returns c = sum-is c.args.self c.args.other
+pub plus_wide-requires-clause-second : goal.plus_wide-requires-clause-second
+plus_wide-requires-clause-second c = summable-from_in_limit c.requires.second

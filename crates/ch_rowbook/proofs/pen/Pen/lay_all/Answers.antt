@@ -1,6 +1,6 @@
 use Rattle.std.proofs.lemmas.Grind.{common_steps}
 use Rattle.std.specs.Prelude.{ℕ, List, [], ◌∷◌, ◌++◌, ◌≡◌, ◌<◌, ◌≤◌, ◌+◌, length, map, slice_index_or}
-use Rattle.std.proofs.Common.{sym, subst, ◌∙◌, ap, arith, take}
+use Rattle.std.proofs.Common.{sym, subst, ◌∙◌, ap, arith, take, inr}
 use Rattle.std.specs.Arc.{arc_value}
 use Rattle.std.proofs.lemmas.Bool.Decides.{nat_tests}
 use Rattle.std.proofs.lemmas.List.{get_or_default, map-append, map_more}
@@ -9,7 +9,7 @@ use Rattle.std.proofs.Common.{Global}
 use Rattle.ch_overlay.specs.declared.row.Row as shared
 use Rattle.ch_laws.specs.Rows.{Row}
 use Rattle.ch_rowbook.specs.Books.{PenView}
-use Rattle.ch_overlay.specs.Records.{row_of}
+use Rattle.ch_overlay.specs.Records.{recorded_row}
 use Rattle.ch_rowbook.specs.Showing.{IsRising, of_node}
 use Rattle.ch_rowbook.proofs.Showings.{rising_more}
 use Rattle.ch_rowbook.proofs.pen.Pen.lay_all.Goals as goal
@@ -30,17 +30,19 @@ loop-at-preserved g c =
     let d = c.index-rows-at.result in
     let e = c.index-rows-at-in-loop-at.result in
     let node : x.node ≡ (slice_index_or rows at d).0 = c.in_ok-laid.ensures.node ∙ ap (λ (p : ℕ × Arc shared.Row Global). p.0) (get_or_default rows at e d less) in
-    let row : row_of x.token.value ≡ arc_value (slice_index_or rows at d).1 = c.in_ok-laid.ensures.row ∙ c.in_ok-row.ensures in
-    let is : of_node x.node (row_of x.token.value) ≡ of_node (slice_index_or rows at d).0 (arc_value (slice_index_or rows at d).1) =
-    ap (λ (n : ℕ). of_node n (row_of x.token.value)) node ∙ ap (λ (r : Row). of_node (slice_index_or rows at d).0 r) row in
+    let row : recorded_row x.token.value ≡ arc_value (slice_index_or rows at d).1 = c.in_ok-laid.ensures.row ∙ c.in_ok-row.ensures in
+    let is : of_node x.node (recorded_row x.token.value) ≡ of_node (slice_index_or rows at d).0 (arc_value (slice_index_or rows at d).1) =
+    ap (λ (n : ℕ). of_node n (recorded_row x.token.value)) node ∙ ap (λ (r : Row). of_node (slice_index_or rows at d).0 r) row in
     record {
       versions = ap (λ (v : PenView). v.versions) pen ∙ c.loop-at.invariant.versions;
       rows = ap (λ (v : PenView). v.rows) pen ∙ c.loop-at.invariant.rows;
       below = c.loop-at.invariant.below;
-      laid = ap (λ l. map (λ y. of_node y.node (row_of y.token.value)) l) items ∙ map-append (λ y. of_node y.node (row_of y.token.value)) all (x ∷ [])
-          ∙ ap (λ (l : List (ℕ × Row)). l ++ of_node x.node (row_of x.token.value) ∷ []) c.loop-at.invariant.laid
+      laid = ap (λ l. map (λ y. of_node y.node (recorded_row y.token.value)) l) items ∙ map-append (λ y. of_node y.node (recorded_row y.token.value)) all (x ∷ [])
+          ∙ ap (λ (l : List (ℕ × Row)). l ++ of_node x.node (recorded_row x.token.value) ∷ []) c.loop-at.invariant.laid
           ∙ ap (λ (p : ℕ × Row). map (λ a. of_node a.0 (arc_value a.1)) (take at rows) ++ p ∷ []) is
           ∙ sym (map_more (λ (a : ℕ × Arc shared.Row Global). of_node a.0 (arc_value a.1)) rows at d less);
+      later = omega (arith, c.loop-at.invariant.later, later, ap (λ (v : PenView). v.next) pen);
+      next = inr (x.token, c.in_ok-laid.laid.shown, ap (λ (v : PenView). v.next) pen);
       rising = subst (λ (n : ℕ). IsRising low (map (λ y. y.token.index) c.push.new.self.items) n) (sym (ap (λ (v : PenView). v.next) pen))
           (subst (λ vs. IsRising low vs (x.token.index + 1)) (sym (ap (λ l. map (λ y. y.token.index) l) items ∙ map-append (λ y. y.token.index) all (x ∷ []))) rising);
     }

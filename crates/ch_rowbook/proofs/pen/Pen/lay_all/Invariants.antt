@@ -1,7 +1,7 @@
-use Rattle.std.proofs.Common.{◌≡◌, ◌<◌, All, map, take}
+use Rattle.std.proofs.Common.{◌≡◌, ◌<◌, ◌≤◌, All, map, take}
 use Rattle.std.specs.Arc.{arc_value}
-use Rattle.ch_overlay.specs.Records.{row_of}
-use Rattle.ch_rowbook.specs.Showing.{IsRising, of_node}
+use Rattle.ch_overlay.specs.Records.{recorded_row}
+use Rattle.ch_rowbook.specs.Showing.{IsNextOf, IsRising, of_node}
 use Rattle.ch_rowbook.proofs.pen.Pen.lay_all.Given as goal
 
 -- the rows so far are laid, at versions that rise from the first next one
@@ -10,6 +10,8 @@ invariant-loop-at g l = record {
   versions : l.self.versions ≡ l.initial.self.versions;
   rows : l.self.rows ≡ l.initial.self.rows;
   below : All (λ v. v < l.initial.self.next) l.initial.self.versions;
-  laid : map (λ x. of_node x.node (row_of x.token.value)) l.all.items ≡ map (λ a. of_node a.0 (arc_value a.1)) (take l.at l.rows);
+  laid : map (λ x. of_node x.node (recorded_row x.token.value)) l.all.items ≡ map (λ a. of_node a.0 (arc_value a.1)) (take l.at l.rows);
+  later : l.initial.self.next ≤ l.self.next;
+  next : IsNextOf g.B.Book.book.list l.initial.self.next l.self.next;
   rising : IsRising l.initial.self.next (map (λ x. x.token.index) l.all.items) l.self.next;
 }

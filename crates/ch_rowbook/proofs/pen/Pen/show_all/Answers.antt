@@ -4,7 +4,7 @@ use Rattle.std.proofs.lemmas.Bool.Decides.{nat_tests}
 use Rattle.std.proofs.lemmas.List.{length-set}
 use Rattle.ch_laws.specs.Rows.{Row}
 use Rattle.ch_overlay.specs.Change.{puts}
-use Rattle.ch_overlay.specs.Records.{row_of}
+use Rattle.ch_overlay.specs.Records.{recorded_row}
 use Rattle.ch_rowbook.specs.Showing.{IsShowable, of_node}
 use Rattle.ch_rowbook.proofs.Showings.{dropped, show_above, show_laid, show_rest}
 use Rattle.ch_rowbook.proofs.pen.Pen.show_all.Goals as goal
@@ -42,7 +42,7 @@ loop-at-preserved g c =
     let stored : IsShowable (set pen.versions x.node x.token.index) pen.next (map (λ y. y.token.index) rest) = show_rest pen.versions pen.next x.node x.token.index _ showable in
     record {
       versions = ap (λ (vs : List ℕ). puts vs (map (λ y. (y.node, y.token.index)) rest)) c.show_one.ensures.versions ∙ ap (λ l. puts pen.versions (map (λ y. (y.node, y.token.index)) l)) (sym left) ∙ c.loop-at.invariant.versions;
-      rows = ap (λ (rs : List Row). puts rs (map (λ y. of_node y.node (row_of y.token.value)) rest)) c.show_one.ensures.rows ∙ ap (λ l. puts pen.rows (map (λ y. of_node y.node (row_of y.token.value)) l)) (sym left) ∙ c.loop-at.invariant.rows;
+      rows = ap (λ (rs : List Row). puts rs (map (λ y. of_node y.node (recorded_row y.token.value)) rest)) c.show_one.ensures.rows ∙ ap (λ l. puts pen.rows (map (λ y. of_node y.node (recorded_row y.token.value)) l)) (sym left) ∙ c.loop-at.invariant.rows;
       count = ap length c.show_one.ensures.versions ∙ length-set pen.versions x.node x.token.index ∙ c.loop-at.invariant.count;
       next = c.show_one.ensures.next ∙ c.loop-at.invariant.next;
       showable = subst (λ (n : ℕ). IsShowable new.versions n (map (λ y. y.token.index) rest)) (sym c.show_one.ensures.next) (subst (λ (vs : List ℕ). IsShowable vs pen.next (map (λ y. y.token.index) rest)) (sym c.show_one.ensures.versions) stored);

@@ -3,7 +3,7 @@ use Rattle.std.proofs.Common.{sym, subst, ◌∙◌, ap}
 use Rattle.boxcar.specs.Table.{Where}
 use Rattle.ch_overlay.specs.declared.record.Record.{Record}
 use Rattle.ch_rowbook.specs.Books.{PenKeeps, PenView, rows_of, versions_of}
-use Rattle.ch_overlay.specs.Records.{row_of}
+use Rattle.ch_overlay.specs.Records.{recorded_row}
 use Rattle.ch_rowbook.proofs.Pens.{map_set, pen_shows}
 use Rattle.ch_rowbook.proofs.pen.Pen.show_one.Goals as goal
 
@@ -28,5 +28,5 @@ pub returns-clause-rows : goal.returns-clause-rows
 returns-clause-rows g c =
     let laid = c.args.laid.now in
     let items = c.self.inside.current.items in
-    map_set (λ (t : Where Record). row_of t.value) items laid.node c.again.result ∙ ap (λ (t : Where Record). slice_set (rows_of items) laid.node (row_of t.value)) c.again.ensures
-    ∙ ap (λ (v : PenView). slice_set v.rows laid.node (row_of laid.token.value)) c.self.view_is
+    map_set (λ (t : Where Record). recorded_row t.value) items laid.node c.again.result ∙ ap (λ (t : Where Record). slice_set (rows_of items) laid.node (recorded_row t.value)) c.again.ensures
+    ∙ ap (λ (v : PenView). slice_set v.rows laid.node (recorded_row laid.token.value)) c.self.view_is

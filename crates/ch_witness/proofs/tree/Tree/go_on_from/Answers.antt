@@ -64,8 +64,8 @@ returns-clause-later g c =
 pub returns-clause-whole : goal.returns-clause-whole
 returns-clause-whole g c = λ named all.
     let seen = c.at-seen.result.now in
-    let now = c.in_ok-kept_at.ensures.names (all c.args.reached.node _ c.requires.label) named seen.node seen (there g c).0 in
-    names_kept c.args.rule (g.S.RowSource.whole c.args.source.now) (g.S.RowSource.whole c.read.new.source) (λ v h. g.met.S.RowSource.still_whole c.args.source.now c.read.new.source v c.in_ok-kept_at.ensures.stays h) (row_in seen) c.args.reached.cost (Some (length c.args.self.now.steps.items)) (labels_of c.args.self.now.frontier) (labels_of c.follow.new.frontier) now all (followed g c)
+    let now = c.in_ok-kept_at.ensures.found named (all c.args.reached.node _ c.requires.label) seen.node seen (there g c).0 in
+    names_kept c.args.rule (g.S.RowSource.whole c.args.source.now) (g.S.RowSource.whole c.read.new.source) (λ v h. g.met.S.RowSource.still_whole c.args.source.now c.read.new.source v c.in_ok-kept_at.ensures.read.stays h) (row_in seen) c.args.reached.cost (Some (length c.args.self.now.steps.items)) (labels_of c.args.self.now.frontier) (labels_of c.follow.new.frontier) now all (followed g c)
 
 pub returns-clause-gone : goal.returns-clause-gone
 returns-clause-gone g c = (

@@ -1,8 +1,8 @@
 use Rattle.std.proofs.Common.{sym, subst, arith}
 use Rattle.std.proofs.lemmas.Result.{err_from_is_err_and}
 use Rattle.ch_cost.specs.declared.cost.Cost.{Cost}
-use Rattle.ch_cost.specs.Cost.{IsWithin}
-use Rattle.ch_witness.specs.Kept.{kept_of, IsKept}
+use Rattle.ch_cost.specs.Cost.{◌≼◌}
+use Rattle.ch_witness.specs.Kept.{kept_of, finds_unless, IsKept}
 use Rattle.ch_witness.specs.Tree.{labels_of}
 use Rattle.ch_witness.proofs.Keeping.{kept_still, more_refl, more_trans}
 use Rattle.ch_witness.proofs.Growing.{tree_settled, tree_same, settled_new, all_settled, later_start, later_more, later_settled, later_same, seen_gone}
@@ -13,9 +13,7 @@ turns-init g c = record {
   tree = c.requires.tree;
   few = omega arith;
   later = later_start c.args.self.now.steps.items (labels_of c.args.self.now.frontier);
-  stays = g.met.S.RowSource.stays_self c.args.source.now;
-  kept = c.requires.kept;
-  more = more_refl (kept_of c.args.rows.now);
+  read = record { kept = c.requires.kept; more = more_refl (kept_of c.args.rows.now); stays = g.met.S.RowSource.stays_self c.args.source.now };
   kept_rows = λ h. h;
   names = λ h k. h;
   whole = λ h k. k;
@@ -31,18 +29,28 @@ pub go_on_from-requires-clause-few : goal.go_on_from-requires-clause-few
 go_on_from-requires-clause-few g c = omega (arith, c.turns.invariant.few, c.requires.few, c.turns-test.true)
 
 pub go_on_from-requires-clause-cutoff : goal.go_on_from-requires-clause-cutoff
-go_on_from-requires-clause-cutoff g c = subst (λ (b : Cost). IsWithin c.args.rule.cutoff b) (sym (g.met.S.RowSource.same_bound c.args.source.now c.turns.source c.turns.invariant.stays)) c.requires.cutoff
+go_on_from-requires-clause-cutoff g c = subst (λ (b : Cost). c.args.rule.cutoff ≼ b) (sym (g.met.S.RowSource.same_bound c.args.source.now c.turns.source c.turns.invariant.read.stays)) c.requires.cutoff
 
-pub returns-in_err-go_on_from-clause-stays : goal.returns-in_err-go_on_from-clause-stays
-returns-in_err-go_on_from-clause-stays g c = g.met.S.RowSource.stays_more c.args.source.now c.turns.source c.go_on_from.new.source c.turns.invariant.stays c.in_err-go_on_from.ensures.stays
+pub go_on_from-requires-clause-kept : goal.go_on_from-requires-clause-kept
+go_on_from-requires-clause-kept g c = c.turns.invariant.read.kept
+
+pub returns-in_err-go_on_from-clause-read : goal.returns-in_err-go_on_from-clause-read
+returns-in_err-go_on_from-clause-read g c =
+    let inv = c.turns.invariant.read in
+    let step = c.in_err-go_on_from.ensures.read in
+    record {
+      kept = step.kept;
+      more = more_trans _ _ _ inv.more step.more;
+      stays = g.met.S.RowSource.stays_more c.args.source.now c.turns.source c.go_on_from.new.source inv.stays step.stays;
+    }
 
 pub returns-in_err-go_on_from-clause-found : goal.returns-in_err-go_on_from-clause-found
-returns-in_err-go_on_from-clause-found g c = λ named all e.
+returns-in_err-go_on_from-clause-found g c = λ named all.
+    let inv = c.turns.invariant in
     let p = err_from_is_err_and c.from_residual.result c.from_residual.ensures.1 in
-    let was = c.in_err-go_on_from.was in
-    let one = p.1 in
-    let two = p.2 in
-    c.in_err-go_on_from.ensures.found (all_settled (g.S.RowSource.whole c.turns.source) _ _ c.in-Some.reached c.in-Some.ensures.settled (c.turns.invariant.whole named all)) (cc (was, one, two, e))
+    let same = p.2 in
+    let other = c.in_err-go_on_from.ensures.found (inv.names named all) (all_settled (g.S.RowSource.whole c.turns.source) _ _ c.in-Some.reached c.in-Some.ensures.settled (inv.whole named all)) in
+    finds_unless _ _ _ _ _ p.1 (λ unseen. other (cc (same, unseen)))
 
 pub turns-preserved : goal.turns-preserved
 turns-preserved g c =
@@ -53,11 +61,13 @@ turns-preserved g c =
       tree = c.in_ok-go_on_from.ensures.tree;
       few = omega (arith, c.in_ok-go_on_from.ensures.few, c.turns.invariant.few);
       later = later_more _ _ _ _ _ _ (later_more _ _ _ _ _ _ inv.later (later_settled c.turns.self.steps.items _ _ c.in-Some.reached now)) c.in_ok-go_on_from.ensures.later;
-      stays = g.met.S.RowSource.stays_more c.args.source.now c.turns.source c.go_on_from.new.source inv.stays c.in_ok-go_on_from.ensures.stays;
-      kept = c.in_ok-go_on_from.ensures.kept;
-      more = more_trans _ _ _ inv.more c.in_ok-go_on_from.ensures.more;
-      kept_rows = λ h. seen_gone (IsKept (kept_of c.go_on_from.new.rows)) c.args.rule c.in-Some.reached gone.0 _ _ _ _ gone.1 (λ k s is. kept_still (kept_of c.turns.rows) (kept_of c.go_on_from.new.rows) s.seen.value c.in_ok-go_on_from.ensures.more (inv.kept_rows h k s is)) gone.2;
-      names = λ h k. c.in_ok-go_on_from.ensures.names (inv.names h k) (all_settled (g.S.RowSource.whole c.turns.source) _ _ c.in-Some.reached now (inv.whole h k));
+      read = record {
+        kept = c.in_ok-go_on_from.ensures.read.kept;
+        more = more_trans _ _ _ inv.read.more c.in_ok-go_on_from.ensures.read.more;
+        stays = g.met.S.RowSource.stays_more c.args.source.now c.turns.source c.go_on_from.new.source inv.read.stays c.in_ok-go_on_from.ensures.read.stays;
+      };
+      kept_rows = λ h. seen_gone (IsKept (kept_of c.go_on_from.new.rows)) c.args.rule c.in-Some.reached gone.0 _ _ _ _ gone.1 (λ k s is. kept_still (kept_of c.turns.rows) (kept_of c.go_on_from.new.rows) s.seen.value c.in_ok-go_on_from.ensures.read.more (inv.kept_rows h k s is)) gone.2;
+      names = λ h k. c.in_ok-go_on_from.ensures.found (inv.names h k) (all_settled (g.S.RowSource.whole c.turns.source) _ _ c.in-Some.reached now (inv.whole h k));
       whole = λ h k. c.in_ok-go_on_from.ensures.whole (inv.names h k) (all_settled (g.S.RowSource.whole c.turns.source) _ _ c.in-Some.reached now (inv.whole h k));
     }
 
@@ -70,17 +80,11 @@ returns-after-turns-clause-later g c = c.turns.invariant.later
 pub returns-after-turns-clause-kept_rows : goal.returns-after-turns-clause-kept_rows
 returns-after-turns-clause-kept_rows g c = c.turns.invariant.kept_rows
 
-pub returns-after-turns-clause-kept : goal.returns-after-turns-clause-kept
-returns-after-turns-clause-kept g c = c.turns.invariant.kept
+pub returns-after-turns-clause-read : goal.returns-after-turns-clause-read
+returns-after-turns-clause-read g c = c.turns.invariant.read
 
-pub returns-after-turns-clause-more : goal.returns-after-turns-clause-more
-returns-after-turns-clause-more g c = c.turns.invariant.more
-
-pub returns-after-turns-clause-names : goal.returns-after-turns-clause-names
-returns-after-turns-clause-names g c = c.turns.invariant.names
-
-pub returns-after-turns-clause-stays : goal.returns-after-turns-clause-stays
-returns-after-turns-clause-stays g c = c.turns.invariant.stays
+pub returns-after-turns-clause-found : goal.returns-after-turns-clause-found
+returns-after-turns-clause-found g c = c.turns.invariant.names
 
 pub returns-in_default-clause-tree : goal.returns-in_default-clause-tree
 returns-in_default-clause-tree g c = tree_same c.args.rule c.turns.self.steps.items (labels_of c.turns.self.frontier) (labels_of c.settle_next.new.self) c.in_default.ensures.stays c.turns.invariant.tree
@@ -91,17 +95,11 @@ returns-in_default-clause-later g c = later_more _ _ _ _ _ _ c.turns.invariant.l
 pub returns-in_default-clause-kept_rows : goal.returns-in_default-clause-kept_rows
 returns-in_default-clause-kept_rows g c = c.turns.invariant.kept_rows
 
-pub returns-in_default-clause-kept : goal.returns-in_default-clause-kept
-returns-in_default-clause-kept g c = c.turns.invariant.kept
+pub returns-in_default-clause-read : goal.returns-in_default-clause-read
+returns-in_default-clause-read g c = c.turns.invariant.read
 
-pub returns-in_default-clause-more : goal.returns-in_default-clause-more
-returns-in_default-clause-more g c = c.turns.invariant.more
-
-pub returns-in_default-clause-names : goal.returns-in_default-clause-names
-returns-in_default-clause-names g c = c.turns.invariant.names
-
-pub returns-in_default-clause-stays : goal.returns-in_default-clause-stays
-returns-in_default-clause-stays g c = c.turns.invariant.stays
+pub returns-in_default-clause-found : goal.returns-in_default-clause-found
+returns-in_default-clause-found g c = c.turns.invariant.names
 
 pub returns-then-done-targets-clause-tree : goal.returns-then-done-targets-clause-tree
 returns-then-done-targets-clause-tree g c = tree_settled c.args.rule c.turns.self.steps.items (labels_of c.turns.self.frontier) (labels_of c.settle_next.new.self) c.in-Some.reached c.in-Some.ensures.settled c.turns.invariant.tree
@@ -112,17 +110,8 @@ returns-then-done-targets-clause-later g c = later_more _ _ _ _ _ _ c.turns.inva
 pub returns-then-done-targets-clause-kept_rows : goal.returns-then-done-targets-clause-kept_rows
 returns-then-done-targets-clause-kept_rows g c = c.turns.invariant.kept_rows
 
-pub returns-then-done-targets-clause-kept : goal.returns-then-done-targets-clause-kept
-returns-then-done-targets-clause-kept g c = c.turns.invariant.kept
+pub returns-then-done-targets-clause-read : goal.returns-then-done-targets-clause-read
+returns-then-done-targets-clause-read g c = c.turns.invariant.read
 
-pub returns-then-done-targets-clause-more : goal.returns-then-done-targets-clause-more
-returns-then-done-targets-clause-more g c = c.turns.invariant.more
-
-pub returns-then-done-targets-clause-names : goal.returns-then-done-targets-clause-names
-returns-then-done-targets-clause-names g c = c.turns.invariant.names
-
-pub returns-then-done-targets-clause-stays : goal.returns-then-done-targets-clause-stays
-returns-then-done-targets-clause-stays g c = c.turns.invariant.stays
-
-pub returns-in_err-go_on_from-clause-more : goal.returns-in_err-go_on_from-clause-more
-returns-in_err-go_on_from-clause-more g c = more_trans _ _ _ c.turns.invariant.more c.in_err-go_on_from.ensures.more
+pub returns-then-done-targets-clause-found : goal.returns-then-done-targets-clause-found
+returns-then-done-targets-clause-found g c = c.turns.invariant.names

@@ -1,11 +1,10 @@
-use Rattle.std.proofs.Common.{List, None, refl, sym, subst, ap, ◌∙◌, arith}
-use Rattle.std.proofs.lemmas.Grind.{common_steps}
+use Rattle.std.proofs.Common.{List, None, refl, sym, subst, ap, ◌∙◌}
 use Rattle.ch_cost.specs.declared.cost.Cost.{Cost}
-use Rattle.ch_cost.specs.Cost.{IsWithin}
+use Rattle.ch_cost.specs.Cost.{◌≼◌}
 use Rattle.ch_cost.specs.Cost.Laws.{ZERO-is}
 use Rattle.ch_witness.specs.declared.step.Step.{Step}
 use Rattle.ch_witness.specs.Kept.{kept_of, IsKept}
-use Rattle.ch_witness.proofs.Keeping.{kept_still}
+use Rattle.ch_witness.proofs.Keeping.{kept_still, more_trans}
 use Rattle.ch_witness.specs.Tree.{labels_of, IsTree, IsGoneOn, IsLater}
 use Rattle.ch_witness.proofs.Offering.{begun}
 use Rattle.ch_witness.proofs.Growing.{all_start, tree_start, start_seen, seen_gone, seen_none}
@@ -21,7 +20,7 @@ pub go_on_from-requires-clause-label : goal.go_on_from-requires-clause-label
 go_on_from-requires-clause-label g c = c.in_ok-start.ensures.here ∙ ap begun (sym ZERO-is)
 
 pub grow-requires-clause-cutoff : goal.grow-requires-clause-cutoff
-grow-requires-clause-cutoff g c = subst (λ (b : Cost). IsWithin c.args.rule.cutoff b) (sym (g.met.S.RowSource.same_bound c.args.source.now c.go_on_from.new.source c.in_ok-go_on_from.ensures.stays)) c.requires.cutoff
+grow-requires-clause-cutoff g c = subst (λ (b : Cost). c.args.rule.cutoff ≼ b) (sym (g.met.S.RowSource.same_bound c.args.source.now c.go_on_from.new.source c.in_ok-go_on_from.ensures.read.stays)) c.requires.cutoff
 
 pub returns-clause-kept_rows : goal.returns-clause-kept_rows
 returns-clause-kept_rows g c =
@@ -32,23 +31,28 @@ pub returns-clause-start : goal.returns-clause-start
 returns-clause-start g c = λ k h other.
     let gone = c.in_ok-go_on_from.ensures.gone in (
       gone.0,
-      kept_still (kept_of c.go_on_from.new.rows) (kept_of c.grow.new.rows) gone.0 c.in_ok-grow.ensures.more gone.1,
+      kept_still (kept_of c.go_on_from.new.rows) (kept_of c.grow.new.rows) gone.0 c.in_ok-grow.ensures.read.more gone.1,
       start_seen c.args.rule _ ZERO-is gone.0 _ _ (labels_of c.start.new.self) _ _ c.in_ok-start.ensures (subst (λ (ss : List Step). IsLater ss c.go_on_from.new.self.steps.items (labels_of c.start.new.self) (labels_of c.go_on_from.new.self.frontier)) c.in_ok-steps.ensures c.in_ok-go_on_from.ensures.later) (subst (λ (ss : List Step). IsGoneOn c.args.rule (record { node = c.args.rule.from; cost = record { weight = 0; arcs = 0 }; before = None }) gone.0 ss c.go_on_from.new.self.steps.items (labels_of c.start.new.self) (labels_of c.go_on_from.new.self.frontier)) c.in_ok-steps.ensures gone.2) c.in_ok-grow.ensures.later,
     )
 
-pub returns-clause-stays : goal.returns-clause-stays
-returns-clause-stays g c = g.met.S.RowSource.stays_more c.args.source.now c.go_on_from.new.source c.grow.new.source c.in_ok-go_on_from.ensures.stays c.in_ok-grow.ensures.stays
+pub returns-clause-read : goal.returns-clause-read
+returns-clause-read g c = record {
+  kept = c.in_ok-grow.ensures.read.kept;
+  more = more_trans _ _ _ c.in_ok-go_on_from.ensures.read.more c.in_ok-grow.ensures.read.more;
+  stays = g.met.S.RowSource.stays_more c.args.source.now c.go_on_from.new.source c.grow.new.source c.in_ok-go_on_from.ensures.read.stays c.in_ok-grow.ensures.read.stays;
+}
 
-pub returns-clause-names : goal.returns-clause-names
-returns-clause-names g c = λ named whole.
+pub returns-clause-found : goal.returns-clause-found
+returns-clause-found g c = λ named whole.
     let all = all_start (g.S.RowSource.whole c.args.source.now) c.args.rule.from (labels_of c.start.new.self) c.in_ok-start.ensures whole in
-    c.in_ok-grow.ensures.names (c.in_ok-go_on_from.ensures.names named all) (c.in_ok-go_on_from.ensures.whole named all)
+    c.in_ok-grow.ensures.found (c.in_ok-go_on_from.ensures.found named all) (c.in_ok-go_on_from.ensures.whole named all)
 
 pub returns-then-are_all-clause-start : goal.returns-then-are_all-clause-start
 returns-then-are_all-clause-start g c = λ k h other. absurd (other (c.if-are_all.ensures refl k h))
 
-pub returns-in_err-grow-clause-stays : goal.returns-in_err-grow-clause-stays
-returns-in_err-grow-clause-stays c = grind (arith, common_steps)
-
-pub returns-in_err-grow-clause-more : goal.returns-in_err-grow-clause-more
-returns-in_err-grow-clause-more c = grind (arith, common_steps)
+pub returns-in_err-grow-clause-read : goal.returns-in_err-grow-clause-read
+returns-in_err-grow-clause-read g c = record {
+  kept = c.in_err-grow.ensures.read.kept;
+  more = more_trans _ _ _ c.in_ok-go_on_from.ensures.read.more c.in_err-grow.ensures.read.more;
+  stays = g.met.S.RowSource.stays_more c.args.source.now c.go_on_from.new.source c.grow.new.source c.in_ok-go_on_from.ensures.read.stays c.in_err-grow.ensures.read.stays;
+}

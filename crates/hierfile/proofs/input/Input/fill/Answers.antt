@@ -1,8 +1,10 @@
-use Rattle.std.proofs.Common.{ℕ, ◌≡◌, ◌+◌, ◌-◌, ◌≤◌, ◌++◌, List, Option, drop, sym, length, take, ◌∙◌, ap, refl, subst, arith, rules}
+use Rattle.std.proofs.Common.{ℕ, ◌≡◌, ◌+◌, ◌-◌, ◌≤◌, ◌<◌, ◌++◌, List, Option, drop, sym, length, take, ◌∙◌, ap, refl, subst, arith, rules}
 use Rattle.std.specs.Io.KnownBytes.{Keeps}
 use Rattle.std.proofs.KnownBytes.{Keeps-refl, Keeps-trans}
 use Rattle.std.proofs.lemmas.Grind.{common_steps}
+use Rattle.std.proofs.lemmas.List.{length-take-le}
 use Rattle.hierfile.proofs.Buffer.{moved, kept, written_back}
+use Rattle.hierfile.proofs.Came.{stops_short}
 use Rattle.counted_io.specs.Limits.{IsRead}
 use Rattle.counted_io.specs.Limits.Laws.{failed_after, read_none, read_then}
 use Rattle.hierfile.specs.declared.error.HierError.TheVariants.{Read}
@@ -23,7 +25,16 @@ loop-self-init g c =
     }
 
 pub returns-in_err-more-clause-reads : goal.returns-in_err-more-clause-reads
-returns-in_err-more-clause-reads g c = hands_back c.from_residual.result _ _ Read c.from_residual.ensures.1 (record { fault = refl; calls = failed_after g.R.StepRead.step c.loop-self.invariant.calls refl c.in_err-more.ensures.stopped })
+returns-in_err-more-clause-reads g c = hands_back c.from_residual.result _ _ Read c.from_residual.ensures.1 (record {
+  fault = record {
+    read = refl;
+    came =
+        let input = c.loop-self.self-inside in
+        let short : length (take input.end input.buffer.items) < c.args.count = omega (arith, length-take-le input.end input.buffer.items c.loop-self.invariant.within) in
+        stops_short (take input.end input.buffer.items) c.args.count _ _ _ c.loop-self.invariant.keeps c.in_err-more.ensures.keeps short;
+  };
+  calls = failed_after g.R.StepRead.step c.loop-self.invariant.calls refl c.in_err-more.ensures.stopped;
+})
 
 pub returns-then-more-eq0-clause-reads : goal.returns-then-more-eq0-clause-reads
 returns-then-more-eq0-clause-reads g c = record { bytes = grind (arith, common_steps) steps 600000; calls = read_then g.R.StepRead.step c.loop-self.invariant.calls c.in_ok-more.ensures.calls }

@@ -1,0 +1,89 @@
+"""Shortest paths in road networks from Python, by the proved program `routecli`.
+
+    import domethyme
+
+    domethyme.write_graph("town.gr", from_nodes, to_nodes, weights)      # an arc for each row, nodes from 0
+    with domethyme.prepare("town.gr", "town.rch") as hierarchy:          # or Hierarchy("town.rch"), made before
+        hierarchy.length(0, 2)                                           # one length, None where there is no way
+        hierarchy.route(0, 2).nodes                                      # the nodes of one route
+        hierarchy.lengths(pairs)                                         # an array, -1 where there is no way
+        hierarchy.routes(pairs)[7]                                       # the nodes of the eighth route
+        hierarchy.matrix(sources, targets)                               # a table of lengths
+
+Nodes are numbered from 0, as rows are; node n is node n + 1 of a file. Who has keys of their own gives them as `keys`, and
+then asks and is answered by them. Weights are whole numbers from 0 to 4,294,967,295 in a unit of the user's own, such as
+milliseconds or centimetres, and lengths are sums of them.
+
+One question at a time (`length`, `route`, `between`) needs Python alone. Arrays need numpy, `nearest` scipy too, and frames
+pandas: where one is missing, the call that needs it raises ImportError.
+
+Errors are DomethymeErrors, listed in `domethyme.errors`; arguments that can't be used raise ValueError.
+"""
+from typing import TYPE_CHECKING, Any
+
+from .errors import (
+    DomethymeError,
+    GraphError,
+    HierarchyError,
+    HierarchyNotFound,
+    NetworkError,
+    NoAnswer,
+    NoSuchNode,
+    OutOfMemory,
+    ProgramError,
+    ProgramNotFound,
+    ProgramStopped,
+    ReadWriteError,
+)
+from .graphs import Graph, prepare, write_graph
+from .hierarchy import Hierarchy, Route
+from .keys import Keys
+from .program import find_program
+
+if TYPE_CHECKING:
+    from .network import Network
+    from .routes import Routes
+
+__all__ = [
+    "DomethymeError",
+    "Fault",
+    "Graph",
+    "GraphError",
+    "Hierarchy",
+    "HierarchyError",
+    "HierarchyNotFound",
+    "Keys",
+    "Network",
+    "NetworkError",
+    "NoAnswer",
+    "NoSuchNode",
+    "NO_WAY",
+    "OutOfMemory",
+    "ProgramError",
+    "ProgramNotFound",
+    "ProgramStopped",
+    "ReadWriteError",
+    "Route",
+    "Routes",
+    "find_program",
+    "prepare",
+    "write_graph",
+]
+
+NO_WAY = -1
+
+# The name of DomethymeError in scripts that are older than this package.
+Fault = DomethymeError
+
+
+def __getattr__(name: str) -> Any:
+    """What needs numpy is loaded when it is first asked for."""
+    if name == "Network":
+        from .network import Network
+
+        return Network
+    if name == "Routes":
+        from .routes import Routes
+
+        return Routes
+    raise AttributeError(f"module 'domethyme' has no attribute {name!r}")

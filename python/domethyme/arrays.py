@@ -1,0 +1,109 @@
+"""Arguments as arrays, and pandas' objects in and out, where pandas is there. Needs numpy."""
+import sys
+from collections.abc import Hashable, Iterable
+from typing import Any
+
+import numpy as np
+from numpy.typing import ArrayLike, NDArray
+
+from .errors import NoSuchNode
+from .keys import Keys, as_list
+
+Numbers = NDArray[np.int64]
+COLUMNS = (("from_node", "to_node"), ("from", "to"), ("source", "target"))
+
+
+def whole_numbers(name: str, values: "ArrayLike | list[Hashable]", low: int, high: int) -> Numbers:
+    """The values as an array of int64 of the same shape, all from low to high; else a ValueError."""
+    array: NDArray[Any] = np.asarray(values)
+    if array.size == 0:
+        return array.astype(np.int64)
+    if array.dtype.kind not in "iu":
+        raise ValueError(f"{name} have to be whole numbers, and are {array.dtype}")
+    if array.min() < low or array.max() > high:
+        raise ValueError(f"{name} have to be from {low} to {high}, and are from {array.min()} to {array.max()}")
+    return array.astype(np.int64)
+
+
+def pairs_of(pairs: Any, keys: Keys | None, nodes: int) -> Numbers:
+    """The pairs as an array of shape (n, 2) of nodes from 0.
+
+    `pairs` are rows (from, to): an array, a list, or a frame with two columns, or with columns of one of the names in
+    COLUMNS. Raises NoSuchNode, with the row, and ValueError.
+    """
+    columns = columns_of(pairs)
+    if keys is not None:
+        firsts, seconds = columns if columns is not None else split(pairs)
+        found = np.column_stack([keys.nodes(firsts), keys.nodes(seconds)])
+    else:
+        found = whole_numbers("pairs", pairs if columns is None else np.column_stack(columns), 0, (1 << 25) - 1)
+        found = found.reshape(0, 2) if found.size == 0 else found
+        if found.ndim != 2 or found.shape[1] != 2:
+            raise ValueError("pairs have to be rows of two nodes")
+    outside = np.flatnonzero((found >= nodes).any(axis=1))
+    if len(outside):
+        row = int(outside[0])
+        raise NoSuchNode(f"row {row} of the pairs, {found[row].tolist()}, has a node that the hierarchy lacks", row)
+    return found
+
+
+def columns_of(pairs: Any) -> list[Any] | None:
+    """The two columns of a frame of pandas, None for anything else."""
+    if not is_pandas(pairs) or not hasattr(pairs, "columns"):
+        return None
+    for names in COLUMNS:
+        if all(name in pairs.columns for name in names):
+            return [pairs[name].to_numpy() for name in names]
+    if len(pairs.columns) != 2:
+        raise ValueError("pairs have to be rows of two nodes, or have the columns from and to")
+    return [pairs.iloc[:, place].to_numpy() for place in (0, 1)]
+
+
+def split(pairs: Iterable[Any]) -> tuple[list[Hashable], list[Hashable]]:
+    """The firsts and the seconds of rows of two keys."""
+    rows = [tuple(row) for row in pairs]
+    if any(len(row) != 2 for row in rows):
+        raise ValueError("pairs have to be rows of two nodes")
+    return [row[0] for row in rows], [row[1] for row in rows]
+
+
+def nodes_of(name: str, values: Any, keys: Keys | None, nodes: int) -> Numbers:
+    """The values, an array or anything that can be iterated, as an array of one dimension of nodes from 0."""
+    if keys is not None:
+        return keys.nodes(values)
+    array = whole_numbers(name, values if hasattr(values, "__array__") else as_list(values), 0, (1 << 25) - 1)
+    if array.ndim != 1:
+        raise ValueError(f"{name} have to be of one dimension")
+    if array.size and array.max() >= nodes:
+        raise NoSuchNode(f"{name} have node {array.max()}, and the hierarchy has {nodes} nodes", int(array.max()))
+    return array
+
+
+def each_to_each(sources: Numbers, targets: Numbers) -> Numbers:
+    """The pairs from each source to each target, those of the first source first."""
+    return np.column_stack([np.repeat(sources, len(targets)), np.tile(targets, len(sources))])
+
+
+def is_pandas(value: Any) -> bool:
+    """Whether the value is of pandas, which is then loaded."""
+    return type(value).__module__.partition(".")[0] == "pandas"
+
+
+def labels(values: Any) -> Any:
+    """The labels of an axis for values that a caller gave: those of a Series or Index are its values."""
+    return getattr(values, "array", values)
+
+
+def like_frame(lengths: Numbers, pairs: Any) -> Any:
+    """The lengths as a Series with the frame's index where the pairs came as a frame, else as they are."""
+    if not is_pandas(pairs):
+        return lengths
+    return sys.modules["pandas"].Series(lengths, index=pairs.index, name="length")
+
+
+def like_axes(table: Numbers, sources: Any, targets: Any) -> Any:
+    """The table as a DataFrame where the places came as pandas' objects, else as it is."""
+    if not (is_pandas(sources) or is_pandas(targets)):
+        return table
+    pandas = sys.modules["pandas"]
+    return pandas.DataFrame(table, index=pandas.Index(labels(sources)), columns=pandas.Index(labels(targets)))

@@ -1,0 +1,115 @@
+"""The errors of this package.
+
+    DomethymeError
+    ├── ProgramError         `routecli` can't be run, or ended in a way that no input explains
+    │   ├── ProgramNotFound  there is no such program (also a FileNotFoundError)
+    │   ├── ProgramStopped   it ended while a question was open, three times in a row
+    │   └── NoAnswer         it didn't answer within the timeout (also a TimeoutError)
+    ├── GraphError           the text of a graph is refused
+    ├── HierarchyError       a file of a hierarchy is refused
+    │   └── HierarchyNotFound  there is no such file (also a FileNotFoundError)
+    ├── NetworkError         a file of a network (nodes, arcs) is refused
+    ├── NoSuchNode           a node or key that the hierarchy doesn't have (also a ValueError and a LookupError)
+    ├── OutOfMemory          the program ran out of memory (also a MemoryError)
+    └── ReadWriteError       a read or write failed (also an OSError)
+
+Arguments that can't be used at all, such as arrays of a wrong shape, raise a plain ValueError, and a package that is
+missing a plain ImportError.
+"""
+import os
+
+
+class DomethymeError(Exception):
+    """What went wrong, as one line.
+
+    status  the exit status that stands for it: 3 to 8 where `routecli` refused, else 1
+    """
+
+    def __init__(self, message: str, status: int = 1) -> None:
+        super().__init__(message)
+        self.message, self.status = message, status
+
+    def __str__(self) -> str:
+        return self.message
+
+
+class ProgramError(DomethymeError):
+    """`routecli` can't be run, or ended in a way that no input explains."""
+
+
+class ProgramNotFound(ProgramError, FileNotFoundError):
+    """There is no program `routecli` where it was looked for."""
+
+
+class ProgramStopped(ProgramError):
+    """The program ended while a question was open, and did so again when it was started anew."""
+
+
+class NoAnswer(ProgramError, TimeoutError):
+    """The program didn't answer within the timeout."""
+
+
+class GraphError(DomethymeError):
+    """The text of a graph is refused; the message has the program's kind and line."""
+
+
+class HierarchyError(DomethymeError):
+    """The file of a hierarchy is refused."""
+
+
+class HierarchyNotFound(HierarchyError, FileNotFoundError):
+    """There is no file of a hierarchy at this path."""
+
+
+class NetworkError(DomethymeError):
+    """A file of a network is refused; the message has the file and the row."""
+
+
+class NoSuchNode(DomethymeError, ValueError, LookupError):
+    """A node that the hierarchy doesn't have, or a key that names none.
+
+    key  the node or key
+    """
+
+    def __init__(self, message: str, key: object = None) -> None:
+        super().__init__(message)
+        self.key = key
+
+
+class OutOfMemory(DomethymeError, MemoryError):
+    """The program ran out of memory."""
+
+
+class ReadWriteError(DomethymeError, OSError):
+    """The program failed to read or write a file."""
+
+
+KINDS: dict[int, type[DomethymeError]] = {
+    3: GraphError,
+    4: HierarchyError,
+    6: OutOfMemory,
+    7: ReadWriteError,
+}
+
+
+def error_of(status: int, said: bytes) -> DomethymeError:
+    """The error for a run of the program that ended with a status other than 0 and wrote `said` to standard error."""
+    if status < 0:
+        return ProgramStopped(f"routecli was ended by signal {-status}")
+    line = " ".join(said.decode("utf-8", "replace").split())
+    return KINDS.get(status, ProgramError)(line or f"routecli ended with status {status}", status)
+
+
+def error_of_reply(fields: list[bytes]) -> DomethymeError:
+    """The error that the fields of a reply `e KIND` mean."""
+    kind = fields[-1].decode("ascii", "replace")
+    if kind == "OutOfMemory":
+        return OutOfMemory("routecli ran out of memory at a question", 6)
+    if kind == "TooLong":
+        return HierarchyError("the file is of no graph: a route by it would repeat a node (TooLong)", 4)
+    return ProgramError(f"routecli refused a question: {kind}")
+
+
+def os_reason(error: OSError) -> str:
+    """The reason of an OSError without its number and file."""
+    return error.strerror or os.strerror(error.errno or 0)

@@ -1,0 +1,185 @@
+"""Graphs: written from arrays, tables of one's own keys, and prepared."""
+import contextlib
+import os
+import tempfile
+from collections.abc import Iterator
+from typing import IO, TYPE_CHECKING, Any
+
+from .errors import ReadWriteError, os_reason
+from .hierarchy import Hierarchy
+from .keys import Keys
+from .program import StrPath, find_program, run_program
+
+if TYPE_CHECKING:
+    import numpy as np
+    from numpy.typing import ArrayLike, NDArray
+
+MOST_NODES = 1 << 25
+MOST_ARCS = 1 << 27
+HEAVIEST = (1 << 32) - 1
+
+
+class Graph:
+    """A graph in arrays: arc i leads from from_nodes[i] to to_nodes[i] and weighs weights[i].
+
+    from_nodes, to_nodes, weights   arrays of int64 of shape (arcs,), nodes from 0
+    nodes                           the number of nodes
+    keys                            the Keys of the nodes, or None
+    """
+
+    def __init__(
+        self,
+        from_nodes: "ArrayLike",
+        to_nodes: "ArrayLike",
+        weights: "ArrayLike",
+        nodes: int | None = None,
+        keys: Keys | None = None,
+    ) -> None:
+        """Nodes are whole numbers from 0, weights from 0 to 4294967295. Without `nodes` there are those up to the greatest
+        of an arc. Raises ValueError for arrays that can't be meant so."""
+        from .arrays import whole_numbers
+
+        self.from_nodes: "NDArray[np.int64]" = whole_numbers("from_nodes", from_nodes, 0, MOST_NODES - 1)
+        self.to_nodes: "NDArray[np.int64]" = whole_numbers("to_nodes", to_nodes, 0, MOST_NODES - 1)
+        self.weights: "NDArray[np.int64]" = whole_numbers("weights", weights, 0, HEAVIEST)
+        if self.weights.ndim != 1 or not self.from_nodes.shape == self.to_nodes.shape == self.weights.shape:
+            raise ValueError("from_nodes, to_nodes and weights have to be of one dimension and as long as one another")
+        if len(self.weights) > MOST_ARCS:
+            raise ValueError(f"a graph has at most {MOST_ARCS} arcs")
+        least = int(max(self.from_nodes.max(initial=-1), self.to_nodes.max(initial=-1))) + 1
+        if nodes is not None and not least <= nodes <= MOST_NODES:
+            raise ValueError(f"the number of nodes has to be from {least}, by the arcs, to {MOST_NODES}")
+        self.nodes, self.keys = least if nodes is None else int(nodes), keys
+
+    @classmethod
+    def of_keys(cls, sources: Any, targets: Any, weights: "ArrayLike", scale: float | None = None) -> "Graph":
+        """The graph of arcs between keys of any hashable kind: arc i leads from sources[i] to targets[i]. Nodes are numbered
+        in the order in which the keys come first, sources before targets.
+
+        scale   weights are numbers of any kind, which are multiplied by it and rounded: 1000 makes milliseconds of seconds.
+                Without it they have to be whole numbers.
+        """
+        import numpy as np
+
+        from .keys import as_list, plain
+
+        starts, ends = ([plain(key) for key in as_list(side)] for side in (sources, targets))
+        numbers: dict[Any, int] = {}
+        for key in [*starts, *ends]:
+            numbers.setdefault(key, len(numbers))
+        if None in numbers:
+            raise ValueError("an arc has no key at an end")
+        if scale is not None:
+            weights = scaled(weights, scale)
+        from_nodes, to_nodes = (np.array([numbers[key] for key in side], dtype=np.int64) for side in (starts, ends))
+        return cls(from_nodes, to_nodes, weights, len(numbers), Keys(numbers))
+
+    @classmethod
+    def of_frame(
+        cls, frame: Any, source: str = "from", target: str = "to", weight: str = "weight", scale: float | None = None
+    ) -> "Graph":
+        """The graph of a frame of pandas with a row for each arc, by the names of its columns; as `of_keys`."""
+        return cls.of_keys(frame[source], frame[target], frame[weight].to_numpy(), scale)
+
+    def __repr__(self) -> str:
+        return f"<Graph of {self.nodes} nodes and {len(self.weights)} arcs>"
+
+    def write(self, path: StrPath) -> None:
+        """Writes the text of the graph. The file is whole; at an exception it is as it was before."""
+        import numpy as np
+
+        arcs = np.column_stack([self.from_nodes + 1, self.to_nodes + 1, self.weights])
+        with whole_file(path) as file:
+            file.write(f"p sp {self.nodes} {len(arcs)}\n")
+            file.writelines(f"a {start} {end} {weight}\n" for start, end, weight in arcs.tolist())
+
+    def prepare(self, hierarchy: StrPath, **options: Any) -> Hierarchy:
+        """Prepares the graph as `prepare` does, and gives the Hierarchy with the graph's keys."""
+        return prepare(self, hierarchy, **options)
+
+
+def scaled(weights: "ArrayLike", scale: float) -> "NDArray[np.int64]":
+    """The weights times the scale, rounded."""
+    import numpy as np
+
+    products = np.asarray(weights, float) * scale
+    if products.size and not (np.isfinite(products).all() and products.min() >= 0 and products.max() <= HEAVIEST):
+        raise ValueError(f"weights times {scale:g} have to be from 0 to {HEAVIEST}")
+    rounded: "NDArray[np.int64]" = np.rint(products).astype(np.int64)
+    return rounded
+
+
+def write_graph(
+    path: StrPath, from_nodes: "ArrayLike", to_nodes: "ArrayLike", weights: "ArrayLike", nodes: int | None = None
+) -> None:
+    """Writes the graph whose arc i leads from from_nodes[i] to to_nodes[i] and weighs weights[i], and which has `nodes`
+    nodes, or else those up to the greatest of an arc. The file is whole; at an exception it is as it was before."""
+    Graph(from_nodes, to_nodes, weights, nodes).write(path)
+
+
+def prepare(
+    graph: "Graph | StrPath",
+    hierarchy: StrPath,
+    order: str = "depth",
+    workers: int | None = None,
+    seed: int | None = None,
+    program: StrPath | None = None,
+) -> Hierarchy:
+    """Makes the file of the hierarchy of a Graph, or of a graph's file, by `routecli prepare`, whose options order (edges,
+    neighbours, depth), workers (0 to 64) and seed are. Gives the Hierarchy. At an exception its file is as it was before.
+
+    Raises GraphError, OutOfMemory, ReadWriteError, ProgramNotFound, ProgramError.
+    """
+    found = find_program(program)
+    options = {"--order": order, "--workers": workers, "--seed": seed}
+    words = [str(word) for name, value in options.items() if value is not None for word in (name, value)]
+    if not isinstance(graph, Graph):
+        need_readable(graph)
+        run_program(found, ["prepare", *words, os.fspath(graph), os.fspath(hierarchy)])
+        return Hierarchy(hierarchy, program)
+    with tempfile.TemporaryDirectory(prefix="domethyme-") as folder:
+        text = os.path.join(folder, "graph.gr")
+        graph.write(text)
+        run_program(found, ["prepare", *words, text, os.fspath(hierarchy)])
+    return Hierarchy(hierarchy, program, keys=graph.keys)
+
+
+def need_readable(path: StrPath) -> None:
+    """Raises ReadWriteError where a file can't be opened."""
+    try:
+        with open(path, "rb"):
+            pass
+    except OSError as error:
+        raise ReadWriteError(f"{os.fspath(path)}: {os_reason(error)}", 7) from error
+
+
+@contextlib.contextmanager
+def whole_file(path: StrPath) -> Iterator[IO[str]]:
+    """A file of text that takes the path's place when the block has ended well."""
+    target = os.path.realpath(path)
+    if os.path.exists(target) and not os.path.isfile(target):
+        with open(target, "w", encoding="ascii") as file:
+            yield file
+        return
+    folder, name = os.path.split(target)
+    handle, beside = tempfile.mkstemp(prefix=f"{name}.", suffix=".new", dir=folder)
+    try:
+        with open(handle, "w", encoding="ascii") as file:
+            yield file
+            file.flush()
+            os.fsync(file.fileno())
+        os.chmod(beside, permissions_at(target))
+        os.replace(beside, target)
+    except BaseException:
+        with contextlib.suppress(FileNotFoundError):
+            os.unlink(beside)
+        raise
+
+
+def permissions_at(path: str) -> int:
+    """The permissions of a file, or those that a new one would get."""
+    with contextlib.suppress(FileNotFoundError):
+        return os.stat(path).st_mode & 0o7777
+    mask = os.umask(0)
+    os.umask(mask)
+    return 0o666 & ~mask

@@ -1,0 +1,140 @@
+"""Keys of nodes: the names that a user has for them, of any hashable kind."""
+import csv
+import os
+from collections.abc import Hashable, Iterable, Mapping, Sequence
+from typing import TYPE_CHECKING, Any
+
+from .errors import NetworkError, NoSuchNode, os_reason
+
+if TYPE_CHECKING:
+    import numpy as np
+    from numpy.typing import NDArray
+
+
+class Keys:
+    """The key of each node. A node may have none (None), and each key names one node."""
+
+    def __init__(self, keys: "Keys | Mapping[Any, int] | Iterable[Hashable]", nodes: int | None = None) -> None:
+        """Of a mapping from keys to nodes, counted from 0, or of a key for each node in order, None for no key.
+
+        Raises ValueError where two nodes have one key, or where there are more keys than `nodes`.
+        """
+        self._names: list[Hashable]
+        self._nodes: dict[Any, int]
+        self._shared: set[Hashable]
+        if isinstance(keys, Keys):
+            self._names, self._nodes, self._shared = keys._names, keys._nodes, keys._shared
+        elif isinstance(keys, Mapping):
+            self._names, self._nodes, self._shared = names_of(keys), {plain(key): int(keys[key]) for key in keys}, set()
+        else:
+            self._names = [plain(key) for key in keys]
+            self._nodes, self._shared = numbers_of(self._names)
+            if self._shared:
+                raise ValueError(f"key {next(iter(self._shared))!r} names two nodes")
+        if nodes is not None:
+            if len(self._names) > nodes:
+                raise ValueError(f"there are keys of {len(self._names)} nodes, and the hierarchy has {nodes}")
+            self._names = self._names + [None] * (nodes - len(self._names))
+
+    @classmethod
+    def read(cls, path: "str | os.PathLike[str]", column: str = "osm") -> "Keys":
+        """The keys in a column of a CSV file with a row for each node, in order, as NETWORK.nodes.csv: whole numbers as int,
+        other texts as str, an empty one for no key. A key of several nodes can't be asked for. Raises NetworkError."""
+        keys = cls(())
+        try:
+            with open(path, encoding="utf-8-sig", newline="") as file:
+                rows = csv.DictReader(file, strict=True)
+                if column not in (rows.fieldnames or ()):
+                    raise NetworkError(f"{os.fspath(path)}: has no column {column}")
+                keys._names = [key_of(row[column]) for row in rows]
+        except OSError as error:
+            raise NetworkError(f"{os.fspath(path)}: {os_reason(error)}") from error
+        except (csv.Error, UnicodeDecodeError) as error:
+            raise NetworkError(f"{os.fspath(path)}: isn't CSV in UTF-8: {error}") from error
+        keys._nodes, keys._shared = numbers_of(keys._names)
+        return keys
+
+    def __len__(self) -> int:
+        """The number of nodes, with and without a key."""
+        return len(self._names)
+
+    def __repr__(self) -> str:
+        return f"<Keys of {len(self._nodes)} nodes>"
+
+    def __contains__(self, key: Hashable) -> bool:
+        return key in self._nodes
+
+    def node(self, key: Hashable) -> int:
+        """The node of a key, from 0. Raises NoSuchNode."""
+        try:
+            return self._nodes[key]
+        except (KeyError, TypeError):
+            problem = "names several nodes" if key in self._shared else "names no node"
+            raise NoSuchNode(f"key {key!r} {problem}", key) from None
+
+    def key(self, node: int) -> Hashable:
+        """The key of a node, None where it has none."""
+        return self._names[node]
+
+    def nodes(self, keys: Iterable[Hashable]) -> "NDArray[np.int64]":
+        """The nodes of many keys. Raises NoSuchNode for the first that names none."""
+        import numpy as np
+
+        listed = as_list(keys)
+        try:
+            return np.fromiter((self._nodes[key] for key in listed), dtype=np.int64, count=len(listed))
+        except (KeyError, TypeError):
+            return np.array([self.node(key) for key in listed], dtype=np.int64)
+
+    def of(self, nodes: "NDArray[np.integer[Any]]") -> "NDArray[Any]":
+        """The keys of many nodes: an array of int64 where all of them are whole numbers, else of objects."""
+        import numpy as np
+
+        found = [self._names[node] for node in nodes.tolist()]
+        if all(type(key) is int and abs(key) < 1 << 63 for key in found):
+            return np.array(found, dtype=np.int64)
+        keys = np.empty(len(found), dtype=object)
+        keys[:] = found
+        return keys
+
+
+def names_of(nodes: Mapping[Any, int]) -> list[Hashable]:
+    """The key of each node of a mapping from keys to nodes."""
+    names: list[Hashable] = [None] * (max(map(int, nodes.values()), default=-1) + 1)
+    for key, node in nodes.items():
+        if int(node) != node or node < 0:
+            raise ValueError(f"key {key!r} names {node!r}, which is no node")
+        if names[int(node)] is not None:
+            raise ValueError(f"keys {names[int(node)]!r} and {key!r} name one node")
+        names[int(node)] = plain(key)
+    return names
+
+
+def numbers_of(names: Sequence[Hashable]) -> tuple[dict[Any, int], set[Hashable]]:
+    """The node of each key that names one, and the keys that name several."""
+    nodes: dict[Any, int] = {}
+    shared: set[Hashable] = set()
+    for node, key in enumerate(names):
+        if key is not None and nodes.setdefault(key, node) != node:
+            shared.add(key)
+    for key in shared:
+        del nodes[key]
+    return nodes, shared
+
+
+def key_of(text: str) -> Hashable:
+    """The key that a field of a table means."""
+    digits = text.removeprefix("-")
+    return int(text) if digits.isascii() and digits.isdigit() else text or None
+
+
+def plain(key: Any) -> Hashable:
+    """A scalar of numpy as the Python object that equals it; anything else as it is."""
+    found: Hashable = key.item() if type(key).__module__ == "numpy" else key
+    return found
+
+
+def as_list(values: Iterable[Hashable]) -> list[Hashable]:
+    """The values as Python objects, of an array or anything else that can be iterated."""
+    found: list[Hashable] = values.tolist() if hasattr(values, "tolist") else list(values)
+    return found

@@ -1,0 +1,42 @@
+"""Finds the program `routecli` and runs it once."""
+import os
+import pathlib
+import shutil
+import subprocess
+from typing import Union
+
+from .errors import ProgramError, ProgramNotFound, error_of, os_reason
+
+StrPath = Union[str, "os.PathLike[str]"]
+
+HERE = pathlib.Path(__file__).resolve().parent
+INSIDE = HERE / "routecli"
+BUILT = HERE.parents[1] / "crates/routecli/out/routecli"
+
+
+def find_program(named: StrPath | None = None) -> str:
+    """The absolute path of `routecli`: the one that is named, else that of the environment variable ROUTECLI, else that on
+    PATH, else the one inside this package (of a wheel), else the one that was built in this repository.
+
+    Raises ProgramNotFound.
+    """
+    for choice in (named, os.environ.get("ROUTECLI")):
+        if choice:
+            found = shutil.which(choice)
+            if found is None:
+                raise ProgramNotFound(f"{os.fspath(choice)}: is no program that can be run")
+            return os.path.abspath(found)
+    for place in ("routecli", str(INSIDE), str(BUILT)):
+        if (found := shutil.which(place)) is not None:
+            return os.path.abspath(found)
+    raise ProgramNotFound("routecli isn't found: name it as `program`, set ROUTECLI, or build it as README.md says")
+
+
+def run_program(program: str, words: list[str]) -> None:
+    """Runs the program to its end; raises the error that its status stands for. Its standard input is empty."""
+    try:
+        ended = subprocess.run([program, *words], stdin=subprocess.DEVNULL, stdout=subprocess.DEVNULL, stderr=subprocess.PIPE)
+    except OSError as error:
+        raise ProgramError(f"{program}: {os_reason(error)}") from error
+    if ended.returncode != 0:
+        raise error_of(ended.returncode, ended.stderr)

@@ -1,0 +1,102 @@
+"""The routes of many pairs, as arrays. Needs numpy."""
+import sys
+from collections.abc import Iterator
+from typing import TYPE_CHECKING, Any, overload
+
+import numpy as np
+from numpy.typing import NDArray
+
+from .keys import Keys
+
+if TYPE_CHECKING:
+    from .network import Network
+
+
+class Routes:
+    """The routes of pairs, in their order.
+
+    `routes[i]` are the nodes of route i from its first to its last, or their keys; none where there is no way.
+    `routes[i:j]` are the Routes of these pairs.
+
+    pairs     the pairs, of shape (n, 2), nodes from 0
+    lengths   the least lengths, of shape (n,), NO_WAY (-1) where there is no way
+    nodes     the nodes of all routes from 0, one route after the other
+    offsets   where each route begins in `nodes`, and last where they end, of shape (n + 1,)
+    """
+
+    def __init__(
+        self,
+        lengths: NDArray[np.int64],
+        nodes: NDArray[np.int32],
+        offsets: NDArray[np.int64],
+        pairs: NDArray[np.int64],
+        keys: Keys | None = None,
+        index: Any = None,
+    ) -> None:
+        self.lengths, self.nodes, self.offsets, self.pairs = lengths, nodes, offsets, pairs
+        self.keys, self.index = keys, index
+
+    def __len__(self) -> int:
+        return len(self.lengths)
+
+    @overload
+    def __getitem__(self, row: int) -> NDArray[Any]: ...
+    @overload
+    def __getitem__(self, row: slice) -> "Routes": ...
+    def __getitem__(self, row: int | slice) -> "NDArray[Any] | Routes":
+        if isinstance(row, slice):
+            return self._slice(row)
+        nodes = self.numbers(row)
+        return nodes if self.keys is None else self.keys.of(nodes)
+
+    def __iter__(self) -> Iterator[NDArray[Any]]:
+        return (self[row] for row in range(len(self)))
+
+    def __eq__(self, other: object) -> bool:
+        if not isinstance(other, Routes):
+            return NotImplemented
+        names = ("pairs", "lengths", "nodes", "offsets")
+        return all(np.array_equal(getattr(self, name), getattr(other, name)) for name in names)
+
+    __hash__ = None  # type: ignore[assignment]
+
+    def __repr__(self) -> str:
+        return f"<{len(self)} routes of {len(self.nodes)} nodes>"
+
+    def numbers(self, row: int) -> NDArray[np.int32]:
+        """The nodes of a route from 0, whatever keys there are."""
+        if not -len(self) <= row < len(self):
+            raise IndexError(f"there is no route {row} among {len(self)}")
+        row %= len(self)
+        return self.nodes[self.offsets[row] : self.offsets[row + 1]]
+
+    @property
+    def arcs(self) -> NDArray[np.int64]:
+        """How many arcs each route has, of shape (n,); NO_WAY (-1) where there is no way."""
+        return np.diff(self.offsets) - 1
+
+    def to_frame(self) -> Any:
+        """A DataFrame of pandas with a row for each pair: from, to (nodes or keys), length and arcs, -1 where there is no
+        way. It has the index of the frame that the pairs came as."""
+        import pandas
+
+        ends = [column if self.keys is None else self.keys.of(column) for column in self.pairs.T]
+        columns = {"from": ends[0], "to": ends[1], "length": self.lengths, "arcs": self.arcs}
+        return pandas.DataFrame(columns, index=self.index)
+
+    def geojson(self, network: "Network") -> dict[str, Any]:
+        """The routes as a FeatureCollection along the real road; see Network.geojson."""
+        return network.geojson(self)
+
+    def _slice(self, rows: slice) -> "Routes":
+        chosen = np.arange(len(self))[rows]
+        parts = [self.numbers(row) for row in chosen.tolist()]
+        offsets = np.concatenate([[0], np.cumsum(self.arcs[chosen] + 1)]).astype(np.int64)
+        nodes = np.concatenate([np.empty(0, np.int32), *parts])
+        index = None if self.index is None else self.index[rows]
+        return Routes(self.lengths[chosen], nodes, offsets, self.pairs[chosen], self.keys, index)
+
+
+def index_of(pairs: Any) -> Any:
+    """The index of pairs that came as a frame of pandas."""
+    return getattr(pairs, "index", None) if "pandas" in sys.modules and hasattr(pairs, "iloc") else None

@@ -1,0 +1,197 @@
+"""A network: the files of its nodes and arcs, and where they lie on the earth.
+
+A network is three files with one beginning of their names, NETWORK:
+
+    NETWORK.gr          the graph, in the format of docs/FORMATS.md
+    NETWORK.nodes.csv   node, osm, lon, lat: where node 1, 2, .. lies, in degrees; `osm` is empty for a point between
+    NETWORK.arcs.csv    from, to, weight, seconds, metres, osm, highway, name, WKT: a row for each arc of the graph,
+                        in the graph's order; WKT is its line, longitude first
+
+    Network(prefix)              `.graph`, `.nodes`, `.arcs`: the paths of its files
+    read_nodes(path)             Nodes(osm, lon, lat): lists, node n at n - 1; of a .nodes.csv or a DIMACS .co file
+    nodes_file(word)             the path that a tool's word NETWORK means to read_nodes: NETWORK.nodes.csv, or a .co file
+    write_nodes(file, nodes)     the rows of .nodes.csv
+    read_arcs(path)              yields Arc(start, end, weight, seconds, metres, osm, highway, name, wkt)
+    write_arcs(file, arcs)       the rows of .arcs.csv
+    lightest(arcs)               {(start, end): the first arc of the least weight between them}
+    points_of(wkt, path, row), wkt_of(points)       [(lon, lat), ..] and back
+    attribution_of(network)      what the data asks to be said wherever it is shown, "" for nothing: the comment of the
+                                 graph that `osm_to_gr --attribution` wrote. OSM_ATTRIBUTION is that of OpenStreetMap.
+    metres_between(lon, lat, lon, lat)              along the great circle, on a sphere of EARTH_RADIUS metres
+"""
+import csv
+import math
+import os
+from collections.abc import Iterable, Iterator
+from typing import IO, NamedTuple
+
+from texts import MOST_NODES, dimacs_lines, problem_number
+from tool import Fault, StrPath, number, reading, shown, table, whole_number
+
+EARTH_RADIUS = 6_371_008.8
+OSM_ATTRIBUTION = "© OpenStreetMap contributors (ODbL 1.0)"
+ATTRIBUTION_COMMENT = "c attribution: "
+NODE_COLUMNS = ("node", "osm", "lon", "lat")
+ARC_COLUMNS = ("from", "to", "weight", "seconds", "metres", "osm", "highway", "name", "WKT")
+Point = tuple[float, float]
+
+
+class Network:
+    """The paths of a network's files."""
+
+    def __init__(self, prefix: StrPath) -> None:
+        name = os.fspath(prefix)
+        self.graph, self.nodes, self.arcs = f"{name}.gr", f"{name}.nodes.csv", f"{name}.arcs.csv"
+
+
+class Nodes(NamedTuple):
+    """Node n has its values at n - 1: the id in OpenStreetMap or None, and degrees."""
+
+    osm: list[int | None]
+    lon: list[float]
+    lat: list[float]
+
+
+class Arc(NamedTuple):
+    """An arc of the graph and the piece of road that it stands for."""
+
+    start: int
+    end: int
+    weight: int
+    seconds: float
+    metres: float
+    osm: int
+    highway: str
+    name: str
+    wkt: str
+
+
+def nodes_file(word: StrPath) -> str:
+    """The path of the nodes that a tool's word NETWORK names: a DIMACS .co file, or else the network's .nodes.csv."""
+    return os.fspath(word) if str(word).endswith(".co") else Network(word).nodes
+
+
+def read_nodes(path: StrPath) -> Nodes:
+    """The nodes of a .nodes.csv file, or of a DIMACS .co file by its ending."""
+    return read_coordinates(path) if str(path).endswith(".co") else read_node_table(path)
+
+
+def read_node_table(path: StrPath) -> Nodes:
+    nodes = Nodes([], [], [])
+    with table(path, NODE_COLUMNS) as rows:
+        for row, fields in rows:
+            expected = len(nodes.lon) + 1
+            if fields["node"] != str(expected):
+                raise Fault(f"has node {shown(fields['node'])} where node {expected} comes next", path, row)
+            osm = fields["osm"]
+            nodes.osm.append(whole_number(osm, "osm", path, row, -(1 << 63), 1 << 63) if osm else None)
+            nodes.lon.append(number(fields["lon"], "lon", path, row, -180, 180))
+            nodes.lat.append(number(fields["lat"], "lat", path, row, -90, 90))
+    return nodes
+
+
+def read_coordinates(path: StrPath) -> Nodes:
+    """The nodes of a DIMACS .co file: `p aux sp co N`, and `v NODE X Y` in millionths of a degree, in any order."""
+    lon: list[float | None] | None = None
+    lat: list[float | None] = []
+    with reading(path) as stream:
+        for row, fields in dimacs_lines(path, stream):
+            if fields[0] == b"p" and lon is None:
+                count = problem_number(fields, (b"aux", b"sp", b"co"), path, row, MOST_NODES)
+                lon, lat = [None] * count, [None] * count
+            elif fields[0] == b"v" and lon is not None and len(fields) == 4:
+                place = whole_number(fields[1], "node", path, row, 1, len(lon)) - 1
+                lon[place] = whole_number(fields[2], "x", path, row, -180_000_000, 180_000_000) / 1e6
+                lat[place] = whole_number(fields[3], "y", path, row, -90_000_000, 90_000_000) / 1e6
+            else:
+                raise Fault("is no line of coordinates", path, row)
+    if lon is None:
+        raise Fault("has no line `p aux sp co N`", path)
+    if None in lon:
+        raise Fault(f"has no coordinates of node {lon.index(None) + 1}", path)
+    places = [(east, north) for east, north in zip(lon, lat) if east is not None and north is not None]
+    return Nodes([None] * len(lon), [east for east, _ in places], [north for _, north in places])
+
+
+def write_nodes(file: IO[str], nodes: Nodes) -> None:
+    """Writes a .nodes.csv file: degrees to the seventh place, as OpenStreetMap has them."""
+    rows = csv.writer(file, lineterminator="\n")
+    rows.writerow(NODE_COLUMNS)
+    for node, (osm, lon, lat) in enumerate(zip(*nodes), 1):
+        rows.writerow((node, "" if osm is None else osm, f"{lon:.7f}", f"{lat:.7f}"))
+
+
+def read_arcs(path: StrPath) -> Iterator[Arc]:
+    """The arcs of a .arcs.csv file, one after the other."""
+    with table(path, ARC_COLUMNS) as rows:
+        for row, fields in rows:
+            yield Arc(
+                whole_number(fields["from"], "from", path, row, 1, MOST_NODES),
+                whole_number(fields["to"], "to", path, row, 1, MOST_NODES),
+                whole_number(fields["weight"], "weight", path, row),
+                number(fields["seconds"], "seconds", path, row, 0),
+                number(fields["metres"], "metres", path, row, 0),
+                whole_number(fields["osm"], "osm", path, row, -(1 << 63), 1 << 63),
+                fields["highway"],
+                fields["name"],
+                fields["WKT"],
+            )
+
+
+def write_arcs(file: IO[str], arcs: Iterable[Arc]) -> None:
+    """Writes a .arcs.csv file: seconds to the thousandth, metres to the hundredth."""
+    rows = csv.writer(file, lineterminator="\n")
+    rows.writerow(ARC_COLUMNS)
+    for arc in arcs:
+        figures = f"{arc.seconds:.3f}", f"{arc.metres:.2f}"
+        rows.writerow((*arc[:3], *figures, *arc[5:]))
+
+
+def lightest(arcs: Iterable[Arc]) -> dict[tuple[int, int], Arc]:
+    """The arc that a route takes from a node to the next: of several between them the first of the least weight."""
+    best: dict[tuple[int, int], Arc] = {}
+    for arc in arcs:
+        known = best.get((arc.start, arc.end))
+        if known is None or arc.weight < known.weight:
+            best[arc.start, arc.end] = arc
+    return best
+
+
+def points_of(wkt: str, path: StrPath | None = None, row: int | None = None) -> list[Point]:
+    """The points of a text `LINESTRING (LON LAT, LON LAT, ..)`: two or more pairs of degrees."""
+    head, _, rest = wkt.partition("(")
+    body, closed, tail = rest.partition(")")
+    try:
+        points = [(float(lon), float(lat)) for lon, lat in (point.split() for point in body.split(","))]
+    except ValueError:
+        points = []
+    if head.strip().upper() != "LINESTRING" or not closed or tail.strip() or len(points) < 2:
+        raise Fault(f"WKT {shown(wkt)} is no line", path, row)
+    return points
+
+
+def wkt_of(points: Iterable[Point]) -> str:
+    """The text of a line through two or more points (lon, lat), to the seventh place."""
+    return "LINESTRING (" + ", ".join(f"{lon:.7f} {lat:.7f}" for lon, lat in points) + ")"
+
+
+def attribution_of(network: StrPath) -> str:
+    """What the comment at the beginning of the network's graph asks to be said; "" where it asks for nothing."""
+    try:
+        with open(Network(network).graph, encoding="utf-8", errors="replace") as file:
+            for line in file:
+                if not line.startswith("c"):
+                    break
+                if line.startswith(ATTRIBUTION_COMMENT):
+                    return line[len(ATTRIBUTION_COMMENT) :].strip()
+    except FileNotFoundError:
+        pass
+    return ""
+
+
+def metres_between(lon_1: float, lat_1: float, lon_2: float, lat_2: float) -> float:
+    """The length of the great circle's arc between two places in degrees."""
+    phi_1, phi_2 = math.radians(lat_1), math.radians(lat_2)
+    half_lat, half_lon = (phi_2 - phi_1) / 2, math.radians(lon_2 - lon_1) / 2
+    square = math.sin(half_lat) ** 2 + math.cos(phi_1) * math.cos(phi_2) * math.sin(half_lon) ** 2
+    return 2 * EARTH_RADIUS * math.asin(math.sqrt(min(1.0, square)))
