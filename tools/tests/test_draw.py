@@ -213,6 +213,13 @@ class BadInput(DrawCase):
         routes = self.write("routes.json", text)
         self.assert_refused("draw", "net", routes, "out.svg", *words, says=f"routes.json{says}")
 
+    def test_a_file_without_a_route(self):
+        self.write("empty", "\n")
+        self.assert_refused("draw", "net", "empty", "out.svg", says="empty: is empty: a step that was to write it has failed")
+        self.write("none", '{"type": "FeatureCollection", "features": []}')
+        said = self.run_tool("draw", "net", "none", "out.svg").stderr
+        self.assertEqual(said, "draw: none has no route: the roads alone are drawn\n")
+
     def test_no_geojson(self):
         self.assert_routes_refused('{"type": "FeatureCollection",\n"features": [,]}', ", row 2: isn't GeoJSON")
         self.assert_routes_refused(f"{json.dumps(EAST)}\n\nroute\n", ", row 3: isn't GeoJSON")
