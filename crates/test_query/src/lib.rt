@@ -19,3 +19,5 @@ mod refused;
 mod routes;
 #[cfg(test)]
 mod searches;
+#[cfg(test)]
+mod several;
