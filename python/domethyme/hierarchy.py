@@ -99,7 +99,7 @@ class Hierarchy:
         except BaseException:
             self._file.close()
             raise
-        self._service = Service(self.program, self._file, timeout)
+        self._service = Service(self.program, self._file, self._name, timeout)
         self._sweeps: "Sweeps | None" = None
         self._sweeps_lock = threading.Lock()
         self._closed = False
