@@ -17,6 +17,7 @@ The columns ends, ref, junction, destination and structure may be missing, and a
     nodes_file(word)             the path that a tool's word NETWORK means to read_nodes: NETWORK.nodes.csv, or a .co file
     write_nodes(file, nodes)     the rows of .nodes.csv
     read_arcs(path)              yields Arcs
+    arcs_of(word)                the arcs that a tool's word NETWORK means: of .arcs.csv, or of X.gr for a DIMACS file X.co
     write_arcs(file, arcs)       the rows of .arcs.csv
     lightest(arcs)               {(start, end): the first arc of the least weight between them}
     points_of(wkt, path, row), wkt_of(points)       [(lon, lat), ..] and back
@@ -30,7 +31,7 @@ import os
 from collections.abc import Iterable, Iterator
 from typing import IO, NamedTuple
 
-from texts import MOST_NODES, dimacs_lines, problem_number
+from texts import MOST_NODES, dimacs_lines, problem_number, read_graph
 from tool import Fault, StrPath, number, reading, shown, table, whole_number
 
 EARTH_RADIUS = 6_371_008.8
@@ -167,6 +168,27 @@ def read_arcs(path: StrPath) -> Iterator[Arc]:
             )
 
 
+def arcs_of(word: StrPath) -> Iterator[Arc]:
+    """The arcs of a tool's word NETWORK: those of its table, or for a DIMACS file X.co those of the graph X.gr as straight
+    lines, without a way, a name and seconds."""
+    if not os.fspath(word).endswith(".co"):
+        yield from read_arcs(Network(word).arcs)
+        return
+    nodes, graph = read_nodes(word), read_graph(Network(os.fspath(word).removesuffix(".co")).graph)
+    if len(nodes.lon) != graph.nodes:
+        raise Fault(f"has {len(nodes.lon)} nodes, and the graph beside it has {graph.nodes}", word)
+    places = list(zip(nodes.lon, nodes.lat))
+    for start, end, weight in zip(graph.starts, graph.ends, graph.weights):
+        line = [places[start - 1], places[end - 1]]
+        yield Arc(start, end, weight, 0.0, metres_between(*line[0], *line[1]), 0, "", "", wkt_of(line))
+
+
+def arcs_file(word: StrPath) -> str:
+    """The file that the arcs of a tool's word NETWORK are read from."""
+    is_dimacs = os.fspath(word).endswith(".co")
+    return Network(os.fspath(word).removesuffix(".co")).graph if is_dimacs else Network(word).arcs
+
+
 def write_arcs(file: IO[str], arcs: Iterable[Arc]) -> None:
     """Writes a .arcs.csv file: seconds to the thousandth, metres to the hundredth."""
     rows = csv.writer(file, lineterminator="\n")
@@ -207,7 +229,7 @@ def wkt_of(points: Iterable[Point]) -> str:
 def attribution_of(network: StrPath) -> str:
     """What the comment at the beginning of the network's graph asks to be said; "" where it asks for nothing."""
     try:
-        with open(Network(network).graph, encoding="utf-8", errors="replace") as file:
+        with open(Network(os.fspath(network).removesuffix(".co")).graph, encoding="utf-8", errors="replace") as file:
             for line in file:
                 if not line.startswith("c"):
                     break

@@ -99,7 +99,7 @@ class Hierarchy:
         except BaseException:
             self._file.close()
             raise
-        self._service = Service(self.program, self._file, timeout)
+        self._service = Service(self.program, self._file, self._name, timeout)
         self._sweeps: "Sweeps | None" = None
         self._sweeps_lock = threading.Lock()
         self._closed = False
@@ -202,12 +202,13 @@ class Hierarchy:
             table = self._swept().lengths(starts, ends)
         return arrays.like_axes(table, sources, targets)
 
-    def nearest(self, lon: Any, lat: Any) -> tuple[Any, Any]:
-        """The node nearest to each place in degrees, or its key, and how many metres away it is along the great circle. Two
-        numbers give a node and a float, two arrays give two arrays. Needs the network, and scipy. Raises ValueError."""
+    def nearest(self, lon: Any, lat: Any, end: bool = False) -> tuple[Any, Any]:
+        """The node nearest to each place in degrees, or its key, and how many metres away it is along the great circle: one
+        where routes begin, or with `end` one where they end, which differ at junctions with turn restrictions. Two numbers
+        give a node and a float, two arrays give two arrays. Needs the network, and scipy. Raises ValueError."""
         if self.network is None:
             raise ValueError("the hierarchy has no network: give Hierarchy the word network=")
-        nodes, metres = self.network.nearest(lon, lat)
+        nodes, metres = self.network.nearest(lon, lat, end)
         if self.keys is None:
             return nodes, metres
         return (self.keys.key(nodes) if isinstance(nodes, int) else self.keys.of(nodes)), metres

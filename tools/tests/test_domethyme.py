@@ -168,6 +168,16 @@ class DomethymeTests(ToolCase):
                 broken.matrix([0, 1], by="sweeps")
         self.assertEqual((hierarchy.nodes, hierarchy.links), (4, (len(whole) - 24 - 16) // 24))
 
+    def test_a_hierarchy_that_the_program_refuses(self):
+        """The head is sound, and a rank stands twice: the program's own line comes with the file's name."""
+        self.square()
+        program = self.write("program", "#!/bin/sh\necho routecli: hierarchy: RankTwice >&2\nexit 4\n")
+        program.chmod(0o755)
+        with domethyme.Hierarchy(self.folder / "square.rch", program) as hierarchy:
+            with self.assertRaisesRegex(domethyme.HierarchyError, r"square.rch: routecli: hierarchy: RankTwice") as caught:
+                hierarchy.length(0, 1)
+        self.assertEqual(caught.exception.status, 4)
+
     def test_one_question_at_a_time(self):
         hierarchy = self.square()
         self.assertEqual([hierarchy.length(0, end) for end in range(4)], [0, 3, 7, None])
