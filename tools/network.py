@@ -42,11 +42,11 @@ ARC_COLUMNS = ("from", "to", "weight", "seconds", "metres", "osm", "highway", "n
 ALL_NODE_COLUMNS = (*NODE_COLUMNS, "ends")
 ALL_ARC_COLUMNS = (*ARC_COLUMNS[:-1], "ref", "junction", "destination", "structure", "WKT")
 WRONG_ENDINGS = {
-    ".co.gz": "is compressed: gunzip it, and name {}.co",
-    ".gr": "is a graph: name the network by the beginning of its files' names, {}, or a file of coordinates, {}.co",
+    ".co.gz": "is compressed: gunzip it, and name {0}.co",
+    ".gr": "is a graph: name the network by the beginning of its files' names, {0}, or a file of coordinates, {0}.co",
     ".rch": "is a hierarchy: name the network by the beginning of its files' names",
-    ".nodes.csv": "name the network by the beginning of its files' names, {}",
-    ".arcs.csv": "name the network by the beginning of its files' names, {}",
+    ".nodes.csv": "name the network by the beginning of its files' names, {0}",
+    ".arcs.csv": "name the network by the beginning of its files' names, {0}",
 }
 ENDS = ("", "from", "to", "no")
 Point = tuple[float, float]
@@ -87,11 +87,16 @@ class Arc(NamedTuple):
     structure: str = ""
 
 
+def refuse_wrong_endings(word: StrPath) -> None:
+    """A Fault where a tool's word NETWORK is one of the files of a network, or another file."""
+    for ending, says in WRONG_ENDINGS.items():
+        if os.fspath(word).endswith(ending):
+            raise Fault(says.format(os.fspath(word).removesuffix(ending)), word)
+
+
 def nodes_file(word: StrPath) -> str:
     """The path of the nodes that a tool's word NETWORK names: a DIMACS .co file, or else the network's .nodes.csv."""
-    for ending in WRONG_ENDINGS:
-        if os.fspath(word).endswith(ending):
-            raise Fault(WRONG_ENDINGS[ending].format(os.fspath(word).removesuffix(ending)), word)
+    refuse_wrong_endings(word)
     return os.fspath(word) if str(word).endswith(".co") else Network(word).nodes
 
 
@@ -172,7 +177,7 @@ def arcs_of(word: StrPath) -> Iterator[Arc]:
     """The arcs of a tool's word NETWORK: those of its table, or for a DIMACS file X.co those of the graph X.gr as straight
     lines, without a way, a name and seconds."""
     if not os.fspath(word).endswith(".co"):
-        yield from read_arcs(Network(word).arcs)
+        yield from read_arcs(arcs_file(word))
         return
     nodes, graph = read_nodes(word), read_graph(Network(os.fspath(word).removesuffix(".co")).graph)
     if len(nodes.lon) != graph.nodes:
@@ -185,6 +190,7 @@ def arcs_of(word: StrPath) -> Iterator[Arc]:
 
 def arcs_file(word: StrPath) -> str:
     """The file that the arcs of a tool's word NETWORK are read from."""
+    refuse_wrong_endings(word)
     is_dimacs = os.fspath(word).endswith(".co")
     return Network(os.fspath(word).removesuffix(".co")).graph if is_dimacs else Network(word).arcs
 

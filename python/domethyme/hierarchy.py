@@ -110,6 +110,10 @@ class Hierarchy:
     def __exit__(self, *_: object) -> None:
         self.close()
 
+    def __del__(self) -> None:
+        if hasattr(self, "_file"):
+            self._file.close()
+
     def __repr__(self) -> str:
         return f"<Hierarchy {self._name} of {self.nodes} nodes and {self.links} links>"
 
@@ -230,7 +234,7 @@ class Hierarchy:
     def _ends(self, name: str, ends: Ends) -> list[tuple[int, int]]:
         """One side of `between`: nodes from 0, and what is added at each."""
         rows = ends.items() if isinstance(ends, Mapping) else [row if is_pair(row) else (row, 0) for row in ends]
-        found = [(self._node(node), int(added)) for node, added in rows]
+        found = [(self._node(node), whole(name, added)) for node, added in rows]
         if not 1 <= len(found) <= MOST_ENDS:
             raise ValueError(f"{name} have to be 1 to {MOST_ENDS} nodes, and are {len(found)}")
         if not all(0 <= added <= MOST_ADDED for _, added in found):
@@ -309,6 +313,14 @@ def network_of(network: "Network | StrPath | None") -> "Network | None":
     from .network import Network
 
     return Network(network)
+
+
+def whole(name: str, added: Any) -> int:
+    """An added length as an int, which it has to be."""
+    try:
+        return int(added.__index__())
+    except AttributeError:
+        raise ValueError(f"the lengths added at {name} have to be whole numbers, and {added!r} is none") from None
 
 
 def is_pair(row: Any) -> bool:

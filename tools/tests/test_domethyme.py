@@ -201,6 +201,7 @@ class DomethymeTests(ToolCase):
         self.assertEqual(hierarchy.between([0, 1, 2], [2]).nodes, [2])
         self.assertIsNone(hierarchy.between([0, 1, 2], [3]))
         for starts, ends, says in [([], [0], "1 to 8"), ([0] * 9, [0], "1 to 8"), ({0: -1}, [0], "from 0 to 4294967295"),
+                                   ({0: 1.5}, [0], "have to be whole numbers"),
                                    ([0], {0: 1 << 32}, "from 0 to 4294967295"), ([7], [0], "nodes 0 to 3")]:
             with self.subTest(says=says), self.assertRaisesRegex(ValueError, says):
                 hierarchy.between(starts, ends)

@@ -187,6 +187,18 @@ class Networks(SharedCase):
     def assert_text_fault(self, read, name, text, says):
         self.assert_fault(f"{self.folder / name}{says}", self.write_and, read, name, text)
 
+    def test_words_that_name_no_network(self):
+        for word, says in [
+            ("li.co.gz", "li.co.gz: is compressed: gunzip it, and name li.co"),
+            ("li.gr", "li.gr: is a graph: name the network by the beginning of its files' names, li, or a file of "
+             "coordinates, li.co"),
+            ("li.rch", "li.rch: is a hierarchy: name the network by the beginning of its files' names"),
+            ("li.nodes.csv", "li.nodes.csv: name the network by the beginning of its files' names, li"),
+            ("li.arcs.csv", "li.arcs.csv: name the network by the beginning of its files' names, li"),
+        ]:
+            self.assert_fault(says, network.nodes_file, word)
+        self.assertEqual([network.nodes_file(word) for word in ("li", "li.co")], ["li.nodes.csv", "li.co"])
+
     def test_nodes_there_and_back(self):
         nodes = network.Nodes([5, None, -7], [-180.0, 0.1234567, 180.0], [-90.0, 0.0, 90.0], ["", "from", "no"])
         with tool.writing(self.folder / "n.nodes.csv") as file:
