@@ -119,7 +119,7 @@ def drop_standard_output() -> None:
 
 @contextlib.contextmanager
 def packages() -> Iterator[None]:
-    """Around imports of Debian's modules: one that is missing ends the tool with one line and status 1. For scripts alone."""
+    """Around imports of Debian's modules, in scripts: one that is missing ends the tool with one line and status 1."""
     try:
         yield
     except ModuleNotFoundError as error:

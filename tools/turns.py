@@ -7,8 +7,8 @@ the graph has
     a node for each set of arcs that a restricted way may go on into; it is passed, and no route begins or ends there
     a node where routes end: an arc for each one that leads to the junction, and none away from it
 
-in the columns `ends` of NETWORK.nodes.csv: `from`, `no` and `to`; other nodes have the empty text. So the graph is one of plain
-nodes, arcs and weights, and its routes keep the restrictions.
+in the columns `ends` of NETWORK.nodes.csv: `from`, `no` and `to`; other nodes have the empty text. So the graph is one of
+plain nodes, arcs and weights, and its routes keep the restrictions.
 
     Restriction(start, via, end, only)      from way `start` by the node `via` into way `end`
     restrictions_of(tags, members, access)  those of a relation, or why it has none
@@ -104,8 +104,8 @@ class Turn(NamedTuple):
 
 
 class Split(NamedTuple):
-    """Junctions that are split: for each arc the nodes in place of its start, and of its end; for each new node the one that
-    it stands beside and what ends there; and the nodes where routes only begin now."""
+    """Junctions that are split: for each arc the nodes in place of its start, and of its end; for each new node the one
+    that it is beside and which ends of routes it has; and the nodes where routes only begin now."""
 
     starts: dict[int, list[int]]
     ends: dict[int, list[int]]

@@ -53,8 +53,8 @@ class Graph:
 
     @classmethod
     def of_keys(cls, sources: Any, targets: Any, weights: "ArrayLike", scale: float | None = None) -> "Graph":
-        """The graph of arcs between keys of any hashable kind: arc i leads from sources[i] to targets[i]. Nodes are numbered
-        in the order in which the keys come first, sources before targets.
+        """The graph of arcs between keys of any hashable kind: arc i leads from sources[i] to targets[i]. Nodes are
+        numbered in the order in which the keys come first, sources before targets.
 
         scale   weights are numbers of any kind, which are multiplied by it and rounded: 1000 makes milliseconds of seconds.
                 Without it they have to be whole numbers.

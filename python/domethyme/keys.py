@@ -38,8 +38,8 @@ class Keys:
 
     @classmethod
     def read(cls, path: "str | os.PathLike[str]", column: str = "osm") -> "Keys":
-        """The keys in a column of a CSV file with a row for each node, in order, as NETWORK.nodes.csv: whole numbers as int,
-        other texts as str, an empty one for no key. A key of several nodes can't be asked for, but that of a junction with
+        """The keys in a column of a CSV file with a row for each node, in order, as NETWORK.nodes.csv: whole numbers as
+        int, other texts as str, an empty one for no key. A key of several nodes can't be asked for, but that of a junction with
         turn restrictions, which is the node where routes begin (the column ends is `from`). Raises NetworkError."""
         keys = cls(())
         try:

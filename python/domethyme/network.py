@@ -1,8 +1,8 @@
 """A network of `osm_to_gr`: where its nodes lie, and the piece of road of each arc. Needs numpy.
 
 A network is files with one beginning of their names, NETWORK: NETWORK.nodes.csv, with the columns node, osm, lon and lat,
-and NETWORK.arcs.csv, with the columns from, to, weight, seconds, metres, osm, highway, name and WKT. At a junction with turn
-restrictions there are several nodes in one place, and the column ends of NETWORK.nodes.csv says where routes begin (from),
+and NETWORK.arcs.csv, with the columns from, to, weight, seconds, metres, osm, highway, name and WKT. At a junction with
+turn restrictions there are several nodes in one place, and the column ends of NETWORK.nodes.csv says where routes begin (from),
 where they end (to), and which are only passed (no); all other nodes have the empty text.
 """
 import csv
@@ -114,7 +114,8 @@ class Network:
             arcs = [self._arc(step) for step in itertools.pairwise(numbers)]
             weight = sum(arc[0] for arc in arcs)
             if weight > length or is_exact and weight != length:
-                raise NetworkError(f"a route has the length {length}, and its arcs' weights in {self.prefix} sum to {weight}")
+                sums = f"its arcs' weights in {self.prefix} sum to {weight}"
+                raise NetworkError(f"a route has the length {length}, and {sums}")
             seconds, metres = round(sum(arc[1] for arc in arcs), 3), round(sum(arc[2] for arc in arcs), 2)
             properties.update(length=length, arcs=len(arcs), seconds=seconds, metres=metres)
             geometry = {"type": "LineString", "coordinates": [list(point) for point in self.line(numbers)]}

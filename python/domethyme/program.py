@@ -35,7 +35,8 @@ def find_program(named: StrPath | None = None) -> str:
 def run_program(program: str, words: list[str]) -> None:
     """Runs the program to its end; raises the error that its status stands for. Its standard input is empty."""
     try:
-        ended = subprocess.run([program, *words], stdin=subprocess.DEVNULL, stdout=subprocess.DEVNULL, stderr=subprocess.PIPE)
+        nothing = subprocess.DEVNULL
+        ended = subprocess.run([program, *words], stdin=nothing, stdout=nothing, stderr=subprocess.PIPE)
     except OSError as error:
         raise ProgramError(f"{program}: {os_reason(error)}") from error
     if ended.returncode != 0:

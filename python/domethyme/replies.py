@@ -40,7 +40,7 @@ def asked(service: Service, kind: bytes, pairs: NDArray[np.int64]) -> Replies:
 
 
 def replies_in(lines: bytes) -> Replies:
-    """The replies of whole lines `r S T LENGTH ARCS NODE ..`, `d S T LENGTH` and `n S T`. Raises the error of a line `e`."""
+    """The replies of whole lines `r S T LENGTH ARCS NODE ..`, `d S T LENGTH`, `n S T`. Raises the error of a line `e`."""
     refuse_errors(lines)
     numbers = np.fromstring(lines.translate(KINDS_AS_NUMBERS), dtype=np.int64, sep=" ")
     signs = np.frombuffer(lines, dtype=np.uint8)

@@ -59,8 +59,8 @@ class Sweeps:
 
     @classmethod
     def read(cls, file: int, name: str) -> "Sweeps":
-        """Of the open file of a hierarchy, version 1 or 2, whose head fits its size. Raises HierarchyError where its ranks or
-        links can't be."""
+        """Of the open file of a hierarchy, version 1 or 2, whose head fits its size. Raises HierarchyError where its ranks
+        or links can't be."""
         data = read_whole(file, os.fstat(file).st_size)
         nodes, links = int.from_bytes(data[4:8], "big"), int.from_bytes(data[8:16], "big")
         ranks = np.frombuffer(data, ">u4", nodes, HEAD_BYTES).astype(np.int64)

@@ -74,7 +74,8 @@ class DomethymeTests(ToolCase):
                 pairs = np.stack(np.meshgrid(np.arange(nodes), np.arange(nodes), indexing="ij"), axis=-1).reshape(-1, 2)
                 least = least_weights(nodes, *ends, weights)
                 self.check(hierarchy.routes(pairs[: 4 * nodes]), pairs[: 4 * nodes], least)
-                self.assertEqual(hierarchy.lengths(pairs[:nodes]).tolist(), hierarchy.routes(pairs[:nodes]).lengths.tolist())
+                lengths = hierarchy.routes(pairs[:nodes]).lengths
+                self.assertEqual(hierarchy.lengths(pairs[:nodes]).tolist(), lengths.tolist())
                 wanted = dijkstra(least)
                 wanted = np.where(np.isinf(wanted), -1, wanted).astype(np.int64)
                 np.testing.assert_array_equal(hierarchy.matrix(np.arange(nodes), by="sweeps"), wanted)

@@ -1,5 +1,5 @@
-"""Tests of how the package domethyme keeps a process of `serve`: one that dies, lies, chatters or never replies, interrupts,
-threads, forks, and an end in order."""
+"""Tests of how the package domethyme keeps a process of `serve`: one that dies, lies, chatters or never replies,
+interrupts, threads, forks, and an end in order."""
 import concurrent.futures
 import os
 import pathlib
@@ -113,7 +113,8 @@ class ServiceTests(ToolCase):
         for attempt in (lambda: hierarchy.length(0, 1), lambda: hierarchy.lengths([[0, 1]]), lambda: hierarchy.matrix([0])):
             with self.assertRaisesRegex(ValueError, "is closed"):
                 attempt()
-        code = "import sys, domethyme; h = domethyme.Hierarchy(*sys.argv[1:]); h.length(0, 1); print(h._service._running.process.pid)"
+        code = "import sys, domethyme; h = domethyme.Hierarchy(*sys.argv[1:]); h.length(0, 1); "
+        code += "print(h._service._running.process.pid)"
         words = [sys.executable, "-c", code, self.folder / "ring.rch", STAND_IN]
         number = int(self.run_program(words, environment={"PYTHONPATH": str(TOOLS.parent / "python")}).stdout)
         end = time.monotonic() + 10
@@ -153,7 +154,8 @@ with domethyme.Hierarchy(*sys.argv[1:], keys="abcdefgh") as hierarchy:
         self.assertEqual(told, "2 ['a', 'b', 'c'] 8\n" + "numpy\n" * 3)
 
     def test_old_scripts_with_tools_on_their_path(self):
-        code = "import sys; sys.path.append(sys.argv[1]); import domethyme; print(domethyme.__file__, domethyme.Fault.__name__)"
+        code = "import sys; sys.path.append(sys.argv[1]); import domethyme; "
+        code += "print(domethyme.__file__, domethyme.Fault.__name__)"
         told = self.run_program([sys.executable, "-c", code, TOOLS]).stdout.split()
         self.assertEqual(told, [str(TOOLS.parent / "python/domethyme/__init__.py"), "DomethymeError"])
 
@@ -164,8 +166,8 @@ class StandInTests(ToolCase):
         serving_program()
         domethyme.write_graph(self.folder / "g.gr", [0, 1], [1, 2], [3, 4], nodes=4)
         domethyme.prepare(self.folder / "g.gr", self.folder / "g.rch", workers=1).close()
-        asked = ["q 1 3", "d 1 3", "q 3 1", "d 3 1", "b 1 5 2 0 : 3 1", "b 3 0 : 1 0", "c", "", "x", "q 1", "d 1 x", "q 1 5",
-                 "d 0 1", "b 1 4294967296 : 1 0", "q " + "1" * 5000]
+        asked = ["q 1 3", "d 1 3", "q 3 1", "d 3 1", "b 1 5 2 0 : 3 1", "b 3 0 : 1 0", "c", "", "x", "q 1", "d 1 x",
+                 "q 1 5", "d 0 1", "b 1 4294967296 : 1 0", "q " + "1" * 5000]
         wanted = ["r 1 3 7 2 1 2 3", "d 1 3 7", "n 3 1", "n 3 1", "r 2 3 5 1 2 3", "n", "c", "c", "e UnknownLine",
                   "e FieldCount", "e NotANumber", "e NodeRange", "e NodeRange", "e WeightTooBig", "e LineTooLong"]
         for program in {str(STAND_IN), serving_program()}:

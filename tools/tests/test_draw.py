@@ -101,7 +101,7 @@ class Picture(DrawCase):
         self.assertAlmostEqual(float(picture.find("./g[@clip-path]/circle").get("cx")), 209.4, delta=0.1)
 
     def test_a_narrow_picture(self):
-        # The legend is below the map, 280 pixels high, with a margin below: a row of 24 and 14, and at 300 pixels two lines.
+        # The legend is below the map, 280 pixels high, with a margin below: a row of 24, and 14.
         picture = self.picture_of(EAST, words=["--width", "500"])
         self.assertEqual((picture.get("width"), picture.get("height")), ("500", "332"))
         self.assertAlmostEqual(float(picture.find("./g[@clip-path]/circle").get("cx")), 130.9, delta=0.1)
@@ -141,7 +141,8 @@ class Picture(DrawCase):
             for width in (200, 300, 500, 1000):
                 for line in (ACROSS, [[0, 0], [0.004, 0]], [[0, 0], [0, 0.004], [0.004, 0.004], [0.004, 0]]):
                     with self.subTest(label=label, width=width, line=line):
-                        self.look_at_legend(self.picture_of(route(label, line), words=["--label", "trip", "--width", width]))
+                        words = ["--label", "trip", "--width", width]
+                        self.look_at_legend(self.picture_of(route(label, line), words=words))
 
     def look_at_legend(self, picture):
         """The legend is in the picture, and its texts in the legend, at 7.8 and 8.8 pixels a letter; no end of a route is
@@ -290,7 +291,8 @@ class BadInput(DrawCase):
 
     def test_a_file_without_a_route(self):
         self.write("empty", "\n")
-        self.assert_refused("draw", "net", "empty", "out.svg", says="empty: is empty: a step that was to write it has failed")
+        says = "empty: is empty: a step that was to write it has failed"
+        self.assert_refused("draw", "net", "empty", "out.svg", says=says)
         self.write("none", '{"type": "FeatureCollection", "features": []}')
         said = self.run_tool("draw", "net", "none", "out.svg").stderr
         self.assertEqual(said, "draw: none has no route: the roads alone are drawn\n")

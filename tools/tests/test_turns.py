@@ -1,4 +1,4 @@
-"""Tests of turn restrictions: a crossing whose figures are reckoned by hand, relations of all kinds, and a search over turns."""
+"""Tests of turn restrictions: a crossing with figures by hand, relations of all kinds, and a search over turns."""
 from tool_case import VILLAGE, ToolCase
 
 from network import read_nodes
