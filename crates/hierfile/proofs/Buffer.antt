@@ -78,9 +78,6 @@ first_eight w h =
     take-add 4 4 w ∙ ap (λ l. l ++ take 4 (drop 4 w)) e ∙ ap (λ l. (get_or w 0 0 ∷ get_or w 1 0 ∷ get_or w 2 0 ∷ get_or w 3 0 ∷ []) ++ l)
     (f ∙ rw (get_or-drop 4 w 0 0, get_or-drop 4 w 1 0, get_or-drop 4 w 2 0, get_or-drop 4 w 3 0) refl)
 
-pub waiting_length : (items : List ℕ) (at end : ℕ) → end ≤ length items → length (drop at (take end items)) ≡ end - at
-waiting_length items at end h = omega (arith, length-drop at (take end items), length-take-le end items h)
-
 pub four_fit : (a b c d : ℕ) → a < 256 → b < 256 → c < 256 → d < 256 → (i : ℕ) → get_or (a ∷ b ∷ c ∷ d ∷ []) i 0 < 256
 four_fit a b c d ha hb hc hd zero = ha
 four_fit a b c d ha hb hc hd (suc zero) = hb

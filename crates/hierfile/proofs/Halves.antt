@@ -7,8 +7,7 @@ use Rattle.ch_graph.specs.declared.link.Link.{Link}
 use Rattle.ch_graph.specs.Hierarchy.{ComesBefore, IsLinkAt}
 use Rattle.hierfile.specs.declared.error.HierError.TheVariants.{HalfMissing, HalfSum}
 use Rattle.hierfile.specs.declared.error.HierError.{HierError}
-use Rattle.hierfile.specs.Fault.{leads, sum_fault, halves_fault, half_fault, first_along, fault_if, ◌otherwise◌}
-use Rattle.std.proofs.Math.Seq.{drop-cons}
+use Rattle.hierfile.specs.Fault.{leads, sum_fault, halves_fault, half_fault, fault_if}
 
 pub leads-from : (x y : ℕ) (l : Link) → l.from ≡ x → l.to ≡ y → leads x y l ≡ true
 leads-from x y l e f = grind (arith, nat_tests)
@@ -71,15 +70,3 @@ module _ (links : List Link) (l : Link) (m : ℕ) (by_way : l.middle ≡ Some m)
       (ap (λ (o : Option Link). sum_fault o (find (leads m l.to) links) l.cost) (find-at l.from m links first d sorted at_first)
       ∙ ap (λ (o : Option Link). sum_fault (Some a) o l.cost) (find-at m l.to links second d sorted at_second)
       ∙ ap (λ (e : Bool). fault_if (not e) HalfSum) (sym is))
-
--- no fault so far, and none of the next link
-pub next_along : (links : List Link) (k : ℕ) (d : Link) → k < length links → half_fault links (get_or links k d) ≡ None → first_along (half_fault links) (drop k links) ≡ first_along (half_fault links) (drop (k + 1) links)
-next_along links k d k< is =
-    let one : suc k ≡ k + 1 = omega arith in
-    ap (first_along (half_fault links)) (drop-cons links k d k<)
-    ∙ ap (λ (o : Option HierError). o otherwise first_along (half_fault links) (drop (suc k) links)) is
-    ∙ ap (λ n. first_along (half_fault links) (drop n links)) one
-
-pub stops_along : (links : List Link) (k : ℕ) (d : Link) (e : HierError) → k < length links → half_fault links (get_or links k d) ≡ Some e → first_along (half_fault links) (drop k links) ≡ Some e
-stops_along links k d e k< is =
-    ap (first_along (half_fault links)) (drop-cons links k d k<) ∙ ap (λ (o : Option HierError). o otherwise first_along (half_fault links) (drop (suc k) links)) is

@@ -28,17 +28,9 @@ pub drop-word : (n : ℕ) (rest : List ℕ) → drop 4 (word n ++ rest) ≡ rest
 unfolding word
 drop-word n rest = refl
 
-pub drop-long : (n : ℕ) (rest : List ℕ) → drop 8 (long n ++ rest) ≡ rest
-unfolding long
-drop-long n rest = refl
-
 pub word_in-word : (n : ℕ) (rest : List ℕ) → n < 2 ^ 32 → word_in (word n ++ rest) ≡ n
 unfolding word word_in
 word_in-word n rest h = from_be_bytes-to_be_bytes_4 n h
-
-pub long_in-long : (n : ℕ) (rest : List ℕ) → n < 2 ^ 64 → long_in (long n ++ rest) ≡ n
-unfolding long long_in
-long_in-long n rest h = from_be_bytes-to_be_bytes_8 n h
 
 middle_in-number : (m : Option ℕ) → IfSome m (λ n. n < 2 ^ 32 - 1) → middle_in (middle_number m) ≡ m
 middle_in-number None h = refl
