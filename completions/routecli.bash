@@ -2,7 +2,7 @@
 
 _routecli() {
     local cur=${COMP_WORDS[COMP_CWORD]}
-    local command='' option='' prefix='' first='' files=0 used=' ' is_over='' options words word i
+    local command='' option='' prefix='' first='' files=0 most=2 used=' ' is_over='' options words word i
 
     # The words before: the command, its files, and the option that waits for its value. `--order=depth` comes as three
     # words, or as one where `=` parts none.
@@ -41,12 +41,13 @@ _routecli() {
 
     options='-h --help' words=
     case $command in
-        '') options+=' -V --version' words='answer prepare route help' ;;
+        '') options+=' -V --version' words='answer prepare route serve help' ;;
         answer | route) ;;
+        serve) most=1 ;;
         prepare) options+=' --workers --seed --order --stint --progress' ;;
         help)
             options=
-            ((files > 0)) || words='answer prepare route help'
+            ((files > 0)) || words='answer prepare route serve help'
             ;;
         *) return ;;
     esac
@@ -54,7 +55,7 @@ _routecli() {
         options=
     elif [[ $cur == -* ]]; then
         words=
-    elif [[ -z $command || $command == help || $files -lt 2 ]]; then
+    elif [[ -z $command || $command == help || $files -lt $most ]]; then
         options=
     fi
     for word in $options; do
@@ -66,7 +67,7 @@ _routecli() {
         words+=' -'
     fi
     mapfile -t COMPREPLY < <(compgen -W "$words" -- "$cur")
-    if [[ $command == @(answer|prepare|route) && $files -lt 2 ]]; then
+    if [[ $command == @(answer|prepare|route|serve) && $files -lt $most ]]; then
         if [[ -z $cur && ${#COMPREPLY[@]} -gt 0 ]]; then
             compopt -o filenames
             mapfile -t -O "${#COMPREPLY[@]}" COMPREPLY < <(compgen -f)

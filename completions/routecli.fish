@@ -32,11 +32,11 @@ function __routecli_is
     test (count $words) -gt 0; and contains -- $words[1] $argv
 end
 
-# Whether the command is one of these, and a word of it is to come: one of two files, or the command that is helped with.
+# Whether the command is one of these, and a word of it is to come: one of its files, or the command that is helped with.
 function __routecli_takes_word
     set -l words (__routecli_words); or return
     test (count $words) -gt 0; and contains -- $words[1] $argv; or return
-    if test $words[1] = help
+    if contains -- $words[1] help serve
         test (count $words) -lt 2
     else
         test (count $words) -lt 3
@@ -63,15 +63,16 @@ complete -c routecli -f
 
 complete -c routecli -n __routecli_has_no_command -s h -l help -d 'Print help'
 complete -c routecli -n __routecli_has_no_command -s V -l version -d 'Print version'
-complete -c routecli -n '__routecli_is answer prepare route' -s h -l help -d 'Print help'
+complete -c routecli -n '__routecli_is answer prepare route serve' -s h -l help -d 'Print help'
 
 set -l commands '__routecli_has_no_command; or __routecli_takes_word help'
 complete -c routecli -n $commands -a answer -d 'Answers pairs of nodes over a small graph'
 complete -c routecli -n $commands -a prepare -d 'Prepares a hierarchy of a graph, by which route answers pairs of nodes'
 complete -c routecli -n $commands -a route -d 'Answers pairs of nodes, as answer does, by a hierarchy that was prepared'
+complete -c routecli -n $commands -a serve -d 'Replies to each line of standard input by a line, by a hierarchy that was prepared'
 complete -c routecli -n $commands -a help -d 'Print this message or the help of the given subcommand(s)'
 
-complete -c routecli -n '__routecli_takes_word answer prepare route' -F
+complete -c routecli -n '__routecli_takes_word answer prepare route serve' -F
 complete -c routecli -n __routecli_takes_input -a - -d 'With - for both files standard input has both texts'
 
 complete -c routecli -n '__routecli_lacks workers' -l workers -x -d 'How many threads contract nodes, 0 to 64'

@@ -3,15 +3,21 @@
 A network is three files with one beginning of their names, NETWORK:
 
     NETWORK.gr          the graph, in the format of docs/FORMATS.md
-    NETWORK.nodes.csv   node, osm, lon, lat: where node 1, 2, .. lies, in degrees; `osm` is empty for a point between
-    NETWORK.arcs.csv    from, to, weight, seconds, metres, osm, highway, name, WKT: a row for each arc of the graph,
-                        in the graph's order; WKT is its line, longitude first
+    NETWORK.nodes.csv   node, osm, lon, lat, ends: where node 1, 2, .. lies, in degrees; `osm` is empty for a point
+                        between; `ends` is empty, or says that routes begin there alone (from), end there alone (to) or
+                        neither (no), as turns.py has it
+    NETWORK.arcs.csv    from, to, weight, seconds, metres, osm, highway, name, ref, junction, destination, structure, WKT:
+                        a row for each arc of the graph, in the graph's order; structure is tunnel, bridge or empty, WKT
+                        its line, longitude first
+
+The columns ends, ref, junction, destination and structure may be missing, and are empty then.
 
     Network(prefix)              `.graph`, `.nodes`, `.arcs`: the paths of its files
-    read_nodes(path)             Nodes(osm, lon, lat): lists, node n at n - 1; of a .nodes.csv or a DIMACS .co file
+    read_nodes(path)             Nodes(osm, lon, lat, ends): lists, node n at n - 1; of a .nodes.csv or a DIMACS .co file
     nodes_file(word)             the path that a tool's word NETWORK means to read_nodes: NETWORK.nodes.csv, or a .co file
     write_nodes(file, nodes)     the rows of .nodes.csv
-    read_arcs(path)              yields Arc(start, end, weight, seconds, metres, osm, highway, name, wkt)
+    read_arcs(path)              yields Arcs
+    arcs_of(word)                the arcs that a tool's word NETWORK means: of .arcs.csv, or of X.gr for a DIMACS file X.co
     write_arcs(file, arcs)       the rows of .arcs.csv
     lightest(arcs)               {(start, end): the first arc of the least weight between them}
     points_of(wkt, path, row), wkt_of(points)       [(lon, lat), ..] and back
@@ -25,7 +31,7 @@ import os
 from collections.abc import Iterable, Iterator
 from typing import IO, NamedTuple
 
-from texts import MOST_NODES, dimacs_lines, problem_number
+from texts import MOST_NODES, dimacs_lines, problem_number, read_graph
 from tool import Fault, StrPath, number, reading, shown, table, whole_number
 
 EARTH_RADIUS = 6_371_008.8
@@ -33,6 +39,16 @@ OSM_ATTRIBUTION = "© OpenStreetMap contributors (ODbL 1.0)"
 ATTRIBUTION_COMMENT = "c attribution: "
 NODE_COLUMNS = ("node", "osm", "lon", "lat")
 ARC_COLUMNS = ("from", "to", "weight", "seconds", "metres", "osm", "highway", "name", "WKT")
+ALL_NODE_COLUMNS = (*NODE_COLUMNS, "ends")
+ALL_ARC_COLUMNS = (*ARC_COLUMNS[:-1], "ref", "junction", "destination", "structure", "WKT")
+WRONG_ENDINGS = {
+    ".co.gz": "is compressed: gunzip it, and name {0}.co",
+    ".gr": "is a graph: name the network by the beginning of its files' names, {0}, or a file of coordinates, {0}.co",
+    ".rch": "is a hierarchy: name the network by the beginning of its files' names",
+    ".nodes.csv": "name the network by the beginning of its files' names, {0}",
+    ".arcs.csv": "name the network by the beginning of its files' names, {0}",
+}
+ENDS = ("", "from", "to", "no")
 Point = tuple[float, float]
 
 
@@ -45,11 +61,12 @@ class Network:
 
 
 class Nodes(NamedTuple):
-    """Node n has its values at n - 1: the id in OpenStreetMap or None, and degrees."""
+    """Node n has its values at n - 1: the id in OpenStreetMap or None, degrees, and which ends of routes it has (ENDS)."""
 
     osm: list[int | None]
     lon: list[float]
     lat: list[float]
+    ends: list[str]
 
 
 class Arc(NamedTuple):
@@ -64,10 +81,22 @@ class Arc(NamedTuple):
     highway: str
     name: str
     wkt: str
+    ref: str = ""
+    junction: str = ""
+    destination: str = ""
+    structure: str = ""
+
+
+def refuse_wrong_endings(word: StrPath) -> None:
+    """A Fault where a tool's word NETWORK is one of the files of a network, or another file."""
+    for ending, says in WRONG_ENDINGS.items():
+        if os.fspath(word).endswith(ending):
+            raise Fault(says.format(os.fspath(word).removesuffix(ending)), word)
 
 
 def nodes_file(word: StrPath) -> str:
     """The path of the nodes that a tool's word NETWORK names: a DIMACS .co file, or else the network's .nodes.csv."""
+    refuse_wrong_endings(word)
     return os.fspath(word) if str(word).endswith(".co") else Network(word).nodes
 
 
@@ -77,7 +106,7 @@ def read_nodes(path: StrPath) -> Nodes:
 
 
 def read_node_table(path: StrPath) -> Nodes:
-    nodes = Nodes([], [], [])
+    nodes = Nodes([], [], [], [])
     with table(path, NODE_COLUMNS) as rows:
         for row, fields in rows:
             expected = len(nodes.lon) + 1
@@ -87,6 +116,9 @@ def read_node_table(path: StrPath) -> Nodes:
             nodes.osm.append(whole_number(osm, "osm", path, row, -(1 << 63), 1 << 63) if osm else None)
             nodes.lon.append(number(fields["lon"], "lon", path, row, -180, 180))
             nodes.lat.append(number(fields["lat"], "lat", path, row, -90, 90))
+            nodes.ends.append(fields.get("ends", ""))
+            if nodes.ends[-1] not in ENDS:
+                raise Fault(f"ends {shown(nodes.ends[-1])} is none of from, to, no", path, row)
     return nodes
 
 
@@ -104,21 +136,23 @@ def read_coordinates(path: StrPath) -> Nodes:
                 lon[place] = whole_number(fields[2], "x", path, row, -180_000_000, 180_000_000) / 1e6
                 lat[place] = whole_number(fields[3], "y", path, row, -90_000_000, 90_000_000) / 1e6
             else:
-                raise Fault("is no line of coordinates", path, row)
+                missing = " before the line `p aux sp co N`" if lon is None else ""
+                raise Fault(f"is no line of coordinates{missing}", path, row)
     if lon is None:
         raise Fault("has no line `p aux sp co N`", path)
     if None in lon:
         raise Fault(f"has no coordinates of node {lon.index(None) + 1}", path)
     places = [(east, north) for east, north in zip(lon, lat) if east is not None and north is not None]
-    return Nodes([None] * len(lon), [east for east, _ in places], [north for _, north in places])
+    lons, lats = [east for east, _ in places], [north for _, north in places]
+    return Nodes([None] * len(lon), lons, lats, [""] * len(lon))
 
 
 def write_nodes(file: IO[str], nodes: Nodes) -> None:
     """Writes a .nodes.csv file: degrees to the seventh place, as OpenStreetMap has them."""
     rows = csv.writer(file, lineterminator="\n")
-    rows.writerow(NODE_COLUMNS)
-    for node, (osm, lon, lat) in enumerate(zip(*nodes), 1):
-        rows.writerow((node, "" if osm is None else osm, f"{lon:.7f}", f"{lat:.7f}"))
+    rows.writerow(ALL_NODE_COLUMNS)
+    for node, (osm, lon, lat, ends) in enumerate(zip(*nodes), 1):
+        rows.writerow((node, "" if osm is None else osm, f"{lon:.7f}", f"{lat:.7f}", ends))
 
 
 def read_arcs(path: StrPath) -> Iterator[Arc]:
@@ -135,16 +169,39 @@ def read_arcs(path: StrPath) -> Iterator[Arc]:
                 fields["highway"],
                 fields["name"],
                 fields["WKT"],
+                *(fields.get(name, "") for name in ("ref", "junction", "destination", "structure")),
             )
+
+
+def arcs_of(word: StrPath) -> Iterator[Arc]:
+    """The arcs of a tool's word NETWORK: those of its table, or for a DIMACS file X.co those of the graph X.gr as straight
+    lines, without a way, a name and seconds."""
+    if not os.fspath(word).endswith(".co"):
+        yield from read_arcs(arcs_file(word))
+        return
+    nodes, graph = read_nodes(word), read_graph(Network(os.fspath(word).removesuffix(".co")).graph)
+    if len(nodes.lon) != graph.nodes:
+        raise Fault(f"has {len(nodes.lon)} nodes, and the graph beside it has {graph.nodes}", word)
+    places = list(zip(nodes.lon, nodes.lat))
+    for start, end, weight in zip(graph.starts, graph.ends, graph.weights):
+        line = [places[start - 1], places[end - 1]]
+        yield Arc(start, end, weight, 0.0, metres_between(*line[0], *line[1]), 0, "", "", wkt_of(line))
+
+
+def arcs_file(word: StrPath) -> str:
+    """The file that the arcs of a tool's word NETWORK are read from."""
+    refuse_wrong_endings(word)
+    is_dimacs = os.fspath(word).endswith(".co")
+    return Network(os.fspath(word).removesuffix(".co")).graph if is_dimacs else Network(word).arcs
 
 
 def write_arcs(file: IO[str], arcs: Iterable[Arc]) -> None:
     """Writes a .arcs.csv file: seconds to the thousandth, metres to the hundredth."""
     rows = csv.writer(file, lineterminator="\n")
-    rows.writerow(ARC_COLUMNS)
+    rows.writerow(ALL_ARC_COLUMNS)
     for arc in arcs:
         figures = f"{arc.seconds:.3f}", f"{arc.metres:.2f}"
-        rows.writerow((*arc[:3], *figures, *arc[5:]))
+        rows.writerow((*arc[:3], *figures, *arc[5:8], *arc[9:], arc.wkt))
 
 
 def lightest(arcs: Iterable[Arc]) -> dict[tuple[int, int], Arc]:
@@ -178,7 +235,7 @@ def wkt_of(points: Iterable[Point]) -> str:
 def attribution_of(network: StrPath) -> str:
     """What the comment at the beginning of the network's graph asks to be said; "" where it asks for nothing."""
     try:
-        with open(Network(network).graph, encoding="utf-8", errors="replace") as file:
+        with open(Network(os.fspath(network).removesuffix(".co")).graph, encoding="utf-8", errors="replace") as file:
             for line in file:
                 if not line.startswith("c"):
                     break

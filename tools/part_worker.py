@@ -11,6 +11,8 @@ this file. So the module stands alone, on Python's own library, and what it take
     answer(task, text, size, answers)  answers a part: (status, line, bytes), as it says there
     stop_all()                         ends the programs that run in this process, and lets none begin
 """
+from __future__ import annotations
+
 import asyncio
 import contextlib
 import functools
@@ -20,25 +22,30 @@ import subprocess
 import threading
 import time
 import uuid
+from collections.abc import Callable, Iterator
+from typing import Any, Union
+
+Task = dict[str, Any]
+Result = tuple[int, Union[str, None], int]
 
 ATTEMPTS = 3
 PATIENCE = 120
 
 
-def task(program, hierarchy, drafts):
+def task(program: str, hierarchy: str, drafts: str) -> Task:
     """The task of a run, with the digests of its files as they are on this machine; an OSError where one can't be read."""
     digests = {path: digest(path) for path in (program, hierarchy)}
     return {"program": program, "hierarchy": hierarchy, "digests": digests, "drafts": drafts}
 
 
-def digest(path):
+def digest(path: str) -> str:
     """The sha256 of a file, which is read again only where the file system tells that it has changed."""
     found = os.stat(path)
     return digest_of(path, (found.st_dev, found.st_ino, found.st_size, found.st_mtime_ns))
 
 
 @functools.lru_cache(maxsize=64)
-def digest_of(path, _signature):
+def digest_of(path: str, _signature: object) -> str:
     with open(path, "rb") as file:
         return hashlib.file_digest(file, "sha256").hexdigest()
 
@@ -46,19 +53,19 @@ def digest_of(path, _signature):
 # What has to be so on a worker's machine
 
 
-def trouble_here(task):
+def trouble_here(task: Task) -> str | None:
     """Why this machine can't take part in the run, as one line, or None."""
     if not comes_true(lambda: os.path.isdir(task["drafts"])):
         return f"{task['drafts']} isn't there: the folder of OUT has to be one that all machines share"
     return wrong_file(task)
 
 
-async def trouble_apart(task):
+async def trouble_apart(task: Task) -> str | None:
     """As `trouble_here`, for a Dask worker, whose loop goes on meanwhile."""
     return await asyncio.to_thread(trouble_here, task)
 
 
-def wrong_file(task):
+def wrong_file(task: Task) -> str | None:
     """Which of the task's files is missing here, or another one, as one line, or None."""
     for path, wanted in task["digests"].items():
         try:
@@ -71,14 +78,14 @@ def wrong_file(task):
     return None
 
 
-def missing_text(path, size):
+def missing_text(path: str, size: int) -> str | None:
     """Whether no file of so many bytes comes to stand at the path, as one line, or None."""
     if comes_true(lambda: has_size(path, size)):
         return None
     return f"{path} isn't there with its {size} bytes"
 
 
-def comes_true(is_so):
+def comes_true(is_so: Callable[[], bool]) -> bool:
     """Whether it is so now or soon: what another machine wrote may be seen only a minute later."""
     end, pause = time.monotonic() + PATIENCE, 0.01
     while not is_so():
@@ -89,7 +96,7 @@ def comes_true(is_so):
     return True
 
 
-def has_size(path, size):
+def has_size(path: str, size: int) -> bool:
     """Whether a file of so many bytes stands at the path."""
     try:
         return os.stat(path).st_size == size
@@ -100,7 +107,7 @@ def has_size(path, size):
 # Answers
 
 
-def answer(task, text, size, answers):
+def answer(task: Task, text: str, size: int, answers: str) -> Result:
     """Answers the part whose pairs are the file `text`, of `size` bytes, into the file `answers`. Gives
 
     (0, None, BYTES)       done: the file of answers stands there, whole, with so many bytes
@@ -125,7 +132,7 @@ def answer(task, text, size, answers):
         return 1, f"{error.filename}: {error.strerror}" if error.filename else str(error), 0
 
 
-def answer_apart(task, text, size, answers):
+def answer_apart(task: Task, text: str, size: int, answers: str) -> Result:
     """As `answer`, by a Dask worker, whose name then stands before a line that isn't the program's."""
     from distributed import get_worker
 
@@ -134,7 +141,7 @@ def answer_apart(task, text, size, answers):
 
 
 @contextlib.contextmanager
-def draft_in(folder):
+def draft_in(folder: str) -> Iterator[str]:
     """A path for a file of this one attempt: a program that lost its worker may still write to its own."""
     path = os.path.join(folder, uuid.uuid4().hex)
     try:
@@ -144,7 +151,7 @@ def draft_in(folder):
             os.unlink(path)
 
 
-def run_program(task, text, draft):
+def run_program(task: Task, text: str, draft: str) -> tuple[int, str]:
     """Runs the program, its output into a new file: the status, negative for a signal, and what it said."""
     words = [task["program"], "route", task["hierarchy"], text]
     with open(draft, "xb") as output:
@@ -154,7 +161,7 @@ def run_program(task, text, draft):
     return child.returncode, " ".join(said.split())
 
 
-def finish(task, draft, answers):
+def finish(task: Task, draft: str, answers: str) -> Result:
     """Gives the draft its name, unless the files of the task have changed meanwhile; what `answer` gives then."""
     trouble = wrong_file(task)
     if trouble is not None:
@@ -164,7 +171,7 @@ def finish(task, draft, answers):
     return 0, None, count
 
 
-def refusal(program, status, said):
+def refusal(program: str, status: int, said: str) -> Result:
     """What `answer` gives for a program that ended with a status other than 0."""
     if status < 0:
         return 1, f"{program} was ended by signal {-status}", 0
@@ -181,7 +188,7 @@ children_lock = threading.Lock()
 
 
 @contextlib.contextmanager
-def child_of(words, **streams):
+def child_of(words: list[str], **streams: Any) -> Iterator["subprocess.Popen[bytes]"]:
     """A program that runs while the block does, and that `stop_all` ends. It isn't in the group of the terminal, so an
     interrupt comes to this process alone."""
     with children_lock:
@@ -198,7 +205,7 @@ def child_of(words, **streams):
         child.wait()
 
 
-def stop_all():
+def stop_all() -> None:
     """Ends the programs that run in this process; those that would begin are ended too."""
     with children_lock:
         stopping.set()

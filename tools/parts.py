@@ -15,6 +15,8 @@ Other files in it are left alone, and with them the folder.
     opened(out, anew)   with-block: the Folder of OUT, which no other run has meanwhile
     spool(path, to)     the Survey of a text of pairs, which it copies
 """
+from __future__ import annotations
+
 import contextlib
 import errno
 import fcntl
@@ -27,6 +29,8 @@ import shutil
 import socket
 import typing
 import uuid
+from collections.abc import Callable, Iterable, Iterator
+from typing import IO, Any
 
 from texts import MOST_LINES
 from tool import Fault, reading, remove_if_there, writing
@@ -49,7 +53,7 @@ class Survey(typing.NamedTuple):
     pairs: int | None
 
 
-def spool(path, to):
+def spool(path: str, to: str) -> Survey:
     """Copies the text of pairs (`-` is standard input) to the new file `to`, and gives its Survey."""
     digest, kinds = hashlib.sha256(), KindsOfLines()
     with reading(path) as text, open(to, "xb") as copy:
@@ -63,10 +67,11 @@ def spool(path, to):
 class KindsOfLines:
     """Counts the lines of a text of pairs by their kinds."""
 
-    def __init__(self):
-        self.announced, self.found, self.is_sound = None, 0, True
+    def __init__(self) -> None:
+        self.announced: int | None = None
+        self.found, self.is_sound = 0, True
 
-    def take(self, line):
+    def take(self, line: bytes) -> None:
         """Counts the next line."""
         if is_pair(line):
             self.found += 1
@@ -78,17 +83,17 @@ class KindsOfLines:
             self.announced = number_announced(fields)
             self.is_sound = self.is_sound and is_first and self.announced is not None
 
-    def pairs(self):
+    def pairs(self) -> int | None:
         """The number of pairs where all lines are in order, and else None."""
         return self.found if self.is_sound and self.found == self.announced else None
 
 
-def is_pair(line):
+def is_pair(line: bytes) -> bool:
     """Whether the line has the kind of a pair: its first field is `q`."""
     return line.startswith(b"q ") or fields_of(line)[:1] == [b"q"]
 
 
-def number_announced(fields):
+def number_announced(fields: list[bytes]) -> int | None:
     """The number of a problem line's fields; None where they are no problem line, or one that is refused."""
     digits = re.fullmatch(b"0*([0-9]{1,9})", fields[-1])
     if fields[:-1] != PROBLEM_WORDS or digits is None or int(digits[1]) > MOST_LINES:
@@ -96,13 +101,13 @@ def number_announced(fields):
     return int(digits[1])
 
 
-def fields_of(line):
+def fields_of(line: bytes) -> list[bytes]:
     """The fields of a line by docs/FORMATS.md: one carriage return at its end is dropped, spaces and tabs part them."""
     line = line.removesuffix(b"\n").removesuffix(b"\r")
     return [field for field in BLANKS.split(line) if field]
 
 
-def texts_of_parts(lines, size):
+def texts_of_parts(lines: Iterable[bytes], size: int) -> Iterator[tuple[int, bytes]]:
     """Of a text of pairs that is in order: the number of pairs and the text of each part."""
     pairs = filter(is_pair, lines)
     part = list(itertools.islice(pairs, size))
@@ -125,7 +130,7 @@ class Plan(typing.NamedTuple):
     part: int
     parts: list
 
-    def difference(self, other):
+    def difference(self, other: "Plan") -> str | None:
         """In words, the first thing that the plans don't have in common; None where they are of the same parts."""
         words = ["HIERARCHY", "program", "PAIRS", "--part"]
         return next((word for word, one, two in zip(words, self, other) if one != two), None)
@@ -134,30 +139,30 @@ class Plan(typing.NamedTuple):
 class Folder:
     """The folder OUT.parts: paths, and what is done to the folder as a whole."""
 
-    def __init__(self, out):
+    def __init__(self, out: str) -> None:
         self.path = os.path.realpath(out) + ".parts"
         self.lock, self.plan_file, self.whole = self.at("lock"), self.at("plan.json"), self.at("whole.pairs")
         self.drafts = self.at(f"drafts-{uuid.uuid4().hex}")
 
-    def at(self, name):
+    def at(self, name: str) -> str:
         return os.path.join(self.path, name)
 
-    def text(self, part):
+    def text(self, part: int) -> str:
         return self.at(f"{part:06}.pairs")
 
-    def answers(self, part):
+    def answers(self, part: int) -> str:
         return self.at(f"{part:06}.answers")
 
-    def is_answered(self, part):
+    def is_answered(self, part: int) -> bool:
         return os.path.exists(self.answers(part))
 
-    def clear(self):
+    def clear(self) -> None:
         """Removes what a run has made but the lock; drafts first, so that nothing comes out of them any more."""
         names = [name for name in os.listdir(self.path) if NAMES.fullmatch(name)]
         for name in sorted(names, key=lambda name: (not name.startswith("drafts-"), name != "plan.json")):
             self.remove(name)
 
-    def remove(self, name):
+    def remove(self, name: str) -> None:
         """Removes a file or folder of drafts; a folder by another name, since a worker may still have to do with it."""
         path = self.at(name)
         if os.path.isdir(path):
@@ -167,7 +172,7 @@ class Folder:
         else:
             remove_if_there(path)
 
-    def begin(self, anew):
+    def begin(self, anew: bool) -> None:
         """Removes the drafts of older runs, and all where there is no plan or it begins anew; makes a folder of drafts."""
         if anew or not os.path.exists(self.plan_file):
             self.clear()
@@ -176,11 +181,11 @@ class Folder:
                 self.remove(name)
         os.mkdir(self.drafts)
 
-    def forget(self):
+    def forget(self) -> None:
         """Drops the plan, and with it all that `end` then finds here."""
         remove_if_there(self.plan_file)
 
-    def end(self):
+    def end(self) -> None:
         """Removes this run's drafts, and the whole folder where there is no plan: without one nothing is worth keeping."""
         if os.path.exists(self.drafts):
             self.remove(os.path.basename(self.drafts))
@@ -190,7 +195,7 @@ class Folder:
             with contextlib.suppress(OSError):
                 os.rmdir(self.path)
 
-    def kept_plan(self):
+    def kept_plan(self) -> Plan | None:
         """The plan of an earlier call, or None."""
         try:
             with open(self.plan_file, encoding="utf-8") as file:
@@ -200,7 +205,7 @@ class Folder:
         except (ValueError, TypeError) as error:
             raise Fault("is no plan of route_many: --anew drops it", self.plan_file) from error
 
-    def cut(self, plan, spooled):
+    def cut(self, plan: Plan, spooled: str) -> Plan:
         """Cuts the spooled text by the plan; gives the plan with its parts, which is then kept."""
         os.replace(spooled, self.whole)
         parts = []
@@ -214,7 +219,7 @@ class Folder:
             json.dump(plan._asdict(), file)
         return plan
 
-    def join(self, plan, file, progress):
+    def join(self, plan: Plan, file: IO[Any], progress: Callable[[int], object]) -> None:
         """Writes the answers of all parts, in order; `progress` is called with each number of bytes."""
         for number, (pairs, _) in enumerate(plan.parts):
             lines = 0
@@ -229,7 +234,7 @@ class Folder:
 
 
 @contextlib.contextmanager
-def opened(out, anew):
+def opened(out: str, anew: bool) -> Iterator[Folder]:
     """The Folder of OUT, locked; a Fault where another run has it. Where it begins anew, nothing is left in it."""
     folder = Folder(out)
     with locked(folder, out):
@@ -241,7 +246,7 @@ def opened(out, anew):
 
 
 @contextlib.contextmanager
-def locked(folder, out):
+def locked(folder: Folder, out: str) -> Iterator[None]:
     """Holds the folder's lock, which says who has it, and makes the folder where it isn't there."""
     while True:
         with contextlib.suppress(FileExistsError):
@@ -259,7 +264,7 @@ def locked(folder, out):
                 return
 
 
-def take_lock(lock, out):
+def take_lock(lock: IO[str], out: str) -> None:
     """Locks the open file, or raises a Fault that says who has it."""
     try:
         fcntl.flock(lock, fcntl.LOCK_EX | fcntl.LOCK_NB)
@@ -270,7 +275,7 @@ def take_lock(lock, out):
         raise Fault(f"another run works on it: {lock.read().strip()}", out) from error
 
 
-def is_at(file, path):
+def is_at(file: IO[str], path: str) -> bool:
     """Whether the open file still stands at the path: a run that ends removes its lock."""
     try:
         return os.path.samestat(os.fstat(file.fileno()), os.stat(path))

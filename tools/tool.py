@@ -28,6 +28,7 @@ This module needs nothing but Python's own library and the package domethyme, wh
 import argparse
 import contextlib
 import csv
+import errno
 import io
 import math
 import os
@@ -48,6 +49,7 @@ StrPath = Union[str, "os.PathLike[str]"]
 
 ROOT = pathlib.Path(__file__).resolve().parent.parent
 HEAVIEST = (1 << 32) - 1
+MOST_COLUMNS = 12
 DIGITS, BYTES_OF_DIGITS = re.compile("[-+]?[0-9]{1,4000}"), re.compile(b"[-+]?[0-9]{1,4000}")
 
 
@@ -161,18 +163,29 @@ def writing(path: StrPath, mode: str = "w") -> Iterator[IO[Any]]:
         yield sys.stdout if mode == "w" else sys.stdout.buffer  # type: ignore[misc]
         sys.stdout.flush()
     elif is_straight(path):
-        with open(path, mode, **text_form(mode)) as file:
+        with named_faults(path), open(path, mode, **text_form(mode)) as file:
             yield file
     else:
-        with files_beside([path], mode) as (file,):
+        with named_faults(path), files_beside([path], mode) as (file,):
             yield file
 
 
 @contextlib.contextmanager
 def whole_files(*paths: StrPath) -> Iterator[list[IO[Any]]]:
     """Files of text to write: all whole after the block, or all as they were where it ends by an exception."""
-    with files_beside(paths, "w") as files:
+    with named_faults(*paths), files_beside(paths, "w") as files:
         yield files
+
+
+@contextlib.contextmanager
+def named_faults(*paths: StrPath) -> Iterator[None]:
+    """A failed write in the block, as on a full disk, is told with the names of its files."""
+    try:
+        yield
+    except OSError as error:
+        if error.filename is None and error.errno in (errno.ENOSPC, errno.EDQUOT, errno.EFBIG, errno.EIO):
+            raise Fault(error.strerror or str(error), ", ".join(os.fspath(path) for path in paths)) from error
+        raise
 
 
 def is_straight(path: StrPath) -> bool:
@@ -288,8 +301,7 @@ class Table:
         self.columns = self.next_record() or []
         for name in needed:
             if self.columns.count(name) != 1:
-                problem = "has no column" if name not in self.columns else "has two columns"
-                raise Fault(f"{problem} {name}", path, 1)
+                raise Fault(wrong_column(name, self.columns), path, 1)
 
     def __iter__(self) -> Iterator[tuple[int, dict[str, str]]]:
         while (record := self.next_record()) is not None:
@@ -306,6 +318,19 @@ class Table:
             return next(self.reader, None)
         except csv.Error as error:
             raise Fault(f"isn't CSV: {error}", self.path, self.reader.line_num) from error
+
+
+def wrong_column(name: str, columns: list[str]) -> str:
+    """What is wrong where a column isn't there once."""
+    if name in columns:
+        return f"has two columns {name}"
+    found = ", ".join(columns[:MOST_COLUMNS]) + ", ..." * (len(columns) > MOST_COLUMNS)
+    doubt = ""
+    if len(columns) == 1 and (";" in columns[0] or "\t" in columns[0]):
+        doubt = ": fields have to be parted by commas"
+    elif name in map(str.strip, columns):
+        doubt = f": there is a blank beside {name}"
+    return f"has no column {name}; its columns are {found}{doubt}" if columns else f"has no column {name}"
 
 
 @contextlib.contextmanager
@@ -345,7 +370,9 @@ def number(
         value = float(text)
     except ValueError as error:
         raise Fault(f"{what} {shown(text)} is no number", path, row) from error
-    if not (math.isfinite(value) and low <= value <= high):
+    if not math.isfinite(value):
+        raise Fault(f"{what} {shown(text)} is no finite number", path, row)
+    if not low <= value <= high:
         raise Fault(f"{what} {shown(text)} isn't from {low:g} to {high:g}", path, row)
     return value
 

@@ -92,11 +92,14 @@ KINDS: dict[int, type[DomethymeError]] = {
 }
 
 
-def error_of(status: int, said: bytes) -> DomethymeError:
-    """The error for a run of the program that ended with a status other than 0 and wrote `said` to standard error."""
+def error_of(status: int, said: bytes, file: str = "") -> DomethymeError:
+    """The error for a run of the program that ended with a status other than 0 and wrote `said` to standard error; one of a
+    hierarchy's file begins with the name of the file, where it is given."""
     if status < 0:
         return ProgramStopped(f"routecli was ended by signal {-status}")
     line = " ".join(said.decode("utf-8", "replace").split())
+    if file and line and KINDS.get(status) is HierarchyError:
+        line = f"{file}: {line}"
     return KINDS.get(status, ProgramError)(line or f"routecli ended with status {status}", status)
 
 

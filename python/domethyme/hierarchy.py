@@ -99,7 +99,7 @@ class Hierarchy:
         except BaseException:
             self._file.close()
             raise
-        self._service = Service(self.program, self._file, timeout)
+        self._service = Service(self.program, self._file, self._name, timeout)
         self._sweeps: "Sweeps | None" = None
         self._sweeps_lock = threading.Lock()
         self._closed = False
@@ -109,6 +109,10 @@ class Hierarchy:
 
     def __exit__(self, *_: object) -> None:
         self.close()
+
+    def __del__(self) -> None:
+        if hasattr(self, "_file"):
+            self._file.close()
 
     def __repr__(self) -> str:
         return f"<Hierarchy {self._name} of {self.nodes} nodes and {self.links} links>"
@@ -202,12 +206,13 @@ class Hierarchy:
             table = self._swept().lengths(starts, ends)
         return arrays.like_axes(table, sources, targets)
 
-    def nearest(self, lon: Any, lat: Any) -> tuple[Any, Any]:
-        """The node nearest to each place in degrees, or its key, and how many metres away it is along the great circle. Two
-        numbers give a node and a float, two arrays give two arrays. Needs the network, and scipy. Raises ValueError."""
+    def nearest(self, lon: Any, lat: Any, end: bool = False) -> tuple[Any, Any]:
+        """The node nearest to each place in degrees, or its key, and how many metres away it is along the great circle: one
+        where routes begin, or with `end` one where they end, which differ at junctions with turn restrictions. Two numbers
+        give a node and a float, two arrays give two arrays. Needs the network, and scipy. Raises ValueError."""
         if self.network is None:
             raise ValueError("the hierarchy has no network: give Hierarchy the word network=")
-        nodes, metres = self.network.nearest(lon, lat)
+        nodes, metres = self.network.nearest(lon, lat, end)
         if self.keys is None:
             return nodes, metres
         return (self.keys.key(nodes) if isinstance(nodes, int) else self.keys.of(nodes)), metres
@@ -229,7 +234,7 @@ class Hierarchy:
     def _ends(self, name: str, ends: Ends) -> list[tuple[int, int]]:
         """One side of `between`: nodes from 0, and what is added at each."""
         rows = ends.items() if isinstance(ends, Mapping) else [row if is_pair(row) else (row, 0) for row in ends]
-        found = [(self._node(node), int(added)) for node, added in rows]
+        found = [(self._node(node), whole(name, added)) for node, added in rows]
         if not 1 <= len(found) <= MOST_ENDS:
             raise ValueError(f"{name} have to be 1 to {MOST_ENDS} nodes, and are {len(found)}")
         if not all(0 <= added <= MOST_ADDED for _, added in found):
@@ -308,6 +313,14 @@ def network_of(network: "Network | StrPath | None") -> "Network | None":
     from .network import Network
 
     return Network(network)
+
+
+def whole(name: str, added: Any) -> int:
+    """An added length as an int, which it has to be."""
+    try:
+        return int(added.__index__())
+    except AttributeError:
+        raise ValueError(f"the lengths added at {name} have to be whole numbers, and {added!r} is none") from None
 
 
 def is_pair(row: Any) -> bool:

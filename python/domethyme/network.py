@@ -1,7 +1,9 @@
 """A network of `osm_to_gr`: where its nodes lie, and the piece of road of each arc. Needs numpy.
 
 A network is files with one beginning of their names, NETWORK: NETWORK.nodes.csv, with the columns node, osm, lon and lat,
-and NETWORK.arcs.csv, with the columns from, to, weight, seconds, metres, osm, highway, name and WKT.
+and NETWORK.arcs.csv, with the columns from, to, weight, seconds, metres, osm, highway, name and WKT. At a junction with turn
+restrictions there are several nodes in one place, and the column ends of NETWORK.nodes.csv says where routes begin (from),
+where they end (to), and which are only passed (no); all other nodes have the empty text.
 """
 import csv
 import functools
@@ -70,16 +72,19 @@ class Network:
         frame = pandas.read_csv(f"{self.prefix}.arcs.csv", keep_default_na=False)
         return frame.assign(**{end: frame[end] - 1 for end in ("from", "to")})
 
-    def nearest(self, lon: ArrayLike, lat: ArrayLike) -> tuple[Any, Any]:
+    def nearest(self, lon: ArrayLike, lat: ArrayLike, end: bool = False) -> tuple[Any, Any]:
         """The node nearest to each place, from 0, and how many metres away it is along the great circle, on a sphere of
-        6,371,008.8 m. Two numbers give an int and a float, two arrays of one shape give two arrays of that shape. Needs
-        scipy. Raises ValueError for what are no degrees."""
+        6,371,008.8 m: of those where routes may begin, or with `end` of those where they may end, which differ at junctions
+        with turn restrictions. Two numbers give an int and a float, two arrays of one shape give two arrays of that shape.
+        Needs scipy. Raises ValueError for what are no degrees."""
         east, north = np.broadcast_arrays(np.asarray(lon, float), np.asarray(lat, float))
         if not (np.isfinite(east).all() and np.isfinite(north).all()):
             raise ValueError("lon and lat have to be numbers of degrees")
         if (np.abs(east) > 180).any() or (np.abs(north) > 90).any():
             raise ValueError("lon has to be from -180 to 180 and lat from -90 to 90: are they in each other's place?")
-        chords, nodes = self._tree.query(on_sphere(east.ravel(), north.ravel()))
+        numbers, tree = self._ends if end else self._begins
+        chords, found = tree.query(on_sphere(east.ravel(), north.ravel()))
+        nodes = numbers[found]
         metres = 2 * EARTH_RADIUS * np.arcsin(np.minimum(1, chords / 2))
         if east.ndim == 0:
             return int(nodes[0]), float(metres[0])
@@ -133,24 +138,35 @@ class Network:
         return {}
 
     @functools.cached_property
-    def _places(self) -> tuple[Floats, Floats]:
+    def _places(self) -> tuple[Floats, Floats, list[str]]:
         path = f"{self.prefix}.nodes.csv"
         lon: list[float] = []
         lat: list[float] = []
+        ends: list[str] = []
         for row, fields in rows_of(path, NODE_COLUMNS):
             if fields["node"] != str(len(lon) + 1):
                 raise NetworkError(f"{path}, row {row}: has node {fields['node']!r} where node {len(lon) + 1} comes next")
             lon.append(number(fields, "lon", path, row))
             lat.append(number(fields, "lat", path, row))
-        return np.array(lon), np.array(lat)
+            ends.append(fields.get("ends", ""))
+        return np.array(lon), np.array(lat), ends
 
     @functools.cached_property
-    def _tree(self) -> Any:
+    def _begins(self) -> tuple[NDArray[np.int64], Any]:
+        return self._side("from")
+
+    @functools.cached_property
+    def _ends(self) -> tuple[NDArray[np.int64], Any]:
+        return self._side("to")
+
+    def _side(self, side: str) -> tuple[NDArray[np.int64], Any]:
+        """The nodes where routes may begin (from) or end (to), and a tree of their places."""
         from scipy.spatial import KDTree
 
-        if not len(self.lon):
+        chosen = np.array([node for node, ends in enumerate(self._places[2]) if ends in ("", side)], dtype=np.int64)
+        if not len(chosen):
             raise NetworkError(f"{self.prefix}.nodes.csv: has no nodes")
-        return KDTree(on_sphere(self.lon, self.lat))
+        return chosen, KDTree(on_sphere(self.lon[chosen], self.lat[chosen]))
 
     @functools.cached_property
     def _arcs(self) -> dict[tuple[int, int], tuple[int, float, float, str]]:

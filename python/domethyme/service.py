@@ -42,10 +42,10 @@ class Service:
     exception, such as an interrupt or NoAnswer, the process is killed, since replies to that call would follow.
     """
 
-    def __init__(self, program: str, file: IO[bytes], timeout: float | None = None) -> None:
-        """`file` is an open regular file: each process reads that one, whatever has taken its name since. `timeout` is in
-        seconds, for each wait for more of a reply; None waits for ever."""
-        self.program, self.file, self.timeout = program, file, timeout
+    def __init__(self, program: str, file: IO[bytes], name: str, timeout: float | None = None) -> None:
+        """`file` is an open regular file: each process reads that one, whatever has taken its name since; messages call it
+        `name`. `timeout` is in seconds, for each wait for more of a reply; None waits for ever."""
+        self.program, self.file, self.name, self.timeout = program, file, name, timeout
         self._lock = threading.Lock()
         self._running: Running | None = None
         self._end: Callable[[], object] | None = None
@@ -129,7 +129,7 @@ class Service:
             raise
         if words[:1] != [b"ready"] or len(words) < 3:
             self._end = None
-            raise refusal_of(process, self.program)
+            raise refusal_of(process, self.program, self.name)
         requests, replies = process.stdin.fileno(), process.stdout.fileno()
         os.set_blocking(requests, False)
         for pipe in (requests, replies):
@@ -141,7 +141,7 @@ class Service:
     def _bury(self, running: Running, attempt: int) -> None:
         """Forgets a process that has ended. Raises its refusal where it gave one, or ProgramStopped at the last attempt."""
         self._running = self._end = None
-        fault = refusal_of(running.process, self.program)
+        fault = refusal_of(running.process, self.program, self.name)
         if attempt + 1 == ATTEMPTS or not isinstance(fault, ProgramError):
             raise fault
 
@@ -223,7 +223,7 @@ def started(program: str, file: int) -> subprocess.Popen[bytes]:
         raise ProgramError(f"{program}: {os_reason(error)}") from error
 
 
-def refusal_of(process: subprocess.Popen[bytes], program: str) -> Exception:
+def refusal_of(process: subprocess.Popen[bytes], program: str, file: str) -> Exception:
     """The error for a process that has ended or that gave no first line, by its status and what it said."""
     assert process.stdin is not None and process.stdout is not None and process.stderr is not None
     process.stdin.close()
@@ -235,7 +235,7 @@ def refusal_of(process: subprocess.Popen[bytes], program: str) -> Exception:
         return ProgramError(f"{program} has no command `serve`: it is too old for this package", 2)
     if status == 0:
         return ProgramStopped(f"{program} serve has ended by itself")
-    return error_of(status, said)
+    return error_of(status, said, file)
 
 
 def after_lines(text: bytes, count: int) -> bytes:

@@ -168,6 +168,16 @@ class DomethymeTests(ToolCase):
                 broken.matrix([0, 1], by="sweeps")
         self.assertEqual((hierarchy.nodes, hierarchy.links), (4, (len(whole) - 24 - 16) // 24))
 
+    def test_a_hierarchy_that_the_program_refuses(self):
+        """The head is sound, and a rank stands twice: the program's own line comes with the file's name."""
+        self.square()
+        program = self.write("program", "#!/bin/sh\necho routecli: hierarchy: RankTwice >&2\nexit 4\n")
+        program.chmod(0o755)
+        with domethyme.Hierarchy(self.folder / "square.rch", program) as hierarchy:
+            with self.assertRaisesRegex(domethyme.HierarchyError, r"square.rch: routecli: hierarchy: RankTwice") as caught:
+                hierarchy.length(0, 1)
+        self.assertEqual(caught.exception.status, 4)
+
     def test_one_question_at_a_time(self):
         hierarchy = self.square()
         self.assertEqual([hierarchy.length(0, end) for end in range(4)], [0, 3, 7, None])
@@ -191,6 +201,7 @@ class DomethymeTests(ToolCase):
         self.assertEqual(hierarchy.between([0, 1, 2], [2]).nodes, [2])
         self.assertIsNone(hierarchy.between([0, 1, 2], [3]))
         for starts, ends, says in [([], [0], "1 to 8"), ([0] * 9, [0], "1 to 8"), ({0: -1}, [0], "from 0 to 4294967295"),
+                                   ({0: 1.5}, [0], "have to be whole numbers"),
                                    ([0], {0: 1 << 32}, "from 0 to 4294967295"), ([7], [0], "nodes 0 to 3")]:
             with self.subTest(says=says), self.assertRaisesRegex(ValueError, says):
                 hierarchy.between(starts, ends)

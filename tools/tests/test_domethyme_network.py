@@ -72,6 +72,13 @@ class NetworkTests(ToolCase):
         with self.assertRaisesRegex(domethyme.NetworkError, "has no column name"):
             self.network.keys("name")
 
+    def test_a_junction_with_turn_restrictions(self):
+        self.write("t.nodes.csv", "node,osm,lon,lat,ends\n1,7,0,0,from\n2,8,0.001,0,\n3,7,0,0,to\n4,7,0,0,no\n")
+        network = domethyme.Network(self.folder / "t")
+        for place, nodes in ((0.0001, (0, 2)), (0.0009, (1, 1))):
+            self.assertEqual(tuple(network.nearest(place, 0, end=end)[0] for end in (False, True)), nodes)
+        self.assertEqual([network.keys().node(key) for key in (7, 8)], [0, 1])
+
     def test_files_that_are_refused(self):
         for name, text, says in [
             ("a.nodes.csv", "node,osm,lon,lat\n2,1,0,0\n", "a.nodes.csv, row 2: has node '2' where node 1 comes next"),

@@ -31,6 +31,17 @@ WEST = route("west", [[0.002, 0], [0.001, 0], [0, 0]], metres=12345, seconds=738
 NO_WAY = {"type": "Feature", "properties": {"trip": "nowhere", "metres": None, "seconds": None}, "geometry": None}
 
 
+# A route from corner to corner and back along the others, so that each corner has a part of it.
+ACROSS = [[0, 0], [0.01, 0.0056], [0, 0.0056], [0.01, 0], [0, 0]]
+
+
+def luminance(colour):
+    """The relative luminance of a colour #rrggbb, by WCAG 2."""
+    parts = [int(colour[place : place + 2], 16) / 255 for place in (1, 3, 5)]
+    linear = [part / 12.92 if part <= 0.04045 else ((part + 0.055) / 1.055) ** 2.4 for part in parts]
+    return 0.2126 * linear[0] + 0.7152 * linear[1] + 0.0722 * linear[2]
+
+
 def told(legend_or_title):
     return "".join(legend_or_title.itertext())
 
@@ -67,7 +78,7 @@ class Picture(DrawCase):
     def test_places(self):
         # The routes are 0.004 degrees wide, and 200 m are 0.0017986: with a tenth and that on each side 0.0083973 in 1000
         # pixels. The height is 0.56 of that, and the equator in its middle.
-        picture = self.picture_of(EAST)
+        picture = self.picture_of(EAST, words=[])
         self.assertEqual((picture.get("width"), picture.get("height")), ("1000", "560"))
         ring, dot = picture.findall("./g[@clip-path]/circle")
         for circle, place in [(ring, 261.8), (dot, 738.2)]:
@@ -85,8 +96,14 @@ class Picture(DrawCase):
         self.assertIn("h107.1v", picture.findall("path")[-1].get("d"))
 
     def test_width(self):
+        picture = self.picture_of(EAST, words=["--width", "800"])
+        self.assertEqual((picture.get("width"), picture.get("height")), ("800", "448"))
+        self.assertAlmostEqual(float(picture.find("./g[@clip-path]/circle").get("cx")), 209.4, delta=0.1)
+
+    def test_a_narrow_picture(self):
+        # The legend is below the map, 280 pixels high, with a margin below: a row of 24 and 14, and at 300 pixels two lines.
         picture = self.picture_of(EAST, words=["--width", "500"])
-        self.assertEqual((picture.get("width"), picture.get("height")), ("500", "280"))
+        self.assertEqual((picture.get("width"), picture.get("height")), ("500", "332"))
         self.assertAlmostEqual(float(picture.find("./g[@clip-path]/circle").get("cx")), 130.9, delta=0.1)
 
     def test_roads(self):
@@ -109,10 +126,68 @@ class Picture(DrawCase):
         self.assertEqual([told(text) for text in picture.findall("./g[@transform]/text")][::2], ["route 1", "route 2"])
 
     def test_long_legend(self):
-        # Three fifths of 560 pixels are 336, which are 14 rows of 24.
-        picture = self.picture_of(*[EAST] * 20)
+        # Without a line the whole network is shown, as high as it is wide. Three fifths of 1000 pixels are 25 rows of 24.
+        picture = self.picture_of(*[NO_WAY] * 40, words=[])
         texts = [told(text) for text in picture.findall("./g[@transform]/text")]
-        self.assertEqual((len(texts), texts[-2]), (28, "and 7 more"))
+        self.assertEqual((len(texts), texts[-2]), (50, "and 16 more"))
+        # Below the map, where a route would be hidden, there is room for 40 rows.
+        for count, last in [(20, "route 20"), (60, "and 21 more")]:
+            picture = self.picture_of(*[route("", ACROSS)] * count, words=[])
+            texts = [told(text) for text in picture.findall("./g[@transform]/text")]
+            self.assertEqual((len(texts), texts[-2]), (2 * min(count, 40), last))
+
+    def test_the_legend_hides_no_route_and_is_in_the_picture(self):
+        for label in ("a", "a label that is rather long for any of them", LABEL):
+            for width in (200, 300, 500, 1000):
+                for line in (ACROSS, [[0, 0], [0.004, 0]], [[0, 0], [0, 0.004], [0.004, 0.004], [0.004, 0]]):
+                    with self.subTest(label=label, width=width, line=line):
+                        self.look_at_legend(self.picture_of(route(label, line), words=["--label", "trip", "--width", width]))
+
+    def look_at_legend(self, picture):
+        """The legend is in the picture, and its texts in the legend, at 7.8 and 8.8 pixels a letter; no end of a route is
+        below it."""
+        group = picture.find("./g[@transform]")
+        left, top = map(float, re.findall("[0-9.]+", group.get("transform")))
+        width, height = (float(group.find("rect").get(side)) for side in ("width", "height"))
+        self.assertTrue(left + width <= float(picture.get("width")) and top + height <= float(picture.get("height")))
+        for circle in picture.findall("./g[@clip-path]/circle"):
+            x, y = float(circle.get("cx")), float(circle.get("cy"))
+            self.assertFalse(left <= x <= left + width and top <= y <= top + height)
+        for text in group.findall("text"):
+            letter = 8.8 if text.get("font-weight") else 7.8
+            start = float(text.get("x")) - (len(told(text)) * letter if text.get("text-anchor") else 0)
+            self.assertTrue(0 <= start and start + len(told(text)) * letter <= width + 1, told(text))
+
+    def test_contrast(self):
+        colours = [kind.get("stroke") for kind in self.picture_of(EAST, words=["--whole"]).findall("./g[@clip-path]/path")]
+        colours += [dot.get("fill") for dot in self.picture_of(*[WEST] * 8).findall("./g[@clip-path]/circle")][1::2]
+        self.assertEqual(len(set(colours) - {"#fff"}), 11)
+        for colour in set(colours) - {"#fff"}:
+            with self.subTest(colour=colour):
+                self.assertGreaterEqual((luminance("#fbfaf8") + 0.05) / (luminance(colour) + 0.05), 3)
+
+    def test_tunnels_are_dashed(self):
+        rows = ARCS.replace(",WKT", ",structure,WKT").replace(',"LINE', ',,"LINE').replace("Slip,,", "Slip,tunnel,")
+        self.write("net.arcs.csv", rows)
+        dashes = {path.get("stroke-width"): path.get("stroke-dasharray") for path in
+                  self.picture_of(EAST).findall("./g[@clip-path]/path") if path.get("stroke") != "#fff"}
+        self.assertEqual(dashes, {"3": "5 4", "1.8": None})
+        _, data = self.page_of(EAST)
+        self.assertEqual([kind["dashes"] for kind in data["roads"]], [None] * 5 + ["5 4"])
+
+    def test_a_network_of_dimacs(self):
+        self.write("d.co", "p aux sp co 3\nv 1 0 0\nv 2 1000 0\nv 3 2000 1000\n")
+        self.write("d.gr", "p sp 3 3\na 1 2 7\na 2 3 9\na 2 3 8\n")
+        self.write("answers", "r 1 3 15 2 1 2 3\n")
+        self.run_tool("to_geojson", "d.co", "answers", "-o", "routes")
+        told_of = json.loads((self.folder / "routes").read_text())["features"][0]
+        self.assertEqual(told_of["geometry"]["coordinates"], [[0, 0], [0.001, 0], [0.002, 0.001]])
+        self.assertEqual((told_of["properties"]["metres"], told_of["properties"]["seconds"]), (268.45, 0))
+        self.run_tool("draw", "d.co", "routes", "out.svg")
+        picture = xml.fromstring((self.folder / "out.svg").read_text().replace(' xmlns="http://www.w3.org/2000/svg"', ""))
+        self.assertEqual(roads_in(picture), {"1.2": 2})
+        self.assertEqual([told(text) for text in picture.findall("./g[@transform]/text")], ["route 1", "0.27 km"])
+        self.assert_refused("draw", "net.co", "routes", "out.svg", says="net.co: No such file or directory")
 
     def test_shared_road(self):
         # Both go along High Street, so the first is wider there, and not along the slip road.
@@ -212,6 +287,13 @@ class BadInput(DrawCase):
     def assert_routes_refused(self, text, says, *words):
         routes = self.write("routes.json", text)
         self.assert_refused("draw", "net", routes, "out.svg", *words, says=f"routes.json{says}")
+
+    def test_a_file_without_a_route(self):
+        self.write("empty", "\n")
+        self.assert_refused("draw", "net", "empty", "out.svg", says="empty: is empty: a step that was to write it has failed")
+        self.write("none", '{"type": "FeatureCollection", "features": []}')
+        said = self.run_tool("draw", "net", "none", "out.svg").stderr
+        self.assertEqual(said, "draw: none has no route: the roads alone are drawn\n")
 
     def test_no_geojson(self):
         self.assert_routes_refused('{"type": "FeatureCollection",\n"features": [,]}', ", row 2: isn't GeoJSON")

@@ -65,14 +65,16 @@ DRAWING = [
 ]
 ISLANDS = [("Trap Street", 45, 47, 1, 13343, None), ("Far Road", 91, 92, 1, 13343, 13343)]
 LEFT_OUT = """\
-osm_to_gr: maxspeeds that weren't understood: 1
+osm_to_gr: ways for destinations alone that are taken as open: 1
 osm_to_gr: ways left out as closed to the vehicle: 3
 osm_to_gr: ways left out by their class: 1
 osm_to_gr: ways left out as areas: 1
 osm_to_gr: ways left out as their direction changes: 1
+osm_to_gr: maxspeeds that weren't understood (signals 1): 1
 osm_to_gr: nodes that the map lacks: 2
 osm_to_gr: barriers that part roads: 2
 osm_to_gr: ways left out with fewer than two nodes in the map: 1
+osm_to_gr: turn restrictions not looked at: a way goes on through the node: 1
 osm_to_gr: nodes left out on islands: 3
 osm_to_gr: pieces of road left out on islands: 2
 osm_to_gr: weights raised to 1: 2
@@ -112,7 +114,7 @@ class NetworkCase(ToolCase):
     def labels(self, out="village"):
         """The name of each node by its number: its id in the map, or its place in the drawing."""
         places = enumerate(zip(*self.nodes(out)), 1)
-        return {node: osm or f"({lon * 1000:.3f}, {lat * 1000:.3f})" for node, (osm, lon, lat) in places}
+        return {node: osm or f"({lon * 1000:.3f}, {lat * 1000:.3f})" for node, (osm, lon, lat, _) in places}
 
     def drawn(self, out="village"):
         """How often each (way, from, to, weight) comes among the rows."""
@@ -151,7 +153,7 @@ class Village(NetworkCase):
         self.convert()
         nodes = self.nodes()
         places = {int(node.get("id")): (float(node.get("lon")), float(node.get("lat"))) for node in map_of("node")}
-        for osm, lon, lat in zip(*nodes):
+        for osm, lon, lat, _ in zip(*nodes):
             if osm is not None:
                 self.assertEqual((lon, lat), places[osm])
         self.assertEqual(nodes.osm.count(None), 3)
@@ -328,7 +330,13 @@ class Tags(NetworkCase):
         ("highway=primary maxspeed=10~knots", 18.52, 18.52),
         ("highway=primary maxspeed=none", 130, 130),
         ("highway=primary maxspeed=walk", 7, 7),
-        ("highway=primary maxspeed=DE:urban", 70, 70),
+        ("highway=primary maxspeed=DE:urban", 50, 50),
+        ("highway=primary maxspeed=RO:urban", 50, 50),
+        ("highway=primary maxspeed=DE:rural", 100, 100),
+        ("highway=primary maxspeed=XY:rural", 90, 90),
+        ("highway=primary maxspeed=DE:zone:30", 30, 30),
+        ("highway=primary maxspeed=NL:zone60", 60, 60),
+        ("highway=primary maxspeed=DE:variable", 70, 70),
         ("highway=primary maxspeed=0", 70, 70),
         ("highway=primary maxspeed=1001", 70, 70),
         ("highway=primary maxspeed=-50", 70, 70),
@@ -558,7 +566,20 @@ class BadInput(NetworkCase):
         self.refused("bare.osm", says="bare.osm: has no road that the profile takes")
 
     def test_an_unknown_profile(self):
-        self.refused(VILLAGE, "--profile", "boat", says="profiles/boat.json: No such file or directory")
+        self.refused(VILLAGE, "--profile", "boat", says="there is no profile boat: there is car; for another vehicle")
+
+    def test_a_folder_in_place_of_out(self):
+        before = self.contents()
+        for out in ("", "folder/", "./"):
+            said = self.run_tool("osm_to_gr", VILLAGE, out, status=2).stderr
+            self.assertIn("OUT is the beginning of the names of three files", said)
+        self.assertEqual(self.contents(), before)
+
+    def test_a_full_disk_names_the_file(self):
+        self.run_tool("osm_to_gr", VILLAGE, "other")
+        trips = "from_lon,from_lat,to_lon,to_lat\n0,0,0,0\n"
+        told = self.run_tool("nearest", "other", "-", "-o", "/dev/full", given=trips, status=1)
+        self.assertEqual(told.stderr, "nearest: /dev/full: No space left on device\n")
 
     def test_a_profile_that_is_no_json_tells_the_row(self):
         self.write("own.json", '{\n"speeds": {},\n}\n')

@@ -131,6 +131,11 @@ class RouteManyCase(ToolCase):
         words = [TOOLS / "route_many", hierarchy, "pairs", "out", "--part", PART, *words]
         return self.start([*environment, *words], "said")
 
+    def kept_line(self):
+        """What an interrupted run says."""
+        folder = self.folder.resolve() / "out.parts"
+        return f"route_many: what is done is kept in {folder}; the same call goes on with it\n"
+
     def assert_ends(self, process, status=0):
         """The process ends, with the status."""
         self.assertEqual(process.wait(PATIENCE), status, (self.folder / "said").read_text())
@@ -415,7 +420,7 @@ class TwoCallsTests(RouteManyCase):
         self.until(lambda: "000003.pairs" in self.parts_begun())
         run.send_signal(number)
         self.assert_ends(run, 128 + number)
-        self.assertEqual((self.folder / "said").read_text(), "")
+        self.assertEqual((self.folder / "said").read_text(), self.kept_line() if number == signal.SIGINT else "")
         self.until(lambda: not any(is_running(int(process)) for process, _, _ in self.begun()))
         self.assertFalse((self.folder / "out").exists())
         self.assertEqual(self.answered(), ["000000.answers", "000001.answers", "000002.answers"])
@@ -680,7 +685,7 @@ class DaskTests(RouteManyCase):
         self.until(lambda: "000003.pairs" in self.parts_begun())
         run.send_signal(signal.SIGINT)
         self.assert_ends(run, 130)
-        self.assertEqual((self.folder / "said").read_text(), "")
+        self.assertEqual((self.folder / "said").read_text(), self.kept_line())
         self.assertEqual(self.answered(), ["000000.answers", "000001.answers", "000002.answers"])
         self.release("000003.pairs")
         self.many("--jobs", 1, "--program", program)

@@ -98,7 +98,9 @@ class Features(RoutesCase):
         self.assertEqual([json.loads(line.rstrip(",")) for line in text.splitlines()[1:-1]], features)
 
     def test_no_answers(self):
-        self.assertEqual(json.loads(self.routes_of("")), {"type": "FeatureCollection", "features": []})
+        for form in ("collection", "lines", "csv"):
+            words = ("net", "-", "--as", form, "-o", "routes")
+            self.assert_refused("to_geojson", *words, given="", says="to_geojson: standard input: has no answer")
 
     def test_lines(self):
         lines = self.routes_of(ANSWERS, "--as", "lines").splitlines()

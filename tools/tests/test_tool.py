@@ -156,7 +156,10 @@ class Tables(SharedCase):
 
     def test_faults_tell_the_row(self):
         self.assert_table_fault(", row 1: has no column a", b"")
-        self.assert_table_fault(", row 1: has no column b", b"a,c\n")
+        self.assert_table_fault(", row 1: has no column b; its columns are a, c", b"a,c\n")
+        told = ", row 1: has no column a; its columns are a;b: fields have to be parted by commas"
+        self.assert_table_fault(told, b"a;b\n")
+        self.assert_table_fault(", row 1: has no column b; its columns are a,  b: there is a blank beside b", b"a, b\n")
         self.assert_table_fault(", row 1: has two columns a", b"a,b,a\n")
         self.assert_table_fault(", row 3: has 1 fields in place of 2", b"a,b\n1,2\n3\n")
         self.assert_table_fault(", row 2: isn't UTF-8", b"a,b\n\xff,2\n")
@@ -171,7 +174,7 @@ class Tables(SharedCase):
             self.assert_fault(f"f, row 1: n {shown} is no whole number", tool.whole_number, text, "n", "f", 1)
         self.assert_fault("f, row 1: n 6 isn't from 0 to 5", tool.whole_number, "6", "n", "f", 1, 0, 5)
         self.assert_fault("f, row 1: lon '181' isn't from -180 to 180", tool.number, "181", "lon", "f", 1, -180, 180)
-        self.assert_fault("f, row 1: n 'nan' isn't from -inf to inf", tool.number, "nan", "n", "f", 1)
+        self.assert_fault("f, row 1: n 'nan' is no finite number", tool.number, "nan", "n", "f", 1)
         self.assert_fault("f, row 1: n 'x' is no number", tool.number, "x", "n", "f", 1)
 
 
@@ -184,8 +187,20 @@ class Networks(SharedCase):
     def assert_text_fault(self, read, name, text, says):
         self.assert_fault(f"{self.folder / name}{says}", self.write_and, read, name, text)
 
+    def test_words_that_name_no_network(self):
+        for word, says in [
+            ("li.co.gz", "li.co.gz: is compressed: gunzip it, and name li.co"),
+            ("li.gr", "li.gr: is a graph: name the network by the beginning of its files' names, li, or a file of "
+             "coordinates, li.co"),
+            ("li.rch", "li.rch: is a hierarchy: name the network by the beginning of its files' names"),
+            ("li.nodes.csv", "li.nodes.csv: name the network by the beginning of its files' names, li"),
+            ("li.arcs.csv", "li.arcs.csv: name the network by the beginning of its files' names, li"),
+        ]:
+            self.assert_fault(says, network.nodes_file, word)
+        self.assertEqual([network.nodes_file(word) for word in ("li", "li.co")], ["li.nodes.csv", "li.co"])
+
     def test_nodes_there_and_back(self):
-        nodes = network.Nodes([5, None, -7], [-180.0, 0.1234567, 180.0], [-90.0, 0.0, 90.0])
+        nodes = network.Nodes([5, None, -7], [-180.0, 0.1234567, 180.0], [-90.0, 0.0, 90.0], ["", "from", "no"])
         with tool.writing(self.folder / "n.nodes.csv") as file:
             network.write_nodes(file, nodes)
         self.assertEqual(network.read_nodes(self.folder / "n.nodes.csv"), nodes)
@@ -203,14 +218,14 @@ class Networks(SharedCase):
     def test_coordinates_of_dimacs(self):
         text = "c New York\np aux sp co 2\nv 2 -73530767 41085396\nv 1 -73530538 41086098\n"
         nodes = self.write_and(network.read_nodes, "ny.co", text)
-        self.assertEqual(nodes, network.Nodes([None, None], [-73.530538, -73.530767], [41.086098, 41.085396]))
+        self.assertEqual(nodes, network.Nodes([None, None], [-73.530538, -73.530767], [41.086098, 41.085396], ["", ""]))
         self.assertEqual(network.nodes_file("ny.co"), "ny.co")
         self.assertEqual(network.nodes_file("ny"), "ny.nodes.csv")
 
     def test_coordinates_with_faults(self):
         cases = [
             ("", ": has no line `p aux sp co N`"),
-            ("v 1 0 0\n", ", row 1: is no line of coordinates"),
+            ("v 1 0 0\n", ", row 1: is no line of coordinates before the line `p aux sp co N`"),
             ("p aux sp co 1\nv 2 0 0\n", ", row 2: node 2 isn't from 1 to 1"),
             ("p aux sp co 2\nv 1 0 0\n", ": has no coordinates of node 2"),
             ("p aux sp p2p 2\n", ", row 1: is no problem line `p aux sp co NUMBER`"),

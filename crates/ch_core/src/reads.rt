@@ -34,7 +34,8 @@ impl Standing {
         self.version == version && self.row.is_same(row)
     }
 
-    /// The same, with the number of its node. Takes no memory; the row is shared.
+    /// The same, with the number of its node. The row is shared, so no memory is taken; refused where it can't have one
+    /// more owner.
     pub fn seen(&self, node: u32) -> Result<Seen, AllocError>
         ensures node { IfOk result (λ s. s.node ≡ node) }
         ensures row { IfOk result (λ s. self.now ≡ record { version = s.version; row = arc_value s.row }) }

@@ -24,7 +24,10 @@ use Rattle.ch_query.proofs.LeastSum.{stop_right, both_parts}
 use Rattle.ch_query.proofs.Descents.{IsPlace, links_at, IsRiseOf, IsFallOf, rise-chain, fall-chain, descends-places, all-reverse}
 
 -- two sides that have stopped give the value
-pub answered : (h : Hierarchy) → IsWellMade h → (starts ends : List Seed) → AreSeeds h starts → AreSeeds h ends → (bound : Cost) (up down : List (Mark Label)) (best : Option Meeting) → IsClimbing h Rise starts bound (cost_of best) up → IsClimbing h Fall ends bound (cost_of best) down → IsStopped up (cost_of best) → IsStopped down (cost_of best) → IsBestMeeting bound (costs_of up) (costs_of down) best → IsValueBetween h starts ends bound (cost_of best)
+pub answered : (h : Hierarchy) → IsWellMade h → (starts ends : List Seed) → AreSeeds h starts → AreSeeds h ends
+    → (bound : Cost) (up down : List (Mark Label)) (best : Option Meeting) → IsClimbing h Rise starts bound (cost_of best) up
+    → IsClimbing h Fall ends bound (cost_of best) down → IsStopped up (cost_of best) → IsStopped down (cost_of best)
+    → IsBestMeeting bound (costs_of up) (costs_of down) best → IsValueBetween h starts ends bound (cost_of best)
 answered h made starts ends begins stops bound up down best rises falls up_stopped down_stopped is = stop_right h starts ends bound up down (cost_of best) made begins stops rises falls up_stopped down_stopped (best_sum best is)
   where
     best_sum : (best : Option Meeting) → IsBestMeeting bound (costs_of up) (costs_of down) best → IsBest bound (costs_of up) (costs_of down) (cost_of best)

@@ -94,7 +94,9 @@ planted-none bound r c old new within (inr kept) none q e closed = none q e (sub
 some_seed : (a b : Seed) → Some a ≡ Some b → a ≡ b
 some_seed a b is = cc
 
-pub begun-more : (h : Hierarchy) (seeds : List Seed) (bound : Cost) (n : ℕ) (seed : Seed) (old new : List (Mark Label)) → slice_get seeds n ≡ Some seed → rank_of h seed.node < length h.ranks → length new ≡ length old → IsPlanted bound (rank_of h seed.node) seed.cost old new → IsBegun h seeds bound n old → IsBegun h seeds bound (n + 1) new
+pub begun-more : (h : Hierarchy) (seeds : List Seed) (bound : Cost) (n : ℕ) (seed : Seed) (old new : List (Mark Label))
+    → slice_get seeds n ≡ Some seed → rank_of h seed.node < length h.ranks → length new ≡ length old
+    → IsPlanted bound (rank_of h seed.node) seed.cost old new → IsBegun h seeds bound n old → IsBegun h seeds bound (n + 1) new
 begun-more h seeds bound n seed old new at rank_in count planted was = record {
   nodes = count ∙ was.nodes;
   none = planted-none bound r seed.cost old new within planted was.none;
@@ -151,7 +153,8 @@ module _ (h : Hierarchy) (side : Side) (seeds : List Seed) (are : AreSeeds h see
   best-begun down = best-none bound marks down begun.none
 
 -- a search stays ready while its marks are written
-pub ready-more : {h : Hierarchy} {rising falling : Half} (up down : List (Mark Label)) → IsReady h rising falling → length up ≡ length rising.frontier → length down ≡ length falling.frontier → IsReady h (record { steps = rising.steps; frontier = up }) (record { steps = falling.steps; frontier = down })
+pub ready-more : {h : Hierarchy} {rising falling : Half} (up down : List (Mark Label)) → IsReady h rising falling → length up ≡ length rising.frontier
+    → length down ≡ length falling.frontier → IsReady h (record { steps = rising.steps; frontier = up }) (record { steps = falling.steps; frontier = down })
 ready-more up down ready ups downs = record { made = ready.made; rising = ready.rising; falling = ready.falling; ups = ups ∙ ready.ups; downs = downs ∙ ready.downs }
 
 -- Turns

@@ -136,7 +136,9 @@ own-foot h side k climbs = record { within = climbs.within; foot = refl; climbs 
 -- The links so far lead from a node of the top rank down to one of this rank.
 pub record IsDescending (h : Hierarchy) (side : Side) (marks : List (Mark Label)) (top rank : ℕ) (ids : List LinkId) : Type 0 where
   pub rank_in : rank < length h.ranks
-  pub joins : (x : ℕ) (c : Cost) → x < length h.ranks → rank_of h x ≡ top → costs_of marks top ≡ Some c → (y : ℕ) × (y < length h.ranks) × (rank_of h y ≡ rank) × (d : Cost) × (costs_of marks rank ≡ Some d) × ((seed : Seed) (rest : List LinkId) → Descends h side seed rest y d → Descends h side seed (ids ++ rest) x c)
+  pub joins : (x : ℕ) (c : Cost) → x < length h.ranks → rank_of h x ≡ top → costs_of marks top ≡ Some c
+      → (y : ℕ) × (y < length h.ranks) × (rank_of h y ≡ rank) × (d : Cost) × (costs_of marks rank ≡ Some d)
+      × ((seed : Seed) (rest : List LinkId) → Descends h side seed rest y d → Descends h side seed (ids ++ rest) x c)
 
 pub descending-none : {h : Hierarchy} {side : Side} {marks : List (Mark Label)} (top : ℕ) → top < length h.ranks → IsDescending h side marks top top []
 descending-none top top_in = record {
@@ -147,7 +149,9 @@ descending-none top top_in = record {
 one_cost : (o : Option Cost) (c d : Cost) → o ≡ Some c → o ≡ Some d → c ≡ d
 one_cost o c d first second = cc
 
-pub descending-more : {h : Hierarchy} {side : Side} {seeds : List Seed} {bound : Cost} {marks : List (Mark Label)} (made : IsWellMade h) → IsSearching h side seeds bound marks → (top rank : ℕ) (e : Label) (k : ℕ) (ids : List LinkId) → HasLabel (mark marks rank) e → e.foot ≢ rank → LeadsUp h side e.foot rank k → IsDescending h side marks top rank ids → IsDescending h side marks top e.foot (ids ++ record { 0 = k } ∷ [])
+pub descending-more : {h : Hierarchy} {side : Side} {seeds : List Seed} {bound : Cost} {marks : List (Mark Label)} (made : IsWellMade h)
+    → IsSearching h side seeds bound marks → (top rank : ℕ) (e : Label) (k : ℕ) (ids : List LinkId) → HasLabel (mark marks rank) e → e.foot ≢ rank
+    → LeadsUp h side e.foot rank k → IsDescending h side marks top rank ids → IsDescending h side marks top e.foot (ids ++ record { 0 = k } ∷ [])
 descending-more {h} {side} {marks = marks} made is top rank e k ids label other leads so_far =
     let comes : ComesFrom h side marks rank e = came_from is rank e label other in
     let link : comes.over.goes.link ≡ k = one_link h made side e.foot rank comes.over.goes.link k comes.over.goes.leads leads in
@@ -175,7 +179,10 @@ descending-more {h} {side} {marks = marks} made is top rank e k ids label other 
     }
 
 -- where the label names its own rank, a seed is there
-pub seed_there : {h : Hierarchy} {side : Side} {seeds : List Seed} {bound : Cost} {marks : List (Mark Label)} (made : IsWellMade h) → IsSearching h side seeds bound marks → (top rank : ℕ) (c : Cost) (ids : List LinkId) → top < length h.ranks → costs_of marks top ≡ Some c → ((e : Label) → HasLabel (mark marks rank) e → e.foot ≡ rank) → IsDescending h side marks top rank ids → (d : Cost) × (costs_of marks rank ≡ Some d) × IsSeedAt h seeds rank d
+pub seed_there : {h : Hierarchy} {side : Side} {seeds : List Seed} {bound : Cost} {marks : List (Mark Label)} (made : IsWellMade h)
+    → IsSearching h side seeds bound marks → (top rank : ℕ) (c : Cost) (ids : List LinkId) → top < length h.ranks → costs_of marks top ≡ Some c
+    → ((e : Label) → HasLabel (mark marks rank) e → e.foot ≡ rank) → IsDescending h side marks top rank ids
+    → (d : Cost) × (costs_of marks rank ≡ Some d) × IsSeedAt h seeds rank d
 seed_there {h} {seeds = seeds} {marks = marks} made is top rank c ids top_in label own so_far =
     let node = rank_taken h made top top_in in
     let old = so_far.joins node.0 c node.1 node.2 label in
@@ -183,7 +190,11 @@ seed_there {h} {seeds = seeds} {marks = marks} made is top rank c ids top_in lab
     (old.3, old.4, subst (λ (d : Cost). IsSeedAt h seeds rank d) l.2 (came_first is rank l.0 l.1 (own l.0 l.1)).seed)
 
 -- and the links lead down to each that is there and costs what the label does
-pub descended : {h : Hierarchy} {side : Side} {seeds : List Seed} {marks : List (Mark Label)} (made : IsWellMade h) (top rank : ℕ) (ids : List LinkId) (place : ℕ) (seed : Seed) → slice_get seeds place ≡ Some seed → seed.node < length h.ranks → rank_of h seed.node ≡ rank → costs_of marks rank ≡ Some seed.cost → IsDescending h side marks top rank ids → (x : ℕ) (c : Cost) → x < length h.ranks → rank_of h x ≡ top → costs_of marks top ≡ Some c → (back : WayBack) → back.seed ≡ place → back.links.items ≡ ids → IsWayBack h side seeds x c back
+pub descended : {h : Hierarchy} {side : Side} {seeds : List Seed} {marks : List (Mark Label)} (made : IsWellMade h) (top rank : ℕ) (ids : List LinkId)
+    (place : ℕ) (seed : Seed) → slice_get seeds place ≡ Some seed → seed.node < length h.ranks → rank_of h seed.node ≡ rank
+    → costs_of marks rank ≡ Some seed.cost → IsDescending h side marks top rank ids
+    → (x : ℕ) (c : Cost) → x < length h.ranks → rank_of h x ≡ top → costs_of marks top ≡ Some c
+    → (back : WayBack) → back.seed ≡ place → back.links.items ≡ ids → IsWayBack h side seeds x c back
 descended {h} {side} {seeds} {marks} made top rank ids place seed at node_in its_rank costs so_far x c x_in at_top label back is_place are_links =
     let old = so_far.joins x c x_in at_top label in
     let y : ℕ = old.0 in

@@ -46,7 +46,9 @@ opened-one h side bound r c marks q e within improves climbs = record {
 }
 
 -- the step at a place leads on from its foot
-pub leads-step : (h : Hierarchy) (side : Side) (links : List ℕ) (steps : List Step) (place r : ℕ) (c : Cost) → IsStepAt h side links steps place → foot_rank h side (slice_index links place) ≡ r → (head : ℕ) (sum : Cost) → head ≡ head_rank h side (slice_index links place) → sum ≡ c ⊕ cost_at h (slice_index links place) → LeadsTo (LinkArc h side) r c head sum
+pub leads-step : (h : Hierarchy) (side : Side) (links : List ℕ) (steps : List Step) (place r : ℕ) (c : Cost) → IsStepAt h side links steps place
+    → foot_rank h side (slice_index links place) ≡ r → (head : ℕ) (sum : Cost) → head ≡ head_rank h side (slice_index links place)
+    → sum ≡ c ⊕ cost_at h (slice_index links place) → LeadsTo (LinkArc h side) r c head sum
 leads-step h side links steps place r c step foot head sum at is_sum = record {
   arc = cost_at h (slice_index links place);
   goes = record { link = slice_index links place; leads = record { climbs = step.climbs; foot = foot; head = sym at }; cost = refl };
@@ -63,10 +65,15 @@ followed-head h side c marks k head sum at is_sum most = subst (λ q. IsAtMost l
 
 -- since it got the label
 pub followed-put : (h : Hierarchy) (side : Side) (bound c : Cost) (limit : Option Cost) (marks : List (Mark Label)) (k head : ℕ) (e : Label) → head < length marks → head ≡ head_rank h side k → e.cost ≡ c ⊕ cost_at h k → IsFollowed h side bound c limit (set marks head (Open e)) k
-followed-put h side bound c limit marks k head e within at is_sum counts = followed-head h side c (set marks head (Open e)) k head e.cost at is_sum (at_most-from_label label_cost (mark (set marks head (Open e)) head) e e.cost (label_open (mark (set marks head (Open e)) head) e (put-set marks head (Open e) within).here) (at_most_refl e.cost))
+followed-put h side bound c limit marks k head e within at is_sum counts =
+    followed-head h side c (set marks head (Open e)) k head e.cost at is_sum
+    (at_most-from_label label_cost (mark (set marks head (Open e)) head) e e.cost
+    (label_open (mark (set marks head (Open e)) head) e (put-set marks head (Open e) within).here) (at_most_refl e.cost))
 
 -- or had one of no more
-pub followed-kept : (h : Hierarchy) (side : Side) (bound c : Cost) (limit : Option Cost) (marks : List (Mark Label)) (k head : ℕ) (sum : Cost) → (Improves label_cost sum (mark marks head) → ⊥) → IsSettledAtMost marks head sum → head ≡ head_rank h side k → sum ≡ c ⊕ cost_at h k → IsFollowed h side bound c limit marks k
+pub followed-kept : (h : Hierarchy) (side : Side) (bound c : Cost) (limit : Option Cost) (marks : List (Mark Label)) (k head : ℕ) (sum : Cost)
+    → (Improves label_cost sum (mark marks head) → ⊥) → IsSettledAtMost marks head sum → head ≡ head_rank h side k → sum ≡ c ⊕ cost_at h k
+    → IsFollowed h side bound c limit marks k
 followed-kept h side bound c limit marks k head sum never above at is_sum counts = followed-head h side c marks k head sum at is_sum (not_improves-at_most label_cost (mark marks head) sum never above)
 
 -- what counts below a lesser limit counts below the greater one
@@ -127,7 +134,9 @@ passing-none h side bound r c links begin limit marks = record {
 }
 
 -- one more link was followed
-pub passing-more : {h : Hierarchy} {side : Side} {bound : Cost} {r : ℕ} {c : Cost} {links : List ℕ} {begin : ℕ} {limit : Option Cost} {old mid new : List (Mark Label)} (next : ℕ) → IsPassing h side bound r c links begin next limit old mid → IsOpenedOver h side bound r c mid new → IsFollowed h side bound c limit new (slice_index links next) → IsPassing h side bound r c links begin (next + 1) limit old new
+pub passing-more : {h : Hierarchy} {side : Side} {bound : Cost} {r : ℕ} {c : Cost} {links : List ℕ} {begin : ℕ} {limit : Option Cost} {old mid new : List (Mark Label)}
+    (next : ℕ) → IsPassing h side bound r c links begin next limit old mid → IsOpenedOver h side bound r c mid new
+    → IsFollowed h side bound c limit new (slice_index links next) → IsPassing h side bound r c links begin (next + 1) limit old new
 passing-more {h} {side} {bound} {r} {c} {links} {limit = limit} {new = new} next is opened done = record {
   opened = opened-more is.opened opened;
   followed = λ i from low. elim (cases_lt i next) [

@@ -72,7 +72,9 @@ module _ (g : Graph) (h : Hierarchy) (right : IsRight g h) where
         }
 
     -- and the least walk of all has the distance of its own start and end
-    own_distance : (start stop : Seed) → Contains starts start → Contains ends stop → {links : List Link} (way : Cost) → IsRiseFall h links start.node stop.node way → (c : Cost) → c ≡ cost_between start way stop → IsValueBetween h starts ends longest (Some c) → IsDistance g start.node stop.node (Some way)
+    own_distance : (start stop : Seed) → Contains starts start → Contains ends stop → {links : List Link} (way : Cost)
+        → IsRiseFall h links start.node stop.node way → (c : Cost) → c ≡ cost_between start way stop → IsValueBetween h starts ends longest (Some c)
+        → IsDistance g start.node stop.node (Some way)
     own_distance start stop first last way leads c sum least = (
       graph_walk leads,
       λ d walk. elim (cases_cost d way) [
@@ -103,7 +105,9 @@ module _ (g : Graph) (h : Hierarchy) (right : IsRight g h) where
         )
 
 -- the walk that is found is a least one of its pair
-pub least_walk : (h : Hierarchy) → IsWellMade h → (starts ends : List Seed) → AreSeeds h starts → AreSeeds h ends → (from to : ℕ) (places : List LinkId) (c : Cost) → IsValueBetween h starts ends longest (Some c) → IsWalkBetween h starts ends from to places c → IsLeastWalkBetween h starts ends from to places c
+pub least_walk : (h : Hierarchy) → IsWellMade h → (starts ends : List Seed) → AreSeeds h starts → AreSeeds h ends
+    → (from to : ℕ) (places : List LinkId) (c : Cost) → IsValueBetween h starts ends longest (Some c) → IsWalkBetween h starts ends from to places c
+    → IsLeastWalkBetween h starts ends from to places c
 least_walk h made starts ends begins stops from to places c value walk = record {
   walk = walk;
   distance = λ g right. own_distance g h right made starts ends begins stops walk.start walk.stop (among-from_get starts from walk.start walk.begins) (among-from_get ends to walk.stop walk.stops) walk.way walk.leads.leads c walk.sum value;
@@ -113,16 +117,30 @@ least_walk h made starts ends begins stops from to places c value walk = record 
 pub longest_summable : (bound : Cost) → bound ≡ longest → IsSummable bound
 longest_summable bound is = subst IsSummable (sym is) (summable-from_numbers longest (omega (arith, length_of-of_walk (2 ^ 62) 0)) (omega (arith, arcs_of-of_walk (2 ^ 62) 0)))
 
+-- what is found: its cost, that it is a walk, and that it is a least one
+abbrev pub cost_found : Option FoundBetween → Option Cost
+cost_found found = option_map (λ (f : FoundBetween). f.cost) found
+
+abbrev pub IsWalkFound : Hierarchy → List Seed → List Seed → Option FoundBetween → Type 0
+IsWalkFound h starts ends found = IfSome found (λ (f : FoundBetween). IsWalkBetween h starts ends f.start f.end f.links.items f.cost)
+
+abbrev pub IsLeastFound : Hierarchy → List Seed → List Seed → Option FoundBetween → Type 0
+IsLeastFound h starts ends found = IfSome found (λ (f : FoundBetween). IsLeastWalkBetween h starts ends f.start f.end f.links.items f.cost)
+
+-- the cost is that of the least pair, in each graph that the hierarchy is right for
+abbrev pub IsExact : Hierarchy → List Seed → List Seed → Option Cost → Type 0
+IsExact h starts ends v = (g : Graph) → IsRight g h → IsDistanceBetween g starts ends v
+
 -- The same where the hierarchy and the bound are told by equations
 
 module _ (h k : Hierarchy) (same : h ≡ k) (made : IsWellMade h) (starts ends : List Seed) (begins : AreSeeds k starts) (stops : AreSeeds k ends) (bound : Cost) (is_bound : bound ≡ longest) where
   value_here : (v : Option Cost) → IsValueBetween h starts ends bound v → IsValueBetween k starts ends longest v
   value_here v value = subst (λ (g : Hierarchy). IsValueBetween g starts ends longest v) same (subst (λ (d : Cost). IsValueBetween h starts ends d v) is_bound value)
 
-  pub exact_here : (v : Option Cost) → IsValueBetween h starts ends bound v → (g : Graph) → IsRight g k → IsDistanceBetween g starts ends v
+  pub exact_here : (v : Option Cost) → IsValueBetween h starts ends bound v → IsExact k starts ends v
   exact_here v value g right = least_pair g k right (subst IsWellMade same made) starts ends begins stops v (value_here v value)
 
-  pub least_here : (found : Option FoundBetween) → IsValueBetween h starts ends bound (option_map (λ (f : FoundBetween). f.cost) found) → IfSome found (λ (f : FoundBetween). IsWalkBetween h starts ends f.start f.end f.links.items f.cost) → IfSome found (λ (f : FoundBetween). IsLeastWalkBetween k starts ends f.start f.end f.links.items f.cost)
+  pub least_here : (found : Option FoundBetween) → IsValueBetween h starts ends bound (cost_found found) → IsWalkFound h starts ends found → IsLeastFound k starts ends found
   least_here None value walk = tt
   least_here (Some f) value walk =
       least_walk k (subst IsWellMade same made) starts ends begins stops f.start f.end f.links.items f.cost (value_here (Some f.cost) value)

@@ -59,7 +59,9 @@ fits-cost marks fit r (Some d) is =
     subst (λ (c : Cost). IsSummable c) own.2 (fit r own.0 own.1)
 
 -- a lesser limit lets fewer sums count
-pub climbing-less : (h : Hierarchy) (bound : Cost) {side : Side} {seeds : List Seed} {limit found : Option Cost} {marks : ℕ → Mark Label} → IsNoMore found limit → IsSearch label_cost IsNoLater (LinkArc h side) (CountsBelow bound limit) (IsSeedAt h seeds) marks → IsSearch label_cost IsNoLater (LinkArc h side) (CountsBelow bound found) (IsSeedAt h seeds) marks
+pub climbing-less : (h : Hierarchy) (bound : Cost) {side : Side} {seeds : List Seed} {limit found : Option Cost} {marks : ℕ → Mark Label}
+    → IsNoMore found limit → IsSearch label_cost IsNoLater (LinkArc h side) (CountsBelow bound limit) (IsSeedAt h seeds) marks
+    → IsSearch label_cost IsNoLater (LinkArc h side) (CountsBelow bound found) (IsSeedAt h seeds) marks
 climbing-less h bound less climbing = search-fewer label_cost (λ c counts. counts-more bound less counts) climbing
 
 -- A turn: the node of rank r is settled, and then its links are followed

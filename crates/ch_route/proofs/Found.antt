@@ -4,10 +4,6 @@ use Rattle.std.specs.Prelude.{Option, Some, None, option_map}
 use Rattle.ch_graph.specs.Hierarchy.{Hierarchy, IsValue}
 use Rattle.ch_query.specs.declared.search.Found.{Found}
 
-pub found-value : (k h : Hierarchy) (s t : ℕ) (o : Option Found) (f : Found) → k ≡ h → o ≡ Some f → IsValue k s t (option_map (λ (g : Found). g.cost) o) → IsValue h s t (Some f.cost)
-found-value k h s t o f same is value =
-    subst (λ (m : Hierarchy). IsValue m s t (Some f.cost)) same (subst (λ (p : Option Found). IsValue k s t (option_map (λ (g : Found). g.cost) p)) is value)
-
 pub found-none : (k h : Hierarchy) (s t : ℕ) (o : Option Found) → k ≡ h → o ≡ None → IsValue k s t (option_map (λ (g : Found). g.cost) o) → IsValue h s t None
 found-none k h s t o same is value =
     subst (λ (m : Hierarchy). IsValue m s t None) same (subst (λ (p : Option Found). IsValue k s t (option_map (λ (g : Found). g.cost) p)) is value)

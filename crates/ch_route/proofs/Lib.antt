@@ -1,2 +1,3 @@
+pub mod Betweens
 pub mod Found
 pub mod Least

@@ -1,2 +1,3 @@
+pub mod Between
 pub mod Laws
 pub mod Routes

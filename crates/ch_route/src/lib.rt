@@ -4,7 +4,8 @@
 //! of `ch_laws` why both together are a least walk of the graph. Its main type is [`Router`]. The promise of the layer is
 //! the contract of [`Router::route`]: for every graph that the hierarchy is right for, a least walk of that graph, of all
 //! least walks one with the fewest arcs, or none exactly where there is no walk; and of [`Router::length`], the least
-//! length over all walks. Why, is the law [`routes_are_least`].
+//! length over all walks. Why, is the law [`routes_are_least`]. [`Router::between`] and [`Router::length_between`] answer
+//! for several starts and several ends, each with a cost of its own ([`Seed`]).
 //!
 //! Nodes are numbered from 0.
 //!
@@ -23,7 +24,8 @@ mod laws;
 mod route;
 mod router;
 
+pub use ch_query::Seed;
 pub use ch_unpack::UnpackError;
 pub use laws::routes_are_least;
-pub use route::Route;
+pub use route::{Route, RouteBetween};
 pub use router::Router;

@@ -1,16 +1,20 @@
-ghost use Rattle.std.specs.Prelude.{◌≡◌, ◌<◌, length, Err, IfOk, ℕ};
+ghost use Rattle.std.specs.Prelude.{◌≡◌, ◌<◌, length, option_map, Err, IfOk, ℕ};
+ghost use Rattle.ch_cost.specs.Cost.{length_of};
 ghost use Rattle.ch_graph.specs.declared.version.Version.TheVariants.{One};
 ghost use Rattle.ch_graph.specs.Graph.{Graph, IsLeastLength};
 ghost use Rattle.ch_graph.specs.Hierarchy.{IsRight, IsWellMade};
 ghost use Rattle.ch_graph.specs.Limits.{IsGraph};
 ghost use Rattle.ch_laws.specs.ByWeight.{IsRightByWeight};
+ghost use Rattle.ch_query.specs.Seeds.{AreSeeds, IsValueBetween, longest};
+ghost use Rattle.ch_route.specs.Between.{IsLeastBetween, IsLengthBetween};
 ghost use Rattle.ch_route.specs.Routes.{HasTooLong, IsFewestWalk, IsLeastWalk, IsLengthBy, IsRouteBy};
 ghost use Rattle.ch_unpack.specs.declared.error.UnpackError.TheVariants.{TooLong};
 
 use crate::laws::routes_are_least;
-use crate::route::Route;
+use crate::route::{Route, RouteBetween};
+use ch_cost::Cost;
 use ch_graph::{Hierarchy, places_name_links};
-use ch_query::Search;
+use ch_query::{Search, Seed};
 use ch_unpack::{UnpackError, unpack};
 use std::alloc::{AllocError, Global};
 use std::marker::Model;
@@ -91,7 +95,7 @@ impl<'a> Router<'a> {
     ///
     /// It is the length of the route that [`Router::route`] finds, also where that is too long. Where the hierarchy is
     /// right for a graph, be it by weight alone, it is the least over all walks of the graph. Takes the time of
-    /// [`Search::distance`], and memory for what the search keeps.
+    /// [`Search::cost`], and memory for what the search keeps.
     pub fn length(&mut self, pair: (u32, u32)) -> Result<Option<u64>, AllocError>
         requires source_in { pair.0 < length self.old.ranks }
         requires target_in { pair.1 < length self.old.ranks }
@@ -101,10 +105,67 @@ impl<'a> Router<'a> {
         ensures kept { self.new ≡ self.old }
     {
         routes_are_least();
-        let Some(found) = self.search.distance(pair.0, pair.1)? else {
+        let cost = self.search.cost(pair.0, pair.1)?;
+        Ok(length_of(cost))
+    }
+
+    /// The least route from one of the starts to one of the ends, by what start, way and end cost together, or none where
+    /// there is no way from a start to an end.
+    ///
+    /// Where the hierarchy is right for a graph, its cost is the least over all pairs of a start and an end of the distance
+    /// from the one to the other with what both cost, and the nodes are those of a least walk of the graph between the two
+    /// that were taken, of all least walks one with the fewest arcs. Where several pairs cost the least, any of them may be
+    /// taken. Each list has nodes from 0, and costs of at most 2^57 in length and 2^25 arcs; the cost of a part of an arc
+    /// is [`Cost::of_weight`](ch_cost::Cost::of_weight) of that part.
+    ///
+    /// Fails as [`Router::route`] does. Takes the time of [`Search::between`] and of [`unpack`], and memory for the nodes
+    /// of the route beside what the search keeps.
+    pub fn between(
+        &mut self,
+        starts: &[Seed],
+        ends: &[Seed],
+    ) -> Result<Option<RouteBetween>, UnpackError>
+        requires starts { AreSeeds self.old starts.now }
+        requires ends { AreSeeds self.old ends.now }
+        ensures exact { IfOk result (λ route. (g : Graph) → IsGraph g → IsRight g self.old → IsLeastBetween g starts.now ends.now route) }
+        ensures value { IfOk result (λ route. IsValueBetween self.old starts.now ends.now longest (option_map (λ r. r.cost) route)) }
+        ensures kept { self.new ≡ self.old }
+        ensures never_long { result ≡ Err TooLong → (g : Graph) → IsGraph g → IsRight g self.old → ⊥ }
+    {
+        places_name_links();
+        routes_are_least();
+        let Some(found) = self.search.between(starts, ends)? else {
             return Ok(None);
         };
-        Ok(Some(found.cost.length()))
+        if found.start >= starts.len() {
+            unreachable!();
+        }
+        let source = starts[found.start].node;
+        let nodes = unpack(self.alloc, self.hierarchy, source, found.links.as_slice())?;
+        Ok(Some(RouteBetween {
+            start: found.start,
+            end: found.end,
+            cost: found.cost,
+            nodes,
+        }))
+    }
+
+    /// The length of that route: the least over all pairs of a start and an end of the length of the start, of a walk
+    /// between them and of the end together, or none where no pair has a walk.
+    ///
+    /// Takes the time of [`Search::cost_between`], and memory for what the search keeps.
+    pub fn length_between(
+        &mut self,
+        starts: &[Seed],
+        ends: &[Seed],
+    ) -> Result<Option<u64>, AllocError>
+        requires starts { AreSeeds self.old starts.now }
+        requires ends { AreSeeds self.old ends.now }
+        ensures exact { IfOk result (λ length. (g : Graph) → IsRight g self.old → IsLengthBetween g starts.now ends.now length) }
+        ensures kept { self.new ≡ self.old }
+    {
+        let cost = self.search.cost_between(starts, ends)?;
+        Ok(length_of(cost))
     }
 
     // The route by the hierarchy alone.
@@ -124,5 +185,15 @@ impl<'a> Router<'a> {
             cost: found.cost,
             nodes,
         }))
+    }
+}
+
+/// The length of a cost, if there is one.
+fn length_of(cost: Option<Cost>) -> Option<u64>
+    ensures { result ≡ option_map length_of cost }
+{
+    match cost {
+        Some(cost) => Some(cost.length()),
+        None => None,
     }
 }

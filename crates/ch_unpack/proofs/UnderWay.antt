@@ -69,7 +69,8 @@ module _ {h : Hierarchy} {source : ℕ} {places : List LinkId} where
       }
 
   -- a shortcut is gone along by its halves
-  pub turn_off : {nodes : List ℕ} (next : LinkId) (one two : LinkId) (left : List LinkId) {ahead : List LinkId} → LinksUnfold → IsWellMade h → IsUnderWay h source places nodes ahead → ahead ≡ left ++ next ∷ [] → ((d : Link) → ArePartsOf h.links (get_or h.links next.0 d) (Shortcut one two)) → IsUnderWay h source places nodes ((left ++ two ∷ []) ++ one ∷ [])
+  pub turn_off : {nodes : List ℕ} (next : LinkId) (one two : LinkId) (left : List LinkId) {ahead : List LinkId} → LinksUnfold → IsWellMade h
+      → IsUnderWay h source places nodes ahead → ahead ≡ left ++ next ∷ [] → ((d : Link) → ArePartsOf h.links (get_or h.links next.0 d) (Shortcut one two)) → IsUnderWay h source places nodes ((left ++ two ∷ []) ++ one ∷ [])
   turn_off next one two left law made way ahead_is are =
       let turned : reverse ((left ++ two ∷ []) ++ one ∷ []) ≡ one ∷ two ∷ reverse left = reverse-append (left ++ two ∷ []) (one ∷ []) ∙ ap (λ (ps : List LinkId). one ∷ ps) (reverse-append left (two ∷ [])) in
       let by_halves : Unfolded h (one ∷ two ∷ reverse left) way.rest = split law h made next (reverse left) way.rest one two (nearest_first next left way ahead_is) are in
@@ -113,6 +114,7 @@ module _ {h : Hierarchy} {source : ℕ} {places : List LinkId} where
       go_too_far way some_node (omega (arith, many, length-reverse places))
 
   -- a shortcut leads to one node more than there is room for
-  pub no_room : {nodes : List ℕ} (next : LinkId) (one two : LinkId) (left : List LinkId) {ahead : List LinkId} → LinksUnfold → IsWellMade h → IsUnderWay h source places nodes ahead → ahead ≡ left ++ next ∷ [] → ((d : Link) → ArePartsOf h.links (get_or h.links next.0 d) (Shortcut one two)) → source < length h.ranks → length h.ranks < length nodes + length left + 2 → IsTooLong h places
+  pub no_room : {nodes : List ℕ} (next : LinkId) (one two : LinkId) (left : List LinkId) {ahead : List LinkId} → LinksUnfold → IsWellMade h
+      → IsUnderWay h source places nodes ahead → ahead ≡ left ++ next ∷ [] → ((d : Link) → ArePartsOf h.links (get_or h.links next.0 d) (Shortcut one two)) → source < length h.ranks → length h.ranks < length nodes + length left + 2 → IsTooLong h places
   no_room next one two left law made way ahead_is are some_node far =
       go_too_far (turn_off next one two left law made way ahead_is are) some_node (omega (arith, far, length-append (left ++ two ∷ []) (one ∷ []), length-append left (two ∷ [])))

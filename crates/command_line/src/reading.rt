@@ -51,6 +51,7 @@ fn job_of<'a>(name: &str, found: &ArgMatches<'a>) -> Option<Job<'a>> {
     match name {
         "prepare" => preparing(found),
         "route" => routing(found),
+        "serve" => serving(found),
         _ => answering(found),
     }
 }
@@ -76,6 +77,11 @@ fn preparing<'a>(found: &ArgMatches<'a>) -> Option<Job<'a>> {
 fn routing<'a>(found: &ArgMatches<'a>) -> Option<Job<'a>> {
     let (hierarchy, queries) = files_of(found, "HIER", "QUERIES")?;
     Some(Job::Route { hierarchy, queries })
+}
+
+fn serving<'a>(found: &ArgMatches<'a>) -> Option<Job<'a>> {
+    let hierarchy = found.get_str("HIER")?;
+    Some(Job::Serve { hierarchy })
 }
 
 fn answering<'a>(found: &ArgMatches<'a>) -> Option<Job<'a>> {
@@ -125,6 +131,7 @@ fn program<'a>(alloc: Global) -> Result<Command<'a>, AllocError>
     let program = with(program, answer(alloc))?;
     let program = with(program, prepare(alloc))?;
     let program = with(program, route(alloc))?;
+    let program = with(program, serve(alloc))?;
     Ok(with_a_command(program))
 }
 
@@ -182,6 +189,15 @@ fn route<'a>(alloc: Global) -> Result<Command<'a>, AllocError>
         .about("Answers pairs of nodes, as answer does, by a hierarchy that was prepared")
         .arg(file(alloc, "HIER", HIER))?
         .arg(file(alloc, "QUERIES", QUERIES))
+}
+
+fn serve<'a>(alloc: Global) -> Result<Command<'a>, AllocError>
+    ensures { IfOk result (λ serve. (out-Command serve).has_globals ≡ false) }
+{
+    Command::new(alloc, "serve")
+        .about("Replies to each line of standard input by a line, by a hierarchy that was prepared")
+        .after_help(SERVING)
+        .arg(file(alloc, "HIER", HIER))
 }
 
 // A file that has to be named.
@@ -277,6 +293,10 @@ const STATUSES: &str =
 
 const PREPARING: &str =
     "Answers by OUT are right whatever the options: they bear on the time it takes and on the size of OUT.";
+
+const SERVING: &str =
+    "q S T asks for a route, d S T for its length, b S C .. : T D .. for the best from places with lengths that are added.\n\n\
+A line that begins with c gets c, and one with a fault e and the fault's name.";
 
 const ANSWERING: &str =
     "With - for both files standard input has both texts, parted by a line that is %.\n\n\

@@ -2,19 +2,21 @@
 use Rattle.std.specs.Prelude.{Bool, false, ◌&&◌, ⊤, codes}
 use Rattle.std.specs.Str.{bytes_eq}
 use Rattle.jobs.specs.declared.job.Job.{Job}
-use Rattle.jobs.specs.declared.job.Job.TheVariants.{Answer, Prepare, Route}
+use Rattle.jobs.specs.declared.job.Job.TheVariants.{Answer, Prepare, Route, Serve}
 
 -- both texts stand in one input
 abbrev pub is_joined : Job → Bool
 is_joined (Answer graph queries) = bytes_eq graph.now (codes "-") && bytes_eq queries.now (codes "-")
 is_joined (Prepare preparation) = false
 is_joined (Route hierarchy queries) = false
+is_joined (Serve hierarchy) = false
 
 -- the file of a hierarchy is to be made under the name of the graph
 abbrev pub names_one_file : Job → Bool
 names_one_file (Answer graph queries) = false
 names_one_file (Prepare preparation) = bytes_eq preparation.graph.now preparation.out.now
 names_one_file (Route hierarchy queries) = false
+names_one_file (Serve hierarchy) = false
 
 -- pairs are to be answered over a graph
 abbrev pub IsAnswering : Job → Type 0
@@ -30,3 +32,8 @@ IsPreparing job = ⊥
 abbrev pub IsRouting : Job → Type 0
 IsRouting (Route hierarchy queries) = ⊤
 IsRouting job = ⊥
+
+-- requests are to be replied to by a hierarchy
+abbrev pub IsServing : Job → Type 0
+IsServing (Serve hierarchy) = ⊤
+IsServing job = ⊥

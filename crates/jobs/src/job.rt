@@ -21,6 +21,11 @@ pub enum Job<'a> {
         /// The file with the text of the pairs.
         queries: &'a str,
     },
+    /// To reply to requests by a hierarchy.
+    Serve {
+        /// The file of the hierarchy.
+        hierarchy: &'a str,
+    },
 }
 
 /// Why a command line names no job, with the text for the user.
@@ -47,7 +52,7 @@ impl Job<'_> {
     {
         match self {
             Job::Answer { graph, queries } => *graph == "-" && *queries == "-",
-            Job::Prepare(_) | Job::Route { .. } => false,
+            Job::Prepare(_) | Job::Route { .. } | Job::Serve { .. } => false,
         }
     }
 
@@ -57,7 +62,7 @@ impl Job<'_> {
     {
         match self {
             Job::Prepare(preparation) => preparation.graph == preparation.out,
-            Job::Answer { .. } | Job::Route { .. } => false,
+            Job::Answer { .. } | Job::Route { .. } | Job::Serve { .. } => false,
         }
     }
 

@@ -1,3 +1,4 @@
 mod OneForEach
 mod Putting
 mod Statuses
+mod Stops

@@ -17,8 +17,8 @@ use Rattle.ch_service.specs.Joined.{graph_part, pairs_part}
 use Rattle.ch_service.specs.Outcome.{Writes}
 use Rattle.ch_service.specs.Refusals.{NotBad, RefusesAnswers, RefusesPreparing, RefusesRoutes}
 use Rattle.jobs.specs.declared.job.Job.{Job}
-use Rattle.jobs.specs.declared.job.Job.TheVariants.{Answer, Prepare, Route}
-use Rattle.performing.specs.Status.{status_of, status_after, Ends, Tells, TellsPrepared, TellsRouted, IsAnsweringStatus, IsPreparingStatus, IsRoutingStatus, IsStatusOf}
+use Rattle.jobs.specs.declared.job.Job.TheVariants.{Answer, Prepare, Route, Serve}
+use Rattle.performing.specs.Status.{status_of, status_after, Ends, Tells, TellsPrepared, TellsRouted, IsAnsweringStatus, IsPreparingStatus, IsRoutingStatus, IsServingStatus, IsStatusOf}
 
 -- a refusal has a status of its own
 pub some_status : (c : Cause) → status_of c ≢ 0
@@ -128,6 +128,16 @@ of_preparation j n preparation is status = rw is status
 
 pub of_route : (j : Job) (n : ℕ) (hierarchy queries : _) → j ≡ Route hierarchy queries → IsRoutingStatus n → IsStatusOf j n
 of_route j n hierarchy queries is status = rw is status
+
+pub of_service : (j : Job) (n : ℕ) (hierarchy : _) → j ≡ Serve hierarchy → IsServingStatus n → IsStatusOf j n
+of_service j n hierarchy is status = rw is status
+
+-- nor where requests are served
+pub no_worker : (n : ℕ) (P : Type 0) → IsServingStatus n → n ≡ 8 → P
+no_worker n P (inl is) eight = absurd (cc)
+no_worker n P (inr (inl is)) eight = absurd (cc)
+no_worker n P (inr (inr (inl is))) eight = absurd (cc)
+no_worker n P (inr (inr (inr is))) eight = absurd (cc)
 
 -- there are no workers to disagree where pairs are routed
 pub no_disagreement : (n : ℕ) (P : Type 0) → IsRoutingStatus n → n ≡ 8 → P

@@ -8,8 +8,12 @@ use Rattle.ch_service.specs.Cause.{cause_of}
 use Rattle.ch_service.specs.Outcome.{IfTold, Writes}
 use Rattle.ch_service.specs.Refusals.{RefusesAnswers, RefusesPreparing, RefusesRoutes}
 use Rattle.ch_service.specs.Route.{Prepares, Routes}
+use Rattle.ch_serve.specs.Serving.{IsFileFault, KeepsBefore, Serves, ServesFirst, StopsServing}
+use Rattle.ch_serve.specs.declared.error.ServeError.{ServeError}
+use Rattle.ch_serve.specs.declared.error.ServeError.TheVariants as stops
+use Rattle.hierfile.specs.declared.error.HierError.TheVariants as faults
 use Rattle.jobs.specs.declared.job.Job.{Job}
-use Rattle.jobs.specs.declared.job.Job.TheVariants.{Answer, Prepare, Route}
+use Rattle.jobs.specs.declared.job.Job.TheVariants.{Answer, Prepare, Route, Serve}
 
 -- The status of a refusal, by what it comes of. A route that is too long is a fault of the hierarchy, and bad options
 -- would be one of the command line.
@@ -46,6 +50,20 @@ TellsPrepared status graph old new = Ends status (IfSome graph (λ graph_text. W
 abbrev pub TellsRouted : ℕ → Option (List ℕ) → Option (List ℕ) → Option (List ℕ) → Option (List ℕ) → Type 0
 TellsRouted status file pairs old new = Ends status (IfTold file pairs (λ bytes pairs_text. Writes (Routes bytes pairs_text) old new)) (RefusesRoutes file pairs old new)
 
+-- the status of a service that ended before its requests did
+abbrev pub status_stopped : ServeError → ℕ
+status_stopped (stops.Hierarchy faults.OutOfMemory) = 6
+status_stopped (stops.Hierarchy faults.Read) = 7
+status_stopped (stops.Hierarchy fault) = 4
+status_stopped stops.OutOfMemory = 6
+status_stopped stops.Read = 7
+status_stopped (stops.Write fault) = 7
+
+-- and that of a serving job, of the file of the hierarchy and of the requests that a reader had and has left
+pub record TellsServed (status : ℕ) (file had left old new : Option (List ℕ)) : Type 0 where
+  pub done : status ≡ 0 → IfTold file had (λ bytes requests_text. Writes (Serves bytes requests_text) old new)
+  pub refused : status ≢ 0 → (e : ServeError) × (status ≡ status_stopped e) × KeepsBefore old new e × IfSome file (λ bytes. IsFileFault bytes e) × IfSome file (λ bytes. StopsServing (λ count. ServesFirst count bytes) had left old new e)
+
 -- with which an answering job may end
 abbrev pub IsAnsweringStatus : ℕ → Type 0
 IsAnsweringStatus n = (n ≡ 0) ⊎ (n ≡ 3) ⊎ (n ≡ 5) ⊎ (n ≡ 6) ⊎ (n ≡ 7) ⊎ (n ≡ 8)
@@ -54,12 +72,17 @@ IsAnsweringStatus n = (n ≡ 0) ⊎ (n ≡ 3) ⊎ (n ≡ 5) ⊎ (n ≡ 6) ⊎ (n
 abbrev pub IsPreparingStatus : ℕ → Type 0
 IsPreparingStatus n = (n ≡ 0) ⊎ (n ≡ 3) ⊎ (n ≡ 6) ⊎ (n ≡ 7) ⊎ (n ≡ 8)
 
--- and a routing one
+-- a routing one
 abbrev pub IsRoutingStatus : ℕ → Type 0
 IsRoutingStatus n = (n ≡ 0) ⊎ (n ≡ 4) ⊎ (n ≡ 5) ⊎ (n ≡ 6) ⊎ (n ≡ 7)
+
+-- and a serving one
+abbrev pub IsServingStatus : ℕ → Type 0
+IsServingStatus n = (n ≡ 0) ⊎ (n ≡ 4) ⊎ (n ≡ 6) ⊎ (n ≡ 7)
 
 -- the status is one of those of the job
 abbrev pub IsStatusOf : Job → ℕ → Type 0
 IsStatusOf (Answer graph queries) = IsAnsweringStatus
 IsStatusOf (Prepare preparation) = IsPreparingStatus
 IsStatusOf (Route hierarchy queries) = IsRoutingStatus
+IsStatusOf (Serve hierarchy) = IsServingStatus

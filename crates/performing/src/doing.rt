@@ -1,12 +1,13 @@
 ghost use Rattle.std.specs.Prelude.{◌≡◌, ◌⊎◌, true, false, option_map};
 ghost use Rattle.std.specs.Io.KnownBytes.{Keeps};
 ghost use Rattle.ch_service.specs.Joined.{graph_part, pairs_part};
-ghost use Rattle.jobs.specs.Job.{is_joined, IsAnswering, IsPreparing, IsRouting};
-ghost use Rattle.performing.specs.Status.{Tells, TellsPrepared, TellsRouted, IsStatusOf};
+ghost use Rattle.jobs.specs.Job.{is_joined, IsAnswering, IsPreparing, IsRouting, IsServing};
+ghost use Rattle.performing.specs.Status.{Tells, TellsPrepared, TellsRouted, TellsServed, IsStatusOf};
 
 use crate::answering::{perform_answer, perform_joined};
 use crate::preparing::perform_preparation;
 use crate::routing::perform_route;
+use crate::serving::perform_service;
 use ch_workers::OpenGate;
 use jobs::Job;
 use std::alloc::Global;
@@ -15,11 +16,11 @@ use std::sync::Wait;
 use std::thread::Threads;
 
 /// Does the job and answers the program's exit status, by [`perform_answer`], [`perform_joined`],
-/// [`perform_preparation`] or [`perform_route`]. A caller that knows its job calls that one.
+/// [`perform_preparation`], [`perform_route`] or [`perform_service`]. A caller that knows its job calls that one.
 ///
 /// To answer, `first` gives the graph's text and `second` that of the pairs; where both stand in one input, `first`
 /// gives it and `second` isn't read. To prepare, `first` gives the graph's text, `second` isn't read, and `out` gets
-/// the hierarchy. To route, `first` gives the hierarchy and `second` the text of the pairs. Answers go to `out`. Of a
+/// the hierarchy. To route, `first` gives the hierarchy and `second` the text of the pairs; to serve, `second` gives the requests. Answers go to `out`. Of a
 /// refusal one line goes to `err`. Only to prepare by workers are threads started.
 pub fn perform<A: Read, B: Read, W: Write, E: Write, R: Threads + Wait + Sync>(
     rt: &R,
@@ -34,6 +35,7 @@ pub fn perform<A: Read, B: Read, W: Write, E: Write, R: Threads + Wait + Sync>(
     ensures joined { is_joined job.now ≡ true → Tells result (option_map graph_part (A.remaining first.old)) (option_map pairs_part (A.remaining first.old)) (W.contents out.old) (W.contents out.new) }
     ensures prepared { IsPreparing job.now → TellsPrepared result (A.remaining first.old) (W.contents out.old) (W.contents out.new) }
     ensures routed { IsRouting job.now → TellsRouted result (A.remaining first.old) (B.remaining second.old) (W.contents out.old) (W.contents out.new) }
+    ensures served { IsServing job.now → TellsServed result (A.remaining first.old) (B.remaining second.old) (B.remaining second.new) (W.contents out.old) (W.contents out.new) }
 
     // Whatever is known of the bytes of readers and writers.
     ensures status { IsStatusOf job.now result }
@@ -48,5 +50,6 @@ pub fn perform<A: Read, B: Read, W: Write, E: Write, R: Threads + Wait + Sync>(
             perform_preparation(rt, alloc, preparation, first, out, err, &OpenGate)
         }
         Job::Route { .. } => perform_route(alloc, first, second, out, err),
+        Job::Serve { .. } => perform_service(alloc, first, second, out, err),
     }
 }

@@ -6,12 +6,12 @@
 #![tactic(auto)]
 
 ghost use Rattle.std.specs.Prelude.{◌≡◌, ◌⊎◌};
-ghost use Rattle.performing.specs.Status.{IsAnsweringStatus, IsPreparingStatus, IsRoutingStatus};
+ghost use Rattle.performing.specs.Status.{IsAnsweringStatus, IsPreparingStatus, IsRoutingStatus, IsServingStatus};
 
 use ch_workers::{Gate, OpenGate};
 use command_line::command;
 use jobs::{Job, Preparation, Stop, end, show_stop};
-use performing::{perform_answer, perform_joined, perform_route, prepare_whole};
+use performing::{perform_answer, perform_joined, perform_route, perform_service, prepare_whole};
 use progress::{Cleared, Meter, Watched};
 use std::env::Env;
 use std::io::{ErrorKind, IsTerminal};
@@ -40,6 +40,7 @@ fn main(rt: HostRuntime) -> ExitCode {
         }
         Job::Answer { graph, queries } => answer(&rt, graph, queries, &mut out, &mut err),
         Job::Route { hierarchy, queries } => route(&rt, hierarchy, queries, &mut out, &mut err),
+        Job::Serve { hierarchy } => serve(&rt, hierarchy, &mut rt.stdin(), &mut out, &mut err),
         Job::Prepare(preparation) if is_one_file(&rt, preparation.graph, preparation.out) => {
             show_stop(&Stop::OneFile, &mut out, &mut err)
         }
@@ -85,6 +86,23 @@ fn route<R: Files + AllocGlobal, W: io::Write, E: io::Write>(
         }
         (Err(error), _) => refuse_file(&error, err),
         (_, Err(error)) => refuse_file(&error, err),
+    }
+}
+
+// Replies to requests by the hierarchy of a file.
+fn serve<R: Files + AllocGlobal, Q: io::Read, W: io::Write, E: io::Write>(
+    rt: &R,
+    hierarchy: &str,
+    requests: &mut Q,
+    out: &mut W,
+    err: &mut E,
+) -> u8
+    ensures status { IsServingStatus result }
+    ensures quiet { result ≡ 0 → err.new ≡ err.old }
+{
+    match fs::open(rt, hierarchy) {
+        Ok(mut hierarchy) => perform_service(rt.alloc(), &mut hierarchy, requests, out, err),
+        Err(error) => refuse_file(&error, err),
     }
 }
 

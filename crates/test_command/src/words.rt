@@ -27,8 +27,8 @@ impl Write for Broken {
     }
 }
 
-/// Words that name a job of two files, and whether both texts of it stand in standard input.
-const NAMED: [(&[&str], Job<'static>, bool); 5] = [
+/// Words that name a job without options, and whether both texts of it stand in standard input.
+const NAMED: [(&[&str], Job<'static>, bool); 6] = [
     (
         &["routecli", "answer", "a.gr", "b.p2p"],
         Job::Answer {
@@ -67,6 +67,11 @@ const NAMED: [(&[&str], Job<'static>, bool); 5] = [
             hierarchy: "-",
             queries: "-",
         },
+        false,
+    ),
+    (
+        &["routecli", "serve", "a.rch"],
+        Job::Serve { hierarchy: "a.rch" },
         false,
     ),
 ];

@@ -9,7 +9,7 @@ use crate::proposals::{are_of, are_shortcuts};
 use crate::shelf::{Lead, Numbers, cost_of};
 use ch_contract::{
     Board, CommitError, Contraction, FinishError, Ledger, Proposal, ProposeError, Receipt, Site,
-    SweepError, propose,
+    SweepError, Verdict, propose,
 };
 use ch_graph::{Graph, Hierarchy, Link, Road};
 use ch_rowbook::{Blank, Reader};
@@ -21,13 +21,18 @@ use std::test::Fail;
 /// How many nodes each search settles at most.
 const SETTLE: u32 = 64;
 
-/// A proposal, and what the board answers to it: its node, the nodes of the rows that it rests on, and its shortcuts.
+/// A proposal, and what the board answers to it: its node, the nodes of the rows that it rests on, its verdicts, and its
+/// shortcuts.
 type Offer = (
     u32,
     &'static [u32],
+    &'static [Judged],
     &'static [Lead],
     Result<Receipt, CommitError>,
 );
+
+/// The verdict on a pair of nodes, or none where it isn't one of neighbours.
+type Judged = (u32, u32, Option<Verdict>);
 
 /// A link: its ends, its cost and its middle.
 pub type Linked = (u32, u32, Numbers, Option<u32>);
@@ -103,10 +108,17 @@ const ROW_BY_COMMITS: Case = Case {
         (
             0,
             &[0, 1],
+            &[(1, 2, Some(Verdict::Shortcut)), (2, 1, None)],
             &[(1, 2, (5, 2))],
             Ok(Receipt { node: 0, rank: 0 }),
         ),
-        (0, &[0, 1], &[(1, 2, (5, 2))], Err(CommitError::Contracted)),
+        (
+            0,
+            &[0, 1],
+            &[(1, 2, Some(Verdict::Shortcut))],
+            &[(1, 2, (5, 2))],
+            Err(CommitError::Contracted),
+        ),
     ]],
     ..ROW_OF_THREE
 };
@@ -116,10 +128,17 @@ const ROW_BY_COMMITS: Case = Case {
 const TIE_BY_COMMITS: Case = Case {
     turns: &[
         &[
-            (0, &[0, 2, 1], &[], Ok(Receipt { node: 0, rank: 0 })),
+            (
+                0,
+                &[0, 2, 1],
+                &[(2, 3, Some(Verdict::Witness))],
+                &[],
+                Ok(Receipt { node: 0, rank: 0 }),
+            ),
             (
                 1,
                 &[1, 2, 0],
+                &[(2, 3, Some(Verdict::Witness))],
                 &[],
                 Err(CommitError::Stale {
                     node: 2,
@@ -132,6 +151,7 @@ const TIE_BY_COMMITS: Case = Case {
         &[(
             1,
             &[1, 2],
+            &[(2, 3, Some(Verdict::Shortcut))],
             &[(2, 3, (2, 2))],
             Ok(Receipt { node: 1, rank: 1 }),
         )],
@@ -139,16 +159,27 @@ const TIE_BY_COMMITS: Case = Case {
     ..TIE_OF_FOUR
 };
 
-/// The heavy pair of node 1 gets no shortcut once node 0 is contracted.
+/// Once node 0 is contracted, the pair of node 1 from 2 to 3 is heavy: its two shortcuts cost 17,179,869,180 together.
 const HEAVY_BY_COMMITS: Case = Case {
     turns: &[
         &[(
             0,
             &[0, 1, 2],
+            &[
+                (1, 3, Some(Verdict::Shortcut)),
+                (2, 1, Some(Verdict::Shortcut)),
+                (2, 3, Some(Verdict::Shortcut)),
+            ],
             &[(1, 3, (TWO, 2)), (2, 1, (TWO, 2)), (2, 3, (TWO, 2))],
             Ok(Receipt { node: 0, rank: 0 }),
         )],
-        &[(1, &[1, 2], &[], Ok(Receipt { node: 1, rank: 1 }))],
+        &[(
+            1,
+            &[1, 2],
+            &[(2, 3, Some(Verdict::Heavy))],
+            &[],
+            Ok(Receipt { node: 1, rank: 1 }),
+        )],
     ],
     ..HEAVIEST_WEIGHTS
 };
@@ -315,7 +346,8 @@ fn is_swept<S: Site, R: Wait>(
         holds &= refuses(alloc, board, node, ProposeError::Contracted);
     }
     let receipts = board.sweep(rt, SETTLE)?;
-    Ok(holds & in_order(&receipts, contracted) & is_log(board.log(), case.log))
+    let many = receipts.len() == case.nodes.saturating_sub(contracted) as usize;
+    Ok(holds & many & in_order(&receipts, contracted) & is_log(board.log(), case.log))
 }
 
 /// Whether the proposals by the rows as they are, and then the board's answers to them, are as expected.
@@ -334,12 +366,19 @@ fn answers<S: Site, R: Wait>(
         return false;
     };
     let holds = answers(rt, alloc, board, before) & is_offer(&proposal, offer);
-    holds & (board.commit(rt, proposal) == offer.3)
+    holds & (board.commit(rt, proposal) == offer.4)
 }
 
-/// Whether a proposal rests on the rows of the offer, and has its shortcuts.
-fn is_offer(proposal: &Proposal, (_, rows, shortcuts, _): &Offer) -> bool {
-    are_of(proposal.rests_on(), rows) & are_shortcuts(proposal.shortcuts(), shortcuts)
+/// Whether a proposal rests on the rows of the offer, and has its verdicts and shortcuts.
+fn is_offer(proposal: &Proposal, (_, rows, verdicts, shortcuts, _): &Offer) -> bool {
+    are_of(proposal.rests_on(), rows)
+        & has_verdicts(proposal, verdicts)
+        & are_shortcuts(proposal.shortcuts(), shortcuts)
+}
+
+/// Whether a proposal has these verdicts.
+fn has_verdicts(proposal: &Proposal, verdicts: &[Judged]) -> bool {
+    verdicts.iter().all(|(from, to, verdict)| proposal.verdict(*from, *to) == *verdict)
 }
 
 /// Whether a node isn't proposed, for this reason.

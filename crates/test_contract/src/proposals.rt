@@ -268,12 +268,33 @@ fn a_way_between_neighbours(rt: HostRuntime) -> Result<(), Fail> {
     Ok(())
 }
 
+/// A node of the tie that isn't proposed by the rows of the first nodes, of which one may have a rank: why, and which
+/// nodes are asked for.
+type Refused = (u32, Option<u32>, u32, ProposeError, &'static [u32]);
+
+const REFUSED: [Refused; 5] = [
+    // A node with a rank: no row is asked for but its own, whether there are others or not.
+    (4, Some(0), 0, ProposeError::Contracted, &[0]),
+    (1, Some(0), 0, ProposeError::Contracted, &[0]),
+    // Without a rank, and the row of its neighbour isn't there.
+    (1, None, 0, ProposeError::Unseen, &[0, 2]),
+    // No such node.
+    (4, Some(0), 4, ProposeError::Unseen, &[4]),
+    (0, None, 0, ProposeError::Unseen, &[0]),
+];
+
+/// Whether the node isn't proposed, for the reason, and those nodes are asked for.
+fn is_refused(alloc: Global, case: Refused) -> Result<bool, Fail> {
+    let (rows, ranked, node, reason, asked) = case;
+    let mut shelf = Shelf::new(alloc, rows, &TIE, (3, 1), ranked)?;
+    let answer = propose(alloc, &mut shelf, node, 64).err();
+    Ok((answer == Some(reason)) & (shelf.asked.as_slice() == asked))
+}
+
 #[test]
 fn refused_nodes(rt: HostRuntime) -> Result<(), Fail> {
-    let alloc = rt.alloc();
-    for (node, reason) in [(0, ProposeError::Contracted), (4, ProposeError::Unseen)] {
-        let mut shelf = Shelf::new(alloc, 4, &TIE, (3, 1), Some(0))?;
-        assert!(rt; propose(alloc, &mut shelf, node, 64).err() == Some(reason));
+    for case in REFUSED {
+        assert!(rt; is_refused(rt.alloc(), case)?);
     }
     Ok(())
 }

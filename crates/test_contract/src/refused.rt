@@ -186,13 +186,15 @@ fn seen_again<S: Site, R: Wait>(
     Ok(board.commit_and_see(rt, &proposal, reader)?)
 }
 
-/// Contracts the nodes that are left: how many.
-fn sweep<S: Site, R: Wait>(rt: &R, board: &mut Board<S>) -> Result<usize, SweepError> {
-    Ok(board.sweep(rt, SETTLE)?.len())
+/// Contracts the nodes that are left: whether a receipt is handed out for each.
+fn sweep<S: Site, R: Wait>(rt: &R, board: &mut Board<S>) -> Result<bool, SweepError> {
+    let left = board.overlay().alive() as usize;
+    Ok(board.sweep(rt, SETTLE)?.len() == left)
 }
 
-/// Contracts the nodes that are left, and then those that a refused sweep left.
-fn swept<S: Site, R: Wait>(rt: &R, board: &mut Board<S>) -> Result<usize, SweepError> {
+/// Contracts the nodes that are left, and then those that a refused sweep left: whether a receipt is handed out for each of
+/// these.
+fn swept<S: Site, R: Wait>(rt: &R, board: &mut Board<S>) -> Result<bool, SweepError> {
     match sweep(rt, board) {
         Err(SweepError::OutOfMemory) => sweep(rt, board),
         answer => answer,
@@ -224,12 +226,7 @@ fn is_contracted<S: Site, R: Wait>(
     let is_first = row_of(board, 1)?.version == 1;
     let receipt = committed(rt, alloc, board, 0)?;
     let swept = swept(rt, board)?;
-    Ok(
-        is_first
-            & (receipt == Receipt { node: 0, rank: 0 })
-            & (swept <= 2)
-            & (board.log().len() == 3),
-    )
+    Ok(is_first & (receipt == Receipt { node: 0, rank: 0 }) & swept & (board.log().len() == 3))
 }
 
 /// Whether a board of the row of three nodes comes to its hierarchy, with node 0 contracted by a commit.

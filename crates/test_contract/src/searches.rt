@@ -45,7 +45,7 @@ type Case = (
 
 const BY_1: Option<Wanted> = Some((&[2, 1, 3], (2, 2)));
 
-const CASES: [Case; 13] = [
+const CASES: [Case; 15] = [
     // The target is settled third, and its row isn't read.
     (&TIE, None, (0, (2, 2), 64), BY_1, &[2, 1]),
     (&TIE, None, (0, (2, 2), 2), BY_1, &[2, 1]),
@@ -60,6 +60,9 @@ const CASES: [Case; 13] = [
         Some((&[2, 0, 3], (2, 2))),
         &[2, 0, 1],
     ),
+    // A cutoff may have more arcs than the bound, whose length is 3.
+    (&TIE, None, (0, (2, 9), 64), BY_1, &[2, 1]),
+    (&TIE, None, (0, (1, 9), 64), None, &[2, 1]),
     // Of two ways of one length that of fewer arcs is found.
     (&FEWEST, None, (9, (2, 3), 64), BY_1, &[2, 0, 1]),
     // A direct arc to a target that isn't settled.

@@ -1,5 +1,5 @@
 ghost use Rattle.std.specs.Prelude.{◌≡◌, IsTrue, IfOk, refl};
-ghost use Rattle.ch_cost.specs.Cost.{IsWithin, cost_of_arcs};
+ghost use Rattle.ch_cost.specs.Cost.{◌≼◌, cost_of_arcs};
 ghost use Rattle.ch_overlay.specs.Source.{IsSeenRow};
 
 use ch_cost::Cost;
@@ -24,6 +24,7 @@ pub fn cost_of((length, arcs): Numbers) -> Cost {
 #[derive(Drop)]
 pub struct Shelf {
     rows: Vec<Arc<Row>>,
+    /// Each node that was asked for, also where there is no row of it.
     pub asked: Vec<u32>,
     /// The bound is what so many arcs of this weight cost.
     count: u16,
@@ -62,11 +63,11 @@ impl Shelf {
         })
     }
 
-    /// Whether a cost is within the bound.
+    /// Whether a cost is at most the bound.
     pub fn allows(&self, cost: Cost) -> bool
-        ensures { IsTrue result → IsWithin cost self.now }
+        ensures { IsTrue result → cost ≼ self.now }
     {
-        cost.is_within(Cost::of_arcs(u32::from(self.count), self.heaviest))
+        cost.is_at_most(Cost::of_arcs(u32::from(self.count), self.heaviest))
     }
 }
 
@@ -107,9 +108,8 @@ impl RowSource for Shelf {
 
     fn row_of(&mut self, node: u32) -> Result<Seen, SeeError> {
         let bound = self.bound();
-        let seen = self.seen(node, bound)?;
         self.asked.push(node)?;
-        Ok(seen)
+        self.seen(node, bound)
     }
 
     fn bound(&self) -> Cost {

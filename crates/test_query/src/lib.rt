@@ -21,3 +21,5 @@ mod routers;
 mod routes;
 #[cfg(test)]
 mod searches;
+#[cfg(test)]
+mod several;

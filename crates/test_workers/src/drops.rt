@@ -126,13 +126,3 @@ fn estimators_are_dropped(rt: HostRuntime) -> Result<(), Fail> {
     }
     Ok(())
 }
-
-// Where an allocation is refused, the answer may be OutOfMemory.
-#[test]
-fn estimators_are_dropped_on_any_answer(rt: HostRuntime) -> Result<(), Fail> {
-    let alloc = rt.alloc();
-    let traces = Traces::new(alloc, 2, 3)?;
-    let refused = built_by(&rt, alloc, tie(alloc)?, TWO, &traces, &OpenGate)?.err();
-    assert!(rt; traces.are_dropped() & matches!(refused, None | Some(BuildError::OutOfMemory)));
-    Ok(())
-}

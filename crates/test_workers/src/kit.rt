@@ -36,6 +36,13 @@ pub(crate) fn star(alloc: Global) -> Result<Graph, Fail> {
     Ok(graph)
 }
 
+/// One arc of weight 7, from node 0 to node 1.
+pub(crate) fn arc(alloc: Global) -> Result<Graph, Fail> {
+    let arcs = vec![in alloc; road(0, 1, 7)]?;
+    let graph = Graph::checked(2, arcs)?;
+    Ok(graph)
+}
+
 /// The row of three nodes: 1 to 0, and 0 to 2.
 pub(crate) fn row(alloc: Global) -> Result<Graph, Fail> {
     let arcs = vec![in alloc; road(1, 0, 2), road(0, 2, 3)]?;

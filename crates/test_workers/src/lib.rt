@@ -8,6 +8,8 @@
 #[cfg(test)]
 mod accounts;
 #[cfg(test)]
+mod asked;
+#[cfg(test)]
 mod cliques;
 #[cfg(test)]
 mod collisions;

@@ -1,9 +1,9 @@
-use crate::kit::{Keys, ONE, built_by, empty_lists, row, star, tie};
+use crate::kit::{Keys, ONE, arc, built_by, empty_lists, row, star, tie};
 use crate::stations::Trail;
 use ch_contract::Receipt;
 use ch_cost::Cost;
 use ch_estimate::Leases;
-use ch_graph::{Hierarchy, Link};
+use ch_graph::{Graph, Hierarchy, Link};
 use ch_workers::{Built, OpenGate, Options, build};
 use std::alloc::Global;
 use std::sync::Wait;
@@ -126,29 +126,67 @@ fn a_tie_by_one_worker_and_the_sweep(rt: HostRuntime) -> Result<(), Fail> {
     Ok(())
 }
 
-/// Builds the row of three nodes by one worker, who has no estimator.
+/// Builds a graph by one worker, who has no estimator.
 fn built_without_estimators<R: Threads + Wait + Sync>(
     rt: &R,
     alloc: Global,
+    graph: Graph,
+    options: Options,
 ) -> Result<Built, Fail> {
     let mut leases = Leases::new(alloc)?;
     let lists = empty_lists(alloc, 1)?;
-    let graph = row(alloc)?;
-    let built = build(rt, alloc, graph, ONE, lists, &mut leases, &OpenGate)?;
+    let built = build(rt, alloc, graph, options, lists, &mut leases, &OpenGate)?;
     Ok(built)
 }
 
-/// Whether the worker contracted the row of three nodes by their numbers.
-fn is_by_numbers(built: &Built) -> bool {
+/// Whether the worker contracted all nodes in this order, and made these links.
+fn is_by_order(built: &Built, order: &[Receipt], links: &[Link]) -> bool {
+    are_receipts(built, order, [].as_slice()) && built.hierarchy.links() == links
+}
+
+// With one heap the nodes are contracted by their numbers. Of one arc there is one link, so the length from node 0 to
+// node 1 is 7, and there is no way back.
+#[test]
+fn a_worker_without_estimators(rt: HostRuntime) -> Result<(), Fail> {
     let order = [receipt(0, 0), receipt(1, 1), receipt(2, 2)];
     let links = [link(0, 2, 3), link(1, 0, 2), shortcut(1, 2, 5)];
-    are_receipts(built, order.as_slice(), [].as_slice())
-        && built.hierarchy.links() == links.as_slice()
+    let built = built_without_estimators(&rt, rt.alloc(), row(rt.alloc())?, ONE)?;
+    assert!(rt; is_by_order(&built, &order, &links));
+    let built = built_without_estimators(&rt, rt.alloc(), arc(rt.alloc())?, ONE)?;
+    assert!(rt; is_by_order(&built, &order[..2], &[link(0, 1, 7)]));
+    Ok(())
+}
+
+/// A seed, and the nodes of the tie in the order in which one worker contracts them who has two heaps and no estimator.
+///
+/// By hand, with the words of `Pcg32::new(seed, 0)` by their remainder of 2. Seed 1: nodes 0 to 3 are put into the heaps
+/// 1, 1, 1, 0, and the draws for the items are 0 0, 0 0, 1 0, 0 0. So node 3 comes first, and then the others by number,
+/// the second and the fourth as the heaps are gone through. Seed 7: they are put into the heaps 1, 0, 1, 1, and the draws
+/// are 0 0, 1 1, 1 1, 1 0.
+const DRAWN: [(u64, [u32; 4]); 2] = [(1, [3, 0, 1, 2]), (7, [1, 0, 2, 3])];
+
+/// Whether the worker contracted these nodes in this order.
+fn is_in_order(built: &Built, nodes: &[u32]) -> bool {
+    let Some(receipts) = built.receipts.first() else {
+        return false;
+    };
+    receipts.len() == nodes.len()
+        && receipts
+            .iter()
+            .zip(nodes)
+            .all(|(receipt, node)| receipt.node == *node)
 }
 
 #[test]
-fn a_worker_without_estimators(rt: HostRuntime) -> Result<(), Fail> {
-    let built = built_without_estimators(&rt, rt.alloc())?;
-    assert!(rt; is_by_numbers(&built));
+fn nodes_by_the_words_of_a_seed(rt: HostRuntime) -> Result<(), Fail> {
+    for (seed, nodes) in DRAWN {
+        let options = Options {
+            heaps: 2,
+            seed,
+            ..ONE
+        };
+        let built = built_without_estimators(&rt, rt.alloc(), tie(rt.alloc())?, options)?;
+        assert!(rt; is_in_order(&built, &nodes));
+    }
     Ok(())
 }

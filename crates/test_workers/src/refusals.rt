@@ -1,4 +1,4 @@
-use crate::kit::{ONE, empty_lists, row};
+use crate::kit::{ONE, arc, empty_lists};
 use ch_estimate::Leases;
 use ch_workers::{BuildError, OpenGate, Options, build};
 use std::alloc::Global;
@@ -6,18 +6,23 @@ use std::sync::Wait;
 use std::test::Fail;
 use std::thread::Threads;
 
-/// Whether a build by these options and so many lists answers that they are bad.
-fn is_refused<R: Threads + Wait + Sync>(
+/// Whether a build of one arc by these options and so many lists ends as it should: it makes a hierarchy, or refuses the
+/// options.
+fn ends_well<R: Threads + Wait + Sync>(
     rt: &R,
     alloc: Global,
     options: Options,
     count: u32,
+    are_bad: bool,
 ) -> Result<bool, Fail> {
     let mut leases = Leases::new(alloc)?;
     let lists = empty_lists(alloc, count)?;
-    let graph = row(alloc)?;
+    let graph = arc(alloc)?;
     let built = build(rt, alloc, graph, options, lists, &mut leases, &OpenGate);
-    Ok(matches!(built, Err(BuildError::BadOptions)))
+    Ok(match built {
+        Ok(_built) => !are_bad,
+        Err(error) => are_bad && error == BuildError::BadOptions,
+    })
 }
 
 /// Options, a number of lists, and whether they are bad.
@@ -69,8 +74,8 @@ const OPTIONS: [(Options, u32, bool); 15] = [
 
 #[test]
 fn bad_options_are_refused(rt: HostRuntime) -> Result<(), Fail> {
-    for (options, lists, want) in &OPTIONS {
-        assert!(rt; is_refused(&rt, rt.alloc(), *options, *lists)? == *want);
+    for (options, lists, are_bad) in &OPTIONS {
+        assert!(rt; ends_well(&rt, rt.alloc(), *options, *lists, *are_bad)?);
     }
     Ok(())
 }

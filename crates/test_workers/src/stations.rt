@@ -277,6 +277,21 @@ impl Gate for Overtaken {
     }
 }
 
+/// Makes each worker slow once it has taken an item: others that are at work come further meanwhile.
+#[derive(Drop)]
+pub(crate) struct Slow;
+
+impl Gate for Slow {
+    fn pass(&self, _worker: u32, point: Point) {
+        if point != Point::Took {
+            return;
+        }
+        'turns: for _ in 0..200 {
+            thread::yield_now();
+        }
+    }
+}
+
 /// Two gates, one after the other.
 #[derive(Drop)]
 pub(crate) struct Both<G: Gate, H: Gate> {

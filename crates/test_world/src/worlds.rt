@@ -175,15 +175,20 @@ fn plays(
 type Play = (u32, &'static [Line], &'static [Step], &'static [u64]);
 
 const PLAYS: [Play; 5] = [
-    // The later offer is stale.
+    // The later offer is stale; and another like it, whose rows are forgotten then, is none at all.
     (
         4,
         &TIE,
         &[
             (Act::Propose(1, 1), None),
+            (Act::Propose(1, 1), None),
             (Act::Propose(0, 0), None),
             (Act::Offer(0), FIRST),
             (Act::Offer(1), Some(Outcome::Refused(STALE))),
+            (Act::Read(1, 2, 2), SHOWN),
+            (Act::Read(1, 2, 9), NO_SUCH),
+            (Act::Forget(1), FORGOTTEN),
+            (Act::Offer(1), NO_SUCH),
         ],
         &TIE_LATER,
     ),

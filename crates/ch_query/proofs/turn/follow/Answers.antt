@@ -42,7 +42,9 @@ is_improved_by-requires-clause-settled c =
     let is : step ≡ step_along h c.args.side k = c.index-step.ensures ∙ c.requires.step.along step in
     let head : step.head ≡ head_rank h c.args.side k = ap (λ (s : Step). s.head) is in
     let sum : c.plus_wide-sum.result ≡ c.args.cost ⊕ cost_at h k = c.plus_wide-sum.ensures ∙ ap (λ (d : Cost). c.args.cost ⊕ d) c.step_cost.ensures in
-    settled-step h c.args.side c.args.here.now c.args.rank c.args.cost step.head c.plus_wide-sum.result (leads-step h c.args.side c.args.upward.now.links.items c.args.upward.now.steps.items c.args.place c.args.rank c.args.cost c.requires.step c.requires.foot step.head c.plus_wide-sum.result head sum) c.requires.latest
+    settled-step h c.args.side c.args.here.now c.args.rank c.args.cost step.head c.plus_wide-sum.result
+    (leads-step h c.args.side c.args.upward.now.links.items c.args.upward.now.steps.items c.args.place c.args.rank c.args.cost c.requires.step
+    c.requires.foot step.head c.plus_wide-sum.result head sum) c.requires.latest
 
 true_false : {b : Bool} → b ≡ true → b ≡ false → ⊥
 true_false first second = cc
@@ -63,7 +65,9 @@ returns-then-not-is_improved_by-clause-followed c counted =
     let head : step.head ≡ head_rank h c.args.side k = ap (λ (s : Step). s.head) is in
     let sum : c.plus_wide-sum.result ≡ c.args.cost ⊕ cost_at h k = c.plus_wide-sum.ensures ∙ ap (λ (d : Cost). c.args.cost ⊕ d) c.step_cost.ensures in
     let never : Improves label_cost c.plus_wide-sum.result (mark c.args.here.now step.head) → ⊥ = λ improves. true_false (c.is_improved_by.ensures.1 improves) c.if-not-is_improved_by.true in
-    let above : IsSettledAtMost c.args.here.now step.head c.plus_wide-sum.result = settled-step h c.args.side c.args.here.now c.args.rank c.args.cost step.head c.plus_wide-sum.result (leads-step h c.args.side c.args.upward.now.links.items c.args.upward.now.steps.items c.args.place c.args.rank c.args.cost c.requires.step c.requires.foot step.head c.plus_wide-sum.result head sum) c.requires.latest in
+    let above : IsSettledAtMost c.args.here.now step.head c.plus_wide-sum.result = settled-step h c.args.side c.args.here.now c.args.rank c.args.cost
+    step.head c.plus_wide-sum.result (leads-step h c.args.side c.args.upward.now.links.items c.args.upward.now.steps.items c.args.place
+    c.args.rank c.args.cost c.requires.step c.requires.foot step.head c.plus_wide-sum.result head sum) c.requires.latest in
     followed-kept h c.args.side c.args.bound c.args.cost c.args.limit c.args.here.now k step.head c.plus_wide-sum.result never above head sum counted
 
 pub returns-clause-opened : goal.returns-clause-opened
@@ -80,7 +84,12 @@ returns-clause-opened c =
     let improves : Improves label_cost c.plus_wide-sum.result (mark marks step.head) = c.is_improved_by.ensures.0 c.if-not-is_improved_by.false in
     let within : step.head < length marks = omega (arith, c.requires.here_nodes, head, rank_below h c.requires.made (head_at h side k) (head_in h c.requires.made side k c.requires.step.climbs.within)) in
     let e : Label = record { cost = c.plus_wide-sum.result; foot = c.args.rank } in
-    let climbs : ClimbsTo h side c.args.bound c.args.rank c.args.cost step.head e = record { over = leads-step h side c.args.upward.now.links.items c.args.upward.now.steps.items c.args.place c.args.rank c.args.cost c.requires.step c.requires.foot step.head c.plus_wide-sum.result head sum; foot = refl; short = short } in
+    let climbs : ClimbsTo h side c.args.bound c.args.rank c.args.cost step.head e = record {
+      over = leads-step h side c.args.upward.now.links.items c.args.upward.now.steps.items c.args.place c.args.rank c.args.cost c.requires.step
+          c.requires.foot step.head c.plus_wide-sum.result head sum;
+      foot = refl;
+      short = short;
+    } in
     subst (λ (ms : List (Mark Label)). IsOpenedOver h side c.args.bound c.args.rank c.args.cost marks ms) (sym c.in_ok-open.ensures.opened) (opened-one h side c.args.bound c.args.rank c.args.cost marks step.head e within improves climbs)
 
 pub returns-clause-followed : goal.returns-clause-followed

@@ -38,4 +38,7 @@ loop-place-preserved c = record {
 pub returns-clause-passed : goal.returns-clause-passed
 returns-clause-passed c =
     let h = c.args.hierarchy.now in
-    passed_over h c.requires.made c.args.side c.args.upward.now.first.items c.args.upward.now.links.items c.args.upward.now.steps.items c.requires.laid c.args.rank c.requires.rank_in c.args.bound c.args.cost c.loop-place.place (omega (arith, c.loop-place.invariant.end, c.loop-place-test.false)) c.args.limit c.args.here.now c.loop-place.here c.loop-place.invariant.passing
+    passed_over h c.requires.made c.args.side c.args.upward.now.first.items c.args.upward.now.links.items c.args.upward.now.steps.items
+    c.requires.laid c.args.rank c.requires.rank_in c.args.bound c.args.cost c.loop-place.place
+    (omega (arith, c.loop-place.invariant.end, c.loop-place-test.false)) c.args.limit c.args.here.now c.loop-place.here
+    c.loop-place.invariant.passing

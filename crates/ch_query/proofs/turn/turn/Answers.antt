@@ -20,10 +20,16 @@ pub look_at-found-requires-clause-other_fits : goal.look_at-found-requires-claus
 look_at-found-requires-clause-other_fits c = fits-cost c.args.there.now c.requires.there_fits c.in-Some.reached.rank c.cost.result c.cost.ensures
 
 pub pass_over-requires-clause-limit : goal.pass_over-requires-clause-limit
-pass_over-requires-clause-limit c = subst (λ (o : Option Cost). IsShortLimit c.args.bound o) (sym c.cost_of-limit.ensures) (looked-short c.args.bound c.args.here.now c.args.there.now c.in-Some.reached.rank c.in-Some.reached.label.cost c.cost.result c.args.best.now c.look_at-found.result c.requires.best c.look_at-found.ensures)
+pass_over-requires-clause-limit c =
+    subst (λ (o : Option Cost). IsShortLimit c.args.bound o) (sym c.cost_of-limit.ensures)
+    (looked-short c.args.bound c.args.here.now c.args.there.now c.in-Some.reached.rank c.in-Some.reached.label.cost c.cost.result c.args.best.now
+    c.look_at-found.result c.requires.best c.look_at-found.ensures)
 
 pub pass_over-requires-clause-latest : goal.pass_over-requires-clause-latest
-pass_over-requires-clause-latest c = subst (λ (ms : List (Mark Label)). IsLatest ms c.in-Some.reached.label.cost c.in-Some.reached.rank) (sym c.in-Some.ensures.settled) (turn-latest c.args.hierarchy.now c.args.side c.args.seeds.now c.args.bound c.args.here.now c.in-Some.reached.rank c.in-Some.reached.label c.requires.searching c.in-Some.ensures.least (cost_of c.args.best.now) c.requires.climbing)
+pass_over-requires-clause-latest c =
+    subst (λ (ms : List (Mark Label)). IsLatest ms c.in-Some.reached.label.cost c.in-Some.reached.rank) (sym c.in-Some.ensures.settled)
+    (turn-latest c.args.hierarchy.now c.args.side c.args.seeds.now c.args.bound c.args.here.now c.in-Some.reached.rank c.in-Some.reached.label
+    c.requires.searching c.in-Some.ensures.least (cost_of c.args.best.now) c.requires.climbing)
 
 pub pass_over-requires-clause-rank_in : goal.pass_over-requires-clause-rank_in
 pass_over-requires-clause-rank_in c = omega (arith, open-in c.args.here.now c.in-Some.reached.rank c.in-Some.reached.label c.in-Some.ensures.least.opens, c.requires.searching.nodes)
@@ -49,10 +55,15 @@ returns-clause-less c = (looked c).less
 pub returns-clause-climbing : goal.returns-clause-climbing
 returns-clause-climbing c =
     let passed = subst (λ (o : Option Cost). ArePassed c.args.hierarchy.now c.args.side c.args.bound c.in-Some.reached.rank c.in-Some.reached.label.cost o c.pass_over.new.here) c.cost_of-limit.ensures c.in_ok-pass_over.ensures.passed in
-    climbing-turn c.args.hierarchy.now c.args.side c.args.seeds.now c.args.bound c.args.here.now c.in-Some.reached.rank c.in-Some.reached.label c.requires.searching c.in-Some.ensures.least c.pass_over.new.here (opened c) (cost_of c.args.best.now) (cost_of c.look_at-found.result) (looked c).less c.requires.climbing passed
+    climbing-turn c.args.hierarchy.now c.args.side c.args.seeds.now c.args.bound c.args.here.now c.in-Some.reached.rank c.in-Some.reached.label
+    c.requires.searching c.in-Some.ensures.least c.pass_over.new.here (opened c) (cost_of c.args.best.now) (cost_of c.look_at-found.result)
+    (looked c).less c.requires.climbing passed
 
 pub returns-clause-best : goal.returns-clause-best
-returns-clause-best c = best-turn c.args.hierarchy.now c.args.side c.args.seeds.now c.args.bound c.args.here.now c.in-Some.reached.rank c.in-Some.reached.label c.requires.searching c.in-Some.ensures.least c.pass_over.new.here (opened c) c.args.there.now c.args.best.now c.look_at-found.result c.requires.best (looked c)
+returns-clause-best c =
+    best-turn c.args.hierarchy.now c.args.side c.args.seeds.now c.args.bound c.args.here.now c.in-Some.reached.rank c.in-Some.reached.label
+    c.requires.searching c.in-Some.ensures.least c.pass_over.new.here
+    (opened c) c.args.there.now c.args.best.now c.look_at-found.result c.requires.best (looked c)
 
 pub returns-in_default-clause-less : goal.returns-in_default-clause-less
 returns-in_default-clause-less c = no_more-refl (cost_of c.args.best.now)

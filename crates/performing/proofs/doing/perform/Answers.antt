@@ -1,5 +1,5 @@
 use Rattle.std.proofs.Common.{refl}
-use Rattle.performing.proofs.Statuses.{of_answer, of_preparation, of_route, no_disagreement}
+use Rattle.performing.proofs.Statuses.{of_answer, of_preparation, of_route, of_service, no_disagreement, no_worker}
 use Rattle.performing.proofs.doing.perform.Goals as goal
 
 -- both texts in one input
@@ -39,3 +39,14 @@ returns-in-Route-clause-status g c = of_route _ _ _ _ c.in-Route.is c.perform_ro
 
 pub returns-in-Route-clause-mixed : goal.returns-in-Route-clause-mixed
 returns-in-Route-clause-mixed g c = no_disagreement _ _ c.perform_route.ensures.status
+
+-- requests
+
+pub returns-in-Serve-clause-served : goal.returns-in-Serve-clause-served
+returns-in-Serve-clause-served g c serving = c.perform_service.ensures.told
+
+pub returns-in-Serve-clause-status : goal.returns-in-Serve-clause-status
+returns-in-Serve-clause-status g c = of_service _ _ _ c.in-Serve.is c.perform_service.ensures.status
+
+pub returns-in-Serve-clause-mixed : goal.returns-in-Serve-clause-mixed
+returns-in-Serve-clause-mixed g c = no_worker _ _ c.perform_service.ensures.status

@@ -15,4 +15,8 @@ pub least_cost-requires-clause-bound : goal.least_cost-requires-clause-bound
 least_cost-requires-clause-bound c = bound-here c.self.inside.hierarchy.now c.self.invariant.made c.bound-bound.result c.bound-bound.ensures
 
 pub returns-clause-value : goal.returns-clause-value
-returns-clause-value c = IfOk-weaker c.least_cost.result (IsValueBetween c.self.inside.hierarchy.now (c.free.result ∷ []) (c.free-2.result ∷ []) c.bound-bound.result) (IsValue c.args.self.now c.args.source c.args.target) (λ v value. value-here c.self.inside.hierarchy.now c.args.self.now c.self.view_is c.args.source c.args.target c.free.result c.free-2.result c.free.ensures c.free-2.ensures c.bound-bound.result c.bound-bound.ensures v value) c.least_cost.ensures.value
+returns-clause-value c =
+    IfOk-weaker c.least_cost.result (IsValueBetween c.self.inside.hierarchy.now (c.free.result ∷ []) (c.free-2.result ∷ []) c.bound-bound.result)
+    (IsValue c.args.self.now c.args.source c.args.target) (λ v value. value-here c.self.inside.hierarchy.now c.args.self.now c.self.view_is
+    c.args.source c.args.target c.free.result c.free-2.result c.free.ensures c.free-2.ensures c.bound-bound.result c.bound-bound.ensures v value)
+    c.least_cost.ensures.value

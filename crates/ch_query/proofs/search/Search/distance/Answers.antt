@@ -14,10 +14,18 @@ pub least_walk-requires-clause-bound : goal.least_walk-requires-clause-bound
 least_walk-requires-clause-bound c = bound-here c.self.inside.hierarchy.now c.self.invariant.made c.bound-bound.result c.bound-bound.ensures
 
 pub returns-in_default-clause-value : goal.returns-in_default-clause-value
-returns-in_default-clause-value c = value-here c.self.inside.hierarchy.now c.args.self.now c.self.view_is c.args.source c.args.target c.free.result c.free-2.result c.free.ensures c.free-2.ensures c.bound-bound.result c.bound-bound.ensures None (subst (λ (o : Option FoundBetween). IsValueBetween c.self.inside.hierarchy.now (c.free.result ∷ []) (c.free-2.result ∷ []) c.bound-bound.result (option_map (λ (f : FoundBetween). f.cost) o)) c.in_default.is c.in_ok-found.ensures.value)
+returns-in_default-clause-value c =
+    value-here c.self.inside.hierarchy.now c.args.self.now c.self.view_is c.args.source c.args.target c.free.result c.free-2.result c.free.ensures
+    c.free-2.ensures c.bound-bound.result c.bound-bound.ensures None
+    (subst (λ (o : Option FoundBetween). IsValueBetween c.self.inside.hierarchy.now (c.free.result ∷ []) (c.free-2.result ∷ []) c.bound-bound.result
+    (option_map (λ (f : FoundBetween). f.cost) o)) c.in_default.is c.in_ok-found.ensures.value)
 
 pub returns-clause-value : goal.returns-clause-value
-returns-clause-value c = value-here c.self.inside.hierarchy.now c.args.self.now c.self.view_is c.args.source c.args.target c.free.result c.free-2.result c.free.ensures c.free-2.ensures c.bound-bound.result c.bound-bound.ensures (Some c.in-Some.field-0.cost) (subst (λ (o : Option FoundBetween). IsValueBetween c.self.inside.hierarchy.now (c.free.result ∷ []) (c.free-2.result ∷ []) c.bound-bound.result (option_map (λ (f : FoundBetween). f.cost) o)) c.in-Some.is c.in_ok-found.ensures.value)
+returns-clause-value c =
+    value-here c.self.inside.hierarchy.now c.args.self.now c.self.view_is c.args.source c.args.target c.free.result c.free-2.result c.free.ensures
+    c.free-2.ensures c.bound-bound.result c.bound-bound.ensures (Some c.in-Some.field-0.cost)
+    (subst (λ (o : Option FoundBetween). IsValueBetween c.self.inside.hierarchy.now (c.free.result ∷ []) (c.free-2.result ∷ []) c.bound-bound.result
+    (option_map (λ (f : FoundBetween). f.cost) o)) c.in-Some.is c.in_ok-found.ensures.value)
 
 walk : (c : goal.In-Some) → IsWalkBetween c.self.inside.hierarchy.now (c.free.result ∷ []) (c.free-2.result ∷ []) c.in-Some.field-0.start c.in-Some.field-0.end c.in-Some.field-0.links.items c.in-Some.field-0.cost
 walk c = subst (λ (o : Option FoundBetween). IfSome o (λ (f : FoundBetween). IsWalkBetween c.self.inside.hierarchy.now (c.free.result ∷ []) (c.free-2.result ∷ []) f.start f.end f.links.items f.cost)) c.in-Some.is c.in_ok-found.ensures.walk

@@ -1,9 +1,9 @@
 use Rattle.std.proofs.Common.{ap, subst, ◌∙◌}
 use Rattle.ch_cost.specs.declared.cost.Cost.{Cost}
-use Rattle.ch_cost.specs.Cost.{IsWithin, cost_of_arcs}
+use Rattle.ch_cost.specs.Cost.{◌≼◌, cost_of_arcs}
 use Rattle.test_contract.proofs.shelf.Shelf.allows.Goals as goal
 
 pub returns : goal.returns
 returns c = λ t.
-    let within = subst (λ (b : Cost). IsWithin c.args.cost b) c.of_arcs.ensures (c.is_within.ensures.0 t) in
-    subst (λ (b : Cost). IsWithin c.args.cost b) (ap (λ n. cost_of_arcs n c.self.inside.heaviest) c.from.ensures ∙ c.self.view_is) within
+    let most = subst (λ (b : Cost). c.args.cost ≼ b) c.of_arcs.ensures (c.is_at_most.ensures.0 t) in
+    subst (λ (b : Cost). c.args.cost ≼ b) (ap (λ n. cost_of_arcs n c.self.inside.heaviest) c.from.ensures ∙ c.self.view_is) most

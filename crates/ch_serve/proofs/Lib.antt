@@ -1,0 +1,5 @@
+pub mod BestWays
+pub mod Handed
+pub mod Served
+pub mod ServedOver
+pub mod Fronts

@@ -1,0 +1,18 @@
+use Rattle.std.proofs.lemmas.Result.{err_from_is_err_and}
+use Rattle.ch_serve.specs.Reply.{by_hierarchy}
+use Rattle.ch_serve.proofs.Handed.{last_breaks, last_done, last_fails, no_last}
+use Rattle.ch_serve.proofs.serving.reply_to_last.Goals as goal
+
+pub returns-in_default-clause-ok : goal.returns-in_default-clause-ok
+returns-in_default-clause-ok g c = no_last (by_hierarchy c.args.router.now) c.last.result _ _ _ c.in_default.is c.last.ensures.asked
+
+pub returns-in_err-reply-clause-err : goal.returns-in_err-reply-clause-err
+returns-in_err-reply-clause-err g c =
+    let exit = err_from_is_err_and c.from_residual.result c.from_residual.ensures.1 in
+    rw (exit.1, exit.2) (last_breaks (by_hierarchy c.args.router.now) c.last.result c.in-Some.request _ _ _ _ _ _ c.in-Some.is c.last.ensures.asked c.requires.empty c.in_err-reply.ensures.err)
+
+pub returns-clause-ok : goal.returns-clause-ok
+returns-clause-ok g c = last_done c.hand_over.result (by_hierarchy c.args.router.now) c.last.result c.in-Some.request _ _ _ _ _ _ _ _ _ _ c.in-Some.is c.last.ensures.asked c.requires.empty c.in_ok-reply.ensures.ok c.hand_over.ensures.ok c.hand_over.ensures.all
+
+pub returns-clause-err : goal.returns-clause-err
+returns-clause-err g c = last_fails c.hand_over.result (by_hierarchy c.args.router.now) c.last.result c.in-Some.request _ _ _ _ _ _ _ _ c.in-Some.is c.last.ensures.asked c.requires.empty c.in_ok-reply.ensures.ok c.hand_over.ensures.err

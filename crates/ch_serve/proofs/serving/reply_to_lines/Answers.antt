@@ -1,0 +1,28 @@
+use Rattle.std.proofs.Common.{◌+◌, ◌++◌, ◌∙◌, List, ℕ, arith, refl}
+use Rattle.std.proofs.lemmas.Result.{err_from_is_err_and}
+use Rattle.grfile.specs.Requests.{requests_with}
+use Rattle.ch_serve.specs.Reply.{by_hierarchy}
+use Rattle.ch_serve.proofs.Handed.{line_breaks, line_step, replies_none}
+use Rattle.ch_serve.proofs.serving.reply_to_lines.Goals as goal
+
+pub lines-init : goal.lines-init
+lines-init g c = record {
+  same = refl;
+  nodes = refl;
+  replies = (0, omega arith, replies_none (by_hierarchy c.args.router.now) _ _ _ _ _ (λ (more : List ℕ). refl));
+}
+
+pub returns-in_err-reply-clause-err : goal.returns-in_err-reply-clause-err
+returns-in_err-reply-clause-err g c =
+    let exit = err_from_is_err_and c.from_residual.result c.from_residual.ensures.1 in
+    let kept = c.lines.invariant in
+    rw (exit.1, exit.2) (line_breaks (λ (more : List ℕ). requests_with c.next.new.self (c.in-Some.asked.rest.now ++ more)) kept.same kept.replies.2 c.in-Some.ensures.asked c.in_err-reply.ensures.err)
+
+pub lines-preserved : goal.lines-preserved
+lines-preserved g c =
+    let kept = c.lines.invariant in
+    record {
+      same = c.in_ok-reply.ensures.kept ∙ kept.same;
+      nodes = c.in-Some.ensures.nodes ∙ kept.nodes;
+      replies = (kept.replies.0 + 1, omega (arith, kept.replies.1, c.in-Some.ensures.feeds), line_step (λ (more : List ℕ). requests_with c.next.new.self (c.in-Some.asked.rest.now ++ more)) kept.same kept.replies.2 c.in-Some.ensures.asked c.in_ok-reply.ensures.ok);
+    }

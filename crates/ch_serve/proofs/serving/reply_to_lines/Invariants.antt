@@ -1,0 +1,18 @@
+use Rattle.std.proofs.Common.{◌≡◌, ◌+◌, ◌++◌, List, ℕ, length}
+use Rattle.grfile.specs.Requests.{requests_with}
+use Rattle.grfile.specs.Taken.{line_feeds}
+use Rattle.ch_serve.specs.Progress.{Replies}
+use Rattle.ch_serve.specs.Reply.{by_hierarchy}
+use Rattle.ch_serve.proofs.serving.reply_to_lines.Given as goal
+
+abbrev pub invariant-lines : goal.invariant-lines
+invariant-lines g l =
+    let contents = g.W.Write.contents in
+    record {
+      same : l.router ≡ l.fn.router;
+      nodes : l.reader.nodes ≡ l.fn.reader.nodes;
+      replies : ((ended : ℕ) × (ended + line_feeds l.rest ≡ line_feeds l.fn.piece) × Replies (by_hierarchy l.fn.router) ended (λ (more : List ℕ). requests_with l.fn.reader (l.fn.piece ++ more)) (λ (more : List ℕ). requests_with l.reader (l.rest ++ more)) (contents l.fn.out) (contents l.out) l.fn.output.lines.items l.output.lines.items l.fn.output.calls.written l.output.calls.written);
+    }
+
+abbrev pub decreases-lines : goal.decreases-lines
+decreases-lines g l = length l.rest

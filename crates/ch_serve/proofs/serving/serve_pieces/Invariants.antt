@@ -1,0 +1,19 @@
+use Rattle.std.proofs.Common.{◌≡◌, []}
+use Rattle.grfile.specs.Requests.{requests_with}
+use Rattle.ch_serve.specs.Progress.{RepliesTo}
+use Rattle.ch_serve.specs.Reply.{by_hierarchy}
+use Rattle.ch_serve.proofs.serving.serve_pieces.Given as goal
+
+abbrev pub invariant-pieces : goal.invariant-pieces
+invariant-pieces g l =
+    let contents = g.W.Write.contents in
+    let remaining = g.Q.Read.remaining in
+    record {
+      same : l.router ≡ l.fn.router;
+      nodes : l.reader.nodes ≡ l.fn.reader.nodes;
+      empty : l.output.lines.items ≡ [];
+      replies : RepliesTo (by_hierarchy l.fn.router) (remaining l.fn.requests) (remaining l.requests) (requests_with l.fn.reader) (requests_with l.reader) (contents l.fn.out) (contents l.out) [] [] l.fn.output.calls.written l.output.calls.written;
+    }
+
+abbrev pub decreases-pieces : goal.decreases-pieces
+decreases-pieces g l = l.calls.left

@@ -1,0 +1,4 @@
+pub mod Between
+pub mod Reply
+pub mod Serving
+pub mod Progress

@@ -1,0 +1,71 @@
+ghost use Rattle.std.specs.Prelude.{◌≡◌, Some};
+ghost use Rattle.ch_serve.specs.Serving.{shown};
+ghost use Rattle.ch_serve.specs.declared.error.ServeError.TheVariants.{Hierarchy, OutOfMemory, Read, Write};
+
+use counted_io::{ReadFault, WriteFault};
+use hierfile::HierError;
+use std::alloc::{AllocError, AllocFailed};
+use std::error::Error;
+use std::fmt;
+
+/// Why a service ended before its requests did.
+#[derive(Clone, Copy, Debug, PartialEq, Eq)]
+pub enum ServeError {
+    /// The file of the hierarchy was refused, or couldn't be read. Nothing is written.
+    Hierarchy(HierError),
+    /// Memory was refused before the first request was read. Nothing is written.
+    OutOfMemory,
+    /// The requests couldn't be read. The replies to all lines that had ended are written.
+    Read,
+    /// The replies couldn't be written.
+    Write(WriteFault),
+}
+
+impl fmt::Display for ServeError {
+    ghost output = { λ e. Some (shown e) };
+
+    fn fmt<W: fmt::Write>(&self, f: &mut fmt::Formatter<W>) -> fmt::Result {
+        match self {
+            ServeError::Hierarchy(HierError::OutOfMemory) => write!(f, "memory"),
+            ServeError::Hierarchy(HierError::Read) => write!(f, "read"),
+            ServeError::Hierarchy(fault) => write!(f, "hierarchy: {fault}"),
+            ServeError::OutOfMemory => write!(f, "memory"),
+            ServeError::Read => write!(f, "read"),
+            ServeError::Write(_) => write!(f, "write"),
+        }
+    }
+}
+
+impl Error for ServeError {}
+
+impl From<HierError> for ServeError {
+    ghost from_gives = { λ fault e. e ≡ Hierarchy fault };
+
+    fn from(fault: HierError) -> ServeError {
+        ServeError::Hierarchy(fault)
+    }
+}
+
+impl From<AllocError> for ServeError {
+    ghost from_gives = { λ _ e. e ≡ OutOfMemory };
+
+    fn from(_refused: AllocError) -> ServeError {
+        ServeError::OutOfMemory
+    }
+}
+
+impl From<ReadFault> for ServeError {
+    ghost from_gives = { λ _ e. e ≡ Read };
+
+    fn from(_fault: ReadFault) -> ServeError {
+        ServeError::Read
+    }
+}
+
+impl From<WriteFault> for ServeError {
+    ghost from_gives = { λ fault e. e ≡ Write fault };
+
+    fn from(fault: WriteFault) -> ServeError {
+        ServeError::Write(fault)
+    }
+}

@@ -1,0 +1,104 @@
+ghost use Rattle.std.specs.Prelude.{◌≡◌, ◌<◌, ◌++◌, ℕ, List, length, OnOk, OnErr, codes};
+ghost use Rattle.std.specs.Io.{StartsWith};
+ghost use Rattle.grfile.specs.Reading.{IsPair};
+ghost use Rattle.grfile.specs.Requests.{IsInRange};
+ghost use Rattle.grfile.specs.declared.requests.Request.TheVariants as asks;
+ghost use Rattle.ch_serve.specs.Reply.{Gets, by_hierarchy};
+
+use crate::between::best_way;
+use crate::line::{push_length, push_refusal, push_way};
+use ch_answer::push_line;
+use ch_route::{Router, UnpackError};
+use grfile::{Ends, Request};
+use std::alloc::AllocError;
+
+/// Appends the reply to a request. Where memory is refused the lines stay as they were.
+pub(crate) fn push_reply(
+    router: &mut Router<'_>,
+    request: &Request,
+    lines: &mut Vec<u8>,
+) -> Result<(), AllocError>
+    requires in_range { IsInRange (length router.old.ranks) request.now }
+    ensures ok { OnOk result ((reply : List ℕ) × Gets (by_hierarchy router.old) request.now reply × (lines.new.items ≡ lines.old.items ++ reply)) }
+    ensures err { OnErr result (lines.new.items ≡ lines.old.items) }
+    ensures kept { router.new ≡ router.old }
+{
+    let start = lines.len();
+    let pushed = push_parts(router, request, lines);
+    if pushed.is_err() {
+        lines.truncate(start);
+    }
+    pushed
+}
+
+// Appends the reply to a request, or a part of it where memory is refused.
+fn push_parts(
+    router: &mut Router<'_>,
+    request: &Request,
+    lines: &mut Vec<u8>,
+) -> Result<(), AllocError>
+    requires in_range { IsInRange (length router.old.ranks) request.now }
+    ensures ok { OnOk result ((reply : List ℕ) × Gets (by_hierarchy router.old) request.now reply × (lines.new.items ≡ lines.old.items ++ reply)) }
+    ensures err { StartsWith lines.new.items lines.old.items }
+    ensures kept { router.new ≡ router.old }
+{
+    match request {
+        Request::Comment => lines.extend_from_slice(b"c\n"),
+        Request::Route(pair) => push_routed(router, *pair, lines),
+        Request::Length(pair) => push_measured(router, *pair, lines),
+        Request::Between(ends) => push_between(router, ends, lines),
+        Request::Fault(kind) => push_refusal(kind.name().as_bytes(), lines),
+        Request::LineTooLong => push_refusal(b"LineTooLong", lines),
+    }
+}
+
+// Appends the route of a pair.
+fn push_routed(
+    router: &mut Router<'_>,
+    pair: (u32, u32),
+    lines: &mut Vec<u8>,
+) -> Result<(), AllocError>
+    requires in_range { IsPair (length router.old.ranks) pair }
+    ensures ok { OnOk result ((reply : List ℕ) × Gets (by_hierarchy router.old) (asks.Route pair) reply × (lines.new.items ≡ lines.old.items ++ reply)) }
+    ensures err { StartsWith lines.new.items lines.old.items }
+    ensures kept { router.new ≡ router.old }
+{
+    match router.route(pair) {
+        Ok(route) => push_line(pair, &route, lines),
+        Err(UnpackError::TooLong) => push_refusal(b"TooLong", lines),
+        Err(UnpackError::OutOfMemory) => Err(AllocError),
+    }
+}
+
+// Appends the length of a pair.
+fn push_measured(
+    router: &mut Router<'_>,
+    pair: (u32, u32),
+    lines: &mut Vec<u8>,
+) -> Result<(), AllocError>
+    requires in_range { IsPair (length router.old.ranks) pair }
+    ensures ok { OnOk result ((reply : List ℕ) × Gets (by_hierarchy router.old) (asks.Length pair) reply × (lines.new.items ≡ lines.old.items ++ reply)) }
+    ensures err { StartsWith lines.new.items lines.old.items }
+    ensures kept { router.new ≡ router.old }
+{
+    let length = router.length(pair)?;
+    push_length(pair, length, lines)
+}
+
+// Appends the best way between places.
+fn push_between(router: &mut Router<'_>, ends: &Ends, lines: &mut Vec<u8>) -> Result<(), AllocError>
+    requires in_range { IsInRange (length router.old.ranks) (asks.Between ends.now) }
+    ensures ok { OnOk result ((reply : List ℕ) × Gets (by_hierarchy router.old) (asks.Between ends.now) reply × (lines.new.items ≡ lines.old.items ++ reply)) }
+    ensures err { StartsWith lines.new.items lines.old.items }
+    ensures kept { router.new ≡ router.old }
+{
+    let Some(way) = best_way(router, ends.starts.as_slice(), ends.ends.as_slice())? else {
+        return lines.extend_from_slice(b"n\n");
+    };
+    match router.route((way.start.node, way.stop.node)) {
+        Ok(Some(route)) => push_way(&way, &route, lines),
+        Ok(None) => lines.extend_from_slice(b"n\n"),
+        Err(UnpackError::TooLong) => push_refusal(b"TooLong", lines),
+        Err(UnpackError::OutOfMemory) => Err(AllocError),
+    }
+}

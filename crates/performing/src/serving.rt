@@ -1,0 +1,47 @@
+ghost use Rattle.std.specs.Prelude.{◌≡◌};
+ghost use Rattle.performing.specs.Status.{IsServingStatus, TellsServed, status_stopped};
+
+use ch_serve::{ServeError, serve};
+use hierfile::HierError;
+use std::alloc::Global;
+use std::io::{Read, Write};
+
+/// Replies to requests by the file of a hierarchy, and returns the program's exit status.
+///
+/// `hierarchy` gives the file and `requests` the requests, one on each line. The replies go to `out`, and of a refusal that
+/// ends the service one line to `err`. Takes the time and memory of [`serve`].
+pub fn perform_service<A: Read, B: Read, W: Write, E: Write>(
+    alloc: Global,
+    hierarchy: &mut A,
+    requests: &mut B,
+    out: &mut W,
+    err: &mut E,
+) -> u8
+    ensures told { TellsServed result (A.remaining hierarchy.old) (B.remaining requests.old) (B.remaining requests.new) (W.contents out.old) (W.contents out.new) }
+    ensures status { IsServingStatus result }
+    ensures quiet { result ≡ 0 → err.new ≡ err.old }
+{
+    match serve(alloc, hierarchy, requests, out) {
+        Ok(()) => 0,
+        Err(error) => report_stop(error, err),
+    }
+}
+
+// Writes the line of the refusal and answers its status. Where the line can't be written there is nobody to tell.
+fn report_stop<E: Write>(error: ServeError, err: &mut E) -> u8
+    ensures { result ≡ status_stopped error }
+{
+    let _ = writeln!(err, "routecli: {error}");
+    status_stopped(error)
+}
+
+// The status of a service that ended before its requests did.
+fn status_stopped(error: ServeError) -> u8
+    ensures { result ≡ status_stopped error }
+{
+    match error {
+        ServeError::Hierarchy(HierError::OutOfMemory) | ServeError::OutOfMemory => 6,
+        ServeError::Hierarchy(HierError::Read) | ServeError::Read | ServeError::Write(_) => 7,
+        ServeError::Hierarchy(_) => 4,
+    }
+}
