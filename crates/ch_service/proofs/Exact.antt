@@ -18,14 +18,14 @@ use Rattle.ch_service.proofs.ByWalks.{right-nodes, RightRoutesAre, right-routes,
 
 module _ (v : Version) where
   -- what was prepared, where the bytes are the file of this hierarchy
-  record IsPrepared (graph_text bytes : List ℕ) (h : Hierarchy) : Type 0 where
-    graph : Graph
-    reads : graph_of graph_text ≡ Ok graph
-    within : IsGraph graph
-    right : IsRightIn v graph h
-    version : h.version ≡ v
+  pub record IsPrepared (graph_text bytes : List ℕ) (h : Hierarchy) : Type 0 where
+    pub graph : Graph
+    pub reads : graph_of graph_text ≡ Ok graph
+    pub within : IsGraph graph
+    pub right : IsRightIn v graph h
+    pub version : h.version ≡ v
 
-  is_prepared : HierarchiesHaveOneSpelling → SpelledGraphsAreInRange → (graph_text bytes : List ℕ) (h : Hierarchy) → PreparesIn v graph_text bytes → Spells bytes h → IsPrepared graph_text bytes h
+  pub is_prepared : HierarchiesHaveOneSpelling → SpelledGraphsAreInRange → (graph_text bytes : List ℕ) (h : Hierarchy) → PreparesIn v graph_text bytes → Spells bytes h → IsPrepared graph_text bytes h
   is_prepared one graphs graph_text bytes h p spells =
       let same : p.hierarchy ≡ h = one p.hierarchy h p.spells.made spells.made (sym p.spells.spelled ∙ spells.spelled) in
       record {
@@ -91,7 +91,7 @@ module _ (v : Version) where
 
 -- in memory
 
-all_of : (P : List ℕ → Type 0) (old new : List ℕ) → old ≡ [] → Writes P (Some old) (Some new) → P new
+pub all_of : (P : List ℕ → Type 0) (old new : List ℕ) → old ≡ [] → Writes P (Some old) (Some new) → P new
 all_of P old new none w = subst P (sym (w.2 ∙ ap (λ (l : List ℕ). l ++ w.0) none)) w.1
 
 pub prepared-in_memory : (Is : Graph → ℕ → ℕ → Option Route → Type 0) (graph_text pairs_text none bytes slice empty text : List ℕ) → none ≡ [] → empty ≡ [] → slice ≡ bytes → Writes (Prepares graph_text) (Some none) (Some bytes)

@@ -22,3 +22,8 @@ fault_in_joined had input graph pairs whole graph_is pairs_are (Ok x) h = tt
 fault_in_joined None input graph pairs whole graph_is pairs_are (Err e) h = tt
 fault_in_joined (Some text) input graph pairs whole graph_is pairs_are (Err e) h =
     fault_at text e (subst (λ g. IsFaultOf g (pairs_part text) e) (graph_is ∙ ap graph_part whole) (subst (λ p. IsFaultOf graph p e) (pairs_are ∙ ap pairs_part whole) h))
+
+-- what is said of no text is said of each
+pub any_text : (had : Option (List ℕ)) → IfSome had (λ _. Unit {0})
+any_text None = tt
+any_text (Some text) = tt

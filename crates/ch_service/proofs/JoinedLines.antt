@@ -1,11 +1,11 @@
 -- The lines of a joined input, as they are found.
 use Rattle.std.proofs.Common.{ℕ, zero, suc, ◌≡◌, ◌+◌, ◌-◌, ◌<◌, Bool, true, false, List, [], ◌∷◌, ◌++◌, length, take, drop, refl, sym, ◌∙◌, ap, subst, arith}
-use Rattle.std.specs.List.{concat}
+use Rattle.std.specs.List.{concat, onto_first}
 use Rattle.std.proofs.Math.Seq.{take-add}
 use Rattle.std.proofs.lemmas.List.{drop-drop, append-nil, append_assoc, take_rest}
 use Rattle.std.proofs.lemmas.Bool.{false_from_ne_true}
 use Rattle.memchr.specs.Find.{Nowhere, Passes, is_byte}
-use Rattle.ch_service.specs.Joined.{onto_first, ended_lines, is_percent, graph_part, pairs_part}
+use Rattle.ch_service.specs.Joined.{ended_lines, is_percent, graph_part, pairs_part}
 
 -- the first line ends at the first line feed
 pub ended_lines-first : (input : List ℕ) (k : ℕ) → k < length input → Nowhere (Passes (is_byte 10) input) 0 k → Passes (is_byte 10) input k

@@ -1,5 +1,6 @@
 pub mod ByWalks
 pub mod Exact
+mod InMemory
 pub mod FromBuild
 pub mod JoinedFaults
 pub mod JoinedLines

@@ -37,3 +37,9 @@ breaks-prepared g h (Some text) old new fault (Err e) reads right made two is to
 pub fault-prepared : (gr : Option (List ℕ)) (fault : GrError) (r : Result ⊤ ServiceError) → IfSome gr (λ text. FromText fault.kind (graph_of text ≡ Err fault)) → r ≡ Err (GraphFault fault) → IfErr r (λ e. IfSome gr (λ text. IsPreparingFault text e))
 fault-prepared None fault r reads is = rw is tt
 fault-prepared (Some text) fault r reads is = rw is reads
+
+-- a write comes only where the text of the graph was read
+pub fault-written : (g : Graph) (gr : Option (List ℕ)) (fault : WriteFault) (r : Result ⊤ ServiceError) → IfSome gr (λ text. graph_of text ≡ Ok g) → IsErrAnd r (λ e. e ≡ Write fault) → IfErr r (λ e. IfSome gr (λ text. IsPreparingFault text e))
+fault-written g gr fault (Ok x) reads is = tt
+fault-written g None fault (Err e) reads is = tt
+fault-written g (Some text) fault (Err e) reads is = subst (IsPreparingFault text) (sym is) (g, reads)

@@ -1,13 +1,8 @@
 -- One input that holds a graph's text, a line that is the single byte %, and the text of pairs.
 use Rattle.std.specs.Prelude.{ℕ, ◌==◌, ◌||◌, Bool, List, [], ◌∷◌, if◌then◌else◌, codes}
-use Rattle.std.specs.List.{concat}
+use Rattle.std.specs.List.{concat, onto_first}
 use Rattle.std.specs.Str.{bytes_eq}
 use Rattle.grfile.specs.Letters.{line_feed}
-
--- b at the front of the first line
-abbrev pub onto_first : ℕ → List (List ℕ) → List (List ℕ)
-onto_first b [] = (b ∷ []) ∷ []
-onto_first b (line ∷ lines) = (b ∷ line) ∷ lines
 
 -- the lines of an input, each with its line feed; the last has none where the input doesn't end with one
 abbrev pub ended_lines : List ℕ → List (List ℕ)

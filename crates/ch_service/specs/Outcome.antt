@@ -1,5 +1,5 @@
 -- What an answering call has done where it refuses.
-use Rattle.std.specs.Prelude.{ℕ, ◌≡◌, ◌⊎◌, ⊤, List, length, Option, Some, IfSome, Ok, Err}
+use Rattle.std.specs.Prelude.{ℕ, ◌≡◌, ◌≢◌, ◌⊎◌, ⊤, List, length, Option, Some, IfSome, Ok, Err}
 use Rattle.std.specs.Io.KnownBytes.{Keeps}
 pub use Rattle.ch_answer.specs.Written.{IfTold, Writes, WritesFirst}
 use Rattle.ch_graph.specs.Graph.{Graph}
@@ -8,8 +8,9 @@ use Rattle.grfile.specs.Outcome.{FromText, next_line}
 use Rattle.grfile.specs.Reading.{graph_of, pairs_of}
 use Rattle.grfile.specs.Taken.{StopsAtReached, line_feeds}
 use Rattle.grfile.specs.declared.error.GrError.{GrError}
+use Rattle.grfile.specs.declared.error.GrErrorKind.{GrErrorKind}
 use Rattle.grfile.specs.declared.error.GrErrorKind.TheVariants.{Read}
-use Rattle.hierfile.specs.Bytes.{OfBytes}
+use Rattle.hierfile.specs.Bytes.{OfBytes, SaysNothing}
 use Rattle.hierfile.specs.Fault.{first_fault}
 use Rattle.ch_service.specs.declared.error.ServiceError.{ServiceError}
 use Rattle.ch_service.specs.declared.error.ServiceError.TheVariants.{Graph as GraphFault, Queries, Hierarchy as HierarchyFault, Build, Unpack, Write, OutOfMemory}
@@ -68,6 +69,17 @@ IsRoutingFault bytes pairs_text (Unpack e) = AreRoutingTexts bytes pairs_text
 IsRoutingFault bytes pairs_text (Write fault) = AreRoutingTexts bytes pairs_text
 IsRoutingFault bytes pairs_text OutOfMemory = AreRoutingTexts bytes pairs_text
 
+-- Where a hierarchy is prepared and pairs are answered by its file, both in memory. The file has no fault, so only want of
+-- memory and a failed read refuse it, and no route is too long.
+abbrev pub IsFaultInMemory : List ℕ → List ℕ → ServiceError → Type 0
+IsFaultInMemory graph_text pairs_text (GraphFault fault) = FromText fault.kind (graph_of graph_text ≡ Err fault)
+IsFaultInMemory graph_text pairs_text (Queries fault) = (g : Graph) × (graph_of graph_text ≡ Ok g) × FromText fault.kind (pairs_of g.nodes pairs_text ≡ Err fault)
+IsFaultInMemory graph_text pairs_text (HierarchyFault e) = IsGraphText graph_text × SaysNothing e
+IsFaultInMemory graph_text pairs_text (Build e) = IsGraphText graph_text
+IsFaultInMemory graph_text pairs_text (Unpack e) = ⊥
+IsFaultInMemory graph_text pairs_text (Write fault) = IsGraphText graph_text
+IsFaultInMemory graph_text pairs_text OutOfMemory = AreTexts graph_text pairs_text
+
 -- The refusals of a call that answers from the texts of a graph and of pairs, whatever is known of its readers.
 abbrev pub ComesOfTexts : ServiceError → Type 0
 ComesOfTexts (HierarchyFault e) = ⊥
@@ -88,6 +100,13 @@ ComesOfRouting (Build e) = ⊥
 ComesOfRouting (Unpack e) = e ≡ TooLong
 ComesOfRouting e = ⊤
 
+-- This is said where a refusal comes behind the build of a hierarchy: a write failed, or a pair wasn't answered.
+abbrev pub IfBuilt : Type 0 → ServiceError → Type 0
+IfBuilt P (Unpack e) = P
+IfBuilt P (Write fault) = P
+IfBuilt P OutOfMemory = P
+IfBuilt P e = ⊤
+
 -- these facts of a fault, where a refusal is one of the graph's text or one of the pairs'
 abbrev pub IfTextFault : (GrError → Type 0) → (GrError → Type 0) → ServiceError → Type 0
 IfTextFault P Q (GraphFault fault) = P fault
@@ -102,10 +121,22 @@ IsReadFault bytes fault = fault ≡ record { kind = Read; line = next_line (line
 abbrev pub StopsWithin : List ℕ → GrError → Type 0
 StopsWithin text fault = (left : Option (List ℕ)) × StopsAtReached (Some text) left fault
 
--- The same where both texts stand in one input, which is read first: the line is one of the input that was reached, where
--- that can't be read, and else one of the text's own.
+-- The same where both texts stand in one input, which is read first. A read that fails is a fault of the graph's text,
+-- whatever text it fails in, at the line of the input that was reached. Memory is refused at a line of the text's own.
 abbrev pub StopsInJoined : Option (List ℕ) → Option (List ℕ) → ServiceError → Type 0
-StopsInJoined had left = IfTextFault (λ fault. StopsAtReached had left fault ⊎ IfSome had (λ input. StopsWithin (graph_part input) fault)) (λ fault. IfSome had (λ input. StopsWithin (pairs_part input) fault))
+StopsInJoined had left = IfTextFault (λ fault. (fault.kind ≡ Read → StopsAtReached had left fault) × (fault.kind ≢ Read → IfSome had (λ input. StopsWithin (graph_part input) fault)))
+    (λ fault. (fault.kind ≢ Read) × IfSome had (λ input. StopsWithin (pairs_part input) fault))
+
+-- the read that failed behind these bytes, or the refusal itself, by the kind of its fault
+abbrev pub of_fault : List ℕ → GrErrorKind → ServiceError → ServiceError
+of_fault text Read own = GraphFault (record { kind = Read; line = next_line (line_feeds text) })
+of_fault text kind own = own
+
+-- The refusal of texts that were read from these bytes of one whole input: a failed read would be one behind them.
+abbrev pub of_whole : List ℕ → ServiceError → ServiceError
+of_whole text (GraphFault fault) = of_fault text fault.kind (GraphFault fault)
+of_whole text (Queries fault) = of_fault text fault.kind (Queries fault)
+of_whole text e = e
 
 -- where what is read is at fault, or nothing is built, nothing is written
 abbrev pub KeepsAtFault : Option (List ℕ) → Option (List ℕ) → ServiceError → Type 0

@@ -2,14 +2,14 @@ ghost use Rattle.std.specs.Prelude.{◌≡◌, ◌↔◌, [], All, OnOk, IfErr, 
 ghost use Rattle.grfile.specs.Taken.{StopsAtReached};
 ghost use Rattle.ch_service.specs.Answer.{Answers, AnswersByFewest, AnswersFirst};
 ghost use Rattle.ch_service.specs.Joined.{graph_part, pairs_part};
-ghost use Rattle.ch_service.specs.Outcome.{IfTold, IfTextFault, Writes, ComesOfTexts, IsFaultOf, IsFaultOfJoined, KeepsAtFault, StopsInJoined, StopsShort};
+ghost use Rattle.ch_service.specs.Outcome.{IfBuilt, IfTold, IfTextFault, Writes, ComesOfTexts, IsFaultOf, IsFaultOfJoined, KeepsAtFault, StopsInJoined, StopsShort};
 ghost use Rattle.ch_service.specs.declared.error.ServiceError.TheVariants.{Build};
 ghost use Rattle.ch_workers.specs.Options.{AreBad, AreGood};
 ghost use Rattle.ch_workers.specs.declared.error.BuildError.{BuildError};
 ghost use Rattle.ch_workers.specs.declared.error.BuildError.TheVariants.{BadOptions};
 
 use crate::error::ServiceError;
-use crate::input::read_whole;
+use crate::input::{of_whole, read_whole};
 use crate::joined::parts;
 use crate::pairs::answer_pairs;
 use crate::refusing::refuse;
@@ -52,6 +52,7 @@ pub fn answer<G: Read, Q: Read, W: Write, P: Gate, R: Threads + Wait + Sync>(
 
     // At a refusal.
     ensures bad { (e : BuildError) → result ≡ Err (Build e) → (e ≡ BadOptions) ↔ AreBad options (vec_len lists) }
+    ensures ready { IfErr result (IfBuilt (AreGood options (vec_len lists))) }
     ensures kinds { IfErr result ComesOfTexts }
     ensures fault { IfErr result (λ e. IfTold (G.remaining gr.old) (Q.remaining queries.old)
         (λ graph pairs. IsFaultOf graph pairs e)) }
@@ -77,8 +78,8 @@ pub fn answer<G: Read, Q: Read, W: Write, P: Gate, R: Threads + Wait + Sync>(
 /// Answers pairs of nodes as [`answer`] does, where one input holds both texts: the graph's, a line that is the
 /// single byte `%`, and the pairs'. The lines of each text are counted by themselves.
 ///
-/// The input is read to its end first. A read that fails is a fault of the graph's text, at one more line than there
-/// were line feeds before it. The hierarchy is built without workers.
+/// The input is read to its end first. A read that fails is a fault of the graph's text, also behind the line `%`, at one
+/// more line than there were line feeds of the input before it. The hierarchy is built without workers.
 pub fn answer_joined<I: Read, W: Write, R: Threads + Wait + Sync>(
     rt: &R,
     alloc: Global,
@@ -104,7 +105,7 @@ pub fn answer_joined<I: Read, W: Write, R: Threads + Wait + Sync>(
     let (mut graph, mut pairs) = parts(text.as_slice());
     let lists = Vec::new(alloc);
     let mut leases = Leases::new(alloc)?;
-    answer(
+    let answered = answer(
         rt,
         alloc,
         &mut graph,
@@ -114,5 +115,9 @@ pub fn answer_joined<I: Read, W: Write, R: Threads + Wait + Sync>(
         lists,
         &mut leases,
         &OpenGate,
-    )
+    );
+    match answered {
+        Ok(()) => Ok(()),
+        Err(refusal) => Err(of_whole(text.as_slice(), refusal)),
+    }
 }

@@ -1,5 +1,6 @@
-ghost use Rattle.std.specs.Prelude.{◌≡◌, ◌↔◌, [], All, IfOk, OnOk, vec_len};
+ghost use Rattle.std.specs.Prelude.{◌≡◌, ◌↔◌, [], All, IfErr, IfOk, OnOk, vec_len};
 ghost use Rattle.ch_service.specs.Answer.{Answers, AnswersByFewest};
+ghost use Rattle.ch_service.specs.Outcome.{IsFaultInMemory};
 ghost use Rattle.ch_service.specs.declared.error.ServiceError.TheVariants.{Build};
 ghost use Rattle.ch_workers.specs.Options.{AreBad, AreGood};
 ghost use Rattle.ch_workers.specs.declared.error.BuildError.{BuildError};
@@ -10,6 +11,8 @@ use crate::preparing::prepare;
 use crate::routing::route;
 use ch_estimate::{Estimator, Leases};
 use ch_workers::{Gate, Options};
+use grfile::spelled_graphs_are_in_range;
+use hierfile::{hierarchies_have_one_spelling, spellings_have_no_fault};
 use std::alloc::Global;
 use std::sync::Wait;
 use std::thread::Threads;
@@ -20,7 +23,9 @@ use std::thread::Threads;
 /// by two commands. The answers have one line for each pair, in order: the least length over all walks in the graph and
 /// the nodes along a walk of exactly that length, of all such walks one with the fewest arcs, or that there is no walk. This holds for all options and estimators,
 /// and however the workers' reads and commits fall. On every answer the estimators were dropped, and no lease of
-/// `leases` is out. Refusals, time and memory are those of the two calls, with the bytes of the file and of the answers.
+/// `leases` is out. Time and memory are those of the two calls, with the bytes of the file and of the answers. So are the
+/// refusals, but that the file has no fault and no route is too long; where memory is refused to the file or to the answers
+/// it is a failed write.
 pub fn routes_in_memory<P: Gate, R: Threads + Wait + Sync>(
     rt: &R,
     alloc: Global,
@@ -36,8 +41,12 @@ pub fn routes_in_memory<P: Gate, R: Threads + Wait + Sync>(
     ensures fewest { IfOk result (λ text. AnswersByFewest graph.now pairs.now text.items) }
     ensures good { OnOk result (AreGood options (vec_len lists)) }
     ensures bad { (e : BuildError) → result ≡ Err (Build e) → (e ≡ BadOptions) ↔ AreBad options (vec_len lists) }
+    ensures fault { IfErr result (IsFaultInMemory graph.now pairs.now) }
     ensures leases { leases.new ≡ record leases.old { out = 0 } }
 {
+    hierarchies_have_one_spelling();
+    spellings_have_no_fault();
+    spelled_graphs_are_in_range();
     let (mut graph, mut pairs) = (graph, pairs);
     let mut file = Vec::new(alloc);
     prepare(

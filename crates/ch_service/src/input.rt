@@ -1,7 +1,7 @@
 ghost use Rattle.std.specs.Prelude.{◌≡◌, ◌<◌, ◌++◌, ℕ, List, false, length, IfOk, IfErr, IfSome, OnOk};
 ghost use Rattle.std.specs.Io.KnownBytes.{Consumes, IsAtEnd, Keeps};
 ghost use Rattle.grfile.specs.Taken.{StopsAtReached, line_feeds};
-ghost use Rattle.ch_service.specs.Outcome.{ComesOfReading, IfTextFault, IsReadFault};
+ghost use Rattle.ch_service.specs.Outcome.{ComesOfReading, IfTextFault, IsReadFault, of_fault, of_whole};
 
 use crate::error::ServiceError;
 use counted_io::{MOST_CALLS, ReadCalls};
@@ -15,6 +15,7 @@ const PIECE: usize = 1 << 16;
 /// All that the reader gives. A read that fails, or the last call that is allowed, is a fault of the graph's text.
 pub fn read_whole<R: Read>(alloc: Global, input: &mut R) -> Result<Vec<u8>, ServiceError>
     ensures whole { IfOk result (λ text. IfSome (R.remaining input.old) (λ bytes. text.items ≡ bytes)) }
+    ensures ended { IfOk result (λ text. Consumes (R.remaining input.old) (R.remaining input.new) text.items × IsAtEnd (R.remaining input.new)) }
     ensures kinds { IfErr result ComesOfReading }
     ensures reached { IfErr result (IfTextFault (StopsAtReached (R.remaining input.old) (R.remaining input.new)) (λ _. ⊥)) }
 {
@@ -39,6 +40,8 @@ fn read_pieces<R: Read>(
 ) -> Result<(), ServiceError>
     requires { 0 < length piece.old }
     ensures ok { OnOk result (IfSome (R.remaining input.old) (λ bytes. text.new.items ≡ text.old.items ++ bytes)) }
+    ensures ended { OnOk result ((bytes : List ℕ) × (text.new.items ≡ text.old.items ++ bytes)
+        × Consumes (R.remaining input.old) (R.remaining input.new) bytes × IsAtEnd (R.remaining input.new)) }
     ensures kinds { IfErr result ComesOfReading }
     ensures failed { IfErr result (IfTextFault (λ fault. (bytes : List ℕ) × Consumes (R.remaining input.old) (R.remaining input.new) bytes × IsReadFault (text.old.items ++ bytes) fault) (λ _. ⊥)) }
 {
@@ -68,6 +71,28 @@ fn read_piece<R: Read>(
             Ok(true)
         }
         Err(_) => Err(ServiceError::Graph(read_fault(text))),
+    }
+}
+
+/// What is refused of texts that were read from the bytes of one whole input. Bytes in memory have no failed read; if one were
+/// reported of them, it would be one of the input behind its last byte.
+pub fn of_whole(text: &[u8], refusal: ServiceError) -> ServiceError
+    ensures { result ≡ of_whole text.now refusal }
+{
+    match refusal {
+        ServiceError::Graph(fault) => of_fault(text, fault.kind, refusal),
+        ServiceError::Queries(fault) => of_fault(text, fault.kind, refusal),
+        _ => refusal,
+    }
+}
+
+// A read that failed behind this text, or the refusal itself, by the kind of its fault.
+fn of_fault(text: &[u8], kind: GrErrorKind, own: ServiceError) -> ServiceError
+    ensures { result ≡ of_fault text.now kind own }
+{
+    match kind {
+        GrErrorKind::Read => ServiceError::Graph(read_fault(text)),
+        _ => own,
     }
 }
 

@@ -1,6 +1,6 @@
 ghost use Rattle.std.specs.Prelude.{◌≡◌, ◌↔◌, [], All, OnOk, IfErr, IfSome, vec_len};
 ghost use Rattle.grfile.specs.Taken.{StopsAtReached};
-ghost use Rattle.ch_service.specs.Outcome.{Writes, ComesOfPreparing, IsPreparingFault, IfTextFault, KeepsUnlessWriting, BreaksOff};
+ghost use Rattle.ch_service.specs.Outcome.{Writes, ComesOfPreparing, IsPreparingFault, IfBuilt, IfTextFault, KeepsUnlessWriting, BreaksOff};
 ghost use Rattle.ch_service.specs.Route.{Prepares};
 ghost use Rattle.ch_service.specs.declared.error.ServiceError.TheVariants.{Build};
 ghost use Rattle.ch_workers.specs.Options.{AreBad, AreGood};
@@ -41,6 +41,7 @@ pub fn prepare<G: Read, W: Write, P: Gate, R: Threads + Wait + Sync>(
 
     // At a refusal.
     ensures bad { (e : BuildError) → result ≡ Err (Build e) → (e ≡ BadOptions) ↔ AreBad options (vec_len lists) }
+    ensures ready { IfErr result (IfBuilt (AreGood options (vec_len lists))) }
     ensures kinds { IfErr result ComesOfPreparing }
     ensures fault { IfErr result (λ e. IfSome (G.remaining gr.old) (λ text. IsPreparingFault text e)) }
     ensures reached { IfErr result (IfTextFault (StopsAtReached (G.remaining gr.old) (G.remaining gr.new)) (λ _. ⊥)) }

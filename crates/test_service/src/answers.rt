@@ -246,6 +246,24 @@ fn reads_that_fail(rt: HostRuntime) -> Result<(), Fail> {
     Ok(())
 }
 
+/// Calls that fail of one input that holds both texts, behind its line `%`, and the line that is told: in the first line of
+/// the pairs, and in the second. A byte comes at each call of odd number; the first three lines of the input have 19 bytes, and the fourth 15.
+const BROKEN_BEHIND: [(u64, u64); 4] = [(37, 3), (39, 4), (67, 4), (69, 5)];
+
+#[test]
+fn reads_that_fail_behind_the_parting_line(rt: HostRuntime) -> Result<(), Fail> {
+    let input = joined(rt.alloc(), GRAPH, b"%\n", PAIRS)?;
+    for (fails_at, line) in BROKEN_BEHIND {
+        let mut reader = uneven_reader(input.as_slice(), fails_at);
+        let mut out = short_writer(rt.alloc(), 100, End::Fails);
+        let kind = GrErrorKind::Read;
+        let fault = GrError { kind, line };
+        let result = answer_joined(&rt, rt.alloc(), &mut reader, &mut out);
+        assert!(rt; (result == Err(ServiceError::Graph(fault))) & out.taken.is_empty());
+    }
+    Ok(())
+}
+
 /// So many times these bytes, behind a first line.
 fn repeated(alloc: Global, first: &[u8], line: &[u8]) -> Result<Vec<u8>, AllocError> {
     let mut text = Vec::from_slice(alloc, first)?;

@@ -13,6 +13,8 @@ mod drawn;
 #[cfg(test)]
 mod examples;
 #[cfg(test)]
+mod hostile_files;
+#[cfg(test)]
 mod kit;
 #[cfg(test)]
 mod orders;

@@ -4,7 +4,7 @@ use Rattle.ch_graph.specs.Graph.{Graph}
 use Rattle.ch_graph.specs.Limits.{IsGraph}
 use Rattle.ch_service.specs.Answer.{IsLeastWalk, IsFewestWalk}
 use Rattle.ch_service.proofs.ByWalks.{walk-right, answers-told, stops-answered, fault-answering, texts-kinds, fault-answered, no_text_fault, pairs_refused}
-use Rattle.ch_service.proofs.FromBuild.{built-good}
+use Rattle.ch_service.proofs.FromBuild.{built-good, ready-built}
 use Rattle.ch_service.proofs.TextFaults.{fault-built}
 use Rattle.ch_service.proofs.answering.answer.Goals as goal
 
@@ -101,3 +101,12 @@ returns-in-Err-read_queries-clause-reached c = grind (arith, common_steps) steps
 
 pub returns-in-Err-read_queries-clause-stops : goal.returns-in-Err-read_queries-clause-stops
 returns-in-Err-read_queries-clause-stops c = grind (arith, common_steps) steps 600000
+
+pub returns-clause-ready : goal.returns-clause-ready
+returns-clause-ready g c = ready-built c.build.result _ _ _ c.answer_pairs.result c.in_ok-hierarchy.was c.build.ensures.bad
+
+pub returns-in-Err-clause-ready : goal.returns-in-Err-clause-ready
+returns-in-Err-clause-ready g c = rw c.refuse.ensures.refused tt
+
+pub returns-in-Err-read_queries-clause-ready : goal.returns-in-Err-read_queries-clause-ready
+returns-in-Err-read_queries-clause-ready g c = rw c.refuse-in-Err-read_queries.ensures.refused tt

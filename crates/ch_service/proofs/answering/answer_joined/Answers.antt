@@ -1,40 +1,32 @@
-use Rattle.std.proofs.Common.{rules, Some, refl, arith}
-use Rattle.std.proofs.lemmas.Grind.{common_steps}
-use Rattle.ch_workers.specs.declared.error.BuildError.TheVariants.{BadOptions}
-use Rattle.ch_service.proofs.JoinedFaults.{fault_in_joined}
-use Rattle.ch_service.proofs.LineFeeds.{stops_in_joined}
+use Rattle.std.proofs.Common.{rules, List, ℕ, ap, sym, subst, ◌∙◌}
+use Rattle.std.specs.Prelude.{Some, Err, IfSome}
+use Rattle.ch_service.specs.declared.error.ServiceError.{ServiceError}
+use Rattle.ch_service.specs.Outcome.{ComesOfTexts, IsFaultOfJoined, KeepsAtFault, StopsInJoined, of_whole}
+use Rattle.ch_service.proofs.JoinedFaults.{any_text, fault_in_joined}
+use Rattle.ch_service.proofs.LineFeeds.{of_whole_too, stops_in_joined}
 use Rattle.ch_service.proofs.answering.answer_joined.Goals as goal
-
--- no workers, and no lists
-pub returns-clause-good : goal.returns-clause-good
-returns-clause-good g c is = (c.answer.ensures.bad BadOptions is).0 refl (record {
-  workers = omega arith;
-  heaps = record { above = omega arith; below = omega arith };
-  settle = record { above = omega arith; below = omega arith };
-  defer = omega arith;
-  turns = record { above = omega arith; below = omega arith };
-  stint = record { above = omega arith; below = omega arith };
-  a_list_each = c.new-lists.ensures.len;
-})
 
 pub returns-clause-reached : goal.returns-clause-reached
 returns-clause-reached g c =
-    stops_in_joined _ _ (Some c.answer.new.gr.now) (Some c.answer.new.queries.now) c.in_ok-text.text.items c.parts.result.0.now c.parts.result.1.now c.in_ok-text.ensures.whole (search rules) (search rules) c.answer.result c.answer.ensures.reached
+    let had = g.I.Read.remaining c.args.input.now in
+    let left = g.I.Read.remaining c.read_whole.new.input in
+    let input : List ℕ = c.in_ok-text.text.items in
+    let is = c.of_whole.ensures ∙ ap (λ (text : List ℕ). of_whole text c.in-Err.refusal) c.as_slice-in-Err.ensures.value in
+    subst (StopsInJoined had left) (sym is)
+    (stops_in_joined had left (Some c.answer-answered.new.gr.now) (Some c.answer-answered.new.queries.now) input c.parts.result.0.now c.parts.result.1.now c.in_ok-text.ensures.ended.0 c.in_ok-text.ensures.ended.1 (search rules) (search rules) c.in-Err.refusal c.in-Err.ensures.reached)
 
 pub returns-clause-fault : goal.returns-clause-fault
-returns-clause-fault g c = fault_in_joined _ c.in_ok-text.text.items c.parts.result.0.now c.parts.result.1.now c.in_ok-text.ensures.whole (search rules) (search rules) c.answer.result c.answer.ensures.fault
-
-pub returns-clause-answers : goal.returns-clause-answers
-returns-clause-answers c = grind (arith, common_steps) steps 600000
-
-pub returns-clause-fewest : goal.returns-clause-fewest
-returns-clause-fewest c = grind (arith, common_steps) steps 600000
+returns-clause-fault g c =
+    let had = g.I.Read.remaining c.args.input.now in
+    let told = λ (e : ServiceError). IfSome had (λ text. IsFaultOfJoined text e) in
+    subst told (sym c.of_whole.ensures)
+    (of_whole_too told c.as_slice-in-Err.result.now c.in-Err.refusal (λ _ _. any_text had) (λ _ _. any_text had)
+    (fault_in_joined had c.in_ok-text.text.items c.parts.result.0.now c.parts.result.1.now c.in_ok-text.ensures.whole (search rules) (search rules) (Err c.in-Err.refusal) c.in-Err.ensures.fault))
 
 pub returns-clause-kinds : goal.returns-clause-kinds
-returns-clause-kinds c = grind (arith, common_steps) steps 200000
-
-pub returns-clause-stops : goal.returns-clause-stops
-returns-clause-stops c = grind (arith, common_steps)
+returns-clause-kinds g c = subst ComesOfTexts (sym c.of_whole.ensures) (of_whole_too ComesOfTexts c.as_slice-in-Err.result.now c.in-Err.refusal (λ _ _. tt) (λ _ _. tt) c.in-Err.ensures.kinds)
 
 pub returns-clause-untouched : goal.returns-clause-untouched
-returns-clause-untouched c = grind (arith, common_steps) steps 200000
+returns-clause-untouched g c =
+    let keeps = KeepsAtFault (g.W.Write.contents c.args.out.now) (g.W.Write.contents c.answer-answered.new.out) in
+    subst keeps (sym c.of_whole.ensures) (of_whole_too keeps c.as_slice-in-Err.result.now c.in-Err.refusal (λ _ h. h) (λ _ h. h) c.in-Err.ensures.untouched)

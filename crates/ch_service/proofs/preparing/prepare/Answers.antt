@@ -3,8 +3,8 @@ use Rattle.ch_graph.specs.Hierarchy.{version_number}
 use Rattle.ch_service.proofs.ByWalks.{graph_refused}
 use Rattle.std.specs.Prelude.{Ok}
 use Rattle.std.proofs.lemmas.Grind.{common_steps}
-use Rattle.ch_service.proofs.FromBuild.{built-good, refused-bad}
-use Rattle.ch_service.proofs.Prepared.{writes-prepared, breaks-prepared, fault-prepared}
+use Rattle.ch_service.proofs.FromBuild.{built-good, ready-built, refused-bad}
+use Rattle.ch_service.proofs.Prepared.{writes-prepared, breaks-prepared, fault-prepared, fault-written}
 use Rattle.ch_service.proofs.preparing.prepare.Goals as goal
 
 pub write-requires : goal.write-requires
@@ -65,3 +65,12 @@ returns-in-Err-clause-kinds c = grind (arith, common_steps) steps 200000
 
 pub returns-in-Err-clause-prepares : goal.returns-in-Err-clause-prepares
 returns-in-Err-clause-prepares c = grind (arith, common_steps) steps 200000
+
+pub returns-in-Err-clause-ready : goal.returns-in-Err-clause-ready
+returns-in-Err-clause-ready g c = rw c.refuse.ensures.refused tt
+
+pub returns-in_err-write-clause-ready : goal.returns-in_err-write-clause-ready
+returns-in_err-write-clause-ready g c = ready-built c.build.result _ _ _ c.from_residual-in_err-write.result c.in_ok-hierarchy.was c.build.ensures.bad
+
+pub returns-in_err-write-clause-fault : goal.returns-in_err-write-clause-fault
+returns-in_err-write-clause-fault g c = fault-written c.in-Ok.graph _ c.in_err-write.field-0.0 c.from_residual-in_err-write.result (search rules) c.from_residual-in_err-write.ensures.1
