@@ -2,7 +2,7 @@ use Rattle.std.proofs.Common.{subst, rules, slice_index_or}
 use Rattle.std.specs.Prelude.{Ok}
 use Rattle.std.proofs.lemmas.List.{take_all}
 use Rattle.ch_estimate.specs.Leases.{CountId}
-use Rattle.jobs.specs.declared.preparation.Order.TheVariants.{Edges}
+use Rattle.jobs.specs.declared.orders.Order.TheVariants.{Edges}
 use Rattle.performing.specs.Lists.{AreFor}
 use Rattle.performing.proofs.OneForEach.{and_next}
 use Rattle.performing.proofs.lists.one_for_each.Goals as goal
