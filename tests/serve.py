@@ -37,7 +37,8 @@ WORKED = [
     ("q x 3", "e NotANumber"),
     ("p aux sp p2p 1", "e UnknownLine"),
     ("b 1 0 : 3 4294967296", "e WeightTooBig"),
-    ("d" + " " * 4091 + "2 3", "e LineTooLong"),
+    ("d" + " " * 4092 + "2 3", "d 2 3 5"),
+    ("d" + " " * 4093 + "2 3", "e LineTooLong"),
 ]
 
 KEPT_KB = 16384  # by how much memory may grow
@@ -86,11 +87,11 @@ def need(holds: bool, what: str) -> None:
         sys.exit(f"tests/serve.py: {what}")
 
 
-def prepared(folder: pathlib.Path, name: str, text: str) -> pathlib.Path:
-    """The file of a hierarchy of a graph's text."""
+def prepared(folder: pathlib.Path, name: str, text: str, workers: int) -> pathlib.Path:
+    """The file of a hierarchy of a graph's text, which so many workers build."""
     graph, hierarchy = folder / f"{name}.gr", folder / f"{name}.rch"
     graph.write_text(text)
-    subprocess.run([PROGRAM, "prepare", "--workers", "0", graph, hierarchy], check=True)
+    subprocess.run([PROGRAM, "prepare", "--workers", str(workers), graph, hierarchy], check=True)
     return hierarchy
 
 
@@ -158,7 +159,7 @@ def rubbish(hierarchy: pathlib.Path, megabytes: int) -> None:
 def many(folder: pathlib.Path, count: int) -> None:
     """Asks drawn pairs at once: the replies are those of `route`, and memory stays level."""
     draw = random.Random(1)
-    hierarchy = prepared(folder, "grid", grid(30, draw))
+    hierarchy = prepared(folder, "grid", grid(30, draw), 4)
     pairs = [(draw.randrange(1, 901), draw.randrange(1, 901)) for _ in range(min(count, 20000))]
     wanted = routed(folder, hierarchy, pairs)
     service = Service(hierarchy)
@@ -182,7 +183,7 @@ def main() -> None:
     need_program()
     with tempfile.TemporaryDirectory() as name:
         folder = pathlib.Path(name)
-        row = prepared(folder, "row", ROW)
+        row = prepared(folder, "row", ROW, 0)
         worked(row)
         early(row)
         rubbish(row, words.rubbish or (100 if words.long else 20))
