@@ -1,14 +1,13 @@
 #!/usr/bin/env python3
 """Runs `routecli serve` through pipes, and compares its replies with those of `routecli route` and with worked ones.
 
-    tests/serve.py [--requests REQUESTS] [--rubbish MEGABYTES] [--long]
+    tests/serve.py [--requests N] [--rubbish MEGABYTES] [--long]
 
 A client asks and waits for each reply, asks all requests at once while it reads, closes early, and sends rubbish without a
 line feed; memory has to stay level. By default it asks 20,000 requests at once and sends 20 MB; with --long 1,000,000 and
 100 MB. It needs g++ and the proved program (README.md says how to build it), or the path in the environment variable
 ROUTECLI. The exit status is 1 at the first difference.
 """
-import argparse
 import collections.abc
 import pathlib
 import random
@@ -19,6 +18,7 @@ import threading
 
 sys.path.insert(0, str(pathlib.Path(__file__).resolve().parent.parent))
 
+from common import counted
 from common.program import PROGRAM, need_program
 
 # A row: 2 to 1 of weight 2, and 1 to 3 of weight 3.
@@ -120,8 +120,8 @@ def at_once(service: Service, requests: collections.abc.Sequence[str]) -> list[s
     return replies
 
 
-def worked(hierarchy: pathlib.Path) -> None:
-    """Asks and waits, and the last line without its end."""
+def worked(hierarchy: pathlib.Path) -> int:
+    """Asks and waits, and the last line without its end. Returns how many replies were compared."""
     service = Service(hierarchy)
     need(service.ready == "ready 3 3 2", f"ready: {service.ready}")
     for request, wanted in WORKED:
@@ -131,10 +131,11 @@ def worked(hierarchy: pathlib.Path) -> None:
     assert service.child.stdin is not None
     service.child.stdin.close()
     need(service.line() == "d 2 3 5" and service.child.wait(60) == 0, "the last line has no reply")
+    return len(WORKED) + 1
 
 
-def early(hierarchy: pathlib.Path) -> None:
-    """Closes the replies while it asks: the service ends with 7."""
+def early(hierarchy: pathlib.Path) -> int:
+    """Closes the replies while it asks: the service ends with 7. Returns 1, for one test."""
     service = Service(hierarchy)
     assert service.child.stdout is not None
     service.child.stdout.close()
@@ -143,10 +144,11 @@ def early(hierarchy: pathlib.Path) -> None:
     except BrokenPipeError:
         pass
     need(service.child.wait(60) in (7, -13), "replies that nobody reads are no failed write")
+    return 1
 
 
-def rubbish(hierarchy: pathlib.Path, megabytes: int) -> None:
-    """Sends bytes without a line feed, and then a request."""
+def rubbish(hierarchy: pathlib.Path, megabytes: int) -> int:
+    """Sends bytes without a line feed, and then a request. Returns 1, for one test."""
     service = Service(hierarchy)
     before = service.kilobytes()
     for _ in range(megabytes):
@@ -154,10 +156,11 @@ def rubbish(hierarchy: pathlib.Path, megabytes: int) -> None:
     grown = service.kilobytes() - before
     need(service.ask("") == "e LineTooLong" and service.ask("d 2 3") == "d 2 3 5", "rubbish isn't one line")
     need(grown < KEPT_KB and service.end() == 0, f"memory grew by {grown} kB")
+    return 1
 
 
-def many(folder: pathlib.Path, count: int) -> None:
-    """Asks drawn pairs at once: the replies are those of `route`, and memory stays level."""
+def many(folder: pathlib.Path, count: int) -> int:
+    """Asks drawn pairs at once: the replies are those of `route`, and memory stays level. Returns 3, for three tests."""
     draw = random.Random(1)
     hierarchy = prepared(folder, "grid", grid(30, draw), 4)
     pairs = [(draw.randrange(1, 901), draw.randrange(1, 901)) for _ in range(min(count, 20000))]
@@ -171,24 +174,24 @@ def many(folder: pathlib.Path, count: int) -> None:
         at_once(service, [f"q {s} {t}" for s, t in pairs])
     grown = service.kilobytes() - before
     need(grown < KEPT_KB and service.end() == 0, f"memory grew by {grown} kB")
+    return 3
 
 
 def main() -> None:
     """Reads the command line and runs all tests."""
-    parser = argparse.ArgumentParser(description=(__doc__ or "").splitlines()[0])
-    parser.add_argument("--requests", type=int, help="how many requests are asked")
-    parser.add_argument("--rubbish", type=int, help="how many megabytes without a line feed are sent")
-    parser.add_argument("--long", action="store_true", help="1,000,000 requests and 100 MB")
-    words = parser.parse_args()
+    words = counted.parser(__doc__ or "")
+    words.add_argument("--requests", type=counted.positive, metavar="N", help="how many requests are asked")
+    words.add_argument("--rubbish", type=counted.positive, metavar="MEGABYTES", help="how much is sent without a line feed")
+    words.add_argument("--long", action="store_true", help="1,000,000 requests and 100 MB")
+    options = words.parse_args()
     need_program()
     with tempfile.TemporaryDirectory() as name:
         folder = pathlib.Path(name)
         row = prepared(folder, "row", ROW, 0)
-        worked(row)
-        early(row)
-        rubbish(row, words.rubbish or (100 if words.long else 20))
-        many(folder, words.requests or (1000000 if words.long else 20000))
-    print("tests/serve.py: all replies are as wanted")
+        passed = worked(row) + early(row)
+        passed += rubbish(row, options.rubbish or (100 if options.long else 20))
+        passed += many(folder, options.requests or (1000000 if options.long else 20000))
+    counted.end("tests/serve.py", passed, 0)
 
 
 if __name__ == "__main__":
