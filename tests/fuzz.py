@@ -1,6 +1,6 @@
 #!/usr/bin/env python3
-"""Runs `routecli route` and `routecli answer` on changed hierarchy files and texts, and compares every status, line and
-refusal with slow and plain readers (plain.py).
+"""Runs `routecli route`, `routecli answer` and `routecli serve` on changed hierarchy files, texts and requests, and compares
+every status, line and refusal with slow and plain readers (plain.py).
 
     tests/fuzz.py [--seconds SECONDS] [--jobs JOBS] [--seed SEED]       by default an hour, 2 jobs and seed 1
 
@@ -42,6 +42,7 @@ MOST_NODES = 2000
 NUMBERS = [0, 1, 2, 3, 7, 37, 38, 255, 256, 1 << 25, (1 << 25) + 1, (1 << 31) - 1, 1 << 31, (1 << 32) - 2, (1 << 32) - 1]
 DIGITS = [b"0", b"00", b"1", b"2", b"3", b"4294967295", b"4294967296", b"33554432", b"33554433", b"134217728"]
 DIGITS += [b"134217729", b"18446744073709551616", b"9" * 5000, b"-1", b"x", b"1.0", b"p", b"q", b"a", b"sp", b"p2p", b"c"]
+DIGITS += [b"b", b"d", b":"]
 
 
 # Well made hierarchies
@@ -189,6 +190,25 @@ def drawn_pairs(draw, nodes):
     return networks.pairs_text(pairs).encode()
 
 
+def drawn_places(draw, nodes):
+    """One to eight places, mostly a few, and now and then one too many or none."""
+    count = draw.choice([1, 1, 2, 2, 3, 8, draw.randrange(10)])
+    return " ".join(f"{draw.randint(1, nodes)} {draw.choice([0, 0, 1, 3, plain.HEAVIEST])}" for _ in range(count))
+
+
+def drawn_request(draw, nodes):
+    """A line of a text of requests."""
+    kind = draw.choice("qqddbbbc ") if nodes else draw.choice("c ")
+    if kind == "b":
+        return f"b {drawn_places(draw, nodes)} : {drawn_places(draw, nodes)}"
+    return f"{kind} {draw.randint(1, nodes)} {draw.randint(1, nodes)}" if kind in "qd" else kind
+
+
+def drawn_requests(draw, nodes):
+    lines = [drawn_request(draw, nodes) for _ in range(draw.randrange(1, 24))]
+    return "\n".join(lines).encode() + draw.choice([b"", b"\n"])
+
+
 # Runs
 
 
@@ -203,9 +223,12 @@ class Runner:
         """The status (`crash` or `hang` in its place), what was written and told, and the greatest resident size."""
         for path, data in zip(self.inputs, inputs):
             path.write_bytes(data)
-        words = [self.folder.parent / "resident", self.folder / "figures", PROGRAM, command, *self.inputs]
-        pipes = {"stdin": subprocess.DEVNULL, "stdout": subprocess.PIPE, "stderr": subprocess.PIPE}
-        child = subprocess.Popen(words, start_new_session=True, **pipes)
+        is_service = command == "serve"
+        files = self.inputs[:1] if is_service else self.inputs
+        words = [self.folder.parent / "resident", self.folder / "figures", PROGRAM, command, *files]
+        with open(self.inputs[1] if is_service else os.devnull, "rb") as given:
+            pipes = {"stdin": given, "stdout": subprocess.PIPE, "stderr": subprocess.PIPE}
+            child = subprocess.Popen(words, start_new_session=True, **pipes)
         try:
             written, told = child.communicate(timeout=SECONDS)
         except subprocess.TimeoutExpired:
@@ -233,29 +256,86 @@ def is_line(line, source, target, cost, is_route):
     return len(nodes) == arcs + 1 and (nodes[0], nodes[-1]) == (source, target) and is_route(nodes, length)
 
 
+class Answers:
+    """What the answers by a hierarchy may be."""
+
+    def __init__(self, hierarchy):
+        self.routes, self.version = plain.Routes(hierarchy), hierarchy.version
+
+    def is_route(self, nodes, length):
+        return len(nodes) <= self.routes.nodes and self.routes.is_route([node - 1 for node in nodes], length)
+
+    def cost_of(self, source, target):
+        """The length of a least walk and how many arcs it has, where that is settled; or none."""
+        cost = self.routes.value(source - 1, target - 1)
+        return cost if cost is None or self.version == 2 else (cost[0], None)
+
+    def may_be_long(self, source, target):
+        arcs = self.routes.most_arcs(source - 1, target - 1)
+        return arcs is not None and arcs >= self.routes.nodes
+
+    def is_line(self, line, source, target):
+        return is_line(line, source, target, self.cost_of(source, target), self.is_route)
+
+    def is_reply(self, line, request):
+        """Whether a line replies to this request."""
+        letter, first, second = request
+        if letter in (b"c", b"e"):
+            return line == (b"c" if letter == b"c" else b"e " + first)
+        if letter == b"b":
+            return self.is_way(line, first, second)
+        if line == b"e TooLong":
+            return letter == b"q" and self.may_be_long(first, second)
+        if letter == b"q":
+            return self.is_line(line, first, second)
+        cost = self.cost_of(first, second)
+        return line == (b"n %d %d" % (first, second) if cost is None else b"d %d %d %d" % (first, second, cost[0]))
+
+    def is_way(self, line, starts, ends):
+        """Whether a line has a best way from one of the starts to one of the ends."""
+        ways = []
+        for source, before in starts:
+            for target, after in ends:
+                cost = self.cost_of(source, target)
+                if cost is not None:
+                    ways.append((before + cost[0] + after, source, target, cost[0]))
+        best = [way for way in ways if way[0] == min(ways)[0]]
+        if not best:
+            return line == b"n"
+        if line == b"e TooLong":
+            return any(self.may_be_long(source, target) for _, source, target, _ in best)
+        fields = line.split(b" ")
+        for whole, source, target, length in best:
+            if fields[:4] == [b"r", b"%d" % source, b"%d" % target, b"%d" % whole]:
+                return self.is_line(b" ".join([*fields[:3], b"%d" % length, *fields[4:]]), source, target)
+        return False
+
+
 def is_routed(hierarchy, pairs, status, written, told):
     """Whether what `route` wrote and told is right for these pairs."""
-    routes = plain.Routes(hierarchy)
+    answers = Answers(hierarchy)
     lines = written.split(b"\n")
     if lines.pop() != b"" or len(lines) > len(pairs):
         return False
-
-    def is_route(nodes, length):
-        return len(nodes) <= routes.nodes and routes.is_route([node - 1 for node in nodes], length)
-
-    def cost_of(source, target):
-        cost = routes.value(source - 1, target - 1)
-        return cost if cost is None or hierarchy.version == 2 else (cost[0], None)
-
-    for line, (source, target) in zip(lines, pairs):
-        if not is_line(line, source, target, cost_of(source, target), is_route):
-            return False
+    if not all(answers.is_line(line, *pair) for line, pair in zip(lines, pairs)):
+        return False
     if len(lines) == len(pairs):
         return (status, told) == (0, b"")
-    source, target = pairs[len(lines)]
-    arcs = routes.most_arcs(source - 1, target - 1)
-    is_long = arcs is not None and arcs >= routes.nodes
-    return is_long and (status, told) == (4, b"routecli: hierarchy: TooLong\n")
+    return answers.may_be_long(*pairs[len(lines)]) and (status, told) == (4, b"routecli: hierarchy: TooLong\n")
+
+
+def is_right_service(first, second, status, written, told):
+    """Whether each line of the second input has its reply."""
+    try:
+        hierarchy = plain.hierarchy_of(first)
+    except plain.Refused as refused:
+        return (status, written, told) == refusal_of(4, "hierarchy", refused)
+    answers, lines = Answers(hierarchy), written.split(b"\n")
+    ready = b"ready %d %d %d" % (len(hierarchy.ranks), len(hierarchy.links), hierarchy.version)
+    requests = list(plain.requests_of(second, len(hierarchy.ranks)))
+    if (status, told, lines.pop(), lines[:1], len(lines)) != (0, b"", b"", [ready], len(requests) + 1):
+        return False
+    return all(answers.is_reply(line, request) for line, request in zip(lines[1:], requests))
 
 
 def is_right_route(first, second, status, written, told):
@@ -307,6 +387,9 @@ def drawn_case(draw, corpus):
         return "answer", [changed_text(draw, graph), changed_text(draw, pairs)]
     data = draw.choice(corpus) if draw.random() < 0.4 else drawn_hierarchy(draw)
     nodes = int.from_bytes(data[4:8], "big")
+    if draw.random() < 0.4:
+        requests = changed_text(draw, drawn_requests(draw, nodes))
+        return "serve", [data if draw.random() < 0.9 else changed_bytes(draw, data), requests]
     pairs = drawn_pairs(draw, nodes)
     if draw.random() < 0.3:
         return "route", [data, changed_text(draw, pairs)]
@@ -318,6 +401,8 @@ def is_right(command, inputs, ended):
     """Whether a run ended rightly; none where the case is left out, which `ended` isn't asked for."""
     if command == "route":
         return is_right_route(*inputs, *ended())
+    if command == "serve":
+        return is_right_service(*inputs, *ended())
     asked, refusal = wanted_answer(*inputs)
     if refusal is not None:
         return ended() == refusal

@@ -11,6 +11,7 @@ LINK_BYTES = {1: 20, 2: 24}
 MOST_NODES = 1 << 25
 MOST_LINES = 1 << 27
 HEAVIEST = (1 << 32) - 1
+MOST_BYTES = 4096
 NONE = (1 << 32) - 1
 
 
@@ -259,6 +260,53 @@ def pairs_of(text, nodes):
         return numbers
 
     return read(text, b"q", 3, [b"p", b"aux", b"sp", b"p2p"], pair_sizes, pair)[1]
+
+
+def places_of(fields, nodes):
+    """The places of a request, two fields each: nodes and added lengths."""
+    for at in range(0, len(fields), 2):
+        node, weight = numbers_of(fields[at : at + 2], 1)
+        if not 1 <= node <= nodes:
+            raise Refused("NodeRange")
+        if weight > HEAVIEST:
+            raise Refused("WeightTooBig")
+        yield node, weight
+
+
+def request_of(line, nodes):
+    """What a line asks a service for, as its letter and two nodes or two lists of places; or the letter c."""
+    if len(line) > MOST_BYTES:
+        raise Refused("LineTooLong")
+    found = [fields for _, fields in lines_of(line + b"\n") if fields is not None]
+    if not found:
+        return b"c", None, None
+    letter, *fields = found[0]
+    if letter in (b"q", b"d"):
+        if len(fields) != 2:
+            raise Refused("FieldCount")
+        source, target = numbers_of(fields, 1)
+        if not (1 <= source <= nodes and 1 <= target <= nodes):
+            raise Refused("NodeRange")
+        return letter, source, target
+    if letter != b"b":
+        raise Refused("UnknownLine")
+    colon = fields.index(b":") if b":" in fields else len(fields)
+    sides = fields[:colon], fields[colon + 1 :]
+    if any(len(side) not in range(2, 17, 2) for side in sides):
+        raise Refused("FieldCount")
+    return letter, *(list(places_of(side, nodes)) for side in sides)
+
+
+def requests_of(text, nodes):
+    """What each line of a text asks for, or the name of its fault."""
+    lines = text.split(b"\n")
+    if lines[-1] == b"":
+        lines.pop()
+    for line in lines:
+        try:
+            yield request_of(line, nodes)
+        except Refused as refused:
+            yield b"e", str(refused).split()[0].encode(), None
 
 
 def least_from(arcs, source):
