@@ -133,7 +133,7 @@ fn built_by<G: Gate, R: Threads + Wait + Sync>(
 fn each_worker_begins_with_its_nodes(rt: HostRuntime) -> Result<(), Fail> {
     let alloc = rt.alloc();
     for workers in [1, 2, 3] {
-        let asked = Asked::new(alloc, 200)?;
+        let asked = Asked::new(alloc, 10_000)?;
         let options = Options { workers, ..TWO };
         let _built = built_by(&rt, alloc, grid(alloc)?, options, &asked, &OpenGate)?;
         for number in 0..workers {
