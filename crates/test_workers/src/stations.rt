@@ -165,9 +165,10 @@ impl OneAtATime {
         self.late.load(Ordering::SeqCst) == 0
     }
 
-    /// Waits until nobody else is there. False where somebody is at the last look.
+    /// Waits until nobody else is there, ten times as long as other gates, since who is there may be slow. False where
+    /// somebody is at the last look.
     fn comes_in(&self, own: u64) -> bool {
-        'looks: for look in 0..LOOKS {
+        'looks: for look in 0..10 * LOOKS {
             let found = self
                 .inside
                 .compare_exchange(0, own, Ordering::SeqCst, Ordering::SeqCst);
