@@ -32,6 +32,8 @@ def parser() -> argparse.ArgumentParser:
     shape = argparse.RawDescriptionHelpFormatter
     words = argparse.ArgumentParser(prog="domethyme-serve", description=__doc__, formatter_class=shape)
     words.add_argument("hierarchy", metavar="HIERARCHY", help="the file of a hierarchy")
+    words.add_argument("--network", help="the beginning of the names of its network's files: places on roads, and OSRM's API")
+    words.add_argument("--within", type=number(0, 10_000_000), default=1000, help="metres from a place to a road (1000)")
     words.add_argument("--host", default="127.0.0.1", help="the address to listen at (127.0.0.1)")
     words.add_argument("--port", type=number(0, 65535), default=5000, help="the port, 0 for any that is free (5000)")
     words.add_argument("--workers", type=number(1, 64), default=1, help="processes of routecli serve (1)")
@@ -67,7 +69,7 @@ class Front:
         """Serves until it is told to end. Raises WorkerFault or OSError where it can't begin."""
         words = self.words
         listening = listener(words.host, words.port)
-        self.service = Service(await self.generation(), self.counts, Ways(words.cors, words.log_places))
+        self.service = Service(await self.generation(), self.counts, Ways(words.cors, words.log_places, words.within))
         server = Server(self.service.handle, Bounds(words.connections))
         self.service.connections = lambda: len(server.connections)
         loop = asyncio.get_running_loop()
@@ -82,14 +84,15 @@ class Front:
         await self.service.generation.pool.close()
 
     async def generation(self) -> Generation:
-        return await opened(self.program, self.words.hierarchy, self.words.workers, Limits(), self.counts)
+        words = self.words
+        return await opened(self.program, words.hierarchy, words.network, words.workers, Limits(), self.counts)
 
     async def reload(self) -> None:
         """Takes the file anew. One that is refused leaves the generation that there is."""
         async with self._reload:
             try:
                 new = await self.generation()
-            except WorkerFault as fault:
+            except (WorkerFault, DomethymeError) as fault:
                 log.error("reload refused: %s", fault)
                 return
             old, self.service.generation = self.service.generation, new
@@ -123,7 +126,8 @@ def listener(host: str, port: int) -> socket.socket:
 
 def set_logs(access: bool) -> None:
     """Logs go to standard error: the service's lines with its name, the access log as it is."""
-    for logger, shape in ((log, "domethyme-serve: %(message)s"), (logging.getLogger("domethyme_service.access"), "%(message)s")):
+    shapes = {log: "domethyme-serve: %(message)s", logging.getLogger("domethyme_service.access"): "%(message)s"}
+    for logger, shape in shapes.items():
         handler = logging.StreamHandler()
         handler.setFormatter(logging.Formatter(shape))
         logger.addHandler(handler)

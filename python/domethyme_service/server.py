@@ -9,7 +9,8 @@ from typing import Any, NamedTuple
 
 from aiohttp import HttpVersion10, HttpVersion11, web
 
-from . import nodes
+from . import nodes, osrm
+from .asked import request_of, service_of
 from .errors import Refused, invalid_query
 from .generation import Generation
 from .metrics import Metrics
@@ -27,10 +28,12 @@ access_log = logging.getLogger("domethyme_service.access")
 
 
 class Ways(NamedTuple):
-    """How a service answers: the origin that other pages are allowed (`*` or none), and whether the log has places."""
+    """How a service answers: the origin that other pages are allowed (`*` or none), whether the log has places, and the
+    metres within which a place has to have a road."""
 
     cors: str = "*"
     log_places: bool = False
+    within: float = 1000.0
 
 
 class Asked(NamedTuple):
@@ -89,7 +92,10 @@ class Service:
     async def _single(self, generation: Generation, endpoint: str, asked: Asked) -> dict[str, Any]:
         if endpoint in KINDS:
             return await nodes.pair(generation.pool, KINDS[endpoint], asked.query)
-        raise Refused(404, "InvalidUrl", "there is no such path")
+        request = request_of(asked.path, asked.query, self.ways.within)
+        if generation.roads is None:
+            raise Refused(400, "InvalidService", "the service has no network: start it with --network")
+        return await osrm.answer(generation.pool, generation.roads, request)
 
     async def _batch(
         self, generation: Generation, kind: bytes, asked: Asked, request: web.BaseRequest
@@ -196,6 +202,8 @@ def endpoint_of(path: str) -> str:
     """The endpoint of a path, by which it is counted. Raises Refused where there is none."""
     if path in KINDS or path in BATCH_KINDS or path in ("/health", "/metrics"):
         return path
+    if service := service_of(path):
+        return f"/{service}"
     raise Refused(404, "InvalidUrl", "there is no such path")
 
 

@@ -19,11 +19,12 @@ SECONDS = 20
 class ServiceCase(ToolCase):
     """A test with the hierarchy of the village, v.rch, and its network v."""
 
-    options: tuple[str, ...] = ("--islands",)
+    def map_file(self):
+        return VILLAGE
 
     def setUp(self):
         super().setUp()
-        self.run_tool("osm_to_gr", VILLAGE, "v", *self.options)
+        self.run_tool("osm_to_gr", self.map_file(), "v", "--islands")
         domethyme.prepare(self.folder / "v.gr", self.folder / "v.rch", workers=1).close()
         self.graph = read_graph(self.folder / "v.gr")
 

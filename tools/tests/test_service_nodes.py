@@ -116,7 +116,8 @@ class NodesTests(ServiceCase):
 
     def test_health_metrics_and_log(self):
         self.serve("--access-log")
-        self.assertEqual(self.ask("/health"), (200, {"status": "ok", "nodes": self.graph.nodes, "links": self.links(), "workers": 1}))
+        wanted = {"status": "ok", "nodes": self.graph.nodes, "links": self.links(), "workers": 1}
+        self.assertEqual(self.ask("/health"), (200, wanted))
         self.ask("/nodes/length?from=1&to=2")
         self.assertEqual(self.value('requests_total{endpoint="/nodes/length",status="200"}'), 1)
         self.assertEqual(self.value("lines_total"), 1)
