@@ -16,6 +16,7 @@ import sys
 from domethyme import DomethymeError, find_program
 
 from .errors import WorkerFault
+from .fronts import Fronts
 from .generation import Generation, opened
 from .guard import Bounds, Server
 from .server import Service, Ways
@@ -37,6 +38,8 @@ def parser() -> argparse.ArgumentParser:
     words.add_argument("--host", default="127.0.0.1", help="the address to listen at (127.0.0.1)")
     words.add_argument("--port", type=number(0, 65535), default=5000, help="the port, 0 for any that is free (5000)")
     words.add_argument("--workers", type=number(1, 64), default=1, help="processes of routecli serve (1)")
+    words.add_argument("--fronts", type=number(1, 64), default=1, help="processes that listen, each with its workers (1)")
+    words.add_argument("--one-of-many", action="store_true", help=argparse.SUPPRESS)
     words.add_argument("--program", help="routecli: by default that of ROUTECLI, on PATH, or built here")
     words.add_argument("--connections", type=number(1, 100_000), default=2000, help="how many at once (2000)")
     words.add_argument("--cors", default="*", help="the origin whose pages may read answers, or none (*)")
@@ -64,18 +67,21 @@ class Front:
         self.counts = Counts()
         self.end = asyncio.Event()
         self._reload = asyncio.Lock()
+        self._reloads: set[asyncio.Task[None]] = set()
 
     async def run(self) -> None:
         """Serves until it is told to end. Raises WorkerFault or OSError where it can't begin."""
         words = self.words
-        listening = listener(words.host, words.port)
+        listening = listener(words.host, words.port, words.one_of_many)
         self.service = Service(await self.generation(), self.counts, Ways(words.cors, words.log_places, words.within))
         server = Server(self.service.handle, Bounds(words.connections))
         self.service.connections = lambda: len(server.connections)
         loop = asyncio.get_running_loop()
         for name in (signal.SIGTERM, signal.SIGINT):
             loop.add_signal_handler(name, self.end.set)
-        loop.add_signal_handler(signal.SIGHUP, lambda: asyncio.ensure_future(self.reload()))
+        loop.add_signal_handler(signal.SIGHUP, self.reload_soon)
+        if words.one_of_many:
+            loop.add_reader(0, self.orphaned)
         accepting = await loop.create_server(server, sock=listening, backlog=BACKLOG)
         address = listening.getsockname()
         log.info("listens at http://%s:%d/, %d nodes", address[0], address[1], self.service.generation.pool.nodes)
@@ -86,6 +92,17 @@ class Front:
     async def generation(self) -> Generation:
         words = self.words
         return await opened(self.program, words.hierarchy, words.network, words.workers, Limits(), self.counts)
+
+    def orphaned(self) -> None:
+        """The process that started the fronts is gone."""
+        asyncio.get_running_loop().remove_reader(0)
+        self.end.set()
+
+    def reload_soon(self) -> None:
+        """SIGHUP: several in a row are taken one after the other."""
+        task = asyncio.ensure_future(self.reload())
+        self._reloads.add(task)
+        task.add_done_callback(self._reloads.discard)
 
     async def reload(self) -> None:
         """Takes the file anew. One that is refused leaves the generation that there is."""
@@ -115,11 +132,13 @@ class Front:
                     each.force_close()
 
 
-def listener(host: str, port: int) -> socket.socket:
-    """A socket bound to the address. Raises OSError."""
+def listener(host: str, port: int, is_shared: bool) -> socket.socket:
+    """A socket bound to the address, which others may listen at too if it is shared. Raises OSError."""
     family, kind, protocol, _, address = socket.getaddrinfo(host, port, type=socket.SOCK_STREAM)[0]
     listening = socket.socket(family, kind, protocol)
     listening.setsockopt(socket.SOL_SOCKET, socket.SO_REUSEADDR, 1)
+    if is_shared:
+        listening.setsockopt(socket.SOL_SOCKET, socket.SO_REUSEPORT, 1)
     listening.bind(address)
     return listening
 
@@ -142,11 +161,19 @@ async def serve(words: argparse.Namespace) -> None:
     await Front(words).run()
 
 
+def many(words: argparse.Namespace) -> int:
+    """Several fronts; the port is kept by a socket that doesn't listen. Returns the exit status."""
+    with listener(words.host, words.port, True) as kept:
+        return Fronts([*sys.argv[1:], "--port", str(kept.getsockname()[1])], words.fronts).run()
+
+
 def main() -> None:
     """The command; ends the process."""
     words = parser().parse_args()
     set_logs(words.access_log or words.log_places)
     try:
+        if words.fronts > 1:
+            sys.exit(many(words))
         asyncio.run(serve(words))
     except (WorkerFault, DomethymeError, OSError) as fault:
         print(f"domethyme-serve: {fault}", file=sys.stderr)
