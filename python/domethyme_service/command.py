@@ -42,6 +42,7 @@ def parser() -> argparse.ArgumentParser:
     words.add_argument("--one-of-many", action="store_true", help=argparse.SUPPRESS)
     words.add_argument("--program", help="routecli: by default that of ROUTECLI, on PATH, or built here")
     words.add_argument("--connections", type=number(1, 100_000), default=2000, help="how many at once (2000)")
+    words.add_argument("--head-seconds", type=number(1, 3600), default=10, help="in which a head has to come whole (10)")
     words.add_argument("--cors", default="*", help="the origin whose pages may read answers, or none (*)")
     words.add_argument("--access-log", action="store_true", help="a line of JSON on standard error for each request")
     words.add_argument("--log-places", action="store_true", help="with the path and the caller's address in it")
@@ -74,7 +75,7 @@ class Front:
         words = self.words
         listening = listener(words.host, words.port, words.one_of_many)
         self.service = Service(await self.generation(), self.counts, Ways(words.cors, words.log_places, words.within))
-        server = Server(self.service.handle, Bounds(words.connections))
+        server = Server(self.service.handle, Bounds(words.connections, words.head_seconds))
         self.service.connections = lambda: len(server.connections)
         loop = asyncio.get_running_loop()
         for name in (signal.SIGTERM, signal.SIGINT):

@@ -95,7 +95,7 @@ class Connection(web.RequestHandler):
     ) -> web.StreamResponse:
         """An error of HTTP as JSON, which ends the connection."""
         code, says = ("InvalidUrl", "the request cannot be read") if status < 500 else ("InternalError", "an error inside")
-        if status >= 500:
+        if status >= 500 and not isinstance(exc, ConnectionError):
             self.log_exception("error while answering", exc_info=exc)
         body = json.dumps({"code": code, "message": says})
         answer = web.Response(status=status, text=body, content_type="application/json")

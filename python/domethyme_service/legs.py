@@ -9,7 +9,7 @@ from collections.abc import Iterator
 from typing import NamedTuple
 
 from .errors import Refused
-from .replies import Route, route_of
+from .replies import Route, length_of, route_of
 from .roads import NONE, Roads, Spot
 
 SIDES = 8
@@ -55,6 +55,15 @@ def leg_of(roads: Roads, start: Spot, end: Spot, replies: list[bytes]) -> Leg | 
     if route is None or straight is not None and straight.weight <= route.length:
         return straight
     return driven(roads, start, end, route)
+
+
+def least_weight(roads: Roads, start: Spot, end: Spot, replies: list[bytes]) -> int | None:
+    """The weight of the leg by the replies to its lines, without its parts; None where there is no way."""
+    if start.copies and start.copies == end.copies:
+        return 0
+    straight = along_one_arc(roads, start, end)
+    weights = [weight for weight in map(length_of, replies) if weight is not None]
+    return min([*weights, *([] if straight is None else [straight.weight])], default=None)
 
 
 def along_one_arc(roads: Roads, start: Spot, end: Spot) -> Leg | None:

@@ -1,7 +1,7 @@
 """Routes and lengths between nodes by their numbers, from 1, as in files: one pair, or a batch of pairs as NDJSON."""
 import json
 import re
-from collections.abc import AsyncIterator, Mapping
+from collections.abc import AsyncGenerator, Mapping
 from typing import Any
 
 from .errors import Refused, invalid_query, invalid_value
@@ -42,7 +42,7 @@ def answer(kind: bytes, source: int, target: int, route: Route | None) -> dict[s
     return found
 
 
-async def batch(pool: Pool, kind: bytes, body: bytes) -> AsyncIterator[bytes]:
+async def batch(pool: Pool, kind: bytes, body: bytes) -> AsyncGenerator[bytes, None]:
     """The lines of the answer to lines `{"from": S, "to": T}`, in order, in blocks; a fault is told in its line."""
     lines = body.split(b"\n")
     if not lines[-1].strip():

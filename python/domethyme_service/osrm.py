@@ -2,20 +2,22 @@
 between the points of roads that are nearest to the places."""
 import asyncio
 import base64
+import collections
+import contextlib
+from collections.abc import AsyncIterator, Iterator
 from typing import Any
 
 from . import asked
 from .asked import Request
 from .errors import Refused, invalid_value
 from .guides import steps_of_leg
-from .legs import Leg, leg_of, metres_of, requests, seconds_of, weight_of
+from .legs import Leg, least_weight, leg_of, metres_of, requests, seconds_of, weight_of
 from .lines import encoded, simplified
 from .roads import Roads, Spot, steps_of
 from .workers import Pool
 
 ANNOTATIONS = ("duration", "weight", "distance", "datasources", "speed")
 MOST_NEAREST = 100
-CELLS_AT_ONCE = 512
 
 
 async def answer(pool: Pool, roads: Roads, request: Request) -> dict[str, Any]:
@@ -172,13 +174,11 @@ async def table(pool: Pool, roads: Roads, request: Request) -> dict[str, Any]:
         raise Refused(400, "TooBig", f"a table may have {asked.MOST_CELLS} cells")
     spots = spots_of(roads, request)
     pairs = [(spots[source], spots[end]) for source in sources for end in destinations]
-    legs: list[Leg | None] = []
-    for begin in range(0, len(pairs), CELLS_AT_ONCE):
-        legs += await cells(pool, roads, pairs[begin : begin + CELLS_AT_ONCE])
+    rows = [row async for row in cells(pool, roads, pairs, set(names) == {roads.unit})]
     found: dict[str, Any] = {"code": "Ok"}
     for name, values in (("duration", "durations"), ("distance", "distances")):
         if name in names:
-            row = [None if leg is None else figures(roads, leg)[name] for leg in legs]
+            row = [None if each is None else each[name] for each in rows]
             found[values] = [row[begin : begin + len(destinations)] for begin in range(0, len(row), len(destinations))]
     if not request.says("skip_waypoints"):
         found["sources"] = [waypoint(request, spots[place]) for place in sources]
@@ -186,12 +186,36 @@ async def table(pool: Pool, roads: Roads, request: Request) -> dict[str, Any]:
     return found
 
 
-async def cells(pool: Pool, roads: Roads, pairs: list[tuple[Spot, Spot]]) -> list[Leg | None]:
-    """The legs of some cells of a table, asked behind single requests."""
-    lines = [requests(*pair) for pair in pairs]
-    replies = [reply async for part in pool.ask_many([line for each in lines for line in each]) for reply in part]
-    following = iter(replies)
-    found = []
-    for pair, each in zip(pairs, lines):
-        found.append(leg_of(roads, *pair, [next(following) for _ in each]))
-    return found
+async def cells(
+    pool: Pool, roads: Roads, pairs: list[tuple[Spot, Spot]], only_weights: bool
+) -> AsyncIterator[dict[str, float] | None]:
+    """The figures of the cells of a table, in order, asked behind single requests. Where weights are all that is wanted, routes
+    aren't looked at."""
+    asked_for: collections.deque[tuple[tuple[Spot, Spot], int]] = collections.deque()
+    replies: collections.deque[bytes] = collections.deque()
+
+    def lines() -> Iterator[bytes]:
+        for pair in pairs:
+            some = requests(*pair)
+            asked_for.append((pair, len(some)))
+            yield from some
+
+    async with contextlib.aclosing(pool.ask_many(lines())) as parts:
+        async for part in parts:
+            replies += part
+            while asked_for and asked_for[0][1] <= len(replies):
+                pair, count = asked_for.popleft()
+                yield cell(roads, pair, [replies.popleft() for _ in range(count)], only_weights)
+    for pair, _ in asked_for:
+        yield cell(roads, pair, [], only_weights)
+
+
+def cell(
+    roads: Roads, pair: tuple[Spot, Spot], replies: list[bytes], only_weights: bool
+) -> dict[str, float] | None:
+    """The figures of one cell, None where there is no way."""
+    if only_weights:
+        weight = least_weight(roads, *pair, replies)
+        return None if weight is None else {roads.unit: weight_of(roads, weight)}
+    leg = leg_of(roads, *pair, replies)
+    return None if leg is None else figures(roads, leg)

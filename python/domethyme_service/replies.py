@@ -44,3 +44,10 @@ def route_of(reply: bytes) -> Route | None:
         return None
     words = list(map(int, reply[2:].split()))
     return Route(words[0], words[1], words[2], tuple(words[4:]))
+
+
+def length_of(reply: bytes) -> int | None:
+    """The length in a reply, None where there is no way. Raises Refused as route_of does."""
+    if reply in FAULTS:
+        raise Refused(500, "InternalError", FAULTS[reply])
+    return None if reply.startswith(b"n") else int(reply.split(b" ", 4)[3])

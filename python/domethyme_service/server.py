@@ -1,10 +1,11 @@
 """The endpoints: what is asked by which path, limits, and the access log."""
 import asyncio
+import contextlib
 import json
 import logging
 import time
 import urllib.parse
-from collections.abc import AsyncIterator, Callable, Mapping
+from collections.abc import AsyncGenerator, Callable, Mapping
 from typing import Any, NamedTuple
 
 from aiohttp import HttpVersion10, HttpVersion11, web
@@ -213,6 +214,8 @@ async def body_of(request: web.BaseRequest) -> bytes:
         raise Refused(415, "InvalidQuery", "the body may not be compressed")
     if (request.content_length or 0) > MOST_BODY:
         raise Refused(413, "TooBig", f"the body may have {MOST_BODY} bytes")
+    if request.headers.get("Expect", "").lower() == "100-continue" and request.transport is not None:
+        request.transport.write(b"HTTP/1.1 100 Continue\r\n\r\n")
     parts: list[bytes] = []
     size = 0
     while part := await request.content.readany():
@@ -223,13 +226,14 @@ async def body_of(request: web.BaseRequest) -> bytes:
     return b"".join(parts)
 
 
-async def streamed(answer: web.StreamResponse, request: web.BaseRequest, blocks: AsyncIterator[bytes]) -> None:
+async def streamed(answer: web.StreamResponse, request: web.BaseRequest, blocks: AsyncGenerator[bytes, None]) -> None:
     """Writes the blocks. After a fault, or where the client doesn't read, the connection is broken off: nothing else can say so
     once the answer has begun."""
     try:
-        async for block in blocks:
-            async with asyncio.timeout(SECONDS):
-                await answer.write(block)
+        async with contextlib.aclosing(blocks):
+            async for block in blocks:
+                async with asyncio.timeout(SECONDS):
+                    await answer.write(block)
         async with asyncio.timeout(SECONDS):
             await answer.write_eof()
     except (Refused, TimeoutError):

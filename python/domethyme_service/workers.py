@@ -8,7 +8,7 @@ jobs go to others: asking twice is safe, since requests change nothing.
 import asyncio
 import collections
 import contextlib
-from collections.abc import AsyncIterator, Iterable, Sequence
+from collections.abc import AsyncGenerator, Iterable, Sequence
 from typing import IO, NamedTuple, cast
 
 from .errors import Refused, WorkerFault
@@ -20,6 +20,7 @@ ATTEMPTS = 3
 SHORTEST_PAUSE, LONGEST_PAUSE = 0.1, 5.0
 SAID = 4096
 DIGITS = 12
+SECONDS_TO_END = 5.0
 
 
 class Limits(NamedTuple):
@@ -57,6 +58,7 @@ class Worker(asyncio.SubprocessProtocol):
         self.ready: asyncio.Future[tuple[int, int]] = asyncio.get_running_loop().create_future()
         self.open: collections.deque[Job] = collections.deque()
         self.lines_open = self.bulk_open = 0
+        self.ended: asyncio.Future[None] = asyncio.get_running_loop().create_future()
         self.heard = 0.0
         self.is_gone = False
         self._begun = b""
@@ -136,6 +138,10 @@ class Worker(asyncio.SubprocessProtocol):
 
     def connection_lost(self, exc: Exception | None) -> None:
         self.bury()
+        self.pool.alive.discard(self)
+        self.transport.close()
+        if not self.ended.done():
+            self.ended.set_result(None)
 
     def kill(self) -> None:
         """Ends the process at once; its jobs go to others."""
@@ -161,6 +167,7 @@ class Pool:
     def __init__(self, program: str, file: IO[bytes], count: int, limits: Limits, counts: Counts) -> None:
         self.program, self.file, self.count, self.limits, self.counts = program, file, count, limits, counts
         self.workers: list[Worker] = []
+        self.alive: set[Worker] = set()
         self.nodes = self.links = 0
         self.longest_reply = 1 << 12
         self._queues: tuple[collections.deque[Job], collections.deque[Job]] = collections.deque(), collections.deque()
@@ -192,7 +199,7 @@ class Pool:
         self.pump_soon()
         return await job.done
 
-    async def ask_many(self, lines: Iterable[bytes]) -> AsyncIterator[list[bytes]]:
+    async def ask_many(self, lines: Iterable[bytes]) -> AsyncGenerator[list[bytes], None]:
         """The replies to very many lines, in order, in lists: as the jobs of tables and batches, few at once."""
         jobs: collections.deque[asyncio.Task[list[bytes]]] = collections.deque()
         try:
@@ -200,6 +207,7 @@ class Pool:
                 jobs.append(asyncio.ensure_future(self.ask(part, True)))
                 if len(jobs) >= JOBS_AT_ONCE:
                     yield await jobs.popleft()
+                    await asyncio.sleep(0)  # lets others in, where replies are there already
             while jobs:
                 yield await jobs.popleft()
         finally:
@@ -283,6 +291,8 @@ class Pool:
             )
         except OSError as error:
             raise WorkerFault(f"{self.program}: {error.strerror}") from error
+        if not worker.ended.done():
+            self.alive.add(worker)
         if self._is_closed:
             worker.kill()
         elif not worker.is_gone:
@@ -311,9 +321,12 @@ class Pool:
         for task in self._tasks:
             task.cancel()
         await asyncio.gather(*self._tasks, return_exceptions=True)
-        for worker in list(self.workers):
+        ending = list(self.alive)
+        for worker in ending:
             worker.kill()
             worker.transport.close()
+        if ending:
+            await asyncio.wait([worker.ended for worker in ending], timeout=SECONDS_TO_END)
         for job in (*self._queues[0], *self._queues[1]):
             if not job.done.done():
                 job.done.set_exception(Refused(503, "Overloaded", "the service ends"))
