@@ -324,7 +324,6 @@ class Pool:
         ending = list(self.alive)
         for worker in ending:
             worker.kill()
-            worker.transport.close()
         if ending:
             await asyncio.wait([worker.ended for worker in ending], timeout=SECONDS_TO_END)
         for job in (*self._queues[0], *self._queues[1]):

@@ -26,6 +26,14 @@ from domethyme_service.workers import Counts, Limits, Pool  # noqa: E402
 GOOD = b"GET /nodes/length?from=1&to=2 HTTP/1.1\r\nHost: x\r\nAccept: */*\r\n\r\n"
 
 
+def read_to(stream, end):
+    """What comes up to these bytes, or to the end."""
+    found = b""
+    while end not in found and (part := stream.recv(1 << 16)):
+        found += part
+    return found
+
+
 class PoolTests(ToolCase):
     """A pool by itself, over a ring of ten nodes."""
 
@@ -96,9 +104,10 @@ class ReplyTests(unittest.TestCase):
     def test_what_is_a_reply(self):
         between = b"b 1 0 20 5 : 3 7 4 0"
         for request, reply, wanted in [
-            (b"d 1 2", b"d 1 2 5", True), (b"d 1 2", b"n 1 2", True), (b"d 1 2", b"d 1 23 5", False), (b"d 1 2", b"n 1 3", False),
-            (b"d 1 2", b"r 1 2 5 1 1 2", False), (b"q 1 2", b"r 1 2 5 1 1 2", True), (b"q 1 2", b"d 1 2 5", False),
-            (b"q 1 2", b"e NodeRange", False), (b"q 1 2", b"e OutOfMemory", True), (b"q 1 2", b"", False), (between, b"n", True),
+            (b"d 1 2", b"d 1 2 5", True), (b"d 1 2", b"n 1 2", True), (b"d 1 2", b"d 1 23 5", False),
+            (b"d 1 2", b"n 1 3", False), (b"d 1 2", b"r 1 2 5 1 1 2", False), (b"q 1 2", b"r 1 2 5 1 1 2", True),
+            (b"q 1 2", b"d 1 2 5", False), (b"q 1 2", b"e NodeRange", False), (b"q 1 2", b"e OutOfMemory", True),
+            (b"q 1 2", b"", False), (between, b"n", True),
             (between, b"r 20 3 9 1 20 3", True), (between, b"r 5 3 9 1 5 3", False), (between, b"r 1 7 9 1 1 7", False),
             (between, b"n 1 2", False), (between, b"r 1 3", False),
         ]:
@@ -125,9 +134,9 @@ class LimitTests(ServiceCase):
         self.assertIn(b" 408 ", self.raw(GOOD[:30]).split(b"\r\n")[0])
         with socket.create_connection(("127.0.0.1", self.port), 20) as stream:
             stream.sendall(GOOD)
-            self.assertIn(b" 200 OK", stream.recv(4096))
+            read_to(stream, b"}")
             stream.sendall(GOOD[:30])
-            self.assertIn(b" 408 ", stream.recv(4096))
+            self.assertIn(b" 408 ", read_to(stream, b"}"))
         self.assertLess(time.monotonic() - begun, 10)
 
     def test_requests_that_are_no_http(self):
@@ -170,6 +179,6 @@ class LimitTests(ServiceCase):
         head = f"POST /nodes/lengths HTTP/1.1\r\nExpect: 100-continue\r\nContent-Length: {len(body)}\r\n\r\n".encode()
         with socket.create_connection(("127.0.0.1", self.port), 20) as stream:
             stream.sendall(head)
-            self.assertEqual(stream.recv(100), b"HTTP/1.1 100 Continue\r\n\r\n")
+            self.assertEqual(read_to(stream, b"\r\n\r\n"), b"HTTP/1.1 100 Continue\r\n\r\n")
             stream.sendall(body)
-            self.assertIn(b" 200 OK", stream.recv(4096))
+            self.assertIn(b'"length":0}', read_to(stream, b"}"))
