@@ -68,11 +68,13 @@ class Front:
         self.counts = Counts()
         self.end = asyncio.Event()
         self._reload = asyncio.Lock()
+        self._wanted: list[int] = []
         self._reloads: set[asyncio.Task[None]] = set()
 
     async def run(self) -> None:
         """Serves until it is told to end. Raises WorkerFault or OSError where it can't begin."""
         words = self.words
+        signal.signal(signal.SIGHUP, lambda number, _: self._wanted.append(number))
         listening = listener(words.host, words.port, words.one_of_many)
         self.service = Service(await self.generation(), self.counts, Ways(words.cors, words.log_places, words.within))
         server = Server(self.service.handle, Bounds(words.connections, words.head_seconds))
@@ -83,6 +85,8 @@ class Front:
         loop.add_signal_handler(signal.SIGHUP, self.reload_soon)
         if words.one_of_many:
             loop.add_reader(0, self.orphaned)
+        if self._wanted:
+            self.reload_soon()
         accepting = await loop.create_server(server, sock=listening, backlog=BACKLOG)
         address = listening.getsockname()
         log.info("listens at http://%s:%d/, %d nodes", address[0], address[1], self.service.generation.pool.nodes)

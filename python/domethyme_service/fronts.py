@@ -29,6 +29,8 @@ class Fronts:
         self._children = [self._started() for _ in range(self.count)]
         while any(child.poll() is None for child in self._children):
             time.sleep(LOOK)
+            if self._is_ending:
+                self._hand_on(signal.SIGTERM)
             is_beginning = time.monotonic() - begun < SECONDS_TO_BEGIN
             for place, child in enumerate(self._children):
                 if child.poll() is None or self._is_ending:
@@ -50,9 +52,12 @@ class Fronts:
     def _take(self, number: int, _frame: FrameType | None) -> None:
         """Hands a signal on; all but SIGHUP end the fronts."""
         self._is_ending = self._is_ending or number != signal.SIGHUP
+        self._hand_on(signal.SIGHUP if number == signal.SIGHUP else signal.SIGTERM)
+
+    def _hand_on(self, name: signal.Signals) -> None:
         for child in self._children:
             if child.poll() is None:
-                child.send_signal(signal.SIGHUP if number == signal.SIGHUP else signal.SIGTERM)
+                child.send_signal(name)
 
     def _end(self, status: int) -> int:
         self._take(signal.SIGTERM, None)

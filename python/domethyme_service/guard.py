@@ -30,22 +30,23 @@ def plain(status: str, body: bytes, more: str = "") -> bytes:
 
 
 class Connection(web.RequestHandler):
-    """One connection. `received` counts its requests whose heads have come, and `finished` those that were answered."""
+    """One connection. `finished` counts its requests that were answered; aiohttp counts those whose heads have come."""
 
-    __slots__ = ("bounds", "received", "finished", "_timer", "_has_ended")
+    __slots__ = ("bounds", "finished", "_timer", "_has_ended")
 
     def __init__(self, server: "Server", bounds: Bounds, **more: Any) -> None:
         super().__init__(server, **more)
         self.bounds = bounds
-        self.received = self.finished = 0
+        self.finished = 0
         self._timer: asyncio.TimerHandle | None = None
         self._has_ended = False
 
     @property
     def is_idle(self) -> bool:
-        return self.received == self.finished
+        return self._request_count == self.finished
 
     def connection_made(self, transport: asyncio.BaseTransport) -> None:
+        """Begins the connection, or answers 503 where there are too many."""
         stream = cast(asyncio.Transport, transport)
         if self._manager is not None and len(self._manager.connections) >= self.bounds.connections:
             self._manager, self._close = None, True
@@ -61,13 +62,11 @@ class Connection(web.RequestHandler):
 
     def data_received(self, data: bytes) -> None:
         """Parses what has come. What can't be parsed at all is answered, and ends the connection."""
-        before = self._request_count
         try:
             super().data_received(data)
         except Exception:
             self._break(plain("400 Bad Request", NO_HTTP))
             return
-        self.received += self._request_count - before
         if not self.is_idle:
             self._stop_timer()
         elif self._timer is None:
@@ -81,6 +80,7 @@ class Connection(web.RequestHandler):
         return not self.is_idle
 
     async def finish_response(self, request: web.BaseRequest, resp: web.StreamResponse, start_time: float) -> bool:
+        """Writes the answer; then reading goes on where it was paused, and a client that sends no more is let go."""
         try:
             return await super().finish_response(request, resp, start_time)
         finally:

@@ -41,14 +41,15 @@ def ends(roads: Roads, spot: Spot) -> list[int]:
     return [int(roads.osm[node] or 0) for node in (arc.start, arc.end)]
 
 
-def spots_of(roads: Roads, request: Request) -> list[Spot]:
-    """The nearest point of a road to each place."""
+async def spots_of(roads: Roads, request: Request) -> list[Spot]:
+    """The nearest point of a road to each place; others are let in between."""
     found = []
     for number, (place, within) in enumerate(zip(request.places, request.within)):
         spot = roads.nearest(place)[0]
         if spot.metres > within:
             raise Refused(400, "NoSegment", f"there is no road near place {number}")
         found.append(spot)
+        await asyncio.sleep(0)
     return found
 
 
@@ -66,7 +67,7 @@ async def route(pool: Pool, roads: Roads, request: Request) -> dict[str, Any]:
     names = asked.annotations_of(request, ANNOTATIONS)
     for word in ("overview", "geometries", "steps"):
         request.word(word)
-    spots = spots_of(roads, request)
+    spots = await spots_of(roads, request)
     pairs = list(zip(spots, spots[1:]))
     legs = await asyncio.gather(*(one_leg(pool, roads, *pair) for pair in pairs))
     if not all(leg is not None for leg in legs):
@@ -172,7 +173,7 @@ async def table(pool: Pool, roads: Roads, request: Request) -> dict[str, Any]:
     sources, destinations = asked.chosen(request, "sources"), asked.chosen(request, "destinations")
     if len(sources) * len(destinations) > asked.MOST_CELLS:
         raise Refused(400, "TooBig", f"a table may have {asked.MOST_CELLS} cells")
-    spots = spots_of(roads, request)
+    spots = await spots_of(roads, request)
     pairs = [(spots[source], spots[end]) for source in sources for end in destinations]
     rows = [row async for row in cells(pool, roads, pairs, set(names) == {roads.unit})]
     found: dict[str, Any] = {"code": "Ok"}

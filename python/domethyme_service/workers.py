@@ -90,6 +90,7 @@ class Worker(asyncio.SubprocessProtocol):
         pipe.write(text)
 
     def pipe_data_received(self, fd: int, data: bytes | str) -> None:
+        """Takes the lines that have ended; the process is killed at the first that isn't what was asked for."""
         part = data if isinstance(data, bytes) else data.encode()
         if fd == 2:
             self._said = (self._said + part)[-SAID:]
@@ -150,6 +151,7 @@ class Worker(asyncio.SubprocessProtocol):
         self.bury()
 
     def bury(self) -> None:
+        """The process is of no more use: its jobs go to others, and who waits for it to be ready gets a WorkerFault."""
         if self.is_gone:
             return
         self.is_gone = True

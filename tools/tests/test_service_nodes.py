@@ -103,6 +103,8 @@ class NodesTests(ServiceCase):
                 self.assertIn(int(head.split()[1]), (400, 404, 505))
                 self.assertIn("code", json.loads(body))
         self.assertEqual(self.raw((good + b"\r\n") * 200, True).count(b'{"from":1,"to":2,'), 200)
+        upgrade = good + b"Connection: Upgrade\r\nUpgrade: h2c\r\n\r\n"
+        self.assertEqual(self.raw(upgrade + good + b"\r\n", True).count(b" 200 OK"), 2)
         absolute = good.replace(b"/nodes", b"http://x/nodes") + b"Connection: close\r\n\r\n"
         self.assertIn(b" 200 OK", self.raw(absolute))
 
