@@ -15,8 +15,8 @@ class TypeTests(unittest.TestCase):
         ended = subprocess.run([sys.executable, "-m", *map(str, words)], cwd=folder, capture_output=True, text=True)
         self.assertEqual(ended.returncode, 0, ended.stdout + ended.stderr)
 
-    def test_types_of_the_package(self):
-        self.run_module("mypy", "--config-file=pyproject.toml", "domethyme", folder=PACKAGE)
+    def test_types_of_the_packages(self):
+        self.run_module("mypy", "--config-file=pyproject.toml", "domethyme", "domethyme_service", folder=PACKAGE)
 
     def test_types_of_the_tools(self):
         tools = [path.name for path in scripts(TOOLS) if path.name != "domethyme.py"]

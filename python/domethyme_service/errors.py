@@ -1,0 +1,32 @@
+"""What a request is answered where it can't be answered as it asks."""
+
+
+class Refused(Exception):
+    """An answer `{"code": .., "message": ..}`.
+
+    status  of HTTP, 400 to 505
+    code    OSRM's word, as InvalidQuery, or one of this service
+    """
+
+    def __init__(self, status: int, code: str, message: str) -> None:
+        super().__init__(message)
+        self.status, self.code, self.message = status, code, message
+
+
+class WorkerFault(Exception):
+    """A worker can't be started: the file of the hierarchy is refused, or there is no such program."""
+
+
+def invalid_query(message: str) -> Refused:
+    """A parameter that isn't known, or the wrong shape of a request."""
+    return Refused(400, "InvalidQuery", message)
+
+
+def invalid_value(message: str) -> Refused:
+    """A value that a parameter can't have."""
+    return Refused(400, "InvalidValue", message)
+
+
+def not_implemented(message: str) -> Refused:
+    """A parameter of OSRM that would change the answer, and isn't there."""
+    return Refused(400, "NotImplemented", message)

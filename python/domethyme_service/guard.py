@@ -1,0 +1,147 @@
+"""Connections, with what aiohttp's server leaves open: how many there may be, the time in which a head has to come, how many
+requests one may send ahead, errors as JSON, and an end without a lost request."""
+import asyncio
+import json
+from collections.abc import Awaitable, Callable
+from typing import Any, NamedTuple, cast
+
+from aiohttp import web
+
+MOST_AHEAD = 64
+NONE_MORE = b'{"code":"Overloaded","message":"too many connections"}'
+TOO_SLOW = b'{"code":"Timeout","message":"the request\'s head has not come whole"}'
+NO_HTTP = b'{"code":"InvalidUrl","message":"the request cannot be read"}'
+
+
+class Bounds(NamedTuple):
+    """connections: of one process; head: seconds in which a head has to come whole; idle: seconds that a connection is kept
+    without a request; url: the greatest number of bytes of the first line."""
+
+    connections: int = 2000
+    head: float = 10.0
+    idle: float = 75.0
+    url: int = 65_536
+
+
+def plain(status: str, body: bytes, more: str = "") -> bytes:
+    """A whole answer that closes its connection."""
+    head = f"HTTP/1.1 {status}\r\nContent-Type: application/json; charset=utf-8\r\n"
+    return f"{head}Content-Length: {len(body)}\r\nConnection: close\r\n{more}\r\n".encode() + body
+
+
+class Connection(web.RequestHandler):
+    """One connection. `finished` counts its requests that were answered; aiohttp counts those whose heads have come."""
+
+    __slots__ = ("bounds", "finished", "_timer", "_has_ended")
+
+    def __init__(self, server: "Server", bounds: Bounds, **more: Any) -> None:
+        super().__init__(server, **more)
+        self.bounds = bounds
+        self.finished = 0
+        self._timer: asyncio.TimerHandle | None = None
+        self._has_ended = False
+
+    @property
+    def is_idle(self) -> bool:
+        return self._request_count == self.finished
+
+    def connection_made(self, transport: asyncio.BaseTransport) -> None:
+        """Begins the connection, or answers 503 where there are too many."""
+        stream = cast(asyncio.Transport, transport)
+        if self._manager is not None and len(self._manager.connections) >= self.bounds.connections:
+            self._manager, self._close = None, True
+            stream.write(plain("503 Service Unavailable", NONE_MORE, "Retry-After: 1\r\n"))
+            stream.close()
+            return
+        super().connection_made(transport)
+        self._wait_for_head()
+
+    def connection_lost(self, exc: BaseException | None) -> None:
+        self._stop_timer()
+        super().connection_lost(exc)
+
+    def data_received(self, data: bytes) -> None:
+        """Parses what has come. What can't be parsed at all is answered, and ends the connection."""
+        try:
+            super().data_received(data)
+        except Exception:
+            self._break(plain("400 Bad Request", NO_HTTP))
+            return
+        if not self.is_idle:
+            self._stop_timer()
+        elif self._timer is None:
+            self._wait_for_head()
+        if len(self._messages) > MOST_AHEAD:
+            self.pause_reading()
+
+    def eof_received(self) -> bool | None:  # type: ignore[override]
+        """The client sends no more: what it asked is answered before the connection ends."""
+        self._has_ended = True
+        return not self.is_idle
+
+    async def finish_response(self, request: web.BaseRequest, resp: web.StreamResponse, start_time: float) -> bool:
+        """Writes the answer; then reading goes on where it was paused, and a client that sends no more is let go."""
+        try:
+            return await super().finish_response(request, resp, start_time)
+        finally:
+            self.finished += 1
+            if self._reading_paused and len(self._messages) <= MOST_AHEAD // 2:
+                self.resume_reading()
+            if self._has_ended and self.is_idle:
+                self.close()
+
+    def handle_error(
+        self, request: web.BaseRequest, status: int = 500, exc: BaseException | None = None, message: str | None = None
+    ) -> web.StreamResponse:
+        """An error of HTTP as JSON, which ends the connection."""
+        code, says = ("InvalidUrl", "the request cannot be read") if status < 500 else ("InternalError", "an error inside")
+        if status >= 500 and not isinstance(exc, ConnectionError):
+            self.log_exception("error while answering", exc_info=exc)
+        body = json.dumps({"code": code, "message": says})
+        answer = web.Response(status=status, text=body, content_type="application/json")
+        answer.force_close()
+        return answer
+
+    def _wait_for_head(self) -> None:
+        self._stop_timer()
+        self._timer = self._loop.call_later(self.bounds.head, self._late)
+
+    def _stop_timer(self) -> None:
+        if self._timer is not None:
+            self._timer.cancel()
+            self._timer = None
+
+    def _late(self) -> None:
+        self._timer = None
+        if self.is_idle:
+            self._break(plain("408 Request Timeout", TOO_SLOW))
+
+    def _break(self, answer: bytes) -> None:
+        """Writes a last answer, where none is being written, and closes."""
+        transport = cast(asyncio.Transport, self.transport)
+        if transport is not None and self.is_idle:
+            transport.write(answer)
+        self.force_close()
+
+
+class Server(web.Server):
+    """Makes the connections of one listening socket."""
+
+    def __init__(self, handler: Callable[[web.BaseRequest], Awaitable[web.StreamResponse]], bounds: Bounds) -> None:
+        super().__init__(handler)
+        self.bounds = bounds
+        self._kwargs = {
+            "keepalive_timeout": bounds.idle,
+            "max_line_size": bounds.url,
+            "access_log": None,
+            "auto_decompress": False,
+            "lingering_time": 2.0,
+        }
+
+    def __call__(self) -> web.RequestHandler:
+        return Connection(self, self.bounds, loop=self._loop, **self._kwargs)
+
+    @property
+    def idle(self) -> list[Connection]:
+        """The connections without an open request."""
+        return [each for each in self.connections if isinstance(each, Connection) and each.is_idle]

@@ -1,0 +1,222 @@
+"""OSRM's API, version 1: route, nearest and table. Answers have its members; `weight` and what follows from it are proved least
+between the points of roads that are nearest to the places."""
+import asyncio
+import base64
+import collections
+import contextlib
+from collections.abc import AsyncIterator, Iterator
+from typing import Any
+
+from . import asked
+from .asked import Request
+from .errors import Refused, invalid_value
+from .guides import steps_of_leg
+from .legs import Leg, least_weight, leg_of, metres_of, requests, seconds_of, weight_of
+from .lines import encoded, simplified
+from .roads import Roads, Spot, steps_of
+from .workers import Pool
+
+ANNOTATIONS = ("duration", "weight", "distance", "datasources", "speed")
+MOST_NEAREST = 100
+
+
+async def answer(pool: Pool, roads: Roads, request: Request) -> dict[str, Any]:
+    """The answer to a request. Raises Refused."""
+    return await {"route": route, "nearest": nearest, "table": table}[request.service](pool, roads, request)
+
+
+async def nearest(pool: Pool, roads: Roads, request: Request) -> dict[str, Any]:
+    """The nearest points of roads, with the ids of the nodes of OpenStreetMap at the ends of their pieces; 0 is none."""
+    text = request.query.get("number", "1")
+    if not asked.INDEX.fullmatch(text) or not 1 <= int(text) <= MOST_NEAREST:
+        raise invalid_value(f"number is from 1 to {MOST_NEAREST}")
+    spots = [spot for spot in roads.nearest(request.places[0], int(text)) if spot.metres <= request.within[0]]
+    if not spots:
+        raise Refused(400, "NoSegment", "there is no road near the place")
+    return {"code": "Ok", "waypoints": [{**waypoint(request, spot), "nodes": ends(roads, spot)} for spot in spots]}
+
+
+def ends(roads: Roads, spot: Spot) -> list[int]:
+    arc = roads.arcs[roads.edges[spot.edge].arcs[0]]
+    return [int(roads.osm[node] or 0) for node in (arc.start, arc.end)]
+
+
+async def spots_of(roads: Roads, request: Request) -> list[Spot]:
+    """The nearest point of a road to each place; others are let in between."""
+    found = []
+    for number, (place, within) in enumerate(zip(request.places, request.within)):
+        spot = roads.nearest(place)[0]
+        if spot.metres > within:
+            raise Refused(400, "NoSegment", f"there is no road near place {number}")
+        found.append(spot)
+        await asyncio.sleep(0)
+    return found
+
+
+def waypoint(request: Request, spot: Spot) -> dict[str, Any]:
+    """A point as OSRM has it. The hint is read by nobody: clients send it back."""
+    found: dict[str, Any] = {"name": spot.name, "location": [spot.lon, spot.lat], "distance": round(spot.metres, 6)}
+    if request.says("generate_hints"):
+        found["hint"] = base64.urlsafe_b64encode(f"{spot.lon:.6f},{spot.lat:.6f}".encode()).decode()
+    return found
+
+
+async def route(pool: Pool, roads: Roads, request: Request) -> dict[str, Any]:
+    """One route by all places in order, a leg for each two."""
+    asked.refuse_other_routes(request)
+    names = asked.annotations_of(request, ANNOTATIONS)
+    for word in ("overview", "geometries", "steps"):
+        request.word(word)
+    spots = await spots_of(roads, request)
+    pairs = list(zip(spots, spots[1:]))
+    legs = await asyncio.gather(*(one_leg(pool, roads, *pair) for pair in pairs))
+    if not all(leg is not None for leg in legs):
+        raise Refused(400, "NoRoute", "there is no way between two of the places")
+    told = [leg_told(roads, request, *pair, leg, names) for pair, leg in zip(pairs, legs) if leg is not None]
+    found: dict[str, Any] = {
+        "code": "Ok",
+        "routes": [{"legs": told, "weight_name": roads.unit, **sums(told), **overview(roads, request, spots, legs)}],
+    }
+    if not request.says("skip_waypoints"):
+        found["waypoints"] = [waypoint(request, spot) for spot in spots]
+    return found
+
+
+async def one_leg(pool: Pool, roads: Roads, start: Spot, end: Spot) -> Leg | None:
+    lines = requests(start, end)
+    return leg_of(roads, start, end, await pool.ask(lines) if lines else [])
+
+
+def sums(legs: list[dict[str, Any]]) -> dict[str, float]:
+    return {name: round(sum(leg[name] for leg in legs), 3) for name in ("weight", "duration", "distance")}
+
+
+def figures(roads: Roads, leg: Leg) -> dict[str, float]:
+    """The weight, seconds and metres of a leg."""
+    return {
+        "weight": weight_of(roads, leg.weight),
+        "duration": round(seconds_of(roads, leg.weight, leg.parts), 3),
+        "distance": round(metres_of(roads, leg.weight, leg.parts), 2),
+    }
+
+
+def leg_told(
+    roads: Roads, request: Request, start: Spot, end: Spot, leg: Leg, names: list[str]
+) -> dict[str, Any]:
+    """A leg as OSRM has it."""
+    streets = [name for name in dict.fromkeys(roads.arcs[part.arc].name for part in leg.parts) if name]
+    shape = request.word("geometries")
+    told: dict[str, Any] = {"summary": "", "steps": [], **figures(roads, leg)}
+    if request.says("steps"):
+        told["summary"] = ", ".join(streets[:2])
+        line = lambda points: shaped(points, shape)  # noqa: E731 (a name for what follows)
+        told["steps"] = steps_of_leg(roads, leg, (start.lon, start.lat), (end.lon, end.lat), line)
+    if names:
+        told["annotation"] = annotation(roads, leg, names)
+    return told
+
+
+def overview(roads: Roads, request: Request, spots: list[Spot], legs: "list[Leg | None]") -> dict[str, Any]:
+    """The member `geometry`, where one is asked for."""
+    kind = request.word("overview")
+    if kind == "false":
+        return {}
+    points = [(spots[0].lon, spots[0].lat)]
+    for leg, spot in zip(legs, spots[1:]):
+        points += [point for part in (leg.parts if leg else []) for point in roads.line(*part[:3])]
+        points.append((spot.lon, spot.lat))
+    line = without_repeats(points)
+    return {"geometry": shaped(simplified(line) if kind == "simplified" else line, request.word("geometries"))}
+
+
+def without_repeats(points: list[tuple[float, float]]) -> list[tuple[float, float]]:
+    """The line to six places, without a point that follows itself; two points at least."""
+    found: list[tuple[float, float]] = []
+    for lon, lat in points:
+        point = round(lon, 6), round(lat, 6)
+        if not found or point != found[-1]:
+            found.append(point)
+    return found if len(found) > 1 else found * 2
+
+
+def shaped(points: list[tuple[float, float]], shape: str) -> Any:
+    """A line as a polyline, or as GeoJSON."""
+    line = without_repeats(points)
+    if shape == "geojson":
+        return {"type": "LineString", "coordinates": line}
+    return encoded(line, 6 if shape == "polyline6" else 5)
+
+
+def annotation(roads: Roads, leg: Leg, names: list[str]) -> dict[str, list[float]]:
+    """For each step of the leg's line the metres, seconds, weight and speed; an arc's are shared out by metres."""
+    found: dict[str, list[float]] = {name: [] for name in names}
+    for part in leg.parts:
+        line = roads.line(*part[:3])
+        steps = [step for step in steps_of(line)]
+        whole, seconds = sum(steps), seconds_of(roads, part.weight, [part])
+        metres = metres_of(roads, part.weight, [part])
+        for step in steps:
+            share = step / whole if whole else 1 / len(steps)
+            values = {"distance": metres * share, "duration": seconds * share, "datasources": 0}
+            values["weight"] = weight_of(roads, part.weight) * share
+            values["speed"] = metres / seconds if seconds else 0
+            for name in names:
+                found[name].append(round(values[name], 3))
+    return found
+
+
+async def table(pool: Pool, roads: Roads, request: Request) -> dict[str, Any]:
+    """A table of durations, of distances, or both; null where there is no way."""
+    names = request.query.get("annotations", "duration").split(",")
+    if not set(names) <= {"duration", "distance"}:
+        raise invalid_value("annotations are duration, distance, or both")
+    sources, destinations = asked.chosen(request, "sources"), asked.chosen(request, "destinations")
+    if len(sources) * len(destinations) > asked.MOST_CELLS:
+        raise Refused(400, "TooBig", f"a table may have {asked.MOST_CELLS} cells")
+    spots = await spots_of(roads, request)
+    pairs = [(spots[source], spots[end]) for source in sources for end in destinations]
+    rows = [row async for row in cells(pool, roads, pairs, set(names) == {roads.unit})]
+    found: dict[str, Any] = {"code": "Ok"}
+    for name, values in (("duration", "durations"), ("distance", "distances")):
+        if name in names:
+            row = [None if each is None else each[name] for each in rows]
+            found[values] = [row[begin : begin + len(destinations)] for begin in range(0, len(row), len(destinations))]
+    if not request.says("skip_waypoints"):
+        found["sources"] = [waypoint(request, spots[place]) for place in sources]
+        found["destinations"] = [waypoint(request, spots[place]) for place in destinations]
+    return found
+
+
+async def cells(
+    pool: Pool, roads: Roads, pairs: list[tuple[Spot, Spot]], only_weights: bool
+) -> AsyncIterator[dict[str, float] | None]:
+    """The figures of the cells of a table, in order, asked behind single requests. Where weights are all that is wanted, routes
+    aren't looked at."""
+    asked_for: collections.deque[tuple[tuple[Spot, Spot], int]] = collections.deque()
+    replies: collections.deque[bytes] = collections.deque()
+
+    def lines() -> Iterator[bytes]:
+        for pair in pairs:
+            some = requests(*pair)
+            asked_for.append((pair, len(some)))
+            yield from some
+
+    async with contextlib.aclosing(pool.ask_many(lines())) as parts:
+        async for part in parts:
+            replies += part
+            while asked_for and asked_for[0][1] <= len(replies):
+                pair, count = asked_for.popleft()
+                yield cell(roads, pair, [replies.popleft() for _ in range(count)], only_weights)
+    for pair, _ in asked_for:
+        yield cell(roads, pair, [], only_weights)
+
+
+def cell(
+    roads: Roads, pair: tuple[Spot, Spot], replies: list[bytes], only_weights: bool
+) -> dict[str, float] | None:
+    """The figures of one cell, None where there is no way."""
+    if only_weights:
+        weight = least_weight(roads, *pair, replies)
+        return None if weight is None else {roads.unit: weight_of(roads, weight)}
+    leg = leg_of(roads, *pair, replies)
+    return None if leg is None else figures(roads, leg)

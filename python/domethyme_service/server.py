@@ -1,0 +1,241 @@
+"""The endpoints: what is asked by which path, limits, and the access log."""
+import asyncio
+import contextlib
+import json
+import logging
+import time
+import urllib.parse
+from collections.abc import AsyncGenerator, Callable, Mapping
+from typing import Any, NamedTuple
+
+from aiohttp import HttpVersion10, HttpVersion11, web
+
+from . import nodes, osrm
+from .asked import request_of, service_of
+from .errors import Refused, invalid_query
+from .generation import Generation
+from .metrics import Metrics
+from .workers import Counts
+
+MOST_BODY = 4 << 20
+SECONDS = 30.0
+BATCHES = 16
+JSON = "application/json; charset=utf-8"
+LINES = "application/x-ndjson; charset=utf-8"
+PAGE = "text/plain; version=0.0.4; charset=utf-8"
+KINDS = {"/nodes/route": b"q", "/nodes/length": b"d"}
+BATCH_KINDS = {"/nodes/routes": b"q", "/nodes/lengths": b"d"}
+access_log = logging.getLogger("domethyme_service.access")
+
+
+class Ways(NamedTuple):
+    """How a service answers: the origin that other pages are allowed (`*` or none), whether the log has places, and the
+    metres within which a place has to have a road."""
+
+    cors: str = "*"
+    log_places: bool = False
+    within: float = 1000.0
+
+
+class Asked(NamedTuple):
+    """A request's method, its path as it came, still percent-encoded, and its parameters."""
+
+    method: str
+    path: str
+    query: Mapping[str, str]
+
+
+class Service:
+    """Answers requests by its generation, which a reload replaces: a request keeps the one that it began with."""
+
+    def __init__(self, generation: Generation, counts: Counts, ways: Ways) -> None:
+        self.generation, self.counts, self.ways = generation, counts, ways
+        self.metrics = Metrics()
+        self.is_draining = False
+        self.reloads = self.batches = 0
+        self.connections: Callable[[], int] = lambda: 0
+
+    async def handle(self, request: web.BaseRequest) -> web.StreamResponse:
+        """Answers one request: the handler of the server."""
+        begun, endpoint, status = time.monotonic(), "other", 500
+        try:
+            try:
+                asked = asked_by(request)
+                endpoint = endpoint_of(asked.path)
+                answer = await self._answer(endpoint, asked, request)
+            except Refused as refused:
+                answer = self._refusal(refused)
+            except TimeoutError:
+                answer = self._refusal(Refused(504, "Timeout", "the answer took too long"))
+            status = answer.status
+            return answer
+        finally:
+            seconds = time.monotonic() - begun
+            self.metrics.count(endpoint, status, seconds)
+            self._log(request, endpoint, status, seconds)
+
+    async def _answer(self, endpoint: str, asked: Asked, request: web.BaseRequest) -> web.StreamResponse:
+        method = "POST" if endpoint in BATCH_KINDS else "GET"
+        if asked.method != method and not (asked.method == "HEAD" and method == "GET"):
+            raise Refused(405, "MethodNotAllowed", f"the method of this path is {method}")
+        if method == "GET" and (request.body_exists or "Content-Encoding" in request.headers):
+            raise invalid_query("a GET has no body")
+        if endpoint == "/metrics":
+            return self._whole(200, self._metrics(), PAGE)
+        if endpoint == "/health":
+            return self._health()
+        with self.generation.used() as generation:
+            if endpoint in BATCH_KINDS:
+                return await self._batch(generation, BATCH_KINDS[endpoint], asked, request)
+            async with asyncio.timeout(SECONDS):
+                return self._json(200, await self._single(generation, endpoint, asked))
+
+    async def _single(self, generation: Generation, endpoint: str, asked: Asked) -> dict[str, Any]:
+        if endpoint in KINDS:
+            return await nodes.pair(generation.pool, KINDS[endpoint], asked.query)
+        request = request_of(asked.path, asked.query, self.ways.within)
+        if generation.roads is None:
+            raise Refused(400, "InvalidService", "the service has no network: start it with --network")
+        return await osrm.answer(generation.pool, generation.roads, request)
+
+    async def _batch(
+        self, generation: Generation, kind: bytes, asked: Asked, request: web.BaseRequest
+    ) -> web.StreamResponse:
+        """Reads the body whole, and then streams the answer: a client may write all before it reads."""
+        if asked.query:
+            raise invalid_query("this path has no parameters")
+        if self.batches >= BATCHES:
+            raise Refused(503, "Overloaded", "too many batches at once")
+        self.batches += 1
+        try:
+            async with asyncio.timeout(SECONDS):
+                body = await body_of(request)
+            answer = web.StreamResponse(headers=self._headers(LINES))
+            self._end_if_draining(answer)
+            await answer.prepare(request)
+            await streamed(answer, request, nodes.batch(generation.pool, kind, body))
+            return answer
+        finally:
+            self.batches -= 1
+
+    def _health(self) -> web.Response:
+        pool = self.generation.pool
+        is_well = pool.ready > 0 and not self.is_draining
+        says = {"status": "ok" if is_well else "draining" if self.is_draining else "no workers"}
+        return self._json(200 if is_well else 503, {**says, "nodes": pool.nodes, "links": pool.links, "workers": pool.ready})
+
+    def _metrics(self) -> str:
+        pool, counts = self.generation.pool, self.counts
+        gauges = {
+            "workers_ready": pool.ready,
+            "lines_open": pool.lines_open,
+            "lines_waiting": pool.waiting[0],
+            "bulk_lines_waiting": pool.waiting[1],
+            "connections": self.connections(),
+            "nodes": pool.nodes,
+        }
+        counters = {
+            "lines_total": counts.lines,
+            "worker_restarts_total": counts.restarts,
+            "worker_wrong_replies_total": counts.wrong,
+            "worker_silences_total": counts.silent,
+            "reloads_total": self.reloads,
+        }
+        return self.metrics.text(dict(gauges), dict(counters))
+
+    def _refusal(self, refused: Refused) -> web.Response:
+        answer = self._json(refused.status, {"code": refused.code, "message": refused.message})
+        if refused.status == 503:
+            answer.headers["Retry-After"] = "1"
+        if refused.status in (408, 413, 504, 505):
+            answer.force_close()
+        return answer
+
+    def _json(self, status: int, found: dict[str, Any]) -> web.Response:
+        text = json.dumps(found, separators=(",", ":"), allow_nan=False, ensure_ascii=False)
+        return self._whole(status, text, JSON)
+
+    def _whole(self, status: int, text: str, kind: str) -> web.Response:
+        answer = web.Response(status=status, body=text.encode("utf-8", "replace"), headers=self._headers(kind))
+        self._end_if_draining(answer)
+        return answer
+
+    def _headers(self, kind: str) -> dict[str, str]:
+        headers = {"Content-Type": kind, "X-Content-Type-Options": "nosniff", "Server": "domethyme"}
+        if self.ways.cors != "none":
+            headers["Access-Control-Allow-Origin"] = self.ways.cors
+        return headers
+
+    def _end_if_draining(self, answer: web.StreamResponse) -> None:
+        if self.is_draining:
+            answer.force_close()
+
+    def _log(self, request: web.BaseRequest, endpoint: str, status: int, seconds: float) -> None:
+        """A line of JSON; paths hold places, which are personal data, and so are left out unless they were asked for."""
+        if not access_log.isEnabledFor(logging.INFO):
+            return
+        line = {"time": round(time.time(), 3), "method": request.method, "endpoint": endpoint, "status": status}
+        line["milliseconds"] = round(1000 * seconds, 3)
+        if self.ways.log_places:
+            line.update(path=request.raw_path, remote=request.remote)
+        access_log.info(json.dumps(line))
+
+
+def asked_by(request: web.BaseRequest) -> Asked:
+    """What a request asks. Raises Refused for what isn't HTTP/1.0 or 1.1, and for parameters that come twice."""
+    if request.version not in (HttpVersion10, HttpVersion11):
+        raise Refused(505, "HttpVersion", "the service speaks HTTP/1.0 and HTTP/1.1")
+    whole = request.raw_path
+    if not whole.startswith("/"):
+        whole = "/" + whole.partition("://")[2].partition("/")[2]
+    path, _, query = whole.partition("?")
+    try:
+        pairs = urllib.parse.parse_qsl(query, keep_blank_values=True, errors="strict", max_num_fields=50)
+    except ValueError:
+        raise invalid_query("the parameters cannot be read") from None
+    fields = dict(pairs)
+    if len(fields) != len(pairs):
+        raise invalid_query("a parameter comes twice")
+    return Asked(request.method, path, fields)
+
+
+def endpoint_of(path: str) -> str:
+    """The endpoint of a path, by which it is counted. Raises Refused where there is none."""
+    if path in KINDS or path in BATCH_KINDS or path in ("/health", "/metrics"):
+        return path
+    if service := service_of(path):
+        return f"/{service}"
+    raise Refused(404, "InvalidUrl", "there is no such path")
+
+
+async def body_of(request: web.BaseRequest) -> bytes:
+    """The whole body. Raises Refused where it is longer than MOST_BODY, or compressed."""
+    if request.headers.get("Content-Encoding", "identity").lower() != "identity":
+        raise Refused(415, "InvalidQuery", "the body may not be compressed")
+    if (request.content_length or 0) > MOST_BODY:
+        raise Refused(413, "TooBig", f"the body may have {MOST_BODY} bytes")
+    if request.headers.get("Expect", "").lower() == "100-continue" and request.transport is not None:
+        request.transport.write(b"HTTP/1.1 100 Continue\r\n\r\n")
+    parts: list[bytes] = []
+    size = 0
+    while part := await request.content.readany():
+        parts.append(part)
+        size += len(part)
+        if size > MOST_BODY:
+            raise Refused(413, "TooBig", f"the body may have {MOST_BODY} bytes")
+    return b"".join(parts)
+
+
+async def streamed(answer: web.StreamResponse, request: web.BaseRequest, blocks: AsyncGenerator[bytes, None]) -> None:
+    """Writes the blocks. After a fault, or where the client doesn't read, the connection is broken off: nothing else can say so
+    once the answer has begun."""
+    try:
+        async with contextlib.aclosing(blocks):
+            async for block in blocks:
+                async with asyncio.timeout(SECONDS):
+                    await answer.write(block)
+        async with asyncio.timeout(SECONDS):
+            await answer.write_eof()
+    except (Refused, TimeoutError):
+        if request.transport is not None:
+            request.transport.abort()

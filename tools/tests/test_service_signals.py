@@ -1,0 +1,136 @@
+"""Tests of the service's signals under a small load: SIGHUP takes a new hierarchy, SIGTERM ends it, and no request is lost.
+Several fronts on one port."""
+import contextlib
+import http.client
+import json
+import os
+import pathlib
+import signal
+import threading
+import time
+
+from service_case import ServiceCase
+from test_service_nodes import children_of
+
+import domethyme
+
+PATH = "/nodes/length?from=1&to=2"
+
+
+class Client(threading.Thread):
+    """Asks on one connection until it is told to stop, or the service closes; keeps each length and each loss."""
+
+    def __init__(self, port):
+        super().__init__(daemon=True)
+        self.port, self.lengths, self.lost, self.stop = port, [], [], threading.Event()
+
+    def run(self):
+        connection = http.client.HTTPConnection("127.0.0.1", self.port, timeout=20)
+        with contextlib.closing(connection):
+            self.ask_by(connection)
+
+    def ask_by(self, connection):
+        while not self.stop.is_set():
+            try:
+                connection.request("GET", PATH)
+                answer = connection.getresponse()
+                self.lengths.append(json.loads(answer.read())["length"])
+            except (OSError, http.client.HTTPException, KeyError) as error:
+                self.lost.append(repr(error))
+                return
+            if answer.will_close:
+                return
+
+
+class SignalTests(ServiceCase):
+    def clients(self, count=4):
+        clients = [Client(self.port) for _ in range(count)]
+        for client in clients:
+            client.start()
+        return clients
+
+    def finish(self, clients):
+        """Stops the clients; returns all their lengths, and wants none lost."""
+        for client in clients:
+            client.stop.set()
+        for client in clients:
+            client.join()
+        self.assertEqual([client.lost for client in clients if client.lost], [])
+        return [client.lengths for client in clients]
+
+    def prepare(self, factor):
+        """Puts a hierarchy whose weights are so many times those of the village in the place of the old one."""
+        graph = self.graph
+        ends = ([node - 1 for node in nodes] for nodes in (graph.starts, graph.ends))
+        weights = [factor * weight for weight in graph.weights]
+        domethyme.write_graph(self.folder / "n.gr", *ends, weights, nodes=graph.nodes)
+        domethyme.prepare(self.folder / "n.gr", self.folder / "v.rch", workers=1).close()
+
+    def wait_for(self, what):
+        end = time.monotonic() + 20
+        while not what():
+            self.assertLess(time.monotonic(), end, self.said)
+            time.sleep(0.05)
+
+    def test_a_new_hierarchy(self):
+        process = self.serve("--workers", "2")
+        old = self.ask(PATH)[1]["length"]
+        clients = self.clients()
+        for factor in (2, 3):
+            self.prepare(factor)
+            process.send_signal(signal.SIGHUP)
+            self.wait_for(lambda: self.ask(PATH)[1]["length"] == factor * old)
+        for lengths in self.finish(clients):
+            self.assertEqual(lengths, sorted(lengths))
+            self.assertLessEqual(set(lengths), {old, 2 * old, 3 * old})
+        self.assertEqual(self.value("reloads_total"), 2)
+        self.wait_for(lambda: len(children_of(process.pid)) == 2)
+
+    def test_a_file_that_is_refused_leaves_the_old_one(self):
+        process = self.serve("--network", self.folder / "v")
+        old = self.ask(PATH)
+        for text, says in ((b"none", "hierarchy: BadMagic"), (None, "isn't of the hierarchy's graph")):
+            path = self.folder / "v.rch"
+            path.unlink()
+            path.write_bytes(text) if text else self.prepare(2)
+            process.send_signal(signal.SIGHUP)
+            self.wait_for(lambda: any("reload refused: " in line and says in line for line in self.said))
+        self.assertEqual(self.ask(PATH), old)
+        for number in children_of(process.pid):
+            os.kill(number, signal.SIGKILL)
+        self.assertEqual(self.ask(PATH), old, "a worker that is started anew reads the file that was there")
+
+    def test_the_end(self):
+        process = self.serve()
+        clients = self.clients()
+        time.sleep(0.5)
+        process.send_signal(signal.SIGTERM)
+        self.assertEqual(process.wait(20), 0)
+        self.assertTrue(all(len(lengths) > 1 for lengths in self.finish(clients)))
+
+    def test_an_idle_connection_does_not_hold_up_the_end(self):
+        process = self.serve()
+        connection = http.client.HTTPConnection("127.0.0.1", self.port)
+        self.addCleanup(connection.close)
+        connection.request("GET", PATH)
+        connection.getresponse().read()
+        process.send_signal(signal.SIGINT)
+        self.assertEqual(process.wait(10), 0)
+
+    def test_fronts(self):
+        """Two fronts answer; one that is killed is started anew; SIGHUP and SIGTERM reach both."""
+        process = self.serve("--fronts", "2")
+        fronts = children_of(process.pid)
+        self.assertEqual(len(fronts), 2)
+        self.wait_for(lambda: sum("listens" in line for line in self.said) == 2)
+        old = self.ask(PATH)[1]["length"]
+        os.kill(fronts[0], signal.SIGKILL)
+        self.wait_for(lambda: sum("listens" in line for line in self.said) == 3)
+        self.prepare(2)
+        process.send_signal(signal.SIGHUP)
+        self.wait_for(lambda: sum("reloaded" in line for line in self.said) == 2)
+        self.assertEqual({self.ask(PATH)[1]["length"] for _ in range(20)}, {2 * old})
+        fronts = children_of(process.pid)
+        process.send_signal(signal.SIGTERM)
+        self.assertEqual(process.wait(20), 0)
+        self.assertFalse(any(pathlib.Path(f"/proc/{front}").exists() for front in fronts))
