@@ -6,6 +6,7 @@ What a test that fails has to say is printed as soon as it ends, and at the end 
 tests. The status is 0 only where tests ran and all of them passed, and 2 where a word is in no name.
 """
 import concurrent.futures
+import faulthandler
 import io
 import multiprocessing
 import os
@@ -22,6 +23,8 @@ from common.counted import chosen, end, parser  # noqa: E402  (found by the path
 # Those that start a scheduler and workers take longest, so they begin first.
 FIRST = "DaskTests"
 SLOWEST = 3
+# A test that takes longer hangs: where it is gets printed, and all ends with status 1.
+SECONDS = 900
 
 
 def tests_of(suite):
@@ -44,7 +47,9 @@ TESTS = tests_of(unittest.TestLoader().discover(str(pathlib.Path(__file__).paren
 def run(number):
     """Runs a test: whether it passed, what it had to say, and its seconds. One that was skipped hasn't passed."""
     said, start = io.StringIO(), time.monotonic()
+    faulthandler.dump_traceback_later(SECONDS, exit=True)
     result = unittest.TextTestRunner(said, verbosity=0).run(TESTS[number])
+    faulthandler.cancel_dump_traceback_later()
     passed = result.testsRun == 1 and result.wasSuccessful() and not result.skipped
     return passed, said.getvalue(), time.monotonic() - start
 

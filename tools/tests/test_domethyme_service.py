@@ -71,6 +71,8 @@ class ServiceTests(ToolCase):
         self.assertEqual(hierarchy.length(4, 5), 1)
 
     def test_an_interrupt_leaves_no_reply_behind(self):
+        # (what started the tests may ignore interrupts, as a shell's background job does)
+        self.addCleanup(signal.signal, signal.SIGINT, signal.signal(signal.SIGINT, signal.default_int_handler))
         hierarchy = self.ring("sleep 1", "sleep 3", "well")
         for attempt in (lambda: hierarchy.length(4, 5), lambda: hierarchy.lengths([[4, 5]] * 9)):
             timer = threading.Timer(0.5, os.kill, [os.getpid(), signal.SIGINT])
