@@ -157,8 +157,8 @@ with domethyme.Hierarchy(*sys.argv[1:], keys="abcdefgh") as hierarchy:
 
     def test_old_scripts_with_tools_on_their_path(self):
         code = "import sys; sys.path.append(sys.argv[1]); import domethyme; "
-        code += "print(domethyme.__file__, domethyme.Fault.__name__)"
-        told = self.run_program([sys.executable, "-c", code, TOOLS]).stdout.split()
+        code += "print(domethyme.__file__, domethyme.Fault.__name__, sep='\\n')"
+        told = self.run_program([sys.executable, "-c", code, TOOLS]).stdout.splitlines()
         self.assertEqual(told, [str(TOOLS.parent / "python/domethyme/__init__.py"), "DomethymeError"])
 
 
