@@ -2,7 +2,7 @@
 //!
 //! Uses `ch_route` for routes, `counted_io` for the calls of writers, and `itoa` for decimals. What it is for is that a
 //! file of pairs and a service have the same words for a route: [`push_line`] appends the line of a pair and its route,
-//! and [`Output`] gathers lines. `specs/Line.antt` says what a line is, `specs/File.antt` which bytes are the file of a
+//! and [`Lines`] gathers lines. `specs/Line.antt` says what a line is, `specs/File.antt` which bytes are the file of a
 //! hierarchy that was prepared from a graph's text, and `specs/Written.antt` what it means that a writer took a text.
 //!
 //! Nodes are numbered from 0 inside, and from 1 in every text:
@@ -18,4 +18,4 @@ mod line;
 mod output;
 
 pub use line::{push_along, push_line, push_nodes, push_number};
-pub use output::Output;
+pub use output::Lines;

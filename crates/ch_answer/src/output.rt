@@ -13,20 +13,20 @@ const KEPT: usize = 1 << 20;
 
 /// Lines that are gathered for a writer, which gets them many at a time.
 #[derive(Drop)]
-pub struct Output {
+pub struct Lines {
     /// What is gathered.
     pub lines: Vec<u8>,
     /// How often the writer may still be called, and what it has taken.
     pub calls: WriteCalls,
 }
 
-impl Output {
+impl Lines {
     /// Nothing gathered, nothing written. Takes no memory.
-    pub fn new(alloc: Global) -> Output
+    pub fn new(alloc: Global) -> Lines
         ensures lines { result.lines.items ≡ [] }
         ensures written { result.calls.written ≡ 0 }
     {
-        Output {
+        Lines {
             lines: Vec::new(alloc),
             calls: WriteCalls::new(MOST_CALLS),
         }

@@ -38,7 +38,9 @@ abbrev pub ledger_with : Ledger → Overlay → Contraction → Ledger
 ledger_with l new e = record { graph = l.graph; overlay = new; log = l.log ++ e ∷ [] }
 
 -- the ledger after a contraction is one
-pub ledger_after : PlanIsLawful → ReachesOn → (l : Ledger) (put : List Shortcut) (c : Change) (new : Overlay) → IsLedger l → AreLawful l c.node put → IsChange l.overlay put c → IsOverlay new → new.bound ≡ l.overlay.bound → state_of new ≡ contracted (state_of l.overlay) c.node put → IsLedger (ledger_with l new (entry_of l put c))
+pub ledger_after : PlanIsLawful → ReachesOn → (l : Ledger) (put : List Shortcut) (c : Change) (new : Overlay) → IsLedger l → AreLawful l c.node put
+    → IsChange l.overlay put c → IsOverlay new → new.bound ≡ l.overlay.bound → state_of new ≡ contracted (state_of l.overlay) c.node put
+    → IsLedger (ledger_with l new (entry_of l put c))
 ledger_after plan_is_lawful reaches_on l put c new is lawful planned overlay bound made = record {
   graph = is.graph;
   overlay = overlay;
@@ -54,7 +56,10 @@ changed_are l put c planned =
     ∙ ap (λ (rows : List (ℕ × Row)). c.node ∷ map (λ (a : ℕ × Row). a.0) (drop 1 rows)) (sym planned.rows)
 
 -- and the node is contracted
-pub contracted_after : PlanIsLawful → (l : Ledger) (put : List Shortcut) (c : Change) (new : Overlay) → IsLedger l → AreLawful l c.node put → IsChange l.overlay put c → state_of new ≡ contracted (state_of l.overlay) c.node put → AreRenewed (changed_nodes c) l.overlay.versions new.versions → IsContracted l c.node put (receipt_of (entry_of l put c)) (ledger_with l new (entry_of l put c))
+pub contracted_after : PlanIsLawful → (l : Ledger) (put : List Shortcut) (c : Change) (new : Overlay) → IsLedger l → AreLawful l c.node put
+    → IsChange l.overlay put c → state_of new ≡ contracted (state_of l.overlay) c.node put
+    → AreRenewed (changed_nodes c) l.overlay.versions new.versions
+    → IsContracted l c.node put (receipt_of (entry_of l put c)) (ledger_with l new (entry_of l put c))
 unfolding entry_of
 contracted_after plan_is_lawful l put c new is lawful planned made renewed = record {
   entry = entry_of l put c;

@@ -18,7 +18,9 @@ pub record IsFinished (l : Ledger) (h : Hierarchy) : Type 0 where
   pub well : IsWellMade h
   pub right : IsRight l.graph h
 
-pub finished : AlwaysRight → AlwaysWellMade → (l : Ledger) (ranks : List ℕ) (links : List Link) (bound : Cost) → IsLedger l → IsOver (state_of l.overlay) → AreRanks l.overlay ranks → AreLinks l.overlay links → bound ≡ bound_of l.graph → IsFinished l (record { version = Two; ranks = ranks; links = links; bound = bound })
+pub finished : AlwaysRight → AlwaysWellMade → (l : Ledger) (ranks : List ℕ) (links : List Link) (bound : Cost) → IsLedger l
+    → IsOver (state_of l.overlay) → AreRanks l.overlay ranks → AreLinks l.overlay links → bound ≡ bound_of l.graph
+    → IsFinished l (record { version = Two; ranks = ranks; links = links; bound = bound })
 finished always_right always_well_made l ranks links bound is over ranked linked bound_is =
     let h : Hierarchy = record { version = Two; ranks = ranks; links = links; bound = bound } in
     let made : IsMade l.graph (state_of l.overlay) h = made_of_parts l.overlay l.graph ranks links bound is.overlay over ranked linked bound_is in

@@ -123,14 +123,19 @@ module _ (bound : Cost) (v : ℕ) (row : Row) (inns : List Entry) (e : Entry) (k
       | inl first ↦ was.ways seen (earlier seen agrees) u w sum (named.0, first, named.2) through within (λ p among is. none p (subst (λ (ps : List Shortcut). Contains ps p) (sym this.shortcuts) (Contains-append_left old.shortcuts.items this.put p among)) is)
       | inr here ↦
           let at : e.other ≡ u = ap (λ (x : Entry). x.other) here ∙ named.2 in
-          subst (λ (x : ℕ). HasWay seen v x w sum) at ((this.joined seen agrees).ways w sum (subst (λ (x : ℕ). ListsThrough row x w sum) (sym at) through) within (λ p among is. none p (subst (λ (ps : List Shortcut). Contains ps p) (sym this.shortcuts) (Contains-append_right old.shortcuts.items this.put p among)) (is.0 ∙ at, is.1)))
+          subst (λ (x : ℕ). HasWay seen v x w sum) at
+          ((this.joined seen agrees).ways w sum (subst (λ (x : ℕ). ListsThrough row x w sum) (sym at) through) within
+          (λ p among is. none p (subst (λ (ps : List Shortcut). Contains ps p) (sym this.shortcuts)
+          (Contains-append_right old.shortcuts.items this.put p among)) (is.0 ∙ at, is.1)))
     ];
     named = named_next;
     has_all = all_next;
   }
 
 -- one step of a loop over the arcs in
-pub next_drafted : (bound : Cost) (v : ℕ) (row : Row) (inns : List Entry) → inns ≡ row.inn → Rises row.inn → (k : ℕ) (d : Entry) → k < length inns → (kept now : Kept) (old new : Draft) → IsMore kept now → IsDrafted bound v row (take k inns) kept old → IsDraftedFrom bound v row (get_or inns k d) now old new → IsDrafted bound v row (take (k + 1) inns) now new
+pub next_drafted : (bound : Cost) (v : ℕ) (row : Row) (inns : List Entry) → inns ≡ row.inn → Rises row.inn → (k : ℕ) (d : Entry) → k < length inns
+    → (kept now : Kept) (old new : Draft) → IsMore kept now → IsDrafted bound v row (take k inns) kept old
+    → IsDraftedFrom bound v row (get_or inns k d) now old new → IsDrafted bound v row (take (k + 1) inns) now new
 next_drafted bound v row inns is rises k d inside kept now old new more was this =
     let longer : take (k + 1) inns ≡ take k inns ++ get_or inns k d ∷ [] = take_more inns k d inside in
     let all : Rises inns = subst Rises (sym is) rises in
@@ -143,7 +148,9 @@ names_moved Old New row still names = record {
 }
 
 -- the proposal of a draft
-pub proposed : (Bears Shows : Seen → Type 0) (bound : Cost) (v : ℕ) (row : Row) (kept : Kept) (d : Draft) (rows : List Seen) (own : Seen) → IsBound bound → AreKept Bears Shows bound kept → kept v ≡ Some own → row ≡ row_in own → row.rank ≡ None → IsDrafted bound v row row.inn kept d → AreListed kept d.listed.items rows → IsProposal (record { bound = bound; node = v; rests_on = rows; shortcuts = d.shortcuts.items })
+pub proposed : (Bears Shows : Seen → Type 0) (bound : Cost) (v : ℕ) (row : Row) (kept : Kept) (d : Draft) (rows : List Seen) (own : Seen)
+    → IsBound bound → AreKept Bears Shows bound kept → kept v ≡ Some own → row ≡ row_in own → row.rank ≡ None → IsDrafted bound v row row.inn kept d
+    → AreListed kept d.listed.items rows → IsProposal (record { bound = bound; node = v; rests_on = rows; shortcuts = d.shortcuts.items })
 proposed Bears Shows bound v row kept d rows own limit are own_kept row_is unranked drafted listed = record {
   bound = limit;
   first = own;

@@ -23,7 +23,7 @@ use Rattle.ch_witness.specs.declared.way.Way.{Way}
 use Rattle.ch_witness.specs.Kept.{HasAll, Kept, IsKept}
 use Rattle.ch_witness.specs.Ways.{AreWays, IsFound, IsStartRead, IsWay, way_at}
 use Rattle.ch_contract.specs.declared.draft.Draft.{Draft}
-use Rattle.ch_contract.specs.Listed.{HasInner, IsInnerOf, IsNamedBy, LeadsOn, NeedsWay, Parts, ends}
+use Rattle.ch_contract.specs.Listed.{HasInner, IsInnerOf, IsNamedBy, LeadsOn, NeedsWay, InParts, ends}
 use Rattle.ch_contract.specs.Drafts.{AgreesWithKept, AreJudged, ArePairs, IsDraftedFrom, IsInner, IsJoined, IsJudgedBy, IsPairOf, IsPairPart, Lengthens, over}
 use Rattle.ch_contract.proofs.Drafting.{inner_leaves, inner_moved}
 use Rattle.ch_contract.proofs.PartByPart.{parts_at, parts_compose, parts_first, parts_from, parts_map, parts_none}
@@ -126,24 +126,27 @@ module _ (bound : Cost) (v : ℕ) (row : Row) (into : Entry) (among : Contains r
     )
   ]
 
-  by_part : (o : Entry) → Contains row.out o → (inner : List ℕ) → (pairs : List Shortcut) → IsPairPart bound into o pairs → Parts (IsSettled seen v put) pairs inner → IsInnerOf bound seen v row put into.other o inner
+  by_part : (o : Entry) → Contains row.out o → (inner : List ℕ) → (pairs : List Shortcut) → IsPairPart bound into o pairs → InParts (IsSettled seen v put) pairs inner → IsInnerOf bound seen v row put into.other o inner
   by_part o here inner pairs part parts = elim part [
-    | inl none ↦ inr (no_way o here none.0, parts_none (IsSettled seen v put) (subst (λ (ps : List Shortcut). Parts (IsSettled seen v put) ps inner) none.1 parts))
+    | inl none ↦ inr (no_way o here none.0, parts_none (IsSettled seen v put) (subst (λ (ps : List Shortcut). InParts (IsSettled seen v put) ps inner) none.1 parts))
     | inr one ↦
-        let first = parts_first (IsSettled seen v put) (subst (λ (ps : List Shortcut). Parts (IsSettled seen v put) ps inner) one.2 parts) in
+        let first = parts_first (IsSettled seen v put) (subst (λ (ps : List Shortcut). InParts (IsSettled seen v put) ps inner) one.2 parts) in
         let is : inner ≡ first.0 = first.4 ∙ ap (λ (ns : List ℕ). first.0 ++ ns) (parts_none (IsSettled seen v put) first.3) ∙ append-nil first.0 in
         subst (λ (ns : List ℕ). IsInnerOf bound seen v row put into.other o ns) (sym is) (by_pair o here one.0 one.1 first.0 first.2)
   ]
 
   -- so the inner nodes by the pairs are those by the arcs out
-  pub inner_by_arcs : (pairs : List Shortcut) (inner : List ℕ) → Parts (IsPairPart bound into) row.out pairs → Parts (IsSettled seen v put) pairs inner → Parts (IsInnerOf bound seen v row put into.other) row.out inner
+  pub inner_by_arcs : (pairs : List Shortcut) (inner : List ℕ) → InParts (IsPairPart bound into) row.out pairs → InParts (IsSettled seen v put) pairs inner → InParts (IsInnerOf bound seen v row put into.other) row.out inner
   inner_by_arcs pairs inner are settled =
-      parts_map (λ (o : Entry) (part : List ℕ). (mid : List Shortcut) × IsPairPart bound into o mid × Parts (IsSettled seen v put) mid part) (IsInnerOf bound seen v row put into.other) row.out
+      parts_map (λ (o : Entry) (part : List ℕ). (mid : List Shortcut) × IsPairPart bound into o mid × InParts (IsSettled seen v put) mid part) (IsInnerOf bound seen v row put into.other) row.out
       (λ o part here inside by. by_part o here part by.0 by.1 by.2)
       (parts_compose (IsPairPart bound into) (IsSettled seen v put) are settled)
 
 -- where no pair is worth a search, nothing is put in
-pub drafted_idle : (bound : Cost) (v : ℕ) (row : Row) (into : Entry) (kept : Kept) (old new : Draft) (more : List ℕ) → ((w : ℕ) (sum : Cost) → ListsThrough row into.other w sum → IsWithin sum bound → ⊥) → new.shortcuts.items ≡ old.shortcuts.items → Lengthens more old new → ((seen : ℕ → Option Row) → IsNamedBy bound seen v row [] into more) → HasAll kept more → IsDraftedFrom bound v row into kept old new
+pub drafted_idle : (bound : Cost) (v : ℕ) (row : Row) (into : Entry) (kept : Kept) (old new : Draft) (more : List ℕ)
+    → ((w : ℕ) (sum : Cost) → ListsThrough row into.other w sum → IsWithin sum bound → ⊥) → new.shortcuts.items ≡ old.shortcuts.items
+    → Lengthens more old new → ((seen : ℕ → Option Row) → IsNamedBy bound seen v row [] into more) → HasAll kept more
+    → IsDraftedFrom bound v row into kept old new
 drafted_idle bound v row into kept old new more none same longer named all = record {
   put = [];
   more = more;
@@ -164,7 +167,9 @@ pub idle_alone : (bound : Cost) (v : ℕ) (row : Row) (into : Entry) (kept : Kep
 idle_alone bound v row into kept d none = drafted_idle bound v row into kept d d [] (λ w sum t within. no_outs row into.other none w sum t) refl (sym (append-nil d.listed.items)) (λ seen. inr (none, refl)) (λ x among. absurd (omega (arith, among.1)))
 
 -- and the neighbour alone where one does, and yet no pair is light
-pub idle_read : (bound : Cost) (v : ℕ) (row : Row) (into : Entry) (kept : Kept) (first : Seen) → kept into.other ≡ Some first → (old new : Draft) → Contains row.inn into → Rises row.inn → Rises row.out → LeadsOn row.out into.other → ArePairs bound into row.out [] → new.shortcuts.items ≡ old.shortcuts.items → Lengthens (into.other ∷ []) old new → IsDraftedFrom bound v row into kept old new
+pub idle_read : (bound : Cost) (v : ℕ) (row : Row) (into : Entry) (kept : Kept) (first : Seen) → kept into.other ≡ Some first → (old new : Draft)
+    → Contains row.inn into → Rises row.inn → Rises row.out → LeadsOn row.out into.other → ArePairs bound into row.out []
+    → new.shortcuts.items ≡ old.shortcuts.items → Lengthens (into.other ∷ []) old new → IsDraftedFrom bound v row into kept old new
 idle_read bound v row into kept first is old new among inn out leads are same longer =
     drafted_idle bound v row into kept old new (into.other ∷ [])
     (λ w sum t within. empty (record { from = into.other; to = w; cost = sum }) (through_pair bound row into [] among inn are w sum t within))
@@ -209,8 +214,8 @@ module _ (bound : Cost) (v : ℕ) (row : Row) (into : Entry) (pairs : List Short
   is_pair p h = let was = judged.only p h in among_pairs was.0 p was.2
 
   -- all pairs are judged
-  by_all : Parts (IsJudgedBy pairs ways judged.put) pairs judged.more
-  by_all = subst (λ (ps : List Shortcut). Parts (IsJudgedBy pairs ways judged.put) ps judged.more) (take_all (length pairs) pairs (omega arith)) judged.parts
+  by_all : InParts (IsJudgedBy pairs ways judged.put) pairs judged.more
+  by_all = subst (λ (ps : List Shortcut). InParts (IsJudgedBy pairs ways judged.put) ps judged.more) (take_all (length pairs) pairs (omega arith)) judged.parts
 
   -- the way that was found for a pair leads to its end
   leads_to : (p : Shortcut) (k : ℕ) → slice_get pairs k ≡ Some p → (w : Way) → way_at ways k ≡ Some w → Along (SeenArc (row_of rows) v) w.nodes.items into.other p.to w.cost
@@ -375,7 +380,9 @@ no_target bound v row into pairs are entries among =
     (All-contains (IsEntry (2 ^ 25) bound v) row.out was.0 entries.out was.1).apart (sym (ap (λ (q : Shortcut). q.to) was.2.2) ∙ p.2)
 
 -- the start's row, for the same targets
-pub direct_for : (kept : Kept) (rows : List Seen) (u : ℕ) (cutoff : Cost) (ways : List (Option Way)) (ts us : List ℕ) → ts ≡ us → ((k : ℕ) → k < length ts → slice_index ts k ≢ u → (s : Seen) × IsKept kept s × IsStartRead rows u cutoff ts ways s) → (k : ℕ) → k < length us → slice_index us k ≢ u → (s : Seen) × IsKept kept s × IsStartRead rows u cutoff us ways s
+pub direct_for : (kept : Kept) (rows : List Seen) (u : ℕ) (cutoff : Cost) (ways : List (Option Way)) (ts us : List ℕ) → ts ≡ us
+    → ((k : ℕ) → k < length ts → slice_index ts k ≢ u → (s : Seen) × IsKept kept s × IsStartRead rows u cutoff ts ways s) → (k : ℕ) → k < length us
+    → slice_index us k ≢ u → (s : Seen) × IsKept kept s × IsStartRead rows u cutoff us ways s
 direct_for kept rows u cutoff ways ts us e h = subst (λ (vs : List ℕ). (k : ℕ) → k < length vs → slice_index vs k ≢ u → (s : Seen) × IsKept kept s × IsStartRead rows u cutoff vs ways s) e h
 
 -- the judgement, for the same pairs and ways

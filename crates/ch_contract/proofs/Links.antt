@@ -44,7 +44,9 @@ contains-flat_map f (z ∷ zs) x y among part = elim (contains_cases z zs x amon
 ]
 
 -- what holds of any two of a part, and of any two of different parts
-pub pairs-flat_map : {Y : Type 0} (R : Y → Y → Type 0) (f : ℕ → List Y) (xs : List ℕ) → AllPairs (λ x y. x < y) xs → ((x : ℕ) → Contains xs x → AllPairs R (f x)) → ((x y : ℕ) (a b : Y) → x < y → Contains xs x → Contains xs y → Contains (f x) a → Contains (f y) b → R a b) → AllPairs R (flat_map f xs)
+pub pairs-flat_map : {Y : Type 0} (R : Y → Y → Type 0) (f : ℕ → List Y) (xs : List ℕ) → AllPairs (λ x y. x < y) xs
+    → ((x : ℕ) → Contains xs x → AllPairs R (f x))
+    → ((x y : ℕ) (a b : Y) → x < y → Contains xs x → Contains xs y → Contains (f x) a → Contains (f y) b → R a b) → AllPairs R (flat_map f xs)
 pairs-flat_map R f [] rises within across = λ i j d low high. absurd (omega (arith, high))
 pairs-flat_map R f (x ∷ xs) rises within across =
     AllPairs-append R (f x) (flat_map f xs) (within x (contains_first x xs))

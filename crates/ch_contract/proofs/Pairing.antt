@@ -14,7 +14,7 @@ use Rattle.ch_witness.specs.declared.way.Way.{Way}
 use Rattle.ch_witness.specs.Ways.{IsFound, way_at}
 use Rattle.ch_contract.proofs.Ranges.{AllPairs-take}
 use Rattle.ch_contract.specs.declared.draft.Draft.{Draft}
-use Rattle.ch_contract.specs.Listed.{Parts, ends}
+use Rattle.ch_contract.specs.Listed.{InParts, ends}
 use Rattle.ch_contract.specs.Drafts.{AreJudged, ArePairs, IsJudgedBy, IsPairAdded, IsPairJudged, IsPairOf, IsPairPart, over}
 use Rattle.ch_contract.proofs.PartByPart.{parts_map, parts_push}
 
@@ -51,7 +51,7 @@ module _ (bound : Cost) (into : Entry) (outs : List Entry) (out : Entry) (rises 
         | inr here ↦ absurd (not-both (subst (λ (e : Entry). into.other ≢ e.other) (sym here) apart) (subst (λ (e : Entry). IsWithin (into.cost ⊕ e.cost) bound) (sym here) within) h.0)
       ];
       sorted = are.sorted;
-      parts = subst (Parts (IsPairPart bound into) (outs ++ out ∷ [])) (append-nil pairs) (parts_push (IsPairPart bound into) out [] are.parts (inl (h.0, refl)));
+      parts = subst (InParts (IsPairPart bound into) (outs ++ out ∷ [])) (append-nil pairs) (parts_push (IsPairPart bound into) out [] are.parts (inl (h.0, refl)));
     })
     | inr h ↦ subst (ArePairs bound into (outs ++ out ∷ [])) (sym h.2) (record {
       each = λ p among. elim (Contains-push_cases pairs h.0 p among) [
@@ -113,8 +113,8 @@ module _ (pairs : List Shortcut) (ways : List (Option Way)) (n : ℕ) (p : Short
         | inl before ↦ let was = judged.only q before in (was.0, omega (arith, was.1), was.2, was.3)
         | inr is ↦ (n, omega arith, here ∙ ap (λ (a : Shortcut). Some a) is, subst (λ (a : Shortcut). IsFound ways n a.cost → ⊥) is h.0)
       ];
-      parts = subst (λ (ps : List Shortcut). Parts (IsJudgedBy pairs ways (judged.put ++ p ∷ [])) ps judged.more) (sym one_more)
-          (subst (Parts (IsJudgedBy pairs ways (judged.put ++ p ∷ [])) (take n pairs ++ p ∷ [])) (append-nil judged.more)
+      parts = subst (λ (ps : List Shortcut). InParts (IsJudgedBy pairs ways (judged.put ++ p ∷ [])) ps judged.more) (sym one_more)
+          (subst (InParts (IsJudgedBy pairs ways (judged.put ++ p ∷ [])) (take n pairs ++ p ∷ [])) (append-nil judged.more)
           (parts_push (IsJudgedBy pairs ways (judged.put ++ p ∷ [])) p []
           (parts_map (IsJudgedBy pairs ways judged.put) (IsJudgedBy pairs ways (judged.put ++ p ∷ [])) (take n pairs) still judged.parts)
           (n, here, inl (h.0, Contains-push judged.put p, refl))));
@@ -126,7 +126,7 @@ module _ (pairs : List Shortcut) (ways : List (Option Way)) (n : ℕ) (p : Short
       shortcuts = h.3 ∙ judged.shortcuts;
       listed = h.4.1 ∙ ap (λ (ns : List ℕ). ns ++ h.4.0) judged.listed ∙ append_assoc old.listed.items judged.more h.4.0;
       only = λ q among. let was = judged.only q among in (was.0, omega (arith, was.1), was.2, was.3);
-      parts = subst (λ (ps : List Shortcut). Parts (IsJudgedBy pairs ways judged.put) ps (judged.more ++ h.4.0)) (sym one_more)
+      parts = subst (λ (ps : List Shortcut). InParts (IsJudgedBy pairs ways judged.put) ps (judged.more ++ h.4.0)) (sym one_more)
           (parts_push (IsJudgedBy pairs ways judged.put) p h.4.0 judged.parts (n, here, inr (h.0, h.1, h.2, h.4.2)));
       sorted = judged.sorted;
     }
@@ -143,7 +143,9 @@ next_pairs bound into outs k d pairs new inside rises added are =
     let more : take (k + 1) outs ≡ take k outs ++ get_or outs k d ∷ [] = take_more outs k d inside in
     subst (λ (es : List Entry). ArePairs bound into es new) (sym more) (pairs_more bound into (take k outs) (get_or outs k d) (subst Rises more (AllPairs-take (λ (a b : Entry). a.other < b.other) (k + 1) outs rises)) pairs new added are)
 
-pub next_judged : (pairs : List Shortcut) (ways : List (Option Way)) (k : ℕ) (d : Shortcut) (way : Option Way) (old mid new : Draft) → k < length pairs → length ways ≡ length pairs → way ≡ get_or ways k way → AreJudged pairs ways k old mid → IsPairJudged (get_or pairs k d) way mid new → AreJudged pairs ways (k + 1) old new
+pub next_judged : (pairs : List Shortcut) (ways : List (Option Way)) (k : ℕ) (d : Shortcut) (way : Option Way) (old mid new : Draft)
+    → k < length pairs → length ways ≡ length pairs → way ≡ get_or ways k way → AreJudged pairs ways k old mid
+    → IsPairJudged (get_or pairs k d) way mid new → AreJudged pairs ways (k + 1) old new
 next_judged pairs ways k d way old mid new inside many is judged step =
     let at : way ≡ way_at ways k = is ∙ get_or_default ways k way None (omega (arith, inside, many)) in
     judged_more pairs ways k (get_or pairs k d) (slice_get-get_or pairs k d inside) old mid new judged (subst (λ (o : Option Way). IsPairJudged (get_or pairs k d) o mid new) at step)

@@ -126,7 +126,10 @@ chains-put n links t chains e inside are = record {
         subst (λ k. IsPermutation (link_in t e ∷ chain_links chains) (flat_map G (range_with_len 0 k))) (sym (length-set chains e.other new)) more
 
 -- the links of the first entries of a row, and of one more
-pub chains-next : (n : ℕ) (links : List Link) (t : ℕ) (chains : List (List Entry)) (inn : List Entry) (i : ℕ) (e : Entry) → i < length inn → e ≡ get_or inn i e → e.other < n → AreChainsOf n (map (link_in t) (take i inn) ++ links) t chains → AreChainsOf n (map (link_in t) (take (i + 1) inn) ++ links) t (slice_set chains e.other (record e { other = t } ∷ slice_index_or chains e.other []))
+pub chains-next : (n : ℕ) (links : List Link) (t : ℕ) (chains : List (List Entry)) (inn : List Entry) (i : ℕ) (e : Entry) → i < length inn
+    → e ≡ get_or inn i e → e.other < n → AreChainsOf n (map (link_in t) (take i inn) ++ links) t chains
+    → AreChainsOf n (map (link_in t) (take (i + 1) inn) ++ links) t
+    (slice_set chains e.other (record e { other = t } ∷ slice_index_or chains e.other []))
 chains-next n links t chains inn i e within is inside are =
     let old = map (link_in t) (take i inn) in
     let put = chains-put n (old ++ links) t chains e inside are in

@@ -14,7 +14,7 @@ use Rattle.ch_witness.specs.declared.way.Way.{Way}
 use Rattle.ch_witness.specs.Kept.{HasAll, IsKept, Kept}
 use Rattle.ch_witness.specs.Ways.{AreWays, IsFound, IsStartRead, way_at}
 use Rattle.ch_contract.specs.declared.draft.Draft.{Draft}
-use Rattle.ch_contract.specs.Listed.{AreNamed, IsNamedBy, Parts}
+use Rattle.ch_contract.specs.Listed.{AreNamed, IsNamedBy, InParts}
 use Rattle.ch_contract.specs.Proposal.{ShortcutBefore}
 
 -- for each node of the list it has the row that is kept
@@ -47,7 +47,7 @@ pub record ArePairs (bound : Cost) (into : Entry) (outs : List Entry) (pairs : L
   pub each : (p : Shortcut) → Contains pairs p → (out : Entry) × Contains outs out × IsPairOf bound into out (Some p)
   pub every : (out : Entry) → Contains outs out → into.other ≢ out.other → IsWithin (into.cost ⊕ out.cost) bound → Contains pairs (over into out)
   pub sorted : AllPairs (λ p q. p.to < q.to) pairs
-  pub parts : Parts (IsPairPart bound into) outs pairs
+  pub parts : InParts (IsPairPart bound into) outs pairs
 
 -- these nodes were listed beyond those before
 abbrev pub Lengthens : List ℕ → Draft → Draft → Type 0
@@ -55,7 +55,10 @@ Lengthens more old new = new.listed.items ≡ old.listed.items ++ more
 
 -- the pair got a shortcut, as no way costs at most as much; or one does, and its inner nodes were listed
 abbrev pub IsPairJudged : Shortcut → Option Way → Draft → Draft → Type 0
-IsPairJudged pair way old new = ((IsSomeAnd way (λ w. w.cost ≼ pair.cost) → ⊥) × (new.listed.items ≡ old.listed.items) × (new.shortcuts.items ≡ old.shortcuts.items ++ pair ∷ [])) ⊎ ((w : Way) × (way ≡ Some w) × (w.cost ≼ pair.cost) × (new.shortcuts.items ≡ old.shortcuts.items) × ((more : List ℕ) × Lengthens more old new × IsInner w.nodes.items more))
+IsPairJudged pair way old new = ((IsSomeAnd way (λ w. w.cost ≼ pair.cost) → ⊥) × (new.listed.items ≡ old.listed.items)
+    × (new.shortcuts.items ≡ old.shortcuts.items ++ pair ∷ [])) ⊎
+    ((w : Way) × (way ≡ Some w) × (w.cost ≼ pair.cost) × (new.shortcuts.items ≡ old.shortcuts.items)
+    × ((more : List ℕ) × Lengthens more old new × IsInner w.nodes.items more))
 
 -- the pair got a shortcut, as the way at its place, if there is one, costs more; or that way doesn't, and has these inner
 -- nodes
@@ -69,7 +72,7 @@ pub record AreJudged (pairs : List Shortcut) (ways : List (Option Way)) (n : ℕ
   pub shortcuts : new.shortcuts.items ≡ old.shortcuts.items ++ put
   pub listed : Lengthens more old new
   pub only : (p : Shortcut) → Contains put p → (k : ℕ) × (k < n) × (slice_get pairs k ≡ Some p) × (IsFound ways k p.cost → ⊥)
-  pub parts : Parts (IsJudgedBy pairs ways put) (take n pairs) more
+  pub parts : InParts (IsJudgedBy pairs ways put) (take n pairs) more
   pub sorted : AllPairs (λ p q. p.to < q.to) pairs → AllPairs (λ p q. p.to < q.to) put
 
 -- Each of the pairs, which lead from u to other nodes, is judged by a search around v.

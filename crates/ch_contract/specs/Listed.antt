@@ -10,9 +10,9 @@ use Rattle.ch_laws.specs.Rows.{Row}
 use Rattle.ch_laws.specs.Verdicts.{ListsThrough, SeenArc}
 
 -- the second list is made of a part for each element of the first, in their order
-pub data Parts {A B : Type 0} (IsPart : A → List B → Type 0) : List A → List B → Type 0 where
-  ends : Parts IsPart [] []
-  goes : {x : A} {xs : List A} {part rest : List B} → IsPart x part → Parts IsPart xs rest → Parts IsPart (x ∷ xs) (part ++ rest)
+pub data InParts {A B : Type 0} (IsPart : A → List B → Type 0) : List A → List B → Type 0 where
+  ends : InParts IsPart [] []
+  goes : {x : A} {xs : List A} {part rest : List B} → IsPart x part → InParts IsPart xs rest → InParts IsPart (x ∷ xs) (part ++ rest)
 
 -- one of the entries is for another node than u
 abbrev pub LeadsOn : List Entry → ℕ → Type 0
@@ -37,8 +37,8 @@ IsInnerOf bound seen v row put u out inner = ((sum : Cost) × NeedsWay bound row
 -- the node that this arc into v leaves, and the inner nodes of the ways from it; or nothing where no other arc leads on
 -- from v
 abbrev pub IsNamedBy : Cost → (ℕ → Option Row) → ℕ → Row → List Shortcut → Entry → List ℕ → Type 0
-IsNamedBy bound seen v row put into named = (LeadsOn row.out into.other × ((inner : List ℕ) × Parts (IsInnerOf bound seen v row put into.other) row.out inner × (named ≡ into.other ∷ inner))) ⊎ ((LeadsOn row.out into.other → ⊥) × (named ≡ []))
+IsNamedBy bound seen v row put into named = (LeadsOn row.out into.other × ((inner : List ℕ) × InParts (IsInnerOf bound seen v row put into.other) row.out inner × (named ≡ into.other ∷ inner))) ⊎ ((LeadsOn row.out into.other → ⊥) × (named ≡ []))
 
 -- the nodes beside v whose rows are asked for by the pairs from these arcs into v
 abbrev pub AreNamed : Cost → (ℕ → Option Row) → ℕ → Row → List Shortcut → List Entry → List ℕ → Type 0
-AreNamed bound seen v row put inns named = Parts (IsNamedBy bound seen v row put) inns named
+AreNamed bound seen v row put inns named = InParts (IsNamedBy bound seen v row put) inns named

@@ -10,7 +10,7 @@ ghost use Rattle.ch_witness.specs.declared.error.SearchError.TheVariants.{Unseen
 ghost use Rattle.ch_contract.specs.Drafts.{ArePairs, AreJudged, AreSearched, IsPairAdded, IsPairJudged, IsPairOf, IsDraftedFrom, IsInner, Lengthens};
 ghost use Rattle.ch_contract.specs.Listed.{LeadsOn};
 
-use crate::scratch::{Desk, Pairs};
+use crate::scratch::{Desk, NeighbourPairs};
 use ch_cost::{Cost, NarrowCost};
 use ch_laws::Entry;
 use ch_overlay::{Row, RowSource, Shortcut};
@@ -190,7 +190,7 @@ fn find_pairs(
     into: &Entry,
     outs: &[Entry],
     rows: &Rows,
-    pairs: &mut Pairs,
+    pairs: &mut NeighbourPairs,
 ) -> Result<(), AllocError>
     requires rises { Rises outs.now }
     requires limit { IsBound task.bound }

@@ -20,14 +20,14 @@ impl Model for Scratch {
 #[derive(Drop)]
 pub(crate) struct Desk {
     pub(crate) searcher: Searcher,
-    pub(crate) pairs: Pairs,
+    pub(crate) pairs: NeighbourPairs,
     /// Memory for the nodes whose rows a proposal rests on.
     pub(crate) listed: Vec<u32>,
 }
 
 /// The pairs from one neighbour, and what a search for their ways is told.
 #[derive(Drop)]
-pub(crate) struct Pairs {
+pub(crate) struct NeighbourPairs {
     /// Those that aren't heavy.
     pub(crate) light: Vec<Shortcut>,
     /// The nodes to which they lead.
@@ -42,7 +42,7 @@ impl Scratch {
         Scratch {
             desk: Desk {
                 searcher: Searcher::new(alloc),
-                pairs: Pairs {
+                pairs: NeighbourPairs {
                     light: Vec::new(alloc),
                     ends: Vec::new(alloc),
                     aims: Vec::new(alloc),

@@ -50,7 +50,9 @@ module _ (changes_write : ChangesWriteTheirRows) (w : World) (p : Proposal) (pla
         ∙ ap (λ (rs : List Row). ledger_of w.ledger.graph w.ledger.overlay.bound rs new.overlay.versions new.overlay.order new.log) rows
         ∙ ap (λ vs. ledger_of w.ledger.graph w.ledger.overlay.bound (puts w.ledger.overlay.rows plan.change.rows) vs new.overlay.order new.log) versions_are
         ∙ ap (λ xs. ledger_of w.ledger.graph w.ledger.overlay.bound (puts w.ledger.overlay.rows plan.change.rows) (puts w.ledger.overlay.versions (zip (map (λ a. a.0) plan.change.rows) (range_with_len (length w.book) (length plan.change.rows)))) xs new.log) order_is
-        ∙ ap (λ (es : List Contraction). ledger_of w.ledger.graph w.ledger.overlay.bound (puts w.ledger.overlay.rows plan.change.rows) (puts w.ledger.overlay.versions (zip (map (λ a. a.0) plan.change.rows) (range_with_len (length w.book) (length plan.change.rows)))) (w.ledger.overlay.order ++ p.node ∷ []) es) contracted.contracts.log
+        ∙ ap (λ (es : List Contraction). ledger_of w.ledger.graph w.ledger.overlay.bound (puts w.ledger.overlay.rows plan.change.rows)
+        (puts w.ledger.overlay.versions (zip (map (λ a. a.0) plan.change.rows) (range_with_len (length w.book) (length plan.change.rows))))
+        (w.ledger.overlay.order ++ p.node ∷ []) es) contracted.contracts.log
 
     -- the world after it
     abbrev pub world_then : World

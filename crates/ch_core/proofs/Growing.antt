@@ -6,21 +6,21 @@ use Rattle.std.proofs.lemmas.List.{length-set, get_or-set_same, get_or-set_other
 use Rattle.ch_laws.specs.Rows.{Row}
 use Rattle.ch_overlay.specs.Overlay.{row_at, no_arcs}
 use Rattle.ch_overlay.specs.Change.{puts}
-use Rattle.ch_core.specs.World.{Version, IsIn, version_of}
+use Rattle.ch_core.specs.World.{RowVersion, IsIn, version_of}
 
 -- what a book has it has when it is longer
-pub still_in : (book more : List Version) (x v : ℕ) (r : Row) → IsIn book x v r → IsIn (book ++ more) x v r
+pub still_in : (book more : List RowVersion) (x v : ℕ) (r : Row) → IsIn book x v r → IsIn (book ++ more) x v r
 still_in book more x v r listed = record {
   within = omega (arith, length-append book more, listed.within);
   here = get_or_append_left book more (record { node = 0; row = no_arcs }) v listed.within ∙ listed.here;
 }
 
 -- the rows are in the book at their versions
-abbrev pub AreIn : List Version → List Row → List ℕ → Type 0
+abbrev pub AreIn : List RowVersion → List Row → List ℕ → Type 0
 AreIn book rows versions = (x : ℕ) → x < length rows → IsIn book x (slice_index versions x) (row_at rows x)
 
 -- one row is written, with the version at the end of the book
-put_in : (book : List Version) (rows : List Row) (versions : List ℕ) (n : ℕ) (p : ℕ × Row) → length versions ≡ length rows → length book ≡ n → AreIn book rows versions → AreIn (book ++ version_of p ∷ []) (set rows p.0 p.1) (set versions p.0 n)
+put_in : (book : List RowVersion) (rows : List Row) (versions : List ℕ) (n : ℕ) (p : ℕ × Row) → length versions ≡ length rows → length book ≡ n → AreIn book rows versions → AreIn (book ++ version_of p ∷ []) (set rows p.0 p.1) (set versions p.0 n)
 put_in book rows versions n p many long are x inside =
     let low : x < length rows = omega (arith, length-set rows p.0 p.1, inside) in
     elim (cases_eq x p.0) [
@@ -45,13 +45,15 @@ put_in book rows versions n p many long are x inside =
     ]
 
 -- all are, one after the other
-pub puts_in : (ps : List (ℕ × Row)) (book : List Version) (rows : List Row) (versions : List ℕ) (n : ℕ) → length versions ≡ length rows → length book ≡ n → AreIn book rows versions → AreIn (book ++ map version_of ps) (puts rows ps) (puts versions (zip (map (λ a. a.0) ps) (range_with_len n (length ps))))
+pub puts_in : (ps : List (ℕ × Row)) (book : List RowVersion) (rows : List Row) (versions : List ℕ) (n : ℕ) → length versions ≡ length rows
+    → length book ≡ n → AreIn book rows versions → AreIn (book ++ map version_of ps) (puts rows ps)
+    (puts versions (zip (map (λ a. a.0) ps) (range_with_len n (length ps))))
 puts_in [] book rows versions n many long are = λ x inside.
-    subst (λ (b : List Version). IsIn b x (slice_index versions x) (row_at rows x)) (sym (append-nil book)) (are x inside)
+    subst (λ (b : List RowVersion). IsIn b x (slice_index versions x) (row_at rows x)) (sym (append-nil book)) (are x inside)
 puts_in (p ∷ ps) book rows versions n many long are =
     let shorter : AreIn ((book ++ version_of p ∷ []) ++ map version_of ps) (puts (set rows p.0 p.1) ps) (puts (set versions p.0 n) (zip (map (λ a. a.0) ps) (range_with_len (n + 1) (length ps)))) =
     puts_in ps (book ++ version_of p ∷ []) (set rows p.0 p.1) (set versions p.0 n) (n + 1)
     (omega (arith, length-set versions p.0 n, length-set rows p.0 p.1, many))
     (omega (arith, length-append book (version_of p ∷ []), long))
     (put_in book rows versions n p many long are) in
-    subst (λ (b : List Version). AreIn b (puts (set rows p.0 p.1) ps) (puts (set versions p.0 n) (zip (map (λ a. a.0) ps) (range_with_len (n + 1) (length ps))))) (append_assoc book (version_of p ∷ []) (map version_of ps)) shorter
+    subst (λ (b : List RowVersion). AreIn b (puts (set rows p.0 p.1) ps) (puts (set versions p.0 n) (zip (map (λ a. a.0) ps) (range_with_len (n + 1) (length ps))))) (append_assoc book (version_of p ∷ []) (map version_of ps)) shorter

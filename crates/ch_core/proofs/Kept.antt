@@ -11,7 +11,7 @@ use Rattle.ch_overlay.specs.Source.{IsBound}
 use Rattle.ch_overlay.specs.Overlay.{Overlay, IsOverlay, row_at}
 use Rattle.ch_overlay.specs.Change.{Change, IsChange, puts, WritesItsRows, ChangesWriteTheirRows}
 use Rattle.ch_contract.specs.Ledger.{Ledger, IsLedger}
-use Rattle.ch_core.specs.World.{World, Version, View, Standing, IsIn, has, version_of}
+use Rattle.ch_core.specs.World.{World, RowVersion, View, Standing, IsIn, has, version_of}
 use Rattle.ch_core.specs.Keeping.{IsWorld, IsSound, IsSoundVersion}
 use Rattle.ch_core.proofs.Growing.{still_in, puts_in}
 
@@ -39,7 +39,7 @@ module _ (old : Overlay) (c : Change) (writes : WritesItsRows old c) (new : Over
   all_new_sound = All-map (IsSoundVersion new) version_of c.rows (λ k d h. new_sound (get_or c.rows k d) (Contains-get_or c.rows k d h))
 
   -- and what was sound is
-  pub still_sound : (v : Version) → IsSoundVersion old v → IsSoundVersion new v
+  pub still_sound : (v : RowVersion) → IsSoundVersion old v → IsSoundVersion new v
   still_sound v sound =
       subst (λ n. IsSound n new.bound v.node v.row) (sym many)
       (subst (λ (b : Cost). IsSound (length old.rows) b v.node v.row) (sym bound_is) sound)
@@ -53,7 +53,7 @@ world_after changes_write w is put c change new goes graph rows_are versions_are
     let o : Overlay = w.ledger.overlay in
     let bound_is : new.overlay.bound ≡ o.bound = goes.bound ∙ ap bound_of graph ∙ sym is.ledger.bound in
     let writes : WritesItsRows o c = changes_write o c is.ledger.overlay (put, change) in
-    let book : List Version = w.book ++ map version_of c.rows in
+    let book : List RowVersion = w.book ++ map version_of c.rows in
     let in_book = puts_in c.rows w.book o.rows o.versions (length w.book) is.ledger.overlay.versions refl is.current in
     record {
       ledger = goes;
@@ -77,7 +77,9 @@ versions_below w is k d h =
     subst (λ v. v < length w.book) same (is.current k (omega (arith, h, many))).within
 
 -- what a world keeps where the views change
-pub world_with : (w : World) → IsWorld w → (views : List View) → length views ≡ length w.views → ((k x : ℕ) (s : Standing) → has (record { ledger = w.ledger; book = w.book; views = views }) k x ≡ Some s → IsIn w.book x s.version s.row) → IsWorld (record { ledger = w.ledger; book = w.book; views = views })
+pub world_with : (w : World) → IsWorld w → (views : List View) → length views ≡ length w.views
+    → ((k x : ℕ) (s : Standing) → has (record { ledger = w.ledger; book = w.book; views = views }) k x ≡ Some s → IsIn w.book x s.version s.row)
+    → IsWorld (record { ledger = w.ledger; book = w.book; views = views })
 world_with w is views many kept = record {
   ledger = is.ledger;
   bound = is.bound;

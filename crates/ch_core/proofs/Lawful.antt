@@ -8,11 +8,11 @@ use Rattle.ch_overlay.specs.Overlay.{row_at, no_arcs}
 use Rattle.ch_contract.specs.Ledger.{AreLawful, version_now}
 use Rattle.ch_contract.specs.Commit.{NoneIsOld, IsRowOf, AgreementIsLawful}
 use Rattle.ch_contract.specs.Proposal.{Proposal, IsProposal}
-use Rattle.ch_core.specs.World.{World, Version, Standing, StandsIn, MayOffer, IsCurrent, IsIn, has, view_of}
+use Rattle.ch_core.specs.World.{World, RowVersion, Standing, StandsIn, MayOffer, IsCurrent, IsIn, has, view_of}
 use Rattle.ch_core.specs.Keeping.{IsWorld, IsSoundVersion}
 
 -- the row of a number in the book is one
-pub one_row : (book : List Version) (x y v : ℕ) (q r : Row) → IsIn book x v q → IsIn book y v r → ◌≡◌ {A = Version} (record { node = x; row = q }) (record { node = y; row = r })
+pub one_row : (book : List RowVersion) (x y v : ℕ) (q r : Row) → IsIn book x v q → IsIn book y v r → ◌≡◌ {A = RowVersion} (record { node = x; row = q }) (record { node = y; row = r })
 one_row book x y v q r first second = sym first.here ∙ second.here
 
 module _ (w : World) (is : IsWorld w) where
@@ -20,9 +20,9 @@ module _ (w : World) (is : IsWorld w) where
   pub had_in_range : (k x : ℕ) (t : Standing) → has w k x ≡ Some t → x < length w.ledger.overlay.rows
   had_in_range k x t there =
       let listed = is.views k x t there in
-      let none : Version = record { node = 0; row = no_arcs } in
+      let none : RowVersion = record { node = 0; row = no_arcs } in
       let sound : IsSoundVersion w.ledger.overlay (get_or w.book t.version none) = is.sound t.version none listed.within in
-      let node_is : (get_or w.book t.version none).node ≡ x = ap (λ (v : Version). v.node) listed.here in
+      let node_is : (get_or w.book t.version none).node ≡ x = ap (λ (v : RowVersion). v.node) listed.here in
       subst (λ n. n < length w.ledger.overlay.rows) node_is sound.in_range
 
   -- the row that a worker has of a node is the current one where the version is
@@ -33,7 +33,7 @@ module _ (w : World) (is : IsWorld w) where
       let listed = is.views k s.node t stands in
       let now = is.current s.node inside in
       let moved = subst (λ v. IsIn w.book s.node v (row_at w.ledger.overlay.rows s.node)) (sym current) now in
-      record { in_range = inside; same = ap (λ (v : Version). v.row) (one_row w.book s.node s.node s.version (row_in s) (row_at w.ledger.overlay.rows s.node) listed moved) }
+      record { in_range = inside; same = ap (λ (v : RowVersion). v.row) (one_row w.book s.node s.node s.version (row_in s) (row_at w.ledger.overlay.rows s.node) listed moved) }
 
 -- so is an offer whose versions are all current
 pub lawful_offer : AgreementIsLawful → (w : World) → IsWorld w → (worker : ℕ) (p : Proposal) → IsProposal p → MayOffer w worker p → All (IsCurrent w) p.rests_on → AreLawful w.ledger p.node p.shortcuts

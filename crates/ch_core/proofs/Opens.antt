@@ -8,7 +8,7 @@ use Rattle.ch_laws.specs.Theorems.{BoundsFit}
 use Rattle.ch_overlay.specs.Source.{IsBound}
 use Rattle.ch_overlay.specs.Overlay.{row_at, no_arcs}
 use Rattle.ch_contract.specs.Ledger.{IsLedger}
-use Rattle.ch_core.specs.World.{World, Version, View, Standing, IsIn, has, stands_at}
+use Rattle.ch_core.specs.World.{World, RowVersion, View, Standing, IsIn, has, stands_at}
 use Rattle.ch_core.specs.Keeping.{IsWorld, IsSoundVersion}
 use Rattle.ch_core.proofs.Kept.{row_sound}
 
@@ -40,7 +40,7 @@ module _ (bounds_fit : BoundsFit) (w : World) (workers : ℕ) (ledger : IsLedger
     sound = λ k d h.
         let inside : k < length w.ledger.overlay.rows = omega (arith, h, many) in
         let here = get_or_default w.book k d (record { node = 0; row = no_arcs }) h ∙ (book k inside).here in
-        subst (λ (v : Version). IsSoundVersion w.ledger.overlay v) (sym here) (row_sound w.ledger.overlay ledger.overlay k inside);
+        subst (λ (v : RowVersion). IsSoundVersion w.ledger.overlay v) (sym here) (row_sound w.ledger.overlay ledger.overlay k inside);
   }
     where
       none_some : (s : Standing) → None ≡ Some s → ⊥

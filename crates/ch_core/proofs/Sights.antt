@@ -7,7 +7,7 @@ use Rattle.ch_laws.specs.Rows.{Row}
 use Rattle.ch_overlay.specs.declared.source.Seen.{Seen}
 use Rattle.ch_overlay.specs.Source.{row_in, IsSeenRow}
 use Rattle.ch_overlay.specs.Overlay.{Overlay, IsEntry, no_arcs}
-use Rattle.ch_core.specs.World.{World, Version, Standing, StandsIn, has, view_of}
+use Rattle.ch_core.specs.World.{World, RowVersion, Standing, StandsIn, has, view_of}
 use Rattle.ch_core.specs.Keeping.{IsWorld, IsSound, IsSoundVersion, Sight, IsSight}
 
 -- a row among few nodes is one among the most that there can be
@@ -31,7 +31,7 @@ standing_sound w is k x t there =
     let o : Overlay = w.ledger.overlay in
     let listed = is.views k x t there in
     let sound : IsSoundVersion o (get_or w.book t.version (record { node = 0; row = no_arcs })) = is.sound t.version (record { node = 0; row = no_arcs }) listed.within in
-    widens (length o.rows) o.bound x t.row is.ledger.overlay.few_nodes (subst (λ (v : Version). IsSoundVersion o v) listed.here sound)
+    widens (length o.rows) o.bound x t.row is.ledger.overlay.few_nodes (subst (λ (v : RowVersion). IsSoundVersion o v) listed.here sound)
 
 pub sight_of : (w : World) → IsWorld w → (k : ℕ) → IsSight (record { view = view_of w k; bound = w.ledger.overlay.bound })
 sight_of w is k = record { limit = is.bound; rows = standing_sound w is k }

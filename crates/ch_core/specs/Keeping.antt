@@ -5,7 +5,7 @@ use Rattle.ch_laws.specs.Rows.{Row, Rises}
 use Rattle.ch_overlay.specs.Source.{IsBound}
 use Rattle.ch_overlay.specs.Overlay.{Overlay, AreEntries}
 use Rattle.ch_contract.specs.Ledger.{IsLedger, IsNode, row_now, version_now}
-use Rattle.ch_core.specs.World.{World, Version, View, Standing, stands_at, has, IsIn}
+use Rattle.ch_core.specs.World.{World, RowVersion, View, Standing, stands_at, has, IsIn}
 
 -- a row that can be relied on, of a node among so many
 pub record IsSound (nodes : ℕ) (bound : Cost) (x : ℕ) (r : Row) : Type 0 where
@@ -14,7 +14,7 @@ pub record IsSound (nodes : ℕ) (bound : Cost) (x : ℕ) (r : Row) : Type 0 whe
   pub inn_rises : Rises r.inn
   pub entries : AreEntries nodes bound x r
 
-abbrev pub IsSoundVersion : Overlay → Version → Type 0
+abbrev pub IsSoundVersion : Overlay → RowVersion → Type 0
 IsSoundVersion o v = IsSound (length o.rows) o.bound v.node v.row
 
 -- The rows are those that the log leads to from the graph. The book has each current row at its current version, and

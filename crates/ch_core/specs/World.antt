@@ -20,7 +20,7 @@ use Rattle.ch_contract.specs.Proposal.{Proposal}
 -- Worlds
 
 -- a row that its node has or had
-pub record Version : Type 0 where
+pub record RowVersion : Type 0 where
   pub node : ℕ
   pub row : Row
 
@@ -37,7 +37,7 @@ View = List (ℕ × Standing)
 -- for each worker.
 pub record World : Type 0 where
   pub ledger : Ledger
-  pub book : List Version
+  pub book : List RowVersion
   pub views : List View
 
 -- what the view has of a node
@@ -52,7 +52,7 @@ abbrev pub has : World → ℕ → ℕ → Option Standing
 has w worker x = stands_at (view_of w worker) x
 
 -- the version of this number is the node's, with this row
-pub record IsIn (book : List Version) (node version : ℕ) (row : Row) : Type 0 where
+pub record IsIn (book : List RowVersion) (node version : ℕ) (row : Row) : Type 0 where
   pub within : version < length book
   pub here : slice_index_or book version (record { node = 0; row = no_arcs }) ≡ record { node = node; row = row }
 
@@ -141,7 +141,7 @@ entered l first node rows e = record {
   log = l.log ++ e ∷ [];
 }
 
-abbrev pub version_of : ℕ × Row → Version
+abbrev pub version_of : ℕ × Row → RowVersion
 version_of a = record { node = a.0; row = a.1 }
 
 -- An offer is accepted: its node isn't contracted, and each version that it lists is current. Nothing else is asked.

@@ -12,18 +12,18 @@ use std::sync::Arc;
 
 /// A row that its node has or had. Its number is its place in the book.
 #[derive(Drop)]
-pub struct Version {
+pub struct RowVersion {
     /// The node, numbered from 0.
     node: u32,
     /// Its row of this version.
     row: Arc<Row>,
 }
 
-impl Model for Version {
+impl Model for RowVersion {
     ghost use Rattle.std.specs.Arc.{arc_value};
     ghost use Rattle.ch_core.specs.World as worlds;
 
-    ghost Value = { worlds.Version };
+    ghost Value = { worlds.RowVersion };
 
     ghost view = { λ v. record { node = v.node; row = arc_value v.row } };
 }
@@ -31,7 +31,7 @@ impl Model for Version {
 /// The book of the first versions: that of each node, at its number.
 ///
 /// Takes memory for an entry a node; the rows are shared.
-pub fn opening_book(alloc: Global, overlay: &Overlay) -> Result<Vec<Version>, AllocError>
+pub fn opening_book(alloc: Global, overlay: &Overlay) -> Result<Vec<RowVersion>, AllocError>
     ensures many { IfOk result (λ book. length book.items ≡ length overlay.now.rows) }
     ensures rows { IfOk result (λ book. (x : ℕ) → x < length overlay.now.rows → IsIn book.items x x (row_at overlay.now.rows x)) }
 {
@@ -39,7 +39,7 @@ pub fn opening_book(alloc: Global, overlay: &Overlay) -> Result<Vec<Version>, Al
     let mut book = Vec::with_capacity(alloc, nodes as usize)?;
     'nodes: for node in 0..nodes {
         let row = Arc::try_clone(overlay.row(node))?;
-        book.push(Version { node, row })?;
+        book.push(RowVersion { node, row })?;
     }
     Ok(book)
 }
@@ -47,19 +47,19 @@ pub fn opening_book(alloc: Global, overlay: &Overlay) -> Result<Vec<Version>, Al
 /// The versions of these rows, each with its node, in their order.
 ///
 /// Takes memory for an entry a row; the rows are shared.
-pub fn versions_of(alloc: Global, rows: &[(u32, Arc<Row>)]) -> Result<Vec<Version>, AllocError>
+pub fn versions_of(alloc: Global, rows: &[(u32, Arc<Row>)]) -> Result<Vec<RowVersion>, AllocError>
     ensures { IfOk result (λ fresh. fresh.items ≡ map (λ a. version_of (a.0, arc_value a.1)) rows.now) }
 {
     let mut fresh = Vec::with_capacity(alloc, rows.len())?;
     'rows: for (node, row) in rows {
         let row = Arc::try_clone(row)?;
-        fresh.push(Version { node: *node, row })?;
+        fresh.push(RowVersion { node: *node, row })?;
     }
     Ok(fresh)
 }
 
 /// Adds versions at the end of the book, which has room for them. Takes no memory.
-pub fn append(book: &mut Vec<Version>, fresh: Vec<Version>)
+pub fn append(book: &mut Vec<RowVersion>, fresh: Vec<RowVersion>)
     requires { length book.old.items + length fresh.items ≤ vec_capacity book.old }
     ensures { book.new.items ≡ book.old.items ++ fresh.items }
 {
@@ -69,7 +69,11 @@ pub fn append(book: &mut Vec<Version>, fresh: Vec<Version>)
 }
 
 /// The version of this number where it is the node's, or none. The numbers may be any. Takes no memory.
-pub fn standing(book: &[Version], node: u32, version: u64) -> Result<Option<Standing>, AllocError>
+pub fn standing(
+    book: &[RowVersion],
+    node: u32,
+    version: u64,
+) -> Result<Option<Standing>, AllocError>
     ensures { IfOk result (λ found. MatchOption found ((row : Row) → IsIn book.now node version row → ⊥) (λ s. (s.version ≡ version) × IsIn book.now node version s.row)) }
 {
     let place = version as usize;

@@ -11,7 +11,7 @@ ghost use Rattle.ch_core.specs.World.{IsOpening, MayOffer, IsCurrent, IsAccepted
 ghost use Rattle.ch_core.specs.Steps.{IsStep, IsLawful};
 ghost use Rattle.ch_core.specs.Keeping.{IsWorld};
 
-use crate::book::{Version, append, opening_book, standing, versions_of};
+use crate::book::{RowVersion, append, opening_book, standing, versions_of};
 use crate::event::{Event, Outcome};
 use crate::offering::all_stand;
 use crate::reads::Reads;
@@ -35,7 +35,7 @@ pub struct World {
     /// The graph, its rows that are current, and the log.
     ledger: Ledger,
     /// All versions that the rows had, each at its number.
-    book: Vec<Version>,
+    book: Vec<RowVersion>,
     /// What each worker read.
     views: Vec<Reads>,
 }

@@ -8,28 +8,28 @@ use mathlib.Core.Option as option
 use lib.ListN.{get_elem?}
 use Rattle.atomic_table.specs.Table.{Me, Allows, Splits, Joins, keeps, step}
 use Rattle.atomic_table.proofs.Lists.{at_set, at_longer, set_again, set_else}
-use Rattle.ch_estimate.specs.declared.counted.Known.{Known}
+use Rattle.ch_estimate.specs.declared.counted.KnownCount.{KnownCount}
 use Rattle.ch_estimate.specs.Leases.{Keeps, adds, all_out, finds, gives, known}
 
 -- one view is another
-pub out-set : (views : List Known) (id : ℕ) (v w : Known) → get_elem? views id ≡ some v → all_out (set views id w) + v.out ≡ all_out views + w.out
+pub out-set : (views : List KnownCount) (id : ℕ) (v w : KnownCount) → get_elem? views id ≡ some v → all_out (set views id w) + v.out ≡ all_out views + w.out
 out-set [] id v w at = absurd (some-ne-none v (sym at))
-out-set (x ∷ views) zero v w at = let same : x.out ≡ v.out = ap (λ (u : Known). u.out) (some-injective x v at) in omega (arith, same)
+out-set (x ∷ views) zero v w at = let same : x.out ≡ v.out = ap (λ (u : KnownCount). u.out) (some-injective x v at) in omega (arith, same)
 out-set (x ∷ views) (suc id) v w at = let rest = out-set views id v w at in omega (arith, rest)
 
 -- one view more
-pub out-snoc : (views : List Known) (w : Known) → all_out (views ++ w ∷ []) ≡ all_out views + w.out
+pub out-snoc : (views : List KnownCount) (w : KnownCount) → all_out (views ++ w ∷ []) ≡ all_out views + w.out
 out-snoc [] w = omega arith
 out-snoc (x ∷ views) w = let rest = out-snoc views w in omega (arith, rest)
 
 -- no view has more than all have
-pub out-at : (views : List Known) (id : ℕ) (v : Known) → get_elem? views id ≡ some v → v.out ≤ all_out views
+pub out-at : (views : List KnownCount) (id : ℕ) (v : KnownCount) → get_elem? views id ≡ some v → v.out ≤ all_out views
 out-at [] id v at = absurd (some-ne-none v (sym at))
-out-at (x ∷ views) zero v at = let same : x.out ≡ v.out = ap (λ (u : Known). u.out) (some-injective x v at) in omega (arith, same)
+out-at (x ∷ views) zero v at = let same : x.out ≡ v.out = ap (λ (u : KnownCount). u.out) (some-injective x v at) in omega (arith, same)
 out-at (x ∷ views) (suc id) v at = let rest = out-at views id v at in omega (arith, rest)
 
 -- the first view is another
-first_set : (views : List Known) (v w : Known) → get_elem? views 0 ≡ some v → get_elem? (set views 0 w) 0 ≡ some w
+first_set : (views : List KnownCount) (v w : KnownCount) → get_elem? views 0 ≡ some v → get_elem? (set views 0 w) 0 ≡ some w
 first_set [] v w at = absurd (some-ne-none v (sym at))
 first_set (x ∷ views) v w at = refl
 
@@ -37,12 +37,12 @@ first_set (x ∷ views) v w at = refl
 word_set : (words : List ℕ) (n : ℕ) → length words ≡ 1 → slice_index (set words 0 n) 0 ≡ n
 word_set words n wide = get_or-set_same words 0 n 0 (omega (arith, wide))
 
-bounded : (views : List Known) (w : Known) (sum : ℕ) → get_elem? views 0 ≡ some w → sum ≤ w.bound → (u : Known) → get_elem? views 0 ≡ some u → sum ≤ u.bound
-bounded views w sum is h u at = subst (λ (x : Known). sum ≤ x.bound) (some-injective w u (sym is ∙ at)) h
+bounded : (views : List KnownCount) (w : KnownCount) (sum : ℕ) → get_elem? views 0 ≡ some w → sum ≤ w.bound → (u : KnownCount) → get_elem? views 0 ≡ some u → sum ≤ u.bound
+bounded views w sum is h u at = subst (λ (x : KnownCount). sum ≤ x.bound) (some-injective w u (sym is ∙ at)) h
 
 pub adding : (slots made : ℕ) → Allows Keeps slots 0 (known made 0, []) 0 (λ n. (n + 1) % 2 ^ 64) (adds (step slots 0 1 0 option.none) (known made 0, []))
 adding slots made s k homes at room =
-    let w : Known = known (made + 1) 1 in
+    let w : KnownCount = known (made + 1) 1 in
     let found : ℕ = slice_index s.words 0 in
     let sum : all_out (set s.views 0 w) + 0 ≡ all_out s.views + 1 = out-set s.views 0 (known made 0) w at in
     let counts : found ≡ all_out s.views % 2 ^ 64 = k.counts in
@@ -62,12 +62,12 @@ adding slots made s k homes at room =
 
 pub giving : (slots id : ℕ) → Allows Keeps slots id (known 0 1, []) 0 (λ n. (n + (2 ^ 64 - 1)) % 2 ^ 64) (gives (step slots 0 1 0 option.none) (known 0 1, []))
 giving slots id s k homes at room =
-    let w : Known = known 0 0 in
+    let w : KnownCount = known 0 0 in
     let found : ℕ = slice_index s.words 0 in
     let sum : all_out (set s.views id w) + 1 ≡ all_out s.views + 0 = out-set s.views id (known 0 1) w at in
     let counts : found ≡ all_out s.views % 2 ^ 64 = k.counts in
     let less : (found + (2 ^ 64 - 1)) % 2 ^ 64 ≡ all_out (set s.views id w) % 2 ^ 64 = omega (arith, sum, counts) in
-    let below : (u : Known) → get_elem? (set s.views id w) 0 ≡ some u → all_out (set s.views id w) ≤ u.bound = λ u there. ⊎_elim
+    let below : (u : KnownCount) → get_elem? (set s.views id w) 0 ≡ some u → all_out (set s.views id w) ≤ u.bound = λ u there. ⊎_elim
     (λ here. let low = k.below (known 0 1) (subst (λ (j : ℕ). get_elem? s.views j ≡ some (known 0 1)) (sym here.0) at) in absurd (omega (arith, sum, low)))
     (λ other. let low = k.below u other.1 in omega (arith, sum, low)) (at_set s.views id 0 w u there) in (
       w,
@@ -89,7 +89,7 @@ finding slots made few s k homes at room =
     let whole : found ≡ all_out s.views = let low = k.below (known made 0) at in omega (arith, counts, low, few) in
     elim (cases_eq found 0) [
       | inl none ↦
-          let w : Known = known 0 0 in
+          let w : KnownCount = known 0 0 in
           let sum : all_out (set s.views 0 w) + 0 ≡ all_out s.views + 0 = out-set s.views 0 (known made 0) w at in
           let here : found ≡ all_out (set s.views 0 w) % 2 ^ 64 = omega (arith, sum, counts) in
           let least : all_out (set s.views 0 w) ≤ 0 = omega (arith, sum, whole, none) in (
@@ -104,7 +104,7 @@ finding slots made few s k homes at room =
             (λ _. refl, λ some_out. absurd (some_out none)),
           )
       | inr some_out ↦
-          let w : Known = known made 0 in
+          let w : KnownCount = known made 0 in
           let views : set s.views 0 w ≡ s.views = set_again s.views 0 w at in
           let sum : all_out (set s.views 0 w) ≡ all_out s.views = ap all_out views in
           let low : all_out s.views ≤ made = k.below w at in
@@ -124,9 +124,9 @@ finding slots made few s k homes at room =
 
 pub handing : (bound : ℕ) → Splits Keeps 0 (known bound 1) (known bound 0) (known 0 1)
 handing bound s k at =
-    let left : Known = known bound 0 in
-    let right : Known = known 0 1 in
-    let views : List Known = set s.views 0 left ++ right ∷ [] in
+    let left : KnownCount = known bound 0 in
+    let right : KnownCount = known 0 1 in
+    let views : List KnownCount = set s.views 0 left ++ right ∷ [] in
     let set_sum : all_out (set s.views 0 left) + 1 ≡ all_out s.views + 0 = out-set s.views 0 (known bound 1) left at in
     let more : all_out views ≡ all_out (set s.views 0 left) + 1 = out-snoc (set s.views 0 left) right in
     let sum : all_out views ≡ all_out s.views = omega (arith, set_sum, more) in
@@ -140,10 +140,10 @@ handing bound s k at =
 
 pub meeting : (made other : ℕ) → Joins Keeps 0 (known made 0) other (known 0 1) (known made 1) (known 0 0)
 meeting made other s k at apart there =
-    let both : Known = known made 1 in
-    let spent : Known = known 0 0 in
-    let met : List Known = set s.views 0 both in
-    let views : List Known = set met other spent in
+    let both : KnownCount = known made 1 in
+    let spent : KnownCount = known 0 0 in
+    let met : List KnownCount = set s.views 0 both in
+    let views : List KnownCount = set met other spent in
     let met_sum : all_out met + 0 ≡ all_out s.views + 1 = out-set s.views 0 (known made 0) both at in
     let spent_sum : all_out views + 1 ≡ all_out met + 0 = out-set met other (known 0 1) spent there in
     let sum : all_out views ≡ all_out s.views = omega (arith, met_sum, spent_sum) in
@@ -165,7 +165,7 @@ never slots s k homes at room =
 -- The steps of a seat of which that is known
 
 abbrev Mine : Type 0
-Mine = Me (Unit {0}) Known
+Mine = Me (Unit {0}) KnownCount
 
 pub adding_as : (slots id made : ℕ) (me : Mine) → id ≡ 0 → me ≡ (known made 0, []) → Allows Keeps slots id me 0 (λ n. (n + 1) % 2 ^ 64) (adds (step slots 0 1 0 option.none) me)
 adding_as slots id made me first knows =
@@ -180,14 +180,14 @@ finding_as slots id made me first knows few =
     subst (λ (i : ℕ). Allows Keeps slots i me 0 (λ n. n) (finds (step slots 0 0 0 option.none) me)) (sym first)
     (subst (λ (m : Mine). Allows Keeps slots 0 m 0 (λ n. n) (finds (step slots 0 0 0 option.none) m)) (sym knows) (finding slots made few))
 
-pub handing_as : (id bound : ℕ) (v : Known) → id ≡ 0 → v ≡ known bound 1 → Splits Keeps id v (known v.bound (v.out - 1)) (known 0 1)
+pub handing_as : (id bound : ℕ) (v : KnownCount) → id ≡ 0 → v ≡ known bound 1 → Splits Keeps id v (known v.bound (v.out - 1)) (known 0 1)
 handing_as id bound v first knows =
-    subst (λ (i : ℕ). Splits Keeps i v (known v.bound (v.out - 1)) (known 0 1)) (sym first) (subst (λ (u : Known). Splits Keeps 0 u (known u.bound (u.out - 1)) (known 0 1)) (sym knows) (handing bound))
+    subst (λ (i : ℕ). Splits Keeps i v (known v.bound (v.out - 1)) (known 0 1)) (sym first) (subst (λ (u : KnownCount). Splits Keeps 0 u (known u.bound (u.out - 1)) (known 0 1)) (sym knows) (handing bound))
 
-pub meeting_as : (id made other : ℕ) (v w : Known) → id ≡ 0 → v ≡ known made 0 → w ≡ known 0 1 → Joins Keeps id v other w (known v.bound w.out) (known 0 0)
+pub meeting_as : (id made other : ℕ) (v w : KnownCount) → id ≡ 0 → v ≡ known made 0 → w ≡ known 0 1 → Joins Keeps id v other w (known v.bound w.out) (known 0 0)
 meeting_as id made other v w first knows theirs =
     subst (λ (i : ℕ). Joins Keeps i v other w (known v.bound w.out) (known 0 0)) (sym first)
-    (subst (λ (u : Known). Joins Keeps 0 u other w (known u.bound w.out) (known 0 0)) (sym knows) (subst (λ (u : Known). Joins Keeps 0 (known made 0) other u (known made u.out) (known 0 0)) (sym theirs) (meeting made other)))
+    (subst (λ (u : KnownCount). Joins Keeps 0 u other w (known u.bound w.out) (known 0 0)) (sym knows) (subst (λ (u : KnownCount). Joins Keeps 0 (known made 0) other u (known made u.out) (known 0 0)) (sym theirs) (meeting made other)))
 
 pub never_as : (slots id : ℕ) (me : Mine) → id ≡ 0 → me ≡ (known 0 1, []) → Allows Keeps slots id me 0 (λ n. n) (λ _ _. ⊥)
 never_as slots id me first knows =

@@ -4,7 +4,7 @@ ghost use Rattle.ch_estimate.specs.Leases.{Keeps, adds, finds, gives, known};
 use atomic_table::{Join, Play, Split, TableRule};
 
 /// What the holder of a seat knows of the count. No value of it is made.
-pub struct Known {
+pub struct KnownCount {
     /// Of the first seat: at most so many are out.
     pub bound: u64,
     /// How much of the count is its own: one for a lease that is out.
@@ -14,7 +14,7 @@ pub struct Known {
 /// The rule of the count.
 pub struct Counted;
 
-impl TableRule<(), Known, ()> for Counted {
+impl TableRule<(), KnownCount, ()> for Counted {
     ghost holds = { λ _. Keeps };
 
     ghost first = { λ _. known 0 0 };
@@ -23,35 +23,35 @@ impl TableRule<(), Known, ()> for Counted {
 /// One more is counted.
 pub struct Adds;
 
-impl Play<(), Known> for Adds {
+impl Play<(), KnownCount> for Adds {
     ghost then = { adds };
 }
 
 /// One is given back.
 pub struct Gives;
 
-impl Play<(), Known> for Gives {
+impl Play<(), KnownCount> for Gives {
     ghost then = { gives };
 }
 
 /// A look at the count, which tells something where it is zero.
 pub struct Finds;
 
-impl Play<(), Known> for Finds {
+impl Play<(), KnownCount> for Finds {
     ghost then = { finds };
 }
 
 /// A look that can't be taken.
 pub struct Never;
 
-impl Play<(), Known> for Never {
+impl Play<(), KnownCount> for Never {
     ghost then = { λ _ _ _ _. ⊥ };
 }
 
 /// The one that was counted is handed to a lease.
 pub struct Hands;
 
-impl Split<Known> for Hands {
+impl Split<KnownCount> for Hands {
     ghost use Rattle.std.specs.Prelude.{◌-◌};
 
     ghost left = { λ v. known v.bound (v.out - 1) };
@@ -60,9 +60,9 @@ impl Split<Known> for Hands {
 }
 
 /// A lease's part comes back to the first seat.
-pub struct Meets;
+pub struct TakesBack;
 
-impl Join<Known> for Meets {
+impl Join<KnownCount> for TakesBack {
     ghost both = { λ v w. known v.bound w.out };
 
     ghost spent = { known 0 0 };

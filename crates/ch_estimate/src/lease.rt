@@ -1,7 +1,7 @@
 ghost use Rattle.std.specs.Prelude.{◌≡◌, ◌+◌, IfOk, OnErr, OnOk};
 ghost use Rattle.ch_estimate.specs.Leases.{IsOut};
 
-use crate::counted::{Adds, Counted, Finds, Gives, Hands, Known, Meets, Never};
+use crate::counted::{Adds, Counted, Finds, Gives, Hands, KnownCount, Never, TakesBack};
 use atomic_table::{Seat, Table};
 use crossbeam_utils::sync::WaitGroup;
 use std::alloc::{AllocError, Global};
@@ -9,7 +9,7 @@ use std::marker::Model;
 use std::sync::{Arc, Wait};
 
 /// The word that counts the leases that are out.
-type Count = Table<(), Known, (), Counted, Global>;
+type Count = Table<(), KnownCount, (), Counted, Global>;
 
 /// Leases that are out: a count of the work that is still to be given back.
 ///
@@ -19,7 +19,7 @@ type Count = Table<(), Known, (), Counted, Global>;
 pub struct Leases {
     alloc: Global,
     count: Arc<Count>,
-    seat: Seat<(), Known>,
+    seat: Seat<(), KnownCount>,
     group: Option<WaitGroup>,
     /// How many leases the group has, or 2^64 - 1 where it has more.
     made: u64,
@@ -39,7 +39,7 @@ impl Model for Leases {
 /// A lease, given back by its drop, which any thread may do. A contract sees of which count it is.
 pub struct Lease {
     count: Arc<Count>,
-    seat: Seat<(), Known>,
+    seat: Seat<(), KnownCount>,
     member: WaitGroup,
 }
 
@@ -134,14 +134,16 @@ impl Leases {
         ensures { ⊥ }
     {
         let seat = lease.into_seat();
-        self.count.shared.join_seat::<Meets>(&mut self.seat, seat);
+        self.count
+            .shared
+            .join_seat::<TakesBack>(&mut self.seat, seat);
         self.count.shared.load::<Never>(&mut self.seat, 0);
     }
 }
 
 impl Lease {
     /// Its part of the count.
-    fn into_seat(self) -> Seat<(), Known>
+    fn into_seat(self) -> Seat<(), KnownCount>
         ensures { IsOut self result }
     {
         let Self {

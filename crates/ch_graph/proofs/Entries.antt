@@ -18,8 +18,12 @@ use Rattle.ch_graph.specs.Queue.Laws as queues
 use Rattle.ch_graph.specs.Queue.Laws.{queue-first, queue-popped}
 
 -- a node is opened with a cost that improves its mark, and put into the queue
-pub queue-open : (marks : List (Mark Cost)) (entries after : List (Entry Cost)) (v : ℕ) (c : Cost) → IsQueueOf marks entries → v < length marks → Improves own_cost c (mark marks v) → IsPermutation (entry c v ∷ entries) after → IsHeap (entry_cmp compare) after → IsQueueOf (set marks v (Open c)) after
-queue-open marks entries after v c queue h improves moved heap = queues.queue-open ◌≼◌ own_cost compare (mark marks) (mark (set marks v (Open c))) entries after queue v c (put-set marks v (Open c) h) (at_most_refl c) (λ d k has most. improves-below own_cost (mark marks v) c k improves (at_most-from_label own_cost (mark marks v) d k has most)) moved heap
+pub queue-open : (marks : List (Mark Cost)) (entries after : List (Entry Cost)) (v : ℕ) (c : Cost) → IsQueueOf marks entries → v < length marks
+    → Improves own_cost c (mark marks v) → IsPermutation (entry c v ∷ entries) after → IsHeap (entry_cmp compare) after
+    → IsQueueOf (set marks v (Open c)) after
+queue-open marks entries after v c queue h improves moved heap = queues.queue-open ◌≼◌ own_cost compare (mark marks)
+    (mark (set marks v (Open c))) entries after queue v c (put-set marks v (Open c) h) (at_most_refl c)
+    (λ d k has most. improves-below own_cost (mark marks v) c k improves (at_most-from_label own_cost (mark marks v) d k has most)) moved heap
 
 -- an entry was taken out
 module _ (marks : List (Mark Cost)) (entries after : List (Entry Cost)) (x : Entry Cost) (queue : IsQueueOf marks entries) (moved : IsPermutation entries (x ∷ after)) where

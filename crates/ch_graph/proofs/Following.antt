@@ -65,7 +65,12 @@ leads-road g v c k h leaves = record {
 }
 
 -- the arc at j was followed, and with it each from j on
-pub followed-more : (g : Graph) (v : ℕ) (c : Cost) (from j : ℕ) (mid new : List (Mark Cost)) → IsLastFrom g.arcs v from (Some j) → ((u : ℕ) (d : Cost) → IsAtMost own_cost (mark mid u) d → IsAtMost own_cost (mark new u) d) → IsAtMost own_cost (mark new (road_at g.arcs j).to) (c ⊕ of_weight (road_at g.arcs j).weight) → ((k : ℕ) → from ≤ k → k < length g.arcs → (road_at g.arcs k).from ≡ v → IsAtMost own_cost (mark mid (road_at g.arcs k).to) (c ⊕ of_weight (road_at g.arcs k).weight)) → (k : ℕ) → j ≤ k → k < length g.arcs → (road_at g.arcs k).from ≡ v → IsAtMost own_cost (mark new (road_at g.arcs k).to) (c ⊕ of_weight (road_at g.arcs k).weight)
+pub followed-more : (g : Graph) (v : ℕ) (c : Cost) (from j : ℕ) (mid new : List (Mark Cost)) → IsLastFrom g.arcs v from (Some j)
+    → ((u : ℕ) (d : Cost) → IsAtMost own_cost (mark mid u) d → IsAtMost own_cost (mark new u) d)
+    → IsAtMost own_cost (mark new (road_at g.arcs j).to) (c ⊕ of_weight (road_at g.arcs j).weight)
+    → ((k : ℕ) → from ≤ k → k < length g.arcs → (road_at g.arcs k).from ≡ v
+    → IsAtMost own_cost (mark mid (road_at g.arcs k).to) (c ⊕ of_weight (road_at g.arcs k).weight)) → (k : ℕ) → j ≤ k → k < length g.arcs
+    → (road_at g.arcs k).from ≡ v → IsAtMost own_cost (mark new (road_at g.arcs k).to) (c ⊕ of_weight (road_at g.arcs k).weight)
 followed-more g v c from j mid new last kept this before k later h leaves = elim (cases_lt k from) [
   | inl below ↦ let same : j ≡ k = omega (arith, last.latest k below leaves) in subst (λ i. IsAtMost own_cost (mark new (road_at g.arcs i).to) (c ⊕ of_weight (road_at g.arcs i).weight)) same this
   | inr above ↦ kept (road_at g.arcs k).to (c ⊕ of_weight (road_at g.arcs k).weight) (before k above h leaves)

@@ -59,7 +59,9 @@ RowKept = (bound : Cost) (s : State) (v : ℕ) (put : List Shortcut) (x : ℕ) (
 
 -- the row of the contracted node keeps its arcs and gets its rank; that of a neighbour, changed, is its row afterwards
 abbrev pub RowsChange : Type 0
-RowsChange = (bound : Cost) (s : State) (v : ℕ) (put : List Shortcut) → IsPlain bound s → IsPlan bound s v put → ((r : Row) → IsRow s v r → IsRow (contracted s v put) v (record r { rank = Some (length s.order) })) × ((x : ℕ) (r q : Row) → IsAlive s x → x ≢ v → IsRow s x r → IsChanged put v x r q → IsRow (contracted s v put) x q)
+RowsChange = (bound : Cost) (s : State) (v : ℕ) (put : List Shortcut) → IsPlain bound s → IsPlan bound s v put
+    → ((r : Row) → IsRow s v r → IsRow (contracted s v put) v (record r { rank = Some (length s.order) }))
+    × ((x : ℕ) (r q : Row) → IsAlive s x → x ≢ v → IsRow s x r → IsChanged put v x r q → IsRow (contracted s v put) x q)
 
 -- the row of an alive node shows the remaining graph there
 abbrev pub RowOfAlive : Type 0

@@ -3,7 +3,7 @@ use Rattle.std.proofs.Common.{ℕ, ◌≡◌, ◌≢◌, ◌+◌, ◌<◌, ◌�
 use Rattle.std.proofs.lemmas.Bool.{cases_eq}
 use Rattle.ch_graph.specs.Hierarchy.{Hierarchy, IsWellMade}
 use Rattle.ch_query.specs.declared.side.Side.{Side}
-use Rattle.ch_query.specs.declared.upward.Step.{Step}
+use Rattle.ch_query.specs.declared.upward.UpwardStep.{UpwardStep}
 use Rattle.ch_query.specs.Climb.{foot_at, head_rank, LeadsUp}
 use Rattle.ch_query.specs.Upward.{IsLaidOut}
 use Rattle.ch_query.specs.Searching.{IsStepAt}
@@ -20,7 +20,7 @@ pub record IsAhead (h : Hierarchy) (side : Side) (first links : List ℕ) (q r p
   pub within : at < slice_index first (q + 1)
   pub head : head_rank h side (slice_index links at) ≡ r
 
-module _ (h : Hierarchy) (made : IsWellMade h) (side : Side) (first links : List ℕ) (steps : List Step) (laid : IsLaidOut h side first links steps) (q r k : ℕ) (leads : LeadsUp h side q r k) where
+module _ (h : Hierarchy) (made : IsWellMade h) (side : Side) (first links : List ℕ) (steps : List UpwardStep) (laid : IsLaidOut h side first links steps) (q r k : ℕ) (leads : LeadsUp h side q r k) where
   pub lower_in : q < length h.ranks
   lower_in = subst (λ p. p < length h.ranks) leads.foot (rank_below h made (foot_at h side k) (foot_in h made side k leads.climbs.within))
 

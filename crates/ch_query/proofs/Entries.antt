@@ -53,7 +53,9 @@ up_to-shorter m n (Some b) most up = omega (arith, most, up)
 
 -- where the greatest entry isn't up to the limit, none is
 pub none_up_to : (x : Entry ℕ) (xs : List (Entry ℕ)) (limit : Option Cost) → IsUpperBound (entry_cmp nat_cmp) x xs → (IsUpTo x.0.0 limit → ⊥) → All (λ (e : Entry ℕ). IsUpTo e.0.0 limit → ⊥) xs
-none_up_to x xs limit top never = All-weaker (λ (e : Entry ℕ). is_lt (entry_cmp nat_cmp x e) ≡ false) (λ (e : Entry ℕ). IsUpTo e.0.0 limit → ⊥) (λ e h up. never (up_to-shorter x.0.0 e.0.0 limit (first x e h).length up)) xs (All-from_recursion (λ (e : Entry ℕ). is_lt (entry_cmp nat_cmp x e) ≡ false) xs top)
+none_up_to x xs limit top never = All-weaker (λ (e : Entry ℕ). is_lt (entry_cmp nat_cmp x e) ≡ false) (λ (e : Entry ℕ). IsUpTo e.0.0 limit → ⊥)
+    (λ e h up. never (up_to-shorter x.0.0 e.0.0 limit (first x e h).length up)) xs
+    (All-from_recursion (λ (e : Entry ℕ). is_lt (entry_cmp nat_cmp x e) ≡ false) xs top)
 
 -- where no entry is up to the limit, no open node is below it
 pub front-stopped : (marks : List (Mark Label)) (entries : List (Entry ℕ)) (touched : List ℕ) (limit : Option Cost) → IsFront marks entries touched → All (λ (e : Entry ℕ). IsUpTo e.0.0 limit → ⊥) entries → IsStopped marks limit
@@ -83,7 +85,11 @@ front-touched marks entries old new front kept places = record {
 }
 
 -- a node is opened and put into the queue
-module _ (marks : List (Mark Label)) (entries new : List (Entry ℕ)) (old_touched touched : List ℕ) (r : ℕ) (e : Label) (front : IsFront marks entries old_touched) (within : r < length marks) (improves : Improves label_cost e.cost (mark marks r)) (moved : IsPermutation (entry (length_of e.cost) r ∷ entries) new) (heap : IsHeap (entry_cmp nat_cmp) new) (kept : (q : ℕ) → Contains old_touched q → Contains touched q) (places : All (λ q. q < length marks) touched) (put : mark marks r ≡ Unseen → Contains touched r) where
+module _ (marks : List (Mark Label)) (entries new : List (Entry ℕ)) (old_touched touched : List ℕ) (r : ℕ) (e : Label)
+    (front : IsFront marks entries old_touched) (within : r < length marks) (improves : Improves label_cost e.cost (mark marks r))
+    (moved : IsPermutation (entry (length_of e.cost) r ∷ entries) new) (heap : IsHeap (entry_cmp nat_cmp) new)
+    (kept : (q : ℕ) → Contains old_touched q → Contains touched q) (places : All (λ q. q < length marks) touched)
+    (put : mark marks r ≡ Unseen → Contains touched r) where
   shorter : (d : Label) (n : ℕ) → HasLabel (mark marks r) d → length_of d.cost ≤ n → length_of e.cost ≤ n
   shorter d n has most = omega (arith, most, length_of-at_most (improves-below label_cost (mark marks r) e.cost d.cost improves (at_most-from_label label_cost (mark marks r) d d.cost has (at_most_refl d.cost))))
 

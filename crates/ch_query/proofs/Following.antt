@@ -15,7 +15,7 @@ use Rattle.ch_graph.specs.Searching.Laws.{opened-none}
 use Rattle.ch_graph.specs.Searching.Laws as searching
 use Rattle.ch_query.specs.declared.label.Label.{Label}
 use Rattle.ch_query.specs.declared.side.Side.{Side}
-use Rattle.ch_query.specs.declared.upward.Step.{Step}
+use Rattle.ch_query.specs.declared.upward.UpwardStep.{UpwardStep}
 use Rattle.ch_query.specs.Labels.{CountsBelow}
 use Rattle.ch_query.specs.Climb.{foot_at, foot_rank, head_rank, cost_at, Climbs, ClimbsFrom}
 use Rattle.ch_query.specs.Upward.{IsLaidOut}
@@ -46,7 +46,7 @@ opened-one h side bound r c marks q e within improves climbs = record {
 }
 
 -- the step at a place leads on from its foot
-pub leads-step : (h : Hierarchy) (side : Side) (links : List ℕ) (steps : List Step) (place r : ℕ) (c : Cost) → IsStepAt h side links steps place
+pub leads-step : (h : Hierarchy) (side : Side) (links : List ℕ) (steps : List UpwardStep) (place r : ℕ) (c : Cost) → IsStepAt h side links steps place
     → foot_rank h side (slice_index links place) ≡ r → (head : ℕ) (sum : Cost) → head ≡ head_rank h side (slice_index links place)
     → sum ≡ c ⊕ cost_at h (slice_index links place) → LeadsTo (LinkArc h side) r c head sum
 leads-step h side links steps place r c step foot head sum at is_sum = record {
@@ -148,7 +148,7 @@ passing-more {h} {side} {bound} {r} {c} {links} {limit = limit} {new = new} next
 }
 
 -- what a rank has in the lists of a side
-module _ (h : Hierarchy) (made : IsWellMade h) (side : Side) (first links : List ℕ) (steps : List Step) (laid : IsLaidOut h side first links steps) (r : ℕ) (low : r < length h.ranks) where
+module _ (h : Hierarchy) (made : IsWellMade h) (side : Side) (first links : List ℕ) (steps : List UpwardStep) (laid : IsLaidOut h side first links steps) (r : ℕ) (low : r < length h.ranks) where
   -- all its links were followed
   pub passed_over : (bound c : Cost) (next : ℕ) → slice_index first (r + 1) ≤ next → (limit : Option Cost) (old new : List (Mark Label)) → IsPassing h side bound r c links (slice_index first r) next limit old new → ArePassed h side bound r c limit new
   passed_over bound c next whole limit old new is u d leads counts =

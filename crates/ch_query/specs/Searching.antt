@@ -12,7 +12,7 @@ use Rattle.ch_query.specs.declared.label.Label.{Label}
 use Rattle.ch_query.specs.declared.seed.Seed.{Seed}
 use Rattle.ch_query.specs.declared.side.Side.{Side}
 use Rattle.ch_query.specs.declared.side.Side.TheVariants.{Rise, Fall}
-use Rattle.ch_query.specs.declared.upward.Step.{Step}
+use Rattle.ch_query.specs.declared.upward.UpwardStep.{UpwardStep}
 use Rattle.ch_query.specs.Climb.{head_rank, cost_at, Climbs, LeadsUp}
 use Rattle.ch_query.specs.Labels.{CountsBelow, IsBest}
 use Rattle.ch_query.specs.Seeds.{AreSeeds, IsSeedAt, IsValueBetween}
@@ -63,14 +63,14 @@ pub record IsSearching (h : Hierarchy) (side : Side) (seeds : List Seed) (bound 
 -- One turn
 
 -- at a place are a link that climbs and the step along it
-pub record IsStepAt (h : Hierarchy) (side : Side) (links : List ℕ) (steps : List Step) (place : ℕ) : Type 0 where
+pub record IsStepAt (h : Hierarchy) (side : Side) (links : List ℕ) (steps : List UpwardStep) (place : ℕ) : Type 0 where
   pub link_in : place < length links
   pub step_in : place < length steps
   pub climbs : Climbs h side (slice_index links place)
-  pub along : (s : Step) → slice_index_or steps place s ≡ step_along h side (slice_index links place)
+  pub along : (s : UpwardStep) → slice_index_or steps place s ≡ step_along h side (slice_index links place)
 
 -- at a place is a step of one of the sides
-abbrev pub IsOneStepAt : Hierarchy → List ℕ → List Step → ℕ → Type 0
+abbrev pub IsOneStepAt : Hierarchy → List ℕ → List UpwardStep → ℕ → Type 0
 IsOneStepAt h links steps place = (side : Side) × IsStepAt h side links steps place
 
 -- the label e of the rank q, to which some link leads from the rank r, whose own cost is c

@@ -15,7 +15,7 @@ use std::alloc::{AllocError, Global};
 
 /// A step of a side: along a link that it climbs.
 #[derive(Clone, Copy)]
-pub struct Step {
+pub struct UpwardStep {
     /// The rank of the node that it comes to.
     pub head: u32,
     /// What the link costs, if that fits.
@@ -32,7 +32,7 @@ pub struct UpwardSteps {
     /// For each rank the place of the first step from the node of that rank, and then the number of steps.
     pub first: LinkNumbers,
     /// The steps.
-    pub steps: Vec<Step>,
+    pub steps: Vec<UpwardStep>,
     /// For each step the place of the link that it goes along.
     pub links: LinkNumbers,
 }
@@ -118,12 +118,12 @@ fn sum_up(hierarchy: &Hierarchy, side: Side, counts: &mut LinkNumbers) -> usize
 }
 
 /// The step along the first link; any step where there is no link.
-fn first_step(hierarchy: &Hierarchy, side: Side) -> Step
+fn first_step(hierarchy: &Hierarchy, side: Side) -> UpwardStep
     requires { IsWellMade hierarchy.now }
     ensures { 0 < length hierarchy.now.links → result ≡ step_along hierarchy.now side 0 }
 {
     if hierarchy.links().is_empty() {
-        return Step {
+        return UpwardStep {
             head: 0,
             cost: ShortCost::of(Cost::ZERO),
         };
@@ -132,13 +132,13 @@ fn first_step(hierarchy: &Hierarchy, side: Side) -> Step
 }
 
 /// The step along the link at a place.
-fn step_along(hierarchy: &Hierarchy, side: Side, at: usize) -> Step
+fn step_along(hierarchy: &Hierarchy, side: Side, at: usize) -> UpwardStep
     requires made { IsWellMade hierarchy.now }
     requires link_in { at < length hierarchy.now.links }
     ensures { result ≡ step_along hierarchy.now side at }
 {
     let link = link_at(hierarchy, at);
-    Step {
+    UpwardStep {
         head: hierarchy.rank(side.head(link)),
         cost: ShortCost::of(link.cost),
     }

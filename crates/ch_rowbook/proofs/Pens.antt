@@ -9,7 +9,7 @@ use Rattle.ch_laws.specs.Rows.{Row, no_arcs, row_at}
 use Rattle.boxcar.specs.Table.{Shelves, Where}
 use Rattle.atomic_table.specs.declared.shared.Seat.{Seat}
 use Rattle.ch_overlay.specs.declared.record.Record.{Record}
-use Rattle.ch_rowbook.specs.declared.words.Known.{Known}
+use Rattle.ch_rowbook.specs.declared.words.KnownWords.{KnownWords}
 use Rattle.ch_rowbook.specs.Books.{AreOf, BookName, IsOf, IsPenSeat, PenKeeps, versions_of}
 use Rattle.ch_overlay.specs.Records.{AreSoundRows, IsSoundRow}
 
@@ -24,11 +24,11 @@ version_below (t ∷ ts) zero next e less h = h t
 version_below (t ∷ ts) (suc x) next e less h = version_below ts x next e (omega (arith, less)) (λ d. h d)
 
 -- each current version is below the next
-pub current_below : (book : BookName) (seat : Seat (Unit {0}) Known) (next : ℕ) (current : List (Where Record)) (x : ℕ) → PenKeeps book seat next current → x < book.nodes
+pub current_below : (book : BookName) (seat : Seat (Unit {0}) KnownWords) (next : ℕ) (current : List (Where Record)) (x : ℕ) → PenKeeps book seat next current → x < book.nodes
     → slice_index (versions_of current) x < next
 current_below book seat next current x k less = version_below current x next 0 (subst (λ n. x < n) (sym k.count) less) (λ d. (k.tokens x d less).below)
 
-pub all_below : (book : BookName) (seat : Seat (Unit {0}) Known) (next : ℕ) (current : List (Where Record)) → PenKeeps book seat next current → All (λ v. v < next) (versions_of current)
+pub all_below : (book : BookName) (seat : Seat (Unit {0}) KnownWords) (next : ℕ) (current : List (Where Record)) → PenKeeps book seat next current → All (λ v. v < next) (versions_of current)
 all_below book seat next current k x d less =
     let within : x < length current = subst (λ n. x < n) (length-map current (λ (t : Where Record). t.index)) less in
     version_below current x next d within (λ e. (k.tokens x e (subst (λ n. x < n) k.count within)).below)
@@ -41,7 +41,7 @@ set_alike xs ys x v j in_xs in_ys same = elim (cases_eq j x) [
 ]
 
 -- a store, and the token in its node's place
-pub pen_shows : (book : BookName) (old new : Seat (Unit {0}) Known) (next : ℕ) (current : List (Where Record)) (x : ℕ) (t : Where Record) → PenKeeps book old next current → IsPenSeat book new
+pub pen_shows : (book : BookName) (old new : Seat (Unit {0}) KnownWords) (next : ℕ) (current : List (Where Record)) (x : ℕ) (t : Where Record) → PenKeeps book old next current → IsPenSeat book new
     → new.me.0.versions ≡ set old.me.0.versions x t.index → IsOf book.list next x t → x < book.nodes → PenKeeps book new next (set current x t)
 pen_shows book old new next current x t k seated stored of less =
     let versions = old.me.0.versions in

@@ -7,7 +7,7 @@ use Rattle.ch_cost.specs.declared.cost.Cost.{Cost}
 use Rattle.ch_cost.specs.Cost.{zero_cost}
 use Rattle.ch_laws.specs.Rows.{Row}
 use Rattle.ch_overlay.specs.Source.{IsBound}
-use Rattle.ch_rowbook.specs.declared.words.Known.{Known}
+use Rattle.ch_rowbook.specs.declared.words.KnownWords.{KnownWords}
 use Rattle.ch_overlay.specs.declared.record.Record.{Record}
 use Rattle.ch_overlay.specs.declared.source.Seen.{Seen}
 use Rattle.ch_overlay.specs.Records.{Bears, recorded_row}
@@ -60,7 +60,7 @@ abbrev pub AreOf : Shelves → ℕ → ℕ → List (Where Record) → Type 0
 AreOf list next nodes tokens = (x : ℕ) (d : Where Record) → x < nodes → IsOf list next x (slice_index_or tokens x d)
 
 -- the pen's seat is the first, and knows each word
-pub record IsPenSeat (book : BookName) (seat : Seat (Unit {0}) Known) : Type 0 where
+pub record IsPenSeat (book : BookName) (seat : Seat (Unit {0}) KnownWords) : Type 0 where
   pub table : seat.table_id ≡ book.words
   pub first : seat.id ≡ 0
   pub knows : seat.me ≡ (pen_with seat.me.0.versions, [])
@@ -68,14 +68,14 @@ pub record IsPenSeat (book : BookName) (seat : Seat (Unit {0}) Known) : Type 0 w
   pub limit : IsBound book.bound
 
 -- a reader's seat knows a front
-pub record IsReaderSeat (book : BookName) (seat : Seat (Unit {0}) Known) : Type 0 where
+pub record IsReaderSeat (book : BookName) (seat : Seat (Unit {0}) KnownWords) : Type 0 where
   pub table : seat.table_id ≡ book.words
   pub knows : seat.me ≡ (reader_with seat.me.0.versions, [])
   pub wide : length seat.me.0.versions ≡ width book.nodes
   pub limit : IsBound book.bound
 
 -- A pen knows each word, and its tokens are of the nodes' current records.
-pub record PenKeeps (book : BookName) (seat : Seat (Unit {0}) Known) (next : ℕ) (current : List (Where Record)) : Type 0 where
+pub record PenKeeps (book : BookName) (seat : Seat (Unit {0}) KnownWords) (next : ℕ) (current : List (Where Record)) : Type 0 where
   pub seated : IsPenSeat book seat
   pub count : length current ≡ book.nodes
   pub words : (x : ℕ) → x < book.nodes → slice_index seat.me.0.versions x ≡ slice_index (versions_of current) x

@@ -3,18 +3,18 @@ use Rattle.std.specs.Prelude.{ℕ, ◌≡◌, ◌≤◌, max, true, false, List,
 use mathlib.Core.Option.{some}
 use lib.ListN.{get_elem?}
 use Rattle.atomic_table.specs.Table.{State, Me, Step}
-use Rattle.ch_rowbook.specs.declared.words.Known.{Known}
+use Rattle.ch_rowbook.specs.declared.words.KnownWords.{KnownWords}
 
 -- the pen knows the words as they are, and was told a front
-abbrev pub hearing : List ℕ → List ℕ → Known
+abbrev pub hearing : List ℕ → List ℕ → KnownWords
 hearing versions heard = record { is_pen = true; versions = versions; heard = heard }
 
 -- the pen knows the words as they are
-abbrev pub pen_with : List ℕ → Known
+abbrev pub pen_with : List ℕ → KnownWords
 pen_with versions = hearing versions []
 
 -- a reader knows a front
-abbrev pub reader_with : List ℕ → Known
+abbrev pub reader_with : List ℕ → KnownWords
 reader_with versions = record { is_pen = false; versions = versions; heard = [] }
 
 -- a book of no node has one word, which is no node's
@@ -36,20 +36,20 @@ greater (x ∷ xs) (y ∷ ys) = max x y ∷ greater xs ys
 
 -- The rule: there are so many words, the first seat alone is the pen's, who knows each word, and no front is above its
 -- word, nor one that the pen was told. A front that was joined into another is empty.
-pub record Keeps (words : ℕ) (s : State (Unit {0}) Known) : Type 0 where
+pub record Keeps (words : ℕ) (s : State (Unit {0}) KnownWords) : Type 0 where
   pub wide : length s.words ≡ words
-  pub pens : (id : ℕ) (v : Known) → get_elem? s.views id ≡ some v → v.is_pen ≡ true → (id ≡ 0) × (v.versions ≡ s.words)
-  pub below : (id : ℕ) (v : Known) → get_elem? s.views id ≡ some v → IsBelow v.versions s.words
-  pub told : (id : ℕ) (v : Known) → get_elem? s.views id ≡ some v → IsBelow v.heard s.words
+  pub pens : (id : ℕ) (v : KnownWords) → get_elem? s.views id ≡ some v → v.is_pen ≡ true → (id ≡ 0) × (v.versions ≡ s.words)
+  pub below : (id : ℕ) (v : KnownWords) → get_elem? s.views id ≡ some v → IsBelow v.versions s.words
+  pub told : (id : ℕ) (v : KnownWords) → get_elem? s.views id ≡ some v → IsBelow v.heard s.words
 
 -- a reader's load: what it finds isn't below its front there, and becomes the front
-abbrev pub IsLoad : Step (Unit {0}) → Me (Unit {0}) Known → ℕ → Me (Unit {0}) Known → Type 0
+abbrev pub IsLoad : Step (Unit {0}) → Me (Unit {0}) KnownWords → ℕ → Me (Unit {0}) KnownWords → Type 0
 IsLoad s me found after = (slice_index me.0.versions s.word ≤ found) × (after ≡ (reader_with (slice_set me.0.versions s.word found), me.1))
 
 -- the pen's load: the front that it was told is nowhere above the words, and it forgets that front
-abbrev pub IsCompare : Step (Unit {0}) → Me (Unit {0}) Known → ℕ → Me (Unit {0}) Known → Type 0
+abbrev pub IsCompare : Step (Unit {0}) → Me (Unit {0}) KnownWords → ℕ → Me (Unit {0}) KnownWords → Type 0
 IsCompare s me found after = IsBelow me.0.heard me.0.versions × (after ≡ (pen_with me.0.versions, me.1))
 
 -- the pen's store: it knows the word that it stored
-abbrev pub IsStore : Step (Unit {0}) → Me (Unit {0}) Known → ℕ → Me (Unit {0}) Known → Type 0
+abbrev pub IsStore : Step (Unit {0}) → Me (Unit {0}) KnownWords → ℕ → Me (Unit {0}) KnownWords → Type 0
 IsStore s me found after = after ≡ (pen_with (slice_set me.0.versions s.word s.first), me.1)

@@ -3,7 +3,7 @@ ghost use Rattle.ch_overlay.specs.Records.{mark_of};
 ghost use Rattle.ch_rowbook.specs.Words.{no_versions, pen_with, width};
 
 use crate::marking::Bounds;
-use crate::words::{Known, Versions};
+use crate::words::{KnownWords, Versions};
 use atomic_table::{Seat, Table};
 use boxcar::tag::Tag;
 use ch_cost::Cost;
@@ -11,7 +11,7 @@ use ch_overlay::{Record, SoundRows};
 use std::alloc::{AllocError, Global};
 
 /// The words of a book, which no slot stands beside.
-pub(crate) type Words = Table<(), Known, usize, Versions, Global>;
+pub(crate) type Words = Table<(), KnownWords, usize, Versions, Global>;
 
 /// The records of a book, first to last.
 pub(crate) type Records = boxcar::Vec<Record, Global, SoundRows>;
@@ -21,7 +21,7 @@ pub(crate) type Records = boxcar::Vec<Record, Global, SoundRows>;
 pub struct Blank {
     pub(crate) list: Records,
     pub(crate) table: Words,
-    pub(crate) seat: Seat<(), Known>,
+    pub(crate) seat: Seat<(), KnownWords>,
     pub(crate) nodes: u32,
     pub(crate) bound: Cost,
     ghost mark: { list.tag ≡ mark_of bound },

@@ -42,4 +42,4 @@ pub use laid::Laid;
 pub use opening::open;
 pub use pen::Pen;
 pub use reader::Reader;
-pub use words::{Known, Versions};
+pub use words::{KnownWords, Versions};

@@ -13,7 +13,7 @@ use crate::error::BookError;
 use crate::pen::Pen;
 use crate::reader::Reader;
 use crate::shelf::Shelf;
-use crate::words::Known;
+use crate::words::KnownWords;
 use atomic_table::Seat;
 use ch_overlay::{Row, Token};
 use std::alloc::Global;
@@ -52,7 +52,7 @@ fn lay_rows<B: Book, R: Wait>(
 }
 
 /// Stores the first versions.
-fn show_rows<B: Book>(shelf: &Shelf<B>, seat: &mut Seat<(), Known>, current: &[Token])
+fn show_rows<B: Book>(shelf: &Shelf<B>, seat: &mut Seat<(), KnownWords>, current: &[Token])
     requires seat { IsPenSeat B.book seat.old }
     requires zeros { seat.old.me.0.versions ≡ no_versions (width B.book.nodes) }
     requires count { length current.now ≡ B.book.nodes }

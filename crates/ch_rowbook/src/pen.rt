@@ -12,7 +12,7 @@ use crate::error::BookError;
 use crate::laid::Laid;
 use crate::reader::Reader;
 use crate::shelf::Shelf;
-use crate::words::Known;
+use crate::words::KnownWords;
 use atomic_table::Seat;
 use ch_overlay::{Row, Seen, Token};
 use std::alloc::{AllocError, Global};
@@ -25,7 +25,7 @@ use std::sync::{Arc, Wait};
 #[derive(Drop)]
 pub struct Pen<B: Book> {
     pub(crate) shelf: Arc<Shelf<B>>,
-    pub(crate) seat: Seat<(), Known>,
+    pub(crate) seat: Seat<(), KnownWords>,
     next: u64,
     current: Vec<Token>,
 }
@@ -44,7 +44,7 @@ impl<B: Book> Pen<B> {
     /// A pen of this seat, whose nodes have these records.
     pub(crate) fn seated(
         shelf: Arc<Shelf<B>>,
-        seat: Seat<(), Known>,
+        seat: Seat<(), KnownWords>,
         next: u64,
         current: Vec<Token>,
     ) -> Pen<B>

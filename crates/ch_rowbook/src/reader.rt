@@ -6,7 +6,7 @@ ghost use Rattle.ch_rowbook.specs.Books.{IsOfBook, IsReaderSeat};
 
 use crate::book::Book;
 use crate::shelf::Shelf;
-use crate::words::Known;
+use crate::words::KnownWords;
 use atomic_table::Seat;
 use ch_cost::Cost;
 use ch_overlay::{RowSource, SeeError, Seen};
@@ -20,7 +20,7 @@ use std::sync::Arc;
 #[derive(Drop)]
 pub struct Reader<B: Book> {
     shelf: Arc<Shelf<B>>,
-    pub(crate) seat: Seat<(), Known>,
+    pub(crate) seat: Seat<(), KnownWords>,
 }
 
 impl<B: Book> Model for Reader<B> {
@@ -36,7 +36,7 @@ impl<B: Book> Model for Reader<B> {
 
 impl<B: Book> Reader<B> {
     /// A reader of this seat.
-    pub(crate) fn seated(shelf: Arc<Shelf<B>>, seat: Seat<(), Known>) -> Reader<B>
+    pub(crate) fn seated(shelf: Arc<Shelf<B>>, seat: Seat<(), KnownWords>) -> Reader<B>
         requires { IsReaderSeat B.book seat }
         ensures { result ≡ seat.me.0.versions }
     {

@@ -10,7 +10,7 @@ ghost use Rattle.ch_rowbook.specs.Words.{IsBelow, greater, width};
 use crate::blank::{Records, Words};
 use crate::book::Book;
 use crate::error::BookError;
-use crate::words::{Compares, Hears, Known, Loads, Meets, Parts, Stores};
+use crate::words::{Compares, Hears, KnownWords, Loads, Merges, SplitsOff, Stores};
 use atomic_table::Seat;
 use ch_cost::Cost;
 use ch_overlay::{Record, Row, SeeError, Seen, Token};
@@ -36,7 +36,7 @@ pub(crate) struct Shelf<B: Book> {
 
 impl<B: Book> Shelf<B> {
     /// A reader's load of a node's word.
-    pub(crate) fn load(&self, seat: &mut Seat<(), Known>, node: u32) -> u64
+    pub(crate) fn load(&self, seat: &mut Seat<(), KnownWords>, node: u32) -> u64
         requires seat { IsReaderSeat B.book seat.old }
         requires within { node < B.book.nodes }
         ensures seat { IsReaderSeat B.book seat.new }
@@ -47,7 +47,7 @@ impl<B: Book> Shelf<B> {
     }
 
     /// The pen's store of a node's word.
-    pub(crate) fn store(&self, seat: &mut Seat<(), Known>, node: u32, version: u64)
+    pub(crate) fn store(&self, seat: &mut Seat<(), KnownWords>, node: u32, version: u64)
         requires seat { IsPenSeat B.book seat.old }
         requires within { node < B.book.nodes }
         requires above { slice_index seat.old.me.0.versions node ≤ version }
@@ -60,39 +60,39 @@ impl<B: Book> Shelf<B> {
     }
 
     /// A reader's seat, split off a reader's.
-    pub(crate) fn part(&self, seat: &mut Seat<(), Known>) -> Seat<(), Known>
+    pub(crate) fn part(&self, seat: &mut Seat<(), KnownWords>) -> Seat<(), KnownWords>
         requires seat { IsReaderSeat B.book seat.old }
         ensures seat { IsReaderSeat B.book seat.new }
         ensures same { seat.new.me.0.versions ≡ seat.old.me.0.versions }
         ensures part { IsReaderSeat B.book result }
         ensures front { result.me.0.versions ≡ seat.old.me.0.versions }
     {
-        self.table.shared.split_seat::<Parts>(seat)
+        self.table.shared.split_seat::<SplitsOff>(seat)
     }
 
     /// A reader's seat, split off the pen's.
-    pub(crate) fn part_of_pen(&self, seat: &mut Seat<(), Known>) -> Seat<(), Known>
+    pub(crate) fn part_of_pen(&self, seat: &mut Seat<(), KnownWords>) -> Seat<(), KnownWords>
         requires seat { IsPenSeat B.book seat.old }
         ensures seat { IsPenSeat B.book seat.new }
         ensures same { seat.new.me.0.versions ≡ seat.old.me.0.versions }
         ensures part { IsReaderSeat B.book result }
         ensures front { result.me.0.versions ≡ seat.old.me.0.versions }
     {
-        self.table.shared.split_seat::<Parts>(seat)
+        self.table.shared.split_seat::<SplitsOff>(seat)
     }
 
     /// Joins a reader's seat into another.
-    pub(crate) fn meet(&self, seat: &mut Seat<(), Known>, other: Seat<(), Known>)
+    pub(crate) fn meet(&self, seat: &mut Seat<(), KnownWords>, other: Seat<(), KnownWords>)
         requires seat { IsReaderSeat B.book seat.old }
         requires other { IsReaderSeat B.book other }
         ensures seat { IsReaderSeat B.book seat.new }
         ensures front { seat.new.me.0.versions ≡ greater seat.old.me.0.versions other.me.0.versions }
     {
-        self.table.shared.join_seat::<Meets>(seat, other);
+        self.table.shared.join_seat::<Merges>(seat, other);
     }
 
     /// Joins a reader's seat into the pen's: its front is nowhere above the words, as a load shows the pen.
-    pub(crate) fn hear(&self, seat: &mut Seat<(), Known>, other: Seat<(), Known>)
+    pub(crate) fn hear(&self, seat: &mut Seat<(), KnownWords>, other: Seat<(), KnownWords>)
         requires seat { IsPenSeat B.book seat.old }
         requires other { IsReaderSeat B.book other }
         ensures seat { IsPenSeat B.book seat.new }

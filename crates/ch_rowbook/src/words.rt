@@ -5,7 +5,7 @@ use atomic_table::{Join, Play, Split, TableRule};
 use std::collections::LinkedList;
 
 /// What the holder of a seat knows of the words. No value of it is made.
-pub struct Known {
+pub struct KnownWords {
     /// Whether it is the pen.
     pub is_pen: bool,
     /// The pen: each node's word. A reader: its front.
@@ -17,7 +17,7 @@ pub struct Known {
 /// The rule of the words, of which there are so many.
 pub struct Versions;
 
-impl TableRule<(), Known, usize> for Versions {
+impl TableRule<(), KnownWords, usize> for Versions {
     ghost holds = { Keeps };
 
     ghost first = { λ words. pen_with (no_versions words) };
@@ -26,37 +26,37 @@ impl TableRule<(), Known, usize> for Versions {
 /// A reader's load of a word.
 pub struct Loads;
 
-impl Play<(), Known> for Loads {
+impl Play<(), KnownWords> for Loads {
     ghost then = { IsLoad };
 }
 
 /// The pen's store of a word.
 pub struct Stores;
 
-impl Play<(), Known> for Stores {
+impl Play<(), KnownWords> for Stores {
     ghost then = { IsStore };
 }
 
 /// The pen's load of a word, by which it compares the front that it was told with the words.
 pub struct Compares;
 
-impl Play<(), Known> for Compares {
+impl Play<(), KnownWords> for Compares {
     ghost then = { IsCompare };
 }
 
 /// A reader is split off, with the same front.
-pub struct Parts;
+pub struct SplitsOff;
 
-impl Split<Known> for Parts {
+impl Split<KnownWords> for SplitsOff {
     ghost left = { λ v. v };
 
     ghost right = { λ v. reader_with v.versions };
 }
 
 /// A reader is joined into another, whose front becomes the greater at each node.
-pub struct Meets;
+pub struct Merges;
 
-impl Join<Known> for Meets {
+impl Join<KnownWords> for Merges {
     ghost use Rattle.std.specs.Prelude.{[]};
 
     ghost both = { λ v w. reader_with (greater v.versions w.versions) };
@@ -67,7 +67,7 @@ impl Join<Known> for Meets {
 /// A reader is joined into the pen, which is told its front.
 pub struct Hears;
 
-impl Join<Known> for Hears {
+impl Join<KnownWords> for Hears {
     ghost use Rattle.std.specs.Prelude.{[]};
 
     ghost both = { λ v w. hearing v.versions w.versions };

@@ -151,13 +151,17 @@ module _ (IsLength : ℕ → ℕ → Option ℕ → Type 0) where
   }
 
 -- the next stop, and the next start
-pub stop_step : (h now : Hierarchy) (start : Place) (stops : List Place) (i : ℕ) (d : Place) (best other next : Option Way) → i < length stops → now ≡ h → IsBest (IsLengthBy h) (start ∷ []) (take i stops) best → IsBest (IsLengthBy now) (start ∷ []) (get_or stops i d ∷ []) other → next ≡ shorter best other → IsBest (IsLengthBy h) (start ∷ []) (take (i + 1) stops) next
+pub stop_step : (h now : Hierarchy) (start : Place) (stops : List Place) (i : ℕ) (d : Place) (best other next : Option Way) → i < length stops
+    → now ≡ h → IsBest (IsLengthBy h) (start ∷ []) (take i stops) best → IsBest (IsLengthBy now) (start ∷ []) (get_or stops i d ∷ []) other
+    → next ≡ shorter best other → IsBest (IsLengthBy h) (start ∷ []) (take (i + 1) stops) next
 stop_step h now start stops i d best other next within same so_far more is =
     let here : IsBest (IsLengthBy h) (start ∷ []) (get_or stops i d ∷ []) other = subst (λ (k : Hierarchy). IsBest (IsLengthBy k) (start ∷ []) (get_or stops i d ∷ []) other) same more in
     let both = stop_more (IsLengthBy h) (start ∷ []) (take i stops) (get_or stops i d) best other so_far here in
     subst (λ (ps : List Place). IsBest (IsLengthBy h) (start ∷ []) ps next) (sym (take_more stops i d within)) (subst (λ (o : Option Way). IsBest (IsLengthBy h) (start ∷ []) (take i stops ++ get_or stops i d ∷ []) o) (sym is) both)
 
-pub start_step : (h now : Hierarchy) (starts stops : List Place) (i : ℕ) (d : Place) (best other next : Option Way) → i < length starts → now ≡ h → IsBest (IsLengthBy h) (take i starts) stops best → IsBest (IsLengthBy now) (get_or starts i d ∷ []) stops other → next ≡ shorter best other → IsBest (IsLengthBy h) (take (i + 1) starts) stops next
+pub start_step : (h now : Hierarchy) (starts stops : List Place) (i : ℕ) (d : Place) (best other next : Option Way) → i < length starts → now ≡ h
+    → IsBest (IsLengthBy h) (take i starts) stops best → IsBest (IsLengthBy now) (get_or starts i d ∷ []) stops other → next ≡ shorter best other
+    → IsBest (IsLengthBy h) (take (i + 1) starts) stops next
 start_step h now starts stops i d best other next within same so_far more is =
     let here : IsBest (IsLengthBy h) (get_or starts i d ∷ []) stops other = subst (λ (k : Hierarchy). IsBest (IsLengthBy k) (get_or starts i d ∷ []) stops other) same more in
     let both = start_more (IsLengthBy h) (take i starts) stops (get_or starts i d) best other so_far here in

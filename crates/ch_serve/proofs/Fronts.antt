@@ -23,13 +23,17 @@ use Rattle.ch_serve.proofs.Served.{read_all}
 abbrev pub ReadsAll : List ℕ → Hierarchy → Option (List ℕ) → Option (List ℕ) → Option (List ℕ) → Option (List ℕ) → Type 0
 ReadsAll lines h had left old new = (read : List ℕ) × Consumes had left read × IsAtEnd left × Writes (AreServed lines (by_hierarchy h) (requests_of (length h.ranks) read)) old new
 
-pub by_front : {E : Type 0} (r : Result ⊤ E) (front lines : List ℕ) (h now : Hierarchy) (had left old new : Option (List ℕ)) → lines ≡ front → now ≡ h → OnOk r (ReadsAll lines now had left old new) → OnOk r (IfSome had (λ text. Writes (AreServed front (by_hierarchy h) (requests_of (length h.ranks) text)) old new))
+pub by_front : {E : Type 0} (r : Result ⊤ E) (front lines : List ℕ) (h now : Hierarchy) (had left old new : Option (List ℕ)) → lines ≡ front → now ≡ h
+    → OnOk r (ReadsAll lines now had left old new)
+    → OnOk r (IfSome had (λ text. Writes (AreServed front (by_hierarchy h) (requests_of (length h.ranks) text)) old new))
 by_front r front lines h now had left old new same is served =
     let here : OnOk r (ReadsAll front now had left old new) = subst (λ (l : List ℕ). OnOk r (ReadsAll l now had left old new)) same served in
     let there : OnOk r (ReadsAll front h had left old new) = subst (λ (k : Hierarchy). OnOk r (ReadsAll front k had left old new)) is here in
     read_all r (λ (text : List ℕ). Writes (AreServed front (by_hierarchy h) (requests_of (length h.ranks) text)) old new) had left there
 
-pub stops_front : (r : Result ⊤ ServeError) (front lines : List ℕ) (h now : Hierarchy) (had left old new : Option (List ℕ)) → lines ≡ front → now ≡ h → IfErr r (StopsServing (λ count read. AreServed lines (by_hierarchy now) (take count (requests_of (length now.ranks) read))) had left old new) → IfErr r (StopsServing (λ count read. AreServed front (by_hierarchy h) (take count (requests_of (length h.ranks) read))) had left old new)
+pub stops_front : (r : Result ⊤ ServeError) (front lines : List ℕ) (h now : Hierarchy) (had left old new : Option (List ℕ)) → lines ≡ front → now ≡ h
+    → IfErr r (StopsServing (λ count read. AreServed lines (by_hierarchy now) (take count (requests_of (length now.ranks) read))) had left old new)
+    → IfErr r (StopsServing (λ count read. AreServed front (by_hierarchy h) (take count (requests_of (length h.ranks) read))) had left old new)
 stops_front r front lines h now had left old new same is served =
     let here = subst (λ (l : List ℕ). IfErr r (StopsServing (λ count read. AreServed l (by_hierarchy now) (take count (requests_of (length now.ranks) read))) had left old new)) same served in
     subst (λ (k : Hierarchy). IfErr r (StopsServing (λ count read. AreServed front (by_hierarchy k) (take count (requests_of (length k.ranks) read))) had left old new)) is here
@@ -40,7 +44,9 @@ pub spelled : (hier : Option (List ℕ)) (h : Hierarchy) → IsWellMade h → If
 spelled None h made is = tt
 spelled (Some bytes) h made is = record { made = made; spelled = is }
 
-pub serves_told : {E : Type 0} (r : Result ⊤ E) (hier requests old new : Option (List ℕ)) (h : Hierarchy) → IfSome hier (λ bytes. Spells bytes h) → OnOk r (IfSome requests (λ text. Writes (AreServed (ready h) (by_hierarchy h) (requests_of (length h.ranks) text)) old new)) → OnOk r (IfTold hier requests (λ bytes text. Writes (Serves bytes text) old new))
+pub serves_told : {E : Type 0} (r : Result ⊤ E) (hier requests old new : Option (List ℕ)) (h : Hierarchy) → IfSome hier (λ bytes. Spells bytes h)
+    → OnOk r (IfSome requests (λ text. Writes (AreServed (ready h) (by_hierarchy h) (requests_of (length h.ranks) text)) old new))
+    → OnOk r (IfTold hier requests (λ bytes text. Writes (Serves bytes text) old new))
 serves_told (Err e) hier requests old new h spells w = tt
 serves_told (Ok x) None requests old new h spells w = tt
 serves_told (Ok x) (Some bytes) None old new h spells w = tt
@@ -59,7 +65,9 @@ stops_by_file bytes had left old new h stops.OutOfMemory spells s = s
 stops_by_file bytes had left old new h stops.Read spells s = (s.0, s.1, (s.2.0, record { hierarchy = h; spells = spells; served = s.2.1 }, s.2.2))
 stops_by_file bytes had left old new h (stops.Write fault) spells s = (s.0, s.1, (s.2.0, (s.2.1.0, record { hierarchy = h; spells = spells; served = s.2.1.1 }, s.2.1.2, s.2.1.3)))
 
-pub stops_told : (r : Result ⊤ ServeError) (hier had left old new : Option (List ℕ)) (h : Hierarchy) → IfSome hier (λ bytes. Spells bytes h) → IfErr r (StopsServing (ServedFirst h) had left old new) → IfErr r (λ e. IfSome hier (λ bytes. StopsServing (λ count. ServesFirst count bytes) had left old new e))
+pub stops_told : (r : Result ⊤ ServeError) (hier had left old new : Option (List ℕ)) (h : Hierarchy) → IfSome hier (λ bytes. Spells bytes h)
+    → IfErr r (StopsServing (ServedFirst h) had left old new) → IfErr r
+    (λ e. IfSome hier (λ bytes. StopsServing (λ count. ServesFirst count bytes) had left old new e))
 stops_told (Ok x) hier had left old new h spells s = tt
 stops_told (Err e) None had left old new h spells s = tt
 stops_told (Err e) (Some bytes) had left old new h spells s = stops_by_file bytes had left old new h e spells s

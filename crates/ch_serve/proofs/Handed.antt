@@ -63,7 +63,9 @@ module _ (told : Told) where
     handed = subst (λ (l : List ℕ). HandsOn old old l lines from from) (sym (append-nil lines)) (hands_none old lines from);
   }
 
-  pub replies_one : {request : Request} {old new : Option (List ℕ)} {lines rest : List ℕ} {from to : ℕ} (before after : List ℕ → List Request) → ((more : List ℕ) → before more ≡ request ∷ after more) → RepliesOnce told request old new lines rest from to → Replies told 1 before after old new lines rest from to
+  pub replies_one : {request : Request} {old new : Option (List ℕ)} {lines rest : List ℕ} {from to : ℕ} (before after : List ℕ → List Request)
+      → ((more : List ℕ) → before more ≡ request ∷ after more) → RepliesOnce told request old new lines rest from to
+      → Replies told 1 before after old new lines rest from to
   replies_one {request} before after cuts once = record {
     asked = request ∷ [];
     cuts = cuts;
@@ -83,7 +85,9 @@ module _ (told : Told) where
   }
 
   -- first some, and then more
-  pub replies_then : {ended more_ended : ℕ} {before mid_asks after : List ℕ → List Request} {old mid new : Option (List ℕ)} {lines rest last : List ℕ} {from at to : ℕ} → Replies told ended before mid_asks old mid lines rest from at → Replies told more_ended mid_asks after mid new rest last at to → Replies told (ended + more_ended) before after old new lines last from to
+  pub replies_then : {ended more_ended : ℕ} {before mid_asks after : List ℕ → List Request} {old mid new : Option (List ℕ)} {lines rest last : List ℕ}
+      {from at to : ℕ} → Replies told ended before mid_asks old mid lines rest from at
+      → Replies told more_ended mid_asks after mid new rest last at to → Replies told (ended + more_ended) before after old new lines last from to
   replies_then {ended} {more_ended} {before} {mid_asks} {after} {old} {mid} {new} {lines} {rest} {last} {from} {at} {to} h k = record {
     asked = h.asked ++ k.asked;
     cuts = λ more. h.cuts more ∙ ap (λ (l : List Request). h.asked ++ l) (k.cuts more) ∙ sym (append_assoc h.asked k.asked (after more));
@@ -103,14 +107,18 @@ module _ (told : Told) where
   }
 
   -- and then the lines go to the writer
-  pub replies_hand : {ended : ℕ} {before after : List ℕ → List Request} {old mid new : Option (List ℕ)} {lines rest last : List ℕ} {from at to : ℕ} → Replies told ended before after old mid lines rest from at → HandsOn mid new rest last at to → Replies told ended before after old new lines last from to
+  pub replies_hand : {ended : ℕ} {before after : List ℕ → List Request} {old mid new : Option (List ℕ)} {lines rest last : List ℕ} {from at to : ℕ}
+      → Replies told ended before after old mid lines rest from at → HandsOn mid new rest last at to
+      → Replies told ended before after old new lines last from to
   replies_hand h k = record { asked = h.asked; cuts = h.cuts; many = h.many; text = h.text; replied = h.replied; handed = hands_join h.handed k }
 
   pub breaks_hand : {ended : ℕ} {before after : List ℕ → List Request} {old mid new : Option (List ℕ)} {lines rest : List ℕ} {from at to : ℕ} → Replies told ended before after old mid lines rest from at → HandsOnPart mid new rest at to → Breaks told before old new lines from to
   breaks_hand {after = after} h k = record { asked = h.asked; cuts = λ more. (after more, h.cuts more); text = h.text; replied = h.replied; handed = part_join h.handed k }
 
   -- the same of requests that are told in another way
-  pub replies_as : {ended : ℕ} {asks before after : List ℕ → List Request} {old new : Option (List ℕ)} {lines rest : List ℕ} {from to : ℕ} (count : ℕ) (last : List ℕ → List Request) → ended ≡ count → ((more : List ℕ) → before more ≡ asks more) → ((more : List ℕ) → after more ≡ last more) → Replies told ended asks after old new lines rest from to → Replies told count before last old new lines rest from to
+  pub replies_as : {ended : ℕ} {asks before after : List ℕ → List Request} {old new : Option (List ℕ)} {lines rest : List ℕ} {from to : ℕ} (count : ℕ)
+      (last : List ℕ → List Request) → ended ≡ count → ((more : List ℕ) → before more ≡ asks more) → ((more : List ℕ) → after more ≡ last more)
+      → Replies told ended asks after old new lines rest from to → Replies told count before last old new lines rest from to
   replies_as count last same first then_same h = record {
     asked = h.asked;
     cuts = λ more. first more ∙ h.cuts more ∙ ap (λ (l : List Request). h.asked ++ l) (then_same more);
@@ -159,27 +167,38 @@ module _ (told : Told) where
     replies = replies_none told asks asks old lines from (λ more. refl);
   }
 
-  pub shifted : {ended : ℕ} {asks next : List ℕ → List Request} {old new : Option (List ℕ)} {lines rest : List ℕ} {from to : ℕ} (front : List ℕ) → Replies told ended asks next old new lines rest from to → Replies told ended (λ more. asks (front ++ more)) (λ more. next (front ++ more)) old new lines rest from to
+  pub shifted : {ended : ℕ} {asks next : List ℕ → List Request} {old new : Option (List ℕ)} {lines rest : List ℕ} {from to : ℕ} (front : List ℕ)
+      → Replies told ended asks next old new lines rest from to → Replies told ended (λ more. asks (front ++ more))
+      (λ more. next (front ++ more)) old new lines rest from to
   shifted front r = record { asked = r.asked; cuts = λ more. r.cuts (front ++ more); many = r.many; text = r.text; replied = r.replied; handed = r.handed }
 
-  pub to_then : {had mid_left left : Option (List ℕ)} {before mid_asks after : List ℕ → List Request} {old mid new : Option (List ℕ)} {lines rest last : List ℕ} {from at to : ℕ} → RepliesTo told had mid_left before mid_asks old mid lines rest from at → RepliesTo told mid_left left mid_asks after mid new rest last at to → RepliesTo told had left before after old new lines last from to
+  pub to_then : {had mid_left left : Option (List ℕ)} {before mid_asks after : List ℕ → List Request} {old mid new : Option (List ℕ)}
+      {lines rest last : List ℕ} {from at to : ℕ} → RepliesTo told had mid_left before mid_asks old mid lines rest from at
+      → RepliesTo told mid_left left mid_asks after mid new rest last at to → RepliesTo told had left before after old new lines last from to
   to_then {had} {mid_left} {left} {before} {mid_asks} {after} h k = record {
     bytes = h.bytes ++ k.bytes;
     consumed = consumes_then had mid_left left h.bytes k.bytes h.consumed k.consumed;
     replies = replies_as told (line_feeds (h.bytes ++ k.bytes)) after (sym (feeds_both h.bytes k.bytes)) (λ more. ap before (append_assoc h.bytes k.bytes more)) (λ more. refl) (replies_then told (shifted k.bytes h.replies) k.replies);
   }
 
-  pub breaks_in_then : {had mid_left left : Option (List ℕ)} {before mid_asks : List ℕ → List Request} {old mid new : Option (List ℕ)} {lines rest : List ℕ} {from at to : ℕ} → RepliesTo told had mid_left before mid_asks old mid lines rest from at → BreaksIn told mid_left left mid_asks mid new rest at to → BreaksIn told had left before old new lines from to
+  pub breaks_in_then : {had mid_left left : Option (List ℕ)} {before mid_asks : List ℕ → List Request} {old mid new : Option (List ℕ)}
+      {lines rest : List ℕ} {from at to : ℕ} → RepliesTo told had mid_left before mid_asks old mid lines rest from at
+      → BreaksIn told mid_left left mid_asks mid new rest at to → BreaksIn told had left before old new lines from to
   breaks_in_then {had} {mid_left} {left} {before} {mid_asks} h k = record {
     bytes = h.bytes ++ k.bytes;
     consumed = consumes_then had mid_left left h.bytes k.bytes h.consumed k.consumed;
     breaks = breaks_as told (λ more. ap before (append_assoc h.bytes k.bytes more)) (breaks_then told (shifted k.bytes h.replies) k.breaks);
   }
 
-  pub read_then : {had mid_left left : Option (List ℕ)} {before mid_asks : List ℕ → List Request} {old mid new : Option (List ℕ)} {lines rest : List ℕ} {from at : ℕ} → RepliesTo told had mid_left before mid_asks old mid lines rest from at → StopsAtRead told mid_left left mid_asks mid new rest at → StopsAtRead told had left before old new lines from
+  pub read_then : {had mid_left left : Option (List ℕ)} {before mid_asks : List ℕ → List Request} {old mid new : Option (List ℕ)}
+      {lines rest : List ℕ} {from at : ℕ} → RepliesTo told had mid_left before mid_asks old mid lines rest from at
+      → StopsAtRead told mid_left left mid_asks mid new rest at → StopsAtRead told had left before old new lines from
   read_then h k = record { after = k.after; to = k.to; served = to_then h k.served }
 
-  pub stops_then : {had mid_left : Option (List ℕ)} (left : Option (List ℕ)) {before mid_asks : List ℕ → List Request} {old mid : Option (List ℕ)} (new : Option (List ℕ)) {lines rest : List ℕ} {from at : ℕ} (e : ServeError) → RepliesTo told had mid_left before mid_asks old mid lines rest from at → StopsReplying told mid_left left mid_asks mid new rest at e → StopsReplying told had left before old new lines from e
+  pub stops_then : {had mid_left : Option (List ℕ)} (left : Option (List ℕ)) {before mid_asks : List ℕ → List Request} {old mid : Option (List ℕ)}
+      (new : Option (List ℕ)) {lines rest : List ℕ} {from at : ℕ} (e : ServeError)
+      → RepliesTo told had mid_left before mid_asks old mid lines rest from at → StopsReplying told mid_left left mid_asks mid new rest at e
+      → StopsReplying told had left before old new lines from e
   stops_then left new (stops.Hierarchy e) h k = absurd k
   stops_then left new stops.OutOfMemory h k = absurd k
   stops_then left new stops.Read h k = read_then h k
@@ -190,7 +209,9 @@ module _ (told : Told) where
 abbrev no_memory : List ℕ
 no_memory = refused (codes "OutOfMemory")
 
-pub refused_once : {E : Type 0} (r : Result ⊤ E) (told : Told) (request : Request) (old mid new : Option (List ℕ)) (lines pushed rest : List ℕ) (from at to : ℕ) → pushed ≡ lines → HandsOn old mid pushed rest from at → rest ≡ [] → OnOk r (HandsOn mid new (refused (codes "OutOfMemory")) [] at to) → OnOk r (RepliesOnce told request old new lines rest from to)
+pub refused_once : {E : Type 0} (r : Result ⊤ E) (told : Told) (request : Request) (old mid new : Option (List ℕ)) (lines pushed rest : List ℕ)
+    (from at to : ℕ) → pushed ≡ lines → HandsOn old mid pushed rest from at → rest ≡ []
+    → OnOk r (HandsOn mid new (refused (codes "OutOfMemory")) [] at to) → OnOk r (RepliesOnce told request old new lines rest from to)
 refused_once (Err e) told request old mid new lines pushed rest from at to same h none k = tt
 refused_once (Ok x) told request old mid new lines pushed rest from at to same h none k =
     let here : HandsOn old mid lines rest from at = subst (λ (l : List ℕ). HandsOn old mid l rest from at) same h in
@@ -204,7 +225,10 @@ refused_break told request old new lines pushed from to same part = record {
   handed = part_more no_memory (subst (λ (l : List ℕ). HandsOnPart old new l from to) same part);
 }
 
-pub refused_later : (r : Result ⊤ WriteFault) (told : Told) (request : Request) (old mid new : Option (List ℕ)) (lines pushed rest : List ℕ) (from at : ℕ) → pushed ≡ lines → HandsOn old mid pushed rest from at → rest ≡ [] → IfErr r (λ fault. HandsOnPart mid new (refused (codes "OutOfMemory")) at fault.written) → IfErr r (λ fault. BreaksAt told request old new lines from fault.written)
+pub refused_later : (r : Result ⊤ WriteFault) (told : Told) (request : Request) (old mid new : Option (List ℕ)) (lines pushed rest : List ℕ)
+    (from at : ℕ) → pushed ≡ lines → HandsOn old mid pushed rest from at → rest ≡ []
+    → IfErr r (λ fault. HandsOnPart mid new (refused (codes "OutOfMemory")) at fault.written)
+    → IfErr r (λ fault. BreaksAt told request old new lines from fault.written)
 refused_later (Ok x) told request old mid new lines pushed rest from at same h none k = tt
 refused_later (Err fault) told request old mid new lines pushed rest from at same h none k =
     let here : HandsOn old mid lines rest from at = subst (λ (l : List ℕ). HandsOn old mid l rest from at) same h in
@@ -213,13 +237,17 @@ refused_later (Err fault) told request old mid new lines pushed rest from at sam
 
 -- The next line, the router being the same
 
-pub line_step : {h now : Hierarchy} {ended : ℕ} {request : Request} {before here : List ℕ → List Request} (next : List ℕ → List Request) {old mid new : Option (List ℕ)} {lines rest last : List ℕ} {from at to : ℕ} → now ≡ h → Replies (by_hierarchy h) ended before here old mid lines rest from at → ((more : List ℕ) → here more ≡ request ∷ next more)
+pub line_step : {h now : Hierarchy} {ended : ℕ} {request : Request} {before here : List ℕ → List Request} (next : List ℕ → List Request)
+    {old mid new : Option (List ℕ)} {lines rest last : List ℕ} {from at to : ℕ} → now ≡ h
+    → Replies (by_hierarchy h) ended before here old mid lines rest from at → ((more : List ℕ) → here more ≡ request ∷ next more)
     → RepliesOnce (by_hierarchy now) request mid new rest last at to → Replies (by_hierarchy h) (ended + 1) before next old new lines last from to
 line_step {h} {now} {request = request} {here = here} next {mid = mid} {new = new} {rest = rest} {last = last} {at = at} {to = to} same so_far cuts once =
     let known : RepliesOnce (by_hierarchy h) request mid new rest last at to = subst (λ (k : Hierarchy). RepliesOnce (by_hierarchy k) request mid new rest last at to) same once in
     replies_then (by_hierarchy h) so_far (replies_one (by_hierarchy h) here next cuts known)
 
-pub line_breaks : {h now : Hierarchy} {ended : ℕ} {request : Request} {before here : List ℕ → List Request} (next : List ℕ → List Request) {old mid new : Option (List ℕ)} {lines rest : List ℕ} {from at to : ℕ} → now ≡ h → Replies (by_hierarchy h) ended before here old mid lines rest from at → ((more : List ℕ) → here more ≡ request ∷ next more)
+pub line_breaks : {h now : Hierarchy} {ended : ℕ} {request : Request} {before here : List ℕ → List Request} (next : List ℕ → List Request)
+    {old mid new : Option (List ℕ)} {lines rest : List ℕ} {from at to : ℕ} → now ≡ h
+    → Replies (by_hierarchy h) ended before here old mid lines rest from at → ((more : List ℕ) → here more ≡ request ∷ next more)
     → BreaksAt (by_hierarchy now) request mid new rest at to → Breaks (by_hierarchy h) before old new lines from to
 line_breaks {h} {now} {request = request} {here = here} next {mid = mid} {new = new} {rest = rest} {at = at} {to = to} same so_far cuts breaks =
     let known : BreaksAt (by_hierarchy h) request mid new rest at to = subst (λ (k : Hierarchy). BreaksAt (by_hierarchy k) request mid new rest at to) same breaks in
@@ -242,7 +270,9 @@ module _ (told : Told) where
     replies = replies_none told asks asks old [] from (λ more. refl);
   }
 
-  pub piece_served : (had left : Option (List ℕ)) (asks after : List ℕ → List Request) (bytes : List ℕ) (old mid new : Option (List ℕ)) (lines rest last : List ℕ) (from at to : ℕ) → lines ≡ [] → last ≡ [] → Consumes had left bytes → Replies told (line_feeds bytes) (λ more. asks (bytes ++ more)) after old mid lines rest from at → HandsOn mid new rest last at to
+  pub piece_served : (had left : Option (List ℕ)) (asks after : List ℕ → List Request) (bytes : List ℕ) (old mid new : Option (List ℕ))
+      (lines rest last : List ℕ) (from at to : ℕ) → lines ≡ [] → last ≡ [] → Consumes had left bytes
+      → Replies told (line_feeds bytes) (λ more. asks (bytes ++ more)) after old mid lines rest from at → HandsOn mid new rest last at to
       → RepliesTo told had left asks after old new [] [] from to
   piece_served had left asks after bytes old mid new lines rest last from at to none all consumed replies handed = record {
     bytes = bytes;
@@ -250,7 +280,9 @@ module _ (told : Told) where
     replies = subst (λ (l : List ℕ). Replies told (line_feeds bytes) (λ more. asks (bytes ++ more)) after old new [] l from to) all (subst (λ (l : List ℕ). Replies told (line_feeds bytes) (λ more. asks (bytes ++ more)) after old new l last from to) none (replies_hand told replies handed));
   }
 
-  pub piece_breaks : (had left : Option (List ℕ)) (asks after : List ℕ → List Request) (bytes : List ℕ) (old mid new : Option (List ℕ)) (lines rest : List ℕ) (from at to : ℕ) → lines ≡ [] → Consumes had left bytes → Replies told (line_feeds bytes) (λ more. asks (bytes ++ more)) after old mid lines rest from at → HandsOnPart mid new rest at to
+  pub piece_breaks : (had left : Option (List ℕ)) (asks after : List ℕ → List Request) (bytes : List ℕ) (old mid new : Option (List ℕ))
+      (lines rest : List ℕ) (from at to : ℕ) → lines ≡ [] → Consumes had left bytes
+      → Replies told (line_feeds bytes) (λ more. asks (bytes ++ more)) after old mid lines rest from at → HandsOnPart mid new rest at to
       → BreaksIn told had left asks old new [] from to
   piece_breaks had left asks after bytes old mid new lines rest from at to none consumed replies part = record {
     bytes = bytes;
@@ -258,12 +290,19 @@ module _ (told : Told) where
     breaks = subst (λ (l : List ℕ). Breaks told (λ more. asks (bytes ++ more)) old new l from to) none (breaks_hand told replies part);
   }
 
-pub to_step : {h now : Hierarchy} {had mid_left left : Option (List ℕ)} {before mid_asks after : List ℕ → List Request} {old mid new : Option (List ℕ)} {lines rest last : List ℕ} {from at to : ℕ} → now ≡ h → RepliesTo (by_hierarchy h) had mid_left before mid_asks old mid lines rest from at → RepliesTo (by_hierarchy now) mid_left left mid_asks after mid new rest last at to → RepliesTo (by_hierarchy h) had left before after old new lines last from to
+pub to_step : {h now : Hierarchy} {had mid_left left : Option (List ℕ)} {before mid_asks after : List ℕ → List Request}
+    {old mid new : Option (List ℕ)} {lines rest last : List ℕ} {from at to : ℕ} → now ≡ h
+    → RepliesTo (by_hierarchy h) had mid_left before mid_asks old mid lines rest from at
+    → RepliesTo (by_hierarchy now) mid_left left mid_asks after mid new rest last at to
+    → RepliesTo (by_hierarchy h) had left before after old new lines last from to
 to_step {h} {now} {mid_left = mid_left} {left = left} {mid_asks = mid_asks} {after = after} {mid = mid} {new = new} {rest = rest} {last = last} {at = at} {to = to} same so_far k =
     let known : RepliesTo (by_hierarchy h) mid_left left mid_asks after mid new rest last at to = subst (λ (g : Hierarchy). RepliesTo (by_hierarchy g) mid_left left mid_asks after mid new rest last at to) same k in
     to_then (by_hierarchy h) so_far known
 
-pub stops_step : {h now : Hierarchy} {had mid_left : Option (List ℕ)} (left : Option (List ℕ)) {before mid_asks : List ℕ → List Request} {old mid : Option (List ℕ)} (new : Option (List ℕ)) {lines rest : List ℕ} {from at : ℕ} (e : ServeError) → now ≡ h → RepliesTo (by_hierarchy h) had mid_left before mid_asks old mid lines rest from at → StopsReplying (by_hierarchy now) mid_left left mid_asks mid new rest at e → StopsReplying (by_hierarchy h) had left before old new lines from e
+pub stops_step : {h now : Hierarchy} {had mid_left : Option (List ℕ)} (left : Option (List ℕ)) {before mid_asks : List ℕ → List Request}
+    {old mid : Option (List ℕ)} (new : Option (List ℕ)) {lines rest : List ℕ} {from at : ℕ} (e : ServeError) → now ≡ h
+    → RepliesTo (by_hierarchy h) had mid_left before mid_asks old mid lines rest from at
+    → StopsReplying (by_hierarchy now) mid_left left mid_asks mid new rest at e → StopsReplying (by_hierarchy h) had left before old new lines from e
 stops_step {h} {now} {mid_left = mid_left} left {mid_asks = mid_asks} {mid = mid} new {rest = rest} {at = at} e same so_far k =
     let known : StopsReplying (by_hierarchy h) mid_left left mid_asks mid new rest at e = subst (λ (g : Hierarchy). StopsReplying (by_hierarchy g) mid_left left mid_asks mid new rest at e) same k in
     stops_then (by_hierarchy h) left new e so_far known
@@ -278,14 +317,18 @@ no_last told o asks old from is asked =
     let none : [] ≡ asks = sym (ap (λ (r : Option Request). option_to_list r) is) ∙ asked in
     ([], subst (λ (rs : List Request). AreReplies told rs []) none nothing, hands_none old [] from)
 
-pub last_breaks : (told : Told) (o : Option Request) (request : Request) (asks : List Request) (old new : Option (List ℕ)) (lines : List ℕ) (from to : ℕ) → o ≡ Some request → option_to_list o ≡ asks → lines ≡ [] → BreaksAt told request old new lines from to → (text : List ℕ) × AreReplies told asks text × HandsOnPart old new text from to
+pub last_breaks : (told : Told) (o : Option Request) (request : Request) (asks : List Request) (old new : Option (List ℕ)) (lines : List ℕ)
+    (from to : ℕ) → o ≡ Some request → option_to_list o ≡ asks → lines ≡ [] → BreaksAt told request old new lines from to → (text : List ℕ)
+    × AreReplies told asks text × HandsOnPart old new text from to
 last_breaks told o request asks old new lines from to is asked none breaks = (
   breaks.reply,
   subst (λ (rs : List Request). AreReplies told rs breaks.reply) (last_asked o request asks is asked) (subst (AreReplies told (request ∷ [])) (append-nil breaks.reply) (one_more breaks.is nothing)),
   subst (λ (l : List ℕ). HandsOnPart old new (l ++ breaks.reply) from to) none breaks.handed,
 )
 
-pub last_done : {E : Type 0} (r : Result ⊤ E) (told : Told) (o : Option Request) (request : Request) (asks : List Request) (old mid new : Option (List ℕ)) (lines rest last : List ℕ) (from at to : ℕ) → o ≡ Some request → option_to_list o ≡ asks → lines ≡ [] → RepliesOnce told request old mid lines rest from at → OnOk r (HandsOn mid new rest last at to) → OnOk r (last ≡ [])
+pub last_done : {E : Type 0} (r : Result ⊤ E) (told : Told) (o : Option Request) (request : Request) (asks : List Request)
+    (old mid new : Option (List ℕ)) (lines rest last : List ℕ) (from at to : ℕ) → o ≡ Some request → option_to_list o ≡ asks → lines ≡ []
+    → RepliesOnce told request old mid lines rest from at → OnOk r (HandsOn mid new rest last at to) → OnOk r (last ≡ [])
     → OnOk r ((text : List ℕ) × AreReplies told asks text × HandsOn old new text [] from to)
 last_done (Err e) told o request asks old mid new lines rest last from at to is asked none once handed all = tt
 last_done (Ok x) told o request asks old mid new lines rest last from at to is asked none once handed all = (
@@ -294,7 +337,9 @@ last_done (Ok x) told o request asks old mid new lines rest last from at to is a
   subst (λ (l : List ℕ). HandsOn old new once.reply l from to) all (subst (λ (l : List ℕ). HandsOn old new (l ++ once.reply) last from to) none (hands_join once.handed handed)),
 )
 
-pub last_fails : (r : Result ⊤ WriteFault) (told : Told) (o : Option Request) (request : Request) (asks : List Request) (old mid new : Option (List ℕ)) (lines rest : List ℕ) (from at : ℕ) → o ≡ Some request → option_to_list o ≡ asks → lines ≡ [] → RepliesOnce told request old mid lines rest from at → IfErr r (λ fault. HandsOnPart mid new rest at fault.written)
+pub last_fails : (r : Result ⊤ WriteFault) (told : Told) (o : Option Request) (request : Request) (asks : List Request)
+    (old mid new : Option (List ℕ)) (lines rest : List ℕ) (from at : ℕ) → o ≡ Some request → option_to_list o ≡ asks → lines ≡ []
+    → RepliesOnce told request old mid lines rest from at → IfErr r (λ fault. HandsOnPart mid new rest at fault.written)
     → IfErr r (λ fault. (text : List ℕ) × AreReplies told asks text × HandsOnPart old new text from fault.written)
 last_fails (Ok x) told o request asks old mid new lines rest from at is asked none once part = tt
 last_fails (Err fault) told o request asks old mid new lines rest from at is asked none once part = (

@@ -86,7 +86,9 @@ lines_in ranges n [] = tt
 lines_in ranges n (line ∷ lines) = (ranges n line, lines_in ranges n lines)
 
 -- by prepared bytes
-pub services_over : {IsRoute : Graph → ℕ → ℕ → Option Route → Type 0} (v : Version) → HierarchiesHaveOneSpelling → SpelledGraphsAreInRange → RequestsAreInRange → ((g : Graph) (h : Hierarchy) → IsGraph g → IsRightIn v g h → h.version ≡ v → IsWellMade h → AnswersAs IsRoute g h) → ServicesAre IsRoute v
+pub services_over : {IsRoute : Graph → ℕ → ℕ → Option Route → Type 0} (v : Version) → HierarchiesHaveOneSpelling → SpelledGraphsAreInRange
+    → RequestsAreInRange → ((g : Graph) (h : Hierarchy) → IsGraph g → IsRightIn v g h → h.version ≡ v → IsWellMade h → AnswersAs IsRoute g h)
+    → ServicesAre IsRoute v
 services_over {IsRoute} v one graphs ranges right graph_text bytes requests_text text p s =
     let h = s.hierarchy in
     let g = p.graph in

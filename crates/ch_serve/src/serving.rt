@@ -15,7 +15,7 @@ use crate::error::ServeError;
 use crate::laws::services_are_exact;
 use crate::line::push_ready;
 use crate::replying::push_reply;
-use ch_answer::Output;
+use ch_answer::Lines;
 use ch_graph::Hierarchy;
 use ch_route::Router;
 use counted_io::{MOST_CALLS, ReadCalls, WriteFault};
@@ -77,7 +77,7 @@ pub fn serve_by<Q: Read, W: Write>(
     ensures own { IfErr result IsOwn }
 {
     let mut router = Router::new(alloc, hierarchy)?;
-    let mut output = Output::new(alloc);
+    let mut output = Lines::new(alloc);
     push_ready(hierarchy, &mut output.lines)?;
     serve_all(&mut router, requests, &mut output, out)
 }
@@ -86,7 +86,7 @@ pub fn serve_by<Q: Read, W: Write>(
 fn serve_all<Q: Read, W: Write>(
     router: &mut Router<'_>,
     requests: &mut Q,
-    output: &mut Output,
+    output: &mut Lines,
     out: &mut W,
 ) -> Result<(), ServeError>
     requires written { output.old.calls.written ≡ 0 }
@@ -107,7 +107,7 @@ fn serve_all<Q: Read, W: Write>(
 fn reply_to_last<W: Write>(
     router: &mut Router<'_>,
     reader: &RequestReader,
-    output: &mut Output,
+    output: &mut Lines,
     out: &mut W,
 ) -> Result<(), WriteFault>
     requires nodes { reader.now.nodes ≡ length router.old.ranks }
@@ -128,7 +128,7 @@ fn reply_to_last<W: Write>(
 fn reply<W: Write>(
     router: &mut Router<'_>,
     request: &Request,
-    output: &mut Output,
+    output: &mut Lines,
     out: &mut W,
 ) -> Result<(), WriteFault>
     requires in_range { IsInRange (length router.old.ranks) request.now }
@@ -148,7 +148,7 @@ fn reply_to_lines<W: Write>(
     router: &mut Router<'_>,
     reader: &mut RequestReader,
     piece: &[u8],
-    output: &mut Output,
+    output: &mut Lines,
     out: &mut W,
 ) -> Result<(), WriteFault>
     requires nodes { reader.old.nodes ≡ length router.old.ranks }
@@ -175,7 +175,7 @@ fn serve_piece<Q: Read, W: Write>(
     reader: &mut RequestReader,
     requests: &mut Q,
     piece: &mut [u8],
-    output: &mut Output,
+    output: &mut Lines,
     out: &mut W,
 ) -> Result<bool, ServeError>
     requires room { 0 < length piece.old }
@@ -206,7 +206,7 @@ fn serve_pieces<Q: Read, W: Write>(
     router: &mut Router<'_>,
     reader: &mut RequestReader,
     requests: &mut Q,
-    output: &mut Output,
+    output: &mut Lines,
     out: &mut W,
 ) -> Result<(), ServeError>
     requires nodes { reader.old.nodes ≡ length router.old.ranks }

@@ -5,7 +5,7 @@ ghost use Rattle.ch_service.specs.Outcome.{Writes, StopsShort, IsPairFault, Come
 ghost use Rattle.ch_service.specs.Route.{IsRouteBy, Routed, StopsAtTooLong};
 
 use crate::error::ServiceError;
-use ch_answer::{Output, push_line};
+use ch_answer::{Lines, push_line};
 use ch_graph::Hierarchy;
 use ch_route::Router;
 use std::alloc::Global;
@@ -25,7 +25,7 @@ pub fn answer_pairs<W: Write>(
     ensures stops { IfErr result (StopsShort (λ text. (count : ℕ) × Routed hierarchy.now (take count pairs.now) text) (StopsAtTooLong hierarchy.now pairs.now) (W.contents out.old) (W.contents out.new)) }
 {
     let mut router = Router::new(alloc, hierarchy)?;
-    let mut output = Output::new(alloc);
+    let mut output = Lines::new(alloc);
     'pairs: for pair in pairs {
         if let Err(refused) = answer_pair(&mut router, *pair, &mut output.lines) {
             output.hand_over(out)?;

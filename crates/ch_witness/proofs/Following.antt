@@ -23,7 +23,9 @@ same_entry : (entries : List Entry) (k n : ℕ) (e f : Entry) → n < length ent
 same_entry entries k n e f within here is at = get_or_read entries n f within (sym (subst (λ (j : ℕ). slice_index_or entries j f ≡ f) at is)) e ∙ here
 
 -- an arc that isn't to be followed
-pub followed_past : (r : Rule) (entries : List Entry) (c : Cost) (step : Option ℕ) (n : ℕ) (old new : Labels) (e : Entry) → n < length entries → slice_index_or entries n e ≡ e → (e.other ≢ r.avoid → c ⊕ e.cost ≼ r.cutoff → ⊥) → AreFollowedSoFar r entries c step n old new → AreFollowedSoFar r entries c step (n + 1) old new
+pub followed_past : (r : Rule) (entries : List Entry) (c : Cost) (step : Option ℕ) (n : ℕ) (old new : Labels) (e : Entry) → n < length entries
+    → slice_index_or entries n e ≡ e → (e.other ≢ r.avoid → c ⊕ e.cost ≼ r.cutoff → ⊥) → AreFollowedSoFar r entries c step n old new
+    → AreFollowedSoFar r entries c step (n + 1) old new
 followed_past r entries c step n old new e within here out h = record {
   opened = h.opened;
   settled = h.settled;
@@ -82,7 +84,9 @@ offer_settled new next v c step offered u h = elim (cases_eq u v) [
       true-false k.0.settled k.2 (was k.0 k.1).0
 
 -- the arc at the next place is told
-pub followed_offer : (r : Rule) (entries : List Entry) (c : Cost) (step : Option ℕ) (n : ℕ) (old new next : Labels) (e : Entry) → n < length entries → slice_index_or entries n e ≡ e → e.other ≢ r.avoid → c ⊕ e.cost ≼ r.cutoff → IsOffered new e.other (c ⊕ e.cost) step next → AreFollowedSoFar r entries c step n old new → AreFollowedSoFar r entries c step (n + 1) old next
+pub followed_offer : (r : Rule) (entries : List Entry) (c : Cost) (step : Option ℕ) (n : ℕ) (old new next : Labels) (e : Entry) → n < length entries
+    → slice_index_or entries n e ≡ e → e.other ≢ r.avoid → c ⊕ e.cost ≼ r.cutoff → IsOffered new e.other (c ⊕ e.cost) step next
+    → AreFollowedSoFar r entries c step n old new → AreFollowedSoFar r entries c step (n + 1) old next
 followed_offer r entries c step n old new next e within here apart most offered h = record {
   opened = opened;
   settled = λ v s. offer_settled new next e.other (c ⊕ e.cost) step offered v (subst IsSettled (sym (h.settled v s)) s) ∙ h.settled v s;
@@ -135,7 +139,9 @@ followed_offer r entries c step n old new next e within here apart most offered 
   ]
 
 -- one more arc is followed
-pub followed_more : (r : Rule) (entries : List Entry) (c : Cost) (step : Option ℕ) (n : ℕ) (old new next : Labels) (e : Entry) → n < length entries → slice_index_or entries n e ≡ e → IsFollowed r e c step new next → AreFollowedSoFar r entries c step n old new → AreFollowedSoFar r entries c step (n + 1) old next
+pub followed_more : (r : Rule) (entries : List Entry) (c : Cost) (step : Option ℕ) (n : ℕ) (old new next : Labels) (e : Entry) → n < length entries
+    → slice_index_or entries n e ≡ e → IsFollowed r e c step new next → AreFollowedSoFar r entries c step n old new
+    → AreFollowedSoFar r entries c step (n + 1) old next
 followed_more r entries c step n old new next e within here one h = elim one [
   | inl o ↦ followed_offer r entries c step n old new next e within here o.0 o.1 o.2 h
   | inr p ↦ subst (λ (ls : Labels). AreFollowedSoFar r entries c step (n + 1) old ls) (sym p.1) (followed_past r entries c step n old new e within here p.0 h)

@@ -10,7 +10,7 @@ use Rattle.ch_overlay.specs.declared.source.Seen.{Seen}
 use Rattle.ch_overlay.specs.Source.{row_in}
 use Rattle.ch_witness.specs.declared.label.Label.{Label}
 use Rattle.ch_witness.specs.declared.rule.Rule.{Rule}
-use Rattle.ch_witness.specs.declared.step.Step.{Step}
+use Rattle.ch_witness.specs.declared.step.TreeNode.{TreeNode}
 use Rattle.ch_witness.specs.declared.way.Way.{Way}
 use Rattle.ch_witness.specs.Tree.{Labels, AreSteps, IsTree, IsAtMost, IsStartSeen, AllSeen}
 use Rattle.ch_witness.specs.Ways.{IsWay, IsWayOf, AreWays, AreUnrankedRows, IsFound, IsStartRead, way_at}
@@ -20,23 +20,23 @@ some-same : {A : Type 0} (a b : A) → Some a ≡ Some b → a ≡ b
 some-same a b e = cc
 
 -- a row that was seen is that of a step
-step_of : (steps : List Step) (k : ℕ) (a : Seen) → slice_get (seen_of steps) k ≡ Some a → (s : Step) × (slice_get steps k ≡ Some s) × (s.seen.value ≡ a)
+step_of : (steps : List TreeNode) (k : ℕ) (a : Seen) → slice_get (seen_of steps) k ≡ Some a → (s : TreeNode) × (slice_get steps k ≡ Some s) × (s.seen.value ≡ a)
 step_of [] k a is = absurd (cc)
 step_of (t ∷ ts) zero a is = (t, refl, some-same t.seen.value a is)
 step_of (t ∷ ts) (suc k) a is = step_of ts k a is
 
 -- the row of a step was seen
-seen_at : (steps : List Step) (k : ℕ) (s : Step) → slice_get steps k ≡ Some s → slice_get (seen_of steps) k ≡ Some s.seen.value
+seen_at : (steps : List TreeNode) (k : ℕ) (s : TreeNode) → slice_get steps k ≡ Some s → slice_get (seen_of steps) k ≡ Some s.seen.value
 seen_at [] k s is = absurd (cc)
-seen_at (t ∷ ts) zero s is = ap (λ (u : Step). Some u.seen.value) (some-same t s is)
+seen_at (t ∷ ts) zero s is = ap (λ (u : TreeNode). Some u.seen.value) (some-same t s is)
 seen_at (t ∷ ts) (suc k) s is = seen_at ts k s is
 
-pub all_seen : (IsKind : Seen → Type 0) (steps : List Step) → AllSeen IsKind steps → All IsKind (seen_of steps)
+pub all_seen : (IsKind : Seen → Type 0) (steps : List TreeNode) → AllSeen IsKind steps → All IsKind (seen_of steps)
 all_seen IsKind steps all k d h =
     let at = step_of steps k _ (slice_get-get_or (seen_of steps) k d h) in
     subst IsKind at.2 (all k at.0 at.1)
 
-pub rows : (r : Rule) (steps : List Step) → AreSteps r steps → AreUnrankedRows (seen_of steps)
+pub rows : (r : Rule) (steps : List TreeNode) → AreSteps r steps → AreUnrankedRows (seen_of steps)
 rows r steps are = record {
   once = once;
   unranked = all_seen (λ s. (row_in s).rank ≡ None) steps (λ k s is. (are.each k s is).unranked);
@@ -66,7 +66,10 @@ found seen avoid from to c (Some l) ways k None is h m = absurd h
 found seen avoid from to c (Some l) ways k (Some w) is h m = subst (λ (o : Option Way). IsSomeAnd o (λ v. v.cost ≼ c)) (sym is) (subst (λ (d : Cost). d ≼ c) (sym h.0) m)
 
 -- the ways of the labels
-pub ways_given : (r : Rule) (steps : List Step) (labels : Labels) (targets : List ℕ) (ways : List (Option Way)) → IsTree r steps labels → length ways ≡ length targets → ((k : ℕ) → k < length targets → IsWayOf (seen_of steps) r.avoid r.from (slice_index targets k) (labels (slice_index targets k)) (way_at ways k)) → AreWays (seen_of steps) r.from r.avoid r.cutoff targets ways
+pub ways_given : (r : Rule) (steps : List TreeNode) (labels : Labels) (targets : List ℕ) (ways : List (Option Way)) → IsTree r steps labels
+    → length ways ≡ length targets → ((k : ℕ) → k < length targets
+    → IsWayOf (seen_of steps) r.avoid r.from (slice_index targets k) (labels (slice_index targets k)) (way_at ways k))
+    → AreWays (seen_of steps) r.from r.avoid r.cutoff targets ways
 ways_given r steps labels targets ways tree many each = record {
   many = many;
   leads = λ k h. leads (seen_of steps) r.avoid r.from (slice_index targets k) (labels (slice_index targets k)) (way_at ways k) (each k h);
@@ -74,7 +77,10 @@ ways_given r steps labels targets ways tree many each = record {
 }
 
 -- the start's row, and the targets that it has an arc to
-pub start_given : (r : Rule) (steps : List Step) (labels : Labels) (targets : List ℕ) (ways : List (Option Way)) (s : Seen) → (Contains targets r.avoid → ⊥) → ((k : ℕ) → k < length targets → IsWayOf (seen_of steps) r.avoid r.from (slice_index targets k) (labels (slice_index targets k)) (way_at ways k)) → IsStartSeen r s steps labels → IsStartRead (seen_of steps) r.from r.cutoff targets ways s
+pub start_given : (r : Rule) (steps : List TreeNode) (labels : Labels) (targets : List ℕ) (ways : List (Option Way)) (s : Seen)
+    → (Contains targets r.avoid → ⊥) → ((k : ℕ) → k < length targets
+    → IsWayOf (seen_of steps) r.avoid r.from (slice_index targets k) (labels (slice_index targets k)) (way_at ways k)) → IsStartSeen r s steps labels
+    → IsStartRead (seen_of steps) r.from r.cutoff targets ways s
 start_given r steps labels targets ways s free each start = record {
   node = start.node;
   among = among;

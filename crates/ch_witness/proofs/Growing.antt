@@ -13,7 +13,7 @@ use Rattle.ch_overlay.specs.Source.{row_in, NamesAlone}
 use Rattle.ch_witness.specs.declared.frontier.Reached.{Reached}
 use Rattle.ch_witness.specs.declared.label.Label.{Label}
 use Rattle.ch_witness.specs.declared.rule.Rule.{Rule}
-use Rattle.ch_witness.specs.declared.step.Step.{Step}
+use Rattle.ch_witness.specs.declared.step.TreeNode.{TreeNode}
 use Rattle.ch_witness.specs.Frontier.{IsStartAlone, IsSettledNow, IsOpened, AreFollowed}
 use Rattle.ch_witness.specs.Tree.{Labels, node_of, step_row, IsReachedBy, IsTreeStep, IsLabel, IsSettled, IsAtMost, IsTree, IsNew, IsGoneOn, IsLater, AllAre, AllSeen, IsStartSeen}
 use Rattle.ch_witness.proofs.Tracing.{reached_more}
@@ -26,16 +26,16 @@ true-false b t f = cc
 
 -- One more step
 
-pub old_step : (xs : List Step) (y : Step) (k : ℕ) (s : Step) → slice_get xs k ≡ Some s → slice_get (xs ++ y ∷ []) k ≡ Some s
+pub old_step : (xs : List TreeNode) (y : TreeNode) (k : ℕ) (s : TreeNode) → slice_get xs k ≡ Some s → slice_get (xs ++ y ∷ []) k ≡ Some s
 old_step [] y k s is = absurd (cc)
 old_step (x ∷ xs) y zero s is = is
 old_step (x ∷ xs) y (suc k) s is = old_step xs y k s is
 
-pub last_step : (xs : List Step) (y : Step) → slice_get (xs ++ y ∷ []) (length xs) ≡ Some y
+pub last_step : (xs : List TreeNode) (y : TreeNode) → slice_get (xs ++ y ∷ []) (length xs) ≡ Some y
 last_step [] y = refl
 last_step (x ∷ xs) y = last_step xs y
 
-pub step_cases : (xs : List Step) (y : Step) (k : ℕ) (s : Step) → slice_get (xs ++ y ∷ []) k ≡ Some s → (slice_get xs k ≡ Some s) ⊎ ((k ≡ length xs) × (y ≡ s))
+pub step_cases : (xs : List TreeNode) (y : TreeNode) (k : ℕ) (s : TreeNode) → slice_get (xs ++ y ∷ []) k ≡ Some s → (slice_get xs k ≡ Some s) ⊎ ((k ≡ length xs) × (y ≡ s))
 step_cases [] y zero s is = inr (refl, some-same y s is)
 step_cases [] y (suc k) s is = absurd (cc)
 step_cases (x ∷ xs) y zero s is = inl is
@@ -44,17 +44,17 @@ step_cases (x ∷ xs) y (suc k) s is = elim (step_cases xs y k s is) [
   | inr h ↦ inr (ap suc h.0, h.1)
 ]
 
-more_steps : (xs : List Step) (y : Step) → length (xs ++ y ∷ []) ≡ length xs + 1
+more_steps : (xs : List TreeNode) (y : TreeNode) → length (xs ++ y ∷ []) ≡ length xs + 1
 more_steps xs y = length-append xs (y ∷ [])
 
 -- what is reached stays so
-reached_still : (from : ℕ) (xs : List Step) (y : Step) (n : ℕ) (before : Option ℕ) (v : ℕ) (c : Cost) → IsReachedBy from xs n before v c → IsReachedBy from (xs ++ y ∷ []) n before v c
+reached_still : (from : ℕ) (xs : List TreeNode) (y : TreeNode) (n : ℕ) (before : Option ℕ) (v : ℕ) (c : Cost) → IsReachedBy from xs n before v c → IsReachedBy from (xs ++ y ∷ []) n before v c
 reached_still from xs y n None v c h = h
 reached_still from xs y n (Some k) v c h = (h.0, (h.1.0, old_step xs y k h.1.0 h.1.1, h.1.2))
 
 -- The start
 
-nothing : (k : ℕ) (s : Step) → slice_get {X = Step} [] k ≡ Some s → ⊥
+nothing : (k : ℕ) (s : TreeNode) → slice_get {X = TreeNode} [] k ≡ Some s → ⊥
 nothing k s is = absurd (cc)
 
 pub tree_start : (r : Rule) (labels : Labels) → IsStartAlone r.from labels → r.from ≢ r.avoid → IsTree r [] labels
@@ -81,7 +81,7 @@ tree_start r labels start apart = record {
 
 -- A node is settled
 
-pub tree_settled : (r : Rule) (steps : List Step) (labels new : Labels) (at : Reached) → IsSettledNow labels at new → IsTree r steps labels → IsTree r steps new
+pub tree_settled : (r : Rule) (steps : List TreeNode) (labels new : Labels) (at : Reached) → IsSettledNow labels at new → IsTree r steps labels → IsTree r steps new
 tree_settled r steps labels new at now tree = record {
   grown = tree.grown;
   reached = reached;
@@ -94,18 +94,20 @@ tree_settled r steps labels new at now tree = record {
   reached v l is = elim (cases_eq v at.node) [
     | inl e ↦
         let was = tree.reached at.node _ now.was in
-        subst (λ (k : Label). IsLabel r steps v k) (same l (subst (λ (w : ℕ). new w ≡ Some l) e is)) (subst (λ (w : ℕ). IsLabel r steps w (record { cost = at.cost; before = at.before; settled = true })) (sym e) (record { reached = was.reached; apart = was.apart; at_most = was.at_most; fits = was.fits }))
+        subst (λ (k : Label). IsLabel r steps v k) (same l (subst (λ (w : ℕ). new w ≡ Some l) e is))
+        (subst (λ (w : ℕ). IsLabel r steps w (record { cost = at.cost; before = at.before; settled = true })) (sym e)
+        (record { reached = was.reached; apart = was.apart; at_most = was.at_most; fits = was.fits }))
     | inr other ↦ tree.reached v l (sym (now.others v other) ∙ is)
   ]
 
-  settled : (s : Step) → IsSettled (labels (node_of s)) → IsSettled (new (node_of s))
+  settled : (s : TreeNode) → IsSettled (labels (node_of s)) → IsSettled (new (node_of s))
   settled s h = elim (cases_eq (node_of s) at.node) [
     | inl e ↦ subst (λ (w : ℕ). IsSettled (new w)) (sym e) (subst IsSettled (sym now.here) refl)
     | inr other ↦ subst IsSettled (sym (now.others (node_of s) other)) h
   ]
 
 -- it isn't that of a step
-pub settled_new : (r : Rule) (steps : List Step) (labels new : Labels) (at : Reached) → IsSettledNow labels at new → IsTree r steps labels → IsNew at.node steps
+pub settled_new : (r : Rule) (steps : List TreeNode) (labels new : Labels) (at : Reached) → IsSettledNow labels at new → IsTree r steps labels → IsNew at.node steps
 settled_new r steps labels new at now tree k s is e =
     false-true (subst IsSettled now.was (subst (λ (w : ℕ). IsSettled (labels w)) e (tree.settled k s is))) where
       false-true : false ≡ true → ⊥
@@ -122,7 +124,10 @@ settled_kept labels new at now v d h = elim (cases_eq v at.node) [
 
 -- A node becomes a step
 
-pub tree_grown : (r : Rule) (steps : List Step) (labels new : Labels) (s : Step) → IsTree r steps labels → labels (node_of s) ≡ Some (record { cost = s.cost; before = s.before; settled = true }) → IsNew (node_of s) steps → (step_row s).rank ≡ None → ((v : ℕ) (d : Cost) → Lists (step_row s).out v d → IsOfWalks 1 d) → AreFollowed r (step_row s).out s.cost (Some (length steps)) labels new → IsTree r (steps ++ s ∷ []) new
+pub tree_grown : (r : Rule) (steps : List TreeNode) (labels new : Labels) (s : TreeNode) → IsTree r steps labels
+    → labels (node_of s) ≡ Some (record { cost = s.cost; before = s.before; settled = true }) → IsNew (node_of s) steps → (step_row s).rank ≡ None
+    → ((v : ℕ) (d : Cost) → Lists (step_row s).out v d → IsOfWalks 1 d) → AreFollowed r (step_row s).out s.cost (Some (length steps)) labels new
+    → IsTree r (steps ++ s ∷ []) new
 tree_grown r steps labels new s tree label fresh unranked light followed = record {
   grown = record { each = each; once = once };
   reached = reached;
@@ -131,18 +136,18 @@ tree_grown r steps labels new s tree label fresh unranked light followed = recor
   known : IsLabel r steps (node_of s) (record { cost = s.cost; before = s.before; settled = true })
   known = tree.reached (node_of s) _ label
 
-  each : (k : ℕ) (t : Step) → slice_get (steps ++ s ∷ []) k ≡ Some t → IsTreeStep r (steps ++ s ∷ []) k t
+  each : (k : ℕ) (t : TreeNode) → slice_get (steps ++ s ∷ []) k ≡ Some t → IsTreeStep r (steps ++ s ∷ []) k t
   each k t is = elim (step_cases steps s k t is) [
     | inl h ↦
         let was = tree.grown.each k t h in
         record { reached = reached_still r.from steps s k t.before (node_of t) t.cost was.reached; apart = was.apart; unranked = was.unranked }
-    | inr h ↦ subst (λ (u : Step). IsTreeStep r (steps ++ s ∷ []) k u) h.1 (subst (λ (j : ℕ). IsTreeStep r (steps ++ s ∷ []) j s) (sym h.0) (record { reached = reached_still r.from steps s (length steps) s.before (node_of s) s.cost known.reached; apart = known.apart; unranked = unranked }))
+    | inr h ↦ subst (λ (u : TreeNode). IsTreeStep r (steps ++ s ∷ []) k u) h.1 (subst (λ (j : ℕ). IsTreeStep r (steps ++ s ∷ []) j s) (sym h.0) (record { reached = reached_still r.from steps s (length steps) s.before (node_of s) s.cost known.reached; apart = known.apart; unranked = unranked }))
   ]
 
-  differs : (k : ℕ) (a b : Step) → slice_get steps k ≡ Some a → s ≡ b → node_of a ≡ node_of b → ⊥
+  differs : (k : ℕ) (a b : TreeNode) → slice_get steps k ≡ Some a → s ≡ b → node_of a ≡ node_of b → ⊥
   differs k a b is same e = fresh k a is (e ∙ ap node_of (sym same))
 
-  once : (j k : ℕ) (a b : Step) → slice_get (steps ++ s ∷ []) j ≡ Some a → slice_get (steps ++ s ∷ []) k ≡ Some b → node_of a ≡ node_of b → j ≡ k
+  once : (j k : ℕ) (a b : TreeNode) → slice_get (steps ++ s ∷ []) j ≡ Some a → slice_get (steps ++ s ∷ []) k ≡ Some b → node_of a ≡ node_of b → j ≡ k
   once j k a b at_j at_k e = elim (step_cases steps s j a at_j) [
     | inl h ↦ elim (step_cases steps s k b at_k) [
       | inl i ↦ tree.grown.once j k a b h i e
@@ -179,13 +184,13 @@ tree_grown r steps labels new s tree label fresh unranked light followed = recor
   keeps : (v : ℕ) → IsSettled (labels v) → IsSettled (new v)
   keeps v h = subst IsSettled (sym (followed.settled v h)) h
 
-  settled : (k : ℕ) (t : Step) → slice_get (steps ++ s ∷ []) k ≡ Some t → IsSettled (new (node_of t))
+  settled : (k : ℕ) (t : TreeNode) → slice_get (steps ++ s ∷ []) k ≡ Some t → IsSettled (new (node_of t))
   settled k t is = elim (step_cases steps s k t is) [
     | inl h ↦ keeps (node_of t) (tree.settled k t h)
-    | inr h ↦ subst (λ (u : Step). IsSettled (new (node_of u))) h.1 (keeps (node_of s) (subst IsSettled (sym label) refl))
+    | inr h ↦ subst (λ (u : TreeNode). IsSettled (new (node_of u))) h.1 (keeps (node_of s) (subst IsSettled (sym label) refl))
   ]
 
-pub step_later : (steps : List Step) (s : Step) (labels new : Labels) → ((v : ℕ) (d : Cost) → IsAtMost (labels v) d → IsAtMost (new v) d) → IsLater steps (steps ++ s ∷ []) labels new
+pub step_later : (steps : List TreeNode) (s : TreeNode) (labels new : Labels) → ((v : ℕ) (d : Cost) → IsAtMost (labels v) d → IsAtMost (new v) d) → IsLater steps (steps ++ s ∷ []) labels new
 step_later steps s labels new kept = record { steps = λ k t is. old_step steps s k t is; kept = kept }
 
 -- Nodes of one kind
@@ -204,7 +209,7 @@ all_settled IsKind labels new at now all v l is = elim (cases_eq v at.node) [
 
 -- Where nothing changes
 
-pub tree_same : (r : Rule) (steps : List Step) (labels new : Labels) → ((v : ℕ) → new v ≡ labels v) → IsTree r steps labels → IsTree r steps new
+pub tree_same : (r : Rule) (steps : List TreeNode) (labels new : Labels) → ((v : ℕ) → new v ≡ labels v) → IsTree r steps labels → IsTree r steps new
 tree_same r steps labels new same tree = record {
   grown = tree.grown;
   reached = λ v l is. tree.reached v l (sym (same v) ∙ is);
@@ -213,37 +218,39 @@ tree_same r steps labels new same tree = record {
 
 -- Later and later
 
-pub later_start : (steps : List Step) (labels : Labels) → IsLater steps steps labels labels
+pub later_start : (steps : List TreeNode) (labels : Labels) → IsLater steps steps labels labels
 later_start steps labels = record { steps = λ k s is. is; kept = λ v d h. h }
 
-pub later_more : (a b c : List Step) (k l m : Labels) → IsLater a b k l → IsLater b c l m → IsLater a c k m
+pub later_more : (a b c : List TreeNode) (k l m : Labels) → IsLater a b k l → IsLater b c l m → IsLater a c k m
 later_more a b c k l m h i = record {
   steps = λ j s is. i.steps j s (h.steps j s is);
   kept = λ v d at_most. i.kept v d (h.kept v d at_most);
 }
 
-pub later_settled : (steps : List Step) (labels new : Labels) (at : Reached) → IsSettledNow labels at new → IsLater steps steps labels new
+pub later_settled : (steps : List TreeNode) (labels new : Labels) (at : Reached) → IsSettledNow labels at new → IsLater steps steps labels new
 later_settled steps labels new at now = record { steps = λ k s is. is; kept = settled_kept labels new at now }
 
-pub later_same : (steps : List Step) (labels new : Labels) → ((v : ℕ) → new v ≡ labels v) → IsLater steps steps labels new
+pub later_same : (steps : List TreeNode) (labels new : Labels) → ((v : ℕ) → new v ≡ labels v) → IsLater steps steps labels new
 later_same steps labels new same = record { steps = λ k s is. is; kept = λ v d h. subst (λ (o : Option Label). IsAtMost o d) (sym (same v)) h }
 
 -- each row that was seen is of the kind, the new one too
-pub seen_gone : (IsKind : Seen → Type 0) (r : Rule) (at : Reached) (seen : Seen) (old new : List Step) (known labels : Labels) → IsKind seen → AllSeen IsKind old → IsGoneOn r at seen old new known labels → AllSeen IsKind new
+pub seen_gone : (IsKind : Seen → Type 0) (r : Rule) (at : Reached) (seen : Seen) (old new : List TreeNode) (known labels : Labels) → IsKind seen → AllSeen IsKind old → IsGoneOn r at seen old new known labels → AllSeen IsKind new
 seen_gone IsKind r at seen old new known labels this all gone k s is = elim gone.steps [
-  | inl more ↦ elim (step_cases old more.1.0 k s (subst (λ (ss : List Step). slice_get ss k ≡ Some s) more.1.2 is)) [
+  | inl more ↦ elim (step_cases old more.1.0 k s (subst (λ (ss : List TreeNode). slice_get ss k ≡ Some s) more.1.2 is)) [
     | inl h ↦ all k s h
-    | inr h ↦ subst (λ (t : Step). IsKind t.seen.value) h.1 (subst IsKind (sym more.1.1.seen_is) this)
+    | inr h ↦ subst (λ (t : TreeNode). IsKind t.seen.value) h.1 (subst IsKind (sym more.1.1.seen_is) this)
   ]
-  | inr same ↦ all k s (subst (λ (ss : List Step). slice_get ss k ≡ Some s) same.1 is)
+  | inr same ↦ all k s (subst (λ (ss : List TreeNode). slice_get ss k ≡ Some s) same.1 is)
 ]
 
 -- The start's row is the first that is read, so what it shows is told, and stays so.
-pub start_seen : (r : Rule) (z : Cost) → z ≡ zero_cost → (seen : Seen) (mid steps : List Step) (labels between new : Labels) → IsStartAlone r.from labels → IsLater [] mid labels between → IsGoneOn r (record { node = r.from; cost = z; before = None }) seen [] mid labels between → IsLater mid steps between new → IsStartSeen r seen steps new
+pub start_seen : (r : Rule) (z : Cost) → z ≡ zero_cost → (seen : Seen) (mid steps : List TreeNode) (labels between new : Labels)
+    → IsStartAlone r.from labels → IsLater [] mid labels between → IsGoneOn r
+    (record { node = r.from; cost = z; before = None }) seen [] mid labels between → IsLater mid steps between new → IsStartSeen r seen steps new
 start_seen r z zero_is seen mid steps labels between new start begun gone later = record { node = gone.node; step = step; direct = direct } where
-  step : (row_in seen).rank ≡ None → (k : ℕ) × ((s : Step) × (slice_get steps k ≡ Some s) × (s.seen.value ≡ seen))
+  step : (row_in seen).rank ≡ None → (k : ℕ) × ((s : TreeNode) × (slice_get steps k ≡ Some s) × (s.seen.value ≡ seen))
   step unranked = elim gone.steps [
-    | inl more ↦ (0, (more.1.0, later.steps 0 more.1.0 (subst (λ (ss : List Step). slice_get ss 0 ≡ Some more.1.0) (sym more.1.2) refl), more.1.1.seen_is))
+    | inl more ↦ (0, (more.1.0, later.steps 0 more.1.0 (subst (λ (ss : List TreeNode). slice_get ss 0 ≡ Some more.1.0) (sym more.1.2) refl), more.1.1.seen_is))
     | inr ranked ↦ absurd (ranked.0 unranked)
   ]
 
@@ -265,8 +272,8 @@ start_seen r z zero_is seen mid steps labels between new start begun gone later 
     ]
   ]
 
-pub seen_none : (IsKind : Seen → Type 0) (steps : List Step) → steps ≡ [] → AllSeen IsKind steps
-seen_none IsKind steps none k s is = absurd (nothing k s (subst (λ (ss : List Step). slice_get ss k ≡ Some s) none is))
+pub seen_none : (IsKind : Seen → Type 0) (steps : List TreeNode) → steps ≡ [] → AllSeen IsKind steps
+seen_none IsKind steps none k s is = absurd (nothing k s (subst (λ (ss : List TreeNode). slice_get ss k ≡ Some s) none is))
 
 -- only the start is known
 pub all_start : (IsKind : ℕ → Type 0) (from : ℕ) (labels : Labels) → IsStartAlone from labels → IsKind from → AllAre IsKind labels

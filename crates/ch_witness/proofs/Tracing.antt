@@ -12,7 +12,7 @@ use Rattle.ch_graph.specs.Walk.Walk.{stay, go}
 use Rattle.ch_laws.specs.Verdicts.{SeenArc}
 use Rattle.ch_overlay.specs.Source.{row_of}
 use Rattle.ch_witness.specs.declared.rule.Rule.{Rule}
-use Rattle.ch_witness.specs.declared.step.Step.{Step}
+use Rattle.ch_witness.specs.declared.step.TreeNode.{TreeNode}
 use Rattle.ch_witness.specs.Tree.{node_of, step_row, seen_of, LeadsTo, IsReachedBy, IsTreeStep, AreSteps}
 
 -- how many steps a way may still go back over
@@ -21,7 +21,7 @@ places_to None = 0
 places_to (Some k) = k + 1
 
 -- The nodes of the end of a way, backward: the rest of it is what leads to the last of them, after the step before.
-pub record IsTraced (r : Rule) (steps : List Step) (target : ℕ) (c : Cost) (backward : List ℕ) (before : Option ℕ) : Type 0 where
+pub record IsTraced (r : Rule) (steps : List TreeNode) (target : ℕ) (c : Cost) (backward : List ℕ) (before : Option ℕ) : Type 0 where
   pub node : ℕ
   pub known : Cost
   pub rest : Cost
@@ -44,29 +44,29 @@ equal x y e = grind (arith, nat_tests, e)
 unlike : (x y : ℕ) → x ≢ y → nat_eq x y ≡ false
 unlike x y apart = grind (arith, nat_tests, apart)
 
-some-same : (s t : Step) → Some s ≡ Some t → s ≡ t
+some-same : (s t : TreeNode) → Some s ≡ Some t → s ≡ t
 some-same s t e = cc
 
 -- the first step of a node has its row
-row_at_place : (steps : List Step) (k : ℕ) (s : Step) → slice_get steps k ≡ Some s → ((j : ℕ) (t : Step) → j < k → slice_get steps j ≡ Some t → node_of t ≢ node_of s) → row_of (seen_of steps) (node_of s) ≡ Some (step_row s)
+row_at_place : (steps : List TreeNode) (k : ℕ) (s : TreeNode) → slice_get steps k ≡ Some s → ((j : ℕ) (t : TreeNode) → j < k → slice_get steps j ≡ Some t → node_of t ≢ node_of s) → row_of (seen_of steps) (node_of s) ≡ Some (step_row s)
 row_at_place [] k s is first = absurd (cc)
 row_at_place (t ∷ ts) zero s is first =
-    subst (λ (u : Step). row_of (u.seen.value ∷ seen_of ts) (node_of s) ≡ Some (step_row s)) (sym (some-same t s is)) (true-case (nat_eq (node_of s) (node_of s)) (Some (step_row s)) (row_of (seen_of ts) (node_of s)) (equal (node_of s) (node_of s) refl))
+    subst (λ (u : TreeNode). row_of (u.seen.value ∷ seen_of ts) (node_of s) ≡ Some (step_row s)) (sym (some-same t s is)) (true-case (nat_eq (node_of s) (node_of s)) (Some (step_row s)) (row_of (seen_of ts) (node_of s)) (equal (node_of s) (node_of s) refl))
 row_at_place (t ∷ ts) (suc k) s is first =
     false-case (nat_eq (node_of t) (node_of s)) (Some (step_row t)) (row_of (seen_of ts) (node_of s)) (unlike (node_of t) (node_of s) (first 0 t (omega arith) refl))
     ∙ row_at_place ts k s is (λ j u h at. first (suc j) u (omega (arith, h)) at)
 
-pub row_of_step : (r : Rule) (steps : List Step) → AreSteps r steps → (k : ℕ) (s : Step) → slice_get steps k ≡ Some s → row_of (seen_of steps) (node_of s) ≡ Some (step_row s)
+pub row_of_step : (r : Rule) (steps : List TreeNode) → AreSteps r steps → (k : ℕ) (s : TreeNode) → slice_get steps k ≡ Some s → row_of (seen_of steps) (node_of s) ≡ Some (step_row s)
 row_of_step r steps are k s is = row_at_place steps k s is (λ j t h at e. omega (arith, h, are.once j k t s at is e))
 
 -- Tracing
 
 -- what is reached within fewer steps is within more
-pub reached_more : (from : ℕ) (steps : List Step) (m n : ℕ) (before : Option ℕ) (v : ℕ) (c : Cost) → m ≤ n → IsReachedBy from steps m before v c → IsReachedBy from steps n before v c
+pub reached_more : (from : ℕ) (steps : List TreeNode) (m n : ℕ) (before : Option ℕ) (v : ℕ) (c : Cost) → m ≤ n → IsReachedBy from steps m before v c → IsReachedBy from steps n before v c
 reached_more from steps m n None v c h k = k
 reached_more from steps m n (Some j) v c h k = (omega (arith, h, k.0), k.1)
 
-pub traced_start : (r : Rule) (steps : List Step) (target : ℕ) (c : Cost) (before : Option ℕ) → IsReachedBy r.from steps (length steps) before target c → target ≢ r.avoid → IsTraced r steps target c (target ∷ []) before
+pub traced_start : (r : Rule) (steps : List TreeNode) (target : ℕ) (c : Cost) (before : Option ℕ) → IsReachedBy r.from steps (length steps) before target c → target ≢ r.avoid → IsTraced r steps target c (target ∷ []) before
 traced_start r steps target c before reached apart = record {
   node = target;
   known = c;
@@ -78,18 +78,18 @@ traced_start r steps target c before reached apart = record {
 }
 
 -- the step before is one of those that were made
-pub traced_place : (r : Rule) (steps : List Step) (target : ℕ) (c : Cost) (backward : List ℕ) (k : ℕ) → IsTraced r steps target c backward (Some k) → k < length steps
+pub traced_place : (r : Rule) (steps : List TreeNode) (target : ℕ) (c : Cost) (backward : List ℕ) (k : ℕ) → IsTraced r steps target c backward (Some k) → k < length steps
 traced_place r steps target c backward k h = h.reached.0
 
 -- the step before that one comes earlier
-pub traced_earlier : (r : Rule) (steps : List Step) → AreSteps r steps → (k : ℕ) (s : Step) → slice_get steps k ≡ Some s → places_to s.before < k + 1
+pub traced_earlier : (r : Rule) (steps : List TreeNode) → AreSteps r steps → (k : ℕ) (s : TreeNode) → slice_get steps k ≡ Some s → places_to s.before < k + 1
 traced_earlier r steps are k s is = earlier s.before (are.each k s is).reached where
   earlier : (before : Option ℕ) → IsReachedBy r.from steps k before (node_of s) s.cost → places_to before < k + 1
   earlier None h = omega arith
   earlier (Some j) h = omega (arith, h.0)
 
 -- the way goes back over a step
-pub traced_more : (r : Rule) (steps : List Step) → AreSteps r steps → (target : ℕ) (c : Cost) (backward : List ℕ) (k : ℕ) (s : Step) → slice_get steps k ≡ Some s → IsTraced r steps target c backward (Some k) → IsTraced r steps target c (backward ++ node_of s ∷ []) s.before
+pub traced_more : (r : Rule) (steps : List TreeNode) → AreSteps r steps → (target : ℕ) (c : Cost) (backward : List ℕ) (k : ℕ) (s : TreeNode) → slice_get steps k ≡ Some s → IsTraced r steps target c backward (Some k) → IsTraced r steps target c (backward ++ node_of s ∷ []) s.before
 traced_more r steps are target c backward k s is h = record {
   node = node_of s;
   known = s.cost;
@@ -103,7 +103,7 @@ traced_more r steps are target c backward k s is h = record {
   step = are.each k s is
 
   leads : LeadsTo s h.node h.known
-  leads = subst (λ (t : Step). LeadsTo t h.node h.known) (some-same h.reached.1.0 s (sym h.reached.1.1 ∙ is)) h.reached.1.2
+  leads = subst (λ (t : TreeNode). LeadsTo t h.node h.known) (some-same h.reached.1.0 s (sym h.reached.1.1 ∙ is)) h.reached.1.2
 
   arc : SeenArc (row_of (seen_of steps)) r.avoid (node_of s) h.node leads.arc
   arc = record {
@@ -116,7 +116,7 @@ traced_more r steps are target c backward k s is h = record {
   }
 
 -- the way is whole
-pub traced_whole : (r : Rule) (steps : List Step) (target : ℕ) (c : Cost) (backward : List ℕ) → IsTraced r steps target c backward None → Along (SeenArc (row_of (seen_of steps)) r.avoid) (reverse backward) r.from target c
+pub traced_whole : (r : Rule) (steps : List TreeNode) (target : ℕ) (c : Cost) (backward : List ℕ) → IsTraced r steps target c backward None → Along (SeenArc (row_of (seen_of steps)) r.avoid) (reverse backward) r.from target c
 traced_whole r steps target c backward h =
     subst (λ (d : Cost). Along (SeenArc (row_of (seen_of steps)) r.avoid) (reverse backward) r.from target d)
     (sym (zero_cost-sum h.rest) ∙ ap (λ (x : Cost). x ⊕ h.rest) (sym h.reached.1) ∙ h.sum)

@@ -80,7 +80,9 @@ module _ {X : Type 0} where
   value_beside (n ∷ nodes) (x ∷ values) v u y as_many apart = ap (λ (o : Option X). cond (nat_eq n u) (Some x) o) (value_beside nodes values v u y (omega (arith, as_many)) apart)
 
   -- what is known of all nodes where one more comes with its value
-  pub values_put : (nodes new_nodes : List ℕ) (values new_values : List X) (v : ℕ) (y : X) → new_nodes ≡ nodes ++ v ∷ [] → new_values ≡ values ++ y ∷ [] → length values ≡ length nodes → ((k : ℕ) → k < length nodes → slice_index nodes k ≢ v) → (value_in new_nodes new_values v ≡ Some y) × ((u : ℕ) → u ≢ v → value_in new_nodes new_values u ≡ value_in nodes values u)
+  pub values_put : (nodes new_nodes : List ℕ) (values new_values : List X) (v : ℕ) (y : X) → new_nodes ≡ nodes ++ v ∷ []
+      → new_values ≡ values ++ y ∷ [] → length values ≡ length nodes → ((k : ℕ) → k < length nodes → slice_index nodes k ≢ v)
+      → (value_in new_nodes new_values v ≡ Some y) × ((u : ℕ) → u ≢ v → value_in new_nodes new_values u ≡ value_in nodes values u)
   values_put nodes new_nodes values new_values v y nodes_are values_are as_many absent = (at v ∙ value_put nodes values v y as_many absent, λ u apart. at u ∙ value_beside nodes values v u y as_many apart) where
     at : (u : ℕ) → value_in new_nodes new_values u ≡ value_in (nodes ++ v ∷ []) (values ++ y ∷ []) u
     at u = ap (λ (ns : List ℕ). value_in ns new_values u) nodes_are ∙ ap (λ (xs : List X). value_in (nodes ++ v ∷ []) xs u) values_are

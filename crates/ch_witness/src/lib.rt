@@ -46,5 +46,5 @@ pub use rows::Rows;
 pub use rule::Rule;
 pub use searcher::{Searcher, Traced};
 pub use searching::search;
-pub use step::Step;
+pub use step::TreeNode;
 pub use way::{Found, Way};

@@ -8,7 +8,7 @@ use crate::frontier::Frontier;
 use crate::memory::emptied;
 use crate::rows::Rows;
 use crate::rule::Rule;
-use crate::step::Step;
+use crate::step::TreeNode;
 use crate::trace::way_to;
 use crate::tree::Tree;
 use crate::way::Way;
@@ -22,7 +22,7 @@ pub struct Traced {
     /// For each target, in their order, the best way that the search has reached, or none.
     pub ways: Vec<Option<Way>>,
     /// What the search went on by, in its order: the steps of each node of a way but the last are among them.
-    pub steps: Vec<Step>,
+    pub steps: Vec<TreeNode>,
 }
 
 impl Traced {

@@ -8,7 +8,7 @@ ghost use Rattle.ch_witness.specs.Ways.{AreUnrankedRows, AreWays, IsStartRead};
 use crate::error::SearchError;
 use crate::rule::Rule;
 use crate::searcher::{Searcher, Traced};
-use crate::step::Step;
+use crate::step::TreeNode;
 use crate::way::Found;
 use ch_cost::Cost;
 use ch_overlay::RowSource;
@@ -62,7 +62,7 @@ pub fn search<S: RowSource>(
 }
 
 /// The nodes of the steps, in order.
-fn nodes_of(alloc: Global, steps: &[Step]) -> Result<Vec<u32>, AllocError>
+fn nodes_of(alloc: Global, steps: &[TreeNode]) -> Result<Vec<u32>, AllocError>
     ensures { IfOk result (λ nodes. nodes.items ≡ map (λ s. s.node) (seen_of steps.now)) }
 {
     let mut nodes = Vec::with_capacity(alloc, steps.len())?;

@@ -9,7 +9,7 @@ use std::snapshot::Snapshot;
 ///
 /// Its row stands among those that the search kept. The snapshot says which one it is, and takes no memory.
 #[derive(Drop)]
-pub struct Step {
+pub struct TreeNode {
     pub node: u32,
     pub before: Before,
     pub cost: Cost,

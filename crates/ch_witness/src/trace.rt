@@ -4,7 +4,7 @@ ghost use Rattle.ch_witness.specs.Ways.{IsWay};
 
 use crate::label::Label;
 use crate::rule::Rule;
-use crate::step::Step;
+use crate::step::TreeNode;
 use crate::way::Way;
 use smallvec::SmallVec;
 use std::alloc::{AllocError, Global};
@@ -13,7 +13,7 @@ use std::alloc::{AllocError, Global};
 pub fn way_to(
     alloc: Global,
     rule: Rule,
-    steps: &[Step],
+    steps: &[TreeNode],
     target: u32,
     label: Label,
 ) -> Result<Way, AllocError>

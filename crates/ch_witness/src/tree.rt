@@ -13,7 +13,7 @@ use crate::frontier::{Frontier, Reached};
 use crate::memory::emptied;
 use crate::rows::Rows;
 use crate::rule::Rule;
-use crate::step::Step;
+use crate::step::TreeNode;
 use ch_cost::Cost;
 use ch_overlay::RowSource;
 use std::snapshot::Snapshot;
@@ -21,7 +21,7 @@ use std::snapshot::Snapshot;
 /// The steps of a search, in its order, and what it knows of the nodes that it has come to.
 #[derive(Drop)]
 pub struct Tree {
-    pub steps: Vec<Step>,
+    pub steps: Vec<TreeNode>,
     pub frontier: Frontier,
 }
 
@@ -166,7 +166,7 @@ impl Tree {
             before,
             &mut self.frontier,
         )?;
-        self.steps.push(Step {
+        self.steps.push(TreeNode {
             node: reached.node,
             before: reached.before,
             cost: reached.cost,

@@ -46,7 +46,9 @@ ends_both nodes (Ok starts) (Err e) h k = tt
 ends_both nodes (Err e) b h k = tt
 
 ends_ok : (nodes : ℕ) (fields : List (List ℕ)) → IsInRange nodes (of_ends (ends_of nodes fields))
-ends_ok nodes fields = test_ends nodes (are_ends fields) _ _ (ends_both nodes (places_of nodes (colon_at fields / 2) fields) (places_of nodes (length (behind_colon fields) / 2) (behind_colon fields)) (places_ok nodes (colon_at fields / 2) fields) (places_ok nodes (length (behind_colon fields) / 2) (behind_colon fields))) tt
+ends_ok nodes fields = test_ends nodes (are_ends fields) _ _
+    (ends_both nodes (places_of nodes (colon_at fields / 2) fields) (places_of nodes (length (behind_colon fields) / 2) (behind_colon fields))
+    (places_ok nodes (colon_at fields / 2) fields) (places_ok nodes (length (behind_colon fields) / 2) (behind_colon fields))) tt
 
 of_route : (nodes : ℕ) (r : Result (ℕ × ℕ) GrError) → IfOk r (IsPair nodes) → IsInRange nodes (of_pair Route r)
 of_route nodes (Ok pair) h = h

@@ -52,7 +52,10 @@ module _ {E : Type 0} (grammar : Grammar E) (each : (size : Size) (n : ℕ) (fie
     | Unknown ↦ omega arith
     | Problem ↦ omega arith
     | Entry ↦ test_err (eqb left 0) (fault ArcCount (next_line n)) (grammar.entry_of size (next_line n) (drop 1 (fields_of line)) >>= (λ entry. entries_after grammar size (left - 1) (next_line n) lines >>= (λ entries. Ok (entry ∷ entries)))) (IsFrom (next_line n)) (omega arith)
-        (bind_err (grammar.entry_of size (next_line n) (drop 1 (fields_of line))) (λ entry. entries_after grammar size (left - 1) (next_line n) lines >>= (λ entries. Ok (entry ∷ entries))) (IsFrom (next_line n)) (of_line (next_line n) (grammar.entry_of size (next_line n) (drop 1 (fields_of line))) (each size (next_line n) (drop 1 (fields_of line))))
+        (bind_err (grammar.entry_of size (next_line n) (drop 1 (fields_of line)))
+        (λ entry. entries_after grammar size (left - 1) (next_line n) lines >>= (λ entries. Ok (entry ∷ entries))) (IsFrom (next_line n))
+        (of_line (next_line n) (grammar.entry_of size (next_line n) (drop 1 (fields_of line)))
+        (each size (next_line n) (drop 1 (fields_of line))))
         (λ entry. bind_err (entries_after grammar size (left - 1) (next_line n) lines) (λ entries. Ok (entry ∷ entries)) (IsFrom (next_line n))
         (IfErr-weaker (entries_after grammar size (left - 1) (next_line n) lines) (IsFrom (least_line (next_line n) lines)) (IsFrom (next_line n)) (λ e h. least_next n lines e.line h) (entries_from size (left - 1) (next_line n) lines)) (λ entries. tt)))
   ]
@@ -69,7 +72,10 @@ module _ {E : Type 0} (grammar : Grammar E) (sizes : (n : ℕ) (fields : List (L
   ]) (IsFrom (next_line n))) [
     | Skipped ↦ IfErr-weaker (listing_after grammar (next_line n) lines) (IsFrom (least_line (next_line n) lines)) (IsFrom (next_line n)) (λ e h. least_next n lines e.line h) (listing_faults (next_line n) lines)
     | Unknown ↦ omega arith
-    | Problem ↦ bind_err (grammar.size_of (next_line n) (drop 1 (fields_of line))) (λ size. entries_after grammar size size.entries (next_line n) lines >>= (λ entries. Ok (record { size = size; entries = entries }))) (IsFrom (next_line n)) (of_line (next_line n) (grammar.size_of (next_line n) (drop 1 (fields_of line))) (sizes (next_line n) (drop 1 (fields_of line))))
+    | Problem ↦ bind_err (grammar.size_of (next_line n) (drop 1 (fields_of line)))
+        (λ size. entries_after grammar size size.entries (next_line n) lines >>= (λ entries. Ok (record { size = size; entries = entries })))
+        (IsFrom (next_line n)) (of_line (next_line n) (grammar.size_of (next_line n) (drop 1 (fields_of line)))
+        (sizes (next_line n) (drop 1 (fields_of line))))
         (λ size. bind_err (entries_after grammar size size.entries (next_line n) lines) (λ entries. Ok (record { size = size; entries = entries })) (IsFrom (next_line n))
         (IfErr-weaker (entries_after grammar size size.entries (next_line n) lines) (IsFrom (least_line (next_line n) lines)) (IsFrom (next_line n)) (λ e h. least_next n lines e.line h) (entries_from grammar each size size.entries (next_line n) lines)) (λ entries. tt))
     | Entry ↦ omega arith
@@ -81,7 +87,9 @@ module _ {E : Type 0} (grammar : Grammar E) (sizes : (n : ℕ) (fields : List (L
   from_faults n (Some listing) lines = bind_err (entries_after grammar listing.size _ n lines) _ (IsFrom (least_line n lines)) (entries_from grammar each listing.size _ n lines) (λ entries. tt)
 
   -- where the lines before it were read, no fault is of an earlier line
-  pub first_of : {B : Type 0} (view : Listing E → Result B GrError) → ((read : Listing E) → IfErr (view read) (λ _. ⊥)) → (told : List ℕ → Result (Listing E) GrError) (e : GrError) → IsReadTo grammar told e → (found : GrError) → ((rest : List ℕ) → (told rest >>= view) ≡ Err found) → e.line ≤ found.line
+  pub first_of : {B : Type 0} (view : Listing E → Result B GrError) → ((read : Listing E) → IfErr (view read) (λ _. ⊥))
+      → (told : List ℕ → Result (Listing E) GrError) (e : GrError) → IsReadTo grammar told e → (found : GrError)
+      → ((rest : List ℕ) → (told rest >>= view) ≡ Err found) → e.line ≤ found.line
   first_of view whole told e to found all =
       let rest : List ℕ = 0 ∷ [] in
       let some = some_line to.begun to.back in
@@ -110,7 +118,9 @@ graph_first taken piece r h = IfErr-weaker r _ (ComesFirst (graph_with taken) pi
 
 pub pairs_first : (nodes : ℕ) (taken : Taken (ℕ × ℕ)) (piece : List ℕ) (r : Result ⊤ GrError) → IfErr r (IsReadTo (pair_grammar nodes) (λ rest. told_with (pair_grammar nodes) taken (piece ++ rest)))
     → IfErr r (ComesFirst (pairs_with (record { nodes = nodes; taken = taken })) piece)
-pairs_first nodes taken piece r h = IfErr-weaker r _ (ComesFirst (pairs_with (record { nodes = nodes; taken = taken })) piece) (λ e to. first_of (pair_grammar nodes) (λ n fields. pairs_size-at n nodes fields) (λ size n fields. pair_of-at n size.nodes fields) as_pairs (λ read. tt) (λ rest. told_with (pair_grammar nodes) taken (piece ++ rest)) e to) h
+pairs_first nodes taken piece r h = IfErr-weaker r _ (ComesFirst (pairs_with (record { nodes = nodes; taken = taken })) piece)
+    (λ e to. first_of (pair_grammar nodes) (λ n fields. pairs_size-at n nodes fields) (λ size n fields. pair_of-at n size.nodes fields) as_pairs
+    (λ read. tt) (λ rest. told_with (pair_grammar nodes) taken (piece ++ rest)) e to) h
 
 -- Where a reader stops
 
@@ -145,7 +155,9 @@ module _ {E : Type 0} (grammar : Grammar E) where
   pub read_then : (told later : List ℕ → Result (Listing E) GrError) (e : GrError) → ((rest : List ℕ) → told rest ≡ later rest) → IsReadTo grammar later e → IsReadTo grammar told e
   read_then told later e same to = record { number = to.number; listing = to.listing; begun = to.begun; back = to.back; so_far = λ rest. same rest ∙ to.so_far rest; line_is = to.line_is }
 
-  pub read_kept : (r : Result ⊤ GrError) (told : List ℕ → Result (Listing E) GrError) (n : ℕ) (listing : Option (Listing E)) (begun back : List ℕ) → ((rest : List ℕ) → told rest ≡ listing_from grammar n listing (lines_after begun (back ++ rest))) → IfErr r (λ e. e ≡ record { kind = OutOfMemory; line = next_line n }) → IfErr r (IsReadTo grammar told)
+  pub read_kept : (r : Result ⊤ GrError) (told : List ℕ → Result (Listing E) GrError) (n : ℕ) (listing : Option (Listing E)) (begun back : List ℕ)
+      → ((rest : List ℕ) → told rest ≡ listing_from grammar n listing (lines_after begun (back ++ rest)))
+      → IfErr r (λ e. e ≡ record { kind = OutOfMemory; line = next_line n }) → IfErr r (IsReadTo grammar told)
   read_kept r told n listing begun back same h = IfErr-weaker r _ (IsReadTo grammar told) (λ e is. record { number = n; listing = listing; begun = begun; back = back; so_far = same; line_is = ap (λ (e : GrError). e.line) is }) h
 
   -- a reader that was not refused says what its lines do
@@ -156,13 +168,23 @@ module _ {E : Type 0} (grammar : Grammar E) where
   pub read_so_far : (first mid : Taken E) (bytes : List ℕ) (e : GrError) → mid.failed ≡ None → ((rest : List ℕ) → told_with grammar mid rest ≡ told_with grammar first (bytes ++ rest)) → e.line ≡ next_line mid.line → IsReadTo grammar (λ rest. told_with grammar first (bytes ++ rest)) e
   read_so_far first mid bytes e fresh told line_is = record { number = mid.line; listing = mid.listing; begun = mid.begun; back = []; so_far = λ rest. sym (told rest) ∙ told_fresh mid rest fresh; line_is = line_is }
 
-  pub read_in_piece : (first mid : Taken E) (bytes piece : List ℕ) (e : GrError) → ((rest : List ℕ) → told_with grammar mid rest ≡ told_with grammar first (bytes ++ rest)) → IsReadTo grammar (λ rest. told_with grammar mid (piece ++ rest)) e → IsReadTo grammar (λ rest. told_with grammar first ((bytes ++ piece) ++ rest)) e
+  pub read_in_piece : (first mid : Taken E) (bytes piece : List ℕ) (e : GrError)
+      → ((rest : List ℕ) → told_with grammar mid rest ≡ told_with grammar first (bytes ++ rest))
+      → IsReadTo grammar (λ rest. told_with grammar mid (piece ++ rest)) e
+      → IsReadTo grammar (λ rest. told_with grammar first ((bytes ++ piece) ++ rest)) e
   read_in_piece first mid bytes piece e told to = read_then _ (λ rest. told_with grammar mid (piece ++ rest)) e (λ rest. ap (told_with grammar first) (append_assoc bytes piece rest) ∙ sym (told (piece ++ rest))) to
 
   -- what a reader says at first is what the text says
   pub stops_listed : (first : Taken E) (had left : Option (List ℕ)) (e : GrError) → first ≡ record { line = 0; listing = None; begun = []; failed = None } → StopsWith (ReadTo grammar (told_with grammar first)) had left e → StopsWith (ReadTo grammar (listed grammar)) had left e
-  stops_listed first had left e begins = stops_with (ReadTo grammar (told_with grammar first)) (ReadTo grammar (listed grammar)) had left e (λ taken to. read_then (λ rest. listed grammar (taken ++ rest)) (λ rest. told_with grammar first (taken ++ rest)) e (λ rest. sym (told_first grammar first (taken ++ rest) begins)) to)
+  stops_listed first had left e begins = stops_with (ReadTo grammar (told_with grammar first)) (ReadTo grammar (listed grammar)) had left e
+      (λ taken to. read_then (λ rest. listed grammar (taken ++ rest)) (λ rest. told_with grammar first (taken ++ rest)) e
+      (λ rest. sym (told_first grammar first (taken ++ rest) begins)) to)
 
   -- and at the end
-  pub read_at_end : {A : Type 0} (r : Result A GrError) (first last : Taken E) (had left : Option (List ℕ)) → last.failed ≡ None → HasTaken (told_with grammar first) (told_with grammar last) last.line had left → IfErr r (IsAtEndOf last.line) → IfErr r (StopsWith (ReadTo grammar (told_with grammar first)) had left)
-  read_at_end r first last had left fresh taken refused = IfErr-weaker r (IsAtEndOf last.line) (StopsWith (ReadTo grammar (told_with grammar first)) had left) (λ e at. stops_there (ReadTo grammar (told_with grammar first)) taken.0 had left e taken.3 (λ nothing. read_so_far first last taken.0 e fresh taken.1 (at.memory (wants_memory e.kind nothing at.no_read)))) refused
+  pub read_at_end : {A : Type 0} (r : Result A GrError) (first last : Taken E) (had left : Option (List ℕ)) → last.failed ≡ None
+      → HasTaken (told_with grammar first) (told_with grammar last) last.line had left → IfErr r (IsAtEndOf last.line)
+      → IfErr r (StopsWith (ReadTo grammar (told_with grammar first)) had left)
+  read_at_end r first last had left fresh taken refused = IfErr-weaker r (IsAtEndOf last.line)
+      (StopsWith (ReadTo grammar (told_with grammar first)) had left)
+      (λ e at. stops_there (ReadTo grammar (told_with grammar first)) taken.0 had left e taken.3
+      (λ nothing. read_so_far first last taken.0 e fresh taken.1 (at.memory (wants_memory e.kind nothing at.no_read)))) refused

@@ -45,7 +45,9 @@ from_first line from start first from_is =
     let place : start + 0 ≡ start = omega arith in
     ap (λ (text : List ℕ). is_blank (get_or text 0 0)) from_is ∙ ap is_blank (get_or-drop start line 0 0 ∙ ap (λ (k : ℕ). get_or line k 0) place) ∙ first
 
-pub next_at : (line from rest : List ℕ) (start end : ℕ) → (start < length line) × (is_blank (get_or line start 0) ≡ false) × (fields_of line ≡ fields_of (drop start line)) → from ≡ drop start line → (end < length from) × (is_blank (get_or from end 0) ≡ true) × ((j : ℕ) → j < end → is_blank (get_or from j 0) ≡ false) → rest ≡ drop (end + 1) from → fields_of line ≡ take end from ∷ fields_of rest
+pub next_at : (line from rest : List ℕ) (start end : ℕ) → (start < length line) × (is_blank (get_or line start 0) ≡ false)
+    × (fields_of line ≡ fields_of (drop start line)) → from ≡ drop start line → (end < length from) × (is_blank (get_or from end 0) ≡ true)
+    × ((j : ℕ) → j < end → is_blank (get_or from j 0) ≡ false) → rest ≡ drop (end + 1) from → fields_of line ≡ take end from ∷ fields_of rest
 next_at line from rest start end starts from_is ends rest_is =
     let after : drop (suc end) from ≡ rest = ap (λ (k : ℕ). drop k from) (sym (add-one end)) ∙ sym rest_is in
     starts.2 ∙ ap fields_of (sym from_is) ∙ field_at from end ends.0 (from_first line from start starts.1 from_is) ends.1 ends.2 ∙ ap (λ (text : List ℕ). take end from ∷ fields_of text) after

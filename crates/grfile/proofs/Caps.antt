@@ -66,13 +66,21 @@ weight-capped line from to weight = elim (cases_lt (2 ^ 32 - 1) weight) [
 
 road-capped : (nodes line from to weight : ℕ) → nodes < 2 ^ 32 → road_in_range nodes line from to weight ≡ road_in_range nodes line (capped from) (capped to) (capped weight)
 road-capped nodes line from to weight h =
-    node-capped nodes line from (λ from. if is_outside nodes to then fault NodeRange line else road_weighed line from to weight) (λ from. if is_outside nodes (capped to) then fault NodeRange line else road_weighed line from (capped to) (capped weight)) h (λ _. node-capped nodes line to (λ to. road_weighed line from to weight) (λ to. road_weighed line from to (capped weight)) h (λ _. weight-capped line from to weight))
+    node-capped nodes line from (λ from. if is_outside nodes to then fault NodeRange line else road_weighed line from to weight)
+    (λ from. if is_outside nodes (capped to) then fault NodeRange line else road_weighed line from (capped to) (capped weight)) h
+    (λ _. node-capped nodes line to (λ to. road_weighed line from to weight) (λ to. road_weighed line from to (capped weight)) h
+    (λ _. weight-capped line from to weight))
 
 -- the lines, read from numbers with the cap
 
 pub graph_size-three : (line : ℕ) (fields : List (List ℕ)) (word n m : List ℕ) → fields ≡ word ∷ n ∷ m ∷ [] → graph_size line fields ≡ (if bytes_eq word (codes "sp") then capped_in line n >>= (λ nodes. capped_in line m >>= (λ arcs. size_in_range line nodes arcs)) else fault UnknownLine line)
 unfolding graph_size
-graph_size-three line fields word n m are = rw are (ap (λ (read : Result Size GrError). if bytes_eq word (codes "sp") then read else fault UnknownLine line) (capped_step line n (λ nodes. number_in line m >>= (λ arcs. size_in_range line nodes arcs)) (λ nodes. capped_in line m >>= (λ arcs. size_in_range line nodes arcs)) (λ nodes. capped_step line m (λ arcs. size_in_range line nodes arcs) (λ arcs. size_in_range line (capped nodes) arcs) (λ arcs. size-capped line nodes arcs))))
+graph_size-three line fields word n m are = rw are
+    (ap (λ (read : Result Size GrError). if bytes_eq word (codes "sp") then read else fault UnknownLine line)
+    (capped_step line n (λ nodes. number_in line m >>= (λ arcs. size_in_range line nodes arcs))
+    (λ nodes. capped_in line m >>= (λ arcs. size_in_range line nodes arcs))
+    (λ nodes. capped_step line m (λ arcs. size_in_range line nodes arcs) (λ arcs. size_in_range line (capped nodes) arcs)
+    (λ arcs. size-capped line nodes arcs))))
 
 pub graph_size-other : (line : ℕ) (fields : List (List ℕ)) → length fields ≢ 3 → graph_size line fields ≡ fault FieldCount line
 unfolding graph_size
@@ -84,7 +92,13 @@ graph_size-other line (a ∷ b ∷ c ∷ d ∷ more) other = refl
 
 pub road_of-three : (nodes line : ℕ) (fields : List (List ℕ)) (u v w : List ℕ) → nodes < 2 ^ 32 → fields ≡ u ∷ v ∷ w ∷ [] → road_of nodes line fields ≡ (capped_in line u >>= (λ from. capped_in line v >>= (λ to. capped_in line w >>= (λ weight. road_in_range nodes line from to weight))))
 unfolding road_of
-road_of-three nodes line fields u v w h are = rw are (capped_step line u (λ from. number_in line v >>= (λ to. number_in line w >>= (λ weight. road_in_range nodes line from to weight))) (λ from. capped_in line v >>= (λ to. capped_in line w >>= (λ weight. road_in_range nodes line from to weight))) (λ from. capped_step line v (λ to. number_in line w >>= (λ weight. road_in_range nodes line from to weight)) (λ to. capped_in line w >>= (λ weight. road_in_range nodes line (capped from) to weight)) (λ to. capped_step line w (λ weight. road_in_range nodes line from to weight) (λ weight. road_in_range nodes line (capped from) (capped to) weight) (λ weight. road-capped nodes line from to weight h))))
+road_of-three nodes line fields u v w h are = rw are
+    (capped_step line u (λ from. number_in line v >>= (λ to. number_in line w >>= (λ weight. road_in_range nodes line from to weight)))
+    (λ from. capped_in line v >>= (λ to. capped_in line w >>= (λ weight. road_in_range nodes line from to weight)))
+    (λ from. capped_step line v (λ to. number_in line w >>= (λ weight. road_in_range nodes line from to weight))
+    (λ to. capped_in line w >>= (λ weight. road_in_range nodes line (capped from) to weight))
+    (λ to. capped_step line w (λ weight. road_in_range nodes line from to weight)
+    (λ weight. road_in_range nodes line (capped from) (capped to) weight) (λ weight. road-capped nodes line from to weight h))))
 
 pub road_of-other : (nodes line : ℕ) (fields : List (List ℕ)) → length fields ≢ 3 → road_of nodes line fields ≡ fault FieldCount line
 unfolding road_of
@@ -104,11 +118,19 @@ count-capped nodes line count = elim (cases_lt (2 ^ 27) count) [
 
 pair-capped : (nodes line source target : ℕ) → nodes < 2 ^ 32 → pair_in_range nodes line source target ≡ pair_in_range nodes line (capped source) (capped target)
 pair-capped nodes line source target h =
-    node-capped nodes line source (λ source. if is_outside nodes target then fault NodeRange line else Ok (source - 1, target - 1)) (λ source. if is_outside nodes (capped target) then fault NodeRange line else Ok (source - 1, capped target - 1)) h (λ _. node-capped nodes line target (λ target. Ok (source - 1, target - 1)) (λ target. Ok (source - 1, target - 1)) h (λ _. refl))
+    node-capped nodes line source (λ source. if is_outside nodes target then fault NodeRange line else Ok (source - 1, target - 1))
+    (λ source. if is_outside nodes (capped target) then fault NodeRange line else Ok (source - 1, capped target - 1)) h
+    (λ _. node-capped nodes line target (λ target. Ok (source - 1, target - 1)) (λ target. Ok (source - 1, target - 1)) h (λ _. refl))
 
-pub pairs_size-four : (nodes line : ℕ) (fields : List (List ℕ)) (first second third k : List ℕ) → fields ≡ first ∷ second ∷ third ∷ k ∷ [] → pairs_size nodes line fields ≡ (if bytes_eq first (codes "aux") && bytes_eq second (codes "sp") && bytes_eq third (codes "p2p") then capped_in line k >>= (λ count. count_in_range nodes line count) else fault UnknownLine line)
+pub pairs_size-four : (nodes line : ℕ) (fields : List (List ℕ)) (first second third k : List ℕ) → fields ≡ first ∷ second ∷ third ∷ k ∷ []
+    → pairs_size nodes line fields ≡ (if bytes_eq first (codes "aux") && bytes_eq second (codes "sp") && bytes_eq third
+    (codes "p2p") then capped_in line k >>= (λ count. count_in_range nodes line count) else fault UnknownLine line)
 unfolding pairs_size
-pairs_size-four nodes line fields first second third k are = rw are (ap (λ (read : Result Size GrError). if bytes_eq first (codes "aux") && bytes_eq second (codes "sp") && bytes_eq third (codes "p2p") then read else fault UnknownLine line) (capped_step line k (λ count. count_in_range nodes line count) (λ count. count_in_range nodes line count) (λ count. count-capped nodes line count)))
+pairs_size-four nodes line fields first second third k are = rw are
+    (ap (λ (read : Result Size GrError). if bytes_eq first (codes "aux") && bytes_eq second (codes "sp") && bytes_eq third
+    (codes "p2p") then read else fault UnknownLine line)
+    (capped_step line k (λ count. count_in_range nodes line count) (λ count. count_in_range nodes line count)
+    (λ count. count-capped nodes line count)))
 
 pub pairs_size-other : (nodes line : ℕ) (fields : List (List ℕ)) → length fields ≢ 4 → pairs_size nodes line fields ≡ fault FieldCount line
 unfolding pairs_size
@@ -121,7 +143,11 @@ pairs_size-other nodes line (a ∷ b ∷ c ∷ d ∷ e ∷ more) other = refl
 
 pub pair_of-two : (nodes line : ℕ) (fields : List (List ℕ)) (s t : List ℕ) → nodes < 2 ^ 32 → fields ≡ s ∷ t ∷ [] → pair_of nodes line fields ≡ (capped_in line s >>= (λ source. capped_in line t >>= (λ target. pair_in_range nodes line source target)))
 unfolding pair_of
-pair_of-two nodes line fields s t h are = rw are (capped_step line s (λ source. number_in line t >>= (λ target. pair_in_range nodes line source target)) (λ source. capped_in line t >>= (λ target. pair_in_range nodes line source target)) (λ source. capped_step line t (λ target. pair_in_range nodes line source target) (λ target. pair_in_range nodes line (capped source) target) (λ target. pair-capped nodes line source target h)))
+pair_of-two nodes line fields s t h are = rw are
+    (capped_step line s (λ source. number_in line t >>= (λ target. pair_in_range nodes line source target))
+    (λ source. capped_in line t >>= (λ target. pair_in_range nodes line source target))
+    (λ source. capped_step line t (λ target. pair_in_range nodes line source target) (λ target. pair_in_range nodes line (capped source) target)
+    (λ target. pair-capped nodes line source target h)))
 
 pub pair_of-other : (nodes line : ℕ) (fields : List (List ℕ)) → length fields ≢ 2 → pair_of nodes line fields ≡ fault FieldCount line
 unfolding pair_of

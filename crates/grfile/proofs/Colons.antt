@@ -89,7 +89,10 @@ onto_places : (places : List Place) (place : Place) (r : Result (List Place) GrE
 onto_places places place (Ok more) = ap (λ (all : List Place). Ok all) (sym (append_assoc places (place ∷ []) more))
 onto_places places place (Err e) = refl
 
-pub placed : (nodes count i : ℕ) (whole : Result (List Place) GrError) (old new : List (List ℕ)) (places : List Place) (place : Place) → i < count → whole ≡ (places_of nodes (count - i) old >>= (λ more. Ok (places ++ more))) → places_of nodes (suc (count - (i + 1))) old ≡ place_then place (places_of nodes (count - (i + 1)) new) → whole ≡ (places_of nodes (count - (i + 1)) new >>= (λ more. Ok ((places ++ place ∷ []) ++ more)))
+pub placed : (nodes count i : ℕ) (whole : Result (List Place) GrError) (old new : List (List ℕ)) (places : List Place) (place : Place) → i < count
+    → whole ≡ (places_of nodes (count - i) old >>= (λ more. Ok (places ++ more)))
+    → places_of nodes (suc (count - (i + 1))) old ≡ place_then place (places_of nodes (count - (i + 1)) new)
+    → whole ≡ (places_of nodes (count - (i + 1)) new >>= (λ more. Ok ((places ++ place ∷ []) ++ more)))
 placed nodes count i whole old new places place h is step =
     let one : count - i ≡ suc (count - (i + 1)) = omega arith in
     is ∙ ap (λ (r : Result (List Place) GrError). r >>= (λ more. Ok (places ++ more))) (ap (λ (k : ℕ). places_of nodes k old) one ∙ step) ∙ onto_places places place (places_of nodes (count - (i + 1)) new)

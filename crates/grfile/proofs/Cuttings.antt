@@ -43,7 +43,9 @@ module _ {E B : Type 0} (grammar : Grammar E) (old new : Taken E) (piece : List 
   takes_seen (Ok x) takes = λ rest. ap (λ (told : Result (Listing E) GrError). told >>= view) (takes rest)
   takes_seen (Err e) takes = λ rest. from_text_map e.kind (λ h. ap (λ (told : Result (Listing E) GrError). told >>= view) h) (takes rest)
 
-  pub still_holds : (P : B → Type 0) (r : Result ⊤ GrError) → Takes r (λ rest. told_with grammar old (piece ++ rest)) (told_with grammar new) → IfErr r (λ e. new.failed ≡ Some e) → ((rest : List ℕ) → ForOk (told_with grammar old rest >>= view) P) → (rest : List ℕ) → ForOk (told_with grammar new rest >>= view) P
+  pub still_holds : (P : B → Type 0) (r : Result ⊤ GrError) → Takes r (λ rest. told_with grammar old (piece ++ rest)) (told_with grammar new)
+      → IfErr r (λ e. new.failed ≡ Some e) → ((rest : List ℕ) → ForOk (told_with grammar old rest >>= view) P) → (rest : List ℕ)
+      → ForOk (told_with grammar new rest >>= view) P
   still_holds P (Ok x) takes refused holds rest b is = holds (piece ++ rest) b (sym (ap (λ (told : Result (Listing E) GrError). told >>= view) (takes rest)) ∙ is)
   still_holds P (Err e) takes refused holds rest b is =
       let told = ap (λ (told : Result (Listing E) GrError). told >>= view) (told_failed grammar new e rest refused) in
@@ -61,7 +63,9 @@ known_more bytes chunk (Some text) (Some xs) (Some ys) known consumes = append_a
 count_more : (bytes chunk : List ℕ) (mid new : ℕ) → mid ≡ capped (line_feeds bytes) → new ≡ capped (mid + line_feeds chunk) → new ≡ capped (line_feeds (bytes ++ chunk))
 count_more bytes chunk mid new mid_is new_is = omega (arith, mid_is, new_is, feeds_both bytes chunk)
 
-pub taken_more : {B : Type 0} (old mid new : List ℕ → Result B GrError) (line more : ℕ) (had left later : Option (List ℕ)) (chunk : List ℕ) → HasTaken old mid line had left → ((rest : List ℕ) → new rest ≡ mid (chunk ++ rest)) → more ≡ capped (line + line_feeds chunk) → Consumes left later chunk → HasTaken old new more had later
+pub taken_more : {B : Type 0} (old mid new : List ℕ → Result B GrError) (line more : ℕ) (had left later : Option (List ℕ)) (chunk : List ℕ)
+    → HasTaken old mid line had left → ((rest : List ℕ) → new rest ≡ mid (chunk ++ rest)) → more ≡ capped (line + line_feeds chunk)
+    → Consumes left later chunk → HasTaken old new more had later
 taken_more old mid new line more had left later chunk taken told count consumes = (
   taken.0 ++ chunk,
   λ rest. told rest ∙ taken.1 (chunk ++ rest) ∙ ap old (sym (append_assoc taken.0 chunk rest)),
@@ -86,7 +90,9 @@ stops_after taken (Some text) None e known reached nothing = absurd known
 stops_after taken (Some text) (Some rest) e known reached nothing = (taken, known, reached)
 
 -- in a piece that was taken last
-pub stops_in_piece : {B : Type 0} (old mid : List ℕ → Result B GrError) (line new : ℕ) (had left later : Option (List ℕ)) (chunk : List ℕ) (e : GrError) → HasTaken old mid line had left → Consumes left later chunk → length chunk ≤ 65536 → IsLineReached line (line + line_feeds chunk) new e → StopsAtReached had later e
+pub stops_in_piece : {B : Type 0} (old mid : List ℕ → Result B GrError) (line new : ℕ) (had left later : Option (List ℕ)) (chunk : List ℕ)
+    (e : GrError) → HasTaken old mid line had left → Consumes left later chunk → length chunk ≤ 65536
+    → IsLineReached line (line + line_feeds chunk) new e → StopsAtReached had later e
 stops_in_piece old mid line new had left later chunk e taken consumes short reached =
     stops_after (taken.0 ++ chunk) had later e (known_more taken.0 chunk had left later taken.3 consumes) (record {
       before = taken.0;
@@ -147,7 +153,9 @@ nothing_taken None = tt
 nothing_taken (Some text) = refl
 
 -- what is told of the end is refused by no failed read
-pub reads_at_end : {S A B : Type 0} (step : S → S → Result ℕ Error → Type 0) (remaining : S → Option (List ℕ)) {most : ℕ} {from to : S} (r : Result A GrError) (old mid : List ℕ → Result B GrError) (line : ℕ) → HasTaken old mid line (remaining from) (remaining to) → IfErr r (IsAtEndOf line) → ReachesEnd step remaining most from to
+pub reads_at_end : {S A B : Type 0} (step : S → S → Result ℕ Error → Type 0) (remaining : S → Option (List ℕ)) {most : ℕ} {from to : S}
+    (r : Result A GrError) (old mid : List ℕ → Result B GrError) (line : ℕ) → HasTaken old mid line (remaining from) (remaining to)
+    → IfErr r (IsAtEndOf line) → ReachesEnd step remaining most from to
     → ReadsToEnd step remaining most from to r
 reads_at_end step remaining (Ok x) old mid line taken refused whole = whole
 reads_at_end step remaining {from = from} {to = to} (Err e) old mid line taken refused whole = record {
@@ -181,7 +189,9 @@ module _ {E : Type 0} (grammar : Grammar E) (first : Taken E) (begins : first �
   reading_all : {A : Type 0} (view : A → Listing E) (r : Result A GrError) (told : Result (Listing E) GrError) (text : List ℕ) → IsReading view r told → told ≡ listing_after grammar 0 (lines_of text) → IsReading view r (listing_after grammar 0 (lines_of text))
   reading_all view r told text reading same = subst (λ (told : Result (Listing E) GrError). IsReading view r told) same reading
 
-  pub told_all : {A : Type 0} (view : A → Listing E) (last : Taken E) (r : Result A GrError) (had left : Option (List ℕ)) → HasTaken (told_with grammar first) (told_with grammar last) last.line had left → IsAtEnd left → IsReading view r (told_with grammar last []) → IfSome had (λ text. IsReading view r (listing_after grammar 0 (lines_of text)))
+  pub told_all : {A : Type 0} (view : A → Listing E) (last : Taken E) (r : Result A GrError) (had left : Option (List ℕ))
+      → HasTaken (told_with grammar first) (told_with grammar last) last.line had left → IsAtEnd left → IsReading view r (told_with grammar last [])
+      → IfSome had (λ text. IsReading view r (listing_after grammar 0 (lines_of text)))
   told_all view last r None left taken ended reading = tt
   told_all view last r (Some text) None taken ended reading = absurd taken.3
   told_all view last r (Some text) (Some xs) taken ended reading =
@@ -192,5 +202,7 @@ module _ {E : Type 0} (grammar : Grammar E) (first : Taken E) (begins : first �
   told_by view (Ok x) told text same reading = (text, sym same ∙ reading)
   told_by view (Err e) told text same reading = tt
 
-  pub told_some : {A : Type 0} (view : A → Listing E) (last : Taken E) (r : Result A GrError) (had left : Option (List ℕ)) → HasTaken (told_with grammar first) (told_with grammar last) last.line had left → IsReading view r (told_with grammar last []) → IfOk r (λ x. (text : List ℕ) × (listing_after grammar 0 (lines_of text) ≡ Ok (view x)))
+  pub told_some : {A : Type 0} (view : A → Listing E) (last : Taken E) (r : Result A GrError) (had left : Option (List ℕ))
+      → HasTaken (told_with grammar first) (told_with grammar last) last.line had left → IsReading view r (told_with grammar last [])
+      → IfOk r (λ x. (text : List ℕ) × (listing_after grammar 0 (lines_of text) ≡ Ok (view x)))
   told_some view last r had left taken reading = told_by view r (told_with grammar last []) (taken.0 ++ []) (taken.1 [] ∙ told_first grammar first (taken.0 ++ []) begins) reading

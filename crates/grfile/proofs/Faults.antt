@@ -51,7 +51,9 @@ module _ (line : ℕ) where
   road_of-at nodes [] = (refl, count)
   road_of-at nodes (a ∷ []) = (refl, count)
   road_of-at nodes (a ∷ b ∷ []) = (refl, count)
-  road_of-at nodes (u ∷ v ∷ w ∷ []) = bind_err (number_in line u) _ (IsOfLine line) (number_at (number_of u)) (λ from. bind_err (number_in line v) _ (IsOfLine line) (number_at (number_of v)) (λ to. bind_err (number_in line w) _ (IsOfLine line) (number_at (number_of w)) (λ weight. roads_at nodes from to weight)))
+  road_of-at nodes (u ∷ v ∷ w ∷ []) = bind_err (number_in line u) _ (IsOfLine line) (number_at (number_of u))
+      (λ from. bind_err (number_in line v) _ (IsOfLine line) (number_at (number_of v))
+      (λ to. bind_err (number_in line w) _ (IsOfLine line) (number_at (number_of w)) (λ weight. roads_at nodes from to weight)))
   road_of-at nodes (a ∷ b ∷ c ∷ d ∷ more) = (refl, count)
 
   pub pairs_size-at : (nodes : ℕ) (fields : List (List ℕ)) → IfErr (pairs_size nodes line fields) (IsOfLine line)
@@ -60,12 +62,18 @@ module _ (line : ℕ) where
   pairs_size-at nodes (a ∷ []) = (refl, count)
   pairs_size-at nodes (a ∷ b ∷ []) = (refl, count)
   pairs_size-at nodes (a ∷ b ∷ c ∷ []) = (refl, count)
-  pairs_size-at nodes (first ∷ second ∷ third ∷ k ∷ []) = test_err (bytes_eq first (codes "aux") && bytes_eq second (codes "sp") && bytes_eq third (codes "p2p")) _ _ (IsOfLine line) (bind_err (number_in line k) _ (IsOfLine line) (number_at (number_of k)) (λ count. test_err (ltb (2 ^ 27) count) _ _ (IsOfLine line) (refl, λ h. absurd (cc)) tt)) (refl, unknown)
+  pairs_size-at nodes (first ∷ second ∷ third ∷ k ∷ []) = test_err
+      (bytes_eq first (codes "aux") && bytes_eq second (codes "sp") && bytes_eq third (codes "p2p")) _ _ (IsOfLine line)
+      (bind_err (number_in line k) _ (IsOfLine line) (number_at (number_of k))
+      (λ count. test_err (ltb (2 ^ 27) count) _ _ (IsOfLine line) (refl, λ h. absurd (cc)) tt)) (refl, unknown)
   pairs_size-at nodes (a ∷ b ∷ c ∷ d ∷ e ∷ more) = (refl, count)
 
   pub pair_of-at : (nodes : ℕ) (fields : List (List ℕ)) → IfErr (pair_of nodes line fields) (IsOfLine line)
   unfolding pair_of
   pair_of-at nodes [] = (refl, count)
   pair_of-at nodes (a ∷ []) = (refl, count)
-  pair_of-at nodes (s ∷ t ∷ []) = bind_err (number_in line s) _ (IsOfLine line) (number_at (number_of s)) (λ source. bind_err (number_in line t) _ (IsOfLine line) (number_at (number_of t)) (λ target. test_err (is_outside nodes source) _ _ (IsOfLine line) (refl, outside) (test_err (is_outside nodes target) _ _ (IsOfLine line) (refl, outside) tt)))
+  pair_of-at nodes (s ∷ t ∷ []) = bind_err (number_in line s) _ (IsOfLine line) (number_at (number_of s))
+      (λ source. bind_err (number_in line t) _ (IsOfLine line) (number_at (number_of t))
+      (λ target. test_err (is_outside nodes source) _ _ (IsOfLine line) (refl, outside)
+      (test_err (is_outside nodes target) _ _ (IsOfLine line) (refl, outside) tt)))
   pair_of-at nodes (a ∷ b ∷ c ∷ more) = (refl, count)

@@ -11,12 +11,17 @@ use Rattle.grfile.specs.Taken.{last_line, cut_after, lines_after, line_feeds}
 pub cut_at : (begun text more : List ℕ) (i : ℕ) → i < length text → eqb (get_or text i 0) 10 ≡ true → ((j : ℕ) → j < i → eqb (get_or text j 0) 10 ≡ false) → cut_after begun (text ++ more) ≡ (begun ++ take i text) ∷ cut_after [] (drop (suc i) text ++ more)
 cut_at begun [] more i h here before = absurd (omega arith)
 cut_at begun (b ∷ text) more zero h here before = cond-true (eqb b 10) (begun ∷ cut_after [] (text ++ more)) (cut_after (begun ++ b ∷ []) (text ++ more)) here ∙ ap (λ (line : List ℕ). line ∷ cut_after [] (text ++ more)) (sym (append-nil begun))
-cut_at begun (b ∷ text) more (suc i) h here before = cond-false (eqb b 10) (begun ∷ cut_after [] (text ++ more)) (cut_after (begun ++ b ∷ []) (text ++ more)) (before 0 (omega arith)) ∙ cut_at (begun ++ b ∷ []) text more i (omega arith) here (λ j k. before (suc j) (omega arith)) ∙ ap (λ (line : List ℕ). line ∷ cut_after [] (drop (suc i) text ++ more)) (append_assoc begun (b ∷ []) (take i text))
+cut_at begun (b ∷ text) more (suc i) h here before = cond-false (eqb b 10) (begun ∷ cut_after [] (text ++ more))
+    (cut_after (begun ++ b ∷ []) (text ++ more)) (before 0 (omega arith))
+    ∙ cut_at (begun ++ b ∷ []) text more i (omega arith) here (λ j k. before (suc j) (omega arith))
+    ∙ ap (λ (line : List ℕ). line ∷ cut_after [] (drop (suc i) text ++ more)) (append_assoc begun (b ∷ []) (take i text))
 
 -- no line feed is there
 pub cut_none : (begun text more : List ℕ) → ((j : ℕ) → j < length text → eqb (get_or text j 0) 10 ≡ false) → cut_after begun (text ++ more) ≡ cut_after (begun ++ text) more
 cut_none begun [] more none = ap (λ (line : List ℕ). cut_after line more) (sym (append-nil begun))
-cut_none begun (b ∷ text) more none = cond-false (eqb b 10) (begun ∷ cut_after [] (text ++ more)) (cut_after (begun ++ b ∷ []) (text ++ more)) (none 0 (omega arith)) ∙ cut_none (begun ++ b ∷ []) text more (λ j k. none (suc j) (omega arith)) ∙ ap (λ (line : List ℕ). cut_after line more) (append_assoc begun (b ∷ []) text)
+cut_none begun (b ∷ text) more none = cond-false (eqb b 10) (begun ∷ cut_after [] (text ++ more)) (cut_after (begun ++ b ∷ []) (text ++ more))
+    (none 0 (omega arith)) ∙ cut_none (begun ++ b ∷ []) text more (λ j k. none (suc j) (omega arith))
+    ∙ ap (λ (line : List ℕ). cut_after line more) (append_assoc begun (b ∷ []) text)
 
 pub feeds_at : (text : List ℕ) (i : ℕ) → i < length text → eqb (get_or text i 0) 10 ≡ true → ((j : ℕ) → j < i → eqb (get_or text j 0) 10 ≡ false) → line_feeds text ≡ line_feeds (drop (suc i) text) + 1
 feeds_at [] i h here before = absurd (omega arith)

@@ -121,11 +121,17 @@ three letter u v w = letter ∷ 32 ∷ (u ++ 32 ∷ (v ++ 32 ∷ w))
 module _ (letter : ℕ) (u v w : List ℕ) (from to weight : ℕ) (u_is : number_of u ≡ Some from) (v_is : number_of v ≡ Some to) (w_is : number_of w ≡ Some weight) where
   split_three : is_blank letter ≡ false → slice_split is_blank (three letter u v w) ≡ (letter ∷ []) ∷ u ∷ v ∷ w ∷ []
   split_three plain =
-      cond-false (is_blank letter) ([] ∷ slice_split is_blank (32 ∷ (u ++ 32 ∷ (v ++ 32 ∷ w)))) (onto_first letter (slice_split is_blank (32 ∷ (u ++ 32 ∷ (v ++ 32 ∷ w))))) plain ∙ ap (λ (parts : List (List ℕ)). (letter ∷ []) ∷ parts) (split_digits u (v ++ 32 ∷ w) (spelled u from u_is).1 ∙ ap (λ (parts : List (List ℕ)). u ∷ parts) (split_digits v w (spelled v to v_is).1 ∙ ap (λ (parts : List (List ℕ)). v ∷ parts) (split_last w (spelled w weight w_is).1)))
+      cond-false (is_blank letter) ([] ∷ slice_split is_blank (32 ∷ (u ++ 32 ∷ (v ++ 32 ∷ w))))
+      (onto_first letter (slice_split is_blank (32 ∷ (u ++ 32 ∷ (v ++ 32 ∷ w))))) plain
+      ∙ ap (λ (parts : List (List ℕ)). (letter ∷ []) ∷ parts)
+      (split_digits u (v ++ 32 ∷ w) (spelled u from u_is).1 ∙ ap (λ (parts : List (List ℕ)). u ∷ parts)
+      (split_digits v w (spelled v to v_is).1 ∙ ap (λ (parts : List (List ℕ)). v ∷ parts) (split_last w (spelled w weight w_is).1)))
 
   fields_three : is_blank letter ≡ false → fields_of (three letter u v w) ≡ (letter ∷ []) ∷ u ∷ v ∷ w ∷ []
   fields_three plain =
-      ap (filter is_field) (split_three plain) ∙ ap (λ (fields : List (List ℕ)). (letter ∷ []) ∷ fields) (field_first u (v ∷ w ∷ []) (spelled u from u_is).0 ∙ ap (λ (fields : List (List ℕ)). u ∷ fields) (field_first v (w ∷ []) (spelled v to v_is).0 ∙ ap (λ (fields : List (List ℕ)). v ∷ fields) (field_first w [] (spelled w weight w_is).0)))
+      ap (filter is_field) (split_three plain) ∙ ap (λ (fields : List (List ℕ)). (letter ∷ []) ∷ fields)
+      (field_first u (v ∷ w ∷ []) (spelled u from u_is).0 ∙ ap (λ (fields : List (List ℕ)). u ∷ fields)
+      (field_first v (w ∷ []) (spelled v to v_is).0 ∙ ap (λ (fields : List (List ℕ)). v ∷ fields) (field_first w [] (spelled w weight w_is).0)))
 
   free_three : eqb letter 10 ≡ false → eqb letter 13 ≡ false → IsFree (three letter u v w)
   free_three feed return = (feed, return, (refl, refl, free_both u (32 ∷ (v ++ 32 ∷ w)) (free_digits u (spelled u from u_is).1) (refl, refl, free_both v (32 ∷ w) (free_digits v (spelled v to v_is).1) (refl, refl, free_digits w (spelled w weight w_is).1))))
@@ -134,14 +140,19 @@ module _ (letter : ℕ) (u v w : List ℕ) (from to weight : ℕ) (u_is : number
   road_three : (nodes n : ℕ) (road : Road) → road_in_range nodes n from to weight ≡ Ok road → road_of nodes n (u ∷ v ∷ w ∷ []) ≡ Ok road
   unfolding road_of
   road_three nodes n road is =
-      ap (λ (r : Result ℕ GrError). r >>= (λ from. number_in n v >>= (λ to. number_in n w >>= (λ weight. road_in_range nodes n from to weight)))) (number_at n u from u_is) ∙ ap (λ (r : Result ℕ GrError). r >>= (λ to. number_in n w >>= (λ weight. road_in_range nodes n from to weight))) (number_at n v to v_is) ∙ ap (λ (r : Result ℕ GrError). r >>= (λ weight. road_in_range nodes n from to weight)) (number_at n w weight w_is) ∙ is
+      ap (λ (r : Result ℕ GrError). r >>= (λ from. number_in n v >>= (λ to. number_in n w >>= (λ weight. road_in_range nodes n from to weight))))
+      (number_at n u from u_is) ∙ ap (λ (r : Result ℕ GrError). r >>= (λ to. number_in n w >>= (λ weight. road_in_range nodes n from to weight)))
+      (number_at n v to v_is) ∙ ap (λ (r : Result ℕ GrError). r >>= (λ weight. road_in_range nodes n from to weight)) (number_at n w weight w_is)
+      ∙ is
 
 -- a text that begins with such a line, by its numbers one after the other
 three_front : (letter : ℕ) (text rest after_u after_v after_w u v w : List ℕ) → text ≡ letter ∷ 32 ∷ rest → rest ≡ u ++ 32 ∷ after_u → after_u ≡ v ++ 32 ∷ after_v → after_v ≡ w ++ 10 ∷ after_w → text ≡ three letter u v w ++ 10 ∷ after_w
 three_front letter text rest after_u after_v after_w u v w text_is rest_is u_is v_is =
     text_is ∙ ap (λ (t : List ℕ). letter ∷ 32 ∷ t) (rest_is ∙ ap (λ (t : List ℕ). u ++ 32 ∷ t) (u_is ∙ ap (λ (t : List ℕ). v ++ 32 ∷ t) v_is ∙ sym (append_assoc v (32 ∷ w) (10 ∷ after_w))) ∙ sym (append_assoc u (32 ∷ (v ++ 32 ∷ w)) (10 ∷ after_w)))
 
-pub road_before : (size : Size) (n : ℕ) (text rest after_u after_v after_w : List ℕ) (from to weight : ℕ) (road : Road) → text ≡ 97 ∷ 32 ∷ rest → IsNumberBefore 32 rest from after_u → IsNumberBefore 32 after_u to after_v → IsNumberBefore 10 after_v weight after_w → road_in_range size.nodes n from to weight ≡ Ok road → IsEntryBefore graph_grammar size n text road after_w
+pub road_before : (size : Size) (n : ℕ) (text rest after_u after_v after_w : List ℕ) (from to weight : ℕ) (road : Road) → text ≡ 97 ∷ 32 ∷ rest
+    → IsNumberBefore 32 rest from after_u → IsNumberBefore 32 after_u to after_v → IsNumberBefore 10 after_v weight after_w
+    → road_in_range size.nodes n from to weight ≡ Ok road → IsEntryBefore graph_grammar size n text road after_w
 road_before size n text rest after_u after_v after_w from to weight road text_is u v w is =
     let free = free_three 97 u.field v.field w.field from to weight u.spells v.spells w.spells refl refl in
     let whole = free_strip (three 97 u.field v.field w.field) free in
@@ -162,7 +173,10 @@ two letter u v = letter ∷ 32 ∷ (u ++ 32 ∷ v)
 module _ (letter : ℕ) (u v : List ℕ) (source target : ℕ) (u_is : number_of u ≡ Some source) (v_is : number_of v ≡ Some target) where
   split_two : is_blank letter ≡ false → slice_split is_blank (two letter u v) ≡ (letter ∷ []) ∷ u ∷ v ∷ []
   split_two plain =
-      cond-false (is_blank letter) ([] ∷ slice_split is_blank (32 ∷ (u ++ 32 ∷ v))) (onto_first letter (slice_split is_blank (32 ∷ (u ++ 32 ∷ v)))) plain ∙ ap (λ (parts : List (List ℕ)). (letter ∷ []) ∷ parts) (split_digits u v (spelled u source u_is).1 ∙ ap (λ (parts : List (List ℕ)). u ∷ parts) (split_last v (spelled v target v_is).1))
+      cond-false (is_blank letter) ([] ∷ slice_split is_blank (32 ∷ (u ++ 32 ∷ v)))
+      (onto_first letter (slice_split is_blank (32 ∷ (u ++ 32 ∷ v)))) plain
+      ∙ ap (λ (parts : List (List ℕ)). (letter ∷ []) ∷ parts)
+      (split_digits u v (spelled u source u_is).1 ∙ ap (λ (parts : List (List ℕ)). u ∷ parts) (split_last v (spelled v target v_is).1))
 
   fields_two : is_blank letter ≡ false → fields_of (two letter u v) ≡ (letter ∷ []) ∷ u ∷ v ∷ []
   fields_two plain =
@@ -180,7 +194,9 @@ two_front : (letter : ℕ) (text rest after_u after_v u v : List ℕ) → text �
 two_front letter text rest after_u after_v u v text_is rest_is u_is =
     text_is ∙ ap (λ (t : List ℕ). letter ∷ 32 ∷ t) (rest_is ∙ ap (λ (t : List ℕ). u ++ 32 ∷ t) u_is ∙ sym (append_assoc u (32 ∷ v) (10 ∷ after_v)))
 
-pub pair_before : (nodes : ℕ) (size : Size) (n : ℕ) (text rest after_u after_v : List ℕ) (source target : ℕ) (pair : ℕ × ℕ) → text ≡ 113 ∷ 32 ∷ rest → IsNumberBefore 32 rest source after_u → IsNumberBefore 10 after_u target after_v → pair_in_range size.nodes n source target ≡ Ok pair → IsEntryBefore (pair_grammar nodes) size n text pair after_v
+pub pair_before : (nodes : ℕ) (size : Size) (n : ℕ) (text rest after_u after_v : List ℕ) (source target : ℕ) (pair : ℕ × ℕ) → text ≡ 113 ∷ 32 ∷ rest
+    → IsNumberBefore 32 rest source after_u → IsNumberBefore 10 after_u target after_v → pair_in_range size.nodes n source target ≡ Ok pair
+    → IsEntryBefore (pair_grammar nodes) size n text pair after_v
 pair_before nodes size n text rest after_u after_v source target pair text_is u v is =
     let free = free_two 113 u.field v.field source target u.spells v.spells refl refl in
     let whole = free_strip (two 113 u.field v.field) free in

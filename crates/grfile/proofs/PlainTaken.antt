@@ -42,7 +42,9 @@ module _ {E : Type 0} (grammar : Grammar E) (n : ℕ) (listing : Listing E) (fie
       rw (ne_eqb (listing.size.entries - length listing.entries) 0 some, says) refl
 
 module _ {E : Type 0} (grammar : Grammar E) (n number : ℕ) (old new : Listed E) (text rest : List ℕ) (entry : E) where
-  pub takes_plain : number ≡ next_line n → new.size ≡ old.size → new.entries.items ≡ old.entries.items ++ entry ∷ [] → length old.entries.items < old.size.entries → IsEntryBefore grammar old.size number text entry rest → TakesLine grammar n number (Some (listing_of old)) (Some (listing_of new)) text rest
+  pub takes_plain : number ≡ next_line n → new.size ≡ old.size → new.entries.items ≡ old.entries.items ++ entry ∷ []
+      → length old.entries.items < old.size.entries → IsEntryBefore grammar old.size number text entry rest
+      → TakesLine grammar n number (Some (listing_of old)) (Some (listing_of new)) text rest
   takes_plain number_is size_is entries_are room plain =
       let line = strip_carriage_return plain.line in
       let fields = drop 1 (fields_of line) in
@@ -52,7 +54,12 @@ module _ {E : Type 0} (grammar : Grammar E) (n number : ℕ) (old new : Listed E
       record {
         told = λ more.
             let after = lines_after [] (rest ++ more) in
-            ap (λ (l : Listing E). listing_from grammar number (Some l) after) listing ∙ sym (entry_fits grammar number (listing_of old) fields entry after room plain.says) ∙ ap (λ (m : ℕ). entry_then grammar m (listing_of old) fields after) number_is ∙ sym (step-entry grammar n line fields after (listing_of old) (record { kind_is = plain.kind_is; more_are = refl })) ∙ sym (ap (λ (lines : List (List ℕ)). listing_from grammar n (Some (listing_of old)) lines) (lines_front text plain.line rest more plain.text_is plain.one_line));
+            ap (λ (l : Listing E). listing_from grammar number (Some l) after) listing
+            ∙ sym (entry_fits grammar number (listing_of old) fields entry after room plain.says)
+            ∙ ap (λ (m : ℕ). entry_then grammar m (listing_of old) fields after) number_is
+            ∙ sym (step-entry grammar n line fields after (listing_of old) (record { kind_is = plain.kind_is; more_are = refl }))
+            ∙ sym (ap (λ (lines : List (List ℕ)). listing_from grammar n (Some (listing_of old)) lines)
+            (lines_front text plain.line rest more plain.text_is plain.one_line));
         line = number_is;
         feeds = omega (arith, feeds, plain.one_line);
         shorter = omega (arith, long, length-append plain.line (10 ∷ rest));
@@ -65,6 +72,11 @@ cut_more begun (b ∷ text) more none =
     let free = no_feed b text none in
     cond-false (eqb b 10) (begun ∷ cut_after [] (text ++ more)) (cut_after (begun ++ b ∷ []) (text ++ more)) free.0 ∙ cut_more (begun ++ b ∷ []) text more free.1 ∙ ap (λ (line : List ℕ). cut_after line more) (append_assoc begun (b ∷ []) text)
 
-pub told_begun : {E : Type 0} (grammar : Grammar E) (first old new : Progress E) (text last : List ℕ) → ((more : List ℕ) → told_from grammar old (lines_after [] (last ++ more)) ≡ told_from grammar first (lines_after [] (text ++ more))) → (line_feeds last ≡ 0) × (new.line ≡ old.line) × (option_map listing_of new.listed ≡ option_map listing_of old.listed) → (more : List ℕ) → told_from grammar new (lines_after last more) ≡ told_from grammar first (lines_after [] (text ++ more))
+pub told_begun : {E : Type 0} (grammar : Grammar E) (first old new : Progress E) (text last : List ℕ)
+    → ((more : List ℕ) → told_from grammar old (lines_after [] (last ++ more)) ≡ told_from grammar first (lines_after [] (text ++ more)))
+    → (line_feeds last ≡ 0) × (new.line ≡ old.line) × (option_map listing_of new.listed ≡ option_map listing_of old.listed) → (more : List ℕ)
+    → told_from grammar new (lines_after last more) ≡ told_from grammar first (lines_after [] (text ++ more))
 told_begun {E} grammar first old new text last told stays more =
-    ap (λ (n : ℕ). listing_from grammar n (option_map listing_of new.listed) (lines_after last more)) stays.1 ∙ ap (λ (o : Option (Listing E)). listing_from grammar old.line o (lines_after last more)) stays.2 ∙ sym (ap (λ (lines : List (List ℕ)). told_from grammar old (map strip_carriage_return lines)) (cut_more [] last more stays.0)) ∙ told more
+    ap (λ (n : ℕ). listing_from grammar n (option_map listing_of new.listed) (lines_after last more)) stays.1
+    ∙ ap (λ (o : Option (Listing E)). listing_from grammar old.line o (lines_after last more)) stays.2
+    ∙ sym (ap (λ (lines : List (List ℕ)). told_from grammar old (map strip_carriage_return lines)) (cut_more [] last more stays.0)) ∙ told more

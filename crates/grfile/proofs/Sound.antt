@@ -48,7 +48,15 @@ module _ {E : Type 0} (grammar : Grammar E) (size : Size) (P : E → Type 0) (ea
     | Skipped ↦ entries_ok left (next_line n) lines
     | Unknown ↦ tt
     | Problem ↦ tt
-    | Entry ↦ test_ok (eqb left 0) (record { kind = ArcCount; line = next_line n }) (grammar.entry_of size (next_line n) (drop 1 (fields_of line)) >>= (λ entry. entries_after grammar size (left - 1) (next_line n) lines >>= (λ entries. Ok (entry ∷ entries)))) (Entries left) (λ some. bind_ok (grammar.entry_of size (next_line n) (drop 1 (fields_of line))) (λ entry. entries_after grammar size (left - 1) (next_line n) lines >>= (λ entries. Ok (entry ∷ entries))) P (Entries left) (each (next_line n) (drop 1 (fields_of line))) (λ entry holds. bind_ok (entries_after grammar size (left - 1) (next_line n) lines) (λ entries. Ok (entry ∷ entries)) (Entries (left - 1)) (Entries left) (entries_ok (left - 1) (next_line n) lines) (λ entries rest. let full = eqb-false left 0 some in (omega (arith, rest.0), (holds, rest.1)))))
+    | Entry ↦ test_ok (eqb left 0) (record { kind = ArcCount; line = next_line n })
+        (grammar.entry_of size (next_line n) (drop 1 (fields_of line)) >>=
+        (λ entry. entries_after grammar size (left - 1) (next_line n) lines >>= (λ entries. Ok (entry ∷ entries)))) (Entries left)
+        (λ some. bind_ok (grammar.entry_of size (next_line n) (drop 1 (fields_of line)))
+        (λ entry. entries_after grammar size (left - 1) (next_line n) lines >>= (λ entries. Ok (entry ∷ entries))) P (Entries left)
+        (each (next_line n) (drop 1 (fields_of line)))
+        (λ entry holds. bind_ok (entries_after grammar size (left - 1) (next_line n) lines) (λ entries. Ok (entry ∷ entries)) (Entries (left - 1))
+        (Entries left) (entries_ok (left - 1) (next_line n) lines)
+        (λ entries rest. let full = eqb-false left 0 some in (omega (arith, rest.0), (holds, rest.1)))))
   ]
 
 module _ {E : Type 0} (grammar : Grammar E) (S : Size → Type 0) (P : Size → E → Type 0) (sizes : (n : ℕ) (fields : List (List ℕ)) → IfOk (grammar.size_of n fields) S) (each : (size : Size) (n : ℕ) (fields : List (List ℕ)) → IfOk (grammar.entry_of size n fields) (P size)) where
@@ -66,7 +74,12 @@ module _ {E : Type 0} (grammar : Grammar E) (S : Size → Type 0) (P : Size → 
   ]) Whole) [
     | Skipped ↦ listing_ok (next_line n) lines
     | Unknown ↦ tt
-    | Problem ↦ bind_ok (grammar.size_of (next_line n) (drop 1 (fields_of line))) (λ size. entries_after grammar size size.entries (next_line n) lines >>= (λ entries. Ok (record { size = size; entries = entries }))) S Whole (sizes (next_line n) (drop 1 (fields_of line))) (λ size small. bind_ok (entries_after grammar size size.entries (next_line n) lines) (λ entries. Ok (record { size = size; entries = entries })) (Entries grammar size (P size) (each size) size.entries) Whole (entries_ok grammar size (P size) (each size) size.entries (next_line n) lines) (λ entries all. (small, all.0, all.1)))
+    | Problem ↦ bind_ok (grammar.size_of (next_line n) (drop 1 (fields_of line)))
+        (λ size. entries_after grammar size size.entries (next_line n) lines >>= (λ entries. Ok (record { size = size; entries = entries }))) S Whole
+        (sizes (next_line n) (drop 1 (fields_of line)))
+        (λ size small. bind_ok (entries_after grammar size size.entries (next_line n) lines)
+        (λ entries. Ok (record { size = size; entries = entries })) (Entries grammar size (P size) (each size) size.entries) Whole
+        (entries_ok grammar size (P size) (each size) size.entries (next_line n) lines) (λ entries all. (small, all.0, all.1)))
     | Entry ↦ tt
   ]
 
@@ -83,7 +96,9 @@ unfolding graph_size
 graph_size_ok line [] = tt
 graph_size_ok line (a ∷ []) = tt
 graph_size_ok line (a ∷ b ∷ []) = tt
-graph_size_ok line (word ∷ n ∷ m ∷ []) = cond_both (bytes_eq word (codes "sp")) (number_in line n >>= (λ nodes. number_in line m >>= (λ arcs. size_in_range line nodes arcs))) (fault UnknownLine line) (λ r. IfOk r IsSmall) (λ _. then_ok (number_in line n) _ IsSmall (λ nodes. then_ok (number_in line m) _ IsSmall (λ arcs. size_ok line nodes arcs))) (λ _. tt)
+graph_size_ok line (word ∷ n ∷ m ∷ []) = cond_both (bytes_eq word (codes "sp"))
+    (number_in line n >>= (λ nodes. number_in line m >>= (λ arcs. size_in_range line nodes arcs))) (fault UnknownLine line) (λ r. IfOk r IsSmall)
+    (λ _. then_ok (number_in line n) _ IsSmall (λ nodes. then_ok (number_in line m) _ IsSmall (λ arcs. size_ok line nodes arcs))) (λ _. tt)
 graph_size_ok line (a ∷ b ∷ c ∷ d ∷ more) = tt
 
 -- a node that isn't outside has a number from 0 that is below
@@ -124,15 +139,25 @@ pairs_size_ok nodes line [] = tt
 pairs_size_ok nodes line (a ∷ []) = tt
 pairs_size_ok nodes line (a ∷ b ∷ []) = tt
 pairs_size_ok nodes line (a ∷ b ∷ c ∷ []) = tt
-pairs_size_ok nodes line (first ∷ second ∷ third ∷ k ∷ []) = cond_both (bytes_eq first (codes "aux") && bytes_eq second (codes "sp") && bytes_eq third (codes "p2p")) (number_in line k >>= (λ count. count_in_range nodes line count)) (fault UnknownLine line) (λ r. IfOk r (λ (size : Size). size.nodes ≡ nodes)) (λ _. then_ok (number_in line k) _ (λ (size : Size). size.nodes ≡ nodes) (λ count. test_ok (ltb (2 ^ 27) count) _ _ (λ (size : Size). size.nodes ≡ nodes) (λ _. refl))) (λ _. tt)
+pairs_size_ok nodes line (first ∷ second ∷ third ∷ k ∷ []) = cond_both
+    (bytes_eq first (codes "aux") && bytes_eq second (codes "sp") && bytes_eq third (codes "p2p"))
+    (number_in line k >>= (λ count. count_in_range nodes line count)) (fault UnknownLine line) (λ r. IfOk r (λ (size : Size). size.nodes ≡ nodes))
+    (λ _. then_ok (number_in line k) _ (λ (size : Size). size.nodes ≡ nodes)
+    (λ count. test_ok (ltb (2 ^ 27) count) _ _ (λ (size : Size). size.nodes ≡ nodes) (λ _. refl))) (λ _. tt)
 pairs_size_ok nodes line (a ∷ b ∷ c ∷ d ∷ e ∷ more) = tt
 
 pub pair_ok : (size : Size) (line : ℕ) (fields : List (List ℕ)) → IfOk (pair_of size.nodes line fields) (IsPair size.nodes)
 unfolding pair_of
 pair_ok size line [] = tt
 pair_ok size line (a ∷ []) = tt
-pair_ok size line (s ∷ t ∷ []) = then_ok (number_in line s) _ (IsPair size.nodes) (λ source. then_ok (number_in line t) _ (IsPair size.nodes) (λ target. test_ok (is_outside size.nodes source) _ _ (IsPair size.nodes) (λ source_in. test_ok (is_outside size.nodes target) _ _ (IsPair size.nodes) (λ target_in. (below size.nodes source source_in, below size.nodes target target_in)))))
+pair_ok size line (s ∷ t ∷ []) = then_ok (number_in line s) _ (IsPair size.nodes)
+    (λ source. then_ok (number_in line t) _ (IsPair size.nodes)
+    (λ target. test_ok (is_outside size.nodes source) _ _ (IsPair size.nodes)
+    (λ source_in. test_ok (is_outside size.nodes target) _ _ (IsPair size.nodes)
+    (λ target_in. (below size.nodes source source_in, below size.nodes target target_in)))))
 pair_ok size line (a ∷ b ∷ c ∷ more) = tt
 
 pub pairs_listed : (nodes n : ℕ) (lines : List (List ℕ)) → IfOk (listing_after (pair_grammar nodes) n lines) (λ listing. All (IsPair nodes) listing.entries)
-pairs_listed nodes n lines = IfOk-weaker (listing_after (pair_grammar nodes) n lines) _ _ (λ (listing : Listing (ℕ × ℕ)) whole. subst (λ (m : ℕ). All (IsPair m) listing.entries) whole.0 (All-from_recursion _ listing.entries whole.2)) (listing_ok (pair_grammar nodes) (λ size. size.nodes ≡ nodes) (λ size. IsPair size.nodes) (pairs_size_ok nodes) pair_ok n lines)
+pairs_listed nodes n lines = IfOk-weaker (listing_after (pair_grammar nodes) n lines) _ _
+    (λ (listing : Listing (ℕ × ℕ)) whole. subst (λ (m : ℕ). All (IsPair m) listing.entries) whole.0 (All-from_recursion _ listing.entries whole.2))
+    (listing_ok (pair_grammar nodes) (λ size. size.nodes ≡ nodes) (λ size. IsPair size.nodes) (pairs_size_ok nodes) pair_ok n lines)

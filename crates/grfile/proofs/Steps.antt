@@ -35,7 +35,9 @@ pub record IsRead {E : Type 0} (grammar : Grammar E) (line : List ℕ) (kind : L
   pub kind_is : kind_of grammar.letter (fields_of line) ≡ kind
   pub more_are : drop 1 (fields_of line) ≡ more
 
-pub read_first : {E : Type 0} (grammar : Grammar E) (line : List ℕ) (letter : ℕ) (fields more : List (List ℕ)) (first : List ℕ) (found kind : LineKind) → letter ≡ grammar.letter → fields ≡ fields_of line → fields ≡ first ∷ more → ((rest : List (List ℕ)) → found ≡ kind_of letter (first ∷ rest)) → found ≡ kind → IsRead grammar line kind more
+pub read_first : {E : Type 0} (grammar : Grammar E) (line : List ℕ) (letter : ℕ) (fields more : List (List ℕ)) (first : List ℕ)
+    (found kind : LineKind) → letter ≡ grammar.letter → fields ≡ fields_of line → fields ≡ first ∷ more
+    → ((rest : List (List ℕ)) → found ≡ kind_of letter (first ∷ rest)) → found ≡ kind → IsRead grammar line kind more
 read_first grammar line letter fields more first found kind letter_is fields_are parts found_is kind_is =
     let whole : fields_of line ≡ first ∷ more = sym fields_are ∙ parts in
     record {
@@ -67,7 +69,12 @@ module _ {E : Type 0} (grammar : Grammar E) (n : ℕ) (rest : List (List ℕ)) w
       ap (λ (left : ℕ). said_after listing left entry) fewer ∙ push_front listing.size listing.entries entry (entries_after grammar listing.size (listing.size.entries - length (listing.entries ++ entry ∷ [])) n rest)
 
   -- the line of an entry that says this, where there is room for it or not
-  entry_step : (listing : Listing E) (is_full : Bool) (says : Result E GrError) → ((if is_full then fault ArcCount n else (says >>= (λ entry. entries_after grammar listing.size (listing.size.entries - length listing.entries - 1) n rest >>= (λ entries. Ok (entry ∷ entries))))) >>= joined listing.size listing.entries) ≡ (if is_full then fault ArcCount n else (says >>= (λ entry. listing_from grammar n (Some (record { size = listing.size; entries = listing.entries ++ entry ∷ [] })) rest)))
+  entry_step : (listing : Listing E) (is_full : Bool) (says : Result E GrError)
+      → ((if is_full then fault ArcCount n else
+      (says >>= (λ entry. entries_after grammar listing.size (listing.size.entries - length listing.entries - 1) n rest >>=
+      (λ entries. Ok (entry ∷ entries))))) >>= joined listing.size listing.entries) ≡
+      (if is_full then fault ArcCount n else (says >>=
+      (λ entry. listing_from grammar n (Some (record { size = listing.size; entries = listing.entries ++ entry ∷ [] })) rest)))
   entry_step listing true says = refl
   entry_step listing false (Ok entry) = push_step listing entry
   entry_step listing false (Err e) = refl
@@ -114,7 +121,10 @@ some_of None some = absurd (false≢true some)
 some_of (Some x) some = (x, refl)
 
 module _ {E : Type 0} (grammar : Grammar E) (n : ℕ) (line : List ℕ) (more : List (List ℕ)) (o : Option (Listed E)) (rest : List (List ℕ)) where
-  pub step-opens : (size : Size) (entries : List E) → is_some o ≡ false → IsRead grammar line Problem more → grammar.size_of (next_line n) more ≡ Ok size → entries ≡ [] → listing_from grammar (next_line n) (Some (record { size = size; entries = entries })) rest ≡ listing_from grammar n (option_map listing_of o) (line ∷ rest)
+  pub step-opens : (size : Size) (entries : List E) → is_some o ≡ false → IsRead grammar line Problem more
+      → grammar.size_of (next_line n) more ≡ Ok size → entries ≡ []
+      → listing_from grammar (next_line n) (Some (record { size = size; entries = entries })) rest ≡ listing_from grammar n (option_map listing_of o)
+      (line ∷ rest)
   step-opens size entries none read says empty =
       rw (empty, none_of o none) (sym (step-problem grammar n line more rest read ∙ ap (λ (r : Result Size GrError). r >>= (λ size. listing_from grammar (next_line n) (Some (record { size = size; entries = [] })) rest)) says))
 

@@ -45,7 +45,9 @@ module _ {S : Type 0} (step : S → S → Result ℕ Error → Type 0) (remainin
   pub fault_behind : {x y : Buffered} {a b c : S} {front : List ℕ} {e : HierError} (f g : List ℕ → Option HierError) → Takes x y a b front → ((d : HierError) (rest : List ℕ) → f rest ≡ Some d → g (front ++ rest) ≡ Some d) → Faults y b c f e → Faults x a c g e
   fault_behind f g h leads k = refused_behind f g h leads (λ came is. leads Truncated came is) k
 
-  pub fault_so_far : {x y : Buffered} {a b c : S} {front : List ℕ} {e : HierError} (f g : List ℕ → Option HierError) → Takes x y a b front → ((d : HierError) (rest : List ℕ) → f rest ≡ Some d → g (front ++ rest) ≡ Some d) → Faults y b c f e → IsRefused step remaining x a c (Refuses g (HasNoneSoFar g)) e
+  pub fault_so_far : {x y : Buffered} {a b c : S} {front : List ℕ} {e : HierError} (f g : List ℕ → Option HierError) → Takes x y a b front
+      → ((d : HierError) (rest : List ℕ) → f rest ≡ Some d → g (front ++ rest) ≡ Some d) → Faults y b c f e
+      → IsRefused step remaining x a c (Refuses g (HasNoneSoFar g)) e
   fault_so_far f g h leads k = refused_behind f g h leads (λ came is. inl (leads Truncated came is)) k
 
   -- a fault that a test found in these

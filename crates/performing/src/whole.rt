@@ -41,11 +41,11 @@ pub fn prepare_whole<G: Read, D: Destination, E: Write, P: Gate, R: Threads + Wa
 // Lets the draft of a job that is done stand at its destination, and throws any other away.
 fn finish<D: Destination, E: Write>(
     destination: &mut D,
-    draft: D::Draft,
+    draft: D::PendingFile,
     status: u8,
     err: &mut E,
 ) -> u8
-    ensures done { result ≡ 0 → D.stands destination.new ≡ option_map Some (D.Draft.contents draft) }
+    ensures done { result ≡ 0 → D.stands destination.new ≡ option_map Some (D.PendingFile.contents draft) }
     ensures kept { result ≢ 0 → D.stands destination.new ≡ D.stands destination.old }
     ensures status { (result ≡ status) ⊎ ((status ≡ 0) × (result ≡ 7)) }
     ensures quiet { result ≡ 0 → err.new ≡ err.old }

@@ -21,7 +21,7 @@ struct Shelf {
 }
 
 impl Destination for Shelf {
-    type Draft = Vec<u8>;
+    type PendingFile = Vec<u8>;
 
     ghost stands = { λ shelf. Some (option_map (λ bytes. bytes.items) shelf.stands) };
 
@@ -70,7 +70,7 @@ struct Bench {
 }
 
 impl Destination for Bench {
-    type Draft = Narrow;
+    type PendingFile = Narrow;
 
     fn draft(&self) -> Result<Narrow, AllocError> {
         Ok(Narrow { room: self.room })

@@ -9,21 +9,21 @@ pub trait Destination {
     ghost use Rattle.std.specs.Prelude.{◌≡◌, ℕ, List, [], Option, Some, None, option_map, IfOk, OnOk, OnErr};
 
     /// What gathers the bytes.
-    type Draft: Write + Drop;
+    type PendingFile: Write + Drop;
 
     /// What stands there, where the destination tells it: nothing, or these bytes.
     ghost stands: { Self → Option (Option (List ℕ)) } = { λ _. None };
 
     /// A draft without bytes. It tells its bytes where the destination tells what stands there.
-    fn draft(&self) -> Result<Self::Draft, AllocError>
-        ensures { IfOk result (λ draft. Self.Draft.contents draft ≡ option_map (λ _. []) (stands self.now)) };
+    fn draft(&self) -> Result<Self::PendingFile, AllocError>
+        ensures { IfOk result (λ draft. Self.PendingFile.contents draft ≡ option_map (λ _. []) (stands self.now)) };
 
     /// Lets the bytes of the draft stand there. Where that fails, the draft is thrown away, and what stood there stays.
-    fn put(&mut self, draft: Self::Draft) -> io::Result<()>
-        ensures put { OnOk result (stands self.new ≡ option_map Some (Self.Draft.contents draft)) }
+    fn put(&mut self, draft: Self::PendingFile) -> io::Result<()>
+        ensures put { OnOk result (stands self.new ≡ option_map Some (Self.PendingFile.contents draft)) }
         ensures kept { OnErr result (stands self.new ≡ stands self.old) };
 
     /// Throws the draft away. What stands there stays.
-    fn throw_away(&mut self, draft: Self::Draft)
+    fn throw_away(&mut self, draft: Self::PendingFile)
         ensures { stands self.new ≡ stands self.old };
 }

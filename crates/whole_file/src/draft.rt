@@ -16,7 +16,7 @@ const MOST_LINKS: u32 = 40;
 /// The bytes of a file that isn't whole yet. The file that gathers them is made at the first write, so a job that is
 /// refused before makes none.
 #[derive(Drop)]
-pub struct Draft<'a, R: Files> {
+pub struct PendingFile<'a, R: Files> {
     files: &'a R,
     // where the bytes come to stand: the path as it was given, or what its links lead to
     target: PathBuf,
@@ -26,9 +26,9 @@ pub struct Draft<'a, R: Files> {
     file: Option<R::File>,
 }
 
-impl<'a, R: Files + AllocGlobal> Draft<'a, R> {
+impl<'a, R: Files + AllocGlobal> PendingFile<'a, R> {
     /// A draft of what comes to stand at this path.
-    pub(crate) fn new(files: &'a R, path: &str) -> Result<Draft<'a, R>, AllocError> {
+    pub(crate) fn new(files: &'a R, path: &str) -> Result<PendingFile<'a, R>, AllocError> {
         let followed = target_of(files, path)?;
         let is_straight = is_straight(files, path, followed.as_str());
         let target = if is_straight {
@@ -36,7 +36,7 @@ impl<'a, R: Files + AllocGlobal> Draft<'a, R> {
         } else {
             followed
         };
-        Ok(Draft {
+        Ok(PendingFile {
             files,
             is_straight,
             beside: Beside::new(files.alloc(), target.as_path())?,
@@ -46,7 +46,7 @@ impl<'a, R: Files + AllocGlobal> Draft<'a, R> {
     }
 }
 
-impl<R: Files> Draft<'_, R> {
+impl<R: Files> PendingFile<'_, R> {
     /// Lets the bytes stand where they belong: they are made to last first, and then take the name in one step.
     pub(crate) fn keep(&mut self) -> io::Result<()> {
         self.make()?;
@@ -105,7 +105,7 @@ impl<R: Files> Draft<'_, R> {
     }
 }
 
-impl<R: Files> Write for Draft<'_, R> {
+impl<R: Files> Write for PendingFile<'_, R> {
     fn write(&mut self, buf: &[u8]) -> io::Result<usize> {
         self.make()?;
         match &mut self.file {

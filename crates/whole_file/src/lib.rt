@@ -24,6 +24,6 @@ mod one_file;
 mod out_file;
 
 pub use destination::Destination;
-pub use draft::Draft;
+pub use draft::PendingFile;
 pub use one_file::is_one_file;
 pub use out_file::OutFile;

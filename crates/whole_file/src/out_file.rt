@@ -1,5 +1,5 @@
 use crate::destination::Destination;
-use crate::draft::Draft;
+use crate::draft::PendingFile;
 use std::alloc::AllocError;
 use std::io;
 use std::rt::Files;
@@ -25,13 +25,13 @@ impl<'a, R: Files> OutFile<'a, R> {
 }
 
 impl<'a, R: Files + AllocGlobal> Destination for OutFile<'a, R> {
-    type Draft = Draft<'a, R>;
+    type PendingFile = PendingFile<'a, R>;
 
-    fn draft(&self) -> Result<Draft<'a, R>, AllocError> {
-        Draft::new(self.files, self.path)
+    fn draft(&self) -> Result<PendingFile<'a, R>, AllocError> {
+        PendingFile::new(self.files, self.path)
     }
 
-    fn put(&mut self, mut draft: Draft<'a, R>) -> io::Result<()> {
+    fn put(&mut self, mut draft: PendingFile<'a, R>) -> io::Result<()> {
         match draft.keep() {
             Ok(()) => Ok(()),
             Err(error) => {
@@ -41,7 +41,7 @@ impl<'a, R: Files + AllocGlobal> Destination for OutFile<'a, R> {
         }
     }
 
-    fn throw_away(&mut self, mut draft: Draft<'a, R>) {
+    fn throw_away(&mut self, mut draft: PendingFile<'a, R>) {
         draft.remove();
     }
 }

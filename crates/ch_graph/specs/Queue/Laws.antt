@@ -56,7 +56,9 @@ module _ {K L : Type 0} (AtMost : K → K → Type 0) (key : L → K) (cmp : K �
       queue-open own less moved heap = record {
         heap = heap;
         waits = λ u d is. Contains-permutation (entry (key e) v ∷ entries) after (entry (key d) u) moved (open-waits u d is);
-        known = All-permutation (IsEntryOf AtMost key new) (entry (key e) v ∷ entries) after moved (All-cons (IsEntryOf AtMost key new) (entry (key e) v) entries (e, label_open (new v) e put.here, own) (All-weaker (IsEntryOf AtMost key old) (IsEntryOf AtMost key new) (open-stays less) entries queue.known));
+        known = All-permutation (IsEntryOf AtMost key new) (entry (key e) v ∷ entries) after moved
+            (All-cons (IsEntryOf AtMost key new) (entry (key e) v) entries (e, label_open (new v) e put.here, own)
+            (All-weaker (IsEntryOf AtMost key old) (IsEntryOf AtMost key new) (open-stays less) entries queue.known));
       }
 
     -- an entry was taken out

@@ -155,7 +155,9 @@ module _ {Arc : Arcs} where
 module _ {L : Type 0} (cost : L → Cost) {Arc : Arcs} {NoLater : Order} where
   -- A search begins with nothing settled: where it may begin at a cost that counts there is a label of no more, and each
   -- label is the cost of a beginning.
-  pub search-begin : {Counts : Cost → Type 0} {Begins : Beginning} {marks : ℕ → Mark L} → ((v : ℕ) (e : L) → marks v ≡ Settled e → ⊥) → ((v : ℕ) (c : Cost) → Begins v c → Counts c → IsAtMost cost (marks v) c) → ((v : ℕ) (e : L) → HasLabel (marks v) e → Begins v (cost e)) → IsSearch cost NoLater Arc Counts Begins marks
+  pub search-begin : {Counts : Cost → Type 0} {Begins : Beginning} {marks : ℕ → Mark L} → ((v : ℕ) (e : L) → marks v ≡ Settled e → ⊥)
+      → ((v : ℕ) (c : Cost) → Begins v c → Counts c → IsAtMost cost (marks v) c) → ((v : ℕ) (e : L) → HasLabel (marks v) e → Begins v (cost e))
+      → IsSearch cost NoLater Arc Counts Begins marks
   search-begin none starts begins = record {
     starts = starts;
     walks = λ v e has. record { start = v; first = cost e; begins = begins v e has; rest = zero_cost; walk = stay; sum = sum-zero_cost (cost e) };
@@ -196,7 +198,10 @@ module _ {L : Type 0} (cost : L → Cost) {Arc : Arcs} {NoLater : Order} where
   }
 
   -- and it stays one by a turn whose new labels are those of arcs from its node, and that follows each of these arcs
-  pub search-turn : IsOrder Arc NoLater → {Counts : Cost → Type 0} {IsNew : ℕ → L → Type 0} {Begins : Beginning} {v : ℕ} {e : L} {old new : ℕ → Mark L} → IsSearch cost NoLater Arc Counts Begins old → IsTurn cost NoLater IsNew v e old new → ((u : ℕ) (d : L) → IsNew u d → LeadsTo Arc v (cost e) u (cost d)) → IsFollowed cost Arc Counts new v (cost e) → IsSearch cost NoLater Arc Counts Begins new
+  pub search-turn : IsOrder Arc NoLater → {Counts : Cost → Type 0} {IsNew : ℕ → L → Type 0} {Begins : Beginning} {v : ℕ} {e : L}
+      {old new : ℕ → Mark L} → IsSearch cost NoLater Arc Counts Begins old → IsTurn cost NoLater IsNew v e old new
+      → ((u : ℕ) (d : L) → IsNew u d → LeadsTo Arc v (cost e) u (cost d)) → IsFollowed cost Arc Counts new v (cost e)
+      → IsSearch cost NoLater Arc Counts Begins new
   search-turn order {Counts} {IsNew} {Begins} {v} {e} {old} {new} search turn leads followed = record {
     starts = λ u c begins counts. turn-kept cost NoLater IsNew turn u c (search.starts u c begins counts);
     walks = λ u d has. elim (turn-label cost NoLater IsNew turn u d has) [

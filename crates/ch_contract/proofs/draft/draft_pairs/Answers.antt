@@ -79,7 +79,9 @@ returns-then-is_empty-clause-draft g c =
     let outs : c.deref.result.now ≡ c.args.row.now.out = c.deref.ensures.value ∙ ap (λ (r : Row). r.out) c.row.view_is in
     idle_read c.args.task.bound c.args.task.node c.args.row.now c.args.into.now (kept_of c.read.new.self) first.seen first.kept c.args.draft.now _ c.requires.among c.requires.inn_rises c.requires.out_rises
     (subst (λ (es : List Entry). LeadsOn es c.args.into.now.other) outs (c.leads_on.ensures.0 (is-true _ c.if-not-leads_on.false)))
-    (subst (λ (ps : List Shortcut). ArePairs c.args.task.bound c.args.into.now c.args.row.now.out ps) none (subst (λ (es : List Entry). ArePairs c.args.task.bound c.args.into.now es c.find_pairs.new.pairs.light.items) (c.deref-2.ensures.value ∙ ap (λ (r : Row). r.out) c.row.view_is) c.in_ok-find_pairs.ensures.light))
+    (subst (λ (ps : List Shortcut). ArePairs c.args.task.bound c.args.into.now c.args.row.now.out ps) none
+    (subst (λ (es : List Entry). ArePairs c.args.task.bound c.args.into.now es c.find_pairs.new.pairs.light.items)
+    (c.deref-2.ensures.value ∙ ap (λ (r : Row). r.out) c.row.view_is) c.in_ok-find_pairs.ensures.light))
     refl c.in_ok-push.ensures.items
 
 pub returns-then-is_empty-clause-read : goal.returns-then-is_empty-clause-read
@@ -94,7 +96,9 @@ pub judge_by_search-requires-clause-start : goal.judge_by_search-requires-clause
 judge_by_search-requires-clause-start g c = (All-contains (IsEntry (2 ^ 25) c.args.task.bound c.args.task.node) c.args.row.now.inn c.args.into.now c.requires.entries.inn c.requires.among).apart
 
 pub judge_by_search-requires-clause-avoided : goal.judge_by_search-requires-clause-avoided
-judge_by_search-requires-clause-avoided g c = no_target c.args.task.bound c.args.task.node c.args.row.now c.args.into.now c.find_pairs.new.pairs.light.items (subst (λ (es : List Entry). ArePairs c.args.task.bound c.args.into.now es c.find_pairs.new.pairs.light.items) (c.deref-2.ensures.value ∙ ap (λ (r : Row). r.out) c.row.view_is) c.in_ok-find_pairs.ensures.light) c.requires.entries
+judge_by_search-requires-clause-avoided g c = no_target c.args.task.bound c.args.task.node c.args.row.now c.args.into.now c.find_pairs.new.pairs.light.items
+    (subst (λ (es : List Entry). ArePairs c.args.task.bound c.args.into.now es c.find_pairs.new.pairs.light.items)
+    (c.deref-2.ensures.value ∙ ap (λ (r : Row). r.out) c.row.view_is) c.in_ok-find_pairs.ensures.light) c.requires.entries
 
 pub judge_by_search-requires-clause-ends : goal.judge_by_search-requires-clause-ends
 judge_by_search-requires-clause-ends g c = c.in_ok-find_pairs.ensures.ends
@@ -102,7 +106,10 @@ judge_by_search-requires-clause-ends g c = c.in_ok-find_pairs.ensures.ends
 pub judge_by_search-requires-clause-within : goal.judge_by_search-requires-clause-within
 judge_by_search-requires-clause-within g c = λ p among.
     let bound : c.args.task.bound ≡ g.S.RowSource.bound_of c.read.new.source = c.requires.bound ∙ sym (g.met.S.RowSource.same_bound c.args.source.now c.read.new.source c.in_ok-read.ensures.read.stays) in
-    subst (λ (b : Cost). IsWithin p.cost b) bound (pair_through c.args.task.bound c.args.row.now c.args.into.now c.find_pairs.new.pairs.light.items c.requires.among c.requires.inn_rises (subst (λ (es : List Entry). ArePairs c.args.task.bound c.args.into.now es c.find_pairs.new.pairs.light.items) (c.deref-2.ensures.value ∙ ap (λ (r : Row). r.out) c.row.view_is) c.in_ok-find_pairs.ensures.light) p among).1
+    subst (λ (b : Cost). IsWithin p.cost b) bound
+    (pair_through c.args.task.bound c.args.row.now c.args.into.now c.find_pairs.new.pairs.light.items c.requires.among c.requires.inn_rises
+    (subst (λ (es : List Entry). ArePairs c.args.task.bound c.args.into.now es c.find_pairs.new.pairs.light.items)
+    (c.deref-2.ensures.value ∙ ap (λ (r : Row). r.out) c.row.view_is) c.in_ok-find_pairs.ensures.light) p among).1
 
 pub judge_by_search-requires-clause-kept : goal.judge_by_search-requires-clause-kept
 judge_by_search-requires-clause-kept g c = c.in_ok-read.ensures.read.kept
@@ -111,7 +118,9 @@ pub returns-clause-draft : goal.returns-clause-draft
 returns-clause-draft g c =
     let first = c.in_ok-read.ensures.here in
     let outs : c.deref.result.now ≡ c.args.row.now.out = c.deref.ensures.value ∙ ap (λ (r : Row). r.out) c.row.view_is in
-    on_ok_too c.judge_by_search.result (λ s. drafted_search c.args.task.bound c.args.task.node c.args.row.now c.args.into.now c.find_pairs.new.pairs.light.items c.requires.among c.requires.inn_rises (subst (λ (es : List Entry). ArePairs c.args.task.bound c.args.into.now es c.find_pairs.new.pairs.light.items) (c.deref-2.ensures.value ∙ ap (λ (r : Row). r.out) c.row.view_is) c.in_ok-find_pairs.ensures.light)
+    on_ok_too c.judge_by_search.result (λ s. drafted_search c.args.task.bound c.args.task.node c.args.row.now c.args.into.now c.find_pairs.new.pairs.light.items c.requires.among c.requires.inn_rises
+    (subst (λ (es : List Entry). ArePairs c.args.task.bound c.args.into.now es c.find_pairs.new.pairs.light.items)
+    (c.deref-2.ensures.value ∙ ap (λ (r : Row). r.out) c.row.view_is) c.in_ok-find_pairs.ensures.light)
     c.requires.out_rises (subst (λ (es : List Entry). LeadsOn es c.args.into.now.other) outs (c.leads_on.ensures.0 (is-true _ c.if-not-leads_on.false)))
     (kept_of c.judge_by_search.new.desk.searcher.rows) first.seen (c.judge_by_search.ensures.read.more c.args.into.now.other first.seen first.kept)
     s.rows s.cutoff s.ways s.found s.most s.direct s.rows_kept

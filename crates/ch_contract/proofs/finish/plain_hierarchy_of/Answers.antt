@@ -43,18 +43,21 @@ module _ (right : AlwaysRight) (well : AlwaysWellMade) (l : Ledger) (o : Overlay
 pub new-requires : goal.new-requires
 new-requires c =
     let all = over c.overlay-overlay.result.now _ c.overlay-overlay.ensures c.holds.ensures.overlay c.alive.result c.alive.ensures (omega arith) in
-    (done c.reached_hierarchy_is_right.ensures c.reached_hierarchy_is_well_made.ensures c.args.ledger.now c.overlay-overlay.result.now c.in-Ok.ranks.items c.in-Ok-links_of.links.items c.bound-bound.result c.holds.ensures c.overlay-overlay.ensures all c.in-Ok.ensures c.in-Ok-links_of.ensures (c.bound-bound.ensures ∙ ap bound_of c.graph.ensures)).well
+    (done c.reached_hierarchy_is_right.ensures c.reached_hierarchy_is_well_made.ensures c.args.ledger.now c.overlay-overlay.result.now c.in-Ok.ranks.items c.in-Ok-links_of.links.items c.bound-bound.result c.holds.ensures c.overlay-overlay.ensures all c.in-Ok.ensures c.in-Ok-links_of.ensures
+    (c.bound-bound.ensures ∙ ap bound_of c.graph.ensures)).well
 
 pub returns-clause-made : goal.returns-clause-made
 returns-clause-made c =
     let all = over c.overlay-overlay.result.now _ c.overlay-overlay.ensures c.holds.ensures.overlay c.alive.result c.alive.ensures (omega arith) in
-    let made = (done c.reached_hierarchy_is_right.ensures c.reached_hierarchy_is_well_made.ensures c.args.ledger.now c.overlay-overlay.result.now c.in-Ok.ranks.items c.in-Ok-links_of.links.items c.bound-bound.result c.holds.ensures c.overlay-overlay.ensures all c.in-Ok.ensures c.in-Ok-links_of.ensures (c.bound-bound.ensures ∙ ap bound_of c.graph.ensures)).made in
+    let made = (done c.reached_hierarchy_is_right.ensures c.reached_hierarchy_is_well_made.ensures c.args.ledger.now c.overlay-overlay.result.now c.in-Ok.ranks.items c.in-Ok-links_of.links.items c.bound-bound.result c.holds.ensures c.overlay-overlay.ensures all c.in-Ok.ensures c.in-Ok-links_of.ensures
+    (c.bound-bound.ensures ∙ ap bound_of c.graph.ensures)).made in
     subst (λ (h : Hierarchy). IsMade c.args.ledger.now.graph (state_of c.args.ledger.now.overlay) h) (sym c.new.ensures) made
 
 pub returns-clause-right : goal.returns-clause-right
 returns-clause-right c =
     let all = over c.overlay-overlay.result.now _ c.overlay-overlay.ensures c.holds.ensures.overlay c.alive.result c.alive.ensures (omega arith) in
-    let right = (done c.reached_hierarchy_is_right.ensures c.reached_hierarchy_is_well_made.ensures c.args.ledger.now c.overlay-overlay.result.now c.in-Ok.ranks.items c.in-Ok-links_of.links.items c.bound-bound.result c.holds.ensures c.overlay-overlay.ensures all c.in-Ok.ensures c.in-Ok-links_of.ensures (c.bound-bound.ensures ∙ ap bound_of c.graph.ensures)).right in
+    let right = (done c.reached_hierarchy_is_right.ensures c.reached_hierarchy_is_well_made.ensures c.args.ledger.now c.overlay-overlay.result.now c.in-Ok.ranks.items c.in-Ok-links_of.links.items c.bound-bound.result c.holds.ensures c.overlay-overlay.ensures all c.in-Ok.ensures c.in-Ok-links_of.ensures
+    (c.bound-bound.ensures ∙ ap bound_of c.graph.ensures)).right in
     subst (λ (h : Hierarchy). IsRight c.args.ledger.now.graph h) (sym c.new.ensures) right
 
 pub returns-clause-left : goal.returns-clause-left

@@ -34,7 +34,10 @@ inns-preserved g c =
     let inv = c.inns.invariant in
     let step = c.in_ok-draft_pairs.ensures in
     record {
-      draft = next_drafted c.args.task.bound c.args.task.node c.args.row.now c.deref-into-items.result.now inns c.requires.inn_rises c.inns.into-index _ c.inns-test.true (kept_of c.inns.desk.searcher.rows) (kept_of c.draft_pairs.new.desk.searcher.rows) c.inns.draft c.draft_pairs.new.draft step.read.more inv.draft (subst (λ (e : Entry). IsDraftedFrom c.args.task.bound c.args.task.node c.args.row.now e (kept_of c.draft_pairs.new.desk.searcher.rows) c.inns.draft c.draft_pairs.new.draft) c.into-item.is step.draft);
+      draft = next_drafted c.args.task.bound c.args.task.node c.args.row.now c.deref-into-items.result.now inns c.requires.inn_rises c.inns.into-index _ c.inns-test.true
+          (kept_of c.inns.desk.searcher.rows) (kept_of c.draft_pairs.new.desk.searcher.rows) c.inns.draft c.draft_pairs.new.draft step.read.more inv.draft
+          (subst (λ (e : Entry). IsDraftedFrom c.args.task.bound c.args.task.node c.args.row.now e
+          (kept_of c.draft_pairs.new.desk.searcher.rows) c.inns.draft c.draft_pairs.new.draft) c.into-item.is step.draft);
       read = record {
         kept = step.read.kept;
         more = λ x s is. step.read.more x s (inv.read.more x s is);

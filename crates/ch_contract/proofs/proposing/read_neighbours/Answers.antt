@@ -30,7 +30,10 @@ pub returns-in_err-read-clause-found : goal.returns-in_err-read-clause-found
 returns-in_err-read-clause-found g c = λ named names.
     let inv = c.inns.invariant in
     let inns = c.deref-into-items.ensures.value ∙ ap (λ (r : Row). r.inn) c.row.view_is in
-    let whole = All-contains (λ (x : Entry). g.S.RowSource.whole c.args.source.now x.other) c.args.row.now.inn c.into-item.result names.inn (subst (λ (es : List Entry). Contains es c.into-item.result) inns (contains_place c.deref-into-items.result.now c.inns.into-index c.into-item.result c.into-item.result c.inns-test.true (sym c.into-item.is))) in
+    let whole = All-contains (λ (x : Entry). g.S.RowSource.whole c.args.source.now x.other) c.args.row.now.inn c.into-item.result names.inn
+    (subst (λ (es : List Entry). Contains es c.into-item.result) inns
+    (contains_place c.deref-into-items.result.now c.inns.into-index c.into-item.result c.into-item.result c.inns-test.true
+    (sym c.into-item.is))) in
     let p = err_from_is_err_and c.from_residual.result c.from_residual.ensures.1 in
     let same = p.2 in
     let other = c.in_err-read.ensures.found (inv.names named names) (g.met.S.RowSource.still_whole c.args.source.now c.inns.source c.into-item.result.other inv.read.stays whole) in
@@ -48,7 +51,10 @@ inns-preserved g c =
         stays = g.met.S.RowSource.stays_more c.args.source.now c.inns.source c.read.new.source inv.read.stays step.read.stays;
       };
       names = λ named names.
-          let whole = All-contains (λ (x : Entry). g.S.RowSource.whole c.args.source.now x.other) c.args.row.now.inn c.into-item.result names.inn (subst (λ (es : List Entry). Contains es c.into-item.result) inns (contains_place c.deref-into-items.result.now c.inns.into-index c.into-item.result c.into-item.result c.inns-test.true (sym c.into-item.is))) in
+          let whole = All-contains (λ (x : Entry). g.S.RowSource.whole c.args.source.now x.other) c.args.row.now.inn c.into-item.result names.inn
+          (subst (λ (es : List Entry). Contains es c.into-item.result) inns
+          (contains_place c.deref-into-items.result.now c.inns.into-index c.into-item.result c.into-item.result c.inns-test.true
+          (sym c.into-item.is))) in
           step.found (inv.names named names) (g.met.S.RowSource.still_whole c.args.source.now c.inns.source c.into-item.result.other inv.read.stays whole);
     }
 

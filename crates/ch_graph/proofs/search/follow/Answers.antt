@@ -18,7 +18,10 @@ arcs-init c = record {
   opened = opened-start c.args.graph.now c.args.reached.node c.args.reached.cost c.args.frontier.now;
   from = length c.args.graph.now.arcs;
   within = omega arith;
-  next = subst (λ (o : Option ℕ). IsLastFrom c.args.graph.now.arcs c.args.reached.node (length c.args.graph.now.arcs) o) (sym (get_or_read _ c.args.reached.node c.index-next.result.now (omega (arith, c.requires.node_in, c.requires.links.nodes)) c.index-next.ensures None)) (c.requires.links.lasts c.args.reached.node c.requires.node_in);
+  next = subst (λ (o : Option ℕ). IsLastFrom c.args.graph.now.arcs c.args.reached.node (length c.args.graph.now.arcs) o)
+      (sym (get_or_read _ c.args.reached.node c.index-next.result.now
+      (omega (arith, c.requires.node_in, c.requires.links.nodes)) c.index-next.ensures None))
+      (c.requires.links.lasts c.args.reached.node c.requires.node_in);
   followed = λ k from h. absurd (omega (arith, from, h));
 }
 
@@ -47,7 +50,11 @@ arcs-preserved c =
     let read : c.index-next-in-Some.result.now ≡ get_or c.args.outgoing.now.before.items at None = get_or_read c.args.outgoing.now.before.items at c.index-next-in-Some.result.now (omega (arith, at_in, c.requires.links.arcs)) c.index-next-in-Some.ensures None in
     let place : (road_at graph.arcs at).to < length c.arcs.frontier = omega (arith, (c.arcs-arcs.ensures.graph.roads at (record { from = 0; to = 0; weight = 0 }) at_in).to_in, c.arcs.invariant.opened.nodes, c.requires.marks) in
     let cost : Cost = c.args.reached.cost ⊕ of_weight (road_at graph.arcs at).weight in
-    let offered : IsOffered c.arcs.frontier (road_at graph.arcs at).to cost c.offer.new.self = subst (λ (rs : List Road). IsOffered c.arcs.frontier (road_at rs at).to (c.args.reached.cost ⊕ of_weight (road_at rs at).weight) c.offer.new.self) c.arcs-arcs.ensures.list (subst (λ (d : Cost). IsOffered c.arcs.frontier (road_at c.arcs-arcs.result.now at).to d c.offer.new.self) (c.plus.ensures ∙ ap (λ (d : Cost). c.args.reached.cost ⊕ d) c.of_weight.ensures) c.in_ok-offer.ensures) in
+    let offered : IsOffered c.arcs.frontier (road_at graph.arcs at).to cost c.offer.new.self = subst
+    (λ (rs : List Road). IsOffered c.arcs.frontier (road_at rs at).to
+    (c.args.reached.cost ⊕ of_weight (road_at rs at).weight) c.offer.new.self) c.arcs-arcs.ensures.list
+    (subst (λ (d : Cost). IsOffered c.arcs.frontier (road_at c.arcs-arcs.result.now at).to d c.offer.new.self)
+    (c.plus.ensures ∙ ap (λ (d : Cost). c.args.reached.cost ⊕ d) c.of_weight.ensures) c.in_ok-offer.ensures) in
     let v : ℕ = c.args.reached.node in
     let to : ℕ = (road_at graph.arcs at).to in
     let leads : LeadsTo (ArcOf graph) v c.args.reached.cost to cost = leads-road graph v c.args.reached.cost at at_in leaves in
@@ -57,5 +64,8 @@ arcs-preserved c =
       from = at;
       within = omega (arith, at_in);
       next = subst (λ (n : ℕ). IsLastFrom graph.arcs n at c.index-next-in-Some.result.now) leaves (subst (λ (o : Option ℕ). IsLastFrom graph.arcs (road_at graph.arcs at).from at o) (sym read) (c.requires.links.befores at at_in));
-      followed = followed-more graph v c.args.reached.cost c.arcs.invariant.from at c.arcs.frontier c.offer.new.self last kept (offer-at_most c.arcs.frontier c.offer.new.self to cost place offered (λ d is. at_most_trans (c.requires.latest to d (c.arcs.invariant.opened.is.settled to d is)) (at_most_sum_left c.args.reached.cost (of_weight (road_at graph.arcs at).weight)))) c.arcs.invariant.followed;
+      followed = followed-more graph v c.args.reached.cost c.arcs.invariant.from at c.arcs.frontier c.offer.new.self last kept
+          (offer-at_most c.arcs.frontier c.offer.new.self to cost place offered
+          (λ d is. at_most_trans (c.requires.latest to d (c.arcs.invariant.opened.is.settled to d is))
+          (at_most_sum_left c.args.reached.cost (of_weight (road_at graph.arcs at).weight)))) c.arcs.invariant.followed;
     }

@@ -15,7 +15,9 @@ returns-then-arc-from c = λ nodes arcs h. least-other nodes arcs c.args.arc c.a
 ]) h
 
 pub returns-in-Some : goal.returns-in-Some
-returns-in-Some c = λ nodes arcs h. least-known nodes arcs c.args.arc c.args.from c.args.to c.in-Some.known (subst (λ (d : Cost). c.in-Some.known ≼ d) c.of_weight-cost.ensures (c.is_at_most.ensures.0 c.if-is_at_most.true)) (subst (λ (o : Option Cost). IsLeastOrNone (ArcOf (record { nodes = nodes; arcs = arcs }) c.args.from c.args.to) o) c.in-Some.is h)
+returns-in-Some c = λ nodes arcs h. least-known nodes arcs c.args.arc c.args.from c.args.to c.in-Some.known
+    (subst (λ (d : Cost). c.in-Some.known ≼ d) c.of_weight-cost.ensures (c.is_at_most.ensures.0 c.if-is_at_most.true))
+    (subst (λ (o : Option Cost). IsLeastOrNone (ArcOf (record { nodes = nodes; arcs = arcs }) c.args.from c.args.to) o) c.in-Some.is h)
 
 pub returns-in_default : goal.returns-in_default
 returns-in_default c =
@@ -23,7 +25,13 @@ returns-in_default c =
       | inl below ↦ at_most-from_below below
       | inr most ↦ let yes : c.is_at_most.result ≡ true = c.is_at_most.ensures.1 most in absurd (cc (yes, c.if-is_at_most.false))
     ]) in
-    λ nodes arcs h. subst (λ (d : Cost). IsLeastOrNone (ArcOf (record { nodes = nodes; arcs = arcs ++ c.args.arc ∷ [] }) c.args.from c.args.to) (Some d)) (sym c.of_weight-cost.ensures) (least-this nodes arcs c.args.arc c.args.from c.args.to c.args.least c.if-arc-from.false c.if-arc-to.false (λ k is. let same : c.in-Some.known ≡ k = cc (c.in-Some.is, is) in subst (λ (d : Cost). of_weight c.args.arc.weight ≼ d) same lighter) h)
+    λ nodes arcs h. subst (λ (d : Cost). IsLeastOrNone (ArcOf (record { nodes = nodes; arcs = arcs ++ c.args.arc ∷ [] }) c.args.from c.args.to)
+    (Some d)) (sym c.of_weight-cost.ensures)
+    (least-this nodes arcs c.args.arc c.args.from c.args.to c.args.least c.if-arc-from.false c.if-arc-to.false
+    (λ k is. let same : c.in-Some.known ≡ k = cc (c.in-Some.is, is) in subst (λ (d : Cost). of_weight c.args.arc.weight ≼ d) same lighter) h)
 
 pub returns-in_default-2 : goal.returns-in_default-2
-returns-in_default-2 c = λ nodes arcs h. subst (λ (d : Cost). IsLeastOrNone (ArcOf (record { nodes = nodes; arcs = arcs ++ c.args.arc ∷ [] }) c.args.from c.args.to) (Some d)) (sym c.of_weight-cost.ensures) (least-this nodes arcs c.args.arc c.args.from c.args.to c.args.least c.if-arc-from.false c.if-arc-to.false (λ k is. absurd (cc (c.in_default.is, is))) h)
+returns-in_default-2 c = λ nodes arcs h. subst
+    (λ (d : Cost). IsLeastOrNone (ArcOf (record { nodes = nodes; arcs = arcs ++ c.args.arc ∷ [] }) c.args.from c.args.to) (Some d))
+    (sym c.of_weight-cost.ensures) (least-this nodes arcs c.args.arc c.args.from c.args.to c.args.least c.if-arc-from.false c.if-arc-to.false
+    (λ k is. absurd (cc (c.in_default.is, is))) h)

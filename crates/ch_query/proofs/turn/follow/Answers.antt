@@ -5,7 +5,7 @@ use Rattle.ch_cost.specs.Cost.{◌⊕◌, IsSummable, IsNoLonger}
 use Rattle.ch_cost.specs.Cost.Laws.{summable-from_walks}
 use Rattle.ch_graph.specs.declared.mark.Mark.{Mark}
 use Rattle.ch_graph.specs.Marks.{mark, Improves}
-use Rattle.ch_query.specs.declared.upward.Step.{Step}
+use Rattle.ch_query.specs.declared.upward.UpwardStep.{UpwardStep}
 use Rattle.ch_query.specs.declared.label.Label.{Label}
 use Rattle.ch_query.specs.Upward.{step_along}
 use Rattle.ch_query.specs.Labels.{CountsBelow}
@@ -38,9 +38,9 @@ pub is_improved_by-requires-clause-settled : goal.is_improved_by-requires-clause
 is_improved_by-requires-clause-settled c =
     let h = c.args.hierarchy.now in
     let k : ℕ = slice_index c.args.upward.now.links.items c.args.place in
-    let step : Step = c.index-step.result.now in
+    let step : UpwardStep = c.index-step.result.now in
     let is : step ≡ step_along h c.args.side k = c.index-step.ensures ∙ c.requires.step.along step in
-    let head : step.head ≡ head_rank h c.args.side k = ap (λ (s : Step). s.head) is in
+    let head : step.head ≡ head_rank h c.args.side k = ap (λ (s : UpwardStep). s.head) is in
     let sum : c.plus_wide-sum.result ≡ c.args.cost ⊕ cost_at h k = c.plus_wide-sum.ensures ∙ ap (λ (d : Cost). c.args.cost ⊕ d) c.step_cost.ensures in
     settled-step h c.args.side c.args.here.now c.args.rank c.args.cost step.head c.plus_wide-sum.result
     (leads-step h c.args.side c.args.upward.now.links.items c.args.upward.now.steps.items c.args.place c.args.rank c.args.cost c.requires.step
@@ -60,9 +60,9 @@ pub returns-then-not-is_improved_by-clause-followed : goal.returns-then-not-is_i
 returns-then-not-is_improved_by-clause-followed c counted =
     let h = c.args.hierarchy.now in
     let k : ℕ = slice_index c.args.upward.now.links.items c.args.place in
-    let step : Step = c.index-step.result.now in
+    let step : UpwardStep = c.index-step.result.now in
     let is : step ≡ step_along h c.args.side k = c.index-step.ensures ∙ c.requires.step.along step in
-    let head : step.head ≡ head_rank h c.args.side k = ap (λ (s : Step). s.head) is in
+    let head : step.head ≡ head_rank h c.args.side k = ap (λ (s : UpwardStep). s.head) is in
     let sum : c.plus_wide-sum.result ≡ c.args.cost ⊕ cost_at h k = c.plus_wide-sum.ensures ∙ ap (λ (d : Cost). c.args.cost ⊕ d) c.step_cost.ensures in
     let never : Improves label_cost c.plus_wide-sum.result (mark c.args.here.now step.head) → ⊥ = λ improves. true_false (c.is_improved_by.ensures.1 improves) c.if-not-is_improved_by.true in
     let above : IsSettledAtMost c.args.here.now step.head c.plus_wide-sum.result = settled-step h c.args.side c.args.here.now c.args.rank c.args.cost
@@ -74,9 +74,9 @@ pub returns-clause-opened : goal.returns-clause-opened
 returns-clause-opened c =
     let h = c.args.hierarchy.now in
     let k : ℕ = slice_index c.args.upward.now.links.items c.args.place in
-    let step : Step = c.index-step.result.now in
+    let step : UpwardStep = c.index-step.result.now in
     let is : step ≡ step_along h c.args.side k = c.index-step.ensures ∙ c.requires.step.along step in
-    let head : step.head ≡ head_rank h c.args.side k = ap (λ (s : Step). s.head) is in
+    let head : step.head ≡ head_rank h c.args.side k = ap (λ (s : UpwardStep). s.head) is in
     let side = c.args.side in
     let marks : List (Mark Label) = c.args.here.now in
     let sum : c.plus_wide-sum.result ≡ c.args.cost ⊕ cost_at h k = c.plus_wide-sum.ensures ∙ ap (λ (d : Cost). c.args.cost ⊕ d) c.step_cost.ensures in
@@ -96,9 +96,9 @@ pub returns-clause-followed : goal.returns-clause-followed
 returns-clause-followed c =
     let h = c.args.hierarchy.now in
     let k : ℕ = slice_index c.args.upward.now.links.items c.args.place in
-    let step : Step = c.index-step.result.now in
+    let step : UpwardStep = c.index-step.result.now in
     let is : step ≡ step_along h c.args.side k = c.index-step.ensures ∙ c.requires.step.along step in
-    let head : step.head ≡ head_rank h c.args.side k = ap (λ (s : Step). s.head) is in
+    let head : step.head ≡ head_rank h c.args.side k = ap (λ (s : UpwardStep). s.head) is in
     let side = c.args.side in
     let marks : List (Mark Label) = c.args.here.now in
     let sum : c.plus_wide-sum.result ≡ c.args.cost ⊕ cost_at h k = c.plus_wide-sum.ensures ∙ ap (λ (d : Cost). c.args.cost ⊕ d) c.step_cost.ensures in

@@ -11,7 +11,10 @@ invariant-lines g l =
     record {
       same : l.router ≡ l.fn.router;
       nodes : l.reader.nodes ≡ l.fn.reader.nodes;
-      replies : ((ended : ℕ) × (ended + line_feeds l.rest ≡ line_feeds l.fn.piece) × Replies (by_hierarchy l.fn.router) ended (λ (more : List ℕ). requests_with l.fn.reader (l.fn.piece ++ more)) (λ (more : List ℕ). requests_with l.reader (l.rest ++ more)) (contents l.fn.out) (contents l.out) l.fn.output.lines.items l.output.lines.items l.fn.output.calls.written l.output.calls.written);
+      replies : ((ended : ℕ) × (ended + line_feeds l.rest ≡ line_feeds l.fn.piece)
+          × Replies (by_hierarchy l.fn.router) ended (λ (more : List ℕ). requests_with l.fn.reader (l.fn.piece ++ more))
+          (λ (more : List ℕ). requests_with l.reader (l.rest ++ more)) (contents l.fn.out)
+          (contents l.out) l.fn.output.lines.items l.output.lines.items l.fn.output.calls.written l.output.calls.written);
     }
 
 abbrev pub decreases-lines : goal.decreases-lines

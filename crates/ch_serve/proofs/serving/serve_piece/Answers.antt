@@ -16,8 +16,11 @@ returns-then-count-eq0-clause-ok g c = to_nothing (by_hierarchy c.args.router.no
 pub returns-in_err-hand_over-clause-err : goal.returns-in_err-hand_over-clause-err
 returns-in_err-hand_over-clause-err g c =
     let exit = err_from_is_err_and c.from_residual-in_err-hand_over.result c.from_residual-in_err-hand_over.ensures.1 in
-    rw (exit.1, exit.2) (piece_breaks (by_hierarchy c.args.router.now) _ _ (requests_with c.args.reader.now) (requests_with c.reply_to_lines.new.reader) (take c.in_ok-count.count c.read.new.buffer) _ _ _ _ _ _ _ _ c.requires.empty c.in_ok-count.ensures.bytes.0 c.in_ok-reply_to_lines.ensures.ok c.in_err-hand_over.ensures.err)
+    rw (exit.1, exit.2) (piece_breaks (by_hierarchy c.args.router.now) _ _ (requests_with c.args.reader.now)
+    (requests_with c.reply_to_lines.new.reader)
+    (take c.in_ok-count.count c.read.new.buffer) _ _ _ _ _ _ _ _ c.requires.empty c.in_ok-count.ensures.bytes.0 c.in_ok-reply_to_lines.ensures.ok c.in_err-hand_over.ensures.err)
 
 pub returns-clause-ok : goal.returns-clause-ok
 returns-clause-ok g c =
-    piece_served (by_hierarchy c.args.router.now) _ _ (requests_with c.args.reader.now) (requests_with c.reply_to_lines.new.reader) (take c.in_ok-count.count c.read.new.buffer) _ _ _ _ _ _ _ _ _ c.requires.empty c.in_ok-hand_over.ensures.all c.in_ok-count.ensures.bytes.0 c.in_ok-reply_to_lines.ensures.ok c.in_ok-hand_over.ensures.ok
+    piece_served (by_hierarchy c.args.router.now) _ _ (requests_with c.args.reader.now) (requests_with c.reply_to_lines.new.reader)
+    (take c.in_ok-count.count c.read.new.buffer) _ _ _ _ _ _ _ _ _ c.requires.empty c.in_ok-hand_over.ensures.all c.in_ok-count.ensures.bytes.0 c.in_ok-reply_to_lines.ensures.ok c.in_ok-hand_over.ensures.ok

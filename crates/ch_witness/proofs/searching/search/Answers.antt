@@ -10,12 +10,16 @@ hand_out-requires g c = record { nodes = λ x s is. (c.in_ok-traced.ensures.read
 
 pub returns-clause-ways : goal.returns-clause-ways
 returns-clause-ways g c =
-    let listing : AreListed (kept_of c.search.new.self.rows) (nodes_of (seen_of c.in_ok-traced.traced.steps.items)) c.in_ok-seen.seen.items = (subst (λ (ns : List ℕ). AreListed (kept_of c.search.new.self.rows) ns c.in_ok-seen.seen.items) (c.deref-2.ensures.value ∙ c.in_ok-nodes.ensures ∙ ap (λ ss. nodes_of (seen_of ss)) c.deref.ensures.value) c.in_ok-seen.ensures) in
+    let listing : AreListed (kept_of c.search.new.self.rows) (nodes_of (seen_of c.in_ok-traced.traced.steps.items)) c.in_ok-seen.seen.items =
+    (subst (λ (ns : List ℕ). AreListed (kept_of c.search.new.self.rows) ns c.in_ok-seen.seen.items)
+    (c.deref-2.ensures.value ∙ c.in_ok-nodes.ensures ∙ ap (λ ss. nodes_of (seen_of ss)) c.deref.ensures.value) c.in_ok-seen.ensures) in
     ways_still (kept_of c.search.new.self.rows) (seen_of c.in_ok-traced.traced.steps.items) c.in_ok-seen.seen.items c.in_ok-traced.ensures.kept_rows listing c.args.from c.args.avoid c.args.cutoff c.args.targets.now c.in_ok-traced.traced.ways.items c.in_ok-traced.ensures.ways
 
 pub returns-clause-direct : goal.returns-clause-direct
 returns-clause-direct g c = λ k h other.
-    let listing : AreListed (kept_of c.search.new.self.rows) (nodes_of (seen_of c.in_ok-traced.traced.steps.items)) c.in_ok-seen.seen.items = (subst (λ (ns : List ℕ). AreListed (kept_of c.search.new.self.rows) ns c.in_ok-seen.seen.items) (c.deref-2.ensures.value ∙ c.in_ok-nodes.ensures ∙ ap (λ ss. nodes_of (seen_of ss)) c.deref.ensures.value) c.in_ok-seen.ensures) in
+    let listing : AreListed (kept_of c.search.new.self.rows) (nodes_of (seen_of c.in_ok-traced.traced.steps.items)) c.in_ok-seen.seen.items =
+    (subst (λ (ns : List ℕ). AreListed (kept_of c.search.new.self.rows) ns c.in_ok-seen.seen.items)
+    (c.deref-2.ensures.value ∙ c.in_ok-nodes.ensures ∙ ap (λ ss. nodes_of (seen_of ss)) c.deref.ensures.value) c.in_ok-seen.ensures) in
     let start = c.in_ok-traced.ensures.direct k h other in
     let answer = c.in_ok-traced.ensures.read.kept start.0.node start.0 start.1 in (
       start.0,
@@ -26,11 +30,19 @@ returns-clause-direct g c = λ k h other.
 
 pub returns-clause-rows : goal.returns-clause-rows
 returns-clause-rows g c =
-    let listing : AreListed (kept_of c.search.new.self.rows) (nodes_of (seen_of c.in_ok-traced.traced.steps.items)) c.in_ok-seen.seen.items = (subst (λ (ns : List ℕ). AreListed (kept_of c.search.new.self.rows) ns c.in_ok-seen.seen.items) (c.deref-2.ensures.value ∙ c.in_ok-nodes.ensures ∙ ap (λ ss. nodes_of (seen_of ss)) c.deref.ensures.value) c.in_ok-seen.ensures) in
+    let listing : AreListed (kept_of c.search.new.self.rows) (nodes_of (seen_of c.in_ok-traced.traced.steps.items)) c.in_ok-seen.seen.items =
+    (subst (λ (ns : List ℕ). AreListed (kept_of c.search.new.self.rows) ns c.in_ok-seen.seen.items)
+    (c.deref-2.ensures.value ∙ c.in_ok-nodes.ensures ∙ ap (λ ss. nodes_of (seen_of ss)) c.deref.ensures.value) c.in_ok-seen.ensures) in
     rows_still (kept_of c.search.new.self.rows) (seen_of c.in_ok-traced.traced.steps.items) c.in_ok-seen.seen.items c.in_ok-traced.ensures.kept_rows listing c.in_ok-traced.ensures.rows
 
 pub returns-clause-bears : goal.returns-clause-bears
-returns-clause-bears g c = all_listed_are g.S.RowSource.bears (g.S.RowSource.shows c.search.new.source) g.S.RowSource.bears (g.S.RowSource.bound_of c.search.new.source) (kept_of c.search.new.self.rows) c.deref-2.result.now c.in_ok-seen.seen.items c.in_ok-traced.ensures.read.kept c.in_ok-seen.ensures (λ x s a. a.bears)
+returns-clause-bears g c = all_listed_are g.S.RowSource.bears (g.S.RowSource.shows c.search.new.source) g.S.RowSource.bears
+    (g.S.RowSource.bound_of c.search.new.source)
+    (kept_of c.search.new.self.rows) c.deref-2.result.now c.in_ok-seen.seen.items c.in_ok-traced.ensures.read.kept c.in_ok-seen.ensures
+    (λ x s a. a.bears)
 
 pub returns-clause-shows : goal.returns-clause-shows
-returns-clause-shows g c = all_listed_are g.S.RowSource.bears (g.S.RowSource.shows c.search.new.source) (g.S.RowSource.shows c.search.new.source) (g.S.RowSource.bound_of c.search.new.source) (kept_of c.search.new.self.rows) c.deref-2.result.now c.in_ok-seen.seen.items c.in_ok-traced.ensures.read.kept c.in_ok-seen.ensures (λ x s a. a.shows)
+returns-clause-shows g c = all_listed_are g.S.RowSource.bears (g.S.RowSource.shows c.search.new.source) (g.S.RowSource.shows c.search.new.source)
+    (g.S.RowSource.bound_of c.search.new.source)
+    (kept_of c.search.new.self.rows) c.deref-2.result.now c.in_ok-seen.seen.items c.in_ok-traced.ensures.read.kept c.in_ok-seen.ensures
+    (λ x s a. a.shows)

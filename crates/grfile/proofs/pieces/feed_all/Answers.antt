@@ -23,7 +23,9 @@ loop-count-preserved g c =
     let short : length chunk ≤ 65536 = omega (arith, given.0, length-take-le c.in-Some.count c.read_piece.new.piece given.0) in
     record {
       fresh = c.in_ok-feed.ensures.stays ∙ kept.fresh;
-      told = taken_more (told_with grammar (taken_of c.args.pieces.now)) (told_with grammar (taken_of c.loop-count.pieces)) (told_with grammar (taken_of c.feed.new.pieces)) c.loop-count.pieces.progress.line c.feed.new.pieces.progress.line had left later chunk kept.told c.in_ok-feed.ensures.takes (c.in_ok-feed.ensures.lines kept.fresh) given.1;
+      told = taken_more (told_with grammar (taken_of c.args.pieces.now)) (told_with grammar (taken_of c.loop-count.pieces))
+          (told_with grammar (taken_of c.feed.new.pieces)) c.loop-count.pieces.progress.line c.feed.new.pieces.progress.line had left later chunk kept.told c.in_ok-feed.ensures.takes
+          (c.in_ok-feed.ensures.lines kept.fresh) given.1;
       few = within_more had left later chunk c.read_piece.new.calls.left c.loop-count.calls.left _ kept.few given.1 short c.in_ok-count.ensures.counted;
       calls = read_then g.R.StepRead.step kept.calls c.in_ok-count.ensures.calls;
     }
@@ -39,7 +41,9 @@ returns-in_err-feed-clause-reads g c =
     let exit = err_from_is_err_and c.from_residual-in_err-feed.result c.from_residual-in_err-feed.ensures.1 in
     let reached = c.in_err-feed.ensures.lines kept.fresh in
     rw (exit.1, exit.2) (record {
-      reached = stops_in_piece (told_with grammar (taken_of c.args.pieces.now)) (told_with grammar (taken_of c.loop-count.pieces)) c.loop-count.pieces.progress.line _ (g.R.Read.remaining c.args.reader.now) (g.R.Read.remaining c.loop-count.reader) (g.R.Read.remaining c.read_piece.new.reader) chunk _ kept.told given.1 short reached;
+      reached = stops_in_piece (told_with grammar (taken_of c.args.pieces.now))
+          (told_with grammar (taken_of c.loop-count.pieces)) c.loop-count.pieces.progress.line _ (g.R.Read.remaining c.args.reader.now)
+          (g.R.Read.remaining c.loop-count.reader) (g.R.Read.remaining c.read_piece.new.reader) chunk _ kept.told given.1 short reached;
       calls = refused_after step (read_then step kept.calls c.in_ok-count.ensures.calls) reached.no_read;
     })
 
@@ -49,7 +53,9 @@ returns-in_err-count-clause-reads g c =
     let kept = c.loop-count.invariant in
     let e = c.in_err-count.ensures.refused in
     let exit = err_from_is_err_and c.from_residual.result c.from_residual.ensures.1 in
-    let told = taken_same (told_with grammar (taken_of c.args.pieces.now)) (told_with grammar (taken_of c.loop-count.pieces)) c.loop-count.pieces.progress.line (g.R.Read.remaining c.args.reader.now) (g.R.Read.remaining c.loop-count.reader) (g.R.Read.remaining c.read_piece.new.reader) kept.told e.1 in
+    let told = taken_same (told_with grammar (taken_of c.args.pieces.now))
+    (told_with grammar (taken_of c.loop-count.pieces)) c.loop-count.pieces.progress.line (g.R.Read.remaining c.args.reader.now)
+    (g.R.Read.remaining c.loop-count.reader) (g.R.Read.remaining c.read_piece.new.reader) kept.told e.1 in
     rw (exit.1, exit.2) (record {
       reached = stops_between (told_with grammar (taken_of c.args.pieces.now)) (told_with grammar (taken_of c.loop-count.pieces)) c.loop-count.pieces.progress.line (g.R.Read.remaining c.args.reader.now) (g.R.Read.remaining c.read_piece.new.reader) _ told (λ _. ap (λ (e : GrError). e.line) e.0);
       calls = failed_after g.R.StepRead.step kept.calls (ap (λ (e : GrError). e.kind) e.0) c.in_err-count.ensures.gave_out;
@@ -99,10 +105,14 @@ returns-in_err-count-clause-before g c =
     let kept = c.loop-count.invariant in
     let refused = c.in_err-count.ensures.refused in
     let exit = err_from_is_err_and c.from_residual.result c.from_residual.ensures.1 in
-    let told = taken_same (told_with grammar (taken_of c.args.pieces.now)) (told_with grammar (taken_of c.loop-count.pieces)) c.loop-count.pieces.progress.line (g.R.Read.remaining c.args.reader.now) (g.R.Read.remaining c.loop-count.reader) (g.R.Read.remaining c.read_piece.new.reader) kept.told refused.1 in
+    let told = taken_same (told_with grammar (taken_of c.args.pieces.now))
+    (told_with grammar (taken_of c.loop-count.pieces)) c.loop-count.pieces.progress.line (g.R.Read.remaining c.args.reader.now)
+    (g.R.Read.remaining c.loop-count.reader) (g.R.Read.remaining c.read_piece.new.reader) kept.told refused.1 in
     let first = taken_of c.args.pieces.now in
     let e = c.in_err-count.field-0.0 in
-    rw (exit.1, exit.2) (stops_there (ReadTo grammar (told_with grammar first)) told.0 (g.R.Read.remaining c.args.reader.now) (g.R.Read.remaining c.read_piece.new.reader) e told.3 (λ _. read_so_far grammar first (taken_of c.loop-count.pieces) told.0 e kept.fresh told.1 (ap (λ (e : GrError). e.line) refused.0)))
+    rw (exit.1, exit.2) (stops_there (ReadTo grammar (told_with grammar first)) told.0 (g.R.Read.remaining c.args.reader.now)
+    (g.R.Read.remaining c.read_piece.new.reader) e told.3
+    (λ _. read_so_far grammar first (taken_of c.loop-count.pieces) told.0 e kept.fresh told.1 (ap (λ (e : GrError). e.line) refused.0)))
 
 pub returns-in_err-feed-clause-before : goal.returns-in_err-feed-clause-before
 returns-in_err-feed-clause-before g c =

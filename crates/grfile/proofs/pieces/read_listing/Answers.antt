@@ -13,15 +13,21 @@ returns-in_err-feed_all-clause-told g c =
     rw (exit.1, exit.2) (first_fault (g.F.Form.grammar c.args.form) (taken_of c.new-pieces.result) c.new-pieces.ensures (g.R.Read.remaining c.args.reader.now) _ c.in_err-feed_all.ensures.err)
 
 pub returns-clause-told : goal.returns-clause-told
-returns-clause-told g c = told_all (g.F.Form.grammar c.args.form) (taken_of c.new-pieces.result) c.new-pieces.ensures listing_of (taken_of c.feed_all.new.pieces) c.finish.result (g.R.Read.remaining c.args.reader.now) (g.R.Read.remaining c.feed_all.new.reader) c.in_ok-feed_all.ensures.ok c.in_ok-feed_all.ensures.reads.ended c.finish.ensures.told
+returns-clause-told g c = told_all (g.F.Form.grammar c.args.form) (taken_of c.new-pieces.result) c.new-pieces.ensures listing_of
+    (taken_of c.feed_all.new.pieces) c.finish.result (g.R.Read.remaining c.args.reader.now)
+    (g.R.Read.remaining c.feed_all.new.reader) c.in_ok-feed_all.ensures.ok c.in_ok-feed_all.ensures.reads.ended c.finish.ensures.told
 
 pub returns-clause-listed : goal.returns-clause-listed
-returns-clause-listed g c = told_some (g.F.Form.grammar c.args.form) (taken_of c.new-pieces.result) c.new-pieces.ensures listing_of (taken_of c.feed_all.new.pieces) c.finish.result (g.R.Read.remaining c.args.reader.now) (g.R.Read.remaining c.feed_all.new.reader) c.in_ok-feed_all.ensures.ok c.finish.ensures.told
+returns-clause-listed g c = told_some (g.F.Form.grammar c.args.form) (taken_of c.new-pieces.result) c.new-pieces.ensures listing_of
+    (taken_of c.feed_all.new.pieces) c.finish.result (g.R.Read.remaining c.args.reader.now)
+    (g.R.Read.remaining c.feed_all.new.reader) c.in_ok-feed_all.ensures.ok c.finish.ensures.told
 
 pub returns-clause-reads : goal.returns-clause-reads
 returns-clause-reads g c =
     let grammar = g.F.Form.grammar c.args.form in
-    reads_at_end g.R.StepRead.step g.R.Read.remaining c.finish.result (told_with grammar (taken_of c.new-pieces.result)) (told_with grammar (taken_of c.feed_all.new.pieces)) c.feed_all.new.pieces.progress.line c.in_ok-feed_all.ensures.ok (c.finish.ensures.refused c.in_ok-feed_all.ensures.stays) c.in_ok-feed_all.ensures.reads
+    reads_at_end g.R.StepRead.step g.R.Read.remaining c.finish.result (told_with grammar (taken_of c.new-pieces.result))
+    (told_with grammar (taken_of c.feed_all.new.pieces)) c.feed_all.new.pieces.progress.line c.in_ok-feed_all.ensures.ok
+    (c.finish.ensures.refused c.in_ok-feed_all.ensures.stays) c.in_ok-feed_all.ensures.reads
 
 pub returns-in_err-feed_all-clause-before : goal.returns-in_err-feed_all-clause-before
 returns-in_err-feed_all-clause-before g c =

@@ -17,4 +17,6 @@ returns-then-not-is_of_places-2 c =
 pub returns : goal.returns
 returns c =
     let starts = c.in-Some.ensures ∙ ap colon_at c.fields_behind.ensures in
-    sides_are (drop 1 (fields_of c.args.line.now)) c.fields_behind-2.result _ (behind_is (fields_of c.args.line.now) _ _ c.fields_behind-2.ensures starts) starts c.in-Some-count.ensures (sym c.is_of_places.ensures ∙ c.if-not-is_of_places.false) (sym c.is_of_places-2.ensures ∙ c.if-not-is_of_places-2.false)
+    sides_are (drop 1 (fields_of c.args.line.now)) c.fields_behind-2.result _
+    (behind_is (fields_of c.args.line.now) _ _ c.fields_behind-2.ensures starts) starts c.in-Some-count.ensures
+    (sym c.is_of_places.ensures ∙ c.if-not-is_of_places.false) (sym c.is_of_places-2.ensures ∙ c.if-not-is_of_places-2.false)

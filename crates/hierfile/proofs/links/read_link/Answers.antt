@@ -53,7 +53,16 @@ returns-in_err-middle-clause-reads g c =
     let weighed = ends ++ long c.in_ok-weight.weight in
     let arcs = arcs_bytes c.args.version c.in_ok-arcs.arcs in
     let front = weighed ++ arcs in
-    let short : length front + 4 ≤ size = omega (arith, length-append weighed arcs, length-append ends (long c.in_ok-weight.weight), length-append (word c.in_ok-from.from) (word c.in_ok-to.to), length-word c.in_ok-from.from, length-word c.in_ok-to.to, length-long c.in_ok-weight.weight, length-arcs c.args.version c.in_ok-arcs.arcs) in
+    let short : length front + 4 ≤ size = omega (
+      arith,
+      length-append weighed arcs,
+      length-append ends (long c.in_ok-weight.weight),
+      length-append (word c.in_ok-from.from) (word c.in_ok-to.to),
+      length-word c.in_ok-from.from,
+      length-word c.in_ok-to.to,
+      length-long c.in_ok-weight.weight,
+      length-arcs c.args.version c.in_ok-arcs.arcs,
+    ) in
     let so_far = takes_then step remaining (takes_then step remaining (takes_then step remaining c.in_ok-from.ensures.reads c.in_ok-to.ensures.reads) c.in_ok-weight.ensures.reads) c.in_ok-arcs.ensures.reads in
     hands_back c.from_residual-in_err-middle.result _ _ _ c.from_residual-in_err-middle.ensures.1 (fault_behind step remaining (cut 4) (cut size) so_far (λ d rest is. cut_behind size 4 front rest short is) c.in_err-middle.ensures.reads)
 

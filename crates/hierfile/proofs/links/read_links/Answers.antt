@@ -40,7 +40,9 @@ returns-in_err-test_link-clause-reads g c =
     let is = subst (λ (o : Option Link). link_fault v ranks bound o link ≡ Some c.in_err-test_link.field-0.0) earlier c.in_err-test_link.ensures.told.0 in
     hands_back c.from_residual-in_err-test_link.result _ _ _ c.from_residual-in_err-test_link.ensures.1
     (fault_found g.R.StepRead.step g.R.Read.remaining (links_fault v ranks bound c.args.count) so_far
-    (λ is rest. ap (λ l. links_fault v ranks bound c.args.count (l ++ rest)) (flat_map_more (link_bytes v) [] links link) ∙ links_stop v ranks bound c.args.count link links rest _ c.links.invariant.writable c.in_ok-link.ensures.writable less before is) (of_bytes _ is) c.in_err-test_link.ensures.told.1)
+    (λ is rest. ap (λ l. links_fault v ranks bound c.args.count (l ++ rest)) (flat_map_more (link_bytes v) [] links link)
+    ∙ links_stop v ranks bound c.args.count link links rest _ c.links.invariant.writable c.in_ok-link.ensures.writable less before is)
+    (of_bytes _ is) c.in_err-test_link.ensures.told.1)
 
 pub links-preserved : goal.links-preserved
 links-preserved g c =

@@ -42,13 +42,17 @@ returns-in_err-links-clause-reads g c =
 pub new-requires : goal.new-requires
 new-requires g c =
     let links = c.in_ok-links.links.items in
-    let none : NoneBelow (length links) (link_fault_at c.args.version c.as_slice.result.now c.bound_of-bound.result links) = subst (λ m. NoneBelow m (link_fault_at c.args.version c.as_slice.result.now c.bound_of-bound.result links)) (sym c.in_ok-links.ensures.count) c.in_ok-links.ensures.faultless in
+    let none : NoneBelow (length links) (link_fault_at c.args.version c.as_slice.result.now c.bound_of-bound.result links) = subst
+    (λ m. NoneBelow m (link_fault_at c.args.version c.as_slice.result.now c.bound_of-bound.result links))
+    (sym c.in_ok-links.ensures.count) c.in_ok-links.ensures.faultless in
     subst (AllPairs ComesBefore) (sym c.as_slice-all.ensures.value) (links_sorted c.args.version c.as_slice.result.now c.bound_of-bound.result links none)
 
 pub find_halves-requires : goal.find_halves-requires
 find_halves-requires g c =
     let links = c.in_ok-links.links.items in
-    let none : NoneBelow (length links) (link_fault_at c.args.version c.as_slice.result.now c.bound_of-bound.result links) = subst (λ m. NoneBelow m (link_fault_at c.args.version c.as_slice.result.now c.bound_of-bound.result links)) (sym c.in_ok-links.ensures.count) c.in_ok-links.ensures.faultless in
+    let none : NoneBelow (length links) (link_fault_at c.args.version c.as_slice.result.now c.bound_of-bound.result links) = subst
+    (λ m. NoneBelow m (link_fault_at c.args.version c.as_slice.result.now c.bound_of-bound.result links))
+    (sym c.in_ok-links.ensures.count) c.in_ok-links.ensures.faultless in
     record {
       sorted = subst (AllPairs ComesBefore) (sym c.as_slice-all.ensures.value) (links_sorted c.args.version c.as_slice.result.now c.bound_of-bound.result links none);
       index = c.in_ok-index.ensures.index;
@@ -63,7 +67,10 @@ returns-in_err-halves-clause-reads g c =
     let links = c.in_ok-links.links.items in
     let small : head.nodes < 2 ^ 32 = omega (arith, few_nodes head.nodes head.links head.bound c.requires) in
     let so_far = takes_then step remaining c.in_ok-ranks.ensures.reads c.in_ok-links.ensures.reads in
-    let links_ok : NoneBelow head.links (link_fault_at c.args.version ranks (bound_in c.args.version head.nodes head.bound) links) = λ i less. ap (λ (r : List ℕ). link_fault_at c.args.version r (bound_in c.args.version head.nodes head.bound) links i) (sym c.as_slice.ensures.value) ∙ ap (λ (b : Cost). link_fault_at c.args.version c.as_slice.result.now b links i) (sym c.bound_of-bound.ensures) ∙ c.in_ok-links.ensures.faultless i less in
+    let links_ok : NoneBelow head.links (link_fault_at c.args.version ranks (bound_in c.args.version head.nodes head.bound) links) = λ i less. ap
+    (λ (r : List ℕ). link_fault_at c.args.version r (bound_in c.args.version head.nodes head.bound) links i) (sym c.as_slice.ensures.value)
+    ∙ ap (λ (b : Cost). link_fault_at c.args.version c.as_slice.result.now b links i) (sym c.bound_of-bound.ensures)
+    ∙ c.in_ok-links.ensures.faultless i less in
     hands_back c.from_residual-in_err-halves.result _ _ _ c.from_residual-in_err-halves.ensures.1
     (fault_found step remaining (body_fault c.args.version head.nodes head.links head.bound) so_far
     (λ is rest. body_after_links c.args.version head.nodes head.links head.bound ranks links rest small c.in_ok-ranks.ensures.count c.in_ok-ranks.ensures.faultless c.in_ok-links.ensures.count c.in_ok-links.ensures.writable links_ok
@@ -79,7 +86,10 @@ returns-in_err-read_end-clause-reads g c =
     let links = c.in_ok-links.links.items in
     let small : head.nodes < 2 ^ 32 = omega (arith, few_nodes head.nodes head.links head.bound c.requires) in
     let so_far = takes_then step remaining c.in_ok-ranks.ensures.reads c.in_ok-links.ensures.reads in
-    let links_ok : NoneBelow head.links (link_fault_at c.args.version ranks (bound_in c.args.version head.nodes head.bound) links) = λ i less. ap (λ (r : List ℕ). link_fault_at c.args.version r (bound_in c.args.version head.nodes head.bound) links i) (sym c.as_slice.ensures.value) ∙ ap (λ (b : Cost). link_fault_at c.args.version c.as_slice.result.now b links i) (sym c.bound_of-bound.ensures) ∙ c.in_ok-links.ensures.faultless i less in
+    let links_ok : NoneBelow head.links (link_fault_at c.args.version ranks (bound_in c.args.version head.nodes head.bound) links) = λ i less. ap
+    (λ (r : List ℕ). link_fault_at c.args.version r (bound_in c.args.version head.nodes head.bound) links i) (sym c.as_slice.ensures.value)
+    ∙ ap (λ (b : Cost). link_fault_at c.args.version c.as_slice.result.now b links i) (sym c.bound_of-bound.ensures)
+    ∙ c.in_ok-links.ensures.faultless i less in
     let halves_ok = ap (λ (l : List Link). first_along (half_fault l) l) (sym c.as_slice-all.ensures.value) ∙ c.in_ok-halves.ensures.faultless in
     let after = λ (rest : List ℕ). body_after_links c.args.version head.nodes head.links head.bound ranks links rest small c.in_ok-ranks.ensures.count c.in_ok-ranks.ensures.faultless c.in_ok-links.ensures.count c.in_ok-links.ensures.writable links_ok in
     hands_back c.from_residual-in_err-read_end.result _ _ _ c.from_residual-in_err-read_end.ensures.1
@@ -101,7 +111,8 @@ returns-clause-sizes g c =
 
 pub returns-clause-made : goal.returns-clause-made
 returns-clause-made g c =
-    subst IsWellMade (sym c.with_index.ensures) (well_made_of c.args.version c.args.head.nodes c.args.head.links c.args.head.bound c.in_ok-ranks.ranks.items c.as_slice.result.now c.in_ok-links.links.items c.as_slice-all.result.now c.bound_of-bound.result c.requires c.in_ok-ranks.ensures.count c.in_ok-ranks.ensures.faultless c.in_ok-links.ensures.count c.in_ok-links.ensures.faultless c.in_ok-halves.ensures.faultless c.as_slice.ensures.value c.as_slice-all.ensures.value c.bound_of-bound.ensures)
+    subst IsWellMade (sym c.with_index.ensures)
+    (well_made_of c.args.version c.args.head.nodes c.args.head.links c.args.head.bound c.in_ok-ranks.ranks.items c.as_slice.result.now c.in_ok-links.links.items c.as_slice-all.result.now c.bound_of-bound.result c.requires c.in_ok-ranks.ensures.count c.in_ok-ranks.ensures.faultless c.in_ok-links.ensures.count c.in_ok-links.ensures.faultless c.in_ok-halves.ensures.faultless c.as_slice.ensures.value c.as_slice-all.ensures.value c.bound_of-bound.ensures)
 
 pub returns-in_err-index-clause-reads : goal.returns-in_err-index-clause-reads
 returns-in_err-index-clause-reads g c =

@@ -34,7 +34,11 @@ bytes-preserved g c = record {
 }
 
 pub returns-in_err-byte : goal.returns-in_err-byte
-returns-in_err-byte g c = record { reads = hands_back c.from_residual.result _ _ _ c.from_residual.ensures.1 (read_failed_after g.R.StepRead.step g.R.Read.remaining magic_fault 1 c.bytes.invariant.taken (λ came less. magic_cut c.bytes.wanted-index came (omega arith) less) c.in_err-byte.ensures.reads) }
+returns-in_err-byte g c = record {
+  reads = hands_back c.from_residual.result _ _ _ c.from_residual.ensures.1
+      (read_failed_after g.R.StepRead.step g.R.Read.remaining magic_fault 1 c.bytes.invariant.taken
+      (λ came less. magic_cut c.bytes.wanted-index came (omega arith) less) c.in_err-byte.ensures.reads);
+}
 
 pub returns-in_default : goal.returns-in_default
 returns-in_default g c =

@@ -24,7 +24,9 @@ returns-in_err-version-clause-err g c =
     let known = g.R.Read.remaining c.args.reader.now in
     let e = c.in_err-version.field-0.0 in
     hands_on c.from_residual-in_err-version.result _ _ c.from_residual-in_err-version.ensures.1
-    (from_start input.waiting known e (ap (λ (b : Buffered). b.waiting) c.in_ok-input.ensures) (behind [] magic_fault first_fault (coming input.waiting known) (coming input.waiting known) e (Consumes-nil (coming input.waiting known)) (λ rest is. first_magic rest is) c.in_err-version.ensures.reads.fault.told))
+    (from_start input.waiting known e (ap (λ (b : Buffered). b.waiting) c.in_ok-input.ensures)
+    (behind [] magic_fault first_fault (coming input.waiting known) (coming input.waiting known) e (Consumes-nil (coming input.waiting known))
+    (λ rest is. first_magic rest is) c.in_err-version.ensures.reads.fault.told))
 
 pub returns-in_err-head-clause-err : goal.returns-in_err-head-clause-err
 returns-in_err-head-clause-err g c =
@@ -32,7 +34,9 @@ returns-in_err-head-clause-err g c =
     let known = g.R.Read.remaining c.args.reader.now in
     let e = c.in_err-head.field-0.0 in
     hands_on c.from_residual-in_err-head.result _ _ c.from_residual-in_err-head.ensures.1
-    (from_start input.waiting known e (ap (λ (b : Buffered). b.waiting) c.in_ok-input.ensures) (behind (magic_of c.in_ok-version.version) head_fault first_fault (coming input.waiting known) _ e c.in_ok-version.ensures.reads.bytes (λ rest is. first_head c.in_ok-version.version rest is) c.in_err-head.ensures.reads.fault.told))
+    (from_start input.waiting known e (ap (λ (b : Buffered). b.waiting) c.in_ok-input.ensures)
+    (behind (magic_of c.in_ok-version.version) head_fault first_fault (coming input.waiting known) _ e c.in_ok-version.ensures.reads.bytes
+    (λ rest is. first_head c.in_ok-version.version rest is) c.in_err-head.ensures.reads.fault.told))
 
 pub returns-in_err-hierarchy-clause-err : goal.returns-in_err-hierarchy-clause-err
 returns-in_err-hierarchy-clause-err g c =
@@ -42,7 +46,9 @@ returns-in_err-hierarchy-clause-err g c =
     let e = c.in_err-hierarchy.field-0.0 in
     let so_far = Consumes-trans _ _ _ _ _ c.in_ok-version.ensures.reads.bytes c.in_ok-head.ensures.reads.bytes in
     hands_on c.from_residual-in_err-hierarchy.result _ _ c.from_residual-in_err-hierarchy.ensures.1
-    (from_start input.waiting known e (ap (λ (b : Buffered). b.waiting) c.in_ok-input.ensures) (behind (magic_of c.in_ok-version.version ++ sizes head.nodes head.links head.bound) (body_fault c.in_ok-version.version head.nodes head.links head.bound) first_fault (coming input.waiting known) _ e so_far
+    (from_start input.waiting known e (ap (λ (b : Buffered). b.waiting) c.in_ok-input.ensures)
+    (behind (magic_of c.in_ok-version.version ++ sizes head.nodes head.links head.bound)
+    (body_fault c.in_ok-version.version head.nodes head.links head.bound) first_fault (coming input.waiting known) _ e so_far
     (λ rest is. first_body c.in_ok-version.version head.nodes head.links head.bound rest (omega arith) (omega arith) (omega arith) c.in_ok-head.ensures.sizes is) c.in_err-hierarchy.ensures.reads.fault.told))
 
 pub returns-clause-ok : goal.returns-clause-ok

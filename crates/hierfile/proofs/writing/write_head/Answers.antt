@@ -71,7 +71,9 @@ returns-in_err-long-2 g c =
     let b3 : List ℕ = long (length_of h.bound) in
     let h0 : Puts step contents start c.word.new.self c.args.writer.now c.word.new.writer b0 = c.in_ok-word.ensures.writes in
     let h1 : Puts step contents c.word.new.self c.word-2.new.self c.word.new.writer c.word-2.new.writer b1 = subst (λ n. Puts step contents c.word.new.self c.word-2.new.self c.word.new.writer c.word-2.new.writer (word n)) c.nodes.ensures.count c.in_ok-word-2.ensures.writes in
-    let h2 : Puts step contents c.word-2.new.self c.long.new.self c.word-2.new.writer c.long.new.writer b2 = subst (λ n. Puts step contents c.word-2.new.self c.long.new.self c.word-2.new.writer c.long.new.writer (long n)) (ap (λ (l : List Link). length l) c.links.ensures.links) c.in_ok-long.ensures.writes in
+    let h2 : Puts step contents c.word-2.new.self c.long.new.self c.word-2.new.writer c.long.new.writer b2 = subst
+    (λ n. Puts step contents c.word-2.new.self c.long.new.self c.word-2.new.writer c.long.new.writer (long n))
+    (ap (λ (l : List Link). length l) c.links.ensures.links) c.in_ok-long.ensures.writes in
     let t1 = puts_then step contents start c.word.new.self c.word-2.new.self b0 b1 h0 h1 in
     let t2 = puts_then step contents start c.word-2.new.self c.long.new.self (b0 ++ b1) b2 t1 h2 in
     let fault = c.in_err-long-2.field-0.0 in
@@ -93,8 +95,12 @@ returns g c =
     let b3 : List ℕ = long (length_of h.bound) in
     let h0 : Puts step contents start c.word.new.self c.args.writer.now c.word.new.writer b0 = c.in_ok-word.ensures.writes in
     let h1 : Puts step contents c.word.new.self c.word-2.new.self c.word.new.writer c.word-2.new.writer b1 = subst (λ n. Puts step contents c.word.new.self c.word-2.new.self c.word.new.writer c.word-2.new.writer (word n)) c.nodes.ensures.count c.in_ok-word-2.ensures.writes in
-    let h2 : Puts step contents c.word-2.new.self c.long.new.self c.word-2.new.writer c.long.new.writer b2 = subst (λ n. Puts step contents c.word-2.new.self c.long.new.self c.word-2.new.writer c.long.new.writer (long n)) (ap (λ (l : List Link). length l) c.links.ensures.links) c.in_ok-long.ensures.writes in
-    let h3 : Puts step contents c.long.new.self c.long-2.new.self c.long.new.writer c.long-2.new.writer b3 = subst (λ n. Puts step contents c.long.new.self c.long-2.new.self c.long.new.writer c.long-2.new.writer (long n)) (c.length.ensures ∙ ap length_of c.bound.ensures) c.in_ok-long-2.ensures.writes in
+    let h2 : Puts step contents c.word-2.new.self c.long.new.self c.word-2.new.writer c.long.new.writer b2 = subst
+    (λ n. Puts step contents c.word-2.new.self c.long.new.self c.word-2.new.writer c.long.new.writer (long n))
+    (ap (λ (l : List Link). length l) c.links.ensures.links) c.in_ok-long.ensures.writes in
+    let h3 : Puts step contents c.long.new.self c.long-2.new.self c.long.new.writer c.long-2.new.writer b3 = subst
+    (λ n. Puts step contents c.long.new.self c.long-2.new.self c.long.new.writer c.long-2.new.writer (long n))
+    (c.length.ensures ∙ ap length_of c.bound.ensures) c.in_ok-long-2.ensures.writes in
     let t1 = puts_then step contents start c.word.new.self c.word-2.new.self b0 b1 h0 h1 in
     let t2 = puts_then step contents start c.word-2.new.self c.long.new.self (b0 ++ b1) b2 t1 h2 in
     record { writes = puts_then step contents start c.long.new.self c.long-2.new.self ((b0 ++ b1) ++ b2) b3 t2 h3 }

@@ -33,7 +33,9 @@ returns-in_err-word-2 g c =
     let fault = c.in_err-word-2.field-0.0 in
     record {
       writes = hands_back c.from_residual-in_err-word-2.result _ _ fault c.from_residual-in_err-word-2.ensures.1
-          (fails_then step contents start c.word.new.self b0 b1 ((b2 ++ b3) ++ b4) (link_bytes Two c.args.link) fault.written h0 (fails_in step contents c.word.new.self b1 fault.written c.in_err-word-2.ensures.writes) (sym (append_assoc (b0 ++ b1) (b2 ++ b3) b4) ∙ ap (λ l. l ++ b4) (sym (append_assoc (b0 ++ b1) b2 b3))));
+          (fails_then step contents start c.word.new.self b0 b1 ((b2 ++ b3) ++ b4) (link_bytes Two c.args.link) fault.written h0
+          (fails_in step contents c.word.new.self b1 fault.written c.in_err-word-2.ensures.writes)
+          (sym (append_assoc (b0 ++ b1) (b2 ++ b3) b4) ∙ ap (λ l. l ++ b4) (sym (append_assoc (b0 ++ b1) b2 b3))));
     }
 
 pub returns-in_err-long : goal.returns-in_err-long

@@ -17,7 +17,10 @@ returns-in_err-write_link g c =
     let next : List ℕ = link_bytes Two (get_or items at _) in
     record {
       writes = hands_back c.from_residual.result _ _ fault c.from_residual.ensures.1
-          (fails_then g.W.StepWrite.step g.W.Write.contents c.args.output.now c.links.output done next (flat_map (link_bytes Two) (drop (at + 1) items)) (flat_map (link_bytes Two) items) fault.written c.links.invariant.written c.in_err-write_link.ensures.writes (spelled-parts (link_bytes Two) items at _ within));
+          (fails_then g.W.StepWrite.step g.W.Write.contents c.args.output.now c.links.output done next
+          (flat_map (link_bytes Two) (drop (at + 1) items))
+          (flat_map (link_bytes Two) items) fault.written c.links.invariant.written c.in_err-write_link.ensures.writes
+          (spelled-parts (link_bytes Two) items at _ within));
     }
 
 pub links-preserved : goal.links-preserved

@@ -18,7 +18,9 @@ returns-in_err-word g c =
     let next : List ℕ = word (get_or items at 0) in
     record {
       writes = hands_back c.from_residual.result _ _ fault c.from_residual.ensures.1
-          (fails_then step contents c.args.output.now c.nodes.output done next (flat_map word (drop (at + 1) items)) (flat_map word items) fault.written c.nodes.invariant.written (fails_in step contents c.nodes.output next fault.written c.in_err-word.ensures.writes) (spelled-parts word items at 0 within));
+          (fails_then step contents c.args.output.now c.nodes.output done next (flat_map word (drop (at + 1) items))
+          (flat_map word items) fault.written c.nodes.invariant.written
+          (fails_in step contents c.nodes.output next fault.written c.in_err-word.ensures.writes) (spelled-parts word items at 0 within));
     }
 
 pub nodes-preserved : goal.nodes-preserved

@@ -106,7 +106,8 @@ returns-in_err-write_links-clause-err g c =
     let h = c.args.hierarchy.now in
     let start = c.new-output.result in
     let fault = c.in_err-write_links.field-0.0 in
-    let failed = in_links step contents start h c.requires c.args.writer.now c.write_head.new.output c.write_ranks.new.output fault.written c.in_ok-write_head.ensures.writes c.in_ok-write_ranks.ensures.writes (its_failed_links step contents c.links.ensures.links c.write_ranks.new.output c.write_ranks.new.writer c.write_links.new.writer fault.written c.in_err-write_links.ensures.writes) in
+    let failed = in_links step contents start h c.requires c.args.writer.now c.write_head.new.output c.write_ranks.new.output fault.written c.in_ok-write_head.ensures.writes c.in_ok-write_ranks.ensures.writes
+    (its_failed_links step contents c.links.ensures.links c.write_ranks.new.output c.write_ranks.new.writer c.write_links.new.writer fault.written c.in_err-write_links.ensures.writes) in
     hands_on c.from_residual-in_err-write_links.result _ fault c.from_residual-in_err-write_links.ensures.1 (took_part (contents c.args.writer.now) (contents c.write_links.new.writer) start _ (bytes_of h) fault.written c.new-output.ensures failed.part)
 
 pub returns-in_err-write_links-clause-stopped : goal.returns-in_err-write_links-clause-stopped
@@ -116,7 +117,8 @@ returns-in_err-write_links-clause-stopped g c =
     let h = c.args.hierarchy.now in
     let start = c.new-output.result in
     let fault = c.in_err-write_links.field-0.0 in
-    let failed = in_links step contents start h c.requires c.args.writer.now c.write_head.new.output c.write_ranks.new.output fault.written c.in_ok-write_head.ensures.writes c.in_ok-write_ranks.ensures.writes (its_failed_links step contents c.links.ensures.links c.write_ranks.new.output c.write_ranks.new.writer c.write_links.new.writer fault.written c.in_err-write_links.ensures.writes) in
+    let failed = in_links step contents start h c.requires c.args.writer.now c.write_head.new.output c.write_ranks.new.output fault.written c.in_ok-write_head.ensures.writes c.in_ok-write_ranks.ensures.writes
+    (its_failed_links step contents c.links.ensures.links c.write_ranks.new.output c.write_ranks.new.writer c.write_links.new.writer fault.written c.in_err-write_links.ensures.writes) in
     hands_on c.from_residual-in_err-write_links.result _ fault c.from_residual-in_err-write_links.ensures.1 (stopped_at step start _ fault.written c.new-output.ensures failed.calls)
 
 pub returns-in_err-hand_over-clause-err : goal.returns-in_err-hand_over-clause-err
@@ -126,7 +128,9 @@ returns-in_err-hand_over-clause-err g c =
     let h = c.args.hierarchy.now in
     let start = c.new-output.result in
     let fault = c.in_err-hand_over.field-0.0 in
-    let failed = in_the_end step contents start h c.requires c.args.writer.now c.write_links.new.output fault.written (all_put step contents start h c.requires c.args.writer.now c.write_head.new.output c.write_ranks.new.output c.write_links.new.output c.in_ok-write_head.ensures.writes c.in_ok-write_ranks.ensures.writes (its_links step contents c.links.ensures.links c.write_ranks.new.output c.write_links.new.output c.write_ranks.new.writer c.write_links.new.writer c.in_ok-write_links.ensures.writes)) c.in_err-hand_over.ensures.writes in
+    let failed = in_the_end step contents start h c.requires c.args.writer.now c.write_links.new.output fault.written
+    (all_put step contents start h c.requires c.args.writer.now c.write_head.new.output c.write_ranks.new.output c.write_links.new.output c.in_ok-write_head.ensures.writes c.in_ok-write_ranks.ensures.writes
+    (its_links step contents c.links.ensures.links c.write_ranks.new.output c.write_links.new.output c.write_ranks.new.writer c.write_links.new.writer c.in_ok-write_links.ensures.writes)) c.in_err-hand_over.ensures.writes in
     hands_on c.from_residual-in_err-hand_over.result _ fault c.from_residual-in_err-hand_over.ensures.1 (took_part (contents c.args.writer.now) (contents c.hand_over.new.writer) start _ (bytes_of h) fault.written c.new-output.ensures failed.part)
 
 pub returns-in_err-hand_over-clause-stopped : goal.returns-in_err-hand_over-clause-stopped
@@ -136,7 +140,9 @@ returns-in_err-hand_over-clause-stopped g c =
     let h = c.args.hierarchy.now in
     let start = c.new-output.result in
     let fault = c.in_err-hand_over.field-0.0 in
-    let failed = in_the_end step contents start h c.requires c.args.writer.now c.write_links.new.output fault.written (all_put step contents start h c.requires c.args.writer.now c.write_head.new.output c.write_ranks.new.output c.write_links.new.output c.in_ok-write_head.ensures.writes c.in_ok-write_ranks.ensures.writes (its_links step contents c.links.ensures.links c.write_ranks.new.output c.write_links.new.output c.write_ranks.new.writer c.write_links.new.writer c.in_ok-write_links.ensures.writes)) c.in_err-hand_over.ensures.writes in
+    let failed = in_the_end step contents start h c.requires c.args.writer.now c.write_links.new.output fault.written
+    (all_put step contents start h c.requires c.args.writer.now c.write_head.new.output c.write_ranks.new.output c.write_links.new.output c.in_ok-write_head.ensures.writes c.in_ok-write_ranks.ensures.writes
+    (its_links step contents c.links.ensures.links c.write_ranks.new.output c.write_links.new.output c.write_ranks.new.writer c.write_links.new.writer c.in_ok-write_links.ensures.writes)) c.in_err-hand_over.ensures.writes in
     hands_on c.from_residual-in_err-hand_over.result _ fault c.from_residual-in_err-hand_over.ensures.1 (stopped_at step start _ fault.written c.new-output.ensures failed.calls)
 
 pub returns-clause-ok : goal.returns-clause-ok
@@ -146,7 +152,8 @@ returns-clause-ok g c =
     let h = c.args.hierarchy.now in
     let start = c.new-output.result in
     let end = c.write_links.new.output in
-    let all = (all_put step contents start h c.requires c.args.writer.now c.write_head.new.output c.write_ranks.new.output c.write_links.new.output c.in_ok-write_head.ensures.writes c.in_ok-write_ranks.ensures.writes (its_links step contents c.links.ensures.links c.write_ranks.new.output c.write_links.new.output c.write_ranks.new.writer c.write_links.new.writer c.in_ok-write_links.ensures.writes)) in
+    let all = (all_put step contents start h c.requires c.args.writer.now c.write_head.new.output c.write_ranks.new.output c.write_links.new.output c.in_ok-write_head.ensures.writes c.in_ok-write_ranks.ensures.writes
+    (its_links step contents c.links.ensures.links c.write_ranks.new.output c.write_links.new.output c.write_ranks.new.writer c.write_links.new.writer c.in_ok-write_links.ensures.writes)) in
     took_all (contents c.args.writer.now) (contents c.write_links.new.writer) (contents c.hand_over.new.writer) start end c.hand_over.new.self _ (bytes_of h) c.new-output.ensures all.given c.in_ok-hand_over.ensures.writes.given c.in_ok-hand_over.ensures.all
 
 pub returns-clause-calls : goal.returns-clause-calls
@@ -156,7 +163,8 @@ returns-clause-calls g c =
     let h = c.args.hierarchy.now in
     let start = c.new-output.result in
     let end = c.write_links.new.output in
-    let all = (all_put step contents start h c.requires c.args.writer.now c.write_head.new.output c.write_ranks.new.output c.write_links.new.output c.in_ok-write_head.ensures.writes c.in_ok-write_ranks.ensures.writes (its_links step contents c.links.ensures.links c.write_ranks.new.output c.write_links.new.output c.write_ranks.new.writer c.write_links.new.writer c.in_ok-write_links.ensures.writes)) in
+    let all = (all_put step contents start h c.requires c.args.writer.now c.write_head.new.output c.write_ranks.new.output c.write_links.new.output c.in_ok-write_head.ensures.writes c.in_ok-write_ranks.ensures.writes
+    (its_links step contents c.links.ensures.links c.write_ranks.new.output c.write_links.new.output c.write_ranks.new.writer c.write_links.new.writer c.in_ok-write_links.ensures.writes)) in
     let last = c.in_ok-hand_over.ensures.writes in
     let counted = counted_all (contents c.args.writer.now) (contents c.write_links.new.writer) (contents c.hand_over.new.writer) start end c.hand_over.new.self _ (bytes_of h) c.new-output.ensures all.given last.given c.in_ok-hand_over.ensures.all in
     all_written step start c.hand_over.new.self _ (length (bytes_of h)) c.new-output.ensures (hands_then step start end c.hand_over.new.self all.calls last.calls) counted

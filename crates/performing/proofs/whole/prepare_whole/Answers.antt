@@ -12,7 +12,7 @@ returns-in_default-clause-told g c = no_memory _ c.end.result c.end.ensures
 
 pub returns-clause-done : goal.returns-clause-done
 returns-clause-done g c zero =
-    let starts : g.D.Draft.Write.contents c.in-Ok.draft ≡ option_map (λ _. []) (g.D.Destination.stands c.args.destination.now) = search rules in
+    let starts : g.D.PendingFile.Write.contents c.in-Ok.draft ≡ option_map (λ _. []) (g.D.Destination.stands c.args.destination.now) = search rules in
     has_prepared _ _ _ _ _ starts (c.finish.ensures.done zero) (c.perform_preparation-status.ensures.told.done (was_done _ _ c.finish.ensures.status zero))
 
 pub returns-clause-kept : goal.returns-clause-kept

@@ -11,7 +11,11 @@ pub returns-in-Ok-clause-stale : goal.returns-in-Ok-clause-stale
 returns-in-Ok-clause-stale g c node seen now front = (λ e. absurd (cc), λ stale. absurd (current-not_stale c.args.self.now c.args.proposal.now node seen now front (subst (λ (l : Ledger). NoneIsOld l c.args.proposal.now.rests_on) c.self.view_is c.in_default.ensures.up_to_date.current) stale))
 
 pub returns-in-Err-OutOfMemory-clause-stale : goal.returns-in-Err-OutOfMemory-clause-stale
-returns-in-Err-OutOfMemory-clause-stale g c node seen now front = (λ e. absurd (cc), λ stale. absurd (current-not_stale c.args.self.now c.args.proposal.now node seen now front (subst (λ (l : Ledger). NoneIsOld l c.args.proposal.now.rests_on) c.self.view_is c.in_default.ensures.up_to_date.current) stale))
+returns-in-Err-OutOfMemory-clause-stale g c node seen now front = (
+  λ e. absurd (cc),
+  λ stale. absurd (current-not_stale c.args.self.now c.args.proposal.now node seen now front
+      (subst (λ (l : Ledger). NoneIsOld l c.args.proposal.now.rests_on) c.self.view_is c.in_default.ensures.up_to_date.current) stale),
+)
 
 pub returns-in-Err-Slot-clause-stale : goal.returns-in-Err-Slot-clause-stale
 returns-in-Err-Slot-clause-stale g c node seen now front = (λ e. absurd (cc), λ stale. absurd (current-not_stale c.args.self.now c.args.proposal.now node seen now front (subst (λ (l : Ledger). NoneIsOld l c.args.proposal.now.rests_on) c.self.view_is c.in_default.ensures.up_to_date.current) stale))

@@ -8,7 +8,9 @@ pub pairs-init : goal.pairs-init
 pairs-init c = judged_none c.args.pairs.now c.args.ways.now c.args.self.now
 
 pub pairs-preserved : goal.pairs-preserved
-pairs-preserved c = next_judged c.args.pairs.now c.args.ways.now c.pairs.place _ _ c.args.self.now c.pairs.self c.judge_pair.new.self (omega arith) c.requires.many c.index-ways-place.is c.pairs.invariant (subst (λ (p : Shortcut). IsPairJudged p c.index-ways-place.result c.pairs.self c.judge_pair.new.self) c.index-pairs-place.is c.in_ok-judge_pair.ensures)
+pairs-preserved c = next_judged c.args.pairs.now c.args.ways.now c.pairs.place _ _ c.args.self.now c.pairs.self c.judge_pair.new.self
+    (omega arith) c.requires.many c.index-ways-place.is c.pairs.invariant
+    (subst (λ (p : Shortcut). IsPairJudged p c.index-ways-place.result c.pairs.self c.judge_pair.new.self) c.index-pairs-place.is c.in_ok-judge_pair.ensures)
 
 pub returns : goal.returns
 returns c =

@@ -10,4 +10,17 @@ both (Ok x) f p q = f p q
 both (Err e) f p q = tt
 
 pub returns-then-is_at_most : goal.returns-then-is_at_most
-returns-then-is_at_most c = both c.list_inner.result (λ same listed. inr (c.in-Some.way, c.in-Some.is, subst (λ (k : Cost). c.in-Some.way.cost ≼ k) c.cost-cost.ensures (c.if-is_at_most.ensures.0 refl), same, (listed.0, listed.1, subst (λ (ns : List ℕ). IsInner ns listed.0) c.deref.ensures listed.2))) c.list_inner.ensures.shortcuts c.list_inner.ensures.listed
+returns-then-is_at_most c = both c.list_inner.result
+    (λ same listed. inr (
+      c.in-Some.way,
+      c.in-Some.is,
+      subst (λ (k : Cost). c.in-Some.way.cost ≼ k) c.cost-cost.ensures
+          (c.if-is_at_most.ensures.0 refl),
+      same,
+      (
+        listed.0,
+        listed.1,
+        subst
+            (λ (ns : List ℕ). IsInner ns listed.0) c.deref.ensures listed.2,
+      ),
+    )) c.list_inner.ensures.shortcuts c.list_inner.ensures.listed

@@ -28,7 +28,9 @@ returns-then-has_shortcut c =
     let outs = c.deref-2.ensures.value ∙ ap (λ (r : Row). r.out) c.row.view_is in
     let within = subst (λ (b : Cost). IsWithin (c.in-Some.into ⊕ c.in-Some-cost_of.out) b) (ap (λ (p : Proposal). p.bound) c.self.view_is) (sum_within c.plus_within.result _ _ c.plus_within.ensures c.if-is_none.ensures) in
     let has = subst (λ (ps : List Shortcut). HasShortcut ps c.args.from c.args.to) (c.deref-3.ensures.value ∙ ap (λ (p : Proposal). p.shortcuts) c.self.view_is) (c.has_shortcut.ensures.some c.if-has_shortcut.true) in
-    shortcut_pair c.args.self.now c.own-row.ensures.holds c.own-row.result.now c.own-row.ensures.read c.own-row.ensures.inn_rises c.own-row.ensures.out_rises c.args.from c.args.to c.in-Some.into c.in-Some-cost_of.out c.if-from-to.false (subst (λ (es : List Entry). Lists es c.args.from c.in-Some.into) inns c.in-Some.ensures) (subst (λ (es : List Entry). Lists es c.args.to c.in-Some-cost_of.out) outs c.in-Some-cost_of.ensures) within has
+    shortcut_pair c.args.self.now c.own-row.ensures.holds c.own-row.result.now c.own-row.ensures.read c.own-row.ensures.inn_rises c.own-row.ensures.out_rises c.args.from c.args.to c.in-Some.into c.in-Some-cost_of.out c.if-from-to.false
+    (subst (λ (es : List Entry). Lists es c.args.from c.in-Some.into) inns c.in-Some.ensures)
+    (subst (λ (es : List Entry). Lists es c.args.to c.in-Some-cost_of.out) outs c.in-Some-cost_of.ensures) within has
 
 pub returns : goal.returns
 returns c =
@@ -36,4 +38,6 @@ returns c =
     let outs = c.deref-2.ensures.value ∙ ap (λ (r : Row). r.out) c.row.view_is in
     let within = subst (λ (b : Cost). IsWithin (c.in-Some.into ⊕ c.in-Some-cost_of.out) b) (ap (λ (p : Proposal). p.bound) c.self.view_is) (sum_within c.plus_within.result _ _ c.plus_within.ensures c.if-is_none.ensures) in
     let none = subst (λ (ps : List Shortcut). NoShortcut ps c.args.from c.args.to) (c.deref-3.ensures.value ∙ ap (λ (p : Proposal). p.shortcuts) c.self.view_is) (c.has_shortcut.ensures.none (λ yes. not-true _ c.if-has_shortcut.false yes)) in
-    witness_pair c.args.self.now c.own-row.ensures.holds c.own-row.result.now c.own-row.ensures.read c.own-row.ensures.inn_rises c.own-row.ensures.out_rises c.args.from c.args.to c.in-Some.into c.in-Some-cost_of.out c.if-from-to.false (subst (λ (es : List Entry). Lists es c.args.from c.in-Some.into) inns c.in-Some.ensures) (subst (λ (es : List Entry). Lists es c.args.to c.in-Some-cost_of.out) outs c.in-Some-cost_of.ensures) within none
+    witness_pair c.args.self.now c.own-row.ensures.holds c.own-row.result.now c.own-row.ensures.read c.own-row.ensures.inn_rises c.own-row.ensures.out_rises c.args.from c.args.to c.in-Some.into c.in-Some-cost_of.out c.if-from-to.false
+    (subst (λ (es : List Entry). Lists es c.args.from c.in-Some.into) inns c.in-Some.ensures)
+    (subst (λ (es : List Entry). Lists es c.args.to c.in-Some-cost_of.out) outs c.in-Some-cost_of.ensures) within none

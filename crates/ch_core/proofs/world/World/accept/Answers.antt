@@ -10,7 +10,7 @@ use Rattle.ch_laws.specs.Members.{map-map}
 use Rattle.ch_contract.specs.Ledger.{IsLedger, AreLawful, IsContracted}
 use Rattle.ch_contract.specs.Commit.{IsContractedYet}
 use Rattle.ch_contract.specs.Planned.{IsPlanned, AreNewVersions}
-use Rattle.ch_core.specs.World.{World, Version, MayOffer, IsCurrent, version_of, IsAccepted}
+use Rattle.ch_core.specs.World.{World, RowVersion, MayOffer, IsCurrent, version_of, IsAccepted}
 use Rattle.ch_core.specs.Keeping.{IsWorld}
 use Rattle.ch_core.proofs.Kept.{versions_below}
 use Rattle.ch_core.proofs.Lawful.{lawful_offer}
@@ -66,8 +66,8 @@ versions_are c =
 book_is : (c : goal.After-drop-versions-2) → c.append.new.book.items ≡ c.self.inside.book.items ++ map version_of c.in_ok-planned.planned.change.rows
 book_is c =
     c.append.ensures
-    ∙ ap (λ (b : List Version). b ++ c.in_ok-fresh.fresh.items) c.in_ok-reserve.ensures.items
-    ∙ ap (λ (fresh : List Version). c.self.inside.book.items ++ fresh)
+    ∙ ap (λ (b : List RowVersion). b ++ c.in_ok-fresh.fresh.items) c.in_ok-reserve.ensures.items
+    ∙ ap (λ (fresh : List RowVersion). c.self.inside.book.items ++ fresh)
     (c.in_ok-fresh.ensures ∙ sym (map-map (λ a. (a.0, arc_value a.1)) version_of c.rows.result.now) ∙ ap (λ (rows : List (ℕ × Row)). map version_of rows) c.rows.ensures)
 
 module _ (c : goal.After-drop-versions-2) (goes : IsLedger c.enter-receipt.new.self) where
@@ -76,7 +76,7 @@ module _ (c : goal.After-drop-versions-2) (goes : IsLedger c.enter-receipt.new.s
 
   after_world : IsWorld after
   after_world =
-      subst (λ (book : List Version). IsWorld (record { ledger = c.enter-receipt.new.self; book = book; views = c.self.inside.views.items })) (sym (book_is c))
+      subst (λ (book : List RowVersion). IsWorld (record { ledger = c.enter-receipt.new.self; book = book; views = c.self.inside.views.items })) (sym (book_is c))
       (then_world c.changes_write_their_rows.ensures (before c) c.args.proposal.now c.in_ok-planned.planned (planned c) c.enter-receipt.result c.enter-receipt.new.self (contracts c) goes c.self.invariant c.enter-receipt.ensures.rows (versions_are c))
 
   after_accepted : IsAccepted c.args.self.now c.args.worker c.args.proposal.now c.enter-receipt.result after
@@ -86,7 +86,7 @@ module _ (c : goal.After-drop-versions-2) (goes : IsLedger c.enter-receipt.new.s
       let waits : IsContractedYet c.self.inside.ledger p → ⊥ = subst (λ (v : World). IsContractedYet v.ledger p → ⊥) (sym c.self.view_is) c.requires.waits in
       let current : All (IsCurrent (before c)) p.rests_on = subst (λ (v : World). All (IsCurrent v) p.rests_on) (sym c.self.view_is) c.requires.current in
       subst (λ (v : World). IsAccepted v c.args.worker p c.enter-receipt.result after) c.self.view_is
-      (subst (λ (book : List Version). IsAccepted (before c) c.args.worker p c.enter-receipt.result (record { ledger = c.enter-receipt.new.self; book = book; views = c.self.inside.views.items })) (sym (book_is c))
+      (subst (λ (book : List RowVersion). IsAccepted (before c) c.args.worker p c.enter-receipt.result (record { ledger = c.enter-receipt.new.self; book = book; views = c.self.inside.views.items })) (sym (book_is c))
       (then_accepted c.changes_write_their_rows.ensures (before c) p c.in_ok-planned.planned (planned c) c.enter-receipt.result c.enter-receipt.new.self (contracts c) goes c.self.invariant c.enter-receipt.ensures.rows (versions_are c) c.args.worker may waits current))
 
 pub invariant_of-self-2 : goal.invariant_of-self-2

@@ -14,7 +14,9 @@ invariant_of-self-then-is_improved_by c =
     let marks : List (Mark Cost) = c.self.inside.marks.items in
     let place : c.args.node < length marks = subst (λ (xs : List (Mark Cost)). c.args.node < length xs) (sym c.self.view_is) c.requires in
     let read : c.index.result.now ≡ mark marks c.args.node = get_or_read marks c.args.node c.index.result.now place c.index.ensures Unseen in
-    queue-open marks (heap_items c.self.inside.queue) (heap_items c.push.new.self) c.args.node c.args.cost c.self.invariant place (subst (Improves own_cost c.args.cost) read (c.is_improved_by.ensures.0 c.if-is_improved_by.true)) c.in_ok-push.ensures.permutation (c.in_ok-push.ensures.heap_order c.self.invariant.heap)
+    queue-open marks (heap_items c.self.inside.queue) (heap_items c.push.new.self) c.args.node c.args.cost c.self.invariant place
+    (subst (Improves own_cost c.args.cost) read (c.is_improved_by.ensures.0 c.if-is_improved_by.true)) c.in_ok-push.ensures.permutation
+    (c.in_ok-push.ensures.heap_order c.self.invariant.heap)
 
 pub returns-else-is_improved_by : goal.returns-else-is_improved_by
 returns-else-is_improved_by c =

@@ -22,7 +22,10 @@ returns-in-Open-clause-least c =
     let marks : List (Mark Cost) = c.entries.self-inside.marks.items in
     let place : c.in-Some.field-0.0.1 < length marks = queue-in marks (heap_items c.entries.self-inside.queue) (heap_items c.pop.new.self) c.in-Some.field-0 c.entries.invariant.queue c.in-Some.ensures.permutation in
     let read : c.index.result.now ≡ mark marks c.in-Some.field-0.0.1 = get_or_read marks c.in-Some.field-0.0.1 c.index.result.now place c.index.ensures Unseen in
-    subst (λ (xs : List (Mark Cost)). IsLeastOpen xs c.in-Some.field-0.0.1 c.in-Open.known) (c.entries.invariant.same ∙ c.self.view_is) (queue-least marks (heap_items c.entries.self-inside.queue) (heap_items c.pop.new.self) c.in-Some.field-0 c.entries.invariant.queue c.in-Some.ensures.permutation c.in-Open.known (sym read ∙ c.in-Open.is) (c.in-Some.ensures.heap_order c.entries.invariant.queue.heap).1)
+    subst (λ (xs : List (Mark Cost)). IsLeastOpen xs c.in-Some.field-0.0.1 c.in-Open.known) (c.entries.invariant.same ∙ c.self.view_is)
+    (queue-least marks (heap_items c.entries.self-inside.queue)
+    (heap_items c.pop.new.self) c.in-Some.field-0 c.entries.invariant.queue c.in-Some.ensures.permutation c.in-Open.known
+    (sym read ∙ c.in-Open.is) (c.in-Some.ensures.heap_order c.entries.invariant.queue.heap).1)
 
 pub entries-preserved : goal.entries-preserved
 entries-preserved c =

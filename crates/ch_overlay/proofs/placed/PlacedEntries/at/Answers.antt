@@ -20,18 +20,23 @@ part_is {es} {fs} {xs} {ys} first end here same placed =
 
 pub slice_bounds-result-count : goal.slice_bounds-result-count
 slice_bounds-result-count c =
-    first_before_end c.as_slice-placed.result.now (in_order c.as_slice-placed.ensures.value c.requires) c.args.node c.count_before-first.result c.count_up_to-end.result c.count_before-first.ensures.bound c.count_up_to-end.ensures.bound c.count_before-first.ensures.parted c.count_up_to-end.ensures.parted
+    first_before_end c.as_slice-placed.result.now
+    (in_order c.as_slice-placed.ensures.value c.requires) c.args.node c.count_before-first.result c.count_up_to-end.result c.count_before-first.ensures.bound c.count_up_to-end.ensures.bound c.count_before-first.ensures.parted c.count_up_to-end.ensures.parted
 
 pub slice_bounds-result-start : goal.slice_bounds-result-start
 slice_bounds-result-start c =
-    let fits = first_before_end c.as_slice-placed.result.now (in_order c.as_slice-placed.ensures.value c.requires) c.args.node c.count_before-first.result c.count_up_to-end.result c.count_before-first.ensures.bound c.count_up_to-end.ensures.bound c.count_before-first.ensures.parted c.count_up_to-end.ensures.parted in
+    let fits = first_before_end c.as_slice-placed.result.now
+    (in_order c.as_slice-placed.ensures.value c.requires) c.args.node c.count_before-first.result c.count_up_to-end.result c.count_before-first.ensures.bound c.count_up_to-end.ensures.bound c.count_before-first.ensures.parted c.count_up_to-end.ensures.parted in
     search (rules, fits)
 
 pub returns-clause-rises : goal.returns-clause-rises
 returns-clause-rises c =
-    group_rises c.as_slice-placed.result.now (in_order c.as_slice-placed.ensures.value c.requires) c.args.node c.count_before-first.result c.count_up_to-end.result c.count_before-first.ensures.bound c.count_up_to-end.ensures.bound c.count_before-first.ensures.parted c.count_up_to-end.ensures.parted _ (part_is _ _ c.deref.ensures.value c.args.self.now.same c.as_slice-placed.ensures.value)
+    group_rises c.as_slice-placed.result.now
+    (in_order c.as_slice-placed.ensures.value c.requires) c.args.node c.count_before-first.result c.count_up_to-end.result c.count_before-first.ensures.bound c.count_up_to-end.ensures.bound c.count_before-first.ensures.parted c.count_up_to-end.ensures.parted _
+    (part_is _ _ c.deref.ensures.value c.args.self.now.same c.as_slice-placed.ensures.value)
 
 pub returns-clause-all : goal.returns-clause-all
 returns-clause-all c e =
     subst (λ (es : List Placed). Contains (slice_range c.deref.result.now c.count_before-first.result c.count_up_to-end.result) e ↔ Contains es (record { at = c.args.node; entry = e })) c.as_slice-placed.ensures.value
-    (group_all c.as_slice-placed.result.now (in_order c.as_slice-placed.ensures.value c.requires) c.args.node c.count_before-first.result c.count_up_to-end.result c.count_before-first.ensures.bound c.count_up_to-end.ensures.bound c.count_before-first.ensures.parted c.count_up_to-end.ensures.parted _ (part_is _ _ c.deref.ensures.value c.args.self.now.same c.as_slice-placed.ensures.value) e)
+    (group_all c.as_slice-placed.result.now (in_order c.as_slice-placed.ensures.value c.requires) c.args.node c.count_before-first.result c.count_up_to-end.result c.count_before-first.ensures.bound c.count_up_to-end.ensures.bound c.count_before-first.ensures.parted c.count_up_to-end.ensures.parted _
+    (part_is _ _ c.deref.ensures.value c.args.self.now.same c.as_slice-placed.ensures.value) e)

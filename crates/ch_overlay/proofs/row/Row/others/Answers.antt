@@ -13,7 +13,15 @@ pub returns : goal.returns
 returns c =
     let both = merged c.args.self.now.out c.args.self.now.inn in
     let all = map (λ (e : Entry). e.other) both in
-    let source = YieldsList-from_first (λ (e : Entry). e) (λ (m : Merge). merged m.old.now m.new.now) {s = c.map.result.iter} both (ap (λ (m : Merge). merged m.old.now m.new.now) c.map.ensures.source ∙ ap (λ (es : List Entry). merged es c.new.result.new.now) (c.new.ensures.old ∙ c.as_slice.ensures.value) ∙ ap (merged c.self.inside.out.items) (c.new.ensures.new ∙ c.as_slice-2.ensures.value) ∙ ap (λ (r : Row). merged r.out r.inn) c.self.view_is) in
+    let source = YieldsList-from_first (λ (e : Entry). e) (λ (m : Merge). merged m.old.now m.new.now) {s = c.map.result.iter} both
+    (ap (λ (m : Merge). merged m.old.now m.new.now) c.map.ensures.source
+    ∙ ap (λ (es : List Entry). merged es c.new.result.new.now) (c.new.ensures.old ∙ c.as_slice.ensures.value)
+    ∙ ap (merged c.self.inside.out.items) (c.new.ensures.new ∙ c.as_slice-2.ensures.value)
+    ∙ ap (λ (r : Row). merged r.out r.inn) c.self.view_is) in
     let got = items_from_extend c.extend.result c.extend.ensures.ran (YieldsList-from_map _ (λ (e : Entry). e.other) source c.map.ensures.closure (search rules)) in
-    let known : (c.extend.new.self.items ≡ c.in_ok-nodes.nodes.items ++ all) × (vec_len c.extend.new.self ≡ vec_len c.in_ok-nodes.nodes + length all) × (vec_capacity c.in_ok-nodes.nodes ≤ vec_capacity c.extend.new.self) = subst (λ r. OnOk r ((c.extend.new.self.items ≡ c.in_ok-nodes.nodes.items ++ all) × (vec_len c.extend.new.self ≡ vec_len c.in_ok-nodes.nodes + length all) × (vec_capacity c.in_ok-nodes.nodes ≤ vec_capacity c.extend.new.self))) c.in_ok-extend.was got in
+    let known : (c.extend.new.self.items ≡ c.in_ok-nodes.nodes.items ++ all) × (vec_len c.extend.new.self ≡ vec_len c.in_ok-nodes.nodes + length all)
+    × (vec_capacity c.in_ok-nodes.nodes ≤ vec_capacity c.extend.new.self) = subst
+    (λ r. OnOk r ((c.extend.new.self.items ≡ c.in_ok-nodes.nodes.items ++ all)
+    × (vec_len c.extend.new.self ≡ vec_len c.in_ok-nodes.nodes + length all)
+    × (vec_capacity c.in_ok-nodes.nodes ≤ vec_capacity c.extend.new.self))) c.in_ok-extend.was got in
     known.0 ∙ ap (λ (xs : List ℕ). xs ++ all) c.in_ok-nodes.ensures.items

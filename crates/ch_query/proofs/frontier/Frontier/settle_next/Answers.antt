@@ -13,12 +13,16 @@ use Rattle.ch_query.proofs.frontier.Frontier.settle_next.Goals as goal
 
 pub index-requires : goal.index-requires
 index-requires c =
-    let place : c.in-Some.field-0.0.1 < length (marks_in c.entries.self-inside.marks.items) = front-in (marks_in c.entries.self-inside.marks.items) (heap_items c.entries.self-inside.queue) (heap_items c.pop_up_to.new.queue) c.entries.self-inside.touched.items c.in-Some.field-0 c.entries.invariant.front c.in-Some.ensures.moved in
+    let place : c.in-Some.field-0.0.1 < length (marks_in c.entries.self-inside.marks.items) = front-in (marks_in c.entries.self-inside.marks.items)
+    (heap_items c.entries.self-inside.queue)
+    (heap_items c.pop_up_to.new.queue) c.entries.self-inside.touched.items c.in-Some.field-0 c.entries.invariant.front c.in-Some.ensures.moved in
     omega (arith, place, as_many c.entries.self-inside.marks.items, c.entries.self-inside.marks.ok)
 
 pub index_mut-requires : goal.index_mut-requires
 index_mut-requires c =
-    let place : c.in-Some.field-0.0.1 < length (marks_in c.entries.self-inside.marks.items) = front-in (marks_in c.entries.self-inside.marks.items) (heap_items c.entries.self-inside.queue) (heap_items c.pop_up_to.new.queue) c.entries.self-inside.touched.items c.in-Some.field-0 c.entries.invariant.front c.in-Some.ensures.moved in
+    let place : c.in-Some.field-0.0.1 < length (marks_in c.entries.self-inside.marks.items) = front-in (marks_in c.entries.self-inside.marks.items)
+    (heap_items c.entries.self-inside.queue)
+    (heap_items c.pop_up_to.new.queue) c.entries.self-inside.touched.items c.in-Some.field-0 c.entries.invariant.front c.in-Some.ensures.moved in
     omega (arith, place, as_many c.entries.self-inside.marks.items, c.entries.self-inside.marks.ok)
 
 pub invariant_of-self : goal.invariant_of-self
@@ -36,7 +40,11 @@ returns-in-Open-clause-least c =
     let marks : List (Mark Label) = marks_in kept in
     let place : c.in-Some.field-0.0.1 < length marks = front-in marks (heap_items c.entries.self-inside.queue) (heap_items c.pop_up_to.new.queue) c.entries.self-inside.touched.items c.in-Some.field-0 c.entries.invariant.front c.in-Some.ensures.moved in
     let read : c.mark.result ≡ mark marks c.in-Some.field-0.0.1 = c.mark.ensures ∙ mark_read kept c.in-Some.field-0.0.1 c.index.result.now (omega (arith, place, as_many kept)) c.index.ensures in
-    subst (λ (xs : List (Mark Label)). IsLeastOpen xs c.in-Some.field-0.0.1 c.in-Open.label) (ap (λ (ks : List KeptMark). marks_in ks) c.entries.invariant.same ∙ c.self.view_is) (front-least marks (heap_items c.entries.self-inside.queue) (heap_items c.pop_up_to.new.queue) c.entries.self-inside.touched.items c.in-Some.field-0 c.entries.invariant.front c.in-Some.ensures.moved c.in-Open.label (sym read ∙ c.in-Open.is) c.in-Some.ensures.top)
+    subst (λ (xs : List (Mark Label)). IsLeastOpen xs c.in-Some.field-0.0.1 c.in-Open.label)
+    (ap (λ (ks : List KeptMark). marks_in ks) c.entries.invariant.same ∙ c.self.view_is)
+    (front-least marks (heap_items c.entries.self-inside.queue)
+    (heap_items c.pop_up_to.new.queue) c.entries.self-inside.touched.items c.in-Some.field-0 c.entries.invariant.front c.in-Some.ensures.moved c.in-Open.label
+    (sym read ∙ c.in-Open.is) c.in-Some.ensures.top)
 
 pub entries-preserved : goal.entries-preserved
 entries-preserved c =
@@ -50,7 +58,10 @@ entries-preserved c =
     }
 
 pub returns-clause-none : goal.returns-clause-none
-returns-clause-none c = subst (λ (xs : List (Mark Label)). IsStopped xs c.args.limit) (ap (λ (ks : List KeptMark). marks_in ks) c.entries.invariant.same ∙ c.self.view_is) (front-stopped (marks_in c.entries.self-inside.marks.items) (heap_items c.entries.self-inside.queue) c.entries.self-inside.touched.items c.args.limit c.entries.invariant.front c.in_default.ensures.none)
+returns-clause-none c = subst (λ (xs : List (Mark Label)). IsStopped xs c.args.limit)
+    (ap (λ (ks : List KeptMark). marks_in ks) c.entries.invariant.same ∙ c.self.view_is)
+    (front-stopped (marks_in c.entries.self-inside.marks.items)
+    (heap_items c.entries.self-inside.queue) c.entries.self-inside.touched.items c.args.limit c.entries.invariant.front c.in_default.ensures.none)
 
 pub returns-in-Open-clause-settled : goal.returns-in-Open-clause-settled
 returns-in-Open-clause-settled c =

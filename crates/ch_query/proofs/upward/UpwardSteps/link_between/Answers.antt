@@ -1,5 +1,5 @@
 use Rattle.std.proofs.Common.{◌≡◌, slice_index, ap, subst, sym, ◌∙◌}
-use Rattle.ch_query.specs.declared.upward.Step.{Step}
+use Rattle.ch_query.specs.declared.upward.UpwardStep.{UpwardStep}
 use Rattle.ch_query.specs.Climb.{head_rank, LeadsUp}
 use Rattle.ch_query.specs.Upward.{step_along}
 use Rattle.ch_query.specs.Searching.{IsStepAt}
@@ -23,7 +23,7 @@ steps-preserved c =
     let leads = c.requires.link in
     let read : IsStepAt h c.args.side links c.args.self.now.steps.items c.steps.place = ahead-step h c.requires.made c.args.side first links c.args.self.now.steps.items c.requires.laid c.args.foot c.args.head leads.0 leads.1 c.steps.place c.steps.invariant in
     let is : c.index.result.now ≡ step_along h c.args.side (slice_index links c.steps.place) = c.index.ensures ∙ read.along c.index.result.now in
-    let head : c.index.result.now.head ≡ head_rank h c.args.side (slice_index links c.steps.place) = ap (λ (s : Step). s.head) is in
+    let head : c.index.result.now.head ≡ head_rank h c.args.side (slice_index links c.steps.place) = ap (λ (s : UpwardStep). s.head) is in
     ahead-next h c.requires.made c.args.side first links c.args.self.now.steps.items c.requires.laid c.args.foot c.args.head leads.0 leads.1 c.steps.place c.steps.invariant (λ same. c.steps-test.true (head ∙ same))
 
 pub returns : goal.returns
@@ -34,5 +34,5 @@ returns c =
     let leads = c.requires.link in
     let read : IsStepAt h c.args.side links c.args.self.now.steps.items c.steps.place = ahead-step h c.requires.made c.args.side first links c.args.self.now.steps.items c.requires.laid c.args.foot c.args.head leads.0 leads.1 c.steps.place c.steps.invariant in
     let is : c.index.result.now ≡ step_along h c.args.side (slice_index links c.steps.place) = c.index.ensures ∙ read.along c.index.result.now in
-    let head : c.index.result.now.head ≡ head_rank h c.args.side (slice_index links c.steps.place) = ap (λ (s : Step). s.head) is in
+    let head : c.index.result.now.head ≡ head_rank h c.args.side (slice_index links c.steps.place) = ap (λ (s : UpwardStep). s.head) is in
     subst (λ k. LeadsUp h c.args.side c.args.foot c.args.head k) (sym c.get.ensures) (ahead-here h c.requires.made c.args.side first links c.args.self.now.steps.items c.requires.laid c.args.foot c.args.head leads.0 leads.1 c.steps.place c.steps.invariant (sym head ∙ c.steps-test.false))

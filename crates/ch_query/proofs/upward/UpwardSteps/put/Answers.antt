@@ -1,7 +1,7 @@
 use Rattle.std.proofs.Common.{ℕ, ◌≡◌, ◌+◌, ◌-◌, ◌<◌, ◌∙◌, List, set, length, slice_index, ap, sym, subst, arith}
 use Rattle.ch_graph.specs.declared.link.Link.{Link}
 use Rattle.ch_graph.specs.Hierarchy.{rank_of}
-use Rattle.ch_query.specs.declared.upward.Step.{Step}
+use Rattle.ch_query.specs.declared.upward.UpwardStep.{UpwardStep}
 use Rattle.ch_query.specs.Climb.{foot_of, foot_rank}
 use Rattle.ch_query.specs.Counting.{IsFilled}
 use Rattle.ch_query.proofs.Laying.{foot_room, one_before, place-left, here_in, here_few, filled-more, as_many}
@@ -89,5 +89,5 @@ returns-clause-filled c =
     let before : place + 1 ≡ slice_index self.first.items f = one_before h side c.args.at f c.get-place.result self.first.items self.links.items self.steps.items c.requires.climbs foot low c.requires.filled c.get-place.ensures in
     subst (λ (fs : List ℕ). IsFilled h side (c.args.at + 1) fs c.set-2.new.self.items (set self.steps.items place c.step_along-step.result)) (sym c.set.ensures.items)
     (subst (λ (ls : List ℕ). IsFilled h side (c.args.at + 1) (set self.first.items f place) ls (set self.steps.items place c.step_along-step.result)) (sym c.set-2.ensures.items)
-    (subst (λ (s : Step). IsFilled h side (c.args.at + 1) (set self.first.items f place) (set self.links.items place c.args.at) (set self.steps.items place s)) (sym c.step_along-step.ensures)
+    (subst (λ (s : UpwardStep). IsFilled h side (c.args.at + 1) (set self.first.items f place) (set self.links.items place c.args.at) (set self.steps.items place s)) (sym c.step_along-step.ensures)
     (filled-more h side c.requires.made c.args.at f place self.first.items self.links.items self.steps.items c.requires.climbs foot low c.requires.filled before)))

@@ -1,5 +1,5 @@
 use Rattle.std.proofs.Common.{ℕ, ◌≡◌, List, replicate, sym, subst}
-use Rattle.ch_query.specs.declared.upward.Step.{Step}
+use Rattle.ch_query.specs.declared.upward.UpwardStep.{UpwardStep}
 use Rattle.ch_query.specs.Counting.{IsFilled}
 use Rattle.ch_query.proofs.Laying.{filled-none}
 use Rattle.ch_query.proofs.upward.UpwardSteps.with_room.Goals as goal
@@ -14,4 +14,4 @@ returns-clause-filled c =
     let steps : c.in_ok-steps.steps.items ≡ replicate count c.first_step.result = c.in_ok-steps.ensures.items_if_clones_equal (λ y e. e) in
     let filled : IsFilled h side 0 sums (replicate count 0) (replicate count c.first_step.result) = filled-none h side sums count c.first_step.result c.sum_up-count.ensures.sums c.sum_up-count.ensures.all c.first_step.ensures in
     subst (λ (ls : List ℕ). IsFilled h side 0 sums ls c.in_ok-steps.steps.items) (sym links)
-    (subst (λ (ss : List Step). IsFilled h side 0 sums (replicate count 0) ss) (sym steps) filled)
+    (subst (λ (ss : List UpwardStep). IsFilled h side 0 sums (replicate count 0) ss) (sym steps) filled)

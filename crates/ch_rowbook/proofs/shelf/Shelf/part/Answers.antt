@@ -1,7 +1,7 @@
 use Rattle.std.specs.Prelude.{refl}
 use Rattle.std.proofs.Common.{sym, ◌∙◌, ap}
 use Rattle.atomic_table.specs.Table.{Me}
-use Rattle.ch_rowbook.specs.declared.words.Known.{Known}
+use Rattle.ch_rowbook.specs.declared.words.KnownWords.{KnownWords}
 use Rattle.ch_rowbook.specs.Words.{width}
 use Rattle.ch_rowbook.proofs.Seats.{has_words, part_moves, reader_moves}
 use Rattle.ch_rowbook.proofs.Steps.{splits}
@@ -21,7 +21,7 @@ pub returns-clause-seat : goal.returns-clause-seat
 returns-clause-seat g c =
     let seat = c.args.seat.now in
     let knows = c.requires.seat.knows in
-    reader_moves g.B.Book.book seat c.split_seat.new.seat seat.me.0.versions c.requires.seat c.split_seat.ensures.0 (c.split_seat.ensures.2 ∙ ap (λ (v : Known). (v, seat.me.1)) (ap (λ (m : Me (Unit {0}) Known). m.0) knows)) refl
+    reader_moves g.B.Book.book seat c.split_seat.new.seat seat.me.0.versions c.requires.seat c.split_seat.ensures.0 (c.split_seat.ensures.2 ∙ ap (λ (v : KnownWords). (v, seat.me.1)) (ap (λ (m : Me (Unit {0}) KnownWords). m.0) knows)) refl
 
 pub returns-clause-part : goal.returns-clause-part
 returns-clause-part g c =

@@ -3,7 +3,7 @@ use Rattle.std.proofs.Common.{subst, sym, ◌∙◌, ap, set}
 use Rattle.std.proofs.lemmas.List.{length-set}
 use mathlib.Core.Option as option
 use Rattle.atomic_table.specs.Table.{Allows, Me, step}
-use Rattle.ch_rowbook.specs.declared.words.Known.{Known}
+use Rattle.ch_rowbook.specs.declared.words.KnownWords.{KnownWords}
 use Rattle.ch_rowbook.specs.Words.{IsStore, Keeps, width}
 use Rattle.ch_rowbook.proofs.Seats.{has_word, pen_moves}
 use Rattle.ch_rowbook.proofs.Steps.{stores}
@@ -17,7 +17,7 @@ store-requires g c =
       c.requires.seat.table ∙ sym shelf.table_is,
       has_word g.B.Book.book.nodes c.args.node t.table_id.words c.requires.within (shelf.words.1 ∙ ap width shelf.nodes_is),
       subst (λ (id : ℕ). Allows (Keeps t.key) t.table_id.slots id seat.me c.args.node (λ _. c.args.version) (λ _. IsStore (step t.table_id.slots c.args.node c.args.version 0 option.none) seat.me c.args.version)) (sym c.requires.seat.first)
-          (subst (λ (me : Me (Unit {0}) Known). Allows (Keeps t.key) t.table_id.slots 0 me c.args.node (λ _. c.args.version) (λ _. IsStore (step t.table_id.slots c.args.node c.args.version 0 option.none) me c.args.version)) (sym c.requires.seat.knows)
+          (subst (λ (me : Me (Unit {0}) KnownWords). Allows (Keeps t.key) t.table_id.slots 0 me c.args.node (λ _. c.args.version) (λ _. IsStore (step t.table_id.slots c.args.node c.args.version 0 option.none) me c.args.version)) (sym c.requires.seat.knows)
           (stores t.key t.table_id.slots c.args.node c.args.version seat.me.0.versions c.requires.above)),
     )
 

@@ -11,7 +11,11 @@ nodes-init c = subst (λ (ss : List Seen). Listing (kept_of c.args.self.now) (ke
 pub nodes-preserved : goal.nodes-preserved
 nodes-preserved c =
     let v = get_or c.args.nodes.now c.nodes.node-index 0 in
-    subst (λ (ns : List ℕ). Listing (kept_of c.args.self.now) (kept_of c.list.new.self) ns c.list.new.listed.items) (sym (take_more c.args.nodes.now c.nodes.node-index 0 c.nodes-test.true)) (listing-more (kept_of c.args.self.now) (kept_of c.nodes.self) (kept_of c.list.new.self) c.requires.nodes v (take c.nodes.node-index c.args.nodes.now) c.nodes.listed.items c.list.new.listed.items (kept_of c.nodes.self v) refl (c.in_ok-list.ensures) c.nodes.invariant)
+    subst (λ (ns : List ℕ). Listing (kept_of c.args.self.now) (kept_of c.list.new.self) ns c.list.new.listed.items)
+    (sym (take_more c.args.nodes.now c.nodes.node-index 0 c.nodes-test.true))
+    (listing-more (kept_of c.args.self.now) (kept_of c.nodes.self) (kept_of c.list.new.self) c.requires.nodes v
+    (take c.nodes.node-index c.args.nodes.now) c.nodes.listed.items c.list.new.listed.items (kept_of c.nodes.self v) refl
+    (c.in_ok-list.ensures) c.nodes.invariant)
 
 pub returns : goal.returns
 returns c = subst (λ (ns : List ℕ). AreListed (kept_of c.args.self.now) ns c.nodes.listed.items) (take_all c.nodes.node-index c.args.nodes.now c.nodes-test.false) c.nodes.invariant.is

@@ -15,7 +15,10 @@ returns-in-Some-clause-found g c = λ named whole. named
 
 pub returns-in_err-seen-clause-read : goal.returns-in_err-seen-clause-read
 returns-in_err-seen-clause-read g c = record {
-  kept = kept_moved g.S.RowSource.bears (g.S.RowSource.shows c.args.source.now) (g.S.RowSource.shows c.row_of.new.self) (g.S.RowSource.bound_of c.args.source.now) (g.S.RowSource.bound_of c.row_of.new.self) (kept_of c.args.self.now) (g.met.S.RowSource.same_bound c.args.source.now c.row_of.new.self c.in_err-seen.ensures.stays) (λ s h. g.met.S.RowSource.still_shows c.args.source.now c.row_of.new.self s c.in_err-seen.ensures.stays h) c.requires.kept;
+  kept = kept_moved g.S.RowSource.bears (g.S.RowSource.shows c.args.source.now) (g.S.RowSource.shows c.row_of.new.self)
+      (g.S.RowSource.bound_of c.args.source.now) (g.S.RowSource.bound_of c.row_of.new.self) (kept_of c.args.self.now)
+      (g.met.S.RowSource.same_bound c.args.source.now c.row_of.new.self c.in_err-seen.ensures.stays)
+      (λ s h. g.met.S.RowSource.still_shows c.args.source.now c.row_of.new.self s c.in_err-seen.ensures.stays h) c.requires.kept;
   more = λ x s is. is;
   stays = c.in_err-seen.ensures.stays;
 }
@@ -28,7 +31,11 @@ returns-in_err-seen-clause-unseen g c = λ missing. c.in_err-seen.ensures.kept
 
 pub returns-in_err-put-clause-read : goal.returns-in_err-put-clause-read
 returns-in_err-put-clause-read g c = record {
-  kept = λ x s is. (kept_moved g.S.RowSource.bears (g.S.RowSource.shows c.args.source.now) (g.S.RowSource.shows c.row_of.new.self) (g.S.RowSource.bound_of c.args.source.now) (g.S.RowSource.bound_of c.row_of.new.self) (kept_of c.args.self.now) (g.met.S.RowSource.same_bound c.args.source.now c.row_of.new.self c.in_ok-seen.ensures.stays) (λ s h. g.met.S.RowSource.still_shows c.args.source.now c.row_of.new.self s c.in_ok-seen.ensures.stays h) c.requires.kept) x s (sym (c.in_err-put.ensures.stays x) ∙ is);
+  kept = λ x s is. (kept_moved g.S.RowSource.bears (g.S.RowSource.shows c.args.source.now) (g.S.RowSource.shows c.row_of.new.self)
+      (g.S.RowSource.bound_of c.args.source.now) (g.S.RowSource.bound_of c.row_of.new.self) (kept_of c.args.self.now)
+      (g.met.S.RowSource.same_bound c.args.source.now c.row_of.new.self c.in_ok-seen.ensures.stays)
+      (λ s h. g.met.S.RowSource.still_shows c.args.source.now c.row_of.new.self s c.in_ok-seen.ensures.stays h) c.requires.kept) x s
+      (sym (c.in_err-put.ensures.stays x) ∙ is);
   more = λ x s is. c.in_err-put.ensures.stays x ∙ is;
   stays = c.in_ok-seen.ensures.stays;
 }
@@ -38,13 +45,17 @@ some-none o s e f = cc
 
 pub returns-clause-read : goal.returns-clause-read
 returns-clause-read g c = record {
-  kept = kept_put g.S.RowSource.bears (g.S.RowSource.shows c.args.source.now) (g.S.RowSource.shows c.row_of.new.self) (g.S.RowSource.bound_of c.args.source.now) (g.S.RowSource.bound_of c.row_of.new.self) (kept_of c.args.self.now) (g.met.S.RowSource.same_bound c.args.source.now c.row_of.new.self c.in_ok-seen.ensures.stays) (λ s h. g.met.S.RowSource.still_shows c.args.source.now c.row_of.new.self s c.in_ok-seen.ensures.stays h) c.requires.kept (kept_of c.put.new.self) c.args.node c.in_ok-seen.seen (record {
-    node = c.in_ok-seen.ensures.node;
-    bears = c.in_ok-seen.ensures.bears;
-    shows = c.in_ok-seen.ensures.shows;
-    row = subst (λ (b : Cost). IsSeenRow b c.in_ok-seen.seen) (sym (g.met.S.RowSource.same_bound c.args.source.now c.row_of.new.self c.in_ok-seen.ensures.stays)) c.in_ok-seen.ensures.row;
-    limit = subst IsBound (sym (g.met.S.RowSource.same_bound c.args.source.now c.row_of.new.self c.in_ok-seen.ensures.stays)) c.in_ok-seen.ensures.bound;
-  }) c.in_ok-put.ensures.here c.put.ensures.others;
+  kept = kept_put g.S.RowSource.bears (g.S.RowSource.shows c.args.source.now) (g.S.RowSource.shows c.row_of.new.self)
+      (g.S.RowSource.bound_of c.args.source.now) (g.S.RowSource.bound_of c.row_of.new.self) (kept_of c.args.self.now)
+      (g.met.S.RowSource.same_bound c.args.source.now c.row_of.new.self c.in_ok-seen.ensures.stays)
+      (λ s h. g.met.S.RowSource.still_shows c.args.source.now c.row_of.new.self s c.in_ok-seen.ensures.stays h) c.requires.kept
+      (kept_of c.put.new.self) c.args.node c.in_ok-seen.seen (record {
+        node = c.in_ok-seen.ensures.node;
+        bears = c.in_ok-seen.ensures.bears;
+        shows = c.in_ok-seen.ensures.shows;
+        row = subst (λ (b : Cost). IsSeenRow b c.in_ok-seen.seen) (sym (g.met.S.RowSource.same_bound c.args.source.now c.row_of.new.self c.in_ok-seen.ensures.stays)) c.in_ok-seen.ensures.row;
+        limit = subst IsBound (sym (g.met.S.RowSource.same_bound c.args.source.now c.row_of.new.self c.in_ok-seen.ensures.stays)) c.in_ok-seen.ensures.bound;
+      }) c.in_ok-put.ensures.here c.put.ensures.others;
   more = λ x s is. elim (cases_eq x c.args.node) [
     | inl at ↦ absurd (some-none (kept_of c.args.self.now c.args.node) s (subst (λ (w : ℕ). kept_of c.args.self.now w ≡ Some s) at is) c.in_default.ensures.none)
     | inr other ↦ c.put.ensures.others x other ∙ is

@@ -7,7 +7,7 @@ use Rattle.ch_laws.specs.declared.entry.Entry.{Entry}
 use Rattle.ch_laws.specs.Rows.{Row, Lists}
 use Rattle.ch_overlay.specs.declared.source.Seen.{Seen}
 use Rattle.ch_overlay.specs.Source.{row_in}
-use Rattle.ch_witness.specs.declared.step.Step.{Step}
+use Rattle.ch_witness.specs.declared.step.TreeNode.{TreeNode}
 use Rattle.ch_witness.specs.Frontier.{AreFollowed}
 use Rattle.ch_witness.specs.Kept.{kept_of, read_there, IsAnswer, IsKept}
 use Rattle.ch_witness.specs.Tree.{labels_of, IsTree, IsLater}
@@ -48,7 +48,7 @@ followed g c =
 pub returns-clause-tree : goal.returns-clause-tree
 returns-clause-tree g c =
     let answer = (there g c).1 in
-    subst (λ (ss : List Step). IsTree c.args.rule ss (labels_of c.follow.new.frontier)) (sym c.in_ok-push.ensures.items)
+    subst (λ (ss : List TreeNode). IsTree c.args.rule ss (labels_of c.follow.new.frontier)) (sym c.in_ok-push.ensures.items)
     (tree_grown c.args.rule c.args.self.now.steps.items (labels_of c.args.self.now.frontier) (labels_of c.follow.new.frontier) _ c.requires.tree
     (ap (λ (s : Seen). labels_of c.args.self.now.frontier s.node) c.of.ensures ∙ ap (λ (v : ℕ). labels_of c.args.self.now.frontier v) answer.node ∙ c.requires.label)
     (λ k t is e. c.requires.new k t is (e ∙ ap (λ (s : Seen). s.node) c.of.ensures ∙ answer.node))
@@ -58,14 +58,17 @@ returns-clause-tree g c =
 
 pub returns-clause-later : goal.returns-clause-later
 returns-clause-later g c =
-    subst (λ (ss : List Step). IsLater c.args.self.now.steps.items ss (labels_of c.args.self.now.frontier) (labels_of c.follow.new.frontier)) (sym c.in_ok-push.ensures.items)
+    subst (λ (ss : List TreeNode). IsLater c.args.self.now.steps.items ss (labels_of c.args.self.now.frontier) (labels_of c.follow.new.frontier)) (sym c.in_ok-push.ensures.items)
     (step_later c.args.self.now.steps.items _ (labels_of c.args.self.now.frontier) (labels_of c.follow.new.frontier) (followed g c).kept)
 
 pub returns-clause-whole : goal.returns-clause-whole
 returns-clause-whole g c = λ named all.
     let seen = c.at-seen.result.now in
     let now = c.in_ok-kept_at.ensures.found named (all c.args.reached.node _ c.requires.label) seen.node seen (there g c).0 in
-    names_kept c.args.rule (g.S.RowSource.whole c.args.source.now) (g.S.RowSource.whole c.read.new.source) (λ v h. g.met.S.RowSource.still_whole c.args.source.now c.read.new.source v c.in_ok-kept_at.ensures.read.stays h) (row_in seen) c.args.reached.cost (Some (length c.args.self.now.steps.items)) (labels_of c.args.self.now.frontier) (labels_of c.follow.new.frontier) now all (followed g c)
+    names_kept c.args.rule (g.S.RowSource.whole c.args.source.now) (g.S.RowSource.whole c.read.new.source)
+    (λ v h. g.met.S.RowSource.still_whole c.args.source.now c.read.new.source v c.in_ok-kept_at.ensures.read.stays h)
+    (row_in seen) c.args.reached.cost (Some (length c.args.self.now.steps.items)) (labels_of c.args.self.now.frontier)
+    (labels_of c.follow.new.frontier) now all (followed g c)
 
 pub returns-clause-gone : goal.returns-clause-gone
 returns-clause-gone g c = (

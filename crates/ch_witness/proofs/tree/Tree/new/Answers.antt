@@ -2,7 +2,7 @@ use Rattle.std.proofs.Common.{List, None, refl, sym, subst, ap, ◌∙◌}
 use Rattle.ch_cost.specs.declared.cost.Cost.{Cost}
 use Rattle.ch_cost.specs.Cost.{◌≼◌}
 use Rattle.ch_cost.specs.Cost.Laws.{ZERO-is}
-use Rattle.ch_witness.specs.declared.step.Step.{Step}
+use Rattle.ch_witness.specs.declared.step.TreeNode.{TreeNode}
 use Rattle.ch_witness.specs.Kept.{kept_of, IsKept}
 use Rattle.ch_witness.proofs.Keeping.{kept_still, more_trans}
 use Rattle.ch_witness.specs.Tree.{labels_of, IsTree, IsGoneOn, IsLater}
@@ -11,10 +11,10 @@ use Rattle.ch_witness.proofs.Growing.{all_start, tree_start, start_seen, seen_go
 use Rattle.ch_witness.proofs.tree.Tree.new.Goals as goal
 
 pub returns-then-are_all-clause-tree : goal.returns-then-are_all-clause-tree
-returns-then-are_all-clause-tree g c = subst (λ (ss : List Step). IsTree c.args.rule ss (labels_of c.start.new.self)) (sym c.in_ok-steps.ensures) (tree_start c.args.rule (labels_of c.start.new.self) c.in_ok-start.ensures c.requires.start)
+returns-then-are_all-clause-tree g c = subst (λ (ss : List TreeNode). IsTree c.args.rule ss (labels_of c.start.new.self)) (sym c.in_ok-steps.ensures) (tree_start c.args.rule (labels_of c.start.new.self) c.in_ok-start.ensures c.requires.start)
 
 pub go_on_from-requires-clause-tree : goal.go_on_from-requires-clause-tree
-go_on_from-requires-clause-tree g c = subst (λ (ss : List Step). IsTree c.args.rule ss (labels_of c.start.new.self)) (sym c.in_ok-steps.ensures) (tree_start c.args.rule (labels_of c.start.new.self) c.in_ok-start.ensures c.requires.start)
+go_on_from-requires-clause-tree g c = subst (λ (ss : List TreeNode). IsTree c.args.rule ss (labels_of c.start.new.self)) (sym c.in_ok-steps.ensures) (tree_start c.args.rule (labels_of c.start.new.self) c.in_ok-start.ensures c.requires.start)
 
 pub go_on_from-requires-clause-label : goal.go_on_from-requires-clause-label
 go_on_from-requires-clause-label g c = c.in_ok-start.ensures.here ∙ ap begun (sym ZERO-is)
@@ -32,7 +32,12 @@ returns-clause-start g c = λ k h other.
     let gone = c.in_ok-go_on_from.ensures.gone in (
       gone.0,
       kept_still (kept_of c.go_on_from.new.rows) (kept_of c.grow.new.rows) gone.0 c.in_ok-grow.ensures.read.more gone.1,
-      start_seen c.args.rule _ ZERO-is gone.0 _ _ (labels_of c.start.new.self) _ _ c.in_ok-start.ensures (subst (λ (ss : List Step). IsLater ss c.go_on_from.new.self.steps.items (labels_of c.start.new.self) (labels_of c.go_on_from.new.self.frontier)) c.in_ok-steps.ensures c.in_ok-go_on_from.ensures.later) (subst (λ (ss : List Step). IsGoneOn c.args.rule (record { node = c.args.rule.from; cost = record { weight = 0; arcs = 0 }; before = None }) gone.0 ss c.go_on_from.new.self.steps.items (labels_of c.start.new.self) (labels_of c.go_on_from.new.self.frontier)) c.in_ok-steps.ensures gone.2) c.in_ok-grow.ensures.later,
+      start_seen c.args.rule _ ZERO-is gone.0 _ _ (labels_of c.start.new.self) _ _ c.in_ok-start.ensures
+          (subst (λ (ss : List TreeNode). IsLater ss c.go_on_from.new.self.steps.items (labels_of c.start.new.self)
+          (labels_of c.go_on_from.new.self.frontier)) c.in_ok-steps.ensures c.in_ok-go_on_from.ensures.later)
+          (subst (λ (ss : List TreeNode). IsGoneOn c.args.rule
+          (record { node = c.args.rule.from; cost = record { weight = 0; arcs = 0 }; before = None }) gone.0 ss c.go_on_from.new.self.steps.items
+          (labels_of c.start.new.self) (labels_of c.go_on_from.new.self.frontier)) c.in_ok-steps.ensures gone.2) c.in_ok-grow.ensures.later,
     )
 
 pub returns-clause-read : goal.returns-clause-read

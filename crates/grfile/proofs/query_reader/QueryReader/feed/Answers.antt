@@ -14,7 +14,10 @@ pub invariant_of-self : goal.invariant_of-self
 invariant_of-self c = still_holds (pair_grammar c.self.inside.nodes) (taken_of c.self.inside.pieces) (taken_of c.feed.new.pieces) c.args.piece.now as_pairs (All (IsPair c.self.inside.nodes)) c.feed.result c.feed.ensures.takes c.feed.ensures.refused c.self.invariant
 
 pub returns-clause-takes : goal.returns-clause-takes
-returns-clause-takes c = subst (λ (old : PairsTaken). Takes c.feed.result (λ (rest : List ℕ). pairs_with old (c.args.piece.now ++ rest)) (pairs_with (record { nodes = c.self.inside.nodes; taken = taken_of c.feed.new.pieces }))) c.self.view_is (takes_seen (pair_grammar c.self.inside.nodes) (taken_of c.self.inside.pieces) (taken_of c.feed.new.pieces) c.args.piece.now as_pairs c.feed.result c.feed.ensures.takes)
+returns-clause-takes c = subst (λ (old : PairsTaken). Takes c.feed.result (λ (rest : List ℕ). pairs_with old (c.args.piece.now ++ rest))
+    (pairs_with (record { nodes = c.self.inside.nodes; taken = taken_of c.feed.new.pieces }))) c.self.view_is
+    (takes_seen (pair_grammar c.self.inside.nodes) (taken_of c.self.inside.pieces)
+    (taken_of c.feed.new.pieces) c.args.piece.now as_pairs c.feed.result c.feed.ensures.takes)
 
 pub returns-clause-before : goal.returns-clause-before
 returns-clause-before c =
