@@ -1,86 +1,35 @@
-ghost use Rattle.std.specs.Prelude.{◌≡◌, ◌<◌, ◌∷◌, [], All, length, IfOk};
-ghost use Rattle.ch_route.specs.Routes.{IsLengthBy};
-ghost use Rattle.grfile.specs.Requests.{IsPlace};
-ghost use Rattle.ch_serve.specs.Between.{IsBest, shorter};
+ghost use Rattle.std.specs.Prelude.{◌≡◌, ◌≤◌, take, length};
+ghost use Rattle.ch_serve.specs.Places.{seed_of, seeds_of};
 
-use ch_route::Router;
+use ch_cost::Cost;
+use ch_route::Seed;
 use grfile::Place;
-use std::alloc::AllocError;
 
-/// A way from one of several places to one of several others.
-#[derive(Clone, Copy)]
-pub struct Way {
-    /// Where it starts.
-    pub start: Place,
-    /// Where it ends.
-    pub stop: Place,
-    /// How long it is, with what both places add.
-    pub whole: u64,
-}
+/// How many places a request has on one side at most.
+pub(crate) const MOST_PLACES: usize = 8;
 
-/// The least way from one of the starts to one of the stops, or none where there is none. Takes the time and memory of a
-/// query for each start and each stop.
-pub(crate) fn best_way(
-    router: &mut Router<'_>,
-    starts: &[Place],
-    stops: &[Place],
-) -> Result<Option<Way>, AllocError>
-    requires starts { All (IsPlace (length router.old.ranks)) starts.now }
-    requires stops { All (IsPlace (length router.old.ranks)) stops.now }
-    ensures best { IfOk result (IsBest (IsLengthBy router.old) starts.now stops.now) }
-    ensures kept { router.new ≡ router.old }
+/// The places as starts or ends of a query, first in the array. What follows them means nothing.
+pub(crate) fn seeds_of(places: &[Place]) -> [Seed; MOST_PLACES]
+    requires few { length places.now ≤ 8 }
+    ensures { take (length places.now) result ≡ seeds_of places.now }
 {
-    let mut best = None;
-    'starts: for start in starts {
-        let other = best_from(router, *start, stops)?;
-        best = shorter(best, other);
-    }
-    Ok(best)
-}
-
-// The least way from this start.
-fn best_from(
-    router: &mut Router<'_>,
-    start: Place,
-    stops: &[Place],
-) -> Result<Option<Way>, AllocError>
-    requires start { IsPlace (length router.old.ranks) start }
-    requires stops { All (IsPlace (length router.old.ranks)) stops.now }
-    ensures best { IfOk result (IsBest (IsLengthBy router.old) (start ∷ []) stops.now) }
-    ensures kept { router.new ≡ router.old }
-{
-    let mut best = None;
-    'stops: for stop in stops {
-        let other = way_of(router, start, *stop)?;
-        best = shorter(best, other);
-    }
-    Ok(best)
-}
-
-// The least way from this start to this stop.
-fn way_of(router: &mut Router<'_>, start: Place, stop: Place) -> Result<Option<Way>, AllocError>
-    requires start { IsPlace (length router.old.ranks) start }
-    requires stop { IsPlace (length router.old.ranks) stop }
-    ensures best { IfOk result (IsBest (IsLengthBy router.old) (start ∷ []) (stop ∷ [])) }
-    ensures kept { router.new ≡ router.old }
-{
-    let _well_made = router.nodes();
-    let Some(between) = router.length((start.node, stop.node))? else {
-        return Ok(None);
+    let nowhere = Seed {
+        node: 0,
+        cost: Cost::ZERO,
     };
-    let whole = u64::from(start.weight) + between + u64::from(stop.weight);
-    Ok(Some(Way { start, stop, whole }))
+    let mut seeds = [nowhere; MOST_PLACES];
+    'places: for at in 0..places.len() {
+        seeds[at] = seed_of(places[at]);
+    }
+    seeds
 }
 
-// The shorter of two ways.
-fn shorter(best: Option<Way>, other: Option<Way>) -> Option<Way>
-    ensures { result ≡ shorter best other }
+// The place as a start or an end.
+fn seed_of(place: Place) -> Seed
+    ensures { result ≡ seed_of place }
 {
-    let Some(way) = best else {
-        return other;
-    };
-    match other {
-        Some(other) if other.whole < way.whole => Some(other),
-        _ => Some(way),
+    Seed {
+        node: place.node,
+        cost: Cost::of_weight(place.weight),
     }
 }
