@@ -1,6 +1,6 @@
 -- What a search between several starts and ends found, and its unpacking, together.
-use Rattle.std.proofs.Common.{ℕ, ◌≡◌, ◌<◌, List, Contains, length, slice_get, slice_index_or, ap, sym, subst}
-use Rattle.std.specs.Prelude.{Option, Some, None, IfSome, Result, Ok, Err, IfOk, IsErrAnd, option_map}
+use Rattle.std.proofs.Common.{ℕ, ◌≡◌, List, slice_get, slice_index_or, ap, sym, subst}
+use Rattle.std.specs.Prelude.{Option, Some, IfSome, Result, Ok, Err, IsErrAnd, option_map}
 use Rattle.std.proofs.lemmas.Option.{slice_get_within, get_or_from_slice_get}
 use Rattle.ch_cost.specs.declared.cost.Cost.{Cost}
 use Rattle.ch_cost.specs.Cost.{length_of}
@@ -32,16 +32,19 @@ module _ (names : PlacesNameLinks) (h : Hierarchy) (starts ends : List Seed) (fr
   }
 
   route_between : (nodes : List ℕ) → IsValueBetween h starts ends longest (Some c) → IsUnpacked h w.start.node places nodes → IsRouteBetweenBy h starts ends (Some (record { start = from; end = to; cost = c; nodes = nodes }))
-  route_between nodes value u = (value, record {
-    start = w.start;
-    stop = w.stop;
-    begins = w.begins;
-    stops = w.stops;
-    arcs = u.arcs;
-    way = unfolded_way u.arcs u.unfolded;
-    few = u.few;
-    along = u.in_order;
-  })
+  route_between nodes value u = (
+    value,
+    record {
+      start = w.start;
+      stop = w.stop;
+      begins = w.begins;
+      stops = w.stops;
+      arcs = u.arcs;
+      way = unfolded_way u.arcs u.unfolded;
+      few = u.few;
+      along = u.in_order;
+    },
+  )
 
   too_long_between : IsValueBetween h starts ends longest (Some c) → IsTooLong h places → HasTooLongBetween h starts ends
   too_long_between value u = record {

@@ -4,20 +4,18 @@ use Rattle.std.proofs.lemmas.Bool.{ltb-false, ltb-true}
 use Rattle.std.proofs.lemmas.List.Elements.{All-contains}
 use Rattle.std.proofs.lemmas.Option.{slice_get_within, get_or_from_slice_get}
 use Rattle.ch_cost.specs.declared.cost.Cost.{Cost}
-use Rattle.ch_cost.specs.Cost.{◌⊕◌, ◌≺◌, ◌≼◌, length_of, zero_cost, cost_of_arcs, IsNoLonger}
+use Rattle.ch_cost.specs.Cost.{◌⊕◌, ◌≺◌, ◌≼◌, length_of, zero_cost, cost_of_arcs}
 use Rattle.ch_cost.specs.Cost.Laws.{at_most_refl, cases_cost, below_not_at_most, sum_below_left, sum_below_right, length_of-at_most, length_of-sum, cost-induction}
 use Rattle.ch_cost.specs.Cost.Numbers.{length_of-cost_of_arcs, length_of-of_walk, lengths-from_no_longer, lengths-from_within, no_longer-from_lengths}
 use Rattle.ch_graph.specs.declared.link.Link.{Link}
-use Rattle.ch_graph.specs.Walk.{Walk, Walk.stay, Walk.go, IsLeastOrNone}
+use Rattle.ch_graph.specs.Walk.{Walk, Walk.stay, IsLeastOrNone}
 use Rattle.ch_graph.specs.Walk.Laws.{one_arc, join}
 use Rattle.ch_graph.specs.Graph.{Graph, ArcOf, IsLeastLength}
-use Rattle.ch_graph.specs.Limits.{IsGraph}
-use Rattle.ch_graph.specs.declared.version.Version.TheVariants.{One}
 use Rattle.ch_graph.specs.Hierarchy.{Hierarchy, Chain, Chain.nothing, Chain.then, HasRiseFall, IsRiseFall, IsRight, IsValue, IsWellMade}
 use Rattle.ch_laws.specs.ByWeight.{IsArcByWeight, IsRightByWeight, RightIsRightByWeight}
 use Rattle.ch_query.specs.declared.seed.Seed.{Seed}
 use Rattle.ch_query.specs.Seeds.{IsSeed, AreSeeds, HasWalkBetween, HasPair, IsValueBetween, IsDistanceBetween, cost_between, longest}
-use Rattle.ch_route.specs.Between.{RouteBetween, HasLengthBetween, HasTooLongBetween, IsLeastBetween, IsLeastLengthBetween, IsRouteBetweenBy, IsShortestBetween, IsUnfoldedBetween, IsUnfoldedWay, LeadsBetween}
+use Rattle.ch_route.specs.Between.{RouteBetween, HasTooLongBetween, IsLeastLengthBetween, IsRouteBetweenBy, IsShortestBetween, IsUnfoldedBetween, LeadsBetween}
 use Rattle.ch_route.specs.Laws.{LengthsBetweenAreLeast, NoneTooLong, NoneTooLongBetween, NoneTooLongBetweenByWeight, NoneTooLongByWeight, RoutesAreFewest, RoutesAreLeastByWeight, RoutesBetweenAreFewest, RoutesBetweenAreLeast, RoutesBetweenAreLeastByWeight}
 use Rattle.ch_route.specs.Routes.{Route, HasTooLong, IsFewestWalk, IsLeastWalk, IsUnfoldedRoute}
 

@@ -1,13 +1,13 @@
 -- Places of a request as starts and ends of a query, and what is told of the route between them.
-use Rattle.std.proofs.Common.{ℕ, ◌≡◌, ◌<◌, inl, inr, if◌then◌else◌, List, [], ◌∷◌, ◌++◌, All, length, codes, slice_get, slice_index_or, Result, Ok, Err, Option, Some, None, refl, ap, sym, subst, ◌∙◌}
+use Rattle.std.proofs.Common.{ℕ, ◌≡◌, inl, inr, if◌then◌else◌, List, [], ◌∷◌, ◌++◌, All, length, codes, slice_index_or, Result, Ok, Err, Some, None, refl, sym, subst}
 use Rattle.std.specs.Prelude.{⊤, OnOk, is_ok}
 use Rattle.std.proofs.lemmas.List.Elements.{All-head, All-tail}
-use Rattle.std.proofs.lemmas.Option.{slice_get_within, get_or_from_slice_get}
+use Rattle.std.proofs.lemmas.Option.{get_or_from_slice_get}
 use Rattle.ch_graph.specs.Hierarchy.{Hierarchy}
 use Rattle.ch_query.specs.declared.seed.Seed.{Seed}
 use Rattle.ch_query.specs.Seeds.{AreSeeds}
 use Rattle.ch_query.specs.Seeds.Laws.{seed-arc, seeds-cons, seeds-none}
-use Rattle.ch_route.specs.Between.{RouteBetween, HasTooLongBetween, IsRouteBetweenBy}
+use Rattle.ch_route.specs.Between.{RouteBetween, IsRouteBetweenBy}
 use Rattle.grfile.specs.Requests.{IsPlace}
 use Rattle.grfile.specs.declared.requests.Place.{Place}
 use Rattle.ch_serve.specs.Places.{seed_of, seeds_of}
@@ -32,8 +32,7 @@ way_told (Err x) h starts ends route d e old new found is = tt
 way_told (Ok x) h starts ends route d e old new found is =
     let begins = get_or_from_slice_get starts route.start found.1.start d found.1.begins in
     let stops = get_or_from_slice_get ends route.end found.1.stop e found.1.stops in
-    let first = subst (λ (s : Seed). new ≡ old ++ way_line (s.node, (slice_index_or ends route.end e).node) route) begins is in
-    (
+    let first = subst (λ (s : Seed). new ≡ old ++ way_line (s.node, (slice_index_or ends route.end e).node) route) begins is in (
       way_line (found.1.start.node, found.1.stop.node) route,
       inl (record { route = route; best = found; start = found.1.start; stop = found.1.stop; begins = found.1.begins; stops = found.1.stops; tells = refl }),
       subst (λ (s : Seed). new ≡ old ++ way_line (found.1.start.node, s.node) route) stops first,

@@ -92,8 +92,7 @@ module _ (told : Told) (lines : List ℕ) where
         let r = h.replies in
         let all = r.asked ++ after [] in
         let same : requests_of n h.bytes ≡ all = asked_of h.bytes ∙ r.cuts [] in
-        let first : take (length all) (requests_of n h.bytes) ≡ all = ap (take (length all)) (same ∙ sym (append-nil all)) ∙ take-append_seam all [] in
-        (
+        let first : take (length all) (requests_of n h.bytes) ≡ all = ap (take (length all)) (same ∙ sym (append-nil all)) ∙ take-append_seam all [] in (
           h.bytes,
           h.consumed,
           (length all, omega (arith, r.many, length-append r.asked (after [])), written (take (length all) (requests_of n h.bytes)) old new all (r.text ++ text) k.0 first (replies_append r.replied are) (behind (hands_join (hands_more text r.handed) k.1))),

@@ -1,4 +1,4 @@
-use Rattle.std.proofs.Common.{List, ℕ, [], ap, subst, ◌∙◌}
+use Rattle.std.proofs.Common.{ℕ, [], ap, subst, ◌∙◌}
 use Rattle.std.proofs.lemmas.Result.{err_from_is_err_and}
 use Rattle.counted_io.specs.Handing.{HandsOn}
 use Rattle.ch_graph.specs.Hierarchy.{Hierarchy}
