@@ -35,6 +35,7 @@ stopped (stops.Hierarchy faults.Trailing) = four 4 refl
 stopped stops.OutOfMemory = six 6 refl
 stopped stops.Read = seven 7 refl
 stopped (stops.Write fault) = seven 7 refl
+stopped stops.Flush = seven 7 refl
 
 pub some_stop : (e : ServeError) → status_stopped e ≢ 0
 some_stop e = (stopped e).0

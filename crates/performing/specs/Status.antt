@@ -58,6 +58,7 @@ status_stopped (stops.Hierarchy fault) = 4
 status_stopped stops.OutOfMemory = 6
 status_stopped stops.Read = 7
 status_stopped (stops.Write fault) = 7
+status_stopped stops.Flush = 7
 
 -- and that of a serving job, of the file of the hierarchy and of the requests that a reader had and has left
 pub record TellsServed (status : ℕ) (file had left old new : Option (List ℕ)) : Type 0 where
