@@ -58,6 +58,7 @@ class Network:
     def __init__(self, prefix: StrPath) -> None:
         name = os.fspath(prefix)
         self.graph, self.nodes, self.arcs = f"{name}.gr", f"{name}.nodes.csv", f"{name}.arcs.csv"
+        self.binary = f"{name}.npz"
 
 
 class Nodes(NamedTuple):

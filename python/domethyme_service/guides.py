@@ -45,9 +45,9 @@ def grouped(roads: Roads, parts: list[Part]) -> list[list[Part]]:
 
 def is_new(roads: Roads, before: Part, part: Part) -> bool:
     """Whether a step begins with a part."""
-    if roads.arcs[before.arc].name != roads.arcs[part.arc].name:
+    if roads.arc(before.arc).name != roads.arc(part.arc).name:
         return True
-    if roads.degree[roads.arcs[part.arc].start] < JUNCTION:
+    if roads.degree[roads.arc(part.arc).start] < JUNCTION:
         return False
     return abs(turn(last_bearing(roads.line(*before[:3])), first_bearing(roads.line(*part[:3])))) > TURN
 
@@ -58,7 +58,7 @@ def line_of(roads: Roads, parts: list[Part]) -> list[Point]:
 
 def kind_of(roads: Roads, before: list[Part], group: list[Part], angle: int) -> tuple[str, str]:
     """The type and the modifier of the maneuver between two steps."""
-    is_same = roads.arcs[before[-1].arc].name == roads.arcs[group[0].arc].name
+    is_same = roads.arc(before[-1].arc).name == roads.arc(group[0].arc).name
     kind = "continue" if is_same else "turn" if abs(angle) > TURN else "new name"
     side = "right" if angle > 0 else "left"
     return kind, next(word for most, word in MODIFIERS if abs(angle) < most).format(side)
@@ -88,7 +88,7 @@ def step(roads: Roads, parts: list[Part], move: dict[str, Any], geometry: Any) -
     place: dict[str, Any] = {"location": move["location"], "bearings": [move["bearing_after"]], "entry": [True], "out": 0}
     return {
         "maneuver": move,
-        "name": roads.arcs[parts[0].arc].name if parts else "",
+        "name": roads.arc(parts[0].arc).name if parts else "",
         "mode": "driving",
         "driving_side": "right",
         "weight": weight_of(roads, weight),

@@ -71,8 +71,8 @@ def along_one_arc(roads: Roads, start: Spot, end: Spot) -> Leg | None:
     if start.copies or end.copies or start.edge != end.edge:
         return None
     found: list[Leg] = []
-    for number in roads.edges[start.edge].arcs:
-        arc = roads.arcs[number]
+    for number in roads.edge(start.edge).arcs:
+        arc = roads.arc(number)
         begin, stop = roads.along(arc, start.fraction), roads.along(arc, end.fraction)
         if begin <= stop:
             weight = roads.before(arc, end.fraction) - roads.before(arc, start.fraction)
@@ -85,14 +85,13 @@ def driven(roads: Roads, start: Spot, end: Spot, route: Route) -> Leg:
     parts: list[Part] = []
     first, last = start.exits[route.source], end.entries[route.target]
     if first[1] != NONE:
-        parts.append(Part(first[1], roads.along(roads.arcs[first[1]], start.fraction), 1.0, first[0]))
-    for ends in itertools.pairwise(route.nodes):
-        number = roads.lightest.get(ends, NONE)
+        parts.append(Part(first[1], roads.along(roads.arc(first[1]), start.fraction), 1.0, first[0]))
+    for number in roads.lightest(route.nodes):
         if number == NONE:
             raise Refused(500, "InternalError", "the network lacks an arc of the hierarchy's graph")
-        parts.append(Part(number, 0.0, 1.0, roads.arcs[number].weight))
+        parts.append(Part(number, 0.0, 1.0, roads.arc(number).weight))
     if last[1] != NONE:
-        parts.append(Part(last[1], 0.0, roads.along(roads.arcs[last[1]], end.fraction), last[0]))
+        parts.append(Part(last[1], 0.0, roads.along(roads.arc(last[1]), end.fraction), last[0]))
     if sum(part.weight for part in parts) != route.length:
         raise Refused(500, "InternalError", "the network's weights aren't those of the hierarchy's graph")
     return Leg(route.length, parts)
@@ -102,14 +101,14 @@ def seconds_of(roads: Roads, weight: int, parts: list[Part]) -> float:
     """How long parts take, which weigh so much together."""
     if roads.unit == "duration":
         return weight / 1000
-    return sum(roads.arcs[part.arc].seconds * (part.end - part.begin) for part in parts)
+    return sum(roads.arc(part.arc).seconds * (part.end - part.begin) for part in parts)
 
 
 def metres_of(roads: Roads, weight: int, parts: list[Part]) -> float:
     """How long parts are, which weigh so much together."""
     if roads.unit == "distance":
         return weight / 100
-    return sum(roads.arcs[part.arc].metres * (part.end - part.begin) for part in parts)
+    return sum(roads.arc(part.arc).metres * (part.end - part.begin) for part in parts)
 
 
 def weight_of(roads: Roads, weight: int) -> float:

@@ -37,8 +37,8 @@ async def nearest(pool: Pool, roads: Roads, request: Request) -> dict[str, Any]:
 
 
 def ends(roads: Roads, spot: Spot) -> list[int]:
-    arc = roads.arcs[roads.edges[spot.edge].arcs[0]]
-    return [int(roads.osm[node] or 0) for node in (arc.start, arc.end)]
+    arc = roads.arc(roads.edge(spot.edge).arcs[0])
+    return [roads.osm(node) for node in (arc.start, arc.end)]
 
 
 async def spots_of(roads: Roads, request: Request) -> list[Spot]:
@@ -104,7 +104,7 @@ def leg_told(
     roads: Roads, request: Request, start: Spot, end: Spot, leg: Leg, names: list[str]
 ) -> dict[str, Any]:
     """A leg as OSRM has it."""
-    streets = [name for name in dict.fromkeys(roads.arcs[part.arc].name for part in leg.parts) if name]
+    streets = [name for name in dict.fromkeys(roads.arc(part.arc).name for part in leg.parts) if name]
     shape = request.word("geometries")
     told: dict[str, Any] = {"summary": "", "steps": [], **figures(roads, leg)}
     if request.says("steps"):
