@@ -9,6 +9,8 @@ import { service } from "./service.js";
 import { View } from "./view.js";
 import { far, fault, hint } from "./words.js";
 
+export { places, route, view };
+
 const $ = (id) => document.getElementById(id);
 const SCALES = [1, 2, 5, 10, 20, 50, 100, 200, 500, 1000, 2000, 5000, 10_000, 20_000, 50_000, 100_000, 200_000, 500_000, 1_000_000];
 

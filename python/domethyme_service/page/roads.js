@@ -4,7 +4,7 @@ import { Room, roomFor } from "./lines.js";
 
 const TILE = 512, MOST_KEPT = 300, MOST_AT_ONCE = 8, PAUSE = 3000;
 const WIDTHS = [3.4, 2.7, 2.2, 1.8, 1.3, 1.1];
-const NAMES_FROM = 14.3, HOLLOW = 4.2, EDGES = 2.4;
+const NAMES_FROM = 14.3, HOLLOW = 3.4, EDGES = 2.4;
 
 export class Roads {
   constructor(canvas, service, view) {
@@ -40,7 +40,7 @@ export class Roads {
     pen.lineCap = pen.lineJoin = "round";
     for (let kind = WIDTHS.length - 1; kind >= 0; kind--) this.stroke(drawn, kind, this.inks.roads[kind], WIDTHS[kind] * thick, ratio);
     for (let kind = WIDTHS.length - 1; kind >= 0; kind--) {
-      if (WIDTHS[kind] * thick > HOLLOW) this.stroke(drawn, kind, this.inks.road, WIDTHS[kind] * thick - EDGES, ratio);
+      if (thick > HOLLOW) this.stroke(drawn, kind, this.inks.road, WIDTHS[kind] * thick - EDGES, ratio);
     }
     pen.setTransform(ratio, 0, 0, ratio, 0, 0);
     if (view.zoom >= NAMES_FROM) this.write(drawn);

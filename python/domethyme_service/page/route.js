@@ -43,7 +43,7 @@ export class Route {
   }
 
   draw() {
-    const { view, layers } = this, room = new Room(), lines = [], hits = [], signs = [], texts = [];
+    const { view, layers } = this, room = new Room(), lines = [], signs = [], texts = [];
     for (const spot of this.places) {
       const [x, y] = view.pixel(spot);
       room.take(x, y - 20, 30, 40);
@@ -52,10 +52,9 @@ export class Route {
       const pixels = steps.map((step) => thinned(step.geometry.coordinates.map((point) => view.pixel(point))));
       const whole = pixels.flat(), path = pathOf(whole);
       lines.push(element("path", { class: "under", d: path }), element("path", { class: "leg", d: path }));
-      // (a hit path of one's own keeps its element while it is dragged)
-      const hit = layers.hits.children[number] ?? element("path", { class: "hit", "data-leg": number });
+      // (one that is dragged has the pointer, and would lose it where it was put in anew)
+      const hit = layers.hits.children[number] ?? layers.hits.appendChild(element("path", { class: "hit", "data-leg": number }));
       hit.setAttribute("d", path);
-      hits.push(hit);
       signs.push(...this.arrows(whole));
       steps.forEach((step, place) => texts.push([pixels[place], street(step)]));
     });
@@ -63,7 +62,7 @@ export class Route {
     if (this.step) lines.push(element("path", { class: "step", d: pathOf(this.step.geometry.coordinates.map((point) => view.pixel(point))) }));
     for (const [pixels, name] of texts) signs.push(...this.name(pixels, name, room));
     layers.lines.replaceChildren(...lines);
-    if (layers.hits.children.length !== hits.length) layers.hits.replaceChildren(...hits);
+    while (layers.hits.children.length > this.legs.length) layers.hits.lastChild.remove();
     layers.signs.replaceChildren(...signs);
   }
 
