@@ -211,7 +211,7 @@ def write(file: IO[bytes], arrays: Arrays) -> None:
 def read(path: str) -> Arrays:
     """Reads the binary form. Raises NetworkError for a file that can't be read, is damaged, or is of another version."""
     try:
-        with np.load(path, allow_pickle=False) as archive:
+        with open(path, "rb") as file, np.load(file, allow_pickle=False) as archive:
             version = archive["version"]
             if version.shape != (1,) or version[0] != VERSION:
                 raise NetworkError(f"{path}: is of another version: remove it, or convert the map anew")
@@ -250,7 +250,7 @@ def is_current(prefix: str) -> bool:
 def sizes_in(path: str) -> list[int]:
     """The sizes of the tables that a binary form was written with."""
     try:
-        with np.load(path, allow_pickle=False) as archive:
+        with open(path, "rb") as file, np.load(file, allow_pickle=False) as archive:
             return [int(size) for size in archive["sizes"].ravel()]
     except (zipfile.BadZipFile, KeyError, ValueError, EOFError, AttributeError, NotImplementedError) as error:
         raise damaged(path, str(error)) from error
@@ -319,6 +319,43 @@ def rows_of(path: str, needed: tuple[str, ...], more: tuple[str, ...]) -> Iterat
         raise NetworkError(f"{path}: {os_reason(error)}") from error
     except (csv.Error, UnicodeDecodeError) as error:
         raise NetworkError(f"{path}: isn't CSV in UTF-8: {error}") from error
+
+
+def ordered(arrays: Arrays) -> tuple[NDArray[np.int64], NDArray[np.int64]]:
+    """The arcs in the order of numbers of their pairs of nodes, the lightest of a pair first, and those numbers."""
+    keys = arrays.arc_from.astype(np.int64) * (len(arrays.node_osm) + 1) + arrays.arc_to
+    order = np.argsort(keys, kind="stable")
+    keys = keys[order]
+    is_same = np.concatenate(([False], keys[1:] == keys[:-1]))
+    several = np.flatnonzero(is_same | np.append(is_same[1:], False))
+    chosen = order[several]
+    order[several] = chosen[np.lexsort((arrays.arc_weight[chosen], keys[several]))]
+    return order, keys
+
+
+class Lightest:
+    """By a pair of nodes from 0 the weight, seconds, metres and WKT of the arc that a route takes between them."""
+
+    def __init__(self, arrays: Arrays) -> None:
+        self._arrays, self._nodes = arrays, len(arrays.node_osm)
+        self._order, self._keys = ordered(arrays)
+
+    def __getitem__(self, ends: tuple[int, int]) -> tuple[int, float, float, str]:
+        key = (ends[0] + 1) * (self._nodes + 1) + ends[1] + 1
+        place = int(np.searchsorted(self._keys, key))
+        if place == len(self._keys) or self._keys[place] != key:
+            raise KeyError(ends)
+        arc, arrays = int(self._order[place]), self._arrays
+        line = wkt_of(arrays, arc)
+        return int(arrays.arc_weight[arc]), float(arrays.arc_seconds[arc]), float(arrays.arc_metres[arc]), line
+
+
+def wkt_of(arrays: Arrays, arc: int) -> str:
+    """The line of an arc, as the table has it."""
+    edge = arrays.arc_edge[arc]
+    line = arrays.points[arrays.edge_begin[edge] : arrays.edge_begin[edge + 1]]
+    points = (line if arrays.arc_along[arc] else line[::-1]).tolist()
+    return "LINESTRING (" + ", ".join(f"{lon / UNITS:.7f} {lat / UNITS:.7f}" for lon, lat in points) + ")"
 
 
 def number(text: str, name: str, path: str, row: int) -> int:

@@ -14,14 +14,13 @@ import numpy as np
 from numpy.typing import NDArray
 
 from domethyme import NetworkError
-from domethyme.binary import ENDS, NO_OSM, TEXTS, UNITS, Arrays, arrays_of
+from domethyme.binary import ENDS, NO_OSM, TEXTS, UNITS, Arrays, arrays_of, ordered
 from domethyme.network import EARTH_RADIUS, Floats, Point, on_sphere
 
 from .tiles import Tiles
 
-PIECE = 50.0
+PIECE = 150.0
 METRES_OF_DEGREE = EARTH_RADIUS * math.pi / 180
-METRES_OF_UNIT = METRES_OF_DEGREE / UNITS
 AT_END = 0.005
 NONE = -1
 KEPT = 1 << 15
@@ -87,8 +86,7 @@ class Roads:
         self.texts = self.arrays.texts()
         self.unit = unit_of(self.arrays)
         self.copies = copies_of(self.arrays)
-        self._order = np.lexsort((self.arrays.arc_weight, keys_of(self.arrays.arc_from, self.arrays.arc_to, self.nodes)))
-        self._keys = keys_of(self.arrays.arc_from, self.arrays.arc_to, self.nodes)[self._order]
+        self._order, self._keys = ordered(self.arrays)
         self._arcs_by_edge = np.argsort(self.arrays.arc_edge, kind="stable")
         self._first_of_edge = np.searchsorted(self.arrays.arc_edge[self._arcs_by_edge], np.arange(self.edges + 1))
         self.degree = degrees_of(self.arrays)
@@ -177,12 +175,6 @@ class Roads:
         return cut(edge, begin, end)
 
 
-def keys_of(starts: NDArray[np.int32], ends: NDArray[np.int32], nodes: int) -> NDArray[np.int64]:
-    """A number for each pair of nodes."""
-    keys: NDArray[np.int64] = starts.astype(np.int64) * (nodes + 1) + ends
-    return keys
-
-
 def unit_of(arrays: Arrays) -> str:
     for name, factor, values in (("duration", 1000.0, arrays.arc_seconds), ("distance", 100.0, arrays.arc_metres)):
         if (np.abs(arrays.arc_weight - factor * values) <= 1.01).all():
@@ -201,11 +193,19 @@ def copies_of(arrays: Arrays) -> dict[int, tuple[int, ...]]:
 
 def degrees_of(arrays: Arrays) -> NDArray[np.int64]:
     """How many edges meet at each node; the first figure is of none."""
-    edges = arrays.arc_edge.astype(np.int64)
-    span = int(edges.max()) + 1
-    nodes = np.concatenate((arrays.arc_from, arrays.arc_to)).astype(np.int64)
-    ends = np.unique(nodes * span + np.concatenate((edges, edges)))
-    return np.bincount(ends // span, minlength=len(arrays.node_osm) + 1)
+    low, high = np.minimum(arrays.arc_from, arrays.arc_to), np.maximum(arrays.arc_from, arrays.arc_to)
+    of_edge = np.zeros(len(arrays.edge_begin) - 1, dtype=np.int64)
+    of_edge[arrays.arc_edge] = np.arange(len(low))
+    one = of_edge[arrays.arc_edge]
+    # (most edges have two ends; copies of nodes, which turn restrictions make, give some more, and rings one)
+    is_odd = (low != low[one]) | (high != high[one]) | (low == high)
+    odd = np.zeros(len(of_edge), dtype=bool)
+    odd[arrays.arc_edge[is_odd]] = True
+    plain = of_edge[~odd & (np.bincount(arrays.arc_edge, minlength=len(of_edge)) > 0)]
+    rows = np.flatnonzero(odd[arrays.arc_edge])
+    ends = np.concatenate((low[rows], high[rows])).astype(np.int64)
+    more = np.unique(np.column_stack((ends, np.tile(arrays.arc_edge[rows], 2))), axis=0)[:, 0]
+    return np.bincount(np.concatenate((low[plain], high[plain], more)), minlength=len(arrays.node_osm) + 1)
 
 
 def keep_least(found: dict[int, tuple[int, int]], node: int, weight: int, arc: int) -> None:
@@ -246,35 +246,41 @@ def steps_of(points: "tuple[Point, ...] | list[Point]") -> list[float]:
 
 
 class Pieces:
-    """All lines in pieces of at most PIECE metres, and a tree of their middles."""
+    """All lines in pieces of at most PIECE metres, and a tree of their middles. A piece is a part of the step between two points."""
 
     def __init__(self, arrays: Arrays) -> None:
         from scipy.spatial import KDTree
 
-        points = arrays.points.astype(np.float64)
-        is_step = np.ones(len(points), dtype=bool)
-        is_step[arrays.edge_begin[1:] - 1] = False
-        begins = np.flatnonzero(is_step)
-        counts_of_edges = np.diff(arrays.edge_begin) - 1
-        edge = np.repeat(np.arange(len(counts_of_edges), dtype=np.int32), counts_of_edges)
-        steps = points[begins + 1] - points[begins]
-        middle = (points[begins + 1, 1] / 2 + points[begins, 1] / 2) / UNITS
-        metres = METRES_OF_UNIT * np.hypot(steps[:, 0] * np.cos(np.radians(middle)), steps[:, 1])
-        along = np.cumsum(metres) - metres
-        along -= np.repeat(along[np.cumsum(counts_of_edges) - counts_of_edges], counts_of_edges)
-        count = np.maximum(1, np.ceil(metres / PIECE)).astype(np.int64)
-        of_step = np.repeat(np.arange(len(begins)), count)
-        part = np.arange(len(of_step)) - np.repeat(np.cumsum(count) - count, count)
-        shares = count[of_step].astype(np.float64)
-        self.edge: NDArray[np.int32] = edge[of_step]
-        self.step: Floats = steps[of_step] / shares[:, None] / UNITS
-        self.begin: Floats = points[begins][of_step] / UNITS + self.step * part[:, None]
-        self.metres: Floats = metres[of_step] / shares
-        self.along: Floats = along[of_step] + self.metres * part
-        self.whole: Floats = np.bincount(edge, weights=metres, minlength=len(counts_of_edges)).astype(np.float64)
-        middles = self.begin + self.step / 2
+        self.points, self.edge_begin = arrays.points, arrays.edge_begin
+        is_step = np.ones(len(self.points), dtype=bool)
+        is_step[self.edge_begin[1:] - 1] = False
+        steps = np.flatnonzero(is_step)
+        count = self._counts(*self._lines(steps))
+        self.step: NDArray[np.int32] = np.repeat(steps, count).astype(np.int32)
+        part = np.arange(len(self.step)) - np.repeat(np.cumsum(count) - count, count)
+        self.part: NDArray[np.int32] = part.astype(np.int32)
+        begin, line, share = self._parts(slice(None))
+        middles = begin + line * (share / 2)[:, None]
         self._tree: Any = KDTree(on_sphere(middles[:, 0], middles[:, 1]), balanced_tree=False, compact_nodes=False)
-        self._count, self._edges = len(of_step), len(counts_of_edges)
+        self._count, self._edges = len(self.step), len(self.edge_begin) - 1
+
+    def _lines(self, steps: Any) -> tuple[Floats, Floats]:
+        """The first points of steps, and the ways to their second ones, in degrees."""
+        begin = self.points[steps] / UNITS
+        return begin, self.points[steps + 1] / UNITS - begin
+
+    @staticmethod
+    def _counts(begin: Floats, line: Floats) -> NDArray[np.int64]:
+        """How many pieces steps are cut into."""
+        metres = METRES_OF_DEGREE * np.hypot(line[:, 0] * np.cos(np.radians(begin[:, 1] + line[:, 1] / 2)), line[:, 1])
+        found: NDArray[np.int64] = np.maximum(1, np.ceil(metres / PIECE)).astype(np.int64)
+        return found
+
+    def _parts(self, rows: Any) -> tuple[Floats, Floats, Floats]:
+        """The first points of pieces, the ways of their steps, and their shares in those."""
+        begin, line = self._lines(self.step[rows])
+        share: Floats = 1.0 / self._counts(begin, line)
+        return begin + line * (self.part[rows] * share)[:, None], line, share
 
     def nearest(self, place: Point, count: int) -> list[tuple[int, float, Point, float]]:
         """The `count` nearest edges: edge, fraction along it, the point there, and the metres to it."""
@@ -282,19 +288,22 @@ class Pieces:
         reach = self._reach(centre, min(count, self._edges))
         near = np.array(self._tree.query_ball_point(centre, reach + (PIECE / 2 + 1) / EARTH_RADIUS))
         shrink = np.array([math.cos(math.radians(place[1])), 1.0]) * METRES_OF_DEGREE
-        offset = self.begin[near] - place
+        begins, lines, shares = self._parts(near)
+        ways = lines * shares[:, None]
+        offset = begins - place
         offset[:, 0] -= 360 * np.round(offset[:, 0] / 360)
-        begin, step = offset * shrink, self.step[near] * shrink
+        begin, step = offset * shrink, ways * shrink
         squares = (step * step).sum(axis=1)
         part = np.clip(-(begin * step).sum(axis=1) / np.where(squares > 0, squares, 1), 0, 1)
         metres = np.hypot(*(begin + step * part[:, None]).T)
+        edges = np.searchsorted(self.edge_begin, self.step[near], side="right") - 1
         found: dict[int, tuple[int, float, Point, float]] = {}
-        for row in np.lexsort((self.edge[near], np.round(metres, 6))):
-            edge = int(self.edge[near[row]])
+        for row in np.lexsort((edges, np.round(metres, 6))).tolist():
+            edge = int(edges[row])
             if edge not in found and len(found) < count:
-                point = self.begin[near[row]] + self.step[near[row]] * part[row]
-                fraction = self._fraction(int(near[row]), float(part[row]))
-                found[edge] = edge, fraction, (float(point[0]), float(point[1])), float(metres[row])
+                lon, lat = (begins[row] + ways[row] * part[row]).tolist()
+                passed = (float(self.part[near[row]]) + float(part[row])) * float(shares[row])
+                found[edge] = edge, self._fraction(edge, int(self.step[near[row]]), passed), (lon, lat), float(metres[row])
         return list(found.values())
 
     def _reach(self, centre: Floats, count: int) -> float:
@@ -304,14 +313,16 @@ class Pieces:
         pieces = min(self._count, 4 * count)
         while True:
             chords, rows = self._tree.query(centre, k=np.arange(1, pieces + 1))
-            _, first = np.unique(self.edge[rows], return_index=True)
+            _, first = np.unique(np.searchsorted(self.edge_begin, self.step[rows], side="right"), return_index=True)
             if len(first) >= count or pieces == self._count:
                 return float(chords[np.sort(first)[:count][-1]])
             pieces = min(self._count, 4 * pieces)
 
-    def _fraction(self, row: int, part: float) -> float:
-        """How far along its edge a point of a piece is; 0 or 1 within AT_END metres of its ends."""
-        whole, along = float(self.whole[self.edge[row]]), float(self.along[row] + part * self.metres[row])
+    def _fraction(self, edge: int, step: int, part: float) -> float:
+        """How far along its edge a point is that is so far along a step; 0 or 1 within AT_END metres of its ends."""
+        begin, end = int(self.edge_begin[edge]), int(self.edge_begin[edge + 1])
+        metres = steps_of([(lon / UNITS, lat / UNITS) for lon, lat in self.points[begin:end].tolist()])
+        whole, along = sum(metres), sum(metres[: step - begin]) + part * metres[step - begin]
         if along <= AT_END or whole <= 2 * AT_END:
             return 0.0
         return 1.0 if along >= whole - AT_END else along / whole

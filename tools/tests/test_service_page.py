@@ -221,15 +221,14 @@ class KeyboardTests(BrowserCase):
     def test_a_route_by_keys_alone(self):
         self.open()
         self.tab("map")
-        for _ in range(5):
-            self.browser.press("ArrowDown")
+        self.browser.press("ArrowDown")
         self.browser.press("Enter")
         self.browser.press("+")
         self.browser.press("-")
         for _ in range(2):
             self.browser.press("ArrowLeft")
         self.browser.press("Enter")
-        self.browser.until("document.querySelectorAll('#steps .text').length > 1")
+        self.steps("Start on High Street", "Arrive at the destination")
         before = self.browser.value("location.hash")
         self.keep("keys")
         self.browser.press("Tab")

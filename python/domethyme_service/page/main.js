@@ -98,6 +98,7 @@ async function ask() {
 function show(found) {
   say("");
   route.set(found, places.all);
+  roads.without = new Set(route.legs.flat().map((step) => step.name));
   if (!found) {
     panel.clear();
     return;
@@ -110,6 +111,7 @@ function show(found) {
 function refuse(error) {
   const { number, text } = fault(error);
   route.set(null, places.all);
+  roads.without = new Set();
   panel.clear();
   say(text(number === undefined ? undefined : places.called(number)));
 }

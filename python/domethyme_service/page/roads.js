@@ -8,11 +8,12 @@ const NAMES_FROM = 14.3, HOLLOW = 3.4, EDGES = 2.4;
 
 export class Roads {
   constructor(canvas, service, view) {
-    Object.assign(this, { canvas, service, view, tiles: new Map(), asked: 0, waiting: [] });
+    Object.assign(this, { canvas, service, view, tiles: new Map(), asked: 0, waiting: [], without: new Set() });
     this.pen = canvas.getContext("2d");
     matchMedia("(prefers-color-scheme: dark)").addEventListener("change", () => { this.colours = null; view.soon(); });
   }
 
+  // `without` are names that aren't written, since the route has them.
   begin(about) { this.about = about; }
 
   // The colours, which the style sheet has.
@@ -124,6 +125,7 @@ export class Roads {
     for (const { tile, data } of drawn) {
       const { scale, left, top } = this.frame(tile);
       for (const { name, points } of data.named) {
+        if (this.without.has(name)) continue;
         const width = pen.measureText(name).width + 12;
         const at = roomFor(points.map(([x, y]) => [x * scale + left, y * scale + top]), width);
         if (!at || last.has(name) && Math.hypot(at[0] - last.get(name)[0], at[1] - last.get(name)[1]) < 260) continue;

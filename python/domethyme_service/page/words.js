@@ -4,6 +4,7 @@ export const far = (metres) => metres < 995 ? `${metres < 95 ? Math.round(metres
   : `${(metres / 1000).toFixed(metres < 99500 ? 1 : 0)} km`;
 
 export function long(seconds) {
+  if (seconds < 30) return "< 1 min";
   const minutes = Math.max(1, Math.round(seconds / 60));
   return minutes < 60 ? `${minutes} min` : `${Math.floor(minutes / 60)} h ${minutes % 60} min`;
 }
