@@ -24,7 +24,8 @@ METRES_OF_DEGREE = EARTH_RADIUS * math.pi / 180
 AT_END = 0.005
 NONE = -1
 KEPT = 1 << 15
-SAID = [TEXTS.index(name) for name in ("name", "ref", "junction", "destination")]
+NAME, JUNCTION = TEXTS.index("name"), TEXTS.index("junction")
+ROUND = ("roundabout", "circular")
 
 
 class Arc(NamedTuple):
@@ -36,9 +37,6 @@ class Arc(NamedTuple):
     seconds: float
     metres: float
     name: str
-    ref: str
-    junction: str
-    destination: str
     edge: int
     is_along: bool
 
@@ -86,6 +84,7 @@ class Roads:
         self.texts = self.arrays.texts()
         self.unit = unit_of(self.arrays)
         self.copies = copies_of(self.arrays)
+        self._round = [number for number, text in enumerate(self.texts) if text in ROUND]
         self._order, self._keys = ordered(self.arrays)
         self._arcs_by_edge = np.argsort(self.arrays.arc_edge, kind="stable")
         self._first_of_edge = np.searchsorted(self.arrays.arc_edge[self._arcs_by_edge], np.arange(self.edges + 1))
@@ -117,12 +116,23 @@ class Roads:
         found: list[int] = np.where(self._keys[places] == wanted, self._order[places], NONE).tolist()
         return found
 
+    def is_round(self, arcs: NDArray[np.int64]) -> NDArray[np.bool_]:
+        """Which of the arcs go round a roundabout."""
+        found: NDArray[np.bool_] = np.isin(self.arrays.arc_texts[arcs, JUNCTION], self._round)
+        return found
+
+    def exits(self, node: int) -> int:
+        """How many roads lead away from a node of a roundabout."""
+        span = self.nodes + 1
+        begin, end = np.searchsorted(self._keys, [node * span, (node + 1) * span]).tolist()
+        arcs = self._order[begin:end]
+        return len(np.unique(self.arrays.arc_edge[arcs[~self.is_round(arcs)]]))
+
     def _arc(self, number: int) -> Arc:
         arrays = self.arrays
-        name, ref, junction, destination = (self.texts[arrays.arc_texts[number, kind]] for kind in SAID)
         return Arc(
             int(arrays.arc_from[number]), int(arrays.arc_to[number]), int(arrays.arc_weight[number]),
-            float(arrays.arc_seconds[number]), float(arrays.arc_metres[number]), name, ref, junction, destination,
+            float(arrays.arc_seconds[number]), float(arrays.arc_metres[number]), self.texts[arrays.arc_texts[number, NAME]],
             int(arrays.arc_edge[number]), bool(arrays.arc_along[number]),
         )
 
@@ -249,7 +259,7 @@ class Pieces:
     """All lines in pieces of at most PIECE metres, and a tree of their middles. A piece is a part of the step between two points."""
 
     def __init__(self, arrays: Arrays) -> None:
-        from scipy.spatial import KDTree
+        from scipy.spatial import cKDTree
 
         self.points, self.edge_begin = arrays.points, arrays.edge_begin
         is_step = np.ones(len(self.points), dtype=bool)
@@ -261,7 +271,7 @@ class Pieces:
         self.part: NDArray[np.int32] = part.astype(np.int32)
         begin, line, share = self._parts(slice(None))
         middles = begin + line * (share / 2)[:, None]
-        self._tree: Any = KDTree(on_sphere(middles[:, 0], middles[:, 1]), balanced_tree=False, compact_nodes=False)
+        self._tree: Any = cKDTree(on_sphere(middles[:, 0], middles[:, 1]), balanced_tree=False, compact_nodes=False)
         self._count, self._edges = len(self.step), len(self.edge_begin) - 1
 
     def _lines(self, steps: Any) -> tuple[Floats, Floats]:
@@ -284,29 +294,26 @@ class Pieces:
 
     def nearest(self, place: Point, count: int) -> list[tuple[int, float, Point, float]]:
         """The `count` nearest edges: edge, fraction along it, the point there, and the metres to it."""
-        centre = on_sphere(np.array([place[0]]), np.array([place[1]]))[0]
+        centre = centre_of(place)
         reach = self._reach(centre, min(count, self._edges))
-        near = np.array(self._tree.query_ball_point(centre, reach + (PIECE / 2 + 1) / EARTH_RADIUS))
-        shrink = np.array([math.cos(math.radians(place[1])), 1.0]) * METRES_OF_DEGREE
-        begins, lines, shares = self._parts(near)
-        ways = lines * shares[:, None]
-        offset = begins - place
-        offset[:, 0] -= 360 * np.round(offset[:, 0] / 360)
-        begin, step = offset * shrink, ways * shrink
-        squares = (step * step).sum(axis=1)
-        part = np.clip(-(begin * step).sum(axis=1) / np.where(squares > 0, squares, 1), 0, 1)
-        metres = np.hypot(*(begin + step * part[:, None]).T)
-        edges = np.searchsorted(self.edge_begin, self.step[near], side="right") - 1
+        near = self._tree.query_ball_point(centre, reach + (PIECE / 2 + 1) / EARTH_RADIUS)
+        steps = np.unique(self.step[near])
+        edges = (np.searchsorted(self.edge_begin, steps, side="right") - 1).tolist()
+        begins, ends = self.points[steps].tolist(), self.points[steps + 1].tolist()
+        shrink = math.cos(math.radians(place[1]))
+        rows = []
+        for step, edge, begin, end in zip(steps.tolist(), edges, begins, ends):
+            metres, part = from_step(place, begin, end, shrink)
+            rows.append((round(metres, 6), edge, step, part, metres, begin, end))
+        rows.sort()
         found: dict[int, tuple[int, float, Point, float]] = {}
-        for row in np.lexsort((edges, np.round(metres, 6))).tolist():
-            edge = int(edges[row])
+        for _, edge, step, part, metres, begin, end in rows:
             if edge not in found and len(found) < count:
-                lon, lat = (begins[row] + ways[row] * part[row]).tolist()
-                passed = (float(self.part[near[row]]) + float(part[row])) * float(shares[row])
-                found[edge] = edge, self._fraction(edge, int(self.step[near[row]]), passed), (lon, lat), float(metres[row])
+                point = tuple((low + part * (high - low)) / UNITS for low, high in zip(begin, end))
+                found[edge] = edge, self._fraction(edge, step, part), (point[0], point[1]), metres
         return list(found.values())
 
-    def _reach(self, centre: Floats, count: int) -> float:
+    def _reach(self, centre: tuple[float, float, float], count: int) -> float:
         """The chord to the middle of a piece within which there are middles of so many edges."""
         if count == 1:
             return float(self._tree.query(centre)[0])
@@ -326,3 +333,19 @@ class Pieces:
         if along <= AT_END or whole <= 2 * AT_END:
             return 0.0
         return 1.0 if along >= whole - AT_END else along / whole
+
+
+def centre_of(place: Point) -> tuple[float, float, float]:
+    """The point of a place on a sphere of radius 1."""
+    east, north = math.radians(place[0]), math.radians(place[1])
+    return math.cos(north) * math.cos(east), math.cos(north) * math.sin(east), math.sin(north)
+
+
+def from_step(place: Point, begin: list[int], end: list[int], shrink: float) -> tuple[float, float]:
+    """The metres from a place to a step between two points, in the plane at the place, and how far along the step that is."""
+    east, north = begin[0] / UNITS - place[0], begin[1] / UNITS - place[1]
+    x, y = (east - 360 * round(east / 360)) * shrink, north
+    step_x, step_y = (end[0] - begin[0]) / UNITS * shrink, (end[1] - begin[1]) / UNITS
+    square = step_x * step_x + step_y * step_y
+    part = min(1.0, max(0.0, -(x * step_x + y * step_y) / square)) if square else 0.0
+    return METRES_OF_DEGREE * math.hypot(x + part * step_x, y + part * step_y), part
