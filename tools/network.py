@@ -128,8 +128,8 @@ def nodes_of(arrays: "binary.Arrays") -> Nodes:
     from domethyme.binary import ENDS, NO_OSM, UNITS
 
     osm = [None if number == NO_OSM else number for number in arrays.node_osm.tolist()]
-    places = ((values / UNITS).tolist() for values in (arrays.node_lon, arrays.node_lat))
-    return Nodes(osm, *places, [ENDS[number] for number in arrays.node_ends.tolist()])
+    lon, lat = (arrays.node_lon / UNITS).tolist(), (arrays.node_lat / UNITS).tolist()
+    return Nodes(osm, lon, lat, [ENDS[place] for place in arrays.node_ends.tolist()])
 
 
 def arcs_in(arrays: "binary.Arrays") -> Iterator[Arc]:
@@ -137,10 +137,12 @@ def arcs_in(arrays: "binary.Arrays") -> Iterator[Arc]:
     from domethyme.binary import wkt_of as line_of
 
     texts = arrays.texts()
-    names = [name for name in arrays._fields if name.startswith("arc_") and name not in ("arc_texts", "arc_edge", "arc_along")]
-    for number, (figures, row) in enumerate(zip(zip(*(getattr(arrays, name).tolist() for name in names)), arrays.arc_texts)):
-        highway, name, *more = (texts[text] for text in row)
-        yield Arc(*figures, highway, name, line_of(arrays, number), *more)
+    ends = arrays.arc_from.tolist(), arrays.arc_to.tolist()
+    figures = arrays.arc_weight.tolist(), arrays.arc_seconds.tolist(), arrays.arc_metres.tolist(), arrays.arc_osm.tolist()
+    for place, ((start, end, weight, seconds, metres, osm), row) in enumerate(zip(zip(*ends, *figures), arrays.arc_texts)):
+        highway, name, ref, junction, destination, structure = (texts[text] for text in row)
+        line = line_of(arrays, place)
+        yield Arc(start, end, weight, seconds, metres, osm, highway, name, line, ref, junction, destination, structure)
 
 
 def read_node_table(path: StrPath) -> Nodes:
