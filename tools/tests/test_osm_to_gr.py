@@ -222,7 +222,7 @@ class Village(NetworkCase):
             self.write(f"village.{ending}", "old")
         self.convert()
         self.assertEqual(self.drawn(), arcs_by_time(DRAWING))
-        self.assertEqual(len(self.contents()), 3)
+        self.assertEqual(len(self.contents()), 4)
 
 
 class Forms(NetworkCase):
@@ -572,7 +572,7 @@ class BadInput(NetworkCase):
         before = self.contents()
         for out in ("", "folder/", "./"):
             said = self.run_tool("osm_to_gr", VILLAGE, out, status=2).stderr
-            self.assertIn("OUT is the beginning of the names of three files", said)
+            self.assertIn("OUT is the beginning of the names of four files", said)
         self.assertEqual(self.contents(), before)
 
     def test_a_full_disk_names_the_file(self):
