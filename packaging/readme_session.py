@@ -37,8 +37,8 @@ def steps(block: str) -> list[tuple[str, str]]:
 
 
 def comparable(text: str) -> str:
-    """A text without the number of links in the first line of a service, which differs from run to run."""
-    return re.sub(r"^(ready \d+) \d+", r"\1 LINKS", text, flags=re.M)
+    """A text without the number of links, which differs from run to run, and without line feeds at its end."""
+    return re.sub(r'^(ready \d+ |.*"links":)\d+', r"\1LINKS", text, flags=re.M).rstrip("\n")
 
 
 def run(script: str) -> subprocess.CompletedProcess[str]:
@@ -56,7 +56,7 @@ def session(text: str) -> int:
             sys.exit(f"the session ended behind {len(printed) - 1} of {len(shown)} commands")
         for (command, wanted), got in zip(shown, printed[:-1], strict=True):
             if comparable(wanted) != comparable(got):
-                sys.exit(f"$ {command}\nprinted:\n{got}README.md shows:\n{wanted}")
+                sys.exit(f"$ {command}\nprinted:\n{got}\nand the text shows:\n{wanted}")
             count += 1
     return count
 
