@@ -1,13 +1,17 @@
 #!/usr/bin/env python3
 """Tells what large networks cost: nodes, links, bytes, and time and memory of `prepare` and `route`, as docs/SCALE.md has it.
 
-    bench/scale.py [--order ORDER] [--workers K] [--pairs PAIRS] [--allocators] [--lists] [--batches] [SIDE ..]
-                                       sides of the square networks, by default 256 512 1000
+    bench/scale.py [--order ORDER] [--workers K] [--pairs PAIRS] [--compared PAIRS] [--allocators] [--lists] [--batches]
+                   [--folder FOLDER] [--usa] [NODES ..]        by default 264346 1000000, with --usa none
 
-The networks are those of make_network.py. Each is prepared once, by default by two workers and `--order depth`, and random
-pairs, by default 10,000, are answered once. Twenty of the answers are compared with the plain search in C++. The tables have
-seconds of the wall clock, of the processors in parentheses, and greatest resident sizes. What a pair takes is what the run
-takes beyond one with no pairs.
+The networks are those of make_sparse.cpp, with the figures of the challenge's: 2.43 arcs a node, most nodes on chains. Each is
+prepared once, by default by four workers and `--order depth`, and random pairs, by default 10,000, are answered once. The
+first answers, by default 20, are compared with the plain search in C++. The tables have seconds of the wall clock, of the
+processors in parentheses, and greatest resident sizes. What a pair takes is what the run takes beyond one with no pairs.
+
+--usa          also a network with the numbers of the challenge's largest, the whole of the USA: 23,947,347 nodes and
+               58,333,344 arcs, 1.3 GB of text. `prepare` takes some 20 GB for it
+--folder       where the networks and hierarchies lie, in place of a folder that is removed at the end
 
 --allocators   prepares each network once more with each of Debian's allocators that is here (libjemalloc2,
                libtcmalloc-minimal4, libmimalloc2.0), by LD_PRELOAD, and compares the answers' costs
@@ -34,10 +38,12 @@ sys.path.insert(0, str(pathlib.Path(__file__).resolve().parent.parent))
 from common import counted
 from common.answers import costs_in
 from common.hierarchy_file import links_in
-from common.networks import arcs_in, made
+from common.networks import arcs_in
 from common.program import PROGRAM, ROOT, Runs, need_compiled, need_program
 
-FEW = 20
+NODES = [264_346, 1_000_000]
+USA = (23_947_347, 58_333_344)
+SEED = 1
 BATCH = 100_000
 PARTS = [1_000, 10_000, 50_000]
 LIBRARIES = pathlib.Path("/usr/lib/x86_64-linux-gnu")
@@ -63,12 +69,13 @@ def seconds(value):
 
 
 class Network:
-    """A network of so many rows and columns, its pairs, and the file of its hierarchy."""
+    """A sparse network of so many nodes, its pairs, and the file of its hierarchy. With 0 arcs it has as many as it comes to."""
 
-    def __init__(self, side, pairs, runs):
-        self.nodes, self.count, self.runs, self.folder = side * side, pairs, runs, runs.folder
-        self.graph, self.pairs, self.file = (self.folder / f"{side}.{ending}" for ending in ["gr", "pairs", "rch"])
-        made(side, pairs, self.graph, self.pairs)
+    def __init__(self, maker, nodes, arcs, pairs, runs):
+        self.nodes, self.count, self.runs, self.folder = nodes, pairs, runs, runs.folder
+        self.graph, self.pairs, self.file = (self.folder / f"{nodes}.{ending}" for ending in ["gr", "pairs", "rch"])
+        words = [maker, nodes, arcs, SEED, self.graph, pairs, self.pairs]
+        subprocess.run([str(word) for word in words], check=True, stdout=subprocess.DEVNULL, stderr=subprocess.DEVNULL)
         self.arcs = arcs_in(self.graph)
 
     def prepared(self, options, library=None, file=None):
@@ -89,11 +96,11 @@ def text_of(folder, name, count, pairs):
     return path
 
 
-def compare(network, plain, answers):
+def compare(network, plain, count, answers):
     """Compares the first answers with those of the plain search, but for their nodes."""
     with open(network.pairs) as pairs:
         next(pairs)
-        few = text_of(network.folder, "few.pairs", FEW, pairs)
+        few = text_of(network.folder, "few.pairs", count, pairs)
     network.runs.taken([plain, network.graph, few], network.folder / "few.answers")
     with open(network.folder / "few.answers") as wanted, open(answers) as found:
         for line, ours in zip(wanted, found):
@@ -122,7 +129,7 @@ def sizes(networks, options, plain, folder):
         prepared = network.prepared(options)
         empty, answers = network.routed(os.devnull, nothing), folder / "answers"
         routed = network.routed(answers)
-        compare(network, plain, answers)
+        compare(network, plain, min(options.compared, options.pairs), answers)
         row(
             f"{network.nodes:,}",
             f"{network.arcs:,}",
@@ -212,17 +219,21 @@ def batches(network, folder):
 def main():
     parser = counted.parser(__doc__)
     parser.add_argument("--order", default="depth")
-    parser.add_argument("--workers", type=int, default=2)
+    parser.add_argument("--workers", type=int, default=4)
     parser.add_argument("--pairs", type=counted.positive, default=10_000)
-    for more in ["--allocators", "--lists", "--batches"]:
+    parser.add_argument("--compared", type=counted.positive, default=20, metavar="PAIRS")
+    for more in ["--allocators", "--lists", "--batches", "--usa"]:
         parser.add_argument(more, action="store_true")
-    parser.add_argument("sides", nargs="*", type=counted.positive, default=[256, 512, 1000], metavar="SIDE")
+    parser.add_argument("--folder", type=pathlib.Path)
+    parser.add_argument("nodes", nargs="*", type=counted.positive, metavar="NODES")
     options = parser.parse_args()
     need_program()
-    with tempfile.TemporaryDirectory() as folder:
+    with tempfile.TemporaryDirectory() if options.folder is None else contextlib.nullcontext(options.folder) as folder:
         folder = pathlib.Path(folder)
-        plain, runs = need_compiled(folder, "plain_search"), Runs(folder)
-        networks = [Network(side, options.pairs, runs) for side in options.sides]
+        folder.mkdir(parents=True, exist_ok=True)
+        plain, maker, runs = need_compiled(folder, "plain_search"), need_compiled(folder, "make_sparse"), Runs(folder)
+        asked = [(nodes, 0) for nodes in options.nodes or NODES * (not options.usa)] + [USA] * options.usa
+        networks = [Network(maker, nodes, arcs, options.pairs, runs) for nodes, arcs in asked]
         sizes(networks, options, plain, folder)
         if options.lists:
             lists(networks[0], folder)

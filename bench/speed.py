@@ -1,11 +1,12 @@
 #!/usr/bin/env python3
 """Measures all that docs/SPEED.md shows, in one go, and has its tables and pictures written (speed_page.py).
 
-    bench/speed.py [--nodes N ..] [--rounds ROUNDS] [--kept FOLDER] [--only WORD] [--no-python] [--page] [--anew]
+    bench/speed.py [--sparse N ..] [--nodes N ..] [--rounds ROUNDS] [--kept FOLDER] [--only WORD] [--no-python] [--page] [--anew]
 
-By default at 10,000, 65,536, 264,346 and 1,000,000 nodes, in 3 rounds, and kept in out/speed. The networks are those of
-make_network.py with --roads; beside them one without, of 264,196 nodes, that is hard to prepare and to ask, and the map of
-tools/fetch_extract, in which a node stands at least every 20 metres (left out where neither the folder nor Debian has it). In
+By default in 3 rounds, and kept in out/speed. The networks are sparse ones with the figures of the challenge's (make_sparse.cpp),
+of 264,346 and 1,000,000 nodes, and 8,000,000 in one round by `depth` alone; those of make_network.py with --roads, of 10,000,
+65,536, 264,346 and 1,000,000 nodes; one without --roads, of 264,196 nodes, that is hard to prepare and to ask; and the map of
+tools/fetch_extract, in which a node lies at least every 20 metres (left out where neither the folder nor Debian has it). In
 each round each job of each network has its turn once, so that a machine that is slow for a while is slow for all of them:
 
   prepare    by 1, 2 and 4 workers and each order; and a textbook hierarchy in C++ (hierarchy.cpp), without routes
@@ -53,12 +54,14 @@ from common.hierarchy_file import links_in
 from common.program import PROGRAM, ROOT, Runs, compiled, need_compiled, need_program
 
 NODES = [10_000, 65_536, 264_346, 1_000_000]
+SPARSE = [264_346, 1_000_000, 8_000_000]
 HARD = 514
 ORDERS = ["edges", "neighbours", "depth"]
 ROUTED = ["edges", "depth"]
 WORKERS = [1, 2, 4]
 RANDOM, NEAR, STEPS, FEW, CHECKED = 10_000, 2_000, 20, 20, 100
-MOST_ANSWERED, MOST_SLOW = 10_000, 264_346
+MOST_ANSWERED, MOST_SLOW, MOST_WHOLE = 10_000, 264_346, 1_000_000
+SEED = 1
 OTHERS, SLOW = ["igraph", "networkx", "pgrouting"], ["networkx", "pgrouting"]
 PYTHON = "/usr/bin/python3"
 HEADS = ["network", "job", "round", "seconds", "processor", "megabytes", "load", "when"]
@@ -88,6 +91,14 @@ class Network:
         if not self.graph.exists():
             near = ["--near", STEPS, NEAR, self.pairs("near")]
             networks.made(side, RANDOM, self.graph, self.pairs("random"), *near, *more)
+        return self.finished()
+
+    def sparse(self, program):
+        """Made by make_sparse.cpp, with as many arcs as it comes to."""
+        if not self.graph.exists():
+            near = [STEPS, NEAR, self.pairs("near")]
+            words = [program, self.count, 0, SEED, self.graph, RANDOM, self.pairs("random"), *near]
+            subprocess.run([str(word) for word in words], check=True, stdout=subprocess.DEVNULL, stderr=subprocess.DEVNULL)
         return self.finished()
 
     def of_map(self):
@@ -167,19 +178,21 @@ class Bench:
         self.done.add((network.name, job, number))
 
     def jobs(self, network):
-        """The jobs of a network by their names, each a function of the round. Those that others need come first."""
+        """The jobs of a network by their names, each a function of the round. Those that others need come first. A large
+        network has those of `depth`, and the searches that take no more than minutes."""
         jobs = {}
-        for order in ORDERS:
+        is_large = network.count > MOST_WHOLE
+        for order in ORDERS[-1:] if is_large else ORDERS:
             for workers in WORKERS:
                 jobs[f"prepare {order} {workers}"] = self.prepare(network, order, workers)
         jobs["textbook"] = self.textbook(network)
-        for order in ROUTED:
+        for order in ROUTED[-1:] if is_large else ROUTED:
             for kind in ["none", *network.kinds()]:
                 jobs[f"route {order} {kind}"] = self.route(network, order, kind)
                 jobs[f"route.cpp {order} {kind}"] = self.route_in_cpp(network, order, kind)
         for kind in network.kinds():
             for name in ["plain", *(["boost"] if self.boost else []), *self.others]:
-                if name not in SLOW or network.count <= MOST_SLOW:
+                if network.count <= (MOST_SLOW if name in SLOW else MOST_WHOLE) or name == "plain":
                     jobs[f"search {name} {kind}"] = self.search(network, name, kind)
         jobs["read"] = self.reading(network, [PROGRAM, "answer", network.graph, network.pairs("bad")], 5)
         jobs["read.cpp"] = self.reading(network, [self.programs["read_graph"], network.graph], 0)
@@ -316,6 +329,8 @@ def about():
 
 
 def all_networks(options, folder):
+    for count in options.sparse:
+        yield Network(f"sparse-{count}", folder, count).sparse(need_compiled(folder, "make_sparse"))
     for count in options.nodes:
         side = next(side for side in range(1, 10_000) if side * side >= count)
         yield Network(f"roads-{count}", folder, count).drawn(side, "--roads", "--nodes", count)
@@ -329,7 +344,8 @@ def all_networks(options, folder):
 
 def main():
     words = counted.parser(__doc__)
-    words.add_argument("--nodes", type=int, nargs="+", default=NODES)
+    words.add_argument("--sparse", type=int, nargs="*", default=SPARSE, help="sizes of the sparse networks, from 1,000 nodes")
+    words.add_argument("--nodes", type=int, nargs="*", default=NODES, help="sizes of the networks of make_network.py")
     words.add_argument("--rounds", type=counted.positive, default=3)
     words.add_argument("--kept", type=pathlib.Path, default=ROOT / "out/speed")
     words.add_argument("--only", default="")
@@ -355,7 +371,7 @@ def main():
                 tried = True
                 if (network.name, job, number) in bench.done:
                     continue
-                if number > 1 and any(name in job for name in SLOW):
+                if number > 1 and (network.count > MOST_WHOLE or any(name in job for name in SLOW)):
                     continue
                 print(f"round {number}, {network.name}: {job}", file=sys.stderr, flush=True)
                 bench.note(network, job, number, *shortest(go))

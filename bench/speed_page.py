@@ -68,14 +68,15 @@ class Measured:
     def names(self):
         return list(self.networks)
 
-    def roads(self):
-        return [name for name in self.networks if name.startswith("roads-")]
+    def shown(self):
+        """The networks of README and the picture: the sparse ones, or where none was measured those of make_network.py."""
+        return next(filter(None, ([name for name in self.networks if name.startswith(kind)] for kind in ["sparse-", "roads-"])), [])
 
     def nodes(self, network):
         return self.networks[network]["nodes"]
 
     def title(self, network):
-        told = {"hard": " (hard)", "map": " (map)"}.get(network, "")
+        told = {"sparse": " (sparse)", "hard": " (hard)", "map": " (map)"}.get(network.partition("-")[0], "")
         return f"{self.nodes(network):,}{told}"
 
 
@@ -201,7 +202,7 @@ def page(measured):
 def summary(measured):
     """What README.md shows."""
     rows = []
-    for name in measured.roads():
+    for name in measured.shown():
         prepared = measured.least(name, "prepare depth 4")
         cells = [f"{seconds(prepared)}, {megabytes(measured.memory(name, 'prepare depth 4'))}" if prepared else ""]
         cells.append(seconds(measured.least(name, "route depth none")))
@@ -224,7 +225,7 @@ def draw(measured, file):
 
     matplotlib.rcParams.update({"svg.fonttype": "none", "svg.hashsalt": "speed", "font.family": "sans-serif", "font.size": 9})
     figure, (left, right) = matplotlib.pyplot.subplots(1, 2, figsize=(9.5, 4))
-    names = measured.roads()
+    names = measured.shown()
 
     def line(axes, label, value, style):
         found = [(measured.nodes(name), value(name)) for name in names]

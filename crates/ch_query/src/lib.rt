@@ -6,10 +6,10 @@
 //! case of one start and one end of [`Search::between`], which takes several, each with a cost of its own. A query
 //! has two sides, one from the starts along links that rise, and one from the ends against links that fall. Both climb in
 //! rank, so one program serves them: [`upward::UpwardSteps`] are the links that a side climbs, by the rank of their feet,
-//! and [`layout::Layout`] has those of both; a [`frontier::Frontier`] holds what a side knows of the nodes, and settles the
-//! first open one, by length and rank; both are a [`half::Half`] of the query. [`turn::turn`] looks whether the sides meet
-//! there, and follows its links; and [`meet::meet`] lets the sides take turns, until neither has an open node that is no
-//! longer than the best meeting. [`descent::descent`] finds the links of the walk. A side is a search by marks, as the
+//! and [`layout::Layout`] has those of both, which never change and may be shared by several searches; a
+//! [`frontier::Frontier`] holds what a side knows of the nodes, and settles the first open one, by length and rank.
+//! [`turn::turn`] looks whether the sides meet there, and follows its links; and [`meet::meet`] lets the sides take turns,
+//! until neither has an open node that is no longer than the best meeting. [`descent::descent`] finds the links of the walk. A side is a search by marks, as the
 //! plain one of `ch_graph` is, and why two of them give the value is the law [`labels_are_right`]. A call costs what it
 //! touches: marks and queues are kept between calls.
 //!
@@ -24,7 +24,6 @@
 
 mod descent;
 mod frontier;
-mod half;
 mod kept_mark;
 mod label;
 mod laws;

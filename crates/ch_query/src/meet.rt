@@ -10,8 +10,8 @@ ghost use Rattle.ch_query.specs.Searching.{IsSearching, IsClimbing};
 ghost use Rattle.ch_query.specs.Meeting.{IsBestMeeting, cost_of};
 
 use crate::frontier::Frontier;
-use crate::half::Half;
 use crate::label::Label;
+use crate::layout::Layout;
 use crate::limit::is_short;
 use crate::meeting::Meeting;
 use crate::seed::Seed;
@@ -28,44 +28,45 @@ pub fn meet(
     starts: &[Seed],
     ends: &[Seed],
     bound: Cost,
-    rising: &mut Half,
-    falling: &mut Half,
+    layout: &Layout,
+    up: &mut Frontier,
+    down: &mut Frontier,
 ) -> Result<Option<Meeting>, AllocError>
-    requires ready { IsReady hierarchy.now rising.old falling.old }
+    requires ready { IsReady hierarchy.now layout.now up.old down.old }
     requires starts { AreSeeds hierarchy.now starts.now }
     requires ends { AreSeeds hierarchy.now ends.now }
     requires bound { IsSummable bound }
-    ensures ready { IsReady hierarchy.now rising.new falling.new }
-    ensures rises { OnOk result (IsSearching hierarchy.now Rise starts.now bound rising.new.frontier) }
-    ensures falls { OnOk result (IsSearching hierarchy.now Fall ends.now bound falling.new.frontier) }
-    ensures up_climbing { IfOk result (λ best. IsClimbing hierarchy.now Rise starts.now bound (cost_of best) rising.new.frontier) }
-    ensures down_climbing { IfOk result (λ best. IsClimbing hierarchy.now Fall ends.now bound (cost_of best) falling.new.frontier) }
-    ensures best { IfOk result (λ best. IsBestMeeting bound (costs_of rising.new.frontier) (costs_of falling.new.frontier) best) }
-    ensures up_stopped { IfOk result (λ best. IsStopped rising.new.frontier (cost_of best)) }
-    ensures down_stopped { IfOk result (λ best. IsStopped falling.new.frontier (cost_of best)) }
+    ensures ready { IsReady hierarchy.now layout.now up.new down.new }
+    ensures rises { OnOk result (IsSearching hierarchy.now Rise starts.now bound up.new) }
+    ensures falls { OnOk result (IsSearching hierarchy.now Fall ends.now bound down.new) }
+    ensures up_climbing { IfOk result (λ best. IsClimbing hierarchy.now Rise starts.now bound (cost_of best) up.new) }
+    ensures down_climbing { IfOk result (λ best. IsClimbing hierarchy.now Fall ends.now bound (cost_of best) down.new) }
+    ensures best { IfOk result (λ best. IsBestMeeting bound (costs_of up.new) (costs_of down.new) best) }
+    ensures up_stopped { IfOk result (λ best. IsStopped up.new (cost_of best)) }
+    ensures down_stopped { IfOk result (λ best. IsStopped down.new (cost_of best)) }
 {
-    begin(hierarchy, starts, bound, &mut rising.frontier)?;
-    begin(hierarchy, ends, bound, &mut falling.frontier)?;
+    begin(hierarchy, starts, bound, up)?;
+    begin(hierarchy, ends, bound, down)?;
     let mut best = None;
     'turns: loop {
         let rose = turn(
             hierarchy,
-            &rising.steps,
+            &layout.rising,
             Side::Rise,
             starts,
             bound,
-            &mut rising.frontier,
-            &falling.frontier,
+            up,
+            down,
             &mut best,
         )?;
         let fell = turn(
             hierarchy,
-            &falling.steps,
+            &layout.falling,
             Side::Fall,
             ends,
             bound,
-            &mut falling.frontier,
-            &rising.frontier,
+            down,
+            up,
             &mut best,
         )?;
         let goes_on = rose | fell;

@@ -13,7 +13,6 @@ ghost use Rattle.ch_query.specs.Seeds.{AreSeeds, IsValueBetween, IsWalkBetween, 
 
 use crate::descent::{WayBack, descent};
 use crate::frontier::Frontier;
-use crate::half::Half;
 use crate::layout::Layout;
 use crate::meet::meet;
 use crate::meeting::{Meeting, cost_of};
@@ -23,6 +22,8 @@ use ch_cost::Cost;
 use ch_graph::{Hierarchy, LinkId, rise_fall_joins};
 use std::alloc::{AllocError, Global};
 use std::marker::Model;
+use std::ops::Deref;
+use std::sync::Arc;
 
 /// A least walk of links.
 #[derive(Drop)]
@@ -52,24 +53,26 @@ pub struct FoundBetween {
 ///
 /// It keeps for either side the steps over the links that it climbs, apart from them the places of those links, and
 /// a mark for each node, all by rank: about 56 bytes a node and 16 a link, or 64 and 20 where there are 2^32 links or
-/// more. The marks, queues and lists of one call are kept for the next, which takes back what the one before it touched.
+/// more. The steps and places can be shared with other searches ([`Search::beside`]). The marks, queues and lists of one call are kept for the next, which takes back what the one before it touched.
 /// So after a call that ran out of memory it answers as a new one.
 #[derive(Drop)]
 pub struct Search<'a> {
     hierarchy: &'a Hierarchy,
-    rising: Half,
-    falling: Half,
+    layout: Arc<Layout>,
+    up: Frontier,
+    down: Frontier,
 }
 
 impl<'a> Model for Search<'a> {
     ghost use Rattle.ch_graph.specs.Hierarchy as hierarchies;
+    ghost use Rattle.std.specs.Arc.{arc_value};
     ghost use Rattle.ch_query.specs.Ready.{IsReady};
 
     ghost Value = { hierarchies.Hierarchy };
 
     ghost view = { λ s. s.hierarchy.now };
 
-    ghost invariant = { λ s. IsReady s.hierarchy.now s.rising s.falling };
+    ghost invariant = { λ s. IsReady s.hierarchy.now (arc_value s.layout) s.up s.down };
 }
 
 impl<'a> Search<'a> {
@@ -78,19 +81,34 @@ impl<'a> Search<'a> {
         ensures { IfOk result (λ search. search ≡ hierarchy.now) }
     {
         let nodes = hierarchy.nodes();
-        let Layout { rising, falling } = Layout::new(alloc, hierarchy)?;
+        let layout = Layout::new(alloc, hierarchy)?;
+        let layout = Arc::new(alloc, layout)?;
         let up = Frontier::new(alloc, nodes)?;
         let down = Frontier::new(alloc, nodes)?;
         Ok(Search {
             hierarchy,
-            rising: Half {
-                steps: rising,
-                frontier: up,
-            },
-            falling: Half {
-                steps: falling,
-                frontier: down,
-            },
+            layout,
+            up,
+            down,
+        })
+    }
+
+    /// Another search of the same hierarchy, for another caller.
+    ///
+    /// The two share the steps and the places of the links, which never change, so this one takes 48 bytes a node for its
+    /// marks and what its calls keep, and nothing for a link. Either may be dropped first.
+    pub fn beside(&self, alloc: Global) -> Result<Search<'a>, AllocError>
+        ensures { IfOk result (λ search. search ≡ self.now) }
+    {
+        let layout = Arc::try_clone(&self.layout)?;
+        let nodes = self.hierarchy.nodes();
+        let up = Frontier::new(alloc, nodes)?;
+        let down = Frontier::new(alloc, nodes)?;
+        Ok(Search {
+            hierarchy: self.hierarchy,
+            layout,
+            up,
+            down,
         })
     }
 
@@ -134,8 +152,9 @@ impl<'a> Search<'a> {
             &start,
             &end,
             bound,
-            &mut self.rising,
-            &mut self.falling,
+            self.layout.deref(),
+            &mut self.up,
+            &mut self.down,
         )?;
         let Some(FoundBetween { cost, links, .. }) = found else {
             return Ok(None);
@@ -160,8 +179,9 @@ impl<'a> Search<'a> {
             &start,
             &end,
             bound,
-            &mut self.rising,
-            &mut self.falling,
+            self.layout.deref(),
+            &mut self.up,
+            &mut self.down,
         )
     }
 
@@ -195,8 +215,9 @@ impl<'a> Search<'a> {
             starts,
             ends,
             limit,
-            &mut self.rising,
-            &mut self.falling,
+            self.layout.deref(),
+            &mut self.up,
+            &mut self.down,
         )
     }
 
@@ -218,8 +239,9 @@ impl<'a> Search<'a> {
             starts,
             ends,
             most,
-            &mut self.rising,
-            &mut self.falling,
+            self.layout.deref(),
+            &mut self.up,
+            &mut self.down,
         )
     }
 }
@@ -243,17 +265,18 @@ fn least_cost(
     starts: &[Seed],
     ends: &[Seed],
     bound: Cost,
-    rising: &mut Half,
-    falling: &mut Half,
+    layout: &Layout,
+    up: &mut Frontier,
+    down: &mut Frontier,
 ) -> Result<Option<Cost>, AllocError>
-    requires ready { IsReady hierarchy.now rising.old falling.old }
+    requires ready { IsReady hierarchy.now layout.now up.old down.old }
     requires starts { AreSeeds hierarchy.now starts.now }
     requires ends { AreSeeds hierarchy.now ends.now }
     requires bound { IsSummable bound }
-    ensures ready { IsReady hierarchy.now rising.new falling.new }
+    ensures ready { IsReady hierarchy.now layout.now up.new down.new }
     ensures value { IfOk result (IsValueBetween hierarchy.now starts.now ends.now bound) }
 {
-    let best = meet(hierarchy, starts, ends, bound, rising, falling)?;
+    let best = meet(hierarchy, starts, ends, bound, layout, up, down)?;
     Ok(cost_of(best))
 }
 
@@ -263,22 +286,23 @@ fn least_walk(
     starts: &[Seed],
     ends: &[Seed],
     bound: Cost,
-    rising: &mut Half,
-    falling: &mut Half,
+    layout: &Layout,
+    up: &mut Frontier,
+    down: &mut Frontier,
 ) -> Result<Option<FoundBetween>, AllocError>
-    requires ready { IsReady hierarchy.now rising.old falling.old }
+    requires ready { IsReady hierarchy.now layout.now up.old down.old }
     requires starts { AreSeeds hierarchy.now starts.now }
     requires ends { AreSeeds hierarchy.now ends.now }
     requires bound { IsSummable bound }
-    ensures ready { IsReady hierarchy.now rising.new falling.new }
+    ensures ready { IsReady hierarchy.now layout.now up.new down.new }
     ensures value { IfOk result (λ found. IsValueBetween hierarchy.now starts.now ends.now bound (option_map (λ f. f.cost) found)) }
     ensures walk { IfOk result (λ found. IfSome found (λ f. IsWalkBetween hierarchy.now starts.now ends.now f.start f.end f.links.items f.cost)) }
 {
-    let best = meet(hierarchy, starts, ends, bound, rising, falling)?;
+    let best = meet(hierarchy, starts, ends, bound, layout, up, down)?;
     let Some(meeting) = best else {
         return Ok(None);
     };
-    let found = walk_over(hierarchy, starts, ends, bound, rising, falling, meeting)?;
+    let found = walk_over(hierarchy, starts, ends, bound, layout, up, down, meeting)?;
     Ok(Some(found))
 }
 
@@ -288,43 +312,44 @@ fn walk_over(
     starts: &[Seed],
     ends: &[Seed],
     bound: Cost,
-    rising: &Half,
-    falling: &Half,
+    layout: &Layout,
+    up: &Frontier,
+    down: &Frontier,
     meeting: Meeting,
 ) -> Result<FoundBetween, AllocError>
-    requires ready { IsReady hierarchy.now rising.now falling.now }
+    requires ready { IsReady hierarchy.now layout.now up.now down.now }
     requires starts { AreSeeds hierarchy.now starts.now }
     requires ends { AreSeeds hierarchy.now ends.now }
-    requires rises { IsSearching hierarchy.now Rise starts.now bound rising.now.frontier }
-    requires falls { IsSearching hierarchy.now Fall ends.now bound falling.now.frontier }
-    requires meets { Meets bound (costs_of rising.now.frontier) (costs_of falling.now.frontier) meeting.rank meeting.cost }
+    requires rises { IsSearching hierarchy.now Rise starts.now bound up.now }
+    requires falls { IsSearching hierarchy.now Fall ends.now bound down.now }
+    requires meets { Meets bound (costs_of up.now) (costs_of down.now) meeting.rank meeting.cost }
     ensures cost { IfOk result (λ f. f.cost ≡ meeting.cost) }
     ensures walk { IfOk result (λ f. IsWalkBetween hierarchy.now starts.now ends.now f.start f.end f.links.items meeting.cost) }
 {
     rise_fall_joins();
-    let alloc = *rising.steps.steps.allocator();
+    let alloc = *layout.rising.steps.allocator();
     let WayBack {
         mut links,
         seed: start,
     } = descent(
         alloc,
         hierarchy,
-        &rising.steps,
+        &layout.rising,
         Side::Rise,
         starts,
         bound,
-        &rising.frontier,
+        up,
         meeting.rank,
     )?;
     links.reverse();
     let fallen = descent(
         alloc,
         hierarchy,
-        &falling.steps,
+        &layout.falling,
         Side::Fall,
         ends,
         bound,
-        &falling.frontier,
+        down,
         meeting.rank,
     )?;
     links.extend_from_slice(&fallen.links)?;

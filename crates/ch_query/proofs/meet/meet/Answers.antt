@@ -40,9 +40,9 @@ returns-then-not-goes_on-clause-up_climbing c = climbing-less c.args.hierarchy.n
 stopped : (c : goal.Then-not-goes_on) → IsStopped c.turn.new.here (cost_of c.turn-in-turns.new.best) × IsStopped c.turn-in-turns.new.here (cost_of c.turn-in-turns.new.best)
 stopped c =
     let both = neither c.in_ok-rose.rose c.in_ok-fell.fell c.if-not-goes_on.true in
-    let rose = not-turned c.in_ok-rose.rose c.turns.rising.frontier c.turn.new.here (cost_of c.turns.best) (cost_of c.turn.new.best) both.0 c.in_ok-rose.ensures.turned in
-    let fell = not-turned c.in_ok-fell.fell c.turns.falling.frontier c.turn-in-turns.new.here (cost_of c.turn.new.best) (cost_of c.turn-in-turns.new.best) both.1 c.in_ok-fell.ensures.turned in
-    both-stopped c.turns.rising.frontier c.turn.new.here c.turns.falling.frontier c.turn-in-turns.new.here (cost_of c.turns.best) (cost_of c.turn.new.best) (cost_of c.turn-in-turns.new.best) rose fell
+    let rose = not-turned c.in_ok-rose.rose c.turns.up c.turn.new.here (cost_of c.turns.best) (cost_of c.turn.new.best) both.0 c.in_ok-rose.ensures.turned in
+    let fell = not-turned c.in_ok-fell.fell c.turns.down c.turn-in-turns.new.here (cost_of c.turn.new.best) (cost_of c.turn-in-turns.new.best) both.1 c.in_ok-fell.ensures.turned in
+    both-stopped c.turns.up c.turn.new.here c.turns.down c.turn-in-turns.new.here (cost_of c.turns.best) (cost_of c.turn.new.best) (cost_of c.turn-in-turns.new.best) rose fell
 
 pub returns-then-not-goes_on-clause-best : goal.returns-then-not-goes_on-clause-best
 returns-then-not-goes_on-clause-best c =
@@ -58,8 +58,8 @@ returns-then-not-goes_on-clause-down_stopped c = (stopped c).1
 pub turns-smaller : goal.turns-smaller
 turns-smaller c =
     let one : 1 ≤ one_if c.in_ok-rose.rose + one_if c.in_ok-fell.fell = either-one c.in_ok-rose.rose c.in_ok-fell.fell c.if-not-goes_on.false in
-    let up : settled_count c.turn.new.here ≡ settled_count c.turns.rising.frontier + one_if c.in_ok-rose.rose = turned-count c.in_ok-rose.rose c.turns.rising.frontier c.turn.new.here (cost_of c.turns.best) (cost_of c.turn.new.best) c.in_ok-rose.ensures.turned in
-    let down : settled_count c.turn-in-turns.new.here ≡ settled_count c.turns.falling.frontier + one_if c.in_ok-fell.fell = turned-count c.in_ok-fell.fell c.turns.falling.frontier c.turn-in-turns.new.here (cost_of c.turn.new.best) (cost_of c.turn-in-turns.new.best) c.in_ok-fell.ensures.turned in
+    let up : settled_count c.turn.new.here ≡ settled_count c.turns.up + one_if c.in_ok-rose.rose = turned-count c.in_ok-rose.rose c.turns.up c.turn.new.here (cost_of c.turns.best) (cost_of c.turn.new.best) c.in_ok-rose.ensures.turned in
+    let down : settled_count c.turn-in-turns.new.here ≡ settled_count c.turns.down + one_if c.in_ok-fell.fell = turned-count c.in_ok-fell.fell c.turns.down c.turn-in-turns.new.here (cost_of c.turn.new.best) (cost_of c.turn-in-turns.new.best) c.in_ok-fell.ensures.turned in
     omega (arith, one, up, down, count-most c.turn.new.here, count-most c.turn-in-turns.new.here, c.in_ok-rose.ensures.searching.nodes, c.in_ok-fell.ensures.searching.nodes)
 
 pub turns-preserved : goal.turns-preserved

@@ -8,13 +8,13 @@ use Rattle.ch_query.proofs.meet.meet.Given as goal
 
 abbrev pub invariant-turns : goal.invariant-turns
 invariant-turns l = record {
-  ready : IsReady l.hierarchy l.rising l.falling;
-  rises : IsSearching l.hierarchy Rise l.starts l.bound l.rising.frontier;
-  falls : IsSearching l.hierarchy Fall l.ends l.bound l.falling.frontier;
-  up_climbing : IsClimbing l.hierarchy Rise l.starts l.bound (cost_of l.best) l.rising.frontier;
-  down_climbing : IsClimbing l.hierarchy Fall l.ends l.bound (cost_of l.best) l.falling.frontier;
-  best : IsBestSoFar l.bound l.rising.frontier l.falling.frontier l.best;
+  ready : IsReady l.hierarchy l.layout l.up l.down;
+  rises : IsSearching l.hierarchy Rise l.starts l.bound l.up;
+  falls : IsSearching l.hierarchy Fall l.ends l.bound l.down;
+  up_climbing : IsClimbing l.hierarchy Rise l.starts l.bound (cost_of l.best) l.up;
+  down_climbing : IsClimbing l.hierarchy Fall l.ends l.bound (cost_of l.best) l.down;
+  best : IsBestSoFar l.bound l.up l.down l.best;
 }
 
 abbrev pub decreases-turns : goal.decreases-turns
-decreases-turns l = (length l.hierarchy.ranks - settled_count l.rising.frontier) + (length l.hierarchy.ranks - settled_count l.falling.frontier)
+decreases-turns l = (length l.hierarchy.ranks - settled_count l.up) + (length l.hierarchy.ranks - settled_count l.down)
