@@ -2,17 +2,26 @@
 
     readme_session.py session README    runs the commands behind `$`, each of which has to print what is shown below it
     readme_session.py map README        runs the block of the map tools, with `tools/nearest` as domethyme-nearest
+    readme_session.py service SERVICE   starts domethyme-serve by /etc/default/domethyme-serve, as its unit does, but at any
+                                        port, runs the commands of docs/SERVICE.md, reloads it and ends it
 
 Runs in the folder where it is called, which needs README's `examples`. Status 1: something isn't as it is shown.
 """
 from __future__ import annotations
 
+import contextlib
 import pathlib
 import re
+import signal
 import subprocess
 import sys
+from collections.abc import Iterator
 
 MARK = "-- end of a command --"
+UNIT = """\
+. /etc/default/domethyme-serve
+exec domethyme-serve $HIERARCHY $OPTIONS --port 0
+"""
 
 
 def blocks(text: str, beginning: str) -> list[str]:
@@ -28,8 +37,8 @@ def steps(block: str) -> list[tuple[str, str]]:
 
 
 def comparable(text: str) -> str:
-    """A text without the number of links in the first line of a service, which differs from run to run."""
-    return re.sub(r"^(ready \d+) \d+", r"\1 LINKS", text, flags=re.M)
+    """A text without the number of links, which differs from run to run, and without line feeds at its end."""
+    return re.sub(r'^(ready \d+ |.*"links":)\d+', r"\1LINKS", text, flags=re.M).rstrip("\n")
 
 
 def run(script: str) -> subprocess.CompletedProcess[str]:
@@ -47,7 +56,7 @@ def session(text: str) -> int:
             sys.exit(f"the session ended behind {len(printed) - 1} of {len(shown)} commands")
         for (command, wanted), got in zip(shown, printed[:-1], strict=True):
             if comparable(wanted) != comparable(got):
-                sys.exit(f"$ {command}\nprinted:\n{got}README.md shows:\n{wanted}")
+                sys.exit(f"$ {command}\nprinted:\n{got}\nand the text shows:\n{wanted}")
             count += 1
     return count
 
@@ -68,11 +77,43 @@ def map_tools(text: str) -> int:
     return len(commands)
 
 
+@contextlib.contextmanager
+def serving() -> Iterator[tuple[subprocess.Popen[str], str]]:
+    """A service as the unit starts it, and its address. One that doesn't start is an error."""
+    with subprocess.Popen(["sh", "-c", UNIT], stderr=subprocess.PIPE, text=True) as process:
+        try:
+            line = next_line(process)
+            found = re.search(r"listens at http://(127\.0\.0\.1:\d+)/", line)
+            if found is None:
+                sys.exit(f"the service printed {line!r}")
+            yield process, found[1]
+        finally:
+            process.kill()
+
+
+def next_line(process: subprocess.Popen[str]) -> str:
+    assert process.stderr is not None
+    return process.stderr.readline()
+
+
+def service(text: str) -> int:
+    """Runs the commands of the text beside a service, which then is reloaded and ended."""
+    with serving() as (process, address):
+        count = session(text.replace("127.0.0.1:5000", address))
+        process.send_signal(signal.SIGHUP)
+        if "reloaded" not in (line := next_line(process)):
+            sys.exit(f"at SIGHUP the service printed {line!r}")
+        process.terminate()
+        if (status := process.wait(60)) != 0:
+            sys.exit(f"at SIGTERM the service ended with status {status}")
+    return count
+
+
 def main() -> None:
     """Runs what is asked for. A README without it is an error."""
     kind, readme = sys.argv[1:]
     text = pathlib.Path(readme).read_text(encoding="utf-8")
-    count = {"session": session, "map": map_tools}[kind](text)
+    count = {"session": session, "map": map_tools, "service": service}[kind](text)
     if count == 0:
         sys.exit(f"{readme} shows no {kind}")
     print(f"{count} commands of the {kind}")

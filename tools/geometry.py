@@ -9,6 +9,8 @@ on a sphere: x goes from 0 at 180 degrees west to 1 at 180 degrees east, and y f
     box_of(points)               the Box around points; `.grown(margin)`, `.shaped(least, most)`, `.meets(box)`
     View(box, width)             a picture of a box: `.height`, `.pixels(points)`, `.metres_of_a_pixel`
     path_of(pixels)              a line as the text of an SVG path, to the tenth of a pixel
+    arrows(pixels, every)        where arrows stand along a line, and which way they point
+    share_of(places, share)      the place at which a share of a line's way, from 0 to 1, is behind
     differences(places)          a line as whole numbers, for pages: millionths of a degree, each from the one before
     bar_for(metres)              the greatest length of a scale bar that is at most that: 1, 2 or 5 and zeros
 """
@@ -72,6 +74,33 @@ def pieces_of(line: Line, later: Edges, most: int) -> list[Piece]:
         starts, ends = zip(*edges)
         pieces.append((depth, [starts[0], *ends]))
     return pieces
+
+
+def arrows(pixels: Line, every: float) -> list[tuple[Point, Point]]:
+    """The points along a line at half of `every` pixels, and then each `every`, with the direction there, of length 1."""
+    found, due = [], every / 2
+    for (x, y), (next_x, next_y) in itertools.pairwise(pixels):
+        length = math.hypot(next_x - x, next_y - y)
+        while due < length:
+            east, south = (next_x - x) / length, (next_y - y) / length
+            found.append(((x + due * east, y + due * south), (east, south)))
+            due += every
+        due -= length
+    return found
+
+
+def share_of(places: Line, share: float) -> Point:
+    """The place at which a share of the line's way, from 0 to 1, is behind. For lines that are short beside the earth."""
+    narrow = math.cos(math.radians(places[0][1]))
+    steps = itertools.pairwise(places)
+    lengths = [math.hypot((end[0] - start[0]) * narrow, end[1] - start[1]) for start, end in steps]
+    left = share * sum(lengths)
+    for (start, end), length in zip(itertools.pairwise(places), lengths):
+        if left <= length > 0:
+            part = left / length
+            return start[0] + (end[0] - start[0]) * part, start[1] + (end[1] - start[1]) * part
+        left -= length
+    return places[-1]
 
 
 def undirected(edge: tuple[Point, Point]) -> tuple[Point, Point]:

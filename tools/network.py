@@ -12,9 +12,10 @@ A network is files with one beginning of their names, NETWORK:
 
     NETWORK.npz         both tables in binary, which is read in their place where it is no older
 
-The columns ends, ref, junction, destination and structure may be missing, and are empty then.
+Beside each table lie NAME.csvt and NAME.prj, by which GDAL and QGIS know the kinds of its columns and that it has degrees of
+WGS 84; no tool here reads them. The columns ends, ref, junction, destination and structure may be missing, and are empty then.
 
-    Network(prefix)              `.graph`, `.nodes`, `.arcs`: the paths of its files
+    Network(prefix)              `.graph`, `.nodes`, `.arcs`: the paths of its files; `.forms`: those for GDAL and their texts
     read_nodes(path)             Nodes(osm, lon, lat, ends): lists, node n at n - 1; of a .nodes.csv or a DIMACS .co file
     nodes_file(word)             the path that a tool's word NETWORK means to read_nodes: NETWORK.nodes.csv, or a .co file
     write_nodes(file, nodes)     the rows of .nodes.csv
@@ -46,6 +47,13 @@ NODE_COLUMNS = ("node", "osm", "lon", "lat")
 ARC_COLUMNS = ("from", "to", "weight", "seconds", "metres", "osm", "highway", "name", "WKT")
 ALL_NODE_COLUMNS = (*NODE_COLUMNS, "ends")
 ALL_ARC_COLUMNS = (*ARC_COLUMNS[:-1], "ref", "junction", "destination", "structure", "WKT")
+# For GDAL: the kinds of the columns, and the system of coordinates.
+NODE_KINDS = ("Integer", "Integer64", "CoordX", "CoordY", "String")
+ARC_KINDS = ("Integer", "Integer", "Integer64", "Real", "Real", "Integer64", *["String"] * 6, "WKT")
+WGS_84 = (
+    'GEOGCS["WGS 84",DATUM["WGS_1984",SPHEROID["WGS 84",6378137,298.257223563]],PRIMEM["Greenwich",0],'
+    'UNIT["degree",0.0174532925199433],AUTHORITY["EPSG","4326"]]'
+)
 WRONG_ENDINGS = {
     ".co.gz": "is compressed: gunzip it, and name {0}.co",
     ".gr": "is a graph: name the network by the beginning of its files' names, {0}, or a file of coordinates, {0}.co",
@@ -64,6 +72,11 @@ class Network:
         name = os.fspath(prefix)
         self.graph, self.nodes, self.arcs = f"{name}.gr", f"{name}.nodes.csv", f"{name}.arcs.csv"
         self.binary = f"{name}.npz"
+        self.forms = {
+            f"{name}.{table}.{ending}": text
+            for table, kinds in (("nodes", NODE_KINDS), ("arcs", ARC_KINDS))
+            for ending, text in (("csvt", ",".join(f'"{kind}"' for kind in kinds)), ("prj", WGS_84))
+        }
 
 
 class Nodes(NamedTuple):

@@ -35,7 +35,7 @@ from .errors import (
     ProgramStopped,
     ReadWriteError,
 )
-from .graphs import Graph, prepare, write_graph
+from .graphs import Graph, prepare, unscaled, write_graph
 from .hierarchy import Hierarchy, Route
 from .keys import Keys
 from .program import find_program
@@ -67,6 +67,7 @@ __all__ = [
     "Routes",
     "find_program",
     "prepare",
+    "unscaled",
     "write_graph",
 ]
 

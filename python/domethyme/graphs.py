@@ -1,5 +1,6 @@
 """Graphs: written from arrays, tables of one's own keys, and prepared."""
 import contextlib
+import math
 import os
 import tempfile
 from collections.abc import Iterator
@@ -57,17 +58,20 @@ class Graph:
         numbered in the order in which the keys come first, sources before targets.
 
         scale   weights are numbers of any kind, which are multiplied by it and rounded: 1000 makes milliseconds of seconds.
-                Without it they have to be whole numbers.
+                Without it they have to be whole numbers. Lengths are in the scaled unit; `unscaled` divides them.
+
+        Raises ValueError where an end has no key, the three aren't as long as one another, or a weight isn't from 0 to
+        4294967295.
         """
         import numpy as np
 
-        from .keys import as_list, plain
+        from .keys import as_list, is_missing, plain
 
         starts, ends = ([plain(key) for key in as_list(side)] for side in (sources, targets))
         numbers: dict[Any, int] = {}
         for key in [*starts, *ends]:
             numbers.setdefault(key, len(numbers))
-        if None in numbers:
+        if any(map(is_missing, numbers)):
             raise ValueError("an arc has no key at an end")
         if scale is not None:
             weights = scaled(weights, scale)
@@ -78,14 +82,15 @@ class Graph:
     def of_frame(
         cls, frame: Any, source: str = "from", target: str = "to", weight: str = "weight", scale: float | None = None
     ) -> "Graph":
-        """The graph of a frame of pandas with a row for each arc, by the names of its columns; as `of_keys`."""
+        """The graph of a frame of pandas with a row for each arc, by the names of its columns; as `of_keys`. Raises KeyError
+        for a column that isn't there, and ValueError."""
         return cls.of_keys(frame[source], frame[target], frame[weight].to_numpy(), scale)
 
     def __repr__(self) -> str:
         return f"<Graph of {self.nodes} nodes and {len(self.weights)} arcs>"
 
     def write(self, path: StrPath) -> None:
-        """Writes the text of the graph. The file is whole; at an exception it is as it was before."""
+        """Writes the text of the graph. The file is whole; at an exception it is as it was before. Raises OSError."""
         import numpy as np
 
         arcs = np.column_stack([self.from_nodes + 1, self.to_nodes + 1, self.weights])
@@ -109,11 +114,30 @@ def scaled(weights: "ArrayLike", scale: float) -> "NDArray[np.int64]":
     return rounded
 
 
+def unscaled(lengths: Any, scale: float = 1) -> Any:
+    """Lengths as floats in the unit that weights had before `scale`: lengths / scale, and inf where there is no way.
+
+    `lengths` are what a Hierarchy returned: an int or None, an array, or a Series or DataFrame of pandas. The result is a
+    float, or is like the argument, of the same shape. Floats are exact up to 2^53.
+    """
+    if lengths is None:
+        return math.inf
+    floats = lengths / scale
+    if isinstance(floats, float):
+        return floats if lengths >= 0 else math.inf
+    floats[lengths < 0] = math.inf
+    return floats
+
+
 def write_graph(
     path: StrPath, from_nodes: "ArrayLike", to_nodes: "ArrayLike", weights: "ArrayLike", nodes: int | None = None
 ) -> None:
     """Writes the graph whose arc i leads from from_nodes[i] to to_nodes[i] and weighs weights[i], and which has `nodes`
-    nodes, or else those up to the greatest of an arc. The file is whole; at an exception it is as it was before."""
+    nodes, or else those up to the greatest of an arc. The file is whole; at an exception it is as it was before.
+
+    The arrays are of whole numbers and of shape (arcs,): nodes from 0 to 33554431, weights from 0 to 4294967295 in any one
+    unit. Who has keys, or weights that aren't whole, takes Graph.of_keys. Raises ValueError, and OSError for the file.
+    """
     Graph(from_nodes, to_nodes, weights, nodes).write(path)
 
 
@@ -124,14 +148,22 @@ def prepare(
     workers: int | None = None,
     seed: int | None = None,
     program: StrPath | None = None,
+    stint: int | None = None,
 ) -> Hierarchy:
-    """Makes the file of the hierarchy of a Graph, or of a graph's file, by `routecli prepare`, whose options order (edges,
-    neighbours, depth), workers (0 to 64) and seed are. Gives the Hierarchy. At an exception its file is as it was before.
+    """Makes the file of the hierarchy of a Graph, or of a graph's file, by `routecli prepare`. Returns the Hierarchy. At an
+    exception its file is as it was before.
 
-    Raises GraphError, OutOfMemory, ReadWriteError, ProgramNotFound, ProgramError.
+    order     edges, neighbours or depth: which nodes go first
+    workers   threads, 0 to 64; without it 4
+    seed      of the draws of nodes, 0 to 18446744073709551615; without it 1
+    stint     after how many nodes a worker takes the next order, from 1; without it none does
+    program   the path of `routecli`, else it is looked for (find_program)
+
+    Time and memory: some 20 s and 1.3 GB for a million nodes, by four workers. Raises GraphError, OutOfMemory,
+    ReadWriteError, ProgramNotFound, ProgramError.
     """
     found = find_program(program)
-    options = {"--order": order, "--workers": workers, "--seed": seed}
+    options = {"--order": order, "--workers": workers, "--seed": seed, "--stint": stint}
     words = [str(word) for name, value in options.items() if value is not None for word in (name, value)]
     if not isinstance(graph, Graph):
         need_readable(graph)

@@ -139,6 +139,14 @@ def plain(key: Any) -> Hashable:
     return found
 
 
+def is_missing(key: Any) -> bool:
+    """Whether a value stands for a missing key: None, NaN, or pandas' NaT and NA, none of which equals itself."""
+    try:
+        return key is None or bool(key != key)
+    except (TypeError, ValueError):
+        return True
+
+
 def as_list(values: Iterable[Hashable]) -> list[Hashable]:
     """The values as Python objects, of an array or anything else that can be iterated."""
     found: list[Hashable] = values.tolist() if hasattr(values, "tolist") else list(values)

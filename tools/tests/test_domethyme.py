@@ -107,6 +107,22 @@ class DomethymeTests(ToolCase):
                 for row in range(14, 1000, 16):
                     self.assertEqual(routes[row].tolist(), [3, 0, 1, 2])
 
+    def test_all_options_of_prepare(self):
+        options = {"order": "edges", "workers": 1, "seed": 7, "stint": 2}
+        self.assertEqual(self.prepared("options", *SQUARE, **options).length(3, 2), 13)
+        with self.assertRaisesRegex(domethyme.ProgramError, "--stint"):
+            self.prepared("options", *SQUARE, stint=0)
+
+    def test_all_that_is_public_has_a_docstring(self):
+        for name in domethyme.__all__:
+            found = getattr(domethyme, name)
+            if name == "NO_WAY":
+                continue
+            self.assertTrue(found.__doc__, name)
+            for member in vars(found) if isinstance(found, type) else ():
+                if not member.startswith("_") and callable(getattr(found, member)):
+                    self.assertTrue(getattr(found, member).__doc__, f"{name}.{member}")
+
     def test_arrays_that_cannot_be_meant(self):
         graph = self.folder / "square.gr"
         for wrong, says in [
@@ -247,6 +263,27 @@ class DomethymeTests(ToolCase):
         for weights in ([1.0, -1.0], [1.0, 5e6], [1.0, float("nan")]):
             with self.assertRaisesRegex(ValueError, "weights times 1000 have to be from 0"):
                 domethyme.Graph.of_keys(["a", "b"], ["b", "c"], weights, scale=1000)
+
+        graph = domethyme.Graph.of_keys(["a", "b"], ["b", "c"], [0.5, 2.0004], scale=1000)
+        with graph.prepare(self.folder / "scaled.rch", program=serving_program()) as hierarchy:
+            lengths = [hierarchy.length("a", "c"), hierarchy.length("c", "a")]
+            self.assertEqual([domethyme.unscaled(length, 1000) for length in lengths], [2.5, float("inf")])
+            for by in ("serve", "sweeps"):
+                table = domethyme.unscaled(hierarchy.matrix(["a", "c"], by=by), 1000)
+                self.assertEqual(table.tolist(), [[0, 2.5], [float("inf"), 0]])
+            frame = domethyme.unscaled(hierarchy.matrix(pd.Series(["a", "c"])), 1000)
+            self.assertEqual(frame.loc["c"].to_dict(), {"a": float("inf"), "c": 0})
+            series = domethyme.unscaled(hierarchy.lengths(pd.DataFrame({"from": ["a", "c"], "to": ["b", "b"]}, index=[4, 5])))
+            self.assertEqual(series.to_dict(), {4: 500, 5: float("inf")})
+
+    def test_ends_without_a_key(self):
+        for missing in (None, float("nan"), pd.NaT, pd.NA, np.float64("nan")):
+            with self.subTest(missing=missing), self.assertRaisesRegex(ValueError, "an arc has no key at an end"):
+                domethyme.Graph.of_keys(["a", missing], ["b", "c"], [1, 2])
+        for column in (pd.Series([1, None]), pd.Series([1, None], dtype="Int64"), pd.Series(["a", None], dtype="category")):
+            frame = pd.DataFrame({"from": column, "to": column[::-1].to_numpy(), "weight": 1})
+            with self.subTest(dtype=column.dtype), self.assertRaisesRegex(ValueError, "an arc has no key at an end"):
+                domethyme.Graph.of_frame(frame)
 
     def test_frames_in_and_out(self):
         frame = pd.DataFrame({"from": ["a", "b", "a"], "to": ["b", "c", "c"], "weight": [3, 4, 9]})

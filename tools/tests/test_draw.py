@@ -89,6 +89,15 @@ class Picture(DrawCase):
         self.assertEqual(line.get("d"), "M261.8 280l119.1 0 119.1 0 238.2 0")
         self.assertEqual(line.get("stroke"), dot.get("fill"))
 
+    def test_arrows(self):
+        # 476.4 pixels long: at 65, 195, 325 and 455 pixels from the ring, of which the last one lies far enough from the dot.
+        arrows = self.picture_of(EAST).findall("./g[@clip-path]/path[@fill]")
+        self.assertEqual([path.get("d").count("Z") for path in arrows], [4])
+        self.assertTrue(arrows[0].get("d").startswith("M333.8 280.0L321.8 286.0L321.8 274.0Z"), arrows[0].get("d"))
+        back = self.picture_of(route("back", [[0.004, 0], [0, 0]])).find("./g[@clip-path]/path[@fill]")
+        self.assertTrue(back.get("d").startswith("M666.2 280.0L678.2 274.0L678.2 286.0Z"), back.get("d"))
+        self.assertEqual(self.picture_of(route("stay", [[0, 0], [0, 0]])).findall("./g[@clip-path]/path[@fill]"), [])
+
     def test_scale(self):
         # A pixel is 0.0083973 * 111195 / 1000 = 0.93374 m, so a fifth is 187 m, and 100 m are 107.1 pixels.
         picture = self.picture_of(EAST)
@@ -228,6 +237,7 @@ class Page(DrawCase):
         self.assertEqual(east["steps"], [["<High> Street", "222 m"], ["unnamed road", "222 m"]])
         self.assertEqual(east["pieces"], [[4.5, [0, 0, 1000, 0, 1000, 0, 2000, 0]]])
         self.assertEqual(east["ends"], [0, 0, 4000, 0])
+        self.assertEqual(east["names"], [["<High> Street", 1000, 0]])
         self.assertEqual((nowhere["figures"], nowhere["ends"], nowhere["pieces"]), ("no way", None, []))
         self.assertEqual(data["bounds"], [[0, 0], [0, 0.004]])
 
@@ -238,6 +248,23 @@ class Page(DrawCase):
         _, data = self.page_of(EAST, words=["--whole"])
         self.assertEqual([len(kind["lines"]) for kind in data["roads"]], [1, 1, 0, 1, 0])
         self.assertEqual(data["bounds"], [[0, 0], [0, 0.004]])
+
+    def test_names_of_streets_and_their_ways(self):
+        # 499.8 and 2499.6 of 3999.6 m along a line of 4000 millionths of a degree.
+        steps = [{"name": "A", "metres": 999.6}, {"name": "", "metres": 0}, {"name": "B", "metres": 3000}, {"name": "C", "metres": 0}]
+        _, data = self.page_of(route("x", [[0, 0], [0.001, 0], [0.004, 0]], metres=3999.6, steps=steps))
+        self.assertEqual(data["routes"][0]["names"], [["B", 2500, 0], ["A", 500, 0]])
+        ways = [["A", "1.00 km"], ["unnamed road", "0 m"], ["B", "3.00 km"], ["C", "0 m"]]
+        self.assertEqual(data["routes"][0]["steps"], ways)
+
+    def test_colours_for_dark_pages(self):
+        text, data = self.page_of(*[EAST] * 9)
+        self.assertEqual([each["colour"] for each in data["routes"]], [0, 1, 2, 3, 4, 5, 6, 7, 0])
+        self.assertEqual(data["roads"][0]["colour"], data["roads"][-1]["dark"])
+        found = re.findall(r"^\.colour-\d { --light: (#\w{6}); --dark: (#\w{6}); }$", text, re.M)
+        self.assertEqual(len(found), 8)
+        for colour in [dark for _, dark in found] + [road["dark"] for road in data["roads"]]:
+            self.assertGreaterEqual((luminance(colour) + 0.05) / (luminance("#1b1c1f") + 0.05), 3, colour)
 
     def test_nothing_is_asked_of_a_network(self):
         text, data = self.page_of(EAST)
@@ -400,6 +427,20 @@ class Geometry(ToolCase):
     def test_path(self):
         self.assertEqual(geometry.path_of([(1, 2), (1.04, 2), (3.5, -2.26)]), "M1 2l2.5 -4.3")
         self.assertEqual(geometry.path_of([(1, 2), (1, 2)]), "M1 2l0 0")
+
+    def test_arrows(self):
+        bent = [(0, 0), (10, 0), (10, 10)]
+        self.assertEqual(geometry.arrows(bent, 8), [((4, 0), (1, 0)), ((10, 2), (0, 1))])
+        self.assertEqual(geometry.arrows([(0, 0), (0, 0), (0, -3)], 2), [((0, -1), (0, -1))])
+        self.assertEqual(geometry.arrows([(0, 0), (0, 0)], 2), [])
+
+    def test_share(self):
+        bent = [(0, 0), (1, 0), (1, 0), (1, 3)]
+        for share, place in ((0, (0, 0)), (0.125, (0.5, 0)), (0.25, (1, 0)), (0.5, (1, 1)), (1, (1, 3))):
+            found = geometry.share_of(bent, share)
+            self.assertAlmostEqual(found[0], place[0])
+            self.assertAlmostEqual(found[1], place[1])
+        self.assertEqual(geometry.share_of([(5, 6), (5, 6)], 0.5), (5, 6))
 
     def test_differences(self):
         line = [(9.5, 47.1), (9.500001, 47.0999996), (9.4, 47.1)]

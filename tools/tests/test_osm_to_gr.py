@@ -222,11 +222,21 @@ class Village(NetworkCase):
             self.write(f"village.{ending}", "old")
         self.convert()
         self.assertEqual(self.drawn(), arcs_by_time(DRAWING))
-        self.assertEqual(len(self.contents()), 4)
+        self.assertEqual(len(self.contents()), 8)
+
+    def test_what_gdal_wants_to_know(self):
+        self.convert()
+        for table in ("nodes", "arcs"):
+            head = (self.folder / f"village.{table}.csv").read_text().partition("\n")[0].split(",")
+            kinds = dict(zip(head, (self.folder / f"village.{table}.csvt").read_text().strip().split(","), strict=True))
+            whole = {name for name, kind in kinds.items() if kind in ('"Integer"', '"Integer64"')}
+            self.assertEqual(whole, {"node", "osm"} if table == "nodes" else {"from", "to", "weight", "osm"})
+            self.assertEqual(kinds.get("WKT"), None if table == "nodes" else '"WKT"')
+            self.assertIn('AUTHORITY["EPSG","4326"]', (self.folder / f"village.{table}.prj").read_text())
 
 
 class Forms(NetworkCase):
-    """The village in other orders and formats gives the same three files."""
+    """The village in other orders and formats gives the same files."""
 
     def assert_the_same_network(self, source):
         self.convert()
@@ -572,7 +582,7 @@ class BadInput(NetworkCase):
         before = self.contents()
         for out in ("", "folder/", "./"):
             said = self.run_tool("osm_to_gr", VILLAGE, out, status=2).stderr
-            self.assertIn("OUT is the beginning of the names of four files", said)
+            self.assertIn("OUT is the beginning of the names of files", said)
         self.assertEqual(self.contents(), before)
 
     def test_a_full_disk_names_the_file(self):
