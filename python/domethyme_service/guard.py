@@ -29,6 +29,36 @@ def plain(status: str, body: bytes, more: str = "") -> bytes:
     return f"{head}Content-Length: {len(body)}\r\nConnection: close\r\n{more}\r\n".encode() + body
 
 
+class Gathering:
+    """A transport that writes once a turn of the event loop what is written in it: else a head and its body are two packets."""
+
+    def __init__(self, stream: asyncio.Transport) -> None:
+        self._stream, self._parts = stream, list[bytes]()
+        self._soon = asyncio.get_running_loop().call_soon
+
+    def __getattr__(self, name: str) -> Any:
+        return getattr(self._stream, name)
+
+    def write(self, data: bytes) -> None:
+        if not self._parts:
+            self._soon(self.flush)
+        self._parts.append(bytes(data))
+
+    def flush(self) -> None:
+        """Writes what is held."""
+        if self._parts and not self._stream.is_closing():
+            self._stream.write(b"".join(self._parts))
+        self._parts.clear()
+
+    def close(self) -> None:
+        self.flush()
+        self._stream.close()
+
+    def abort(self) -> None:
+        self._parts.clear()
+        self._stream.abort()
+
+
 class Connection(web.RequestHandler):
     """One connection. `finished` counts its requests that were answered; aiohttp counts those whose heads have come."""
 
@@ -53,7 +83,7 @@ class Connection(web.RequestHandler):
             stream.write(plain("503 Service Unavailable", NONE_MORE, "Retry-After: 1\r\n"))
             stream.close()
             return
-        super().connection_made(transport)
+        super().connection_made(cast(asyncio.BaseTransport, Gathering(stream)))
         self._wait_for_head()
 
     def connection_lost(self, exc: BaseException | None) -> None:

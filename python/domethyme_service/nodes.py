@@ -5,7 +5,7 @@ from collections.abc import AsyncGenerator, Mapping
 from typing import Any
 
 from .errors import Refused, invalid_query, invalid_value
-from .replies import Route, route_of
+from .replies import is_no_way
 from .workers import Pool
 
 NUMBER = re.compile("[0-9]{1,10}")
@@ -13,14 +13,14 @@ LONGEST_LINE = 256
 LINES_AT_ONCE = 4096
 
 
-async def pair(pool: Pool, kind: bytes, query: Mapping[str, str]) -> dict[str, Any]:
-    """The answer to `from=S&to=T`: the route (kind `q`), or the length alone (`d`). Raises Refused."""
+async def pair(pool: Pool, kind: bytes, query: Mapping[str, str]) -> bytes:
+    """The answer to `from=S&to=T` as JSON: the route (kind `q`), or the length alone (`d`). Raises Refused."""
     for name in query:
         if name not in ("from", "to"):
             raise invalid_query(f"there is no parameter {name!r}")
     source, target = (node_of(query.get(name), name, pool.nodes) for name in ("from", "to"))
     replies = await pool.ask([b"%b %d %d" % (kind, source, target)])
-    return answer(kind, source, target, route_of(replies[0]))
+    return answer(kind, source, target, replies[0])
 
 
 def node_of(text: object, name: str, nodes: int) -> int:
@@ -33,13 +33,18 @@ def node_of(text: object, name: str, nodes: int) -> int:
     return int(digits)
 
 
-def answer(kind: bytes, source: int, target: int, route: Route | None) -> dict[str, Any]:
-    """An answer as JSON: `length` is null where there is no way."""
-    found: dict[str, Any] = {"from": source, "to": target, "length": None if route is None else route.length}
-    if kind == b"q":
-        nodes = () if route is None else route.nodes
-        found.update(arcs=None if route is None else len(nodes) - 1, nodes=None if route is None else nodes)
-    return found
+def answer(kind: bytes, source: int, target: int, reply: bytes) -> bytes:
+    """An answer as JSON: `length` is null where there is no way. Raises Refused for a request that the program couldn't answer."""
+    length, arcs, line = b"null", b"null", b"null"
+    if not is_no_way(reply):
+        words = reply.split(b" ", 5)
+        if not b"".join(words[1:]).replace(b" ", b"").isdigit() or len(words) != (6 if kind == b"q" else 4):
+            raise Refused(500, "InternalError", "the program's reply can't be read")
+        length = words[3]
+        if kind == b"q":
+            arcs, line = words[4], b"[" + words[5].replace(b" ", b",") + b"]"
+    more = b',"arcs":%b,"nodes":%b' % (arcs, line) if kind == b"q" else b""
+    return b'{"from":%d,"to":%d,"length":%b%b}' % (source, target, length, more)
 
 
 async def batch(pool: Pool, kind: bytes, body: bytes) -> AsyncGenerator[bytes, None]:
@@ -75,7 +80,7 @@ def line_of(kind: bytes, ends: tuple[int, int] | Refused, replies: "Any", row: i
     try:
         if isinstance(ends, Refused):
             raise ends
-        found = answer(kind, *ends, route_of(next(replies)))
+        return answer(kind, *ends, next(replies)) + b"\n"
     except Refused as refused:
         found = {"code": refused.code, "message": refused.message, "line": row}
-    return json.dumps(found, separators=(",", ":")).encode() + b"\n"
+        return json.dumps(found, separators=(",", ":")).encode() + b"\n"

@@ -36,11 +36,16 @@ def is_between(request: bytes, reply: bytes) -> bool:
     return words[1] in starts.split()[::2] and words[2] in ends.split()[::2]
 
 
-def route_of(reply: bytes) -> Route | None:
-    """The route of a reply, None where there is no way. Raises Refused for a request that the program couldn't answer."""
+def is_no_way(reply: bytes) -> bool:
+    """Whether a reply says that there is no way. Raises Refused for a request that the program couldn't answer."""
     if reply in FAULTS:
         raise Refused(500, "InternalError", FAULTS[reply])
-    if reply.startswith(b"n"):
+    return reply.startswith(b"n")
+
+
+def route_of(reply: bytes) -> Route | None:
+    """The route of a reply, None where there is no way. Raises Refused for a request that the program couldn't answer."""
+    if is_no_way(reply):
         return None
     words = list(map(int, reply[2:].split()))
     return Route(words[0], words[1], words[2], tuple(words[4:]))
@@ -48,6 +53,4 @@ def route_of(reply: bytes) -> Route | None:
 
 def length_of(reply: bytes) -> int | None:
     """The length in a reply, None where there is no way. Raises Refused as route_of does."""
-    if reply in FAULTS:
-        raise Refused(500, "InternalError", FAULTS[reply])
-    return None if reply.startswith(b"n") else int(reply.split(b" ", 4)[3])
+    return None if is_no_way(reply) else int(reply.split(b" ", 4)[3])

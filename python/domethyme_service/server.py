@@ -22,11 +22,13 @@ from .workers import Counts
 MOST_BODY = 4 << 20
 SECONDS = 30.0
 BATCHES = 16
+MOST_FIELDS = 50
 JSON = "application/json; charset=utf-8"
 LINES = "application/x-ndjson; charset=utf-8"
 METRICS = "text/plain; version=0.0.4; charset=utf-8"
 KINDS = {"/nodes/route": b"q", "/nodes/length": b"d"}
 BATCH_KINDS = {"/nodes/routes": b"q", "/nodes/lengths": b"d"}
+ENCODER = json.JSONEncoder(separators=(",", ":"), allow_nan=False, ensure_ascii=False)
 access_log = logging.getLogger("domethyme_service.access")
 
 
@@ -96,13 +98,10 @@ class Service:
                 if endpoint.startswith("/map/"):
                     text, kept = await asked_by_page(roads_of(generation), asked.path, asked.query)
                     return self._whole(200, text, JSON, kept)
-                return self._json(200, await self._single(generation, endpoint, asked))
-
-    async def _single(self, generation: Generation, endpoint: str, asked: Asked) -> dict[str, Any]:
-        if endpoint in KINDS:
-            return await nodes.pair(generation.pool, KINDS[endpoint], asked.query)
-        request = request_of(asked.path, asked.query, self.ways.within)
-        return await osrm.answer(generation.pool, roads_of(generation), request)
+                if endpoint in KINDS:
+                    return self._whole(200, await nodes.pair(generation.pool, KINDS[endpoint], asked.query), JSON)
+                wanted = request_of(asked.path, asked.query, self.ways.within)
+                return self._json(200, await osrm.answer(generation.pool, roads_of(generation), wanted))
 
     async def _batch(
         self, generation: Generation, kind: bytes, asked: Asked, request: web.BaseRequest
@@ -158,8 +157,7 @@ class Service:
         return answer
 
     def _json(self, status: int, found: dict[str, Any]) -> web.Response:
-        text = json.dumps(found, separators=(",", ":"), allow_nan=False, ensure_ascii=False)
-        return self._whole(status, text, JSON)
+        return self._whole(status, ENCODER.encode(found), JSON)
 
     def _whole(self, status: int, text: str | bytes, kind: str, more: Mapping[str, str] | None = None) -> web.Response:
         body = text if isinstance(text, bytes) else text.encode("utf-8", "replace")
@@ -197,13 +195,20 @@ def asked_by(request: web.BaseRequest) -> Asked:
         whole = "/" + whole.partition("://")[2].partition("/")[2]
     path, _, query = whole.partition("?")
     try:
-        pairs = urllib.parse.parse_qsl(query, keep_blank_values=True, errors="strict", max_num_fields=50)
+        pairs = pairs_of(query)
     except ValueError:
         raise invalid_query("the parameters cannot be read") from None
     fields = dict(pairs)
     if len(fields) != len(pairs):
         raise invalid_query("a parameter comes twice")
     return Asked(request.method, path, fields)
+
+
+def pairs_of(query: str) -> list[tuple[str, str]]:
+    """The names and values of a query. Raises ValueError."""
+    if "%" in query or "+" in query or query.count("&") >= MOST_FIELDS:
+        return urllib.parse.parse_qsl(query, keep_blank_values=True, errors="strict", max_num_fields=MOST_FIELDS)
+    return [(name, value) for name, _, value in (field.partition("=") for field in query.split("&") if field)]
 
 
 def endpoint_of(path: str) -> str:

@@ -1,6 +1,6 @@
 """Workers: processes of `routecli serve` over one file, and the queues before them.
 
-A Job is up to 32 request lines with one future. It goes whole to the worker with the fewest open lines; a worker holds up to
+A Job is up to 16 request lines with one future. It goes whole to the worker with the fewest open lines; a worker holds up to
 a window of them, of which jobs of tables and batches take half at most, and the others wait in two queues. Each reply is
 compared with its request. A worker that ends, is silent, or replies to something else is killed and started anew, and its
 jobs go to others: asking twice is safe, since requests change nothing.
@@ -14,7 +14,7 @@ from typing import IO, NamedTuple, cast
 from .errors import Refused, WorkerFault
 from .replies import is_reply_to
 
-LINES_OF_JOB = 32
+LINES_OF_JOB = 16
 JOBS_AT_ONCE = 4
 ATTEMPTS = 3
 SHORTEST_PAUSE, LONGEST_PAUSE = 0.1, 5.0
@@ -207,7 +207,7 @@ class Pool:
         try:
             for part in parts_of(lines, LINES_OF_JOB):
                 jobs.append(asyncio.ensure_future(self.ask(part, True)))
-                if len(jobs) >= JOBS_AT_ONCE:
+                if len(jobs) >= JOBS_AT_ONCE * self.count:
                     yield await jobs.popleft()
                     await asyncio.sleep(0)  # lets others in, where replies are there already
             while jobs:

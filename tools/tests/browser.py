@@ -1,11 +1,13 @@
 """A headless Chromium for the tests, by its DevTools protocol: https://chromedevtools.github.io/devtools-protocol/"""
 import asyncio
 import base64
+import contextlib
 import json
 import os
 import pathlib
 import re
 import shutil
+import signal
 import subprocess
 import tempfile
 import threading
@@ -58,7 +60,8 @@ class Browser:
         self._socket = await self._session.ws_connect(address, max_msg_size=0)
 
     def close(self):
-        self._process.kill()
+        with contextlib.suppress(ProcessLookupError):
+            os.killpg(self._process.pid, signal.SIGKILL)
         self._process.wait()
         if hasattr(self, "_session"):
             self._loop.run_until_complete(self._session.close())

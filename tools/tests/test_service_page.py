@@ -228,7 +228,9 @@ class KeyboardTests(BrowserCase):
         for _ in range(2):
             self.browser.press("ArrowLeft")
         self.browser.press("Enter")
-        self.steps("Start on High Street", "Arrive at the destination")
+        # (the second place is beside Down Street, which is open to the south alone)
+        self.steps("Start on High Street", "Turn right into Up Street", "Turn right into Top Street",
+                   "Turn right into Down Street", "Arrive at the destination")
         before = self.browser.value("location.hash")
         self.keep("keys")
         self.browser.press("Tab")
