@@ -36,7 +36,7 @@ end
 function __routecli_takes_word
     set -l words (__routecli_words); or return
     test (count $words) -gt 0; and contains -- $words[1] $argv; or return
-    if contains -- $words[1] help serve
+    if contains -- $words[1] help serve info
         test (count $words) -lt 2
     else
         test (count $words) -lt 3
@@ -50,12 +50,12 @@ function __routecli_takes_input
     test (count $words) = 1; or test "$words[2]" = -
 end
 
-# Whether the command is prepare, and this option isn't given yet, but for a value that is to come.
+# Whether the command is one of these, and the option that is named first isn't given yet, but for a value that is to come.
 function __routecli_lacks
-    __routecli_is prepare; or return
+    __routecli_is $argv[2..]; or return
     set -l words (commandline -opc)
     string match -q -- "--$argv[1]=*" $words; and return 1
-    test $argv[1] = progress; or set -e words[-1]
+    contains -- $argv[1] progress explain; or set -e words[-1]
     not contains -- --$argv[1] $words
 end
 
@@ -63,21 +63,23 @@ complete -c routecli -f
 
 complete -c routecli -n __routecli_has_no_command -s h -l help -d 'Print help'
 complete -c routecli -n __routecli_has_no_command -s V -l version -d 'Print version'
-complete -c routecli -n '__routecli_is answer prepare route serve' -s h -l help -d 'Print help'
+complete -c routecli -n '__routecli_is answer prepare route serve info' -s h -l help -d 'Print help'
 
 set -l commands '__routecli_has_no_command; or __routecli_takes_word help'
 complete -c routecli -n $commands -a answer -d 'Answers pairs of nodes over a small graph'
 complete -c routecli -n $commands -a prepare -d 'Prepares a hierarchy of a graph, by which route answers pairs of nodes'
 complete -c routecli -n $commands -a route -d 'Answers pairs of nodes, as answer does, by a hierarchy that was prepared'
 complete -c routecli -n $commands -a serve -d 'Replies to each line of standard input by a line, by a hierarchy that was prepared'
+complete -c routecli -n $commands -a info -d 'Prints the version, nodes, links, bound and bytes of a hierarchy that was prepared'
 complete -c routecli -n $commands -a help -d 'Print this message or the help of the given subcommand(s)'
 
-complete -c routecli -n '__routecli_takes_word answer prepare route serve' -F
+complete -c routecli -n '__routecli_takes_word answer prepare route serve info' -F
 complete -c routecli -n __routecli_takes_input -a - -d 'With - for both files standard input has both texts'
 
-complete -c routecli -n '__routecli_lacks workers' -l workers -x -d 'How many threads contract nodes, 0 to 64'
-complete -c routecli -n '__routecli_lacks seed' -l seed -x -d 'Seed of the draws by which workers choose nodes, 0 to 18446744073709551615'
-complete -c routecli -n '__routecli_lacks order' -l order -x -d 'Nodes that go first' \
+complete -c routecli -n '__routecli_lacks workers prepare' -l workers -x -d 'How many threads contract nodes, 0 to 64'
+complete -c routecli -n '__routecli_lacks seed prepare' -l seed -x -d 'Seed of the draws by which workers choose nodes, 0 to 18446744073709551615'
+complete -c routecli -n '__routecli_lacks order prepare' -l order -x -d 'Nodes that go first' \
     -a 'edges\t"of the fewest arcs left" neighbours\t"that and fewest neighbours gone" depth\t"that and least depth"'
-complete -c routecli -n '__routecli_lacks stint' -l stint -x -d 'After how many commits a worker goes on by the next order'
-complete -c routecli -n '__routecli_lacks progress' -l progress -d 'Show on standard error how many nodes are contracted'
+complete -c routecli -n '__routecli_lacks stint prepare' -l stint -x -d 'After how many commits a worker goes on by the next order'
+complete -c routecli -n '__routecli_lacks progress prepare' -l progress -d 'Show on standard error how many nodes are contracted'
+complete -c routecli -n '__routecli_lacks explain answer prepare route serve info' -l explain -d 'Explain a refusal in more lines on standard error'

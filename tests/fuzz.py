@@ -1,5 +1,5 @@
 #!/usr/bin/env python3
-"""Runs `routecli route`, `routecli answer` and `routecli serve` on changed hierarchy files, texts and requests, and compares
+"""Runs `routecli route`, `answer`, `serve` and `info` on changed hierarchy files, texts and requests, and compares
 every status, line and refusal with slow and plain readers (plain.py).
 
     tests/fuzz.py [--seconds SECONDS] [--jobs JOBS] [--seed SEED]       by default an hour, 2 jobs and seed 1
@@ -224,7 +224,7 @@ class Runner:
         for path, data in zip(self.inputs, inputs):
             path.write_bytes(data)
         is_service = command == "serve"
-        files = self.inputs[:1] if is_service else self.inputs
+        files = self.inputs[:1] if command in ("serve", "info") else self.inputs
         words = [self.folder.parent / "resident", self.folder / "figures", PROGRAM, command, *files]
         with open(self.inputs[1] if is_service else os.devnull, "rb") as given:
             pipes = {"stdin": given, "stdout": subprocess.PIPE, "stderr": subprocess.PIPE}
@@ -338,6 +338,17 @@ def is_right_service(first, second, status, written, told):
     return all(answers.is_reply(line, request) for line, request in zip(lines[1:], requests))
 
 
+def is_right_info(first, status, written, told):
+    """Whether what the first input has is printed."""
+    try:
+        hierarchy = plain.hierarchy_of(first)
+    except plain.Refused as refused:
+        return (status, written, told) == refusal_of(4, "hierarchy", refused)
+    numbers = (hierarchy.version, len(hierarchy.ranks), len(hierarchy.links), hierarchy.bound, len(first))
+    wanted = b"version %d\nnodes %d\nlinks %d\nbound %d\nbytes %d\n" % numbers
+    return (status, written, told) == (0, wanted, b"")
+
+
 def is_right_route(first, second, status, written, told):
     try:
         hierarchy = plain.hierarchy_of(first)
@@ -394,6 +405,8 @@ def drawn_case(draw, corpus):
     if draw.random() < 0.3:
         return "route", [data, changed_text(draw, pairs)]
     change = draw.choice([changed_bytes, changed_numbers])
+    if draw.random() < 0.1:
+        return "info", [draw.choice([data, change(draw, data)]), b""]
     return "route", [change(draw, data), pairs]
 
 
@@ -403,6 +416,8 @@ def is_right(command, inputs, ended):
         return is_right_route(*inputs, *ended())
     if command == "serve":
         return is_right_service(*inputs, *ended())
+    if command == "info":
+        return is_right_info(inputs[0], *ended())
     asked, refusal = wanted_answer(*inputs)
     if refusal is not None:
         return ended() == refusal

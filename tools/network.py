@@ -10,6 +10,8 @@ A network is files with one beginning of their names, NETWORK:
                         a row for each arc of the graph, in the graph's order; structure is tunnel, bridge or empty, WKT
                         its line, longitude first
 
+    NETWORK.npz         both tables in binary, which is read in their place where it is no older
+
 Beside each table lie NAME.csvt and NAME.prj, by which GDAL and QGIS know the kinds of its columns and that it has degrees of
 WGS 84; no tool here reads them. The columns ends, ref, junction, destination and structure may be missing, and are empty then.
 
@@ -30,10 +32,13 @@ import csv
 import math
 import os
 from collections.abc import Iterable, Iterator
-from typing import IO, NamedTuple
+from typing import IO, TYPE_CHECKING, NamedTuple
 
 from texts import MOST_NODES, dimacs_lines, problem_number, read_graph
 from tool import Fault, StrPath, number, reading, shown, table, whole_number
+
+if TYPE_CHECKING:
+    from domethyme import binary
 
 EARTH_RADIUS = 6_371_008.8
 OSM_ATTRIBUTION = "© OpenStreetMap contributors (ODbL 1.0)"
@@ -66,6 +71,7 @@ class Network:
     def __init__(self, prefix: StrPath) -> None:
         name = os.fspath(prefix)
         self.graph, self.nodes, self.arcs = f"{name}.gr", f"{name}.nodes.csv", f"{name}.arcs.csv"
+        self.binary = f"{name}.npz"
         self.forms = {
             f"{name}.{table}.{ending}": text
             for table, kinds in (("nodes", NODE_KINDS), ("arcs", ARC_KINDS))
@@ -114,8 +120,42 @@ def nodes_file(word: StrPath) -> str:
 
 
 def read_nodes(path: StrPath) -> Nodes:
-    """The nodes of a .nodes.csv file, or of a DIMACS .co file by its ending."""
-    return read_coordinates(path) if str(path).endswith(".co") else read_node_table(path)
+    """The nodes of a .nodes.csv file, by the binary form beside it where that is current, or of a DIMACS .co file by its
+    ending."""
+    if str(path).endswith(".co"):
+        return read_coordinates(path)
+    arrays = arrays_at(os.fspath(path).removesuffix(".nodes.csv")) if str(path).endswith(".nodes.csv") else None
+    return read_node_table(path) if arrays is None else nodes_of(arrays)
+
+
+def arrays_at(prefix: str) -> "binary.Arrays | None":
+    """A network's binary form (domethyme/binary.py), where it is current and there is numpy."""
+    try:
+        from domethyme import binary
+    except ModuleNotFoundError:
+        return None
+    return binary.read(f"{prefix}.npz") if binary.is_current(prefix) else None
+
+
+def nodes_of(arrays: "binary.Arrays") -> Nodes:
+    from domethyme.binary import ENDS, NO_OSM, UNITS
+
+    osm = [None if number == NO_OSM else number for number in arrays.node_osm.tolist()]
+    lon, lat = (arrays.node_lon / UNITS).tolist(), (arrays.node_lat / UNITS).tolist()
+    return Nodes(osm, lon, lat, [ENDS[place] for place in arrays.node_ends.tolist()])
+
+
+def arcs_in(arrays: "binary.Arrays") -> Iterator[Arc]:
+    """The arcs of a binary form, as those of the table."""
+    from domethyme.binary import wkt_of as line_of
+
+    texts = arrays.texts()
+    ends = arrays.arc_from.tolist(), arrays.arc_to.tolist()
+    figures = arrays.arc_weight.tolist(), arrays.arc_seconds.tolist(), arrays.arc_metres.tolist(), arrays.arc_osm.tolist()
+    for place, ((start, end, weight, seconds, metres, osm), row) in enumerate(zip(zip(*ends, *figures), arrays.arc_texts)):
+        highway, name, ref, junction, destination, structure = (texts[text] for text in row)
+        line = line_of(arrays, place)
+        yield Arc(start, end, weight, seconds, metres, osm, highway, name, line, ref, junction, destination, structure)
 
 
 def read_node_table(path: StrPath) -> Nodes:
@@ -190,7 +230,9 @@ def arcs_of(word: StrPath) -> Iterator[Arc]:
     """The arcs of a tool's word NETWORK: those of its table, or for a DIMACS file X.co those of the graph X.gr as straight
     lines, without a way, a name and seconds."""
     if not os.fspath(word).endswith(".co"):
-        yield from read_arcs(arcs_file(word))
+        path = arcs_file(word)
+        arrays = arrays_at(os.fspath(word))
+        yield from read_arcs(path) if arrays is None else arcs_in(arrays)
         return
     nodes, graph = read_nodes(word), read_graph(Network(os.fspath(word).removesuffix(".co")).graph)
     if len(nodes.lon) != graph.nodes:

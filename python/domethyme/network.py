@@ -15,6 +15,7 @@ from typing import Any
 import numpy as np
 from numpy.typing import ArrayLike, NDArray
 
+from . import binary
 from .errors import NetworkError, os_reason
 from .hierarchy import Route
 from .keys import Keys
@@ -139,7 +140,18 @@ class Network:
         return {}
 
     @functools.cached_property
+    def _arrays(self) -> binary.Arrays | None:
+        """The binary form, where it goes before the tables."""
+        return binary.read(f"{self.prefix}.npz") if binary.is_current(self.prefix) else None
+
+    @functools.cached_property
     def _places(self) -> tuple[Floats, Floats, list[str]]:
+        if (arrays := self._arrays) is not None:
+            ends = [binary.ENDS[number] for number in arrays.node_ends.tolist()]
+            return arrays.node_lon / binary.UNITS, arrays.node_lat / binary.UNITS, ends
+        return self._places_of_table()
+
+    def _places_of_table(self) -> tuple[Floats, Floats, list[str]]:
         path = f"{self.prefix}.nodes.csv"
         lon: list[float] = []
         lat: list[float] = []
@@ -170,7 +182,9 @@ class Network:
         return chosen, KDTree(on_sphere(self.lon[chosen], self.lat[chosen]))
 
     @functools.cached_property
-    def _arcs(self) -> dict[tuple[int, int], tuple[int, float, float, str]]:
+    def _arcs(self) -> "dict[tuple[int, int], tuple[int, float, float, str]] | binary.Lightest":
+        if self._arrays is not None:
+            return binary.Lightest(self._arrays)
         path = f"{self.prefix}.arcs.csv"
         arcs: dict[tuple[int, int], tuple[int, float, float, str]] = {}
         for row, fields in rows_of(path, ARC_COLUMNS):

@@ -8,10 +8,13 @@
     nodes     routes and lengths between nodes by their numbers
     osrm      OSRM's API: route, nearest, table
     asked     what a request of OSRM's API asks
+    courses   the points and figures of a leg, arc by arc
     guides    the steps of a route, in OSRM's words
     lines     polylines, and simpler lines
     legs      the least way between two places on roads
     roads     a network's roads: the piece of road nearest to a place
+    tiles     the roads for the page's map
+    page      the page at `/`: its files, and what it asks
     generation  a hierarchy with its workers, and its network
     workers   the processes of `routecli serve`, the queues before them, and replies that are compared with their requests
     replies   what a line of reply says

@@ -1,7 +1,6 @@
 """A generation: a hierarchy with its workers, and its network. A request keeps one from its begin to its end."""
 import asyncio
 import contextlib
-import itertools
 from collections.abc import Iterator
 
 from domethyme import NetworkError
@@ -67,15 +66,14 @@ async def opened(
 
 async def compare(pool: Pool, roads: Roads, network: str) -> None:
     """Raises NetworkError where the network isn't that of the hierarchy, as far as SAMPLES of its arcs show."""
-    if len(roads.osm) - 1 != pool.nodes:
-        raise NetworkError(f"{network}.nodes.csv: has {len(roads.osm) - 1} nodes, and the hierarchy {pool.nodes}")
-    pairs = sorted(roads.lightest)
-    chosen = pairs[:: max(1, len(pairs) // SAMPLES)][:SAMPLES]
-    requests = [b"q %d %d" % pair for pair in chosen]
+    if roads.nodes != pool.nodes:
+        raise NetworkError(f"{network}.nodes.csv: has {roads.nodes} nodes, and the hierarchy {pool.nodes}")
+    rows = range(0, roads.count, max(1, roads.count // SAMPLES))[:SAMPLES]
+    requests = [b"q %d %d" % (roads.arc(row).start, roads.arc(row).end) for row in rows]
     replies = [reply async for part in pool.ask_many(requests) for reply in part]
     for reply in replies:
         route = route_of(reply)
-        steps = [] if route is None else [roads.lightest.get(step) for step in itertools.pairwise(route.nodes)]
-        weights = [NONE if arc is None else roads.arcs[arc].weight for arc in steps]
+        steps = [] if route is None else roads.lightest(route.nodes)
+        weights = [NONE if arc == NONE else roads.arc(arc).weight for arc in steps]
         if route is None or NONE in weights or sum(weights) != route.length:
             raise NetworkError(f"{network}.arcs.csv: isn't of the hierarchy's graph")

@@ -4,8 +4,6 @@ The graph is cut at both points. A least way there stays on an arc from the one 
 edge by the end of an arc and comes to the second's by the start of one, with a least route of the graph between, which is what
 the program replies. So the least of all these is least in the graph that is cut.
 """
-import itertools
-from collections.abc import Iterator
 from typing import NamedTuple
 
 from .errors import Refused
@@ -15,40 +13,44 @@ from .roads import NONE, Roads, Spot
 SIDES = 8
 
 
-class Part(NamedTuple):
-    """A part of an arc that is driven, between two fractions of it, and its weight."""
+class Leg(NamedTuple):
+    """The way from one point to the next: its weight, the arcs that are driven, and the weights of their parts that are. The
+    first is driven from the fraction `begin` of it, the last one to `end`."""
 
-    arc: int
+    weight: int
+    arcs: list[int]
+    weights: list[int]
     begin: float
     end: float
-    weight: int
 
 
-class Leg(NamedTuple):
-    """The way from one point to the next."""
-
-    weight: int
-    parts: list[Part]
+STAYS = Leg(0, [], [], 0.0, 1.0)
 
 
 def requests(start: Spot, end: Spot) -> list[bytes]:
     """The lines to ask for a leg: one, but where a point has more than SIDES exits or entries."""
-    if start.copies and start.copies == end.copies:
-        return []
-    pairs = itertools.product(groups(start.exits), groups(end.entries))
-    return [b"b " + some + b" : " + others for some, others in pairs]
+    return [] if is_at(start, end) else requests_by(sides_of(start.exits), sides_of(end.entries))
 
 
-def groups(sides: dict[int, tuple[int, int]]) -> Iterator[bytes]:
-    rows = iter(sorted((node, weight) for node, (weight, _) in sides.items()))
-    while group := list(itertools.islice(rows, SIDES)):
-        yield b" ".join(b"%d %d" % row for row in group)
+def is_at(start: Spot, end: Spot) -> bool:
+    """Whether both are one node, or copies of one."""
+    return bool(start.copies) and start.copies == end.copies
+
+
+def requests_by(exits: list[bytes], entries: list[bytes]) -> list[bytes]:
+    return [b"b " + some + b" : " + others for some in exits for others in entries]
+
+
+def sides_of(sides: dict[int, tuple[int, int]]) -> list[bytes]:
+    """Exits or entries as requests have them, up to SIDES in one."""
+    rows = [b"%d %d" % (node, sides[node][0]) for node in sorted(sides)]
+    return [b" ".join(rows[begin : begin + SIDES]) for begin in range(0, len(rows), SIDES)]
 
 
 def leg_of(roads: Roads, start: Spot, end: Spot, replies: list[bytes]) -> Leg | None:
     """The leg by the replies to its lines; None where there is no way."""
-    if start.copies and start.copies == end.copies:
-        return Leg(0, [])
+    if is_at(start, end):
+        return STAYS
     found = [route for route in map(route_of, replies) if route is not None]
     straight = along_one_arc(roads, start, end)
     route = min(found, key=lambda each: each.length) if found else None
@@ -59,7 +61,7 @@ def leg_of(roads: Roads, start: Spot, end: Spot, replies: list[bytes]) -> Leg | 
 
 def least_weight(roads: Roads, start: Spot, end: Spot, replies: list[bytes]) -> int | None:
     """The weight of the leg by the replies to its lines, without its parts; None where there is no way."""
-    if start.copies and start.copies == end.copies:
+    if is_at(start, end):
         return 0
     straight = along_one_arc(roads, start, end)
     weights = [weight for weight in map(length_of, replies) if weight is not None]
@@ -71,47 +73,27 @@ def along_one_arc(roads: Roads, start: Spot, end: Spot) -> Leg | None:
     if start.copies or end.copies or start.edge != end.edge:
         return None
     found: list[Leg] = []
-    for number in roads.edges[start.edge].arcs:
-        arc = roads.arcs[number]
+    for number in roads.edge(start.edge).arcs:
+        arc = roads.arc(number)
         begin, stop = roads.along(arc, start.fraction), roads.along(arc, end.fraction)
         if begin <= stop:
             weight = roads.before(arc, end.fraction) - roads.before(arc, start.fraction)
-            found.append(Leg(weight, [Part(number, begin, stop, weight)]))
+            found.append(Leg(weight, [number], [weight], begin, stop))
     return min(found, key=lambda leg: leg.weight) if found else None
 
 
 def driven(roads: Roads, start: Spot, end: Spot, route: Route) -> Leg:
     """The leg of a route between the points' nodes. Raises Refused where the network isn't that of the hierarchy."""
-    parts: list[Part] = []
     first, last = start.exits[route.source], end.entries[route.target]
+    arcs = roads.lightest(route.nodes)
+    if NONE in arcs:
+        raise Refused(500, "InternalError", "the network lacks an arc of the hierarchy's graph")
+    weights: list[int] = roads.arrays.arc_weight[arcs].tolist() if arcs else []
+    begin, stop = 0.0, 1.0
     if first[1] != NONE:
-        parts.append(Part(first[1], roads.along(roads.arcs[first[1]], start.fraction), 1.0, first[0]))
-    for ends in itertools.pairwise(route.nodes):
-        number = roads.lightest.get(ends, NONE)
-        if number == NONE:
-            raise Refused(500, "InternalError", "the network lacks an arc of the hierarchy's graph")
-        parts.append(Part(number, 0.0, 1.0, roads.arcs[number].weight))
+        arcs, weights, begin = [first[1], *arcs], [first[0], *weights], roads.along(roads.arc(first[1]), start.fraction)
     if last[1] != NONE:
-        parts.append(Part(last[1], 0.0, roads.along(roads.arcs[last[1]], end.fraction), last[0]))
-    if sum(part.weight for part in parts) != route.length:
+        arcs, weights, stop = [*arcs, last[1]], [*weights, last[0]], roads.along(roads.arc(last[1]), end.fraction)
+    if sum(weights) != route.length:
         raise Refused(500, "InternalError", "the network's weights aren't those of the hierarchy's graph")
-    return Leg(route.length, parts)
-
-
-def seconds_of(roads: Roads, weight: int, parts: list[Part]) -> float:
-    """How long parts take, which weigh so much together."""
-    if roads.unit == "duration":
-        return weight / 1000
-    return sum(roads.arcs[part.arc].seconds * (part.end - part.begin) for part in parts)
-
-
-def metres_of(roads: Roads, weight: int, parts: list[Part]) -> float:
-    """How long parts are, which weigh so much together."""
-    if roads.unit == "distance":
-        return weight / 100
-    return sum(roads.arcs[part.arc].metres * (part.end - part.begin) for part in parts)
-
-
-def weight_of(roads: Roads, weight: int) -> float:
-    """A weight in the unit that answers have: seconds, metres, or the graph's own."""
-    return weight / {"duration": 1000, "distance": 100, "weight": 1}[roads.unit]
+    return Leg(route.length, arcs, weights, begin, stop)

@@ -4,16 +4,17 @@ import asyncio
 import base64
 import collections
 import contextlib
+import functools
 from collections.abc import AsyncIterator, Iterator
 from typing import Any
 
 from . import asked
 from .asked import Request
 from .errors import Refused, invalid_value
+from .courses import Course, course_of, figures_of, leg_figures, line_of, shaped, simpler, steps_of_arcs
 from .guides import steps_of_leg
-from .legs import Leg, least_weight, leg_of, metres_of, requests, seconds_of, weight_of
-from .lines import encoded, simplified
-from .roads import Roads, Spot, steps_of
+from .legs import Leg, is_at, least_weight, leg_of, requests, requests_by, sides_of
+from .roads import Roads, Spot
 from .workers import Pool
 
 ANNOTATIONS = ("duration", "weight", "distance", "datasources", "speed")
@@ -37,8 +38,8 @@ async def nearest(pool: Pool, roads: Roads, request: Request) -> dict[str, Any]:
 
 
 def ends(roads: Roads, spot: Spot) -> list[int]:
-    arc = roads.arcs[roads.edges[spot.edge].arcs[0]]
-    return [int(roads.osm[node] or 0) for node in (arc.start, arc.end)]
+    arc = roads.arc(roads.edge(spot.edge).arcs[0])
+    return [roads.osm(node) for node in (arc.start, arc.end)]
 
 
 async def spots_of(roads: Roads, request: Request) -> list[Spot]:
@@ -70,12 +71,14 @@ async def route(pool: Pool, roads: Roads, request: Request) -> dict[str, Any]:
     spots = await spots_of(roads, request)
     pairs = list(zip(spots, spots[1:]))
     legs = await asyncio.gather(*(one_leg(pool, roads, *pair) for pair in pairs))
-    if not all(leg is not None for leg in legs):
+    found_legs = [leg for leg in legs if leg is not None]
+    if len(found_legs) < len(legs):
         raise Refused(400, "NoRoute", "there is no way between two of the places")
-    told = [leg_told(roads, request, *pair, leg, names) for pair, leg in zip(pairs, legs) if leg is not None]
+    courses = [course_of(roads, leg) for leg in found_legs]
+    told = [leg_told(roads, request, *each, names) for each in zip(spots, spots[1:], found_legs, courses)]
     found: dict[str, Any] = {
         "code": "Ok",
-        "routes": [{"legs": told, "weight_name": roads.unit, **sums(told), **overview(roads, request, spots, legs)}],
+        "routes": [{"legs": told, "weight_name": roads.unit, **sums(told), **overview(request, spots, courses)}],
     }
     if not request.says("skip_waypoints"):
         found["waypoints"] = [waypoint(request, spot) for spot in spots]
@@ -91,75 +94,39 @@ def sums(legs: list[dict[str, Any]]) -> dict[str, float]:
     return {name: round(sum(leg[name] for leg in legs), 3) for name in ("weight", "duration", "distance")}
 
 
-def figures(roads: Roads, leg: Leg) -> dict[str, float]:
-    """The weight, seconds and metres of a leg."""
-    return {
-        "weight": weight_of(roads, leg.weight),
-        "duration": round(seconds_of(roads, leg.weight, leg.parts), 3),
-        "distance": round(metres_of(roads, leg.weight, leg.parts), 2),
-    }
-
-
 def leg_told(
-    roads: Roads, request: Request, start: Spot, end: Spot, leg: Leg, names: list[str]
+    roads: Roads, request: Request, start: Spot, end: Spot, leg: Leg, course: Course | None, names: list[str]
 ) -> dict[str, Any]:
     """A leg as OSRM has it."""
-    streets = [name for name in dict.fromkeys(roads.arcs[part.arc].name for part in leg.parts) if name]
-    shape = request.word("geometries")
-    told: dict[str, Any] = {"summary": "", "steps": [], **figures(roads, leg)}
+    told: dict[str, Any] = {"summary": "", "steps": [], **leg_figures(roads, leg, course)}
     if request.says("steps"):
-        told["summary"] = ", ".join(streets[:2])
-        line = lambda points: shaped(points, shape)  # noqa: E731 (a name for what follows)
-        told["steps"] = steps_of_leg(roads, leg, (start.lon, start.lat), (end.lon, end.lat), line)
+        shape = functools.partial(shaped, shape=request.word("geometries"))
+        told["steps"] = steps_of_leg(roads, course, (start.lon, start.lat), (end.lon, end.lat), shape)
+        told["summary"] = ", ".join(list(dict.fromkeys(step["name"] for step in told["steps"] if step["name"]))[:2])
     if names:
-        told["annotation"] = annotation(roads, leg, names)
+        told["annotation"] = {name: [] for name in names} if course is None else annotation(course, names)
     return told
 
 
-def overview(roads: Roads, request: Request, spots: list[Spot], legs: "list[Leg | None]") -> dict[str, Any]:
+def overview(request: Request, spots: list[Spot], courses: "list[Course | None]") -> dict[str, Any]:
     """The member `geometry`, where one is asked for."""
     kind = request.word("overview")
     if kind == "false":
         return {}
-    points = [(spots[0].lon, spots[0].lat)]
-    for leg, spot in zip(legs, spots[1:]):
-        points += [point for part in (leg.parts if leg else []) for point in roads.line(*part[:3])]
-        points.append((spot.lon, spot.lat))
-    line = without_repeats(points)
-    return {"geometry": shaped(simplified(line) if kind == "simplified" else line, request.word("geometries"))}
+    line = line_of(courses, [(spot.lon, spot.lat) for spot in spots])
+    return {"geometry": shaped(simpler(line) if kind == "simplified" else line, request.word("geometries"))}
 
 
-def without_repeats(points: list[tuple[float, float]]) -> list[tuple[float, float]]:
-    """The line to six places, without a point that follows itself; two points at least."""
-    found: list[tuple[float, float]] = []
-    for lon, lat in points:
-        point = round(lon, 6), round(lat, 6)
-        if not found or point != found[-1]:
-            found.append(point)
-    return found if len(found) > 1 else found * 2
-
-
-def shaped(points: list[tuple[float, float]], shape: str) -> Any:
-    """A line as a polyline, or as GeoJSON."""
-    line = without_repeats(points)
-    if shape == "geojson":
-        return {"type": "LineString", "coordinates": line}
-    return encoded(line, 6 if shape == "polyline6" else 5)
-
-
-def annotation(roads: Roads, leg: Leg, names: list[str]) -> dict[str, list[float]]:
+def annotation(course: Course, names: list[str]) -> dict[str, list[float]]:
     """For each step of the leg's line the metres, seconds, weight and speed; an arc's are shared out by metres."""
     found: dict[str, list[float]] = {name: [] for name in names}
-    for part in leg.parts:
-        line = roads.line(*part[:3])
-        steps = [step for step in steps_of(line)]
-        whole, seconds = sum(steps), seconds_of(roads, part.weight, [part])
-        metres = metres_of(roads, part.weight, [part])
-        for step in steps:
-            share = step / whole if whole else 1 / len(steps)
-            values = {"distance": metres * share, "duration": seconds * share, "datasources": 0}
-            values["weight"] = weight_of(roads, part.weight) * share
-            values["speed"] = metres / seconds if seconds else 0
+    for place, steps in steps_of_arcs(course):
+        whole, figures = sum(steps), course.figures(place, place + 1)
+        speed = figures["distance"] / figures["duration"] if figures["duration"] else 0.0
+        for way in steps:
+            share = way / whole
+            values = {name: value * share for name, value in figures.items()}
+            values.update(datasources=0, speed=speed)
             for name in names:
                 found[name].append(round(values[name], 3))
     return found
@@ -195,10 +162,13 @@ async def cells(
     asked_for: collections.deque[tuple[tuple[Spot, Spot], int]] = collections.deque()
     replies: collections.deque[bytes] = collections.deque()
 
+    exits = {id(start): sides_of(start.exits) for start, _ in pairs}
+    entries = {id(end): sides_of(end.entries) for _, end in pairs}
+
     def lines() -> Iterator[bytes]:
-        for pair in pairs:
-            some = requests(*pair)
-            asked_for.append((pair, len(some)))
+        for start, end in pairs:
+            some = [] if is_at(start, end) else requests_by(exits[id(start)], entries[id(end)])
+            asked_for.append(((start, end), len(some)))
             yield from some
 
     async with contextlib.aclosing(pool.ask_many(lines())) as parts:
@@ -217,6 +187,6 @@ def cell(
     """The figures of one cell, None where there is no way."""
     if only_weights:
         weight = least_weight(roads, *pair, replies)
-        return None if weight is None else {roads.unit: weight_of(roads, weight)}
+        return None if weight is None else figures_of(roads, weight, 0.0, 0.0)
     leg = leg_of(roads, *pair, replies)
-    return None if leg is None else figures(roads, leg)
+    return None if leg is None else leg_figures(roads, leg, course_of(roads, leg))

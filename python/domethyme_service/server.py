@@ -15,6 +15,8 @@ from .asked import request_of, service_of
 from .errors import Refused, invalid_query
 from .generation import Generation
 from .metrics import Metrics
+from .page import FILES, HEADERS, asked_by_page, endpoint_of_page, without_network
+from .roads import Roads
 from .workers import Counts
 
 MOST_BODY = 4 << 20
@@ -22,7 +24,7 @@ SECONDS = 30.0
 BATCHES = 16
 JSON = "application/json; charset=utf-8"
 LINES = "application/x-ndjson; charset=utf-8"
-PAGE = "text/plain; version=0.0.4; charset=utf-8"
+METRICS = "text/plain; version=0.0.4; charset=utf-8"
 KINDS = {"/nodes/route": b"q", "/nodes/length": b"d"}
 BATCH_KINDS = {"/nodes/routes": b"q", "/nodes/lengths": b"d"}
 access_log = logging.getLogger("domethyme_service.access")
@@ -81,22 +83,26 @@ class Service:
         if method == "GET" and (request.body_exists or "Content-Encoding" in request.headers):
             raise invalid_query("a GET has no body")
         if endpoint == "/metrics":
-            return self._whole(200, self._metrics(), PAGE)
+            return self._whole(200, self._metrics(), METRICS)
         if endpoint == "/health":
             return self._health()
+        if asked.path in FILES:
+            kind, text = FILES[asked.path]
+            return self._whole(200, text, kind, HEADERS)
         with self.generation.used() as generation:
             if endpoint in BATCH_KINDS:
                 return await self._batch(generation, BATCH_KINDS[endpoint], asked, request)
             async with asyncio.timeout(SECONDS):
+                if endpoint.startswith("/map/"):
+                    text, kept = await asked_by_page(roads_of(generation), asked.path, asked.query)
+                    return self._whole(200, text, JSON, kept)
                 return self._json(200, await self._single(generation, endpoint, asked))
 
     async def _single(self, generation: Generation, endpoint: str, asked: Asked) -> dict[str, Any]:
         if endpoint in KINDS:
             return await nodes.pair(generation.pool, KINDS[endpoint], asked.query)
         request = request_of(asked.path, asked.query, self.ways.within)
-        if generation.roads is None:
-            raise Refused(400, "InvalidService", "the service has no network: start it with --network")
-        return await osrm.answer(generation.pool, generation.roads, request)
+        return await osrm.answer(generation.pool, roads_of(generation), request)
 
     async def _batch(
         self, generation: Generation, kind: bytes, asked: Asked, request: web.BaseRequest
@@ -155,8 +161,9 @@ class Service:
         text = json.dumps(found, separators=(",", ":"), allow_nan=False, ensure_ascii=False)
         return self._whole(status, text, JSON)
 
-    def _whole(self, status: int, text: str, kind: str) -> web.Response:
-        answer = web.Response(status=status, body=text.encode("utf-8", "replace"), headers=self._headers(kind))
+    def _whole(self, status: int, text: str | bytes, kind: str, more: Mapping[str, str] | None = None) -> web.Response:
+        body = text if isinstance(text, bytes) else text.encode("utf-8", "replace")
+        answer = web.Response(status=status, body=body, headers={**self._headers(kind), **(more or {})})
         self._end_if_draining(answer)
         return answer
 
@@ -203,9 +210,18 @@ def endpoint_of(path: str) -> str:
     """The endpoint of a path, by which it is counted. Raises Refused where there is none."""
     if path in KINDS or path in BATCH_KINDS or path in ("/health", "/metrics"):
         return path
+    if page := endpoint_of_page(path):
+        return page
     if service := service_of(path):
         return f"/{service}"
     raise Refused(404, "InvalidUrl", "there is no such path")
+
+
+def roads_of(generation: Generation) -> Roads:
+    """The network of a generation. Raises Refused where the service has none."""
+    if generation.roads is None:
+        raise without_network()
+    return generation.roads
 
 
 async def body_of(request: web.BaseRequest) -> bytes:

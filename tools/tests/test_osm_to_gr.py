@@ -222,7 +222,7 @@ class Village(NetworkCase):
             self.write(f"village.{ending}", "old")
         self.convert()
         self.assertEqual(self.drawn(), arcs_by_time(DRAWING))
-        self.assertEqual(len(self.contents()), 7)
+        self.assertEqual(len(self.contents()), 8)
 
     def test_what_gdal_wants_to_know(self):
         self.convert()

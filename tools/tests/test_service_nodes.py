@@ -75,7 +75,8 @@ class NodesTests(ServiceCase):
             ("/nodes/length?from=1&to=%FF", 400, "InvalidQuery"),
             ("/nodes/lengths", 405, "MethodNotAllowed"),
             ("/nodes", 404, "InvalidUrl"),
-            ("/", 404, "InvalidUrl"),
+            ("/map/../server.py", 404, "InvalidUrl"),
+            ("/map/about", 400, "InvalidService"),
         ]:
             with self.subTest(path=path):
                 found = self.ask(path)

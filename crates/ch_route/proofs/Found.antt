@@ -1,6 +1,6 @@
 -- What a search of a hierarchy found.
 use Rattle.std.proofs.Common.{ℕ, ◌≡◌, subst}
-use Rattle.std.specs.Prelude.{Option, Some, None, option_map}
+use Rattle.std.specs.Prelude.{Option, None, option_map}
 use Rattle.ch_graph.specs.Hierarchy.{Hierarchy, IsValue}
 use Rattle.ch_query.specs.declared.search.Found.{Found}
 

@@ -1,3 +1,4 @@
 pub mod Betweens
 pub mod Found
 pub mod Least
+pub mod Pairs

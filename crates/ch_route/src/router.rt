@@ -5,8 +5,8 @@ ghost use Rattle.ch_graph.specs.Graph.{Graph, IsLeastLength};
 ghost use Rattle.ch_graph.specs.Hierarchy.{IsRight, IsWellMade};
 ghost use Rattle.ch_graph.specs.Limits.{IsGraph};
 ghost use Rattle.ch_laws.specs.ByWeight.{IsRightByWeight};
-ghost use Rattle.ch_query.specs.Seeds.{AreSeeds, IsValueBetween, longest};
-ghost use Rattle.ch_route.specs.Between.{IsLeastBetween, IsLengthBetween};
+ghost use Rattle.ch_query.specs.Seeds.{AreSeeds};
+ghost use Rattle.ch_route.specs.Between.{HasTooLongBetween, IsLeastBetween, IsLeastLengthBetween, IsLengthBetween, IsRouteBetweenBy, IsShortestBetween};
 ghost use Rattle.ch_route.specs.Routes.{HasTooLong, IsFewestWalk, IsLeastWalk, IsLengthBy, IsRouteBy};
 ghost use Rattle.ch_unpack.specs.declared.error.UnpackError.TheVariants.{TooLong};
 
@@ -50,6 +50,20 @@ impl<'a> Router<'a> {
         Ok(Router {
             alloc,
             hierarchy,
+            search,
+        })
+    }
+
+    /// Another router of the same hierarchy, for another caller.
+    ///
+    /// The two share what never changes ([`Search::beside`]), so this one takes 48 bytes a node and nothing for a link.
+    pub fn beside(&self) -> Result<Router<'a>, AllocError>
+        ensures { IfOk result (λ router. router ≡ self.now) }
+    {
+        let search = self.search.beside(self.alloc)?;
+        Ok(Router {
+            alloc: self.alloc,
+            hierarchy: self.hierarchy,
             search,
         })
     }
@@ -114,9 +128,11 @@ impl<'a> Router<'a> {
     ///
     /// Where the hierarchy is right for a graph, its cost is the least over all pairs of a start and an end of the distance
     /// from the one to the other with what both cost, and the nodes are those of a least walk of the graph between the two
-    /// that were taken, of all least walks one with the fewest arcs. Where several pairs cost the least, any of them may be
-    /// taken. Each list has nodes from 0, and costs of at most 2^57 in length and 2^25 arcs; the cost of a part of an arc
-    /// is [`Cost::of_weight`](ch_cost::Cost::of_weight) of that part.
+    /// that were taken, of all least walks one with the fewest arcs. Where it is right by weight, as in version 1, its
+    /// length is the least over all walks from a start to an end, with what both add, and the nodes are those of any least
+    /// walk between the two that were taken. Where several pairs cost the least, any of them may be taken. Each list has
+    /// nodes from 0, and costs of at most 2^57 in length and 2^25 arcs; the cost of a part of an arc is
+    /// [`Cost::of_weight`](ch_cost::Cost::of_weight) of that part.
     ///
     /// Fails as [`Router::route`] does. Takes the time of [`Search::between`] and of [`unpack`], and memory for the nodes
     /// of the route beside what the search keeps.
@@ -127,27 +143,19 @@ impl<'a> Router<'a> {
     ) -> Result<Option<RouteBetween>, UnpackError>
         requires starts { AreSeeds self.old starts.now }
         requires ends { AreSeeds self.old ends.now }
+        ensures found { IfOk result (IsRouteBetweenBy self.old starts.now ends.now) }
         ensures exact { IfOk result (λ route. (g : Graph) → IsGraph g → IsRight g self.old → IsLeastBetween g starts.now ends.now route) }
-        ensures value { IfOk result (λ route. IsValueBetween self.old starts.now ends.now longest (option_map (λ r. r.cost) route)) }
+        ensures by_weight { IfOk result (λ route. (g : Graph) → IsRightByWeight g self.old → IsShortestBetween IsLeastWalk g starts.now ends.now route) }
         ensures kept { self.new ≡ self.old }
+
+        // Where it is refused as too long.
+        ensures too_long { result ≡ Err TooLong → HasTooLongBetween self.old starts.now ends.now }
         ensures never_long { result ≡ Err TooLong → (g : Graph) → IsGraph g → IsRight g self.old → ⊥ }
+        ensures never_long_by_weight { result ≡ Err TooLong → self.old.version ≡ One → (g : Graph) → IsGraph g → IsRightByWeight g self.old → ⊥ }
     {
-        places_name_links();
         routes_are_least();
-        let Some(found) = self.search.between(starts, ends)? else {
-            return Ok(None);
-        };
-        if found.start >= starts.len() {
-            unreachable!();
-        }
-        let source = starts[found.start].node;
-        let nodes = unpack(self.alloc, self.hierarchy, source, found.links.as_slice())?;
-        Ok(Some(RouteBetween {
-            start: found.start,
-            end: found.end,
-            cost: found.cost,
-            nodes,
-        }))
+        let _well_made = self.nodes();
+        self.least_between(starts, ends)
     }
 
     /// The length of that route: the least over all pairs of a start and an end of the length of the start, of a walk
@@ -162,10 +170,42 @@ impl<'a> Router<'a> {
         requires starts { AreSeeds self.old starts.now }
         requires ends { AreSeeds self.old ends.now }
         ensures exact { IfOk result (λ length. (g : Graph) → IsRight g self.old → IsLengthBetween g starts.now ends.now length) }
+        ensures by_weight { IfOk result (λ length. (g : Graph) → IsRightByWeight g self.old → IsLeastLengthBetween g starts.now ends.now length) }
         ensures kept { self.new ≡ self.old }
     {
+        routes_are_least();
+        let _well_made = self.nodes();
         let cost = self.search.cost_between(starts, ends)?;
         Ok(length_of(cost))
+    }
+
+    // The route between starts and ends by the hierarchy alone.
+    fn least_between(
+        &mut self,
+        starts: &[Seed],
+        ends: &[Seed],
+    ) -> Result<Option<RouteBetween>, UnpackError>
+        requires starts { AreSeeds self.old starts.now }
+        requires ends { AreSeeds self.old ends.now }
+        ensures found { IfOk result (IsRouteBetweenBy self.old starts.now ends.now) }
+        ensures too_long { result ≡ Err TooLong → HasTooLongBetween self.old starts.now ends.now }
+        ensures kept { self.new ≡ self.old }
+    {
+        places_name_links();
+        let Some(found) = self.search.between(starts, ends)? else {
+            return Ok(None);
+        };
+        if found.start >= starts.len() {
+            unreachable!();
+        }
+        let source = starts[found.start].node;
+        let nodes = unpack(self.alloc, self.hierarchy, source, found.links.as_slice())?;
+        Ok(Some(RouteBetween {
+            start: found.start,
+            end: found.end,
+            cost: found.cost,
+            nodes,
+        }))
     }
 
     // The route by the hierarchy alone.

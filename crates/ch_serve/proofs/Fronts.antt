@@ -64,6 +64,7 @@ stops_by_file bytes had left old new h (stops.Hierarchy e) spells s = s
 stops_by_file bytes had left old new h stops.OutOfMemory spells s = s
 stops_by_file bytes had left old new h stops.Read spells s = (s.0, s.1, (s.2.0, record { hierarchy = h; spells = spells; served = s.2.1 }, s.2.2))
 stops_by_file bytes had left old new h (stops.Write fault) spells s = (s.0, s.1, (s.2.0, (s.2.1.0, record { hierarchy = h; spells = spells; served = s.2.1.1 }, s.2.1.2, s.2.1.3)))
+stops_by_file bytes had left old new h stops.Flush spells s = (s.0, s.1, (s.2.0, s.2.1, (s.2.2.0, record { hierarchy = h; spells = spells; served = s.2.2.1 }, s.2.2.2)))
 
 pub stops_told : (r : Result ⊤ ServeError) (hier had left old new : Option (List ℕ)) (h : Hierarchy) → IfSome hier (λ bytes. Spells bytes h)
     → IfErr r (StopsServing (ServedFirst h) had left old new) → IfErr r
@@ -77,6 +78,7 @@ before P had left old new (stops.Hierarchy e) s = s
 before P had left old new stops.OutOfMemory s = s
 before P had left old new stops.Read s = tt
 before P had left old new (stops.Write fault) s = tt
+before P had left old new stops.Flush s = tt
 
 pub untouched_told : (P : ℕ → List ℕ → List ℕ → Type 0) (r : Result ⊤ ServeError) (had left old new : Option (List ℕ)) → IfErr r (StopsServing P had left old new) → IfErr r (KeepsBefore old new)
 untouched_told P (Ok x) had left old new s = tt
@@ -88,6 +90,7 @@ own_fault (Some bytes) (stops.Hierarchy e) own = absurd own
 own_fault (Some bytes) stops.OutOfMemory own = tt
 own_fault (Some bytes) stops.Read own = tt
 own_fault (Some bytes) (stops.Write fault) own = tt
+own_fault (Some bytes) stops.Flush own = tt
 
 pub own_told : (r : Result ⊤ ServeError) (hier : Option (List ℕ)) → IfErr r IsOwn → IfErr r (λ e. IfSome hier (λ bytes. IsFileFault bytes e))
 own_told (Ok x) hier own = tt

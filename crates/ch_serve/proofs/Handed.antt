@@ -2,7 +2,7 @@
 use Rattle.std.proofs.Common.{ℕ, ◌≡◌, ◌+◌, cond, true, false, eqb, List, [], ◌∷◌, ◌++◌, take, codes, Option, Some, None, Result, Ok, Err, inr, arith, refl, ap, sym, subst, ◌∙◌, append_assoc, append-nil, length-append}
 use Rattle.std.specs.Prelude.{⊤, OnOk, IfErr}
 use Rattle.std.specs.Option.{option_to_list}
-use Rattle.std.specs.Io.KnownBytes.{Consumes, Keeps}
+use Rattle.std.specs.Io.KnownBytes.{Appends, Consumes, Keeps}
 use Rattle.counted_io.specs.declared.writing.WriteFault.{WriteFault}
 use Rattle.ch_graph.specs.Hierarchy.{Hierarchy}
 use Rattle.std.proofs.KnownBytes.{Appends-trans, Appends-nil}
@@ -12,7 +12,7 @@ use Rattle.grfile.specs.declared.requests.Request.{Request}
 use Rattle.ch_serve.specs.declared.error.ServeError.{ServeError}
 use Rattle.ch_serve.specs.declared.error.ServeError.TheVariants as stops
 use Rattle.ch_serve.specs.Reply.{AreReplies, Told, by_hierarchy, refused, nothing, one_more}
-use Rattle.ch_serve.specs.Progress.{Breaks, BreaksAt, BreaksIn, Replies, RepliesOnce, RepliesTo, StopsAtRead, StopsReplying}
+use Rattle.ch_serve.specs.Progress.{Breaks, BreaksAt, BreaksIn, IsUnsent, Replies, RepliesOnce, RepliesTo, StopsAtRead, StopsReplying}
 
 -- Bytes that go to the writer
 
@@ -34,6 +34,11 @@ hands_more {rest = rest} more h = record {
 
 pub hands_none : (old : Option (List ℕ)) (bytes : List ℕ) (from : ℕ) → HandsOn old old bytes bytes from from
 hands_none old bytes from = record { taken = []; parts = refl; given = Appends-nil old; counted = omega arith }
+
+appends_none : (old new : Option (List ℕ)) → Keeps old new → Appends old new []
+appends_none None new kept = tt
+appends_none (Some xs) None kept = absurd kept
+appends_none (Some xs) (Some ys) kept = kept ∙ sym (append-nil xs)
 
 pub part_join : {old mid new : Option (List ℕ)} {bytes rest : List ℕ} {from at to : ℕ} → HandsOn old mid bytes rest from at → HandsOnPart mid new rest at to → HandsOnPart old new bytes from to
 part_join h part = record { rest = part.rest; some = part.some; first = hands_join h part.first }
@@ -203,6 +208,7 @@ module _ (told : Told) where
   stops_then left new stops.OutOfMemory h k = absurd k
   stops_then left new stops.Read h k = read_then h k
   stops_then left new (stops.Write fault) h k = breaks_in_then h k
+  stops_then left new stops.Flush h k = read_then h k
 
 -- Where memory for a reply is refused
 
@@ -290,6 +296,20 @@ module _ (told : Told) where
     breaks = subst (λ (l : List ℕ). Breaks told (λ more. asks (bytes ++ more)) old new l from to) none (breaks_hand told replies part);
   }
 
+  pub piece_unsent : (had left : Option (List ℕ)) (asks after : List ℕ → List Request) (bytes : List ℕ) (old mid new : Option (List ℕ))
+      (lines rest : List ℕ) (from at : ℕ) (e : ServeError) → lines ≡ [] → Consumes had left bytes
+      → Replies told (line_feeds bytes) (λ more. asks (bytes ++ more)) after old mid lines rest from at → IsUnsent mid new rest at e
+      → StopsReplying told had left asks old new [] from e
+  piece_unsent had left asks after bytes old mid new lines rest from at (stops.Hierarchy e) none consumed replies k = absurd k
+  piece_unsent had left asks after bytes old mid new lines rest from at stops.OutOfMemory none consumed replies k = absurd k
+  piece_unsent had left asks after bytes old mid new lines rest from at stops.Read none consumed replies k = absurd k
+  piece_unsent had left asks after bytes old mid new lines rest from at (stops.Write fault) none consumed replies k = piece_breaks had left asks after bytes old mid new lines rest from at fault.written none consumed replies k
+  piece_unsent had left asks after bytes old mid new lines rest from at stops.Flush none consumed replies k = record {
+    after = after;
+    to = k.0;
+    served = piece_served had left asks after bytes old mid new lines rest [] from at k.0 none refl consumed replies k.1;
+  }
+
 pub to_step : {h now : Hierarchy} {had mid_left left : Option (List ℕ)} {before mid_asks after : List ℕ → List Request}
     {old mid new : Option (List ℕ)} {lines rest last : List ℕ} {from at to : ℕ} → now ≡ h
     → RepliesTo (by_hierarchy h) had mid_left before mid_asks old mid lines rest from at
@@ -327,23 +347,40 @@ last_breaks told o request asks old new lines from to is asked none breaks = (
 )
 
 pub last_done : {E : Type 0} (r : Result ⊤ E) (told : Told) (o : Option Request) (request : Request) (asks : List Request)
-    (old mid new : Option (List ℕ)) (lines rest last : List ℕ) (from at to : ℕ) → o ≡ Some request → option_to_list o ≡ asks → lines ≡ []
-    → RepliesOnce told request old mid lines rest from at → OnOk r (HandsOn mid new rest last at to) → OnOk r (last ≡ [])
+    (old mid new : Option (List ℕ)) (lines rest : List ℕ) (from at to : ℕ) → o ≡ Some request → option_to_list o ≡ asks → lines ≡ []
+    → RepliesOnce told request old mid lines rest from at → OnOk r (HandsOn mid new rest [] at to)
     → OnOk r ((text : List ℕ) × AreReplies told asks text × HandsOn old new text [] from to)
-last_done (Err e) told o request asks old mid new lines rest last from at to is asked none once handed all = tt
-last_done (Ok x) told o request asks old mid new lines rest last from at to is asked none once handed all = (
+last_done (Err e) told o request asks old mid new lines rest from at to is asked none once handed = tt
+last_done (Ok x) told o request asks old mid new lines rest from at to is asked none once handed = (
   once.reply,
   subst (λ (rs : List Request). AreReplies told rs once.reply) (last_asked o request asks is asked) (subst (AreReplies told (request ∷ [])) (append-nil once.reply) (one_more once.is nothing)),
-  subst (λ (l : List ℕ). HandsOn old new once.reply l from to) all (subst (λ (l : List ℕ). HandsOn old new (l ++ once.reply) last from to) none (hands_join once.handed handed)),
+  subst (λ (l : List ℕ). HandsOn old new (l ++ once.reply) [] from to) none (hands_join once.handed handed),
 )
 
-pub last_fails : (r : Result ⊤ WriteFault) (told : Told) (o : Option Request) (request : Request) (asks : List Request)
+-- lines that weren't sent behind others that were
+unsent_join : {old mid : Option (List ℕ)} (new : Option (List ℕ)) {lines rest : List ℕ} {from at : ℕ} (e : ServeError) → HandsOn old mid lines rest from at → IsUnsent mid new rest at e → IsUnsent old new lines from e
+unsent_join new (stops.Hierarchy e) h k = k
+unsent_join new stops.OutOfMemory h k = k
+unsent_join new stops.Read h k = k
+unsent_join new (stops.Write fault) h k = part_join h k
+unsent_join new stops.Flush h k = (k.0, hands_join h k.1)
+
+pub last_fails : (r : Result ⊤ ServeError) (told : Told) (o : Option Request) (request : Request) (asks : List Request)
     (old mid new : Option (List ℕ)) (lines rest : List ℕ) (from at : ℕ) → o ≡ Some request → option_to_list o ≡ asks → lines ≡ []
-    → RepliesOnce told request old mid lines rest from at → IfErr r (λ fault. HandsOnPart mid new rest at fault.written)
-    → IfErr r (λ fault. (text : List ℕ) × AreReplies told asks text × HandsOnPart old new text from fault.written)
-last_fails (Ok x) told o request asks old mid new lines rest from at is asked none once part = tt
-last_fails (Err fault) told o request asks old mid new lines rest from at is asked none once part = (
+    → RepliesOnce told request old mid lines rest from at → IfErr r (IsUnsent mid new rest at)
+    → IfErr r (λ e. (text : List ℕ) × AreReplies told asks text × IsUnsent old new text from e)
+last_fails (Ok x) told o request asks old mid new lines rest from at is asked none once unsent = tt
+last_fails (Err e) told o request asks old mid new lines rest from at is asked none once unsent = (
   once.reply,
   subst (λ (rs : List Request). AreReplies told rs once.reply) (last_asked o request asks is asked) (subst (AreReplies told (request ∷ [])) (append-nil once.reply) (one_more once.is nothing)),
-  subst (λ (l : List ℕ). HandsOnPart old new (l ++ once.reply) from fault.written) none (part_join once.handed part),
+  subst (λ (l : List ℕ). IsUnsent old new (l ++ once.reply) from e) none (unsent_join new e once.handed unsent),
 )
+
+-- all lines went to the writer, and then it was called once more and took nothing
+pub hands_kept : {old mid new : Option (List ℕ)} {bytes rest last : List ℕ} {from to : ℕ} → HandsOn old mid bytes rest from to → rest ≡ last → Keeps mid new → HandsOn old new bytes last from to
+hands_kept {old} {mid} {new} {bytes} {last = last} {from = from} {to = to} h all kept = record {
+  taken = h.taken;
+  parts = subst (λ (l : List ℕ). bytes ≡ h.taken ++ l) all h.parts;
+  given = subst (Appends old new) (append-nil h.taken) (Appends-trans old mid new h.taken [] h.given (appends_none mid new kept));
+  counted = h.counted;
+}

@@ -1,4 +1,4 @@
-pub mod BestWays
+pub mod Seeding
 pub mod Handed
 pub mod Served
 pub mod ServedOver

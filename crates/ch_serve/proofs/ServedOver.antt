@@ -1,13 +1,15 @@
 -- Replies by a hierarchy that is right for a graph are replies over that graph.
 use Rattle.std.proofs.Common.{ℕ, ◌≡◌, ◌<◌, List, [], ◌∷◌, length, map, All, Option, Some, None, inl, inr, sym, subst, ◌∙◌}
-use Rattle.std.specs.Prelude.{Contains, IfSome}
 use Rattle.std.specs.List.{AllByRecursion}
 use Rattle.ch_graph.specs.Graph.{Graph, IsLeastLength}
 use Rattle.ch_graph.specs.Limits.{IsGraph}
 use Rattle.ch_graph.specs.Hierarchy.{Hierarchy, IsWellMade}
 use Rattle.ch_graph.specs.declared.version.Version.{Version}
 use Rattle.ch_graph.specs.declared.version.Version.TheVariants.{One, Two}
-use Rattle.ch_route.specs.Laws.{LengthsAreLeast, LengthsAreLeastByWeight, NoneTooLong, NoneTooLongByWeight, RoutesAreFewest, RoutesAreLeastByWeight}
+use Rattle.ch_query.specs.declared.seed.Seed.{Seed}
+use Rattle.ch_query.specs.Seeds.{AreSeeds}
+use Rattle.ch_route.specs.Between.{RouteBetween, HasTooLongBetween, IsRouteBetweenBy, IsShortestBetween}
+use Rattle.ch_route.specs.Laws.{LengthsAreLeast, LengthsAreLeastByWeight, NoneTooLong, NoneTooLongBetween, NoneTooLongBetweenByWeight, NoneTooLongByWeight, RoutesAreFewest, RoutesAreLeastByWeight, RoutesBetweenAreFewest, RoutesBetweenAreLeastByWeight}
 use Rattle.ch_route.specs.Routes.{Route, HasTooLong, IsFewestWalk, IsLeastWalk, IsLengthBy, IsRouteBy}
 use Rattle.ch_answer.specs.File.{IsRightIn}
 use Rattle.grfile.specs.Reading.{SpelledGraphsAreInRange}
@@ -17,10 +19,10 @@ use Rattle.grfile.specs.declared.requests.Place.{Place}
 use Rattle.grfile.specs.declared.requests.Request.{Request}
 use Rattle.grfile.specs.declared.requests.Request.TheVariants as asks
 use Rattle.hierfile.specs.Laws.{HierarchiesHaveOneSpelling}
-use Rattle.ch_serve.specs.declared.between.Way.{Way}
-use Rattle.ch_serve.specs.Between.{IsBest, IsWay}
-use Rattle.ch_serve.specs.Reply.{AreReplies, Gets, IsReply, by_hierarchy, over, nothing, one_more}
+use Rattle.ch_serve.specs.Places.{seeds_of}
+use Rattle.ch_serve.specs.Reply.{AreReplies, Gets, IsBetweenTold, IsReply, by_hierarchy, over, nothing, one_more}
 use Rattle.ch_serve.specs.Serving.{ServicesAre}
+use Rattle.ch_serve.proofs.Seeding.{are_seeds}
 
 -- what a hierarchy answers is what the graph does, in this version
 pub record AnswersAs (IsRoute : Graph → ℕ → ℕ → Option Route → Type 0) (g : Graph) (h : Hierarchy) : Type 0 where
@@ -28,48 +30,25 @@ pub record AnswersAs (IsRoute : Graph → ℕ → ℕ → Option Route → Type 
   pub routes : (s t : ℕ) (r : Option Route) → s < g.nodes → t < g.nodes → IsRouteBy h s t r → IsRoute g s t r
   pub lengths : (s t : ℕ) (n : Option ℕ) → s < g.nodes → t < g.nodes → IsLengthBy h s t n → IsLeastLength g s t n
   pub short : (s t : ℕ) → s < g.nodes → t < g.nodes → HasTooLong h s t → ⊥
-
-place_in : (n : ℕ) (places : List Place) (p : Place) → All (IsPlace n) places → Contains places p → p.node < n
-place_in n places p all within = (subst (IsPlace n) within.2 (all within.0 p within.1)).0
-
-way_over : {A B : ℕ → ℕ → Option ℕ → Type 0} (n : ℕ) (starts stops : List Place) (best : Option Way) → ((s t : ℕ) (m : Option ℕ) → s < n → t < n → A s t m → B s t m) → All (IsPlace n) starts → All (IsPlace n) stops → IfSome best (IsWay A starts stops) → IfSome best (IsWay B starts stops)
-way_over n starts stops None f from to h = tt
-way_over n starts stops (Some way) f from to h = record {
-  begins = h.begins;
-  ends = h.ends;
-  between = h.between;
-  leads = f way.start.node way.stop.node (Some h.between) (place_in n starts way.start from h.begins) (place_in n stops way.stop to h.ends) h.leads;
-  sum = h.sum;
-}
-
-best_over : {A B : ℕ → ℕ → Option ℕ → Type 0} (n : ℕ) (starts stops : List Place) (best : Option Way) → ((s t : ℕ) (m : Option ℕ) → s < n → t < n → A s t m → B s t m) → All (IsPlace n) starts → All (IsPlace n) stops → IsBest A starts stops best → IsBest B starts stops best
-best_over n starts stops best f from to h = record {
-  found = way_over n starts stops best f from to h.found;
-  beaten = λ s t begins ends. let b = h.beaten s t begins ends in record {
-    between = b.between;
-    leads = f s.node t.node b.between (place_in n starts s from begins) (place_in n stops t to ends) b.leads;
-    least = b.least;
-  };
-}
+  pub between : (starts ends : List Seed) (r : Option RouteBetween) → AreSeeds h starts → AreSeeds h ends → IsRouteBetweenBy h starts ends r → IsShortestBetween IsRoute g starts ends r
+  pub short_between : (starts ends : List Seed) → AreSeeds h starts → AreSeeds h ends → HasTooLongBetween h starts ends → ⊥
 
 module _ (IsRoute : Graph → ℕ → ℕ → Option Route → Type 0) (g : Graph) (h : Hierarchy) (as_graph : AnswersAs IsRoute g h) where
+  places_in : (places : List Place) → All (IsPlace g.nodes) places → AreSeeds h (seeds_of places)
+  places_in places within = are_seeds h places (subst (λ (n : ℕ). All (IsPlace n) places) (sym as_graph.nodes) within)
+
+  between_over : (starts ends : List Seed) (reply : List ℕ) → AreSeeds h starts → AreSeeds h ends → IsBetweenTold (by_hierarchy h) starts ends reply → IsBetweenTold (over IsRoute g) starts ends reply
+  between_over starts ends reply begins stops (inl w) =
+      inl (record { route = w.route; best = as_graph.between starts ends (Some w.route) begins stops w.best; start = w.start; stop = w.stop; begins = w.begins; stops = w.stops; tells = w.tells })
+  between_over starts ends reply begins stops (inr (inl none)) = inr (inl (as_graph.between starts ends None begins stops none.0, none.1))
+  between_over starts ends reply begins stops (inr (inr long)) = absurd (as_graph.short_between starts ends begins stops long.0)
+
   gets_over : (request : Request) (reply : List ℕ) → IsInRange g.nodes request → Gets (by_hierarchy h) request reply → Gets (over IsRoute g) request reply
   gets_over asks.Comment reply within gets = gets
   gets_over (asks.Route pair) reply within (inl a) = inl (record { route = a.route; leads = as_graph.routes pair.0 pair.1 a.route within.0 within.1 a.leads; tells = a.tells })
   gets_over (asks.Route pair) reply within (inr long) = absurd (as_graph.short pair.0 pair.1 within.0 within.1 long.0)
   gets_over (asks.Length pair) reply within told = record { length = told.length; least = as_graph.lengths pair.0 pair.1 told.length within.0 within.1 told.least; tells = told.tells }
-  gets_over (asks.Between ends) reply within (inl w) =
-      let best = best_over g.nodes ends.starts.items ends.ends.items (Some w.way) as_graph.lengths within.0 within.1 w.best in
-      inl (record {
-        way = w.way;
-        route = w.route;
-        best = best;
-        leads = as_graph.routes w.way.start.node w.way.stop.node (Some w.route) (place_in g.nodes ends.starts.items w.way.start within.0 w.best.found.begins) (place_in g.nodes ends.ends.items w.way.stop within.1 w.best.found.ends) w.leads;
-        sum = w.sum;
-        tells = w.tells;
-      })
-  gets_over (asks.Between ends) reply within (inr (inl none)) = inr (inl (record { none = best_over g.nodes ends.starts.items ends.ends.items None as_graph.lengths within.0 within.1 none.none; tells = none.tells }))
-  gets_over (asks.Between ends) reply within (inr (inr w)) = absurd (as_graph.short w.way.start.node w.way.stop.node (place_in g.nodes ends.starts.items w.way.start within.0 w.best.found.begins) (place_in g.nodes ends.ends.items w.way.stop within.1 w.best.found.ends) w.too_long)
+  gets_over (asks.Between ends) reply within told = between_over (seeds_of ends.starts.items) (seeds_of ends.ends.items) reply (places_in ends.starts.items within.0) (places_in ends.ends.items within.1) told
   gets_over (asks.Fault kind) reply within gets = gets
   gets_over asks.LineTooLong reply within gets = gets
 
@@ -109,18 +88,23 @@ services_over {IsRoute} v one graphs ranges right graph_text bytes requests_text
       };
     }
 
-pub right_two : RoutesAreFewest → LengthsAreLeast → NoneTooLong → (g : Graph) (h : Hierarchy) → IsGraph g → IsRightIn Two g h → h.version ≡ Two → IsWellMade h → AnswersAs IsFewestWalk g h
-right_two routes lengths short g h graph right of_version made = record {
+pub right_two : RoutesAreFewest → LengthsAreLeast → NoneTooLong → RoutesBetweenAreFewest → NoneTooLongBetween → (g : Graph) (h : Hierarchy) → IsGraph g → IsRightIn Two g h → h.version ≡ Two → IsWellMade h → AnswersAs IsFewestWalk g h
+right_two routes lengths short between short_between g h graph right of_version made = record {
   nodes = right.nodes;
   routes = λ s t r from to. routes g h s t r graph right from to;
   lengths = λ s t n from to. lengths g h s t n right from to;
   short = λ s t from to. short g h s t graph right from to;
+  between = λ starts ends r begins stops. between g h starts ends r graph right made begins stops;
+  short_between = λ starts ends begins stops. short_between g h starts ends graph right made begins stops;
 }
 
-pub right_one : RoutesAreLeastByWeight → LengthsAreLeastByWeight → NoneTooLongByWeight → (g : Graph) (h : Hierarchy) → IsGraph g → IsRightIn One g h → h.version ≡ One → IsWellMade h → AnswersAs IsLeastWalk g h
-right_one routes lengths short g h graph right of_version made = record {
+pub right_one : RoutesAreLeastByWeight → LengthsAreLeastByWeight → NoneTooLongByWeight → RoutesBetweenAreLeastByWeight → NoneTooLongBetweenByWeight → (g : Graph) (h : Hierarchy) → IsGraph g → IsRightIn One g h → h.version ≡ One → IsWellMade h
+    → AnswersAs IsLeastWalk g h
+right_one routes lengths short between short_between g h graph right of_version made = record {
   nodes = right.nodes;
   routes = λ s t r from to. routes g h s t r right from to;
   lengths = λ s t n from to. lengths g h s t n right from to;
   short = λ s t from to. short g h s t graph right of_version made from to;
+  between = λ starts ends r begins stops. between g h starts ends r right made begins stops;
+  short_between = λ starts ends begins stops. short_between g h starts ends graph right of_version made begins stops;
 }

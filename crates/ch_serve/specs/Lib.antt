@@ -1,4 +1,4 @@
-pub mod Between
+pub mod Places
 pub mod Reply
 pub mod Serving
 pub mod Progress

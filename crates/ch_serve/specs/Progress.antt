@@ -62,3 +62,12 @@ StopsReplying told had left before old new lines from (stops.Hierarchy e) = ⊥
 StopsReplying told had left before old new lines from stops.OutOfMemory = ⊥
 StopsReplying told had left before old new lines from stops.Read = StopsAtRead told had left before old new lines from
 StopsReplying told had left before old new lines from (stops.Write fault) = BreaksIn told had left before old new lines from fault.written
+StopsReplying told had left before old new lines from stops.Flush = StopsAtRead told had left before old new lines from
+
+-- what became of lines that should be sent: the writer failed at them, or it took all and couldn't be flushed
+abbrev pub IsUnsent : Option (List ℕ) → Option (List ℕ) → List ℕ → ℕ → ServeError → Type 0
+IsUnsent old new lines from (stops.Hierarchy e) = ⊥
+IsUnsent old new lines from stops.OutOfMemory = ⊥
+IsUnsent old new lines from stops.Read = ⊥
+IsUnsent old new lines from (stops.Write fault) = HandsOnPart old new lines from fault.written
+IsUnsent old new lines from stops.Flush = (to : ℕ) × HandsOn old new lines [] from to

@@ -1,5 +1,5 @@
 -- Replies to all requests of a text, by the file of a hierarchy.
-use Rattle.std.specs.Prelude.{ℕ, ◌≡◌, ⊤, List, ◌++◌, length, take, codes, Option, Some, Ok}
+use Rattle.std.specs.Prelude.{ℕ, ◌≡◌, ◌≤◌, ⊤, List, ◌++◌, length, take, codes, Option, Some, Ok}
 use Rattle.std.specs.Io.KnownBytes.{Consumes, Keeps}
 use Rattle.ch_graph.specs.Graph.{Graph}
 use Rattle.ch_graph.specs.Hierarchy.{Hierarchy}
@@ -47,13 +47,15 @@ pub record ServesOver (IsRoute : Graph → ℕ → ℕ → Option Route → Type
   pub served : AreServed (ready hierarchy) (over IsRoute graph) (requests_of graph.nodes requests_text) text
 
 -- What a service has done that ended before its requests did: nothing, where the hierarchy or memory for it was refused.
--- Where the requests couldn't be read, it has replied to all lines that end in the bytes that were read; and where the
--- replies couldn't be written, the writer has taken the first part of replies to first requests of those bytes.
+-- Where the requests couldn't be read, it has replied to all lines that end in the bytes that were read; where the replies
+-- couldn't be written, the writer has taken the first part of replies to first requests of those bytes; and where it couldn't
+-- be flushed, it has taken the replies to all lines that end in them, and at the reader's end perhaps to the last line too.
 abbrev pub StopsServing : (ℕ → List ℕ → List ℕ → Type 0) → Option (List ℕ) → Option (List ℕ) → Option (List ℕ) → Option (List ℕ) → ServeError → Type 0
 StopsServing P had left old new (stops.Hierarchy e) = Keeps old new
 StopsServing P had left old new stops.OutOfMemory = Keeps old new
 StopsServing P had left old new stops.Read = (read : List ℕ) × Consumes had left read × Writes (P (line_feeds read) read) old new
 StopsServing P had left old new (stops.Write fault) = (read : List ℕ) × Consumes had left read × ((count : ℕ) × WritesFirst (P count read) old new fault.written)
+StopsServing P had left old new stops.Flush = (read : List ℕ) × Consumes had left read × ((count : ℕ) × (line_feeds read ≤ count) × Writes (P count read) old new)
 
 -- by a hierarchy in memory, replies to the first requests
 abbrev pub ServedFirst : Hierarchy → ℕ → List ℕ → List ℕ → Type 0
@@ -65,6 +67,7 @@ KeepsBefore old new (stops.Hierarchy e) = Keeps old new
 KeepsBefore old new stops.OutOfMemory = Keeps old new
 KeepsBefore old new stops.Read = ⊤
 KeepsBefore old new (stops.Write fault) = ⊤
+KeepsBefore old new stops.Flush = ⊤
 
 -- no fault of a file
 abbrev pub IsOwn : ServeError → Type 0
@@ -72,6 +75,7 @@ IsOwn (stops.Hierarchy e) = ⊥
 IsOwn stops.OutOfMemory = ⊤
 IsOwn stops.Read = ⊤
 IsOwn (stops.Write fault) = ⊤
+IsOwn stops.Flush = ⊤
 
 -- a refused hierarchy has the fault that is told of its bytes
 abbrev pub IsFileFault : List ℕ → ServeError → Type 0
@@ -79,6 +83,7 @@ IsFileFault bytes (stops.Hierarchy e) = OfBytes e (first_fault bytes ≡ Some e)
 IsFileFault bytes stops.OutOfMemory = ⊤
 IsFileFault bytes stops.Read = ⊤
 IsFileFault bytes (stops.Write fault) = ⊤
+IsFileFault bytes stops.Flush = ⊤
 
 -- Where the bytes were prepared from the text of a graph, in this version, replies by these bytes are replies over that
 -- graph, by routes of this kind.
@@ -93,6 +98,7 @@ shown (stops.Hierarchy e) = codes "hierarchy: " ++ error_name e
 shown stops.OutOfMemory = codes "memory"
 shown stops.Read = codes "read"
 shown (stops.Write fault) = codes "write"
+shown stops.Flush = codes "write"
 
 -- By a file of version 2 each route is of all least walks one with the fewest arcs.
 abbrev pub ServicesHaveFewestArcs : Type 0

@@ -1,6 +1,6 @@
 ghost use Rattle.std.specs.Prelude.{◌≡◌, Some};
 ghost use Rattle.ch_serve.specs.Serving.{shown};
-ghost use Rattle.ch_serve.specs.declared.error.ServeError.TheVariants.{Hierarchy, OutOfMemory, Read, Write};
+ghost use Rattle.ch_serve.specs.declared.error.ServeError.TheVariants.{Flush, Hierarchy, OutOfMemory, Read, Write};
 
 use counted_io::{ReadFault, WriteFault};
 use hierfile::HierError;
@@ -19,7 +19,13 @@ pub enum ServeError {
     Read,
     /// The replies couldn't be written.
     Write(WriteFault),
+    /// The writer has taken the replies to all lines that had ended, and couldn't be flushed.
+    Flush,
 }
+
+/// The writer couldn't be flushed.
+#[derive(Clone, Copy)]
+pub(crate) struct FlushFault;
 
 impl fmt::Display for ServeError {
     ghost output = { λ e. Some (shown e) };
@@ -31,7 +37,7 @@ impl fmt::Display for ServeError {
             ServeError::Hierarchy(fault) => write!(f, "hierarchy: {fault}"),
             ServeError::OutOfMemory => write!(f, "memory"),
             ServeError::Read => write!(f, "read"),
-            ServeError::Write(_) => write!(f, "write"),
+            ServeError::Write(_) | ServeError::Flush => write!(f, "write"),
         }
     }
 }
@@ -67,5 +73,13 @@ impl From<WriteFault> for ServeError {
 
     fn from(fault: WriteFault) -> ServeError {
         ServeError::Write(fault)
+    }
+}
+
+impl From<FlushFault> for ServeError {
+    ghost from_gives = { λ _ e. e ≡ Flush };
+
+    fn from(_fault: FlushFault) -> ServeError {
+        ServeError::Flush
     }
 }

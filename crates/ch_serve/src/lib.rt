@@ -15,14 +15,14 @@
 //! ```
 #![tactic(auto)]
 
-mod between;
 mod error;
 mod laws;
 mod line;
+mod places;
 mod replying;
+mod sending;
 mod serving;
 
-pub use between::Way;
 pub use error::ServeError;
 pub use laws::services_are_exact;
 pub use serving::{serve, serve_by};

@@ -2,10 +2,9 @@ ghost use Rattle.std.specs.Prelude.{◌≡◌, ◌++◌, OnOk};
 ghost use Rattle.std.specs.Io.{StartsWith};
 ghost use Rattle.ch_serve.specs.Reply.{length_line, ready, refused, way_line};
 
-use crate::between::Way;
 use ch_answer::{push_along, push_nodes, push_number};
 use ch_graph::Hierarchy;
-use ch_route::Route;
+use ch_route::RouteBetween;
 use std::alloc::AllocError;
 
 /// Appends the line that the hierarchy is ready, or a part of it where memory is refused.
@@ -55,14 +54,18 @@ pub(crate) fn push_length(
     Ok(())
 }
 
-/// Appends the line of a way between places, or a part of it where memory is refused.
-pub(crate) fn push_way(way: &Way, route: &Route, lines: &mut Vec<u8>) -> Result<(), AllocError>
-    ensures ok { OnOk result (lines.new.items ≡ lines.old.items ++ way_line way.now route.now.nodes) }
+/// Appends the line of a route between the nodes of a start and an end, or a part of it where memory is refused.
+pub(crate) fn push_way(
+    pair: (u32, u32),
+    route: &RouteBetween,
+    lines: &mut Vec<u8>,
+) -> Result<(), AllocError>
+    ensures ok { OnOk result (lines.new.items ≡ lines.old.items ++ way_line pair route.now) }
     ensures err { StartsWith lines.new.items lines.old.items }
 {
     lines.push(b'r')?;
-    push_nodes(&[way.start.node, way.stop.node], lines)?;
-    push_along(way.whole, route.nodes.as_slice(), lines)?;
+    push_nodes(&[pair.0, pair.1], lines)?;
+    push_along(route.cost.length(), route.nodes.as_slice(), lines)?;
     lines.push(b'\n')?;
     Ok(())
 }

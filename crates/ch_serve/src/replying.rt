@@ -3,12 +3,13 @@ ghost use Rattle.std.specs.Io.{StartsWith};
 ghost use Rattle.grfile.specs.Reading.{IsPair};
 ghost use Rattle.grfile.specs.Requests.{IsInRange};
 ghost use Rattle.grfile.specs.declared.requests.Request.TheVariants as asks;
-ghost use Rattle.ch_serve.specs.Reply.{Gets, by_hierarchy};
+ghost use Rattle.ch_query.specs.Seeds.{AreSeeds};
+ghost use Rattle.ch_serve.specs.Reply.{Gets, IsBetweenTold, by_hierarchy};
 
-use crate::between::best_way;
 use crate::line::{push_length, push_refusal, push_way};
+use crate::places::seeds_of;
 use ch_answer::push_line;
-use ch_route::{Router, UnpackError};
+use ch_route::{Router, Seed, UnpackError};
 use grfile::{Ends, Request};
 use std::alloc::AllocError;
 
@@ -85,18 +86,36 @@ fn push_measured(
     push_length(pair, length, lines)
 }
 
-// Appends the best way between places.
+// Appends the least route between places.
 fn push_between(router: &mut Router<'_>, ends: &Ends, lines: &mut Vec<u8>) -> Result<(), AllocError>
     requires in_range { IsInRange (length router.old.ranks) (asks.Between ends.now) }
     ensures ok { OnOk result ((reply : List ℕ) × Gets (by_hierarchy router.old) (asks.Between ends.now) reply × (lines.new.items ≡ lines.old.items ++ reply)) }
     ensures err { StartsWith lines.new.items lines.old.items }
     ensures kept { router.new ≡ router.old }
 {
-    let Some(way) = best_way(router, ends.starts.as_slice(), ends.ends.as_slice())? else {
-        return lines.extend_from_slice(b"n\n");
-    };
-    match router.route((way.start.node, way.stop.node)) {
-        Ok(Some(route)) => push_way(&way, &route, lines),
+    let (starts, stops) = (ends.starts.as_slice(), ends.ends.as_slice());
+    let (first, last) = (seeds_of(starts), seeds_of(stops));
+    push_least(router, &first[..starts.len()], &last[..stops.len()], lines)
+}
+
+// Appends the least route from one of the starts to one of the ends.
+fn push_least(
+    router: &mut Router<'_>,
+    starts: &[Seed],
+    ends: &[Seed],
+    lines: &mut Vec<u8>,
+) -> Result<(), AllocError>
+    requires starts { AreSeeds router.old starts.now }
+    requires ends { AreSeeds router.old ends.now }
+    ensures ok { OnOk result ((reply : List ℕ) × IsBetweenTold (by_hierarchy router.old) starts.now ends.now reply × (lines.new.items ≡ lines.old.items ++ reply)) }
+    ensures err { StartsWith lines.new.items lines.old.items }
+    ensures kept { router.new ≡ router.old }
+{
+    match router.between(starts, ends) {
+        Ok(Some(route)) => {
+            let (start, stop) = (starts[route.start], ends[route.end]);
+            push_way((start.node, stop.node), &route, lines)
+        }
         Ok(None) => lines.extend_from_slice(b"n\n"),
         Err(UnpackError::TooLong) => push_refusal(b"TooLong", lines),
         Err(UnpackError::OutOfMemory) => Err(AllocError),

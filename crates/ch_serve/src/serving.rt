@@ -1,13 +1,13 @@
 ghost use Rattle.std.specs.Prelude.{◌≡◌, ◌<◌, ◌++◌, ℕ, List, [], false, take, length, OnOk, IfOk, IfErr, IfSome};
 ghost use Rattle.std.specs.Io.KnownBytes.{Consumes, IsAtEnd};
-ghost use Rattle.counted_io.specs.Handing.{HandsOn, HandsOnPart};
+ghost use Rattle.counted_io.specs.Handing.{HandsOn};
 ghost use Rattle.ch_route.specs.Routes.{IsFewestWalk, IsLeastWalk};
 ghost use Rattle.ch_graph.specs.declared.version.Version.TheVariants.{One, Two};
 ghost use Rattle.ch_answer.specs.File.{PreparesIn};
 ghost use Rattle.ch_answer.specs.Written.{IfTold, Writes};
 ghost use Rattle.grfile.specs.Requests.{IsInRange, requests_of, requests_with};
 ghost use Rattle.grfile.specs.Taken.{line_feeds};
-ghost use Rattle.ch_serve.specs.Progress.{Breaks, BreaksAt, Replies, RepliesOnce, RepliesTo, StopsReplying};
+ghost use Rattle.ch_serve.specs.Progress.{Breaks, BreaksAt, IsUnsent, Replies, RepliesOnce, RepliesTo, StopsReplying};
 ghost use Rattle.ch_serve.specs.Reply.{AreReplies, by_hierarchy, ready};
 ghost use Rattle.ch_serve.specs.Serving.{AreServed, IsFileFault, IsOwn, KeepsBefore, ServedFirst, Serves, ServesFirst, ServesOver, StopsServing};
 
@@ -15,6 +15,7 @@ use crate::error::ServeError;
 use crate::laws::services_are_exact;
 use crate::line::push_ready;
 use crate::replying::push_reply;
+use crate::sending::send;
 use ch_answer::Lines;
 use ch_graph::Hierarchy;
 use ch_route::Router;
@@ -30,7 +31,7 @@ const PIECE: usize = 1 << 16;
 ///
 /// `hier` gives the file. When it is read `out` gets a line `ready NODES LINKS VERSION`, and then `requests` is read to its
 /// end: each of its lines is a request, and gets one line, in order. After each read all lines that have ended are replied to,
-/// and the replies are written before the next read. Where the file was prepared from the text of a graph, lengths are least
+/// and the replies are written and flushed before the next read. Where the file was prepared from the text of a graph, lengths are least
 /// over all walks of that graph, and routes are least walks, in version 2 with the fewest arcs.
 ///
 /// A request that is refused, be it for a fault of its line or for want of memory, gets a line that says so, and the
@@ -96,32 +97,31 @@ fn serve_all<Q: Read, W: Write>(
         (Q.remaining requests.old) (Q.remaining requests.new) (W.contents out.old) (W.contents out.new)) }
     ensures own { IfErr result IsOwn }
 {
-    output.hand_over(out)?;
+    send(output, out)?;
     let mut reader = RequestReader::new(router.nodes());
     serve_pieces(router, &mut reader, requests, output, out)?;
-    reply_to_last(router, &reader, output, out)?;
-    Ok(())
+    reply_to_last(router, &reader, output, out)
 }
 
-// Replies to the request of the line that hasn't ended, where there is one, and hands the reply over.
+// Replies to the request of the line that hasn't ended, where there is one, and sends the reply.
 fn reply_to_last<W: Write>(
     router: &mut Router<'_>,
     reader: &RequestReader,
     output: &mut Lines,
     out: &mut W,
-) -> Result<(), WriteFault>
+) -> Result<(), ServeError>
     requires nodes { reader.now.nodes ≡ length router.old.ranks }
     requires empty { output.old.lines.items ≡ [] }
     ensures ok { OnOk result ((text : List ℕ) × AreReplies (by_hierarchy router.old) (requests_with reader.now []) text
         × HandsOn (W.contents out.old) (W.contents out.new) text [] output.old.calls.written output.new.calls.written) }
-    ensures err { IfErr result (λ fault. (text : List ℕ) × AreReplies (by_hierarchy router.old) (requests_with reader.now []) text
-        × HandsOnPart (W.contents out.old) (W.contents out.new) text output.old.calls.written fault.written) }
+    ensures err { IfErr result (λ e. (text : List ℕ) × AreReplies (by_hierarchy router.old) (requests_with reader.now []) text
+        × IsUnsent (W.contents out.old) (W.contents out.new) text output.old.calls.written e) }
 {
     let Some(request) = reader.last() else {
         return Ok(());
     };
     reply(router, &request, output, out)?;
-    output.hand_over(out)
+    send(output, out)
 }
 
 // Replies to one request. Where memory is refused for the reply, that is told in its place.
@@ -167,8 +167,8 @@ fn reply_to_lines<W: Write>(
     Ok(())
 }
 
-// Reads once, replies to the lines that end in what came, and hands all replies over; whether anything came before the
-// reader's end.
+// Reads once, replies to the lines that end in what came, and sends all replies; whether anything came before the reader's
+// end.
 fn serve_piece<Q: Read, W: Write>(
     calls: &mut ReadCalls,
     router: &mut Router<'_>,
@@ -197,7 +197,7 @@ fn serve_piece<Q: Read, W: Write>(
         return Ok(false);
     }
     reply_to_lines(router, reader, &piece[..count], output, out)?;
-    output.hand_over(out)?;
+    send(output, out)?;
     Ok(true)
 }
 

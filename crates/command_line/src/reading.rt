@@ -5,20 +5,28 @@ ghost use Rattle.jobs.specs.Job.{names_one_file};
 use crate::version::VERSION;
 use clap::error::ErrorKind;
 use clap::{Arg, ArgAction, ArgMatches, Command, Error, value_parser};
-use jobs::{Job, Order, Preparation, Stint, Stop, Workers};
+use jobs::{Call, Job, Order, Preparation, Stint, Stop, Workers};
 use std::alloc::{AllocError, Global};
 
 /// What the words of a command line ask for. The first word is the program's name.
 ///
 /// Words that ask for help or the version, and words that are refused, stop with the text for the user. One word for both files of
 /// `prepare` is refused: the hierarchy would take the place of the graph.
-pub fn command(alloc: Global, words: &[String]) -> Result<Job<'_>, Stop>
-    ensures { IfOk result (λ job. names_one_file job ≡ false) }
+pub fn command(alloc: Global, words: &[String]) -> Result<Call<'_>, Stop>
+    ensures { IfOk result (λ call. names_one_file call.job ≡ false) }
 {
     match read_words(alloc, words) {
-        Ok(job) => job.of_two_files(),
+        Ok(call) => of_two_files(call),
         Err(error) => Err(stop_of(alloc, &error)),
     }
+}
+
+// The call, unless its job names one file twice.
+fn of_two_files(call: Call<'_>) -> Result<Call<'_>, Stop>
+    ensures { IfOk result (λ call. names_one_file call.job ≡ false) }
+{
+    let job = call.job.of_two_files()?;
+    Ok(Call { job, ..call })
 }
 
 // How the program stops at an error of the command line.
@@ -33,15 +41,18 @@ fn stop_of(alloc: Global, error: &Error) -> Stop {
     }
 }
 
-// The job that the words name, or the error that tells the user.
-fn read_words(alloc: Global, words: &[String]) -> Result<Job<'_>, Error> {
+// What the words ask for, or the error that tells the user.
+fn read_words(alloc: Global, words: &[String]) -> Result<Call<'_>, Error> {
     let program = program(alloc)?;
     let matches = program.try_get_matches_from(words)?;
     let Some((name, found)) = matches.subcommand() else {
         unreachable!()
     };
     match job_of(name, found) {
-        Some(job) => Ok(job),
+        Some(job) => {
+            let explain = found.get_flag("explain");
+            Ok(Call { job, explain })
+        }
         None => Err(missing_value(alloc)?),
     }
 }
@@ -52,6 +63,7 @@ fn job_of<'a>(name: &str, found: &ArgMatches<'a>) -> Option<Job<'a>> {
         "prepare" => preparing(found),
         "route" => routing(found),
         "serve" => serving(found),
+        "info" => informing(found),
         _ => answering(found),
     }
 }
@@ -82,6 +94,11 @@ fn routing<'a>(found: &ArgMatches<'a>) -> Option<Job<'a>> {
 fn serving<'a>(found: &ArgMatches<'a>) -> Option<Job<'a>> {
     let hierarchy = found.get_str("HIER")?;
     Some(Job::Serve { hierarchy })
+}
+
+fn informing<'a>(found: &ArgMatches<'a>) -> Option<Job<'a>> {
+    let hierarchy = found.get_str("HIER")?;
+    Some(Job::Info { hierarchy })
 }
 
 fn answering<'a>(found: &ArgMatches<'a>) -> Option<Job<'a>> {
@@ -132,6 +149,7 @@ fn program<'a>(alloc: Global) -> Result<Command<'a>, AllocError>
     let program = with(program, prepare(alloc))?;
     let program = with(program, route(alloc))?;
     let program = with(program, serve(alloc))?;
+    let program = with(program, info(alloc))?;
     Ok(with_a_command(program))
 }
 
@@ -163,11 +181,22 @@ fn answer<'a>(alloc: Global) -> Result<Command<'a>, AllocError>
             "Answers pairs of nodes over a small graph: r S T LENGTH ARCS and the nodes of a least route, or n S T where there is none",
         )
         .after_help(ANSWERING)
+        .arg(explain(alloc))?
         .arg(file(alloc, "GRAPH", GRAPH))?
         .arg(file(alloc, "QUERIES", QUERIES))
 }
 
 fn prepare<'a>(alloc: Global) -> Result<Command<'a>, AllocError>
+    ensures { IfOk result (λ prepare. (out-Command prepare).has_globals ≡ false) }
+{
+    preparation(alloc)?
+        .arg(explain(alloc))?
+        .arg(file(alloc, "GRAPH", GRAPH))?
+        .arg(file(alloc, "OUT", OUT))
+}
+
+// The command to prepare, with what is chosen for that alone.
+fn preparation<'a>(alloc: Global) -> Result<Command<'a>, AllocError>
     ensures { IfOk result (λ prepare. (out-Command prepare).has_globals ≡ false) }
 {
     Command::new(alloc, "prepare")
@@ -177,9 +206,7 @@ fn prepare<'a>(alloc: Global) -> Result<Command<'a>, AllocError>
         .arg(seed(alloc))?
         .arg(order(alloc))?
         .arg(stint(alloc))?
-        .arg(progress(alloc))?
-        .arg(file(alloc, "GRAPH", GRAPH))?
-        .arg(file(alloc, "OUT", OUT))
+        .arg(progress(alloc))
 }
 
 fn route<'a>(alloc: Global) -> Result<Command<'a>, AllocError>
@@ -187,6 +214,7 @@ fn route<'a>(alloc: Global) -> Result<Command<'a>, AllocError>
 {
     Command::new(alloc, "route")
         .about("Answers pairs of nodes, as answer does, by a hierarchy that was prepared")
+        .arg(explain(alloc))?
         .arg(file(alloc, "HIER", HIER))?
         .arg(file(alloc, "QUERIES", QUERIES))
 }
@@ -197,6 +225,17 @@ fn serve<'a>(alloc: Global) -> Result<Command<'a>, AllocError>
     Command::new(alloc, "serve")
         .about("Replies to each line of standard input by a line, by a hierarchy that was prepared")
         .after_help(SERVING)
+        .arg(explain(alloc))?
+        .arg(file(alloc, "HIER", HIER))
+}
+
+fn info<'a>(alloc: Global) -> Result<Command<'a>, AllocError>
+    ensures { IfOk result (λ info. (out-Command info).has_globals ≡ false) }
+{
+    Command::new(alloc, "info")
+        .about("Prints the version, nodes, links, bound and bytes of a hierarchy that was prepared")
+        .after_help(INFORMING)
+        .arg(explain(alloc))?
         .arg(file(alloc, "HIER", HIER))
 }
 
@@ -254,6 +293,16 @@ fn progress<'a>(alloc: Global) -> Arg<'a>
         .action(ArgAction::SetTrue)
 }
 
+// Whether a refusal is explained without a terminal.
+fn explain<'a>(alloc: Global) -> Arg<'a>
+    ensures { result.global ≡ false }
+{
+    Arg::new(alloc, "explain")
+        .long("explain")
+        .help(EXPLAIN)
+        .action(ArgAction::SetTrue)
+}
+
 // An option with a value.
 fn option<'a>(alloc: Global, name: &'a str, value: &'a str, help: &'a str) -> Arg<'a>
     ensures { result.global ≡ false }
@@ -284,7 +333,10 @@ const STINT: &str =
     "After how many commits a worker goes on by the next order, of the one that is asked for and then the others: 1 to 1099511627776; without it a worker keeps to the one";
 
 const PROGRESS: &str =
-    "Show on standard error how many nodes are contracted and how long the rest may take, where that is a terminal";
+    "Show on standard error how many nodes are contracted and how long the rest may take, where that is a terminal, and at the end what was made";
+
+const EXPLAIN: &str =
+    "Explain a refusal in more lines on standard error, as is done where that is a terminal";
 
 const HIER: &str = "File of a hierarchy that prepare made";
 
@@ -297,6 +349,9 @@ const PREPARING: &str =
 const SERVING: &str =
     "q S T asks for a route, d S T for its length, b S C .. : T D .. for the best from places with lengths that are added.\n\n\
 A line that begins with c gets c, and one with a fault e and the fault's name.";
+
+const INFORMING: &str =
+    "The file is read to its end, and refused where route refuses it; the bound is the greatest length that a route may have.";
 
 const ANSWERING: &str =
     "With - for both files standard input has both texts, parted by a line that is %.\n\n\

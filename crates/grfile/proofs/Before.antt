@@ -1,5 +1,5 @@
 -- Which faults a text may have whose first lines were read.
-use Rattle.std.proofs.Common.{ℕ, ◌≡◌, ◌≢◌, ◌-◌, ◌≤◌, eqb, cond, true, false, if◌then◌else◌, List, [], ◌∷◌, ◌++◌, drop, map, Option, None, Some, Result, Ok, Err, MatchOption, IfSome, arith, refl, ap, sym, ◌∙◌, subst}
+use Rattle.std.proofs.Common.{ℕ, ◌≡◌, ◌-◌, ◌≤◌, eqb, cond, true, false, if◌then◌else◌, List, [], ◌∷◌, ◌++◌, drop, map, Option, None, Some, Result, Ok, Err, MatchOption, IfSome, arith, refl, ap, sym, ◌∙◌, subst}
 use Rattle.std.specs.Prelude.{⊤}
 use Rattle.std.specs.Result.{IfErr}
 use Rattle.std.proofs.lemmas.Result.{IfErr-at_err, IfErr-weaker}
@@ -17,7 +17,7 @@ use Rattle.grfile.specs.Progress.{listing_from}
 use Rattle.grfile.specs.Roads.{graph_grammar}
 use Rattle.grfile.specs.Pairs.{pair_grammar}
 use Rattle.grfile.specs.Reading.{graph_of, pairs_of}
-use Rattle.grfile.specs.Taken.{ComesFirst, HasTaken, IsAtEndOf, IsReadTo, PairsTaken, StopsWith, Taken, cut_after, graph_with, lines_after, pairs_with, told_with}
+use Rattle.grfile.specs.Taken.{ComesFirst, HasTaken, IsAtEndOf, IsReadTo, StopsWith, Taken, cut_after, graph_with, lines_after, pairs_with, told_with}
 use Rattle.grfile.proofs.Cuttings.{told_first, wants_memory}
 use Rattle.grfile.proofs.Faults.{bind_err, test_err, graph_size-at, road_of-at, pairs_size-at, pair_of-at}
 use Rattle.grfile.proofs.Readings.{as_graph, as_pairs, graph_seen, pairs_seen}

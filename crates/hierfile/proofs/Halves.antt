@@ -1,5 +1,5 @@
 -- Links by their ends, and the halves of a link.
-use Rattle.std.proofs.Common.{ℕ, zero, suc, ◌≡◌, ◌+◌, ◌<◌, length, drop, Bool, true, false, cond, not, List, [], ◌∷◌, get_or, Option, None, Some, AllPairs, inl, inr, sym, refl, ap, ◌∙◌, subst, arith}
+use Rattle.std.proofs.Common.{ℕ, zero, suc, ◌≡◌, Bool, true, false, cond, not, List, [], ◌∷◌, get_or, Option, None, Some, AllPairs, inl, inr, sym, refl, ap, ◌∙◌, subst, arith}
 use Rattle.std.specs.List.{find}
 use Rattle.std.proofs.lemmas.Bool.Decides.{nat_tests}
 use Rattle.ch_cost.specs.Cost.{◌⊕◌, same}

@@ -2,7 +2,7 @@
 use Rattle.std.specs.Prelude.{Bool, false, ◌&&◌, ⊤, codes}
 use Rattle.std.specs.Str.{bytes_eq}
 use Rattle.jobs.specs.declared.job.Job.{Job}
-use Rattle.jobs.specs.declared.job.Job.TheVariants.{Answer, Prepare, Route, Serve}
+use Rattle.jobs.specs.declared.job.Job.TheVariants.{Answer, Prepare, Route, Serve, Info}
 
 -- both texts stand in one input
 abbrev pub is_joined : Job → Bool
@@ -10,6 +10,7 @@ is_joined (Answer graph queries) = bytes_eq graph.now (codes "-") && bytes_eq qu
 is_joined (Prepare preparation) = false
 is_joined (Route hierarchy queries) = false
 is_joined (Serve hierarchy) = false
+is_joined (Info hierarchy) = false
 
 -- the file of a hierarchy is to be made under the name of the graph
 abbrev pub names_one_file : Job → Bool
@@ -17,6 +18,7 @@ names_one_file (Answer graph queries) = false
 names_one_file (Prepare preparation) = bytes_eq preparation.graph.now preparation.out.now
 names_one_file (Route hierarchy queries) = false
 names_one_file (Serve hierarchy) = false
+names_one_file (Info hierarchy) = false
 
 -- pairs are to be answered over a graph
 abbrev pub IsAnswering : Job → Type 0
@@ -37,3 +39,8 @@ IsRouting job = ⊥
 abbrev pub IsServing : Job → Type 0
 IsServing (Serve hierarchy) = ⊤
 IsServing job = ⊥
+
+-- what the file of a hierarchy has is to be printed
+abbrev pub IsInforming : Job → Type 0
+IsInforming (Info hierarchy) = ⊤
+IsInforming job = ⊥

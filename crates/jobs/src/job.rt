@@ -26,6 +26,20 @@ pub enum Job<'a> {
         /// The file of the hierarchy.
         hierarchy: &'a str,
     },
+    /// To print what the file of a hierarchy has.
+    Info {
+        /// The file of the hierarchy.
+        hierarchy: &'a str,
+    },
+}
+
+/// What a command line asks for.
+#[derive(Clone, Copy, Debug, PartialEq, Eq)]
+pub struct Call<'a> {
+    /// The job.
+    pub job: Job<'a>,
+    /// Whether a refusal is explained also where standard error is no terminal.
+    pub explain: bool,
 }
 
 /// Why a command line names no job, with the text for the user.
@@ -52,7 +66,7 @@ impl Job<'_> {
     {
         match self {
             Job::Answer { graph, queries } => *graph == "-" && *queries == "-",
-            Job::Prepare(_) | Job::Route { .. } | Job::Serve { .. } => false,
+            Job::Prepare(_) | Job::Route { .. } | Job::Serve { .. } | Job::Info { .. } => false,
         }
     }
 
@@ -62,7 +76,7 @@ impl Job<'_> {
     {
         match self {
             Job::Prepare(preparation) => preparation.graph == preparation.out,
-            Job::Answer { .. } | Job::Route { .. } | Job::Serve { .. } => false,
+            Job::Answer { .. } | Job::Route { .. } | Job::Serve { .. } | Job::Info { .. } => false,
         }
     }
 

@@ -17,7 +17,7 @@ use Rattle.ch_service.specs.Joined.{graph_part, pairs_part}
 use Rattle.ch_service.specs.Outcome.{Writes}
 use Rattle.ch_service.specs.Refusals.{NotBad, RefusesAnswers, RefusesPreparing, RefusesRoutes}
 use Rattle.jobs.specs.declared.job.Job.{Job}
-use Rattle.jobs.specs.declared.job.Job.TheVariants.{Answer, Prepare, Route, Serve}
+use Rattle.jobs.specs.declared.job.Job.TheVariants.{Answer, Prepare, Route, Serve, Info}
 use Rattle.performing.specs.Status.{status_of, status_after, Ends, Tells, TellsPrepared, TellsRouted, IsAnsweringStatus, IsPreparingStatus, IsRoutingStatus, IsServingStatus, IsStatusOf}
 
 -- a refusal has a status of its own
@@ -132,7 +132,10 @@ of_route j n hierarchy queries is status = rw is status
 pub of_service : (j : Job) (n : ℕ) (hierarchy : _) → j ≡ Serve hierarchy → IsServingStatus n → IsStatusOf j n
 of_service j n hierarchy is status = rw is status
 
--- nor where requests are served
+pub of_info : (j : Job) (n : ℕ) (hierarchy : _) → j ≡ Info hierarchy → IsServingStatus n → IsStatusOf j n
+of_info j n hierarchy is status = rw is status
+
+-- nor where requests are served, or what a hierarchy file has is printed
 pub no_worker : (n : ℕ) (P : Type 0) → IsServingStatus n → n ≡ 8 → P
 no_worker n P (inl is) eight = absurd (cc)
 no_worker n P (inr (inl is)) eight = absurd (cc)

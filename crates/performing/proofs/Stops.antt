@@ -1,10 +1,12 @@
--- What the status of a service tells.
+-- What the status tells of a service, and where what a hierarchy file has isn't printed.
 use Rattle.std.proofs.Common.{ℕ, ◌≡◌, ◌≢◌, inl, inr, arith, refl}
 use Rattle.std.specs.Prelude.{◌⊎◌}
 use Rattle.hierfile.specs.declared.error.HierError.TheVariants as faults
 use Rattle.ch_serve.specs.declared.error.ServeError.{ServeError}
 use Rattle.ch_serve.specs.declared.error.ServeError.TheVariants as stops
-use Rattle.performing.specs.Status.{IsServingStatus, status_stopped}
+use Rattle.hierinfo.specs.declared.error.InfoError.{InfoError}
+use Rattle.hierinfo.specs.declared.error.InfoError.TheVariants as infos
+use Rattle.performing.specs.Status.{IsServingStatus, status_stopped, status_uninformed}
 
 four : (n : ℕ) → n ≡ 4 → (n ≢ 0) × IsServingStatus n
 four n is = (λ zero. absurd (omega (arith, is, zero)), inr (inl is))
@@ -35,9 +37,36 @@ stopped (stops.Hierarchy faults.Trailing) = four 4 refl
 stopped stops.OutOfMemory = six 6 refl
 stopped stops.Read = seven 7 refl
 stopped (stops.Write fault) = seven 7 refl
+stopped stops.Flush = seven 7 refl
 
 pub some_stop : (e : ServeError) → status_stopped e ≢ 0
 some_stop e = (stopped e).0
 
 pub stop_status : (e : ServeError) → IsServingStatus (status_stopped e)
 stop_status e = (stopped e).1
+
+uninformed : (e : InfoError) → (status_uninformed e ≢ 0) × IsServingStatus (status_uninformed e)
+uninformed (infos.Hierarchy faults.OutOfMemory) = six 6 refl
+uninformed (infos.Hierarchy faults.Read) = seven 7 refl
+uninformed (infos.Hierarchy faults.BadMagic) = four 4 refl
+uninformed (infos.Hierarchy faults.Truncated) = four 4 refl
+uninformed (infos.Hierarchy faults.TooBig) = four 4 refl
+uninformed (infos.Hierarchy faults.BoundTooBig) = four 4 refl
+uninformed (infos.Hierarchy faults.RankRange) = four 4 refl
+uninformed (infos.Hierarchy faults.RankTwice) = four 4 refl
+uninformed (infos.Hierarchy faults.LinkEnds) = four 4 refl
+uninformed (infos.Hierarchy faults.LinkOrder) = four 4 refl
+uninformed (infos.Hierarchy faults.LinkWeight) = four 4 refl
+uninformed (infos.Hierarchy faults.MiddleRange) = four 4 refl
+uninformed (infos.Hierarchy faults.MiddleRank) = four 4 refl
+uninformed (infos.Hierarchy faults.HalfMissing) = four 4 refl
+uninformed (infos.Hierarchy faults.HalfSum) = four 4 refl
+uninformed (infos.Hierarchy faults.Trailing) = four 4 refl
+uninformed infos.OutOfMemory = six 6 refl
+uninformed (infos.Write fault) = seven 7 refl
+
+pub some_uninformed : (e : InfoError) → status_uninformed e ≢ 0
+some_uninformed e = (uninformed e).0
+
+pub uninformed_status : (e : InfoError) → IsServingStatus (status_uninformed e)
+uninformed_status e = (uninformed e).1

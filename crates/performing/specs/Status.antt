@@ -12,8 +12,11 @@ use Rattle.ch_serve.specs.Serving.{IsFileFault, KeepsBefore, Serves, ServesFirst
 use Rattle.ch_serve.specs.declared.error.ServeError.{ServeError}
 use Rattle.ch_serve.specs.declared.error.ServeError.TheVariants as stops
 use Rattle.hierfile.specs.declared.error.HierError.TheVariants as faults
+use Rattle.hierinfo.specs.Info.{Informs, RefusesInfo}
+use Rattle.hierinfo.specs.declared.error.InfoError.{InfoError}
+use Rattle.hierinfo.specs.declared.error.InfoError.TheVariants as infos
 use Rattle.jobs.specs.declared.job.Job.{Job}
-use Rattle.jobs.specs.declared.job.Job.TheVariants.{Answer, Prepare, Route, Serve}
+use Rattle.jobs.specs.declared.job.Job.TheVariants.{Answer, Prepare, Route, Serve, Info}
 
 -- The status of a refusal, by what it comes of. A route that is too long is a fault of the hierarchy, and bad options
 -- would be one of the command line.
@@ -58,11 +61,25 @@ status_stopped (stops.Hierarchy fault) = 4
 status_stopped stops.OutOfMemory = 6
 status_stopped stops.Read = 7
 status_stopped (stops.Write fault) = 7
+status_stopped stops.Flush = 7
 
 -- and that of a serving job, of the file of the hierarchy and of the requests that a reader had and has left
 pub record TellsServed (status : ℕ) (file had left old new : Option (List ℕ)) : Type 0 where
   pub done : status ≡ 0 → IfTold file had (λ bytes requests_text. Writes (Serves bytes requests_text) old new)
   pub refused : status ≢ 0 → (e : ServeError) × (status ≡ status_stopped e) × KeepsBefore old new e × IfSome file (λ bytes. IsFileFault bytes e) × IfSome file (λ bytes. StopsServing (λ count. ServesFirst count bytes) had left old new e)
+
+-- the status where what a hierarchy file has isn't printed, or not all
+abbrev pub status_uninformed : InfoError → ℕ
+status_uninformed (infos.Hierarchy faults.OutOfMemory) = 6
+status_uninformed (infos.Hierarchy faults.Read) = 7
+status_uninformed (infos.Hierarchy fault) = 4
+status_uninformed infos.OutOfMemory = 6
+status_uninformed (infos.Write fault) = 7
+
+-- and that of a job that prints it
+pub record TellsInfo (status : ℕ) (file old new : Option (List ℕ)) : Type 0 where
+  pub done : status ≡ 0 → IfSome file (λ bytes. Writes (Informs bytes) old new)
+  pub refused : status ≢ 0 → (e : InfoError) × (status ≡ status_uninformed e) × RefusesInfo file old new e
 
 -- with which an answering job may end
 abbrev pub IsAnsweringStatus : ℕ → Type 0
@@ -76,7 +93,7 @@ IsPreparingStatus n = (n ≡ 0) ⊎ (n ≡ 3) ⊎ (n ≡ 6) ⊎ (n ≡ 7) ⊎ (n
 abbrev pub IsRoutingStatus : ℕ → Type 0
 IsRoutingStatus n = (n ≡ 0) ⊎ (n ≡ 4) ⊎ (n ≡ 5) ⊎ (n ≡ 6) ⊎ (n ≡ 7)
 
--- and a serving one
+-- and a serving one, or one that prints what a hierarchy file has
 abbrev pub IsServingStatus : ℕ → Type 0
 IsServingStatus n = (n ≡ 0) ⊎ (n ≡ 4) ⊎ (n ≡ 6) ⊎ (n ≡ 7)
 
@@ -86,3 +103,4 @@ IsStatusOf (Answer graph queries) = IsAnsweringStatus
 IsStatusOf (Prepare preparation) = IsPreparingStatus
 IsStatusOf (Route hierarchy queries) = IsRoutingStatus
 IsStatusOf (Serve hierarchy) = IsServingStatus
+IsStatusOf (Info hierarchy) = IsServingStatus

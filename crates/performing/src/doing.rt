@@ -1,10 +1,11 @@
 ghost use Rattle.std.specs.Prelude.{◌≡◌, ◌⊎◌, true, false, option_map};
 ghost use Rattle.std.specs.Io.KnownBytes.{Keeps};
 ghost use Rattle.ch_service.specs.Joined.{graph_part, pairs_part};
-ghost use Rattle.jobs.specs.Job.{is_joined, IsAnswering, IsPreparing, IsRouting, IsServing};
-ghost use Rattle.performing.specs.Status.{Tells, TellsPrepared, TellsRouted, TellsServed, IsStatusOf};
+ghost use Rattle.jobs.specs.Job.{is_joined, IsAnswering, IsPreparing, IsRouting, IsServing, IsInforming};
+ghost use Rattle.performing.specs.Status.{Tells, TellsPrepared, TellsRouted, TellsServed, TellsInfo, IsStatusOf};
 
 use crate::answering::{perform_answer, perform_joined};
+use crate::informing::perform_info;
 use crate::preparing::perform_preparation;
 use crate::routing::perform_route;
 use crate::serving::perform_service;
@@ -16,12 +17,13 @@ use std::sync::Wait;
 use std::thread::Threads;
 
 /// Does the job and answers the program's exit status, by [`perform_answer`], [`perform_joined`],
-/// [`perform_preparation`], [`perform_route`] or [`perform_service`]. A caller that knows its job calls that one.
+/// [`perform_preparation`], [`perform_route`], [`perform_service`] or [`perform_info`]. A caller that knows its job calls that one.
 ///
 /// To answer, `first` gives the graph's text and `second` that of the pairs; where both stand in one input, `first`
 /// gives it and `second` isn't read. To prepare, `first` gives the graph's text, `second` isn't read, and `out` gets
-/// the hierarchy. To route, `first` gives the hierarchy and `second` the text of the pairs; to serve, `second` gives the requests. Answers go to `out`. Of a
-/// refusal one line goes to `err`. Only to prepare by workers are threads started.
+/// the hierarchy. To route, `first` gives the hierarchy and `second` the text of the pairs; to serve, `second` gives the
+/// requests; to print what a hierarchy file has, `first` gives it and `second` isn't read. Answers go to `out`. Of a refusal
+/// one line goes to `err`. Only to prepare by workers are threads started.
 pub fn perform<A: Read, B: Read, W: Write, E: Write, R: Threads + Wait + Sync>(
     rt: &R,
     alloc: Global,
@@ -36,11 +38,12 @@ pub fn perform<A: Read, B: Read, W: Write, E: Write, R: Threads + Wait + Sync>(
     ensures prepared { IsPreparing job.now → TellsPrepared result (A.remaining first.old) (W.contents out.old) (W.contents out.new) }
     ensures routed { IsRouting job.now → TellsRouted result (A.remaining first.old) (B.remaining second.old) (W.contents out.old) (W.contents out.new) }
     ensures served { IsServing job.now → TellsServed result (A.remaining first.old) (B.remaining second.old) (B.remaining second.new) (W.contents out.old) (W.contents out.new) }
+    ensures informed { IsInforming job.now → TellsInfo result (A.remaining first.old) (W.contents out.old) (W.contents out.new) }
 
     // Whatever is known of the bytes of readers and writers.
     ensures status { IsStatusOf job.now result }
     ensures mixed { result ≡ 8 → Keeps (W.contents out.old) (W.contents out.new) }
-    ensures unread { (is_joined job.now ≡ true) ⊎ IsPreparing job.now → second.new ≡ second.old }
+    ensures unread { (is_joined job.now ≡ true) ⊎ IsPreparing job.now ⊎ IsInforming job.now → second.new ≡ second.old }
     ensures quiet { result ≡ 0 → err.new ≡ err.old }
 {
     match job {
@@ -51,5 +54,6 @@ pub fn perform<A: Read, B: Read, W: Write, E: Write, R: Threads + Wait + Sync>(
         }
         Job::Route { .. } => perform_route(alloc, first, second, out, err),
         Job::Serve { .. } => perform_service(alloc, first, second, out, err),
+        Job::Info { .. } => perform_info(alloc, first, out, err),
     }
 }

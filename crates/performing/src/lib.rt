@@ -2,8 +2,8 @@
 //!
 //! Stands on `jobs`, on `ch_service`, which does the work, and on `ch_workers` and `ch_estimate` for the workers that
 //! prepare a hierarchy and the orders in which they contract nodes. The file of a hierarchy comes to stand whole by
-//! `whole_file`. Each job has a call and a contract of its own: [`perform_answer`] and [`perform_joined`], [`perform_route`], [`perform_service`],
-//! [`perform_preparation`] into any writer, and [`prepare_whole`] for a destination. A status of 0 means that what was
+//! `whole_file`. Each job has a call and a contract of its own: [`perform_answer`] and [`perform_joined`], [`perform_route`],
+//! [`perform_service`], [`perform_info`], [`perform_preparation`] into any writer, and [`prepare_whole`] for a destination. A status of 0 means that what was
 //! written answers all pairs, or that what stands at its destination is a hierarchy that is right for the graph; with any
 //! other status there stands what stood there before. [`perform`] does any job by these calls.
 //!
@@ -18,6 +18,7 @@
 
 mod answering;
 mod doing;
+mod informing;
 mod lists;
 mod preparing;
 mod routing;
@@ -27,6 +28,7 @@ mod whole;
 
 pub use answering::{perform_answer, perform_joined};
 pub use doing::perform;
+pub use informing::perform_info;
 pub use preparing::perform_preparation;
 pub use routing::perform_route;
 pub use serving::perform_service;

@@ -41,7 +41,10 @@ fn status_stopped(error: ServeError) -> u8
 {
     match error {
         ServeError::Hierarchy(HierError::OutOfMemory) | ServeError::OutOfMemory => 6,
-        ServeError::Hierarchy(HierError::Read) | ServeError::Read | ServeError::Write(_) => 7,
+        ServeError::Hierarchy(HierError::Read)
+        | ServeError::Read
+        | ServeError::Write(_)
+        | ServeError::Flush => 7,
         ServeError::Hierarchy(_) => 4,
     }
 }

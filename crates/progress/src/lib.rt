@@ -22,6 +22,6 @@ mod meter;
 mod tests;
 mod watched;
 
-pub use line::write_line;
+pub use line::{Progress, write_end, write_line};
 pub use meter::{Cleared, Meter};
 pub use watched::Watched;

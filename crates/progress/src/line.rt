@@ -1,20 +1,59 @@
 use std::io::Write;
 
-/// Writes how far a preparation has come: so many nodes of so many are contracted after so many milliseconds.
+/// For how many milliseconds of contraction nothing is said of the time that is left: the first pace tells little.
+const FIRST: u64 = 5_000;
+
+/// How far a preparation has come.
+#[derive(Clone, Copy)]
+pub struct Progress {
+    /// How many nodes are contracted.
+    pub done: u64,
+    /// How many there are, or 0 where that isn't known.
+    pub nodes: u64,
+    /// How many milliseconds it has taken so far, with the reading of the graph.
+    pub millis: u64,
+    /// For how many of them nodes have been contracted.
+    pub contracting: u64,
+}
+
+/// Writes how far a preparation has come, in one line, which takes the place of the line before.
 ///
-/// It takes the place of the line before. Where the number of nodes isn't known, it is 0, and nothing is said of the time
-/// that is left; else that goes by the pace so far.
-pub fn write_line<W: Write>(out: &mut W, done: u64, nodes: u64, millis: u64) {
-    let seconds = millis / 1_000;
+/// The terminal is asked to cut the line at its right edge rather than wrap it, so that each line stays one. Where the number
+/// of nodes is known, the line has a percentage, and from the sixth second of contraction on the time that is left by the pace
+/// so far.
+pub fn write_line<W: Write>(out: &mut W, progress: &Progress) {
+    let Progress { done, nodes, .. } = *progress;
+    let seconds = progress.millis / 1_000;
+    let _ = write!(out, "\x1b[?7l\r");
     if nodes == 0 {
-        let _ = write!(out, "\r{done} nodes contracted, {seconds} s\x1b[K");
-        return;
+        let _ = write!(out, "{done} nodes contracted, {seconds} s");
+    } else {
+        let percent = percent_of(done, nodes);
+        let _ = write!(
+            out,
+            "{percent} %: {done} of {nodes} nodes contracted, {seconds} s"
+        );
+        if progress.contracting >= FIRST {
+            let left = seconds_left(done, nodes, progress.contracting);
+            let _ = write!(out, ", some {left} s to go");
+        }
     }
-    let left = seconds_left(done, nodes, millis);
-    let _ = write!(
+    let _ = write!(out, "\x1b[K\x1b[?7h");
+}
+
+/// Writes what was made: the file, and how long that took.
+pub fn write_end<W: Write>(out: &mut W, name: &str, bytes: u64, nodes: u64, millis: u64) {
+    let seconds = millis / 1_000;
+    let _ = writeln!(
         out,
-        "\r{done} of {nodes} nodes contracted, {seconds} s, some {left} s to go\x1b[K"
+        "{name}: {bytes} bytes, a hierarchy of {nodes} nodes, prepared in {seconds} s"
     );
+}
+
+// How many of a hundred, rounded down.
+fn percent_of(done: u64, nodes: u64) -> u128 {
+    let percent = u128::from(done) * 100 / u128::from(nodes.max(1));
+    percent.min(100)
 }
 
 // How many seconds are left at the pace so far.

@@ -1,4 +1,4 @@
-use crate::line::write_line;
+use crate::line::{Progress, write_line};
 use ch_workers::{Gate, Point};
 use std::io::{self, Write};
 use std::rt::Stderr;
@@ -8,6 +8,9 @@ use std::time::{Clock, Instant};
 /// Milliseconds from one line to the next.
 const PACE: u64 = 200;
 
+/// How many bytes a line has at most.
+const ROOM: usize = 192;
+
 /// A gate that counts commits, and shows on standard error how far they are.
 #[derive(Drop)]
 pub struct Meter<'a, R> {
@@ -16,6 +19,8 @@ pub struct Meter<'a, R> {
     begun: Instant,
     nodes: AtomicU64,
     commits: AtomicU64,
+    // after how many milliseconds the first line was shown, or 0
+    first: AtomicU64,
     due: AtomicU64,
 }
 
@@ -28,6 +33,7 @@ impl<'a, R: Clock> Meter<'a, R> {
             begun: Instant::now(clock)?,
             nodes: AtomicU64::new(0),
             commits: AtomicU64::new(0),
+            first: AtomicU64::new(0),
             due: AtomicU64::new(PACE),
         })
     }
@@ -47,6 +53,17 @@ impl<'a, R: Clock> Meter<'a, R> {
         self.commits.load(Ordering::SeqCst)
     }
 
+    /// How many milliseconds have passed since it began, or 0 where the clock fails.
+    pub fn millis(&self) -> u64 {
+        let Ok(elapsed) = self.begun.elapsed(self.clock) else {
+            return 0;
+        };
+        elapsed
+            .as_secs()
+            .saturating_mul(1_000)
+            .saturating_add(u64::from(elapsed.subsec_millis()))
+    }
+
     /// Takes the line away.
     pub fn clear(&self) {
         let mut err = self.err;
@@ -55,13 +72,7 @@ impl<'a, R: Clock> Meter<'a, R> {
 
     // Shows a line, if it is time for one and no other worker shows it.
     fn show(&self, done: u64) {
-        let Ok(elapsed) = self.begun.elapsed(self.clock) else {
-            return;
-        };
-        let millis = elapsed
-            .as_secs()
-            .saturating_mul(1_000)
-            .saturating_add(u64::from(elapsed.subsec_millis()));
+        let millis = self.millis();
         let due = self.due.load(Ordering::SeqCst);
         if millis < due {
             return;
@@ -74,12 +85,30 @@ impl<'a, R: Clock> Meter<'a, R> {
         {
             return;
         }
-        let mut room = [0u8; 128];
+        let progress = Progress {
+            done,
+            nodes: self.announced(),
+            millis,
+            contracting: millis.saturating_sub(self.first_at(millis)),
+        };
+        let mut room = [0u8; ROOM];
         let mut rest = room.as_mut_slice();
-        write_line(&mut rest, done, self.announced(), millis);
+        write_line(&mut rest, &progress);
         let left = rest.len();
         let mut err = self.err;
-        let _ = err.write_all(&room[..128usize.saturating_sub(left)]);
+        let _ = err.write_all(&room[..ROOM.saturating_sub(left)]);
+    }
+}
+
+impl<R: Clock> Meter<'_, R> {
+    // After how many milliseconds the first line was shown, which is now if there was none.
+    fn first_at(&self, millis: u64) -> u64 {
+        let first = self.first.load(Ordering::SeqCst);
+        if first > 0 {
+            return first;
+        }
+        self.first.store(millis, Ordering::SeqCst);
+        millis
     }
 }
 

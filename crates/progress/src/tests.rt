@@ -1,52 +1,63 @@
-use crate::{Meter, Watched, write_line};
+use crate::{Meter, Progress, Watched, write_end, write_line};
 use ch_workers::{Gate, Point};
 use std::alloc::Global;
 use std::io::Read;
 use std::test::Fail;
 use std::time::Clock;
 
-/// Commits, nodes and milliseconds, and the line that tells them.
-const LINES: [(u64, u64, u64, &[u8]); 6] = [
-    (1, 0, 999, b"\r1 nodes contracted, 0 s\x1b[K"),
+/// Commits, nodes, milliseconds, and those of contraction, and the line that tells them.
+const LINES: [([u64; 4], &[u8]); 7] = [
     (
-        250,
-        1_000,
-        1_000,
-        b"\r250 of 1000 nodes contracted, 1 s, some 3 s to go\x1b[K",
+        [1, 0, 999, 999],
+        b"\x1b[?7l\r1 nodes contracted, 0 s\x1b[K\x1b[?7h",
     ),
     (
-        1_000,
-        1_000,
-        61_500,
-        b"\r1000 of 1000 nodes contracted, 61 s, some 0 s to go\x1b[K",
+        [250, 1_000, 5_000, 4_999],
+        b"\x1b[?7l\r25 %: 250 of 1000 nodes contracted, 5 s\x1b[K\x1b[?7h",
     ),
     (
-        0,
-        10,
-        200,
-        b"\r0 of 10 nodes contracted, 0 s, some 2 s to go\x1b[K",
+        [250, 1_000, 9_999, 5_000],
+        b"\x1b[?7l\r25 %: 250 of 1000 nodes contracted, 9 s, some 15 s to go\x1b[K\x1b[?7h",
     ),
     (
-        11,
-        10,
-        200,
-        b"\r11 of 10 nodes contracted, 0 s, some 0 s to go\x1b[K",
+        [999, 1_000, 61_500, 61_500],
+        b"\x1b[?7l\r99 %: 999 of 1000 nodes contracted, 61 s, some 0 s to go\x1b[K\x1b[?7h",
     ),
     (
-        1,
-        u64::MAX,
-        u64::MAX,
-        b"\r1 of 18446744073709551615 nodes contracted, 18446744073709551 s, some 18446744073709551615 s to go\x1b[K",
+        [0, 10, 6_000, 6_000],
+        b"\x1b[?7l\r0 %: 0 of 10 nodes contracted, 6 s, some 60 s to go\x1b[K\x1b[?7h",
+    ),
+    (
+        [11, 10, 200, 0],
+        b"\x1b[?7l\r100 %: 11 of 10 nodes contracted, 0 s\x1b[K\x1b[?7h",
+    ),
+    (
+        [1, u64::MAX, u64::MAX, u64::MAX],
+        b"\x1b[?7l\r0 %: 1 of 18446744073709551615 nodes contracted, 18446744073709551 s, some 18446744073709551615 s to go\x1b[K\x1b[?7h",
     ),
 ];
 
 #[test]
 fn lines(rt: HostRuntime) {
-    for (done, nodes, millis, line) in LINES {
+    for ([done, nodes, millis, contracting], line) in LINES {
         let mut out = Vec::new(rt.alloc());
-        write_line(&mut out, done, nodes, millis);
+        let progress = Progress {
+            done,
+            nodes,
+            millis,
+            contracting,
+        };
+        write_line(&mut out, &progress);
         assert!(rt; out.as_slice() == line);
     }
+}
+
+#[test]
+fn what_was_made(rt: HostRuntime) {
+    let mut out = Vec::new(rt.alloc());
+    write_end(&mut out, "net.rch", 56, 2, 61_999);
+    let line = b"net.rch: 56 bytes, a hierarchy of 2 nodes, prepared in 61 s\n";
+    assert!(rt; out.as_slice() == line.as_slice());
 }
 
 /// Texts, and the number of nodes that each announces, 0 where there is none.

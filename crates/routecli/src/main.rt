@@ -1,8 +1,9 @@
 //! The program `routecli`: prepares hierarchies of road graphs, and answers pairs of nodes with least routes.
 //!
-//! Stands on `command_line`, which turns the words of a command line into a [`Job`], on `performing`, which does it over
-//! readers and writers and answers the exit status, on `whole_file`, by which the file of a hierarchy comes to stand whole,
-//! and on `progress`, which shows how far a preparation has come. `main` opens the files.
+//! Uses `command_line`, which turns the words of a command line into a [`Job`], `performing`, which does it over readers
+//! and writers and returns the exit status, `whole_file`, by which the file of a hierarchy is whole or not there, `progress`,
+//! which shows how far a preparation has come, and `explaining`, which helps a user whose call was refused. `main` opens the
+//! files.
 #![tactic(auto)]
 
 ghost use Rattle.std.specs.Prelude.{◌≡◌, ◌⊎◌};
@@ -10,9 +11,12 @@ ghost use Rattle.performing.specs.Status.{IsAnsweringStatus, IsPreparingStatus, 
 
 use ch_workers::{Gate, OpenGate};
 use command_line::command;
+use explaining::{Heard, Kept, Trouble, explain, warn_of};
 use jobs::{Job, Preparation, Stop, end, show_stop};
-use performing::{perform_answer, perform_joined, perform_route, perform_service, prepare_whole};
-use progress::{Cleared, Meter, Watched};
+use performing::{
+    perform_answer, perform_info, perform_joined, perform_route, perform_service, prepare_whole,
+};
+use progress::{Cleared, Meter, Watched, write_end};
 use std::env::Env;
 use std::io::{ErrorKind, IsTerminal};
 use std::process::ExitCode;
@@ -30,143 +34,240 @@ fn main(rt: HostRuntime) -> ExitCode {
         Ok(words) => words,
         Err(error) => return ExitCode::from(refuse_words(&error, &mut err)),
     };
-    let job = match command(rt.alloc(), words.as_slice()) {
-        Ok(job) => job,
+    let call = match command(rt.alloc(), words.as_slice()) {
+        Ok(call) => call,
         Err(why) => return ExitCode::from(show_stop(&why, &mut out, &mut err)),
     };
-    let status = match job {
-        Job::Answer { .. } if job.is_joined() => {
-            perform_joined(&rt, rt.alloc(), &mut rt.stdin(), &mut out, &mut err)
-        }
-        Job::Answer { graph, queries } => answer(&rt, graph, queries, &mut out, &mut err),
-        Job::Route { hierarchy, queries } => route(&rt, hierarchy, queries, &mut out, &mut err),
-        Job::Serve { hierarchy } => serve(&rt, hierarchy, &mut rt.stdin(), &mut out, &mut err),
-        Job::Prepare(preparation) if is_one_file(&rt, preparation.graph, preparation.out) => {
-            show_stop(&Stop::OneFile, &mut out, &mut err)
-        }
-        Job::Prepare(preparation) => prepare(&rt, &preparation, err),
-    };
+    let explains = call.explain || err.is_terminal();
+    if let (true, Job::Prepare(preparation)) = (explains, &call.job) {
+        warn_of(&rt, preparation.out, &mut err);
+    }
+    let mut input = Kept::new(rt.stdin());
+    let mut out = Kept::new(out);
+    let mut heard = Heard::new(rt.alloc(), err);
+    let mut trouble = Trouble::none();
+    let status = perform(
+        &rt,
+        &call.job,
+        &mut input,
+        &mut out,
+        err,
+        &mut heard,
+        &mut trouble,
+    );
+    trouble.note("standard input", input.failure());
+    trouble.note("standard output", out.failure());
+    if status != 0 && explains {
+        explain(&rt, &call.job, heard.text(), &trouble, &mut err);
+    }
     ExitCode::from(status)
 }
 
-// Answers the pairs of one file over the graph of another.
-fn answer<R: Files + AllocGlobal + Threads + Wait + Sync, W: io::Write, E: io::Write>(
+// Does the job, and keeps what failed.
+fn perform<'a, R: Files + AllocGlobal + Clock + Threads + Wait + Sync, Q: io::Read, W: io::Write>(
     rt: &R,
-    graph: &str,
-    queries: &str,
+    job: &Job<'a>,
+    input: &mut Q,
+    out: &mut W,
+    terminal: Stderr,
+    err: &mut Heard<Stderr>,
+    trouble: &mut Trouble<'a>,
+) -> u8 {
+    match *job {
+        Job::Answer { .. } if job.is_joined() => perform_joined(rt, rt.alloc(), input, out, err),
+        Job::Answer { graph, queries } => answer(rt, graph, queries, out, err, trouble),
+        Job::Route { hierarchy, queries } => route(rt, hierarchy, queries, out, err, trouble),
+        Job::Serve { hierarchy } => serve(rt, hierarchy, input, out, err, trouble),
+        Job::Info { hierarchy } => info(rt, hierarchy, out, err, trouble),
+        Job::Prepare(preparation) if is_one_file(rt, preparation.graph, preparation.out) => {
+            show_stop(&Stop::OneFile, out, err)
+        }
+        Job::Prepare(preparation) => prepare(rt, &preparation, terminal, err, trouble),
+    }
+}
+
+// Answers the pairs of one file over the graph of another.
+fn answer<'a, R: Files + AllocGlobal + Threads + Wait + Sync, W: io::Write, E: io::Write>(
+    rt: &R,
+    graph: &'a str,
+    queries: &'a str,
     out: &mut W,
     err: &mut E,
+    trouble: &mut Trouble<'a>,
 ) -> u8
     ensures status { IsAnsweringStatus result }
     ensures quiet { result ≡ 0 → err.new ≡ err.old }
 {
     match (fs::open(rt, graph), fs::open(rt, queries)) {
-        (Ok(mut graph), Ok(mut queries)) => {
-            perform_answer(rt, rt.alloc(), &mut graph, &mut queries, out, err)
+        (Ok(first), Ok(second)) => {
+            let mut first = Kept::new(first);
+            let mut second = Kept::new(second);
+            let status = perform_answer(rt, rt.alloc(), &mut first, &mut second, out, err);
+            trouble.note(graph, first.failure());
+            trouble.note(queries, second.failure());
+            status
         }
-        (Err(error), _) => refuse_file(&error, err),
-        (_, Err(error)) => refuse_file(&error, err),
+        (Err(error), _) => refuse_file(graph, error, err, trouble),
+        (_, Err(error)) => refuse_file(queries, error, err, trouble),
     }
 }
 
 // Answers the pairs of one file by the hierarchy of another.
-fn route<R: Files + AllocGlobal, W: io::Write, E: io::Write>(
+fn route<'a, R: Files + AllocGlobal, W: io::Write, E: io::Write>(
     rt: &R,
-    hierarchy: &str,
-    queries: &str,
+    hierarchy: &'a str,
+    queries: &'a str,
     out: &mut W,
     err: &mut E,
+    trouble: &mut Trouble<'a>,
 ) -> u8
     ensures status { IsRoutingStatus result }
     ensures quiet { result ≡ 0 → err.new ≡ err.old }
 {
     match (fs::open(rt, hierarchy), fs::open(rt, queries)) {
-        (Ok(mut hierarchy), Ok(mut queries)) => {
-            perform_route(rt.alloc(), &mut hierarchy, &mut queries, out, err)
+        (Ok(first), Ok(second)) => {
+            let mut first = Kept::new(first);
+            let mut second = Kept::new(second);
+            let status = perform_route(rt.alloc(), &mut first, &mut second, out, err);
+            trouble.note(hierarchy, first.failure());
+            trouble.note(queries, second.failure());
+            status
         }
-        (Err(error), _) => refuse_file(&error, err),
-        (_, Err(error)) => refuse_file(&error, err),
+        (Err(error), _) => refuse_file(hierarchy, error, err, trouble),
+        (_, Err(error)) => refuse_file(queries, error, err, trouble),
     }
 }
 
 // Replies to requests by the hierarchy of a file.
-fn serve<R: Files + AllocGlobal, Q: io::Read, W: io::Write, E: io::Write>(
+fn serve<'a, R: Files + AllocGlobal, Q: io::Read, W: io::Write, E: io::Write>(
     rt: &R,
-    hierarchy: &str,
+    hierarchy: &'a str,
     requests: &mut Q,
     out: &mut W,
     err: &mut E,
+    trouble: &mut Trouble<'a>,
 ) -> u8
     ensures status { IsServingStatus result }
     ensures quiet { result ≡ 0 → err.new ≡ err.old }
 {
     match fs::open(rt, hierarchy) {
-        Ok(mut hierarchy) => perform_service(rt.alloc(), &mut hierarchy, requests, out, err),
-        Err(error) => refuse_file(&error, err),
+        Ok(file) => {
+            let mut file = Kept::new(file);
+            let status = perform_service(rt.alloc(), &mut file, requests, out, err);
+            trouble.note(hierarchy, file.failure());
+            status
+        }
+        Err(error) => refuse_file(hierarchy, error, err, trouble),
+    }
+}
+
+// Prints what the hierarchy of a file has.
+fn info<'a, R: Files + AllocGlobal, W: io::Write, E: io::Write>(
+    rt: &R,
+    hierarchy: &'a str,
+    out: &mut W,
+    err: &mut E,
+    trouble: &mut Trouble<'a>,
+) -> u8
+    ensures status { IsServingStatus result }
+    ensures quiet { result ≡ 0 → err.new ≡ err.old }
+{
+    match fs::open(rt, hierarchy) {
+        Ok(file) => {
+            let mut file = Kept::new(file);
+            let status = perform_info(rt.alloc(), &mut file, out, err);
+            trouble.note(hierarchy, file.failure());
+            status
+        }
+        Err(error) => refuse_file(hierarchy, error, err, trouble),
     }
 }
 
 // Prepares a hierarchy, and shows how far it has come where that is asked for and standard error is a terminal.
-fn prepare<R: Files + AllocGlobal + Clock + Threads + Wait + Sync>(
+fn prepare<'a, R: Files + AllocGlobal + Clock + Threads + Wait + Sync>(
     rt: &R,
-    preparation: &Preparation<'_>,
-    err: Stderr,
+    preparation: &Preparation<'a>,
+    terminal: Stderr,
+    err: &mut Heard<Stderr>,
+    trouble: &mut Trouble<'a>,
 ) -> u8
     ensures { IsPreparingStatus result }
 {
-    if preparation.progress && err.is_terminal() {
-        if let Ok(meter) = Meter::new(rt, err) {
-            return prepare_and_show(rt, preparation, &meter);
+    if preparation.progress && terminal.is_terminal() {
+        if let Ok(meter) = Meter::new(rt, terminal) {
+            return prepare_and_show(rt, preparation, &meter, err, trouble);
         }
     }
-    let mut err = err;
     match fs::open(rt, preparation.graph) {
-        Ok(mut graph) => prepare_file(rt, preparation, &mut graph, &mut err, &OpenGate),
-        Err(error) => refuse_file(&error, &mut err),
+        Ok(graph) => prepare_file(rt, preparation, graph, err, &OpenGate, trouble),
+        Err(error) => refuse_file(preparation.graph, error, err, trouble),
     }
 }
 
-// Prepares a hierarchy, and shows by a meter how far it has come.
-fn prepare_and_show<R: Files + AllocGlobal + Clock + Threads + Wait + Sync>(
+// Prepares a hierarchy, and shows by a meter how far it has come, and at the end what was made.
+fn prepare_and_show<'a, R: Files + AllocGlobal + Clock + Threads + Wait + Sync>(
     rt: &R,
-    preparation: &Preparation<'_>,
+    preparation: &Preparation<'a>,
     meter: &Meter<'_, R>,
+    err: &mut Heard<Stderr>,
+    trouble: &mut Trouble<'a>,
 ) -> u8
     ensures { IsPreparingStatus result }
 {
-    let mut err = Cleared::new(meter);
+    let mut shown = Heard::new(rt.alloc(), Cleared::new(meter));
     let status = match fs::open(rt, preparation.graph) {
         Ok(graph) => {
-            let mut graph = Watched::new(graph, meter);
-            prepare_file(rt, preparation, &mut graph, &mut err, meter)
+            let graph = Watched::new(graph, meter);
+            prepare_file(rt, preparation, graph, &mut shown, meter, trouble)
         }
-        Err(error) => refuse_file(&error, &mut err),
+        Err(error) => refuse_file(preparation.graph, error, &mut shown, trouble),
     };
     meter.clear();
+    err.hear(shown.text());
+    if let (0, Ok(made)) = (status, fs::metadata(rt, preparation.out)) {
+        write_end(
+            err,
+            preparation.out,
+            made.len(),
+            meter.announced(),
+            meter.millis(),
+        );
+    }
     status
 }
 
 // Prepares a hierarchy of a graph's text, and makes its file.
-fn prepare_file<R: Files + AllocGlobal + Threads + Wait + Sync, G: io::Read, E: io::Write, P: Gate>(
+fn prepare_file<
+    'a,
+    R: Files + AllocGlobal + Threads + Wait + Sync,
+    G: io::Read + Drop,
+    E: io::Write,
+    P: Gate,
+>(
     rt: &R,
-    preparation: &Preparation<'_>,
-    graph: &mut G,
+    preparation: &Preparation<'a>,
+    graph: G,
     err: &mut E,
     gate: &P,
+    trouble: &mut Trouble<'a>,
 ) -> u8
     ensures status { IsPreparingStatus result }
     ensures quiet { result ≡ 0 → err.new ≡ err.old }
 {
+    let mut graph = Kept::new(graph);
     let mut destination = OutFile::new(rt, preparation.out);
-    prepare_whole(
+    let status = prepare_whole(
         rt,
         rt.alloc(),
         preparation,
-        graph,
+        &mut graph,
         &mut destination,
         err,
         gate,
-    )
+    );
+    trouble.note(preparation.graph, graph.failure());
+    trouble.note(preparation.out, destination.failure());
+    status
 }
 
 // The words of the command line, the program's name first.
@@ -185,11 +286,17 @@ fn refuse_words<E: io::Write>(error: &io::Error, err: &mut E) -> u8
 }
 
 // The status where a file can't be opened.
-fn refuse_file<E: io::Write>(error: &io::Error, err: &mut E) -> u8
+fn refuse_file<'a, E: io::Write>(
+    name: &'a str,
+    error: io::Error,
+    err: &mut E,
+    trouble: &mut Trouble<'a>,
+) -> u8
     ensures { (result ≡ 6) ⊎ (result ≡ 7) }
 {
     if error.kind() == ErrorKind::OutOfMemory {
         return end(6, "memory", err);
     }
+    trouble.note(name, Some(error));
     end(7, "read", err)
 }

@@ -28,7 +28,7 @@ impl Write for Broken {
 }
 
 /// Words that name a job without options, and whether both texts of it stand in standard input.
-const NAMED: [(&[&str], Job<'static>, bool); 6] = [
+const NAMED: [(&[&str], Job<'static>, bool); 7] = [
     (
         &["routecli", "answer", "a.gr", "b.p2p"],
         Job::Answer {
@@ -72,6 +72,11 @@ const NAMED: [(&[&str], Job<'static>, bool); 6] = [
     (
         &["routecli", "serve", "a.rch"],
         Job::Serve { hierarchy: "a.rch" },
+        false,
+    ),
+    (
+        &["routecli", "info", "a.rch"],
+        Job::Info { hierarchy: "a.rch" },
         false,
     ),
 ];
@@ -251,7 +256,39 @@ fn names(
 ) -> Result<bool, Fail> {
     let words = words(alloc, texts)?;
     let named = command(alloc, words.as_slice()).ok().ok_or("a job")?;
-    Ok((named.is_joined() == is_joined) & (Some(named) == job))
+    Ok((named.job.is_joined() == is_joined) & (Some(named.job) == job) & !named.explain)
+}
+
+/// Words of each command that ask for explanations.
+const EXPLAINED: [&[&str]; 6] = [
+    &["routecli", "answer", "--explain", "a.gr", "b.p2p"],
+    &["routecli", "prepare", "a.gr", "--explain", "a.rch"],
+    &[
+        "routecli",
+        "prepare",
+        "--progress",
+        "a.gr",
+        "a.rch",
+        "--explain",
+    ],
+    &["routecli", "route", "a.rch", "b.p2p", "--explain"],
+    &["routecli", "serve", "--explain", "a.rch"],
+    &["routecli", "info", "a.rch", "--explain"],
+];
+
+/// Whether the words ask for explanations.
+fn explains(alloc: Global, texts: &[&str]) -> Result<bool, Fail> {
+    let words = words(alloc, texts)?;
+    let named = command(alloc, words.as_slice()).ok().ok_or("a job")?;
+    Ok(named.explain)
+}
+
+#[test]
+fn words_that_ask_for_explanations(rt: HostRuntime) -> Result<(), Fail> {
+    for texts in EXPLAINED {
+        assert!(rt; explains(rt.alloc(), texts)?);
+    }
+    Ok(())
 }
 
 #[test]
@@ -274,7 +311,7 @@ fn stop_of(alloc: Global, texts: &[&str]) -> Result<Stop, Fail> {
 }
 
 /// Words that are refused, and how the first line of the refusal goes on after `error: `.
-const REFUSED: [(&[&str], &[u8]); 35] = [
+const REFUSED: [(&[&str], &[u8]); 38] = [
     (&["routecli"], b""),
     (&["routecli", "answer"], b""),
     (&["routecli", "answer", "a.gr"], b""),
@@ -421,6 +458,18 @@ const REFUSED: [(&[&str], &[u8]); 35] = [
     (
         &["routecli", "prepare", "--workers", "1", "a.gr"],
         b"the following required arguments were not provided:\n",
+    ),
+    (
+        &["routecli", "info"],
+        b"the following required arguments were not provided:\n",
+    ),
+    (
+        &["routecli", "info", "a.rch", "b.rch"],
+        b"unexpected argument 'b.rch' found\n",
+    ),
+    (
+        &["routecli", "route", "--explain=no", "a.rch", "a.p2p"],
+        b"unexpected value 'no' for '--explain' found; no more were expected\n",
     ),
     (
         &["routecli", "prepare", "a.gr", "a.rch", "b"],

@@ -6,8 +6,8 @@
 ghost use Rattle.std.specs.Prelude.{◌≡◌, ◌<◌, length, IfOk, IfSome};
 ghost use Rattle.ch_graph.specs.Unfolding.{Joined};
 
-use crate::files::{BY_WAY_OF_0, MAGIC, ROW, bytes};
-use crate::version_1::{BY_WAY_OF_0_1, ROW_1};
+use crate::files::{BY_WAY_OF_0, MAGIC, ONE_ARC, ROW, bytes, cascade};
+use crate::version_1::{BY_WAY_OF_0_1, MAGIC_1, ONE_ARC_1, ROW_1};
 use ch_cost::Cost;
 use ch_graph::{Graph, Hierarchy, LinkId, Road};
 use ch_query::{Found, Search};
@@ -16,9 +16,14 @@ use grfile::{GrError, GrErrorKind, GrReader, QueryReader, read_graph_within, rea
 use hierfile::{HierError, read_within};
 use std::alloc::{AllocError, Global};
 use std::test::Fail;
+use test_kit::Uneven;
 
 /// More calls than any reader here gets.
 const MANY: u64 = 1 << 40;
+
+/// Readers that give a byte at each call: which calls are interrupted, by a number that divides theirs, which one fails, 0
+/// for none, and how many there may be. Of one each call is interrupted, and the other fails at its second.
+const FAILING: [(u64, u64, u64); 2] = [(1, 0, 3), (3, 2, MANY)];
 
 /// Texts of graphs, each with the fault that it has or none: that of one arc, with blanks and line ends, and others.
 const GRAPHS: [(&[u8], Option<(GrErrorKind, u64)>); 14] = [
@@ -190,6 +195,18 @@ fn read_graph(rt: HostRuntime) {
         }
         assert!(rt; graph_fault(answer) == fault);
     }
+    for (interrupted, fails_at, calls) in FAILING {
+        let text = b"p sp 2 1\na 1 2 7\n".as_slice();
+        let mut answer = read_graph_within(
+            alloc,
+            &mut Uneven::new(text, interrupted, fails_at),
+            calls,
+        );
+        if lacks_memory(&answer) {
+            answer = read_graph_within(alloc, &mut Uneven::new(text, interrupted, fails_at), calls);
+        }
+        assert!(rt; graph_fault(answer) == Some((GrErrorKind::Read, 1)));
+    }
 }
 
 #[test]
@@ -201,6 +218,24 @@ fn read_queries(rt: HostRuntime) {
             answer = read_queries_within(alloc, &mut { text }, 3, MANY);
         }
         assert!(rt; pairs_fault(answer) == fault);
+    }
+    for (interrupted, fails_at, calls) in FAILING {
+        let text = b"p aux sp p2p 1\nq 2 1\n".as_slice();
+        let mut answer = read_queries_within(
+            alloc,
+            &mut Uneven::new(text, interrupted, fails_at),
+            3,
+            calls,
+        );
+        if lacks_memory(&answer) {
+            answer = read_queries_within(
+                alloc,
+                &mut Uneven::new(text, interrupted, fails_at),
+                3,
+                calls,
+            );
+        }
+        assert!(rt; pairs_fault(answer) == Some((GrErrorKind::Read, 1)));
     }
 }
 
@@ -299,6 +334,20 @@ fn file_fault(alloc: Global, bytes: &[u8]) -> Option<HierError> {
     }
 }
 
+/// The same of a reader that fails.
+fn failing_fault(
+    alloc: Global,
+    bytes: &[u8],
+    (interrupted, fails_at, calls): (u64, u64, u64),
+) -> Option<HierError> {
+    let fault = read_within(alloc, &mut Uneven::new(bytes, interrupted, fails_at), calls).err();
+    if fault == Some(HierError::OutOfMemory) {
+        read_within(alloc, &mut Uneven::new(bytes, interrupted, fails_at), calls).err()
+    } else {
+        fault
+    }
+}
+
 #[test]
 fn read_file(rt: HostRuntime) -> Result<(), Fail> {
     let alloc = rt.alloc();
@@ -306,6 +355,20 @@ fn read_file(rt: HostRuntime) -> Result<(), Fail> {
         let bytes = bytes(alloc, words)?;
         assert!(rt; file_fault(alloc, &bytes) == fault);
     }
+    let row = bytes(alloc, &ROW)?;
+    for failing in FAILING {
+        assert!(rt; failing_fault(alloc, &row, failing) == Some(HierError::Read));
+    }
+    Ok(())
+}
+
+/// Of 38 nodes each two are linked.
+#[test]
+fn read_a_cascade(rt: HostRuntime) -> Result<(), Fail> {
+    let alloc = rt.alloc();
+    let words = cascade(alloc, MAGIC_1)?;
+    let bytes = bytes(alloc, &words)?;
+    assert!(rt; file_fault(alloc, &bytes).is_none());
     Ok(())
 }
 
@@ -320,11 +383,18 @@ fn is_made(alloc: Global, hierarchy: &Hierarchy) -> bool {
     Search::new(alloc, hierarchy).is_ok()
 }
 
+/// The same of a file.
+fn is_made_of(alloc: Global, words: &[u32]) -> Result<bool, Fail> {
+    let hierarchy = hierarchy_of(alloc, words)?;
+    Ok(is_made(alloc, &hierarchy) || is_made(alloc, &hierarchy))
+}
+
 #[test]
 fn search(rt: HostRuntime) -> Result<(), Fail> {
-    let alloc = rt.alloc();
-    let hierarchy = hierarchy_of(alloc, &ROW)?;
-    assert!(rt; is_made(alloc, &hierarchy) || is_made(alloc, &hierarchy));
+    let cascade = cascade(rt.alloc(), MAGIC_1)?;
+    for words in [ONE_ARC.as_slice(), ROW.as_slice(), cascade.as_slice()] {
+        assert!(rt; is_made_of(rt.alloc(), words)?);
+    }
     Ok(())
 }
 
@@ -428,35 +498,112 @@ fn query_and_route(rt: HostRuntime) -> Result<(), Fail> {
     Ok(())
 }
 
-/// Whether a walk from 1 to 3 of four nodes is found, and has too many arcs for a route.
-fn is_too_long(alloc: Global, hierarchy: &Hierarchy, search: &mut Search) -> Result<bool, Fail>
-    requires same { search.old ≡ hierarchy.now }
-    requires all { length hierarchy.now.ranks ≡ 4 }
+/// A search's answers of a file of one arc.
+fn goes_by_one_arc(search: &mut Search, cost: Cost) -> Result<bool, AllocError>
+    requires two { length search.old.ranks ≡ 2 }
 {
-    let Some(walk) = found(search, 1, 3)? else {
-        return Ok(false);
+    let is_there = match found(search, 0, 1)? {
+        Some(walk) => (walk.cost == cost) & (walk.links.as_slice() == [LinkId(0)].as_slice()),
+        None => false,
     };
-    Ok(nodes_of(alloc, hierarchy, 1, &walk.links).err() == Some(UnpackError::TooLong))
+    Ok(is_there & finds_none(search, 1, 0)?)
 }
 
-/// Whether there are four nodes, and a search finds such a walk.
-fn goes_too_far(alloc: Global, hierarchy: &Hierarchy) -> Result<bool, Fail> {
-    if hierarchy.nodes() != 4 {
+/// Whether there are two nodes, and a search finds the arc, at this cost, and no way back.
+fn has_one_arc(alloc: Global, hierarchy: &Hierarchy, cost: Cost) -> Result<bool, AllocError> {
+    if hierarchy.nodes() != 2 {
         return Ok(false);
     }
     let mut search = Search::new(alloc, hierarchy)?;
-    is_too_long(alloc, hierarchy, &mut search)
+    goes_by_one_arc(&mut search, cost)
 }
 
-/// Whether a walk that goes over node 0 twice is too long.
-fn goes_over_0_twice(alloc: Global, words: &[u32]) -> Result<bool, Fail> {
+/// The same of a file.
+fn is_one_arc(alloc: Global, words: &[u32], cost: Cost) -> Result<bool, Fail> {
     let hierarchy = hierarchy_of(alloc, words)?;
-    goes_too_far(alloc, &hierarchy)
+    Ok(has_one_arc(alloc, &hierarchy, cost)?)
+}
+
+#[test]
+fn query_of_one_arc(rt: HostRuntime) -> Result<(), Fail> {
+    assert!(rt; is_one_arc(rt.alloc(), &ONE_ARC, Cost::of_walk(7, 1))?);
+    assert!(rt; is_one_arc(rt.alloc(), &ONE_ARC_1, Cost::of_walk(7, 0))?);
+    Ok(())
+}
+
+/// Two nodes, the cost of the least walk between them, and how many links it has.
+#[derive(Clone, Copy)]
+struct Long {
+    source: u32,
+    target: u32,
+    cost: Cost,
+    links: usize,
+}
+
+/// Whether this walk is found, and has too many arcs for a route.
+fn is_too_long(
+    alloc: Global,
+    hierarchy: &Hierarchy,
+    search: &mut Search,
+    long: Long,
+) -> Result<bool, Fail>
+    requires same { search.old ≡ hierarchy.now }
+    requires source_in { long.source < length hierarchy.now.ranks }
+    requires target_in { long.target < length hierarchy.now.ranks }
+{
+    let Some(walk) = found(search, long.source, long.target)? else {
+        return Ok(false);
+    };
+    let is_long = nodes_of(alloc, hierarchy, long.source, &walk.links).err()
+        == Some(UnpackError::TooLong);
+    Ok(is_long & (walk.cost == long.cost) & (walk.links.len() == long.links))
+}
+
+/// Whether there are these nodes, and a search finds such a walk.
+fn goes_too_far(alloc: Global, hierarchy: &Hierarchy, long: Long) -> Result<bool, Fail> {
+    if long.source >= hierarchy.nodes() || long.target >= hierarchy.nodes() {
+        return Ok(false);
+    }
+    let mut search = Search::new(alloc, hierarchy)?;
+    is_too_long(alloc, hierarchy, &mut search, long)
+}
+
+/// The same of a file.
+fn has_too_long(alloc: Global, words: &[u32], long: Long) -> Result<bool, Fail> {
+    let hierarchy = hierarchy_of(alloc, words)?;
+    goes_too_far(alloc, &hierarchy, long)
+}
+
+/// Whether a walk from 1 to 3 that goes over node 0 twice, of this cost, is too long.
+fn goes_over_0_twice(alloc: Global, words: &[u32], cost: Cost) -> Result<bool, Fail> {
+    let (source, target, links) = (1, 3, 2);
+    let long = Long {
+        source,
+        target,
+        cost,
+        links,
+    };
+    has_too_long(alloc, words, long)
 }
 
 #[test]
 fn too_long_a_route(rt: HostRuntime) -> Result<(), Fail> {
-    assert!(rt; goes_over_0_twice(rt.alloc(), &BY_WAY_OF_0)?);
-    assert!(rt; goes_over_0_twice(rt.alloc(), &BY_WAY_OF_0_1)?);
+    assert!(rt; goes_over_0_twice(rt.alloc(), &BY_WAY_OF_0, Cost::of_walk(4, 4))?);
+    assert!(rt; goes_over_0_twice(rt.alloc(), &BY_WAY_OF_0_1, Cost::of_walk(4, 0))?);
+    Ok(())
+}
+
+/// Of 38 nodes each two are linked, and the link from 37 to 36 stands for 2^36 arcs.
+#[test]
+fn one_link_for_too_long_a_route(rt: HostRuntime) -> Result<(), Fail> {
+    let words = cascade(rt.alloc(), MAGIC_1)?;
+    let (source, target, cost, links) = (37, 36, Cost::of_walk(1 << 36, 0), 1);
+    let long = Long {
+        source,
+        target,
+        cost,
+        links,
+    };
+    assert!(rt; has_too_long(rt.alloc(), &words, long)?);
     Ok(())
 }

@@ -11,7 +11,7 @@ use ch_query::Search;
 use hierfile::HierError;
 use std::alloc::{AllocError, Global};
 
-const MAGIC_1: u32 = 0x5243_4831;
+pub(crate) const MAGIC_1: u32 = 0x5243_4831;
 
 const NONE: u32 = u32::MAX;
 

@@ -3,7 +3,7 @@
 //! A call that is refused memory leaves pen and reader as they were, is made again, and has to give what it gives with
 //! ample memory. What is used up by a refused call, as a blank, ends the test with that error, and so does a growth of
 //! what the test sets up.
-ghost use Rattle.std.specs.Prelude.{◌≡◌, IfOk, length, map};
+ghost use Rattle.std.specs.Prelude.{◌≡◌, ◌<◌, All, IfOk, length, map};
 ghost use Rattle.std.specs.Arc.{arc_value};
 ghost use Rattle.ch_overlay.specs.Source.{IsBound};
 ghost use Rattle.ch_overlay.specs.Records.{AreSoundRows, IsSoundRow};
@@ -79,6 +79,68 @@ fn written<B: Book, R: Wait>(
     Ok(put(rt, alloc, pen, limit, is_shown)??)
 }
 
+/// The row of node 2 once node 0 is contracted.
+fn last(alloc: Global, limit: Cost) -> Result<Arc<Row>, Fail>
+    ensures { IfOk result (λ row. IsSoundRow limit 2 (arc_value row)) }
+{
+    let row = row(alloc, &[], &[(1, (5, 2))])?;
+    if !is_sound(2, &row, limit) {
+        return Err(Fail::new("the row can be relied on"));
+    }
+    Ok(row)
+}
+
+/// Both rows, each with its node.
+fn both(alloc: Global, limit: Cost) -> Result<Vec<(u32, Arc<Row>)>, Fail>
+    ensures within { IfOk result (λ rows. All (λ a. a.0 < 3) rows.items) }
+    ensures sound { IfOk result (λ rows. All (λ a. IsSoundRow limit a.0 (arc_value a.1)) rows.items) }
+{
+    let (first, second) = (later(alloc, limit)?, last(alloc, limit)?);
+    let mut rows = Vec::new(alloc);
+    rows.push((1, first))?;
+    rows.push((2, second))?;
+    Ok(rows)
+}
+
+/// Lays both rows and shows them. A refused call leaves the current rows, and the pen can go on: it is made again.
+fn shown<B: Book, R: Wait>(
+    rt: &R,
+    alloc: Global,
+    pen: &mut Pen<B>,
+    rows: &[(u32, Arc<Row>)],
+) -> Result<(u64, u64), BookError>
+    requires nodes { B.book.nodes ≡ 3 }
+    requires within { All (λ a. a.0 < 3) rows.now }
+    requires sound { All (λ a. IsSoundRow B.book.bound a.0 (arc_value a.1)) rows.now }
+{
+    let before = (pen.version(1), pen.version(2));
+    let laid = match pen.lay_all(rt, alloc, rows) {
+        Err(BookError::OutOfMemory) => pen.lay_all(rt, alloc, rows)?,
+        answer => answer?,
+    };
+    if (pen.version(1), pen.version(2)) != before {
+        return Err(BookError::Slot);
+    }
+    pen.show_all(&laid);
+    Ok((pen.version(1), pen.version(2)))
+}
+
+/// Whether both rows stand above this version, one after the other, once they are laid together.
+fn are_shown<B: Book, R: Wait>(
+    rt: &R,
+    alloc: Global,
+    pen: &mut Pen<B>,
+    limit: Cost,
+    above: u64,
+) -> Result<bool, Fail>
+    requires nodes { B.book.nodes ≡ 3 }
+    requires limit { B.book.bound ≡ limit }
+{
+    let rows = both(alloc, limit)?;
+    let (first, second) = shown(rt, alloc, pen, &rows)?;
+    Ok((above < first) & (first < second))
+}
+
 /// Whether a book of three nodes is read and written.
 fn is_kept<B: Book, R: Wait>(
     rt: &R,
@@ -126,11 +188,14 @@ fn is_found<B: Book, R: Wait>(
     requires limit { B.book.bound ≡ limit }
 {
     let (opening, version) = laid_in_vain(rt, alloc, pen, reader, limit)?;
-    let mut last = version;
-    'rows: for _ in 0..40 {
-        last = written(rt, alloc, pen, limit, true)?;
+    let (mut last, mut rise) = (version, opening < version);
+    'rows: for _ in 0..20 {
+        rise &= are_shown(rt, alloc, pen, limit, last)?;
+        let next = written(rt, alloc, pen, limit, true)?;
+        rise &= last < next;
+        last = next;
     }
-    Ok((opening < version) & (version < last) & finds(other, last, (2, (5, 2)))?)
+    Ok(rise & finds(other, last, (2, (5, 2)))?)
 }
 
 fn split<B: Book>(reader: &mut Reader<B>) -> Result<Reader<B>, AllocError> {

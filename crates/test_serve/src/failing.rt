@@ -91,3 +91,74 @@ fn each_write_fails(rt: HostRuntime) {
         assert!(rt; is_broken_off(alloc, room));
     }
 }
+
+/// A writer that takes all it is offered. It can be flushed so often, each time after one interruption, and not again.
+#[derive(Drop)]
+struct Clogged {
+    taken: Vec<u8>,
+    flushes: usize,
+    interrupted: bool,
+}
+
+impl Write for Clogged {
+    fn write(&mut self, bytes: &[u8]) -> io::Result<usize> {
+        match self.taken.extend_from_slice(bytes) {
+            Ok(()) => Ok(bytes.len()),
+            Err(_) => Err(io::Error::from(ErrorKind::OutOfMemory)),
+        }
+    }
+
+    fn flush(&mut self) -> io::Result<()> {
+        if self.flushes == 0 {
+            return Err(io::Error::from(ErrorKind::BrokenPipe));
+        }
+        self.interrupted = !self.interrupted;
+        if self.interrupted {
+            return Err(io::Error::from(ErrorKind::Interrupted));
+        }
+        self.flushes -= 1;
+        Ok(())
+    }
+}
+
+/// Whether exactly the first line and the replies to the lines that end in the first requests are taken, where the writer
+/// can't be flushed once these were read, one byte in a call.
+fn is_clogged(alloc: Global, count: usize) -> bool {
+    if count > REQUESTS.len() {
+        return false;
+    }
+    let mut hier = ROW;
+    let mut out = Clogged {
+        taken: Vec::new(alloc),
+        flushes: count,
+        interrupted: false,
+    };
+    let ended = serve(alloc, &mut hier, &mut Failing { text: REQUESTS }, &mut out);
+    ended == Err(ServeError::Flush)
+        && REPLIES.starts_with(out.taken.as_slice())
+        && line_feeds(out.taken.as_slice()) == line_feeds(&REQUESTS[..count]).saturating_add(1)
+        && out.taken.as_slice().ends_with(b"\n")
+}
+
+#[test]
+fn each_flush_fails(rt: HostRuntime) {
+    let alloc = rt.alloc();
+    for count in 0..REQUESTS.len() {
+        assert!(rt; is_clogged(alloc, count));
+    }
+}
+
+/// Whether all replies are written where each flush is interrupted once, the last one after the last line too.
+#[test]
+fn each_flush_is_interrupted(rt: HostRuntime) {
+    let alloc = rt.alloc();
+    let mut hier = ROW;
+    let mut requests = REQUESTS;
+    let mut out = Clogged {
+        taken: Vec::new(alloc),
+        flushes: 3,
+        interrupted: false,
+    };
+    let ended = serve(alloc, &mut hier, &mut requests, &mut out);
+    assert!(rt; ended == Ok(()) && out.taken.as_slice() == REPLIES && out.flushes == 0);
+}

@@ -5,4 +5,6 @@
 #[cfg(test)]
 mod failing;
 #[cfg(test)]
+mod refused;
+#[cfg(test)]
 mod replies;

@@ -15,13 +15,13 @@ pub(crate) const ROW: &[u8] =
 pub(crate) const REQUESTS: &[u8] =
     b"q 2 3\nd 2 3\r\nd 3 2\nq 3 1\nb 2 10 1 20 : 3 1\nb 3 0 : 1 0 2 0\nb 1 0 3 4294967295 : 3 4294967295 1 7\n\
 c what follows\n\n \t \nq 2\nq 0 3\nq x 3\nd 1 4\nqq 1 2\np aux sp p2p 1\nb 1 0 : : 3 0\nb 1 0 3 0\nb : 3 0\nb 1 : 3 0\nb 1 0 : 3 4294967296\nb 4 0 : 3 0\n\
-b 1 0 1 0 1 0 1 0 1 0 1 0 1 0 1 0 1 0 : 3 0\nd 3 3\nq 3 3";
+b 1 0 1 0 1 0 1 0 1 0 1 0 1 0 1 0 1 0 : 3 0\nd 3 3\nb 2 0 1 0 : 1 5 3 0\nb 1 2 1 2 : 1 0 3 0\nq 3 3";
 
 /// The replies to them, worked out by hand.
 pub(crate) const REPLIES: &[u8] =
     b"ready 3 3 2\nr 2 3 5 2 2 1 3\nd 2 3 5\nn 3 2\nn 3 1\nr 2 3 16 2 2 1 3\nn\nr 1 1 7 0 1\n\
 c\nc\nc\ne FieldCount\ne NodeRange\ne NotANumber\ne NodeRange\ne UnknownLine\ne UnknownLine\ne FieldCount\ne FieldCount\ne FieldCount\ne FieldCount\ne WeightTooBig\ne NodeRange\n\
-e FieldCount\nd 3 3 0\nr 3 3 0 0 3\n";
+e FieldCount\nd 3 3 0\nr 1 3 3 1 1 3\nr 1 1 2 0 1\nr 3 3 0 0 3\n";
 
 /// A reader that gives so many bytes in a call, in turn one more and one fewer.
 #[derive(Drop)]

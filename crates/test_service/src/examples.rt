@@ -7,7 +7,7 @@ pub(crate) struct Example {
 }
 
 /// The worked examples. The tie's answer is that of a hierarchy by the order of the numbers.
-pub(crate) const EXAMPLES: [Example; 12] = [
+pub(crate) const EXAMPLES: [Example; 13] = [
     // One node and itself.
     Example {
         graph: b"p sp 1 0\n",
@@ -67,6 +67,12 @@ pub(crate) const EXAMPLES: [Example; 12] = [
         pairs: b"p aux sp p2p 2\nq 4 5\nq 4 3\n",
         answers: b"r 4 5 3 2 4 1 5\nr 4 3 2 2 4 2 3\n",
     },
+    // Two nodes of the highest ranks: the least way goes over one, and the searches from both ends meet at the other first.
+    Example {
+        graph: TWO_TOPS,
+        pairs: b"p aux sp p2p 3\nq 1 2\nq 2 1\nq 3 2\n",
+        answers: b"r 1 2 6 2 1 4 2\nn 2 1\nr 3 2 4 1 3 2\n",
+    },
     // No pairs.
     Example {
         graph: b"p sp 3 0\n",
@@ -82,7 +88,7 @@ pub(crate) const EXAMPLES: [Example; 12] = [
 ];
 
 /// How many of them have one least route for each pair: all but the last.
-pub(crate) const UNTIED: usize = 11;
+pub(crate) const UNTIED: usize = 12;
 
 /// The text of the graph of one arc.
 pub(crate) const ONE_ARC_TEXT: &[u8] = b"p sp 2 1\na 1 2 7\n";
@@ -102,6 +108,9 @@ pub(crate) const HEAVIEST: &[u8] =
 
 /// Arcs of weight 1 between four nodes; the ways 3, 1, 4 and 3, 2, 4 are equally long.
 pub(crate) const TIE: &[u8] = b"p sp 4 4\na 3 1 1\na 1 4 1\na 3 2 1\na 2 4 1\n";
+
+/// The text of ways from 1 to 2: over 4, of length 6, and over 3, of length 8.
+pub(crate) const TWO_TOPS: &[u8] = b"p sp 4 4\na 1 3 4\na 3 2 4\na 1 4 5\na 4 2 1\n";
 
 /// The file of the graph of no node.
 pub(crate) const NO_NODE: &[u8] = b"RCH2\0\0\0\0\0\0\0\0\0\0\0\0\0\0\0\0\0\0\0\0";

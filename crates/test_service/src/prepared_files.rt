@@ -1,5 +1,5 @@
 use crate::examples::{
-    FEWEST_TEXT, FREE_TEXT, HEAVIEST, NO_NODE, ONE_ARC, ONE_ARC_TEXT, ROW, ROW_TEXT, TIE,
+    FEWEST_TEXT, FREE_TEXT, HEAVIEST, NO_NODE, ONE_ARC, ONE_ARC_TEXT, ROW, ROW_TEXT, TIE, TWO_TOPS,
 };
 use crate::kit::{prepare_alone, prepared};
 use ch_service::{ServiceError, WriteFault};
@@ -11,7 +11,7 @@ const HEAVY: u64 = 4_294_967_295;
 const NONE: u32 = u32::MAX;
 
 /// Graphs and their files, by the order of the numbers.
-const FILES: [(&[u8], &[u8]); 3] = [
+pub(crate) const FILES: [(&[u8], &[u8]); 3] = [
     (b"p sp 0 0\n", NO_NODE),
     (ONE_ARC_TEXT, ONE_ARC),
     (ROW_TEXT, ROW),
@@ -43,12 +43,21 @@ const FREE_LINKS: [Link; 2] = [(0, 1, 0, 1, NONE), (1, 0, 0, 1, NONE)];
 /// The arc from 1 to 2 stays: a shortcut would be as long, and have more arcs.
 const FEWEST_LINKS: [Link; 3] = [(0, 2, 5, 1, NONE), (1, 0, 0, 1, NONE), (1, 2, 5, 1, NONE)];
 
+/// No node is contracted between others, so no link is a shortcut.
+const TWO_TOPS_LINKS: [Link; 4] = [
+    (0, 2, 4, 1, NONE),
+    (0, 3, 5, 1, NONE),
+    (2, 1, 4, 1, NONE),
+    (3, 1, 1, 1, NONE),
+];
+
 /// Graphs, and how many nodes, what bound and what links their files have.
-const LINKED: [(&[u8], u32, u64, &[Link]); 4] = [
+const LINKED: [(&[u8], u32, u64, &[Link]); 5] = [
     (HEAVIEST, 4, 3 * HEAVY, &HEAVIEST_LINKS),
     (TIE, 4, 3, &TIED_LINKS),
     (FREE_TEXT, 2, 0, &FREE_LINKS),
     (FEWEST_TEXT, 3, 10, &FEWEST_LINKS),
+    (TWO_TOPS, 4, 15, &TWO_TOPS_LINKS),
 ];
 
 /// The file of these links between so many nodes, each of the rank of its number, and of this bound.

@@ -5,8 +5,10 @@
 //! the start, so that none of them is refused memory.
 ghost use Rattle.std.specs.Prelude.{◌≡◌, [], All, IfOk};
 
-use crate::examples::{ONE_ARC, ONE_ARC_TEXT, ROW, ROW_TEXT};
+use crate::examples::{EXAMPLES, Example, ONE_ARC, ROW, ROW_TEXT};
 use crate::kit::{Lists, add_list, answer_alone, one_list, options, prepare_alone};
+use crate::prepared_files::FILES;
+use crate::version_1::{TOO_LONG, cascade};
 use ch_estimate::{EdgeDifference, Leases};
 use ch_service::{Cause, ServiceError, answer, answer_joined, prepare, route};
 use ch_workers::OpenGate;
@@ -20,9 +22,12 @@ const PAIRS: &[u8] = b"p aux sp p2p 3\nq 2 3\nq 2 1\nq 3 2\n";
 
 const ANSWERS: &[u8] = b"r 2 3 5 2 2 1 3\nr 2 1 2 1 2 1\nn 3 2\n";
 
-const JOINED: &[u8] = b"p sp 2 1\na 1 2 7\n%\np aux sp p2p 2\nq 1 2\nq 2 1\n";
+/// Pairs of the graph of one arc, and the lines that answer them.
+const BACK_AND_FORTH: &[u8] = b"p aux sp p2p 2\nq 1 2\nq 2 1\n";
 
-const JOINED_ANSWERS: &[u8] = b"r 1 2 7 1 1 2\nn 2 1\n";
+const ONE_WAY: &[u8] = b"r 1 2 7 1 1 2\nn 2 1\n";
+
+const JOINED: &[u8] = b"p sp 2 1\na 1 2 7\n%\np aux sp p2p 2\nq 1 2\nq 2 1\n";
 
 /// How a command ends, and what it writes.
 #[derive(Clone, Copy)]
@@ -44,7 +49,12 @@ impl Ended {
 
     /// Whether all was written.
     fn is_done(&self, all: &[u8]) -> bool {
-        self.end == Ok(()) && self.room.get(..self.written) == Some(all)
+        self.is_so(Ok(()), all)
+    }
+
+    /// Whether it ended so, and this was written.
+    fn is_so(&self, end: Result<(), ServiceError>, all: &[u8]) -> bool {
+        self.end == end && self.room.get(..self.written) == Some(all)
     }
 
     /// Whether memory was refused, after whole lines of these.
@@ -68,7 +78,7 @@ fn prepared<R: Threads + Wait + Sync>(rt: &R, alloc: Global, mut graph: &[u8]) -
 
 #[test]
 fn prepare_without_workers(rt: HostRuntime) {
-    for (text, file) in [(ONE_ARC_TEXT, ONE_ARC), (ROW_TEXT, ROW)] {
+    for (text, file) in FILES {
         let mut ended = prepared(&rt, rt.alloc(), text);
         if ended.lacks_memory(b"") {
             ended = prepared(&rt, rt.alloc(), text);
@@ -77,38 +87,63 @@ fn prepare_without_workers(rt: HostRuntime) {
     }
 }
 
-fn routed(alloc: Global, mut hier: &[u8]) -> Ended {
+fn routed(alloc: Global, mut hier: &[u8], mut pairs: &[u8]) -> Ended {
     let mut room = [0u8; 128];
     let mut out = room.as_mut_slice();
-    let end = route(alloc, &mut hier, &mut { PAIRS }, &mut out);
+    let end = route(alloc, &mut hier, &mut pairs, &mut out);
     let left = out.len();
     Ended::new(end, room, left)
 }
 
 #[test]
 fn route_by_a_file(rt: HostRuntime) {
-    let mut ended = routed(rt.alloc(), ROW);
-    if ended.lacks_memory(ANSWERS) {
-        ended = routed(rt.alloc(), ROW);
+    for (file, pairs, answers) in [(ONE_ARC, BACK_AND_FORTH, ONE_WAY), (ROW, PAIRS, ANSWERS)] {
+        let mut ended = routed(rt.alloc(), file, pairs);
+        if ended.lacks_memory(answers) {
+            ended = routed(rt.alloc(), file, pairs);
+        }
+        assert!(rt; ended.is_done(answers));
     }
-    assert!(rt; ended.is_done(ANSWERS));
 }
 
-fn answered<R: Threads + Wait + Sync>(rt: &R, alloc: Global) -> Ended {
+/// Pairs of the cascade of which the last one's route is too long, and the line that answers the one before.
+const TO_TOO_LONG: [(&[u8], &[u8]); 2] = [
+    (b"p aux sp p2p 1\nq 38 37\n", b""),
+    (b"p aux sp p2p 2\nq 3 2\nq 38 37\n", b"r 3 2 2 2 3 1 2\n"),
+];
+
+#[test]
+fn route_that_is_too_long(rt: HostRuntime) -> Result<(), AllocError> {
+    let file = cascade(rt.alloc())?;
+    for (pairs, answers) in TO_TOO_LONG {
+        let mut ended = routed(rt.alloc(), &file, pairs);
+        if ended.lacks_memory(answers) {
+            ended = routed(rt.alloc(), &file, pairs);
+        }
+        assert!(rt; ended.is_so(Err(TOO_LONG), answers));
+    }
+    Ok(())
+}
+
+fn answered<R: Threads + Wait + Sync>(rt: &R, alloc: Global, example: &Example) -> Ended {
     let mut room = [0u8; 128];
     let mut out = room.as_mut_slice();
-    let end = answer_alone(rt, alloc, &mut { ROW_TEXT }, &mut { PAIRS }, &mut out);
+    let (mut graph, mut pairs) = (example.graph, example.pairs);
+    let end = answer_alone(rt, alloc, &mut graph, &mut pairs, &mut out);
     let left = out.len();
     Ended::new(end, room, left)
 }
 
+/// One node alone, one arc, three nodes, and a loop beside parallel arcs.
 #[test]
 fn answer_without_workers(rt: HostRuntime) {
-    let mut ended = answered(&rt, rt.alloc());
-    if ended.lacks_memory(ANSWERS) {
-        ended = answered(&rt, rt.alloc());
+    for example in &EXAMPLES[..4] {
+        let mut ended = answered(&rt, rt.alloc(), example);
+        if ended.lacks_memory(example.answers) {
+            ended = answered(&rt, rt.alloc(), example);
+        }
+        assert!(rt; ended.is_done(example.answers));
     }
-    assert!(rt; ended.is_done(ANSWERS));
 }
 
 fn answered_joined<R: Threads + Wait + Sync>(rt: &R, alloc: Global) -> Ended {
@@ -122,10 +157,10 @@ fn answered_joined<R: Threads + Wait + Sync>(rt: &R, alloc: Global) -> Ended {
 #[test]
 fn answer_of_one_input(rt: HostRuntime) {
     let mut ended = answered_joined(&rt, rt.alloc());
-    if ended.lacks_memory(JOINED_ANSWERS) {
+    if ended.lacks_memory(ONE_WAY) {
         ended = answered_joined(&rt, rt.alloc());
     }
-    assert!(rt; ended.is_done(JOINED_ANSWERS));
+    assert!(rt; ended.is_done(ONE_WAY));
 }
 
 /// The lists of two workers, each with one estimator.
@@ -197,7 +232,7 @@ fn prepare_by_two_workers(rt: HostRuntime) -> Result<(), Fail> {
     }
     assert!(rt; ended.end == Ok(()));
     let file = ended.room.get(..ended.written).unwrap_or(b"");
-    let routes = routed(rt.alloc(), file);
+    let routes = routed(rt.alloc(), file, PAIRS);
     assert!(rt; routes.is_done(ANSWERS) || routes.lacks_memory(ANSWERS));
     Ok(())
 }

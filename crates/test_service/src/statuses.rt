@@ -1,4 +1,4 @@
-use crate::examples::{ONE_ARC, ONE_ARC_TEXT, ONE_ARC_V1, TWICE};
+use crate::examples::{ONE_ARC, ONE_ARC_TEXT, ONE_ARC_V1, ROW, TWICE};
 use crate::kit::joined;
 use jobs::Job;
 use performing::perform;
@@ -181,11 +181,59 @@ fn routes(rt: HostRuntime) {
     }
 }
 
+pub(crate) const INFO: Job<'static> = Job::Info { hierarchy: "a.rch" };
+
+/// What printing of a file ends with: the file, the status, the text and the line on standard error.
+type Informed = (&'static [u8], u8, &'static [u8], &'static [u8]);
+
+const INFORMED: [Informed; 7] = [
+    (
+        ONE_ARC,
+        0,
+        b"version 2\nnodes 2\nlinks 1\nbound 7\nbytes 56\n",
+        b"",
+    ),
+    (
+        ONE_ARC_V1,
+        0,
+        b"version 1\nnodes 2\nlinks 1\nbound 7\nbytes 52\n",
+        b"",
+    ),
+    (
+        ROW,
+        0,
+        b"version 2\nnodes 3\nlinks 3\nbound 6\nbytes 108\n",
+        b"",
+    ),
+    (
+        b"RCH2\0\0\0\0\0\0\0\0\0\0\0\0\0\0\0\0\0\0\0\0",
+        0,
+        b"version 2\nnodes 0\nlinks 0\nbound 0\nbytes 24\n",
+        b"",
+    ),
+    (b"", 4, b"", b"routecli: hierarchy: Truncated\n"),
+    (ONE_ARC_TEXT, 4, b"", b"routecli: hierarchy: BadMagic\n"),
+    (
+        b"RCH2\0\0\0\0\0\0\0\0\0\0\0\0\0\0\0\0\0\0\0\0x",
+        4,
+        b"",
+        b"routecli: hierarchy: Trailing\n",
+    ),
+];
+
+#[test]
+fn what_files_have(rt: HostRuntime) {
+    let alloc = rt.alloc();
+    for (mut file, status, out, err) in INFORMED {
+        assert!(rt; is_ended(&rt, alloc, &INFO, &mut file, &mut Broken, status, out, err));
+    }
+}
+
 #[test]
 fn failed_reads(rt: HostRuntime) {
     let alloc = rt.alloc();
     let line = b"routecli: read\n";
-    for job in [TWO, JOINED, ROUTE] {
+    for job in [TWO, JOINED, ROUTE, INFO] {
         let mut pairs = PAIRS;
         assert!(rt; is_ended(&rt, alloc, &job, &mut Broken, &mut pairs, 7, b"", line));
     }
@@ -205,6 +253,23 @@ fn failed_writes(rt: HostRuntime) {
         &mut graph,
         &mut pairs,
         &mut Broken,
+        &mut err,
+    );
+    assert!(rt; status == 7 && err.as_slice() == b"routecli: write\n".as_slice());
+}
+
+#[test]
+fn a_failed_write_of_what_a_file_has(rt: HostRuntime) {
+    let mut err = Vec::new(rt.alloc());
+    let mut file = ONE_ARC;
+    let (mut nothing, mut out) = (Broken, Broken);
+    let status = perform(
+        &rt,
+        rt.alloc(),
+        &INFO,
+        &mut file,
+        &mut nothing,
+        &mut out,
         &mut err,
     );
     assert!(rt; status == 7 && err.as_slice() == b"routecli: write\n".as_slice());

@@ -13,7 +13,7 @@ const TRUNCATED: ServiceError = ServiceError::Hierarchy(HierError::Truncated);
 
 const TRAILING: ServiceError = ServiceError::Hierarchy(HierError::Trailing);
 
-const TOO_LONG: ServiceError = ServiceError::Unpack(UnpackError::TooLong);
+pub(crate) const TOO_LONG: ServiceError = ServiceError::Unpack(UnpackError::TooLong);
 
 /// Ways of three and of two arcs from node 4 to 5, both of length 3. Nodes 2 and 3 rank lowest, so the link from 4 to 5
 /// is a shortcut by way of them, and the way over node 1 got none.
@@ -103,7 +103,7 @@ fn push_link(file: &mut Vec<u8>, from: u32, to: u32) -> Result<(), AllocError> {
 
 /// The file of 38 nodes, each of the rank of its number, in which each two are linked: of the length that two to the lesser
 /// number is, by way of the node before the lesser.
-fn cascade(alloc: Global) -> Result<Vec<u8>, AllocError> {
+pub(crate) fn cascade(alloc: Global) -> Result<Vec<u8>, AllocError> {
     let mut file = Vec::from_slice(alloc, b"RCH1\0\0\0\x26\0\0\0\0\0\0\x05\x7e")?;
     file.extend_from_slice(&158_913_789_915u64.to_be_bytes())?;
     for rank in 0..38u32 {

@@ -122,7 +122,7 @@ fn worked_examples_by_one_worker(rt: HostRuntime) -> Result<(), Fail> {
         assert!(rt; out.as_slice() == example.answers);
     }
     // All nodes of all examples.
-    assert!(rt; gate.seen.load(Ordering::SeqCst) == 29);
+    assert!(rt; gate.seen.load(Ordering::SeqCst) == 33);
     Ok(())
 }
 

@@ -1,3 +1,5 @@
+ghost use Rattle.std.specs.Io.{WritesAtMost};
+
 use crate::beside::Beside;
 use crate::one_file::is_one_file;
 use std::alloc::AllocError;
@@ -24,6 +26,8 @@ pub struct PendingFile<'a, R: Files> {
     is_straight: bool,
     beside: Beside,
     file: Option<R::File>,
+    // why a write failed last
+    failure: Option<io::Error>,
 }
 
 impl<'a, R: Files + AllocGlobal> PendingFile<'a, R> {
@@ -42,6 +46,7 @@ impl<'a, R: Files + AllocGlobal> PendingFile<'a, R> {
             beside: Beside::new(files.alloc(), target.as_path())?,
             target,
             file: None,
+            failure: None,
         })
     }
 }
@@ -60,10 +65,26 @@ impl<R: Files> PendingFile<'_, R> {
         fs::rename(self.files, self.beside.path(), self.target.as_path())
     }
 
+    /// Why a write failed last, if one did.
+    pub(crate) fn failure(&self) -> Option<io::Error> {
+        self.failure
+    }
+
     /// Removes the file that gathers the bytes, if it was made and isn't where they belong.
     pub(crate) fn remove(&mut self) {
         if self.file.is_some() && !self.is_straight {
             let _ = fs::remove_file(self.files, self.beside.path());
+        }
+    }
+
+    // Writes some of the bytes to the file, which is made at the first write.
+    fn write_some(&mut self, buf: &[u8]) -> io::Result<usize>
+        ensures { WritesAtMost result buf.now }
+    {
+        self.make()?;
+        match &mut self.file {
+            Some(file) => file.write(buf),
+            None => Ok(0),
         }
     }
 
@@ -107,11 +128,11 @@ impl<R: Files> PendingFile<'_, R> {
 
 impl<R: Files> Write for PendingFile<'_, R> {
     fn write(&mut self, buf: &[u8]) -> io::Result<usize> {
-        self.make()?;
-        match &mut self.file {
-            Some(file) => file.write(buf),
-            None => Ok(0),
+        let count = self.write_some(buf);
+        if let Err(error) = &count {
+            self.failure = Some(*error);
         }
+        count
     }
 
     fn flush(&mut self) -> io::Result<()> {

@@ -15,12 +15,22 @@ use std::rt::Files;
 pub struct OutFile<'a, R: Files> {
     files: &'a R,
     path: &'a str,
+    failure: Option<io::Error>,
 }
 
 impl<'a, R: Files> OutFile<'a, R> {
     /// The destination at this path. Nothing is looked at or made yet.
     pub fn new(files: &'a R, path: &'a str) -> OutFile<'a, R> {
-        OutFile { files, path }
+        OutFile {
+            files,
+            path,
+            failure: None,
+        }
+    }
+
+    /// Why the last draft wasn't put there, if the file system failed.
+    pub fn failure(&self) -> Option<io::Error> {
+        self.failure
     }
 }
 
@@ -36,6 +46,7 @@ impl<'a, R: Files + AllocGlobal> Destination for OutFile<'a, R> {
             Ok(()) => Ok(()),
             Err(error) => {
                 draft.remove();
+                self.failure = Some(error);
                 Err(error)
             }
         }
@@ -43,5 +54,6 @@ impl<'a, R: Files + AllocGlobal> Destination for OutFile<'a, R> {
 
     fn throw_away(&mut self, mut draft: PendingFile<'a, R>) {
         draft.remove();
+        self.failure = draft.failure();
     }
 }

@@ -54,3 +54,24 @@ fn router(rt: HostRuntime) -> Result<(), Fail> {
     assert!(rt; is_drawn_by(rt.alloc(), &hierarchy)?);
     Ok(())
 }
+
+/// The same by a router beside another one, which is dropped first. One that is refused memory is made again.
+fn is_drawn_beside(alloc: Global, hierarchy: &Hierarchy) -> Result<bool, Fail> {
+    let first = match Router::new(alloc, hierarchy) {
+        Ok(router) => router,
+        Err(AllocError) => Router::new(alloc, hierarchy)?,
+    };
+    let mut router = match first.beside() {
+        Ok(router) => router,
+        Err(AllocError) => first.beside()?,
+    };
+    drop(first);
+    is_drawn(&mut router)
+}
+
+#[test]
+fn router_beside(rt: HostRuntime) -> Result<(), Fail> {
+    let hierarchy = hierarchy_of(rt.alloc(), &DRAWN_RANKS, &DRAWN, (20, 4))?;
+    assert!(rt; is_drawn_beside(rt.alloc(), &hierarchy)?);
+    Ok(())
+}

@@ -12,7 +12,7 @@ returns-in_err-reply-clause-err g c =
     rw (exit.1, exit.2) (last_breaks (by_hierarchy c.args.router.now) c.last.result c.in-Some.request _ _ _ _ _ _ c.in-Some.is c.last.ensures.asked c.requires.empty c.in_err-reply.ensures.err)
 
 pub returns-clause-ok : goal.returns-clause-ok
-returns-clause-ok g c = last_done c.hand_over.result (by_hierarchy c.args.router.now) c.last.result c.in-Some.request _ _ _ _ _ _ _ _ _ _ c.in-Some.is c.last.ensures.asked c.requires.empty c.in_ok-reply.ensures.ok c.hand_over.ensures.ok c.hand_over.ensures.all
+returns-clause-ok g c = last_done c.send.result (by_hierarchy c.args.router.now) c.last.result c.in-Some.request _ _ _ _ _ _ _ _ _ c.in-Some.is c.last.ensures.asked c.requires.empty c.in_ok-reply.ensures.ok c.send.ensures.ok
 
 pub returns-clause-err : goal.returns-clause-err
-returns-clause-err g c = last_fails c.hand_over.result (by_hierarchy c.args.router.now) c.last.result c.in-Some.request _ _ _ _ _ _ _ _ c.in-Some.is c.last.ensures.asked c.requires.empty c.in_ok-reply.ensures.ok c.hand_over.ensures.err
+returns-clause-err g c = last_fails c.send.result (by_hierarchy c.args.router.now) c.last.result c.in-Some.request _ _ _ _ _ _ _ _ c.in-Some.is c.last.ensures.asked c.requires.empty c.in_ok-reply.ensures.ok c.send.ensures.err

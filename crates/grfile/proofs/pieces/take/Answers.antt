@@ -2,7 +2,6 @@ use Rattle.std.proofs.Common.{◌<◌, ◌^◌, arith, rules}
 use Rattle.std.proofs.lemmas.Result.{err_from_is_err_and}
 use Rattle.grfile.proofs.Cuttings.{counts_after, counts_kept}
 use Rattle.std.proofs.Common.{List, ℕ, [], ap, map, refl, sym, ◌∙◌}
-use Rattle.std.proofs.lemmas.Result.{IfErr-weaker}
 use Rattle.std.specs.Option.{option_map}
 use Rattle.std.specs.Str.Lines.{strip_carriage_return}
 use Rattle.grfile.specs.Progress.{listing_of, told_from}

@@ -1,5 +1,5 @@
 use Rattle.std.proofs.Common.{refl}
-use Rattle.performing.proofs.Statuses.{of_answer, of_preparation, of_route, of_service, no_disagreement, no_worker}
+use Rattle.performing.proofs.Statuses.{of_answer, of_preparation, of_route, of_service, of_info, no_disagreement, no_worker}
 use Rattle.performing.proofs.doing.perform.Goals as goal
 
 -- both texts in one input
@@ -50,3 +50,17 @@ returns-in-Serve-clause-status g c = of_service _ _ _ c.in-Serve.is c.perform_se
 
 pub returns-in-Serve-clause-mixed : goal.returns-in-Serve-clause-mixed
 returns-in-Serve-clause-mixed g c = no_worker _ _ c.perform_service.ensures.status
+
+-- what a hierarchy file has
+
+pub returns-in-Info-clause-informed : goal.returns-in-Info-clause-informed
+returns-in-Info-clause-informed g c informing = c.perform_info.ensures.told
+
+pub returns-in-Info-clause-status : goal.returns-in-Info-clause-status
+returns-in-Info-clause-status g c = of_info _ _ _ c.in-Info.is c.perform_info.ensures.status
+
+pub returns-in-Info-clause-mixed : goal.returns-in-Info-clause-mixed
+returns-in-Info-clause-mixed g c = no_worker _ _ c.perform_info.ensures.status
+
+pub returns-in-Info-clause-unread : goal.returns-in-Info-clause-unread
+returns-in-Info-clause-unread g c is = refl

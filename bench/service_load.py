@@ -1,0 +1,197 @@
+#!/usr/bin/python3
+"""Measures the service over HTTP: pairs of nodes, routes with geometry and steps, and tables with single requests beside them.
+
+    service_load.py HIERARCHY NETWORK [--fronts N] [--connections N] [--seconds S] [--rounds N]
+
+NETWORK is the beginning of the names of a network's files, as bench/make_roads.py writes them. Near pairs are those whose numbers
+are at most 3,000 apart, which in such networks are some 90 arcs. It needs Debian's wrk. Each line has the requests in a second,
+the median and the 99th percentile in ms, and the processor time of the fronts and of their workers for each request, since other
+work on the machine makes the former smaller and not the latter. Each is the median of the rounds. The program is that of ROUTECLI.
+"""
+import argparse
+import concurrent.futures
+import http.client
+import json
+import os
+import pathlib
+import random
+import re
+import signal
+import statistics
+import subprocess
+import sys
+import tempfile
+import time
+
+ROOT = pathlib.Path(__file__).resolve().parent.parent
+sys.path.insert(0, str(ROOT / "python"))
+
+from domethyme import binary
+
+NEAR = 3000
+PATHS = 4000
+PLACES = 100
+TICK = os.sysconf("SC_CLK_TCK")
+LUA = """
+local paths = {{}}
+for line in io.lines("{file}") do paths[#paths + 1] = line end
+local at = math.random(#paths)
+request = function()
+  at = at % #paths + 1
+  return wrk.format("GET", paths[at])
+end
+local wrong = 0
+response = function(status) if status ~= 200 then wrong = wrong + 1 end end
+done = function(summary, latency)
+  io.write(string.format("%d %d %d %d %d\\n", summary.requests, summary.duration, latency:percentile(50), latency:percentile(99),
+    summary.errors.status + summary.errors.connect + summary.errors.read + summary.errors.timeout))
+end
+"""
+
+
+class Service:
+    """The service, with its processes."""
+
+    def __init__(self, given):
+        words = [ROOT / "tools/domethyme-serve", given.hierarchy, "--network", given.network, "--port", "0", "--fronts", given.fronts]
+        begun = time.monotonic()
+        self.process = subprocess.Popen(list(map(str, words)), stderr=subprocess.PIPE, text=True)
+        listening = 0
+        for line in self.process.stderr:
+            if found := re.search(r"listens at http://127\.0\.0\.1:(\d+)/", line):
+                self.port, listening = int(found[1]), listening + 1
+            if listening == given.fronts:
+                break
+        self.seconds_to_begin = time.monotonic() - begun
+
+    def times(self):
+        """The processor seconds of the fronts, and of the workers."""
+        fronts = workers = 0.0
+        for number in descendants(self.process.pid):
+            text = pathlib.Path(f"/proc/{number}/stat").read_text().rpartition(")")[2].split()
+            is_front = b"domethyme" in pathlib.Path(f"/proc/{number}/cmdline").read_bytes()
+            seconds = (int(text[11]) + int(text[12])) / TICK
+            fronts, workers = fronts + seconds * is_front, workers + seconds * (not is_front)
+        return fronts, workers
+
+    def memory(self):
+        """The greatest resident megabytes of a front, and of a worker."""
+        found = {True: 0, False: 0}
+        for number in descendants(self.process.pid):
+            is_front = b"domethyme" in pathlib.Path(f"/proc/{number}/cmdline").read_bytes()
+            size = re.search(r"VmHWM:\s+(\d+)", pathlib.Path(f"/proc/{number}/status").read_text())
+            found[is_front] = max(found[is_front], int(size[1]) // 1024)
+        return found[True], found[False]
+
+    def ask(self, path):
+        connection = http.client.HTTPConnection("127.0.0.1", self.port, timeout=60)
+        connection.request("GET", path)
+        found = json.loads(connection.getresponse().read())
+        connection.close()
+        return found
+
+    def end(self):
+        self.process.send_signal(signal.SIGTERM)
+        self.process.wait()
+
+
+def descendants(number):
+    found = [number]
+    for child in pathlib.Path(f"/proc/{number}/task/{number}/children").read_text().split():
+        found += descendants(int(child))
+    return found
+
+
+class Places:
+    """Nodes, and where they lie."""
+
+    def __init__(self, network):
+        arrays = binary.arrays_of(network)
+        self.lon, self.lat = arrays.node_lon / binary.UNITS, arrays.node_lat / binary.UNITS
+        self.count = len(self.lon)
+
+    def pair(self, draw, is_near):
+        one = draw.randint(1, self.count)
+        return one, min(self.count, max(1, one + draw.randint(-NEAR, NEAR))) if is_near else draw.randint(1, self.count)
+
+    def text(self, nodes, draw):
+        """The places beside nodes, as OSRM's API takes them."""
+        beside = lambda: draw.gauss(0, 0.0002)  # noqa: E731 (a name for what follows)
+        return ";".join(f"{self.lon[node - 1] + beside():.6f},{self.lat[node - 1] + beside():.6f}" for node in nodes)
+
+
+def load(service, name, paths, given):
+    """Asks for the paths by wrk, and prints the medians of the rounds."""
+    with tempfile.TemporaryDirectory() as folder:
+        file, script = pathlib.Path(folder) / "paths", pathlib.Path(folder) / "wrk.lua"
+        file.write_text("".join(f"{path}\n" for path in paths))
+        script.write_text(LUA.format(file=file))
+        rows = [one_load(service, script, given) for _ in range(given.rounds)]
+    rate, median, late, front, worker, wrong = (statistics.median(column) for column in zip(*rows))
+    low, high = min(row[0] for row in rows), max(row[0] for row in rows)
+    said = f"{name}: {rate:,.0f}/s ({low:,.0f} to {high:,.0f}), median {median:.1f} ms, p99 {late:.1f} ms"
+    print(f"{said}; processor time {front:.0f} µs front, {worker:.0f} µs worker; {wrong:.0f} errors", flush=True)
+
+
+def one_load(service, script, given):
+    before = service.times()
+    words = ["wrk", "-t", "2", "-c", given.connections, "-d", given.seconds, "-s", script, f"http://127.0.0.1:{service.port}"]
+    said = subprocess.run(list(map(str, words)), capture_output=True, text=True, check=True).stdout.splitlines()[-1]
+    requests, duration, median, late, wrong = map(int, said.split())
+    front, worker = (1e6 * (now - then) / max(1, requests) for now, then in zip(service.times(), before))
+    return 1e6 * requests / duration, median / 1000, late / 1000, front, worker, wrong
+
+
+def tables(service, places, draw, given):
+    """The seconds of tables, and of single requests while there is always one."""
+    node = draw.randint(1, places.count)
+    nodes = [min(places.count, max(1, node + draw.randint(-NEAR, NEAR))) for _ in range(PLACES)]
+    path = f"/table/v1/car/{places.text(nodes, draw)}?skip_waypoints=true"
+    single = [f"/nodes/route?from={pair[0]}&to={pair[1]}" for pair in (places.pair(draw, True) for _ in range(300))]
+    alone = [timed(service, path) for _ in range(max(5, given.rounds))]
+    with concurrent.futures.ThreadPoolExecutor(1) as pool:
+        running = pool.submit(lambda: [timed(service, path) for _ in range(8)])
+        beside = []
+        while not running.done():
+            beside.append(timed(service, single[len(beside) % len(single)]))
+    beside.sort()
+    print(f"table of {PLACES} x {PLACES}: {1000 * statistics.median(alone):.0f} ms alone ({1000 * min(alone):.0f} to {1000 * max(alone):.0f})")
+    print(f"single requests beside tables: median {1000 * statistics.median(beside):.1f} ms, p99 {1000 * beside[int(len(beside) * 0.99)]:.1f} ms, of {len(beside)}", flush=True)
+
+
+def timed(service, path):
+    begun = time.monotonic()
+    if "code" in (found := service.ask(path)) and found["code"] != "Ok":
+        raise AssertionError(found)
+    return time.monotonic() - begun
+
+
+def main():
+    words = argparse.ArgumentParser(description=__doc__, formatter_class=argparse.RawDescriptionHelpFormatter)
+    words.add_argument("hierarchy", metavar="HIERARCHY")
+    words.add_argument("network", metavar="NETWORK")
+    words.add_argument("--fronts", type=int, default=4)
+    words.add_argument("--connections", type=int, default=16)
+    words.add_argument("--seconds", type=int, default=4)
+    words.add_argument("--rounds", type=int, default=3)
+    given = words.parse_args()
+    draw, places = random.Random(1), Places(given.network)
+    service = Service(given)
+    try:
+        loads = " ".join(pathlib.Path("/proc/loadavg").read_text().split()[:2])
+        print(f"{given.fronts} fronts, {given.connections} connections, {places.count:,} nodes, {os.cpu_count()} processors, load {loads}")
+        print(f"ready after {service.seconds_to_begin:.1f} s")
+        for is_near, name in ((True, "near"), (False, "random")):
+            pairs = [places.pair(draw, is_near) for _ in range(PATHS)]
+            load(service, f"{name} pairs of nodes", [f"/nodes/route?from={one}&to={two}" for one, two in pairs], given)
+            shape = "overview=false&steps=true&geometries=geojson&generate_hints=false"
+            paths = [f"/route/v1/car/{places.text(pair, draw)}?{shape}" for pair in pairs]
+            load(service, f"{name} routes with geometry and steps", paths, given)
+        tables(service, places, draw, given)
+        print("resident: a front {} MB, a worker {} MB".format(*service.memory()))
+    finally:
+        service.end()
+
+
+if __name__ == "__main__":
+    main()

@@ -1,0 +1,43 @@
+/// The field of this number, from 0, of a line, or nothing where the line has fewer.
+pub(crate) fn field(line: &[u8], number: u32) -> &[u8] {
+    let mut count = 0u32;
+    for part in line.split(is_blank) {
+        if part.is_empty() {
+            continue;
+        }
+        if count == number {
+            return part;
+        }
+        count = count.saturating_add(1);
+    }
+    b""
+}
+
+/// Whether the field is this word.
+pub(crate) fn is(field: &[u8], word: &str) -> bool {
+    field == word.as_bytes()
+}
+
+/// The number that a field is, if it is one of 64 bits.
+pub(crate) fn number_of(field: &[u8]) -> Option<u64> {
+    if !is_number(field) {
+        return None;
+    }
+    let text = str::from_utf8(field).ok()?;
+    text.parse::<u64>().ok()
+}
+
+/// Whether a field has decimal digits alone.
+pub(crate) fn is_number(field: &[u8]) -> bool {
+    for byte in field {
+        if !byte.is_ascii_digit() {
+            return false;
+        }
+    }
+    !field.is_empty()
+}
+
+// Whether it parts fields.
+fn is_blank(byte: &u8) -> bool {
+    matches!(*byte, b' ' | b'\t' | b'\r' | b'\n')
+}

@@ -1,0 +1,42 @@
+-- What is printed of a hierarchy file.
+use Rattle.std.specs.Prelude.{ℕ, ◌≡◌, ◌<◌, List, ◌++◌, length, take, codes, decimal, Option, IfSome, Some}
+use Rattle.std.specs.Io.KnownBytes.{Appends, Keeps}
+use Rattle.ch_cost.specs.Cost.{length_of}
+use Rattle.ch_graph.specs.Hierarchy.{Hierarchy, IsWellMade, version_number}
+use Rattle.hierfile.specs.Spelling.{bytes_of}
+use Rattle.hierfile.specs.Bytes.{OfBytes}
+use Rattle.hierfile.specs.Fault.{first_fault}
+use Rattle.hierfile.specs.Names.{error_name}
+use Rattle.hierfile.specs.declared.error.HierError.TheVariants as faults
+use Rattle.hierinfo.specs.declared.error.InfoError.{InfoError}
+use Rattle.hierinfo.specs.declared.error.InfoError.TheVariants.{Hierarchy as HierarchyFault, OutOfMemory, Write}
+
+-- a line with a name and a number in decimals
+abbrev pub fact : List ℕ → List ℕ → List ℕ
+fact name number = name ++ codes " " ++ number ++ codes "\n"
+
+-- the version of a hierarchy, how many nodes and links it has, its bound, and how many bytes its file has
+abbrev pub info : Hierarchy → List ℕ
+info h = fact (codes "version") (decimal (version_number h.version)) ++ fact (codes "nodes") (decimal (length h.ranks)) ++ fact (codes "links") (decimal (length h.links)) ++ fact (codes "bound") (decimal (length_of h.bound)) ++ fact (codes "bytes") (decimal (length (bytes_of h)))
+
+-- the bytes are the file of a hierarchy, and the text is what is printed of it
+pub record Informs (bytes text : List ℕ) : Type 0 where
+  pub hierarchy : Hierarchy
+  pub made : IsWellMade hierarchy
+  pub spelled : bytes ≡ bytes_of hierarchy
+  pub tells : text ≡ info hierarchy
+
+-- Where it isn't printed. A refused file has the fault that is told of its bytes, and nothing is written; nor is where memory
+-- is refused. Where the write fails, the writer took the first `written` bytes of the text, but not all.
+abbrev pub RefusesInfo : Option (List ℕ) → Option (List ℕ) → Option (List ℕ) → InfoError → Type 0
+RefusesInfo file old new (HierarchyFault e) = IfSome file (λ bytes. OfBytes e (first_fault bytes ≡ Some e)) × Keeps old new
+RefusesInfo file old new OutOfMemory = Keeps old new
+RefusesInfo file old new (Write fault) = IfSome file (λ bytes. (text : List ℕ) × Informs bytes text × (fault.written < length text) × Appends old new (take fault.written text))
+
+-- how a refusal is printed
+abbrev pub shown : InfoError → List ℕ
+shown (HierarchyFault faults.OutOfMemory) = codes "memory"
+shown (HierarchyFault faults.Read) = codes "read"
+shown (HierarchyFault e) = codes "hierarchy: " ++ error_name e
+shown OutOfMemory = codes "memory"
+shown (Write fault) = codes "write"

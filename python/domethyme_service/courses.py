@@ -1,0 +1,150 @@
+"""The course of a leg: the points of its arcs, one after the other, their figures, and the directions in which they begin and
+end. All is in arrays, since a leg may have thousands of arcs."""
+import functools
+import itertools
+import math
+from collections.abc import Sequence
+from typing import Any
+
+import numpy as np
+from numpy.typing import NDArray
+
+from domethyme.binary import UNITS
+from domethyme.network import Floats, Point
+
+from .legs import Leg
+from .lines import bearing, encoded, simplified
+from .roads import Roads
+
+SHOWN = 1_000_000
+
+Ints = NDArray[np.int64]
+
+
+class Course:
+    """The points of arc k of the leg are points[begins[k]:begins[k + 1]], in units of a degree. A course has an arc or more."""
+
+    def __init__(self, roads: Roads, leg: Leg) -> None:
+        self.roads, self.leg, arrays = roads, leg, roads.arrays
+        self.arcs: Ints = np.array(leg.arcs, dtype=np.int64)
+        self.edges = arrays.arc_edge[self.arcs]
+        is_along = arrays.arc_along[self.arcs]
+        first, count = arrays.edge_begin[self.edges], arrays.edge_begin[self.edges + 1] - arrays.edge_begin[self.edges]
+        within = np.arange(int(count.sum())) - np.repeat(np.cumsum(count) - count, count)
+        rows = np.repeat(np.where(is_along, first, first + count - 1), count) + within * np.repeat(np.where(is_along, 1, -1), count)
+        self.points: Ints = arrays.points[rows].astype(np.int64)
+        self.begins: Ints = np.concatenate(([0], np.cumsum(count)))
+        self._cut()
+        self.shares: Floats = np.ones(len(self.arcs))
+        self.shares[-1] = leg.end
+        self.shares[0] -= leg.begin
+
+    def _cut(self) -> None:
+        """Puts the points of the first and the last arc where the leg has a part of them alone."""
+        last = len(self.arcs) - 1
+        parts = {0: (self.leg.begin, 1.0), last: (0.0, self.leg.end)} if last else {0: (self.leg.begin, self.leg.end)}
+        for place, (begin, end) in sorted(parts.items(), reverse=True):
+            if (begin, end) != (0.0, 1.0):
+                line = np.round(np.array(self.roads.line(self.leg.arcs[place], begin, end)) * UNITS).astype(np.int64)
+                low, high = int(self.begins[place]), int(self.begins[place + 1])
+                self.points = np.concatenate((self.points[:low], line, self.points[high:]))
+                self.begins[place + 1 :] += len(line) - (high - low)
+
+    @functools.cached_property
+    def _shown(self) -> Ints:
+        """The points to six places."""
+        return (self.points + UNITS // SHOWN // 2) // (UNITS // SHOWN)
+
+    def line(self, first: int, last: int) -> list[list[float]]:
+        """The points of the arcs from one to before another, to six places, without one that follows itself; two at least."""
+        part = self._shown[self.begins[first] : self.begins[last]]
+        is_other = np.ones(len(part), dtype=bool)
+        is_other[1:] = (part[1:] != part[:-1]).any(axis=1)
+        found: list[list[float]] = (part[is_other] / SHOWN).tolist()
+        return found if len(found) > 1 else found * 2
+
+    @functools.cached_property
+    def bearings(self) -> tuple[list[int], list[int]]:
+        """The directions in which each arc begins, and in which it ends."""
+        low, high = self.begins[:-1], self.begins[1:] - 1
+        return self._directions(low, low + 1, 1), self._directions(high - 1, high, -1)
+
+    def _directions(self, begins: Ints, ends: Ints, step: int) -> list[int]:
+        ways = (self.points[ends] - self.points[begins]).astype(np.float64)
+        lats = np.radians(self.points[begins, 1] / UNITS)
+        found = (np.round(np.degrees(np.arctan2(ways[:, 0] * np.cos(lats), ways[:, 1]))) % 360).astype(np.int64).tolist()
+        for place in np.flatnonzero((ways == 0).all(axis=1)).tolist():
+            found[place] = self._direction(place, step)
+        return list(found)
+
+    def _direction(self, place: int, step: int) -> int:
+        """The direction at an end of an arc whose first step there has no length."""
+        line = [(lon / UNITS, lat / UNITS) for lon, lat in self.points[self.begins[place] : self.begins[place + 1]].tolist()]
+        ordered = line[::step]
+        other = next((point for point in ordered if point != ordered[0]), ordered[0])
+        return bearing(*(ordered[0], other)[::step])
+
+    @functools.cached_property
+    def sums(self) -> tuple[list[int], list[float], list[float]]:
+        """The weight, seconds and metres before each arc, and of all."""
+        arrays = self.roads.arrays
+        seconds, metres = (values[self.arcs] * self.shares for values in (arrays.arc_seconds, arrays.arc_metres))
+        weights = list(itertools.accumulate(self.leg.weights, initial=0))
+        sums = [np.concatenate(([0.0], np.cumsum(values))).tolist() for values in (seconds, metres)]
+        return weights, sums[0], sums[1]
+
+    def figures(self, first: int, last: int) -> dict[str, float]:
+        """The weight, seconds and metres of the arcs from one to before another."""
+        weights, seconds, metres = self.sums
+        return figures_of(self.roads, weights[last] - weights[first], seconds[last] - seconds[first], metres[last] - metres[first])
+
+
+def figures_of(roads: Roads, weight: int, seconds: float, metres: float) -> dict[str, float]:
+    """A weight in the unit that answers have, seconds and metres; those that weights are follow from them."""
+    return {
+        "weight": weight / {"duration": 1000, "distance": 100, "weight": 1}[roads.unit],
+        "duration": round(weight / 1000 if roads.unit == "duration" else seconds, 3),
+        "distance": round(weight / 100 if roads.unit == "distance" else metres, 2),
+    }
+
+
+def course_of(roads: Roads, leg: Leg) -> Course | None:
+    """The course of a leg; None where it stays at a node."""
+    return Course(roads, leg) if leg.arcs else None
+
+
+def leg_figures(roads: Roads, leg: Leg, course: Course | None) -> dict[str, float]:
+    return figures_of(roads, leg.weight, 0.0, 0.0) if course is None else course.figures(0, len(leg.arcs))
+
+
+def line_of(courses: "Sequence[Course | None]", ends: list[Point]) -> list[list[float]]:
+    """The line along the courses, by way of the places that they join."""
+    points: list[list[float]] = [list(ends[0])]
+    for course, end in zip(courses, ends[1:]):
+        points += [*([] if course is None else course.line(0, len(course.arcs))), list(end)]
+    line = [point for point, _ in itertools.groupby(points)]
+    return line if len(line) > 1 else line * 2
+
+
+def shaped(line: list[list[float]], shape: str) -> Any:
+    """A line as a polyline, or as GeoJSON."""
+    if shape == "geojson":
+        return {"type": "LineString", "coordinates": line}
+    return encoded([(lon, lat) for lon, lat in line], 6 if shape == "polyline6" else 5)
+
+
+def simpler(line: list[list[float]]) -> list[list[float]]:
+    return [list(point) for point in simplified([(lon, lat) for lon, lat in line])]
+
+
+def steps_of_arcs(course: Course) -> list[tuple[int, list[float]]]:
+    """Each arc with the metres of its steps; where they have no length they are equal."""
+    found = []
+    for place, (low, high) in enumerate(itertools.pairwise(course.begins.tolist())):
+        line = [(lon / UNITS, lat / UNITS) for lon, lat in course.points[low:high].tolist()]
+        ways = [
+            math.hypot((end[0] - begin[0]) * math.cos(math.radians((begin[1] + end[1]) / 2)), end[1] - begin[1])
+            for begin, end in itertools.pairwise(line)
+        ]
+        found.append((place, ways if sum(ways) else [1.0] * len(ways)))
+    return found

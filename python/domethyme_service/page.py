@@ -1,0 +1,65 @@
+"""The page at `/`: its files, and what it asks of the network. The files are read once, when the service begins, and are named
+in a list, so no path leads elsewhere. Their policy lets the page load nothing but them and ask nothing but this service."""
+import asyncio
+import json
+import pathlib
+import re
+from collections.abc import Mapping
+
+from .errors import Refused, invalid_query, invalid_value
+from .roads import Roads
+from .tiles import DEEPEST
+
+FOLDER = pathlib.Path(__file__).resolve().parent / "page"
+TYPES = {
+    ".html": "text/html; charset=utf-8",
+    ".css": "text/css; charset=utf-8",
+    ".js": "text/javascript; charset=utf-8",
+    ".svg": "image/svg+xml",
+}
+POLICY = (
+    "default-src 'none'; script-src 'self'; style-src 'self'; img-src 'self'; connect-src 'self'; "
+    "base-uri 'none'; form-action 'none'; frame-ancestors 'none'"
+)
+HEADERS = {"Content-Security-Policy": POLICY, "Referrer-Policy": "no-referrer", "Cache-Control": "no-cache"}
+FOR_A_DAY = {"Cache-Control": "public, max-age=86400"}
+ALWAYS_ANEW = {"Cache-Control": "no-cache"}
+TILE = re.compile(r"/map/roads/([0-9]{1,2})/([0-9]{1,6})/([0-9]{1,6})")
+
+
+def page_files() -> dict[str, tuple[str, bytes]]:
+    """By path the type and the bytes of each file of the page."""
+    found = {f"/map/{file.name}": (TYPES[file.suffix], file.read_bytes()) for file in sorted(FOLDER.iterdir()) if file.suffix in TYPES}
+    found["/"] = found.pop("/map/index.html")
+    return found
+
+
+FILES = page_files()
+
+
+def endpoint_of_page(path: str) -> str | None:
+    """The endpoint of a path of the page, None for other paths."""
+    if path == "/" or path == "/map/about":
+        return path
+    if path in FILES:
+        return "/map/files"
+    return "/map/roads" if TILE.fullmatch(path) else None
+
+
+async def asked_by_page(roads: Roads, path: str, query: Mapping[str, str]) -> tuple[bytes, dict[str, str]]:
+    """The JSON that the page asks for at a path, and how long it may be kept. It is made in a thread, so others are answered."""
+    tile = TILE.fullmatch(path)
+    if set(query) - ({"v"} if tile else set()):
+        raise invalid_query("there is no such parameter")
+    if tile is None:
+        about = await asyncio.to_thread(lambda: roads.tiles.about)
+        return json.dumps({**about, "unit": roads.unit}, ensure_ascii=False).encode("utf-8", "replace"), ALWAYS_ANEW
+    zoom, x, y = map(int, tile.groups())
+    if zoom > DEEPEST or max(x, y) >= 1 << zoom:
+        raise invalid_value(f"a tile is ZOOM/X/Y, with a zoom from 0 to {DEEPEST}")
+    return await asyncio.to_thread(roads.tiles.tile, zoom, x, y), FOR_A_DAY
+
+
+def without_network() -> Refused:
+    """What is answered where places are asked for and the service has none."""
+    return Refused(400, "InvalidService", "the service has no network: start it with --network")

@@ -1,0 +1,154 @@
+// The page: two places or more, and the shortest route by them.
+
+import { copy, keep, read } from "./link.js";
+import { Panel } from "./panel.js";
+import { Places } from "./places.js";
+import { Roads } from "./roads.js";
+import { Route } from "./route.js";
+import { service } from "./service.js";
+import { View } from "./view.js";
+import { far, fault, hint } from "./words.js";
+
+export { places, route, view };
+
+const $ = (id) => document.getElementById(id);
+const SCALES = [1, 2, 5, 10, 20, 50, 100, 200, 500, 1000, 2000, 5000, 10_000, 20_000, 50_000, 100_000, 200_000, 500_000, 1_000_000];
+
+let network = null, asking = null, isWaiting = false;
+
+const view = new View($("map"), draw, (place) => {
+  if (places.count < 2) places.add(place);
+  else places.insert(legNear(place) + 1, place);
+});
+const roads = new Roads($("roads"), service, view);
+const route = new Route($("route"), view, (event, leg) => {
+  const hit = event.target;
+  places.insert(leg + 1, view.place(view.at(event)));
+  places.hold(event, hit, leg + 1);
+});
+const panel = new Panel($("total"), $("steps"), (step) => {
+  route.step = step;
+  const line = step.geometry.coordinates;
+  const [lons, lats] = [line.map((point) => point[0]), line.map((point) => point[1])];
+  const box = [Math.min(...lons), Math.min(...lats), Math.max(...lons), Math.max(...lats)];
+  if (!line.every((point) => view.has(point))) view.fit(box, 90);
+  view.soon();
+});
+const places = new Places(view, $("marks"), $("places"), changed);
+
+function draw() {
+  roads.draw();
+  route.draw();
+  places.draw();
+  scale();
+}
+
+// A bar of a round length, in the middle of the map.
+function scale() {
+  const [, lat] = view.place([view.width / 2, view.height / 2]);
+  const pixel = 40_030_228 * Math.cos(lat * Math.PI / 180) / view.size;
+  const metres = SCALES.findLast((each) => each / pixel <= 110) ?? 1;
+  $("scale").style.width = `${Math.round(metres / pixel)}px`;
+  $("scale").textContent = far(metres).replace(".0 ", " ");
+}
+
+// The leg of the route that is nearest to a place.
+function legNear(place) {
+  const [x, y] = view.pixel(place);
+  const apart = route.legs.map((steps) => Math.min(...steps.flatMap((step) => step.geometry.coordinates).map((point) => {
+    const [toX, toY] = view.pixel(point);
+    return Math.hypot(toX - x, toY - y);
+  })));
+  return apart.length ? apart.indexOf(Math.min(...apart)) : places.count - 2;
+}
+
+// What follows from a change of the places. While one is held, a route is asked for whenever the last one has come.
+function changed(isHeld = false) {
+  $("hint").textContent = hint(places.count);
+  for (const id of ["reverse", "share"]) $(id).disabled = places.count < 2;
+  $("clear").disabled = places.count === 0;
+  $("link").hidden = true;
+  if (!isHeld) keep(places.all);
+  if (isHeld && asking) isWaiting = true;
+  else ask();
+}
+
+async function ask() {
+  asking?.abort();
+  isWaiting = false;
+  if (places.count < 2) {
+    asking = null;
+    show(null);
+    return;
+  }
+  const mine = asking = new AbortController(), asked = places.all.map((place) => [...place]);
+  try {
+    const found = await service.route(asked, mine.signal);
+    if (mine === asking) show(found);
+  } catch (error) {
+    if (mine === asking) refuse(error);
+  } finally {
+    if (mine === asking) {
+      asking = null;
+      if (isWaiting) ask();
+    }
+  }
+}
+
+function show(found) {
+  say("");
+  route.set(found, places.all);
+  roads.without = new Set(route.legs.flat().map((step) => step.name));
+  if (!found) {
+    panel.clear();
+    return;
+  }
+  panel.set(found, places.count);
+  places.name(found.waypoints);
+  document.title = `${$("total").textContent} · Routes`;
+}
+
+function refuse(error) {
+  const { number, text } = fault(error);
+  route.set(null, places.all);
+  roads.without = new Set();
+  panel.clear();
+  say(text(number === undefined ? undefined : places.called(number)));
+}
+
+function say(text) {
+  if ($("fault").textContent !== text) $("fault").textContent = text;
+}
+
+// Shows the route, or all roads where there is none.
+function fit() {
+  const box = route.box ?? network?.box;
+  if (box) view.fit(box, 64);
+}
+
+// Takes the places of the address.
+function follow() {
+  places.set(read(location.hash));
+  if (places.count) {
+    const [lons, lats] = [places.all.map((place) => place[0]), places.all.map((place) => place[1])];
+    view.fit([Math.min(...lons), Math.min(...lats), Math.max(...lons), Math.max(...lats)], 90);
+  } else if (network) view.fit(network.box, 24);
+}
+
+$("in").addEventListener("click", () => view.zoomTo(view.zoom + 1));
+$("out").addEventListener("click", () => view.zoomTo(view.zoom - 1));
+$("all").addEventListener("click", fit);
+$("map").addEventListener("keydown", (event) => { if (event.key === "Home") fit(); });
+$("clear").addEventListener("click", () => { places.set([]); $("map").focus(); });
+$("reverse").addEventListener("click", () => places.set(places.all.toReversed()));
+$("share").addEventListener("click", () => copy($("share"), $("link")));
+window.addEventListener("hashchange", follow);
+
+try {
+  network = await service.about();
+  roads.begin(network);
+  $("credit").textContent = network.attribution;
+  follow();
+} catch (error) {
+  refuse(error);
+}

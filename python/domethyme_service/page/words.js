@@ -1,0 +1,56 @@
+// What the page says.
+
+export const far = (metres) => metres < 995 ? `${metres < 95 ? Math.round(metres) : Math.round(metres / 10) * 10} m`
+  : `${(metres / 1000).toFixed(metres < 99500 ? 1 : 0)} km`;
+
+export function long(seconds) {
+  if (seconds < 30) return "< 1 min";
+  const minutes = Math.max(1, Math.round(seconds / 60));
+  return minutes < 60 ? `${minutes} min` : `${Math.floor(minutes / 60)} h ${minutes % 60} min`;
+}
+
+export const letter = (number, count) => number === 0 ? "A" : number === count - 1 ? "B" : String(number);
+
+// The class of a place, and how it is called.
+export const roleOf = (number, count) => number === 0 ? "start" : number === count - 1 ? "end" : "via";
+export const roles = { start: "Start", end: "Destination", via: "Via" };
+
+export const where = ([lon, lat]) => `${Math.abs(lat).toFixed(4)}° ${lat < 0 ? "S" : "N"}, ${Math.abs(lon).toFixed(4)}° ${lon < 0 ? "W" : "E"}`;
+
+// A street as it is called: its name, its number, or both.
+export function street(step) {
+  const { name, ref } = step;
+  return name && ref && name !== ref ? `${name} (${ref})` : name || ref || "";
+}
+
+const th = (number) => `${number}${["th", "st", "nd", "rd"][number % 100 > 10 && number % 100 < 14 ? 0 : number % 10] ?? "th"}`;
+
+// What to do at a step.
+export function told(step, role) {
+  const { type, modifier, exit } = step.maneuver, name = street(step);
+  const into = name ? ` into ${name}` : "", toward = step.destinations ? ` towards ${step.destinations}` : "";
+  if (type === "arrive") return role === "end" ? "Arrive at the destination" : "Arrive at the place between";
+  if (type === "depart") return `${role === "start" ? "Start" : "Go on"}${name ? ` on ${name}` : ""}${toward}`;
+  if (type === "roundabout" || type === "rotary") return `At the roundabout take the ${exit ? `${th(exit)} ` : ""}exit${into}${toward}`;
+  if (modifier === "uturn") return `Turn round${into}`;
+  const side = modifier === "straight" ? "Go straight on" : modifier.startsWith("slight") ? `Keep ${modifier.slice(7)}` : `Turn ${modifier}`;
+  if (type === "new name" && modifier === "straight") return `Go on${into}${toward}`;
+  return type === "continue" ? `${side}${name ? ` and stay on ${name}` : ""}${toward}` : `${side}${into}${toward}`;
+}
+
+// Why there is no route.
+export function fault(error) {
+  if (error.code === "NoSegment") {
+    const number = Number(/place (\d+)/.exec(error.message)?.[1] ?? NaN);
+    return { number, text: (name) => `There is no road near ${name ?? "a place"}. Move it nearer to a road.` };
+  }
+  if (error.code === "NoRoute") return { text: () => "There is no way between these places. Move one of them." };
+  if (error.code === "InvalidService") return { text: () => "This service has no map: it was started without a network." };
+  if (error.code === "TooBig") return { text: () => "These are too many places. Remove some of them." };
+  if (error.code === "Overloaded") return { text: () => "The service is busy. Try again in a moment." };
+  return { text: () => error.message };
+}
+
+export function hint(count) {
+  return ["Click the map to set the start.", "Click the map to set the destination.", "Drag the route or a place to change it."][Math.min(count, 2)];
+}

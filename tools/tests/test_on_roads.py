@@ -1,0 +1,72 @@
+"""Tests of places on roads in nearest and to_geojson: the same weights, lines and refusals as the service's rule has."""
+import json
+
+from service_case import ServiceCase, end
+from tool_case import serving_program
+
+TRIPS = """\
+trip,from_lon,from_lat,to_lon,to_lat
+High Street,0.0003,0.00001,0.0077,-0.00002
+One piece,0.0003,0,0.0006,0
+Back,0.0006,0,0.0003,0
+No way,0,0,0.020,0.005
+Nowhere,0.001,0,0.001,0
+"""
+
+
+class OnRoadsTests(ServiceCase):
+    def routes(self, text, *words):
+        """The features by the three programs in a row."""
+        self.write("trips.csv", text)
+        lines = self.run_tool("nearest", "v", "trips.csv", "--on-roads").stdout
+        self.assertEqual(lines.count("\n"), text.count("\n") - 1)
+        replies = self.run_program([serving_program(), "serve", "v.rch"], given=lines).stdout
+        self.write("replies", replies)
+        return json.loads(self.run_tool("to_geojson", "v", "replies", "--trips", "trips.csv", "--on-roads", *words).stdout)
+
+    def test_the_same_as_the_service(self):
+        features = self.routes(TRIPS)["features"]
+        process = self.serve("--network", self.folder / "v")
+        for feature, row in zip(features, TRIPS.splitlines()[1:]):
+            name, *ends = row.split(",")
+            path = "{},{};{},{}".format(*ends)
+            status, found = self.ask(f"/route/v1/car/{path}?overview=full&geometries=geojson")
+            told = feature["properties"]
+            with self.subTest(name=name):
+                self.assertEqual(told["trip"], name)
+                if status == 400:
+                    self.assertEqual((found["code"], told["length"], feature["geometry"]), ("NoRoute", None, None))
+                    continue
+                route = found["routes"][0]
+                self.assertEqual(told["length"], round(1000 * route["weight"]))
+                self.assertEqual((told["seconds"], told["metres"]), (route["duration"], route["distance"]))
+                self.assertEqual(feature["geometry"]["coordinates"], route["geometry"]["coordinates"])
+                self.assertAlmostEqual(sum(step["metres"] for step in told["steps"]), told["metres"], delta=0.02)
+        self.assertEqual(features[0]["properties"]["steps"][0]["name"], "High Street")
+        end(process)
+        self.run_tool("draw", "v", "-", "routes.svg", given=json.dumps({"type": "FeatureCollection", "features": features}))
+
+    def test_refusals(self):
+        self.write("trips.csv", TRIPS)
+        self.assert_refused("nearest", "v", "trips.csv", "--on-roads", "--within", "0.5",
+                            says="trips.csv, row 2: from_lon 0.0003, from_lat 1e-05 is 1 m from the nearest road, and --within is 0.5 m")
+        for word in ("--matrix", "--skip-far"):
+            self.run_tool("nearest", "v", "trips.csv", "--on-roads", word, status=2)
+        self.run_tool("to_geojson", "v", "replies", "--on-roads", status=2)
+        self.routes(TRIPS)
+        replies = (self.folder / "replies").read_text().splitlines(keepends=True)
+        for lines, says in [
+            (replies[1:], "replies, row 1: is no reply of routecli serve with 38 nodes"),
+            (["ready 7 7 2\n", *replies[1:]], "replies, row 1: is no reply of routecli serve with 38 nodes"),
+            (replies[:-1], "trips.csv, row 6: is a row more than there are replies"),
+            ([*replies, "n\n"], "replies, row 7: is a reply more than trips.csv has rows"),
+            ([replies[0], *replies[:0:-1]], "is no reply to the request of row"),
+            ([replies[0], *(line.replace(" ", " 1", 3) for line in replies[1:])], "is no reply to the request of row 2"),
+        ]:
+            self.write("replies", "".join(lines))
+            with self.subTest(says=says):
+                self.assert_refused("to_geojson", "v", "replies", "--trips", "trips.csv", "--on-roads", "-o", "out", says=says)
+        changed = replies[1].split()
+        changed[3] = str(int(changed[3]) + 1)
+        self.write("replies", "".join([replies[0], " ".join(changed) + "\n", *replies[2:]]))
+        self.assert_refused("to_geojson", "v", "replies", "--trips", "trips.csv", "--on-roads", "-o", "out", says="is it of another network?")
