@@ -97,6 +97,8 @@ class Picture(DrawCase):
         back = self.picture_of(route("back", [[0.004, 0], [0, 0]])).find("./g[@clip-path]/path[@fill]")
         self.assertTrue(back.get("d").startswith("M666.2 280.0L678.2 274.0L678.2 286.0Z"), back.get("d"))
         self.assertEqual(self.picture_of(route("stay", [[0, 0], [0, 0]])).findall("./g[@clip-path]/path[@fill]"), [])
+        self.assertEqual(len(self.picture_of(*[EAST] * 20).findall("./g[@clip-path]/path[@fill]")), 20)
+        self.assertEqual(self.picture_of(*[EAST] * 21).findall("./g[@clip-path]/path[@fill]"), [])
 
     def test_scale(self):
         # A pixel is 0.0083973 * 111195 / 1000 = 0.93374 m, so a fifth is 187 m, and 100 m are 107.1 pixels.

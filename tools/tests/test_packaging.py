@@ -22,7 +22,12 @@ class CommandTests(ToolCase):
         self.libraries = self.folder / "libraries"
         self.libraries.mkdir()
         text = (PACKAGING / "routecli").read_text(encoding="utf-8")
-        for path, instead in (("/usr/libexec/domethyme/routecli", "program"), ("/usr/lib/x86_64-linux-gnu", "libraries")):
+        self.write("accounting", "0\n")
+        for path, instead in (
+            ("/usr/libexec/domethyme/routecli", "program"),
+            ("/usr/lib/x86_64-linux-gnu", "libraries"),
+            ("/proc/sys/vm/overcommit_memory", "accounting"),
+        ):
             self.assertEqual(text.count(f"={path}\n"), 1)
             text = text.replace(f"={path}\n", f"={self.folder / instead}\n")
         self.write("command", text).chmod(0o755)
@@ -32,10 +37,10 @@ class CommandTests(ToolCase):
         for name in names:
             shutil.copy(LIBRARY, self.libraries / name)
 
-    def ran(self, *words, status=7, **environment):
-        """What the command prints on both streams."""
+    def ran(self, *words, status=7, limit=None, **environment):
+        """What the command prints on both streams; `limit` are words of prlimit."""
         ended = self.run_program(
-            ["/usr/bin/env", "-u", "LD_PRELOAD", "-u", "ROUTECLI_ALLOCATOR",
+            [*(limit or ()), "/usr/bin/env", "-u", "LD_PRELOAD", "-u", "ROUTECLI_ALLOCATOR",
              *(f"{name}={value}" for name, value in environment.items()), self.folder / "command", *words],
             status,
         )
@@ -60,6 +65,17 @@ class CommandTests(ToolCase):
             self.assertEqual(self.ran("prepare", ROUTECLI_ALLOCATOR=word), (f"{path}|prepare|", said))
         said = "routecli: ROUTECLI_ALLOCATOR: the allocator of the C library\n"
         self.assertEqual(self.ran("prepare", ROUTECLI_ALLOCATOR="none"), ("nothing|prepare|", said))
+
+    def test_where_memory_is_limited_only_who_asks_gets_jemalloc(self):
+        self.installed(JEMALLOC)
+        path = self.libraries / JEMALLOC
+        for limit in (["/usr/bin/prlimit", "--as=1000000000"], None):
+            if limit is None:
+                self.write("accounting", "2\n")
+            self.assertEqual(self.ran("prepare", limit=limit), ("nothing|prepare|", ""))
+            said = "routecli: ROUTECLI_ALLOCATOR: the allocator of the C library\n"
+            self.assertEqual(self.ran("prepare", limit=limit, ROUTECLI_ALLOCATOR="auto"), ("nothing|prepare|", said))
+            self.assertEqual(self.ran("prepare", limit=limit, ROUTECLI_ALLOCATOR="jemalloc")[0], f"{path}|prepare|")
 
     def test_none_is_installed(self):
         self.assertEqual(self.ran("prepare"), ("nothing|prepare|", ""))

@@ -18,12 +18,16 @@ class TypeTests(unittest.TestCase):
     def test_types_of_the_packages(self):
         self.run_module("mypy", "--config-file=pyproject.toml", "domethyme", "domethyme_service", folder=PACKAGE)
 
+    def test_types_of_the_session(self):
+        self.run_module("mypy", "--strict", "readme_session.py", folder=ROOT / "packaging")
+
     def test_types_of_the_tools(self):
         tools = [path.name for path in scripts(TOOLS) if path.name != "domethyme.py"]
         self.run_module("mypy", "--config-file=mypy.ini", *tools, folder=TOOLS)
 
     def test_names(self):
-        self.run_module("pyflakes", PACKAGE, *scripts(TOOLS), *scripts(TOOLS / "tests"), folder=ROOT)
+        folders = (TOOLS, TOOLS / "tests", ROOT / "packaging", ROOT / "bench")
+        self.run_module("pyflakes", PACKAGE, *(path for folder in folders for path in scripts(folder)), folder=ROOT)
 
 
 def scripts(folder):
