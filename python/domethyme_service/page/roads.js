@@ -119,7 +119,7 @@ export class Roads {
     pen.font = "12px system-ui, 'Segoe UI', Roboto, 'DejaVu Sans', sans-serif";
     pen.textAlign = "center";
     pen.textBaseline = "middle";
-    pen.lineWidth = 3.5;
+    pen.lineWidth = 5;
     pen.strokeStyle = inks.ground;
     pen.fillStyle = inks.name;
     for (const { tile, data } of drawn) {
