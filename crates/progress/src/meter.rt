@@ -121,22 +121,32 @@ impl<R: Clock + Sync> Gate for Meter<'_, R> {
     }
 }
 
-/// Standard error, where the line of a meter is taken away before anything is written.
+/// Standard error, where the line of a meter is taken away before the first bytes are written.
+///
+/// What is written after that is kept, since a message comes in several writes. So it is for what is written once no
+/// worker passes the meter any more.
 #[derive(Drop)]
 pub struct Cleared<'a, R> {
     meter: &'a Meter<'a, R>,
+    is_cleared: bool,
 }
 
 impl<'a, R: Clock> Cleared<'a, R> {
     /// Standard error with this meter.
     pub fn new(meter: &'a Meter<'a, R>) -> Cleared<'a, R> {
-        Cleared { meter }
+        Cleared {
+            meter,
+            is_cleared: false,
+        }
     }
 }
 
 impl<R: Clock> Write for Cleared<'_, R> {
     fn write(&mut self, buf: &[u8]) -> io::Result<usize> {
-        self.meter.clear();
+        if !self.is_cleared {
+            self.meter.clear();
+            self.is_cleared = true;
+        }
         let mut err = self.meter.err;
         err.write(buf)
     }
