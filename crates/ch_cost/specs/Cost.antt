@@ -23,7 +23,7 @@ a ⊕ b = record { weight = a.weight + b.weight; arcs = a.arcs + b.arcs }
 pub of_weight : ℕ → Cost
 of_weight w = record { weight = w; arcs = 1 }
 
--- the most that so many arcs of at most this weight cost
+-- the most that this many arcs of at most this weight cost
 pub cost_of_arcs : ℕ → ℕ → Cost
 cost_of_arcs count heaviest = record { weight = count * heaviest; arcs = count }
 
@@ -35,7 +35,7 @@ length_of c = c.weight
 pub arcs_of : Cost → ℕ
 arcs_of c = c.arcs
 
--- the cost of a walk of this length and so many arcs
+-- the cost of a walk of this length and this many arcs
 pub of_walk : ℕ → ℕ → Cost
 of_walk length arcs = record { weight = length; arcs = arcs }
 
@@ -84,12 +84,12 @@ pub record IsSummable (c : Cost) : Type 0 where
   weight : c.weight ≤ 2 ^ 62
   arcs : c.arcs ≤ 2 ^ 62
 
--- at most what so many arcs can cost
+-- at most what this many arcs can cost
 pub record IsOfArcs (count : ℕ) (c : Cost) : Type 0 where
   weight : c.weight ≤ count * 2 ^ 32
   arcs : c.arcs ≤ count
 
--- At most as many arcs as so many walks have together that have fewer than 2^25 arcs each. A cost that is no longer
+-- At most as many arcs as this many walks have together that have fewer than 2^25 arcs each. A cost that is no longer
 -- than a bound and of not too many walks is small enough to be a summand.
 pub record IsOfWalks (count : ℕ) (c : Cost) : Type 0 where
   arcs : c.arcs ≤ count * 2 ^ 25

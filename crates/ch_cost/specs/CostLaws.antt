@@ -1,4 +1,4 @@
--- What other crates may rest on: the laws of costs, as one statement.
+-- What other crates may rely on: the laws of costs, as one statement.
 use Rattle.std.specs.Prelude.{ℕ, ◌≡◌, ◌+◌, ◌^◌, ◌<◌, ◌≤◌, ◌⊎◌, Some, None}
 use Rattle.ch_cost.specs.declared.cost.Cost.{Cost}
 use Rattle.ch_cost.specs.Cost.{zero_cost, ◌⊕◌, of_weight, cost_of_arcs, of_walk, length_of, arcs_of, ◌≼◌, ◌≺◌, IsWithin, IsNoLonger, IsInLimit, IsOfArcs}
@@ -21,8 +21,8 @@ pub record OrderLaws : Type 0 where
   pub kept_strictly : (a b c d : Cost) → a ≺ b → c ≼ d → a ⊕ c ≺ b ⊕ d
   pub founded : (f : ℕ → Cost) → ((n : ℕ) → f (n + 1) ≺ f n) → ⊥
 
--- An arc costs more than nothing, its length is its weight, and it is one arc. Lengths and arcs add up; the order goes
--- by lengths, and where these are equal by arcs.
+-- An arc costs more than nothing, its length is its weight, and it is one arc. Lengths and arcs add up; the order compares
+-- lengths, and where these are equal arcs.
 pub record ArcLaws : Type 0 where
   pub above : (w : ℕ) → zero_cost ≺ of_weight w
   pub length : (w : ℕ) → length_of (of_weight w) ≡ w
@@ -34,7 +34,7 @@ pub record ArcLaws : Type 0 where
   pub shorter : (a b : Cost) → length_of a < length_of b → a ≺ b
   pub two_numbers : (c : Cost) → of_walk (length_of c) (arcs_of c) ≡ c
 
--- Both parts of a sum within a bound are within it, and so many arcs of at most a weight are within what they can cost.
+-- Both parts of a sum within a bound are within it, and this many arcs of at most a weight are within what they can cost.
 pub record BoundLaws : Type 0 where
   pub zero : (bound : Cost) → IsWithin zero_cost bound
   pub parts : (a b bound : Cost) → IsWithin (a ⊕ b) bound → IsWithin a bound × IsWithin b bound

@@ -6,7 +6,7 @@ use Rattle.ch_cost.specs.Cost.{length_of, arcs_of, of_walk}
 use Rattle.ch_cost.specs.Cost.Numbers.{length_of-of_walk, arcs_of-of_walk}
 use Rattle.ch_cost.specs.declared.narrow_cost.NarrowCost.TheInside.{Inside}
 
--- the cost that the three numbers stand for
+-- the cost that the three numbers represent
 abbrev pub cost_in : Inside → Cost
 cost_in a = of_walk (a.high * 2 ^ 32 + a.low) a.few
 

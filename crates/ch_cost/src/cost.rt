@@ -46,7 +46,7 @@ impl Cost {
         }
     }
 
-    /// The cost of a walk of this length and of so many arcs, as they are written in a file.
+    /// The cost of a walk of this length and of this many arcs, as they are written in a file.
     pub fn of_walk(length: u64, arcs: u64) -> Cost
         ensures { result ≡ of_walk length arcs }
     {

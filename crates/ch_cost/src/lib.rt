@@ -1,6 +1,6 @@
 //! Costs of walks in a road graph: sums, and their order.
 //!
-//! The lowest layer, which stands on std alone. Its main type is [`Cost`]; a [`NarrowCost`] keeps one of few arcs in three
+//! The lowest layer, which uses std alone. Its main type is [`Cost`]; a [`NarrowCost`] keeps one of few arcs in three
 //! quarters of its memory, and a [`ShortCost`] keeps one in half of it, where it fits. What the layers above may know of a
 //! cost are the laws that [`cost_laws`] ensures, and the clauses of the methods; none of them looks inside.
 //!

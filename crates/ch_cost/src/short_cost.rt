@@ -16,7 +16,7 @@ pub struct ShortCost {
 }
 
 impl ShortCost {
-    /// The short form that stands for no cost: it keeps none.
+    /// The short form of no cost: it keeps none.
     pub fn none() -> ShortCost
         ensures { result ≡ no_short }
     {

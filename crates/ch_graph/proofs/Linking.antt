@@ -45,7 +45,7 @@ befores-more arcs before at last place this old j h = elim (cases_eq j at) [
   | inr other ↦ subst (λ o. IsLastFrom arcs (road_at arcs j).from j o) (sym (get_or-set_other before at j last None other)) (old j (omega arith))
 ]
 
--- the last among so many is one of them
+-- the last among this many is one of them
 pub last_from-below : (arcs : List Road) (v n : ℕ) (last : Option ℕ) → IsLastFrom arcs v n last → places_to last ≤ n
 last_from-below arcs v n None h = omega arith
 last_from-below arcs v n (Some j) h = omega (arith, (h.leaves j refl).0)

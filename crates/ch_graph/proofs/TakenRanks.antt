@@ -50,7 +50,7 @@ module _ (ranks : List ℕ) (place rank : ℕ) (marks : List Bool) (here : slice
   pub not_new : get_or marks rank false ≡ true → IsNewRank ranks place → ⊥
   not_new marked is = let earlier = are.had rank marked in is.new earlier.0 earlier.1 (earlier.2 ∙ sym here)
 
--- Ranks that are all new are in range and stand once
+-- Ranks that are all new are in range and occur once
 
 pub ranks_in_range : (ranks : List ℕ) → ((k : ℕ) → k < length ranks → IsNewRank ranks k) → All (λ r. r < length ranks) ranks
 ranks_in_range ranks new k d h = subst (λ r. r < length ranks) (sym (get_or_default_zero ranks k d h)) (new k h).in_range

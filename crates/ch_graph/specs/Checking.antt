@@ -8,7 +8,7 @@ use Rattle.ch_graph.specs.declared.link.Link.{Link}
 use Rattle.ch_graph.specs.declared.version.Version.{Version}
 use Rattle.ch_graph.specs.Hierarchy.{Hierarchy, ComesBefore, Counts, IsLinkAt, IsLinkWellMade, bound_arcs}
 
--- something holds of each place before this one and not of this one, of so many places
+-- something holds of each place before this one and not of this one, of this many places
 pub record IsFirstWithout (Holds : ℕ → Type 0) (count place : ℕ) : Type 0 where
   pub within : place < count
   pub without : Holds place → ⊥
@@ -27,7 +27,7 @@ ComesNext links place = (k : ℕ) (d : Link) → k + 1 ≡ place → ComesBefore
 abbrev pub IsWellMadeAt : Hierarchy → ℕ → Type 0
 IsWellMadeAt h place = (d : Link) → IsLinkWellMade h (slice_index_or h.links place d)
 
--- the bound is one that some graph of so many nodes can have, and counts the arcs that the version wants
+-- the bound is one that some graph of this many nodes can have, and counts the arcs that the version wants
 abbrev pub IsBoundOf : Hierarchy → Type 0
 IsBoundOf h = IsWithin h.bound (cost_of_arcs (length h.ranks - 1) (2 ^ 32 - 1)) × (arcs_of h.bound ≡ bound_arcs h.version (length h.ranks))
 
@@ -42,7 +42,7 @@ IsHierarchyRefusal h OutOfMemory = ⊤
 
 -- The tests of a link
 
--- a link between two different ones of so many nodes, not free and not heavy
+-- a link between two different ones of this many nodes, not free and not heavy
 pub record IsAllowed (v : Version) (nodes : ℕ) (bound : Cost) (l : Link) : Type 0 where
   pub from_in : l.from < nodes
   pub to_in : l.to < nodes

@@ -1,4 +1,4 @@
--- Directed graphs with weights, and distance. What limits there are stands in `Limits`.
+-- Directed graphs with weights, and distance. Its limits are in `Limits`.
 use Rattle.std.specs.Prelude.{ℕ, ◌≡◌, ◌≤◌, List, Contains, Option, Some, None}
 use Rattle.ch_cost.specs.declared.cost.Cost.{Cost}
 use Rattle.ch_cost.specs.Cost.{of_weight, length_of}

@@ -1,4 +1,4 @@
--- Contraction hierarchies: their least rise-fall walks, and the arcs that a link stands for.
+-- Contraction hierarchies: their least rise-fall walks, and the arcs that a link represents.
 use Rattle.std.specs.Prelude.{ℕ, ◌≡◌, ◌≢◌, ◌-◌, ◌^◌, ◌<◌, ◌≤◌, ◌⊎◌, ◌↔◌, List, [], ◌∷◌, ◌++◌, length, Option, Some, None, All, AllPairs, Contains, slice_index, slice_index_or}
 use Rattle.ch_cost.specs.declared.cost.Cost.{Cost}
 use Rattle.ch_cost.specs.Cost.{zero_cost, ◌⊕◌, cost_of_arcs, length_of, arcs_of, IsWithin, IsNoLonger}
@@ -9,7 +9,7 @@ use Rattle.ch_graph.specs.Walk.{IsLeastOrNone}
 use Rattle.ch_graph.specs.Graph.{Graph, ArcOf, IsDistance}
 pub mod Chains
 
--- the version, the rank of each node, the links, and the greatest length that a query answers
+-- the version, the rank of each node, the links, and the greatest length that a query returns
 pub record Hierarchy : Type 0 where
   pub version : Version
   pub ranks : List ℕ
@@ -71,7 +71,7 @@ pub record IsLink (h : Hierarchy) (x y : ℕ) (l : Link) : Type 0 where
   pub from : l.from ≡ x
   pub to : l.to ≡ y
 
--- The links without a middle that a link stands for: itself, or those of its first half and then its second.
+-- The links without a middle that a link represents: itself, or those of its first half and then its second.
 pub data Unfolds (h : Hierarchy) : Link → List Link → Type 0 where
   whole : {l : Link} → l.middle ≡ None → Unfolds h l (l ∷ [])
   halves : {l a b : Link} {m : ℕ} {ls rs : List Link} → l.middle ≡ Some m → IsLink h l.from m a → IsLink h m l.to b → Unfolds h a ls → Unfolds h b rs → Unfolds h l (ls ++ rs)
@@ -106,7 +106,7 @@ abbrev pub Counts : Version → Link → Type 0
 Counts One l = CountsWeight l
 Counts Two l = CountsArcs l
 
--- how many arcs the bound counts, over so many nodes
+-- how many arcs the bound counts, over this many nodes
 abbrev pub bound_arcs : Version → ℕ → ℕ
 bound_arcs One nodes = 0
 bound_arcs Two nodes = nodes - 1
@@ -136,7 +136,7 @@ pub record IsLinkAt (links : List Link) (x y place : ℕ) : Type 0 where
   pub to : (d : Link) → (slice_index_or links place d).to ≡ y
 
 -- A hierarchy that a file can hold: the ranks are the numbers below the number of nodes, each once; the links are
--- in order, at most one for each pair; and the bound is one that some graph of so many nodes can have.
+-- in order, at most one for each pair; and the bound is one that some graph of this many nodes can have.
 pub record IsWellMade (h : Hierarchy) : Type 0 where
   pub few_nodes : length h.ranks ≤ 2 ^ 25
   pub bound : IsWithin h.bound (cost_of_arcs (length h.ranks - 1) (2 ^ 32 - 1))
@@ -152,7 +152,7 @@ pub record IsWellMade (h : Hierarchy) : Type 0 where
 abbrev pub IsArcOf : Graph → Link → Type 0
 IsArcOf g l = ArcOf g l.from l.to l.cost
 
--- The hierarchy answers as the graph does: its values are the distances, and each link stands for arcs of the graph
+-- The hierarchy answers as the graph does: its values are the distances, and each link represents arcs of the graph
 -- that lead from its one end to the other and cost together what it costs.
 pub record IsRight (g : Graph) (h : Hierarchy) : Type 0 where
   pub nodes : length h.ranks ≡ g.nodes

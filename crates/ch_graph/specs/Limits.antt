@@ -8,7 +8,7 @@ use Rattle.ch_graph.specs.declared.road.Road.{Road}
 use Rattle.ch_graph.specs.Graph.{Graph, IsDistance}
 pub mod Laws
 
--- an arc between two of so many nodes, of a weight that is allowed
+-- an arc between two of this many nodes, of a weight that is allowed
 pub record IsRoad (nodes : ℕ) (r : Road) : Type 0 where
   pub from_in : r.from < nodes
   pub to_in : r.to < nodes
@@ -20,13 +20,13 @@ pub record IsGraph (g : Graph) : Type 0 where
   pub few_arcs : length g.arcs ≤ 2 ^ 27
   pub roads : All (IsRoad g.nodes) g.arcs
 
--- the first of these arcs that isn't allowed between so many nodes is at this place
+-- the first of these arcs that isn't allowed between this many nodes is at this place
 pub record IsFirstBad (nodes : ℕ) (arcs : List Road) (place : ℕ) : Type 0 where
   pub within : place < length arcs
   pub bad : (d : Road) → IsRoad nodes (slice_index_or arcs place d) → ⊥
   pub before : (k : ℕ) (d : Road) → k < place → IsRoad nodes (slice_index_or arcs k d)
 
--- why these arcs between so many nodes are no graph within the limits
+-- why these arcs between this many nodes are no graph within the limits
 abbrev pub IsGraphRefusal : ℕ → List Road → GraphError → Type 0
 IsGraphRefusal nodes arcs TooManyNodes = 2 ^ 25 < nodes
 IsGraphRefusal nodes arcs TooManyArcs = 2 ^ 27 < length arcs

@@ -1,4 +1,4 @@
--- What each link stands for, in a list of links: where its halves are.
+-- What each link represents, in a list of links: where its halves are.
 use Rattle.std.specs.Prelude.{ℕ, ◌≡◌, ◌<◌, ◌==◌, List, length, Some, None, slice_index_or, if◌then◌else◌}
 use Rattle.ch_graph.specs.declared.link.Link.{Link}
 use Rattle.ch_graph.specs.declared.hierarchy.LinkId.{LinkId}
@@ -23,6 +23,6 @@ ArePartsOf links l (Shortcut first second) = AreHalvesAt links l first second
 abbrev pub parts_in : ℕ → KeptHalves → Parts
 parts_in place kept = if kept.first == place then Arc kept.last else Shortcut (record { 0 = kept.first }) (record { 0 = kept.last })
 
--- The list tells of each link, as far as it goes, what it stands for.
+-- The list says of each link, as far as it goes, what it represents.
 pub record AreHalvesOf (links : List Link) (kept : List KeptHalves) : Type 0 where
   pub each : (k : ℕ) (d : Link) (e : KeptHalves) → k < length kept → ArePartsOf links (slice_index_or links k d) (parts_in k (slice_index_or kept k e))

@@ -8,7 +8,7 @@ pub record IsFirstFrom (links : List Link) (v place : ℕ) : Type 0 where
   pub before : (k : ℕ) (d : Link) → k < place → (slice_index_or links k d).from < v
   pub behind : (k : ℕ) (d : Link) → place ≤ k → k < length links → v ≤ (slice_index_or links k d).from
 
--- The list tells of each node, as far as it goes, the place of the first link that leaves it or a node above it.
+-- The list gives for each node, as far as it goes, the place of the first link that leaves it or a node above it.
 pub record IsIndexOf (links : List Link) (firsts : List ℕ) : Type 0 where
   pub first : (v : ℕ) → v < length firsts → IsFirstFrom links v (slice_index firsts v)
 

@@ -1,5 +1,5 @@
 -- Marks, as a search keeps them: what is known of each node. Of a label only its cost is looked at here, which `cost`
--- tells: that of some walk to the node.
+-- gives: that of some walk to the node.
 use Rattle.std.specs.Prelude.{ℕ, ◌≡◌, List, slice_index_or, sum_by, Option, Some, None}
 use Rattle.ch_cost.specs.declared.cost.Cost.{Cost}
 use Rattle.ch_cost.specs.Cost.{◌≼◌, ◌≺◌}

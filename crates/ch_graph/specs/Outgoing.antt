@@ -12,7 +12,7 @@ abbrev pub IsAtOrAfter : ℕ → Option ℕ → Type 0
 IsAtOrAfter k None = ⊥
 IsAtOrAfter k (Some j) = k ≤ j
 
--- the place of the last arc that leaves v among the first so many, or none where none of them leaves it
+-- the place of the last arc that leaves v among the first `count`, or none where none of them leaves it
 pub record IsLastFrom (arcs : List Road) (v count : ℕ) (last : Option ℕ) : Type 0 where
   pub leaves : (j : ℕ) → last ≡ Some j → (j < count) × ((road_at arcs j).from ≡ v)
   pub latest : (k : ℕ) → k < count → (road_at arcs k).from ≡ v → IsAtOrAfter k last

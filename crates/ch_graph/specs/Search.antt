@@ -1,4 +1,4 @@
--- The plain search of a graph: what its marks tell, where a label is the cost itself.
+-- The plain search of a graph: what its marks mean, where a label is the cost itself.
 use Rattle.std.specs.Prelude.{ℕ, ◌≡◌, ◌⊎◌, List, Some, length, slice_set}
 use Rattle.ch_cost.specs.declared.cost.Cost.{Cost}
 use Rattle.ch_cost.specs.Cost.{◌≼◌, IsOfArcs, compare}
@@ -23,7 +23,7 @@ Any c = Unit {0}
 abbrev pub IsNoDearer : Cost → ℕ → Cost → ℕ → Type 0
 IsNoDearer c v d u = c ≼ d
 
--- A walk of cost c to v was told: its mark is opened with that cost where it improves, and else nothing changes.
+-- A walk of cost c to v was offered: its mark is opened with that cost where it improves, and else nothing changes.
 abbrev pub IsOffered : List (Mark Cost) → ℕ → Cost → List (Mark Cost) → Type 0
 IsOffered old v c new =
     (Improves own_cost c (mark old v) × (new ≡ slice_set old v (Open c)))

@@ -1,4 +1,4 @@
--- A search by marks, over arcs of any kind: what holds between its turns, and what a turn does. It is told of by what a
+-- A search by marks, over arcs of any kind: what holds between its turns, and what a turn does. It is given by what a
 -- label costs, its arcs, the costs that count, where it begins, and the order in which it may settle nodes.
 use Rattle.std.specs.Prelude.{ℕ, ◌≡◌, ◌⊎◌}
 use Rattle.ch_cost.specs.declared.cost.Cost.{Cost}

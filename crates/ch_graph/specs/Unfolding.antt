@@ -1,4 +1,4 @@
--- Links named by their places, and the laws on them: each stands for one list of arcs.
+-- Links named by their places, and the laws on them: each represents one list of arcs.
 use Rattle.std.specs.Prelude.{ℕ, ◌≡◌, ⊤, List, [], ◌∷◌, Some, Contains, slice_get}
 use Rattle.std.specs.List.{AllZip}
 use Rattle.ch_cost.specs.declared.cost.Cost.{Cost}

@@ -11,7 +11,7 @@ use crate::version::Version;
 use ch_cost::Cost;
 use std::alloc::{AllocError, Global};
 
-/// Tests whether these ranks, these links and this bound make a hierarchy of a version, and else tells why they don't.
+/// Tests whether these ranks, these links and this bound make a hierarchy of a version, and else returns why they don't.
 ///
 /// Takes a byte a node. It looks at each rank and each link once, and looks for the halves of each link.
 pub fn check(
@@ -42,7 +42,7 @@ pub fn check(
     Ok(())
 }
 
-// Whether a hierarchy of so many nodes as there are ranks can have this bound.
+// Whether a hierarchy of as many nodes as there are ranks can have this bound.
 fn is_bound(version: Version, ranks: &[u32], bound: Cost) -> bool
     requires { length ranks.now ≤ 2 ^ 25 }
     ensures { IsTrue result ↔ (IsWithin bound (cost_of_arcs (length ranks.now - 1) (2 ^ 32 - 1)) × (arcs_of bound ≡ bound_arcs version (length ranks.now))) }
@@ -61,7 +61,7 @@ fn bound_arcs(version: Version, greatest: Cost) -> u64
     }
 }
 
-// The greatest bound that a hierarchy of so many nodes as there are ranks can have.
+// The greatest bound that a hierarchy of as many nodes as there are ranks can have.
 fn greatest_bound(ranks: &[u32]) -> Cost
     requires { length ranks.now ≤ 2 ^ 25 }
     ensures { result ≡ cost_of_arcs (length ranks.now - 1) (2 ^ 32 - 1) }
@@ -70,7 +70,7 @@ fn greatest_bound(ranks: &[u32]) -> Cost
     Cost::of_arcs(nodes.saturating_sub(1), u32::MAX)
 }
 
-// The place of the first rank that isn't below the number of ranks, or that stands at an earlier place, or none where
+// The place of the first rank that isn't below the number of ranks, or that occurs at an earlier place, or none where
 // there is no such rank. Takes a byte a rank.
 fn first_bad_rank(alloc: Global, ranks: &[u32]) -> Result<Option<usize>, AllocError>
     ensures found { IfOk result (λ found. IfSome found (IsFirstWithout (IsNewRank ranks.now) (length ranks.now))) }
@@ -135,7 +135,7 @@ fn is_link_well_made(
     is_allowed(version, ranks.len(), bound, link) & has_halves(ranks, links, link)
 }
 
-// Whether a link is between two different ones of so many nodes, and its cost counts what the version wants and is within
+// Whether a link is between two different ones of this many nodes, and its cost counts what the version wants and is within
 // the bound.
 fn is_allowed(version: Version, nodes: usize, bound: Cost, link: Link) -> bool
     ensures { IsTrue result ↔ IsAllowed version nodes bound link }

@@ -32,7 +32,7 @@ pub enum HierarchyError {
     /// nothing, or counts an arc); or it has a middle, and there aren't two links that meet there and cost
     /// together what it costs, or the middle doesn't rank below both ends.
     BadLink(usize),
-    /// The ranks couldn't be tested for want of memory. It says nothing of the hierarchy.
+    /// Out of memory: the ranks couldn't be tested. It says nothing of the hierarchy.
     OutOfMemory,
 }
 

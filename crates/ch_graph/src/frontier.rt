@@ -43,7 +43,7 @@ pub struct Reached {
 }
 
 impl Frontier {
-    /// Marks for so many nodes, none of them seen.
+    /// Marks for this many nodes, none of them seen.
     pub fn new(alloc: Global, nodes: u32) -> Result<Frontier, AllocError>
         ensures { IfOk result (λ f. f ≡ replicate nodes mark.Unseen) }
     {
@@ -53,7 +53,7 @@ impl Frontier {
         })
     }
 
-    /// Tells of a walk of this cost to a node. It opens the node where it is better than what is known of it.
+    /// Offers a walk of this cost to a node. It opens the node where it is better than what is known of it.
     ///
     /// Takes time by the logarithm of the number of entries.
     pub fn offer(&mut self, node: u32, cost: Cost) -> Result<(), AllocError>

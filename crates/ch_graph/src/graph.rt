@@ -34,7 +34,7 @@ impl Model for Graph {
 }
 
 impl Graph {
-    /// The graph of these arcs, in this order, between so many nodes.
+    /// The graph of these arcs, in this order, between this many nodes.
     ///
     /// There are at most 2^25 nodes and 2^27 arcs, each end is below `nodes`, and a weight may be 0. Takes no
     /// memory, and looks at each arc once.
@@ -115,7 +115,7 @@ impl Graph {
     /// ```
     ///
     /// From 0 to 3 the least cost is 2 + 1 + 1 = 4, of three arcs, over 1 and 4. From 2 to 3 two walks have the length 5,
-    /// and the answer is the cost of the one with fewer arcs, of one. From 3 to 0 there is no walk; from 3 to 3 there is the
+    /// and the result is the cost of the one with fewer arcs, of one. From 3 to 0 there is no walk; from 3 to 3 there is the
     /// one of no arc, which costs nothing.
     pub fn least(&self, source: u32, target: u32) -> Result<Option<Cost>, AllocError>
         requires source_in { source < self.now.nodes }
@@ -149,7 +149,7 @@ impl Graph {
     }
 }
 
-// The place of the first of these arcs that isn't allowed between so many nodes, or none where each is.
+// The place of the first of these arcs that isn't allowed between this many nodes, or none where each is.
 fn first_bad(nodes: u32, arcs: &[Road]) -> Option<usize>
     ensures found { IfSome result (IsFirstBad nodes arcs.now) }
     ensures none { IfNone result (All (IsRoad nodes) arcs.now) }

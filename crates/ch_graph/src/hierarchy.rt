@@ -36,7 +36,7 @@ pub struct Hierarchy {
     bound: Cost,
     // Of these links, or of no node.
     index: LinkIndex,
-    // Of these links, or of the first so many.
+    // Of these links, or of a prefix of them.
     halves: LinkHalves,
 }
 
@@ -81,7 +81,7 @@ impl Hierarchy {
     /// The hierarchy of these ranks, links and bound, as [`Hierarchy::new`] makes it, where they are well made, and else
     /// why they aren't. They may be any.
     ///
-    /// It is refused only where it isn't well made, or for want of memory. Takes a byte a node while it runs. It looks at
+    /// It is refused only where it isn't well made or memory runs out. Takes a byte a node while it runs. It looks at
     /// each rank and each link once, and looks for the halves of each link among all. All are dropped where they are
     /// refused. The hierarchy has no index; [`Hierarchy::into_indexed`] gives it one.
     pub fn checked(
@@ -210,7 +210,7 @@ impl Hierarchy {
         self.index.find(self.links.as_slice(), from, to)
     }
 
-    /// What the link at a place stands for: the places of its halves, or for an arc of the graph the node that it comes
+    /// What the link at a place represents: the places of its halves, or for an arc of the graph the node that it comes
     /// to.
     ///
     /// Where the hierarchy keeps the places, it looks at one of these, and else it looks for both halves as

@@ -26,7 +26,7 @@ pub fn value_is_unique()
     ensures { ValueIsUnique }
 {}
 
-/// Each link of a well made hierarchy stands for one list of links without a middle. It does nothing when it runs.
+/// Each link of a well made hierarchy represents one list of links without a middle. It does nothing when it runs.
 pub fn links_unfold()
     ensures { LinksUnfold }
 {}

@@ -1,13 +1,13 @@
 use ch_cost::Cost;
 
-/// A link of a hierarchy: an arc of the graph, or a shortcut that stands for two links by way of its middle.
+/// A link of a hierarchy: an arc of the graph, or a shortcut that represents two links by way of its middle.
 #[derive(Clone, Copy, Debug, PartialEq, Eq)]
 pub struct Link {
     /// The node that it leaves, numbered from 0.
     pub from: u32,
     /// The node that it comes to, numbered from 0.
     pub to: u32,
-    /// What the arcs that it stands for cost together.
+    /// What the arcs that it represents cost together.
     pub cost: Cost,
     /// The node where its two halves meet, or none for an arc of the graph.
     pub middle: Option<u32>,

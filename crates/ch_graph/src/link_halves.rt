@@ -6,7 +6,7 @@ use crate::hierarchy::LinkId;
 use std::alloc::{AllocError, Global};
 use std::marker::Model;
 
-/// What a link of a list stands for.
+/// What a link of a list represents.
 #[derive(Clone, Copy, Debug, PartialEq, Eq)]
 pub enum Parts {
     /// Itself, an arc of the graph, which comes to this node.
@@ -22,7 +22,7 @@ pub struct KeptHalves {
     last: u32,
 }
 
-/// Where the halves of links are, in a list of links: of the first so many of these, mostly of all.
+/// Where the halves of links are, in a list of links: of a prefix of these, mostly of all.
 ///
 /// It holds 8 bytes a link. A place takes 32 bits, so the halves of a link are kept where no place up to it has more.
 #[derive(Drop)]
@@ -49,7 +49,7 @@ impl LinkHalves {
         }
     }
 
-    /// No halves are kept yet, and there is room for those of so many links, at 8 bytes each.
+    /// No halves are kept yet, and there is room for those of this many links, at 8 bytes each.
     pub fn with_room(alloc: Global, links: usize) -> Result<LinkHalves, AllocError>
         ensures { IfOk result (λ halves. halves ≡ []) }
     {
@@ -58,7 +58,7 @@ impl LinkHalves {
         })
     }
 
-    /// Keeps what the link at a place stands for, if that of all links before it is kept and the places have at most 32
+    /// Keeps what the link at a place represents, if that of all links before it is kept and the places have at most 32
     /// bits. Else it keeps nothing.
     pub fn keep(&mut self, id: LinkId, parts: Parts) -> Result<(), AllocError>
         ensures { (links : List Link) → AreHalvesOf links self.old → ((d : Link) → ArePartsOf links (slice_index_or links id.0 d) parts) → OnOk result (AreHalvesOf links self.new) }
@@ -81,7 +81,7 @@ impl LinkHalves {
 }
 
 impl KeptHalves {
-    /// What the link at this place stands for, of which this is kept.
+    /// What the link at this place represents, of which this is kept.
     pub fn parts(self, id: LinkId) -> Parts
         ensures { result ≡ parts_in id.0 self }
     {

@@ -8,7 +8,7 @@ use crate::link::Link;
 use std::alloc::{AllocError, Global};
 use std::marker::Model;
 
-/// So many links are looked at in turn, which takes less time than to halve them further.
+/// This many links are looked at in turn, which takes less time than to halve them further.
 const FEW: usize = 16;
 
 /// Where the links of each node begin, in a list of links in rising order of their ends.
@@ -45,7 +45,7 @@ impl LinkIndex {
         }
     }
 
-    /// The index of these links, which are in rising order of their ends, for so many nodes.
+    /// The index of these links, which are in rising order of their ends, for this many nodes.
     ///
     /// Looks at each link and each node once, and takes 8 bytes a node.
     pub fn new(alloc: Global, nodes: u32, links: &[Link]) -> Result<LinkIndex, AllocError>

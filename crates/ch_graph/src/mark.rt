@@ -5,7 +5,7 @@ ghost use Rattle.ch_graph.specs.Search.{own_cost};
 use ch_cost::Cost;
 use std::alloc::AllocError;
 
-/// What a search knows of a node. Its label tells what the best walk to it that was found costs, and maybe more.
+/// What a search knows of a node. Its label holds what the best walk to it that was found costs, and maybe more.
 pub enum Mark<L> {
     /// No walk to it was found yet.
     Unseen,

@@ -13,7 +13,7 @@ pub struct Road {
 }
 
 impl Road {
-    /// Whether it may be an arc of a graph of so many nodes: both ends are nodes.
+    /// Whether it may be an arc of a graph of this many nodes: both ends are nodes.
     pub fn is_allowed(self, nodes: u32) -> bool
         ensures { IsTrue result ↔ IsRoad nodes self }
     {

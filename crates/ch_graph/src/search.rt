@@ -58,7 +58,7 @@ fn settle_to(
     Ok(None)
 }
 
-/// Follows each arc that leaves the node that was settled last: it tells the frontier of the walks over that node.
+/// Follows each arc that leaves the node that was settled last: it offers the frontier the walks over that node.
 fn follow(
     graph: &Graph,
     outgoing: &Outgoing,

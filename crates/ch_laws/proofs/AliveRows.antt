@@ -22,7 +22,7 @@ row_tells_alive s x r low row none = record {
 }
 
 module _ {bound : Cost} {s : State} {x : ℕ} {r : Row} (plain : IsPlain bound s) (row : IsRow s x r) (alive : IsAlive s x) where
-  -- no alive node stands before another, so the arcs between x and alive nodes are entries
+  -- no alive node comes before another, so the arcs between x and alive nodes are entries
   out-listed : (y : ℕ) (c : Cost) → Remains s x y c → Lists r.out y c
   out-listed y c arc =
       let e : Entry = record { other = y; cost = arc.arc.arc.cost; middle = arc.arc.arc.middle } in
@@ -34,7 +34,7 @@ module _ {bound : Cost} {s : State} {x : ℕ} {r : Row} (plain : IsPlain bound s
       let e : Entry = record { other = y; cost = arc.arc.arc.cost; middle = arc.arc.arc.middle } in
       record { entry = e; among = (row.inn e).1 (arc.arc.here, λ b. before_not_alive b arc.from_alive); other = refl; costs = arc.arc.costs }
 
-  -- a node that doesn't stand before an alive one is alive
+  -- a node that doesn't come before an alive one is alive
   other-alive : (y : ℕ) → y < s.nodes → (Before s.order y x → ⊥) → IsAlive s y
   other-alive y low out = record { in_range = low; waits = λ among. out (before-out s.order y x among alive.waits) }
 

@@ -33,7 +33,7 @@ pub record Lead (s : State) (x z : ℕ) (c : Cost) : Type 0 where
   pub sum : c ≡ mid ⊕ down
 
 -- What becomes of a walk of the remaining graph when v is contracted: a cheaper walk of the graph is there; or it
--- begins outside v; or it stands at v; or it leaves v by an arc and goes on outside.
+-- begins outside v; or it stays at v; or it leaves v by an arc and goes on outside.
 pub data Detour (g : Graph) (old : State) (v : ℕ) (new : State) (x z : ℕ) (c : Cost) : Type 0 where
   dearer : Cheaper (ArcOf g) x z c → Detour g old v new x z c
   beside : x ≢ v → Lead new x z c → Detour g old v new x z c

@@ -16,7 +16,7 @@ reaches_on g log s e new reached step = record { start = reached.start; starts =
 
 -- The shortcuts of a list
 
--- the arc that a shortcut with middle v stands for
+-- the arc that a shortcut with middle v represents
 abbrev arc_of_shortcut : ℕ → Shortcut → StateArc
 arc_of_shortcut v p = record { cost = p.cost; middle = Some v }
 

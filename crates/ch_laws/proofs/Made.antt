@@ -35,7 +35,7 @@ module _ {g : Graph} {s : State} {h : Hierarchy} (sound : IsSound g s) (over : I
   pub rank-place : (x : ℕ) (k : ℕ) → k < length s.order → get_or s.order k 0 ≡ x → rank_of h x ≡ k
   rank-place x k low here = subst (λ n. rank_of h n ≡ k) here (made.ranks k low)
 
-  -- what stands before another node ranks below it
+  -- what comes before another node ranks below it
   pub before-rank : {x y : ℕ} → Before s.order x y → y < s.nodes → rank_of h x < rank_of h y
   before-rank {x} {y} b low =
       let place = over y low in

@@ -1,4 +1,4 @@
--- The order of contraction: what stands before what, also after one more node.
+-- The order of contraction: what comes before what, also after one more node.
 use Rattle.std.proofs.Common.{ℕ, ◌≡◌, ◌≢◌, ◌<◌, ◌≤◌, ◌⊎◌, ◌↔◌, List, [], ◌∷◌, ◌++◌, length, get_or, Contains, arith, refl, sym, ◌∙◌, inl, inr}
 use Rattle.std.proofs.lemmas.Bool.{cases_lt}
 use Rattle.std.proofs.lemmas.List.{get_or_append_left, get_or_push, length_push}
@@ -7,11 +7,11 @@ use Rattle.ch_laws.specs.Members.{contains_place, place_of}
 
 -- Nodes in the order
 
--- what stands before something is in the order
+-- what comes before something is in the order
 pub before-contains : {order : List ℕ} {x y : ℕ} → Before order x y → Contains order x
 before-contains {order} {x} b = contains_place order b.place 0 x b.within b.here
 
--- and it stands before each node that isn't in the order
+-- and it comes before each node that isn't in the order
 pub before-out : (order : List ℕ) (x y : ℕ) → Contains order x → (Contains order y → ⊥) → Before order x y
 before-out order x y among out = record {
   place = among.0;
@@ -31,7 +31,7 @@ before-push {order} {x} {y} v b = record {
       b.not_yet k low (sym (get_or_append_left order (v ∷ []) 0 k inside) ∙ is);
 }
 
--- the node that is added stands before each that isn't in the order
+-- the node that is added comes before each that isn't in the order
 pub before-last : (order : List ℕ) (v y : ℕ) → (Contains order y → ⊥) → v ≢ y → Before (order ++ v ∷ []) v y
 before-last order v y out apart = record {
   place = length order;
@@ -45,7 +45,7 @@ before-last order v y out apart = record {
   ];
 }
 
--- what stands before a node when one is added did so already, or is the one that is added
+-- what comes before a node when one is added did so already, or is the one that is added
 pub before-back : (order : List ℕ) (v x y : ℕ) → Before (order ++ v ∷ []) x y → Before order x y ⊎ ((x ≡ v) × (Contains order y → ⊥) × (x ≢ y))
 before-back order v x y b = elim (cases_lt b.place (length order)) [
   | inl inside ↦ inl (record {
@@ -91,6 +91,6 @@ place-last order v k out = (
 
 -- Alive nodes
 
--- a node that stands before something is no longer alive
+-- a node that comes before something is no longer alive
 pub before_not_alive : {s : State} {x y : ℕ} → Before s.order x y → IsAlive s x → ⊥
 before_not_alive b alive = alive.waits (before-contains b)

@@ -19,7 +19,7 @@ chain_iff f h = (λ p. h.0 (f.0 p), λ r. f.1 (h.1 r))
 
 -- Lists of entries before and after one contraction
 
--- the entries of x for these arcs to or from others, but for those of nodes that stand before it
+-- the entries of x for these arcs to or from others, but for those of nodes that come before it
 abbrev Lists : List ℕ → ℕ → (ℕ → Option StateArc) → List Entry → Type 0
 Lists order x arc es = (e : Entry) → Contains es e ↔ ((arc e.other ≡ arc_of e) × (Before order e.other x → ⊥))
 
@@ -93,7 +93,7 @@ rank-kept order v x rank apart old k = chain_iff (old k) (place-kept order v x k
 
 -- Rows
 
--- the arc that an entry tells of
+-- the arc that an entry describes
 has_arc : (s : State) (x y : ℕ) (e : Entry) → s.arc x y ≡ arc_of e → HasArc s x y e.cost
 has_arc s x y e here = record { arc = record { cost = e.cost; middle = e.middle }; here = here; costs = refl }
 

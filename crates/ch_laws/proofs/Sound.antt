@@ -111,11 +111,11 @@ module _ {g : Graph} {old new : State} {v : ℕ} {put : List Shortcut} (sound : 
   pub kept_into : (x : ℕ) → new.arc x v ≡ old.arc x v
   kept_into x = kept_unless_through puts x v (λ c through. arc-apart sound through.second.arc refl)
 
-  -- what stands before something still does
+  -- what comes before something still does
   pub before-next : {x y : ℕ} → Before old.order x y → Before new.order x y
   before-next {x} {y} b = subst (λ (order : List ℕ). Before order x y) (sym puts.order) (before-push v b)
 
-  -- the contracted node stands before the alive ones
+  -- the contracted node comes before the alive ones
   pub contracted-before : {y : ℕ} → IsAlive old y → y ≢ v → Before new.order v y
   contracted-before {y} alive apart = subst (λ (order : List ℕ). Before order v y) (sym puts.order) (before-last old.order v y alive.waits (λ same. apart (sym same)))
 

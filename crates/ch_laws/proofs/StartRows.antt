@@ -14,7 +14,7 @@ use Rattle.ch_laws.proofs.Start.{least_arc}
 use Rattle.ch_laws.proofs.Sound.{start-sound, sound-plain}
 use Rattle.ch_laws.proofs.RowsShown.{HasEntry, find_entry, arc_to-none}
 
--- nothing stands before anything in the empty order
+-- nothing comes before anything in the empty order
 none_before : {x y : ℕ} → Before [] x y → ⊥
 none_before b = omega (arith, b.within)
 
@@ -28,7 +28,7 @@ no_start-row g is x past = record {
   inn = λ e. (λ among. absurd (omega (arith, among.1)), λ h. absurd (omega (arith, past, (arc-sound g is e.other x e.cost h.1.0).to_in)));
 }
 
--- two entries for the same least arc tell of the same arc
+-- two entries for the same least arc describe the same arc
 one_least : {g : Graph} {x y : ℕ} (d e : Entry) → IsLeastArc g x y d.cost → IsLeastArc g x y e.cost → d.middle ≡ None → e.middle ≡ None → arc_of d ≡ arc_of e
 one_least d e first second d_whole e_whole =
     let costs : d.cost ≡ e.cost = at_most_antisym (first.1 e.cost second.0) (second.1 d.cost first.0) in

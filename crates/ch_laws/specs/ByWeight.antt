@@ -17,7 +17,7 @@ pub record IsArcByWeight (g : Graph) (l : Link) : Type 0 where
   pub arc : ArcOf g l.from l.to cost
   pub weighs : length_of cost ≡ length_of l.cost
 
--- The hierarchy answers as the graph does by lengths: each of its values has the least length, and each link stands for
+-- The hierarchy answers as the graph does by lengths: each of its values has the least length, and each link represents
 -- arcs of the graph that lead from its one end to the other and are together as long as it is.
 pub record IsRightByWeight (g : Graph) (h : Hierarchy) : Type 0 where
   pub nodes : length h.ranks ≡ g.nodes

@@ -24,7 +24,7 @@ pub record State : Type 0 where
   pub order : List ℕ
   pub arc : ℕ → ℕ → Option StateArc
 
--- x stands before y in the order; nodes that aren't in it stand after all that are
+-- x comes before y in the order; nodes that aren't in it come after all that are
 pub record Before (order : List ℕ) (x y : ℕ) : Type 0 where
   pub place : ℕ
   pub within : place < length order
@@ -143,7 +143,7 @@ pub record Contraction : Type 0 where
   pub neighbours : List ℕ
   pub shortcuts : ℕ
 
--- A lawful contraction, as its entry tells it: the rank is the number of nodes contracted before, and the neighbours
+-- A lawful contraction, as its entry records it: the rank is the number of nodes contracted before, and the neighbours
 -- are all those of the node, rising.
 pub record Step (bound : Cost) (old : State) (e : Contraction) (new : State) : Type 0 where
   pub put : List Shortcut

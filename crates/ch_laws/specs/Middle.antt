@@ -1,4 +1,4 @@
--- Middles: a node or none, and the number of four bytes that stands for each.
+-- Middles: a node or none, and the number of four bytes that represents each.
 use Rattle.std.specs.Prelude.{ℕ, ◌≡◌, ◌-◌, ◌^◌, ◌==◌, Option, Some, None, Bool, refl, if◌then◌else◌}
 use Rattle.std.specs.Bool.{Decides}
 use Rattle.std.specs.Cmp.{IsEquivalence, IsPartialEquivalence, decided, unsigned_Decides, partial_equiv_from_equiv}
@@ -7,7 +7,7 @@ use Rattle.std.proofs.Common.{arith, ap}
 use Rattle.std.proofs.lemmas.Bool.Decides.{nat_tests}
 use Rattle.ch_laws.specs.declared.middle.Middle.TheInside.{Inside}
 
--- none stands as the greatest of four bytes, and a node as its own number
+-- none is represented by the greatest of four bytes, and a node by its own number
 abbrev pub number_of : Option ℕ → ℕ
 number_of None = 2 ^ 32 - 1
 number_of (Some node) = node
@@ -24,7 +24,7 @@ inside_of m = ap (λ (n : ℕ). record { number = n }) (number-node_in m.number)
 abbrev pub same_middles : Option ℕ → Option ℕ → Bool
 same_middles a b = option_eq (λ x y. x == y) a b
 
--- what it answers
+-- what it returns
 pub same_middles-Decides : (a b : Option ℕ) → Decides (same_middles a b) (a ≡ b)
 same_middles-Decides None None = (λ _. refl, λ _. refl)
 same_middles-Decides None (Some y) = (λ e. absurd (cc), λ e. absurd (cc))

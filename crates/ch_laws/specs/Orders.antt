@@ -5,7 +5,7 @@ use Rattle.std.proofs.lemmas.Bool.{cases_lt}
 use Rattle.ch_cost.specs.declared.cost.Cost.{Cost}
 use Rattle.ch_laws.specs.Contraction.{State, Before, Contraction, Step, Run, Run.rest, Run.next}
 
--- two nodes don't both stand before each other
+-- two nodes don't both come before each other
 pub before_not_both : {order : List ℕ} {x y : ℕ} → Before order x y → Before order y x → ⊥
 before_not_both first second = elim (cases_lt second.place first.place) [
   | inl less ↦ first.not_yet second.place (omega (arith, less)) second.here

@@ -30,7 +30,7 @@ pub record Row : Type 0 where
 abbrev pub Rises : List Entry → Type 0
 Rises entries = AllPairs (λ a b. a.other < b.other) entries
 
--- the arc of the state that the entry tells of
+-- the arc of the state that the entry describes
 abbrev pub arc_of : Entry → Option StateArc
 arc_of e = Some (record { cost = e.cost; middle = e.middle })
 
@@ -96,7 +96,7 @@ pub record IsStartRow (g : Graph) (x : ℕ) (r : Row) : Type 0 where
   pub out : (e : Entry) → Contains r.out e ↔ ((x ≢ e.other) × IsLeastArc g x e.other e.cost × (e.middle ≡ None))
   pub inn : (e : Entry) → Contains r.inn e ↔ ((x ≢ e.other) × IsLeastArc g e.other x e.cost × (e.middle ≡ None))
 
--- the entry tells of a shortcut from u to w with the middle v
+-- the entry describes a shortcut from u to w with the middle v
 pub record IsOfShortcut (put : List Shortcut) (v u w : ℕ) (e : Entry) : Type 0 where
   pub shortcut : Shortcut
   pub among : Contains put shortcut

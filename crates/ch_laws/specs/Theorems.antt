@@ -23,13 +23,13 @@ AlwaysRight = (g : Graph) (log : List Contraction) (s : State) (h : Hierarchy) �
 abbrev pub AlwaysWellMade : Type 0
 AlwaysWellMade = (g : Graph) (log : List Contraction) (s : State) (h : Hierarchy) → IsGraph g → IsReached g log s → IsOver s → IsMade g s h → IsWellMade h
 
--- The links lead from s to t over the top, their cost is the value, and the arcs are what they stand for.
+-- The links lead from s to t over the top, their cost is the value, and the arcs are what they represent.
 pub record IsLeastRoute (h : Hierarchy) (s t : ℕ) (c : Cost) (links arcs : List Link) : Type 0 where
   pub leads : IsRiseFall h links s t c
   pub least : IsValue h s t (Some c)
   pub unfolds : UnfoldsAll h links arcs
 
--- a least rise-fall walk of a right hierarchy stands for a walk of the graph that has fewer arcs than there are nodes
+-- a least rise-fall walk of a right hierarchy represents a walk of the graph that has fewer arcs than there are nodes
 abbrev pub NeverTooLong : Type 0
 NeverTooLong = (g : Graph) (h : Hierarchy) (s t : ℕ) (c : Cost) (links arcs : List Link) → IsGraph g → IsRight g h → s < g.nodes → t < g.nodes → IsLeastRoute h s t c links arcs → Chain (IsArcOf g) arcs s t c × (length arcs ≤ g.nodes - 1)
 

@@ -1,6 +1,6 @@
 //! The laws of contraction: why a hierarchy that lawful contractions lead to answers as its graph does.
 //!
-//! Stands on `ch_cost`, of which it uses the laws of costs alone, and on `ch_graph`. Its definitions say what a state, a
+//! Builds on `ch_cost`, of which it uses the laws of costs alone, and on `ch_graph`. Its definitions say what a state, a
 //! lawful contraction, a row and a made hierarchy are, and each law is the contract of a function with an empty body. Its
 //! only code that does anything keeps an entry's middle in four bytes ([`Middle`]).
 //!

@@ -44,7 +44,7 @@ pub fn rows_of_least_arcs_are_the_start()
     ensures { RowsStart }
 {}
 
-/// The rows of all nodes, changed as told where a contraction touches them, are the rows of the next state. It does
+/// The rows of all nodes, changed as defined where a contraction touches them, are the rows of the next state. It does
 /// nothing when it runs.
 pub fn updated_rows_are_the_next()
     ensures { RowsGoOn }

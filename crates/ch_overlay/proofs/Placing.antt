@@ -101,7 +101,7 @@ nodes_rise es order i j d low h = elim (cases_lt i j) [
       subst (λ n. (get_or es i d).at ≤ (get_or es n d).at) same (omega arith)
 ]
 
--- The entries of one node stand together
+-- The entries of one node lie together
 
 abbrev placed : ℕ → Entry → Placed
 placed n e = record { at = n; entry = e }

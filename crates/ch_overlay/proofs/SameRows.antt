@@ -39,7 +39,7 @@ row_decides q r rank out inn ranks outs inns =
       λ e. parts.1 ((ap (λ (x : Row). x.rank) e, ap (λ (x : Row). x.out) e), ap (λ (x : Row). x.inn) e),
     )
 
--- what `==` answers of two lists of entries
+-- what `==` returns for two lists of entries
 pub entries_decide : (xs ys as_xs as_ys : List Entry) (r : Bool) → as_xs ≡ xs → as_ys ≡ ys → r ≡ pointwise (λ (a b : Entry). a.other == b.other && (same_middles a.middle b.middle && same a.cost b.cost)) as_xs as_ys → Decides r (xs ≡ ys)
 entries_decide xs ys as_xs as_ys r first second e =
     subst (λ zs. Decides r (zs ≡ ys)) first (subst (λ zs. Decides r (as_xs ≡ zs)) second (slice_eq-Decides entry_decides as_xs as_ys r e))

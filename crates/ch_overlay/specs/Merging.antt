@@ -2,7 +2,7 @@
 use Rattle.std.specs.Prelude.{cond, nat_lt, nat_eq, List, [], ◌∷◌}
 use Rattle.ch_laws.specs.declared.entry.Entry.{Entry}
 
--- the entry e stands before what `rest` makes of the new ones, at its place among them; a new one of the same other
+-- the entry e comes before what `rest` makes of the new ones, at its place among them; a new one of the same other
 -- node takes its place
 abbrev pub merged_with : Entry → (List Entry → List Entry) → List Entry → List Entry
 merged_with e rest [] = e ∷ rest []

@@ -40,7 +40,7 @@ HaveSameEnds a b = (a.from ≡ b.from) × (a.to ≡ b.to)
 abbrev pub have_same_ends : Road → Road → Bool
 have_same_ends a b = nat_eq a.from b.from && nat_eq a.to b.to
 
--- a stands at or before b where arcs are sorted by their ends and then by their weight
+-- a is at or before b where arcs are sorted by their ends and then by their weight
 pub record ComesNoLater (a b : Road) : Type 0 where
   pub from : a.from ≤ b.from
   pub to : a.from ≡ b.from → a.to ≤ b.to

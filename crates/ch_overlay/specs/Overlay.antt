@@ -18,7 +18,7 @@ pub record Overlay : Type 0 where
 abbrev pub state_of : Overlay → State
 state_of o = state_by o.rows o.order
 
--- an entry of the row of x, one of so many nodes: of another node, not free and not heavy
+-- an entry of the row of x, one of this many nodes: of another node, not free and not heavy
 pub record IsEntry (nodes : ℕ) (bound : Cost) (x : ℕ) (e : Entry) : Type 0 where
   pub in_range : e.other < nodes
   pub apart : e.other ≢ x

@@ -27,7 +27,7 @@ pub record ArePlaced (gone : ℕ) (put : List Shortcut) (out inn : List Placed) 
 abbrev pub RowsRise : List Row → Type 0
 RowsRise rows = (x : ℕ) → x < length rows → Rises (row_at rows x).out × Rises (row_at rows x).inn
 
--- after the old ones stand the changed rows of these nodes
+-- after the old ones come the changed rows of these nodes
 pub record AreChanged (gone : ℕ) (all : List Row) (out inn : List Placed) (nodes : List ℕ) (old new : List (ℕ × Row)) : Type 0 where
   pub others : List (ℕ × Row)
   pub rows : new ≡ old ++ others

@@ -44,7 +44,7 @@ recorded_row r = arc_value r.row
 abbrev pub IsSoundRecord : List ℕ → ℕ → Record → Type 0
 IsSoundRecord mark place r = IsSoundRow (marked mark) r.node (recorded_row r)
 
--- the answer is what a record of the list says, which stands at the answer's version
+-- the answer is what a record of the list says, which is at the answer's version
 pub record IsRecorded (list : Shelves) (s : Seen) (token : Where Record) : Type 0 where
   pub shown : Shows list token
   pub version : token.index ≡ s.version

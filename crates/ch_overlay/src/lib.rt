@@ -1,7 +1,7 @@
 //! The rows of a graph under contraction: what each node has of its arcs and shortcuts, and how a contraction changes
 //! them.
 //!
-//! Stands on `ch_graph` for graphs and on `ch_laws` for what contraction is. Its main types:
+//! Builds on `ch_graph` for graphs and on `ch_laws` for what contraction is. Its main types:
 //!
 //! - [`Row`], what one node has. Rows are shared by `Arc` and never changed in place, so who has read a row keeps it.
 //! - [`Overlay`], the rows of all nodes with a version number each, and [`Change`], the new rows of one contraction.

@@ -11,7 +11,7 @@ use ch_laws::{Entry, Middle};
 use std::alloc::{AllocError, Global};
 use std::sync::Arc;
 
-/// The rows of so many nodes with these arcs, in their order.
+/// The rows of this many nodes with these arcs, in their order.
 pub fn rows_of(alloc: Global, nodes: u32, arcs: &[Road]) -> Result<Vec<Row>, AllocError>
     requires from_in { All (λ r. r.from < nodes) arcs.now }
     requires to_in { All (λ r. r.to < nodes) arcs.now }
@@ -71,7 +71,7 @@ pub fn shared(alloc: Global, rows: Vec<Row>) -> Result<Vec<Arc<Row>>, AllocError
     Ok(all)
 }
 
-/// The versions of so many nodes: x for node x.
+/// The versions of this many nodes: x for node x.
 pub fn first_versions(alloc: Global, nodes: u32) -> Result<Vec<u64>, AllocError>
     ensures { IfOk result (λ versions. versions.items ≡ range_with_len 0 nodes) }
 {

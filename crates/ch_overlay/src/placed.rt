@@ -13,7 +13,7 @@ pub struct Placed {
     pub entry: Entry,
 }
 
-/// Entries for rows, in order, so that those for one row stand together.
+/// Entries for rows, in order, so that those for one row lie together.
 #[derive(Drop)]
 pub struct PlacedEntries {
     /// By the nodes of their rows, and then by their other nodes.

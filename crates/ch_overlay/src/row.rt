@@ -55,7 +55,7 @@ impl Row {
         Ok(())
     }
 
-    /// Gives back the memory that its entries don't need.
+    /// Frees the memory that its entries don't need.
     pub(crate) fn shrink(&mut self)
         ensures { self.new ≡ self.old }
     {
@@ -130,7 +130,7 @@ fn replaced(
     Ok(entries)
 }
 
-/// How many entries these are. Only the memory that is taken for them goes by it.
+/// How many entries these are. Only the memory that is taken for them depends on it.
 fn count(gone: u32, old: &[Entry], new: &[Entry]) -> usize {
     let mut count = 0usize;
     'entries: for entry in Merge::new(old, new) {

@@ -63,7 +63,7 @@ impl<T: Drop> From<AllocFailed<T>> for SeeError {
 
 /// Where rows are read: an overlay itself, or what was seen of one.
 ///
-/// What it answered it goes on to show, however it moves; an older answer may differ from the overlay's current row.
+/// What it answered it continues to show, however it moves; an older answer may differ from the overlay's current row.
 pub trait RowSource {
     ghost use Rattle.std.specs.Prelude.{◌≡◌, ℕ, IfOk, OnErr};
     ghost use Rattle.ch_cost.specs.declared.cost.Cost.{Cost};
@@ -74,7 +74,7 @@ pub trait RowSource {
     /// What every answer of a source of this type bears, such as the mark of its origin.
     ghost bears: { Seen → Type 0 };
 
-    /// The answers that the source stands by as it is now.
+    /// The answers that the source vouches for as it is now.
     ghost shows: { Self → Seen → Type 0 };
 
     /// How the source may move when it is read.

@@ -12,7 +12,7 @@ pub appends-take_more : (old mid new : Option (List ℕ)) (n m : ℕ) (bytes : L
 appends-take_more old mid new n m bytes p q =
     subst (Appends old new) (sym (take-add n m bytes)) (Appends-trans old mid new _ _ p (subst (λ rest. Appends mid new (take m rest)) (take_rest bytes n) q))
 
--- so many of the bytes were taken
+-- this many of the bytes were taken
 pub hands_on_first : (old new : Option (List ℕ)) (bytes : List ℕ) (n before : ℕ) → n ≤ length bytes → Appends old new (take n bytes) → HandsOn old new bytes (drop n bytes) before (before + n)
 hands_on_first old new bytes n before within given = record {
   taken = take n bytes;

@@ -1,5 +1,5 @@
--- Which calls of a reader or a writer were made, and what they answered. A step is one call: it leads from what the reader
--- or writer was to what it is, with the call's answer: how many bytes were given or taken, or an error. A step of a writer
+-- Which calls of a reader or a writer were made, and what they returned. A step is one call: it leads from what the reader
+-- or writer was to what it is, with the call's result: how many bytes were given or taken, or an error. A step of a writer
 -- is a call that offered it one byte or more.
 use Rattle.std.specs.Prelude.{ℕ, suc, ◌≡◌, ◌≢◌, ◌+◌, ◌<◌, ◌⊎◌, Result, Ok, Err}
 use Rattle.std.specs.IoError.{error_kind}
@@ -21,7 +21,7 @@ abbrev pub IsFailedWrite : Result ℕ Error → Type 0
 IsFailedWrite (Ok n) = n ≡ 0
 IsFailedWrite (Err e) = IsFailure (Err e)
 
--- So many calls were made, one after the other, whatever they answered.
+-- This many calls were made, one after the other, whatever they returned.
 pub data Calls {S : Type 0} (step : S → S → Result ℕ Error → Type 0) : ℕ → S → S → Type 0 where
   no_call : {a : S} → Calls step 0 a a
   one_more : {n : ℕ} {a b c : S} {answer : Result ℕ Error} → Calls step n a b → step b c answer → Calls step (suc n) a c
@@ -30,12 +30,12 @@ pub data Calls {S : Type 0} (step : S → S → Result ℕ Error → Type 0) : �
 abbrev pub IsCalled : {S : Type 0} → (S → S → Result ℕ Error → Type 0) → ℕ → ℕ → S → S → Type 0
 IsCalled step before after old new = (calls : ℕ) × (before ≡ after + calls) × Calls step calls old new
 
--- So many calls were made, one after the other, and each was interrupted.
+-- This many calls were made, one after the other, and each was interrupted.
 pub data Waits {S : Type 0} (step : S → S → Result ℕ Error → Type 0) : ℕ → S → S → Type 0 where
   no_call : {a : S} → Waits step 0 a a
   one_more : {n : ℕ} {a b c : S} {answer : Result ℕ Error} → Waits step n a b → step b c answer → IsInterrupted answer → Waits step (suc n) a c
 
--- So many calls were made, the last of which answered so, and each before it was interrupted.
+-- This many calls were made, the last of which returned this, and each before it was interrupted.
 pub record EndsBy {S : Type 0} (step : S → S → Result ℕ Error → Type 0) (calls : ℕ) (old new : S) (answer : Result ℕ Error) : Type 0 where
   pub interruptions : ℕ
   pub before : S
@@ -43,22 +43,22 @@ pub record EndsBy {S : Type 0} (step : S → S → Result ℕ Error → Type 0) 
   pub last : step before new answer
   pub calls_are : calls ≡ interruptions + 1
 
--- So many calls of a reader were made. Each before the last was interrupted, and the last failed; or it was interrupted
+-- This many calls of a reader were made. Each before the last was interrupted, and the last failed; or it was interrupted
 -- too, and no call is left.
 abbrev pub FailsBy : {S : Type 0} → (S → S → Result ℕ Error → Type 0) → ℕ → ℕ → S → S → Type 0
 FailsBy step calls left old new = ((answer : Result ℕ Error) × IsFailure answer × EndsBy step calls old new answer) ⊎ ((left ≡ 0) × Waits step calls old new)
 
--- One call of a writer took so many bytes, one or more, or it was interrupted and took none.
+-- One call of a writer took this many bytes, one or more, or it was interrupted and took none.
 abbrev pub TakesBy : {S : Type 0} → (S → S → Result ℕ Error → Type 0) → ℕ → S → S → Type 0
 TakesBy step n old new = ((0 < n) × step old new (Ok n)) ⊎ ((n ≡ 0) × ((answer : Result ℕ Error) × IsInterrupted answer × step old new answer))
 
--- So many calls of a writer were made, one after the other. Each took some bytes or was interrupted, and so many bytes were
+-- This many calls of a writer were made, one after the other. Each took bytes or was interrupted, and this many bytes were
 -- taken in all.
 pub data Takings {S : Type 0} (step : S → S → Result ℕ Error → Type 0) : ℕ → ℕ → S → S → Type 0 where
   no_call : {a : S} → Takings step 0 0 a a
   one_more : {calls taken n : ℕ} {a b c : S} → Takings step calls taken a b → TakesBy step n b c → Takings step (suc calls) (taken + n) a c
 
--- So many calls of a writer were made, by which so many bytes were taken, and the last of them failed or took no byte.
+-- This many calls of a writer were made, which took this many bytes, and the last of them failed or took no byte.
 pub record RefusesBy {S : Type 0} (step : S → S → Result ℕ Error → Type 0) (calls taken : ℕ) (old new : S) : Type 0 where
   pub earlier : ℕ
   pub before : S
@@ -68,7 +68,7 @@ pub record RefusesBy {S : Type 0} (step : S → S → Result ℕ Error → Type 
   pub refuses : IsFailedWrite answer
   pub calls_are : calls ≡ earlier + 1
 
--- So many calls of a writer were made, by which so many bytes were taken. The last failed or took no byte, or no call is
+-- This many calls of a writer were made, which took this many bytes. The last failed or took no byte, or no call is
 -- left.
 abbrev pub StopsBy : {S : Type 0} → (S → S → Result ℕ Error → Type 0) → ℕ → ℕ → ℕ → S → S → Type 0
 StopsBy step calls left taken old new = RefusesBy step calls taken old new ⊎ ((left ≡ 0) × Takings step calls taken old new)

@@ -1,4 +1,4 @@
--- Bytes that come from a reader and go to a writer by so many calls.
+-- Bytes that come from a reader and go to a writer in a counted number of calls.
 use Rattle.std.specs.Prelude.{ℕ, ◌≡◌, ◌+◌, ◌*◌, ◌<◌, ◌≤◌, List, ◌++◌, length, Option, IfSome}
 use Rattle.std.specs.Io.KnownBytes.{Appends}
 
@@ -16,7 +16,7 @@ pub record HandsOnPart (old new : Option (List ℕ)) (bytes : List ℕ) (before 
   pub some : 0 < length rest
   pub first : HandsOn old new bytes rest before after
 
--- So many calls give all that a reader has, where that is known: 65,536 bytes at most in each but the last, which finds
+-- This many calls give all that a reader has, where that is known: 65,536 bytes at most in each but the last, which finds
 -- the end.
 abbrev pub IsGivenBy : ℕ → Option (List ℕ) → Type 0
 IsGivenBy calls had = IfSome had (λ bytes. length bytes + 65536 ≤ calls * 65536)

@@ -1,13 +1,13 @@
-//! Reading and writing by so many calls.
+//! Reading and writing by a counted number of calls.
 //!
 //! A reader or a writer may give or take few bytes in a call, and may be interrupted time and again. So whoever reads or
-//! writes in a loop counts the calls, and ends where no more may be made. Stands on std alone. [`ReadCalls`] has the
+//! writes in a loop counts the calls, and ends where no more may be made. Uses std alone. [`ReadCalls`] has the
 //! one loop over readers, and [`WriteCalls`] the one over writers. An interrupted call is made again, and counts; a
 //! write that takes no byte is a failure. The promise is in the contracts of [`ReadCalls::read`] and
 //! [`WriteCalls::write`]: which bytes the reader gave or the writer took, to the byte, also at a failure; and which calls
-//! were made of it and what they answered, by its steps ([`StepRead`], [`StepWrite`]).
+//! were made of it and what they returned, by its steps ([`StepRead`], [`StepWrite`]).
 //!
-//! A reader is read by at most a hundred calls, into a buffer, until the answer is 0:
+//! A reader is read by at most a hundred calls, into a buffer, until the result is 0:
 //!
 //! ```rust
 //! let mut calls = ReadCalls::new(100);

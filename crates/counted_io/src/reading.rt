@@ -8,14 +8,14 @@ use std::error::Error;
 use std::fmt;
 use std::io::{self, Read};
 
-/// A reader whose calls can be told one by one. Every reader is one.
+/// A reader whose calls can be described one by one. Every reader is one.
 pub trait StepRead: Read {
     ghost use Rattle.std.specs.Prelude.{ℕ, Result};
     ghost use Rattle.std.specs.Io.{ReadsAtMost};
     ghost use Rattle.std.specs.Io.KnownBytes.{ReadConsumes};
     ghost use Rattle.std.specs.declared.io.Error.{Error};
 
-    /// How one call leads from what the reader was to what it is, by the call's answer. What it is for a reader is open,
+    /// How one call leads from what the reader was to what it is, by the call's result. What it is for a reader is open,
     /// so only who has made the call has its step.
     ghost step: { Self → Self → Result ℕ Error → Type 0 };
 
@@ -44,7 +44,7 @@ pub struct ReadCalls {
 }
 
 impl ReadCalls {
-    /// So many calls, but no more than 2^40.
+    /// This many calls, but no more than 2^40.
     pub fn new(calls: u64) -> ReadCalls
         ensures { result.left ≡ min calls MOST_CALLS }
     {
@@ -53,7 +53,7 @@ impl ReadCalls {
         }
     }
 
-    /// Reads the next bytes into the buffer, and answers how many they are: 0 only at the end, or where the buffer has
+    /// Reads the next bytes into the buffer, and returns how many they are: 0 only at the end, or where the buffer has
     /// no room.
     ///
     /// An interrupted call is made again. It is refused where the reader fails, or where no more calls may be made; no

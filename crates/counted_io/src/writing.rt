@@ -11,14 +11,14 @@ use std::error::Error;
 use std::fmt;
 use std::io::{self, Write};
 
-/// A writer whose calls can be told one by one. Every writer is one.
+/// A writer whose calls can be described one by one. Every writer is one.
 pub trait StepWrite: Write {
     ghost use Rattle.std.specs.Prelude.{ℕ, ◌<◌, length, Result};
     ghost use Rattle.std.specs.Io.{WritesAtMost};
     ghost use Rattle.std.specs.Io.KnownBytes.{WriteAppends};
     ghost use Rattle.std.specs.declared.io.Error.{Error};
 
-    /// How one call that offers some bytes leads from what the writer was to what it is, by the call's answer. What it is
+    /// How one call that offers some bytes leads from what the writer was to what it is, by the call's result. What it is
     /// for a writer is open, so only who has made such a call has its step. A call that offers none has no step.
     ghost step: { Self → Self → Result ℕ Error → Type 0 };
 
@@ -50,7 +50,7 @@ pub struct WriteCalls {
 }
 
 impl WriteCalls {
-    /// So many calls, but no more than 2^40. Nothing is written yet.
+    /// This many calls, but no more than 2^40. Nothing is written yet.
     pub fn new(calls: u64) -> WriteCalls
         ensures left { result.left ≡ min calls MOST_CALLS }
         ensures written { result.written ≡ 0 }
@@ -89,7 +89,7 @@ impl WriteCalls {
     }
 }
 
-// Writes the bytes, and answers how many of them the writer took: all, or fewer where it failed.
+// Writes the bytes, and returns how many of them the writer took: all, or fewer where it failed.
 fn write_bytes<W: StepWrite>(bytes: &[u8], writer: &mut W, left: &mut u64) -> usize
     ensures within { result ≤ length bytes.now }
     ensures given { Appends (W.contents writer.old) (W.contents writer.new) (take result bytes.now) }

@@ -183,7 +183,7 @@ pub within-right : (a b : Cost) {bound : Cost} → IsWithin (a ⊕ b) bound → 
 unfolding ◌⊕◌
 within-right a b {bound} h = record { weight = omega (arith, h.weight); arcs = omega (arith, h.arcs) }
 
--- an arc and so many more arcs of at most the greatest weight
+-- an arc and this many more arcs of at most the greatest weight
 pub arc_and_arcs_within : (w n heaviest : ℕ) (c : Cost) → w ≤ heaviest → IsWithin c (cost_of_arcs n heaviest) → IsWithin (of_weight w ⊕ c) (cost_of_arcs (n + 1) heaviest)
 unfolding ◌⊕◌ of_weight cost_of_arcs
 arc_and_arcs_within w n heaviest c h k =
@@ -307,7 +307,7 @@ lengths-from_below a b h few = elim (cases_eq a.weight b.weight) [
 
 -- The order as a comparison
 
--- the two orders that it goes by
+-- the two orders that it uses
 length_order : Cost → Cost → Ordering
 length_order a b = nat_cmp a.weight b.weight
 

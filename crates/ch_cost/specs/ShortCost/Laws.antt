@@ -10,11 +10,11 @@ use Rattle.ch_cost.specs.Cost.Numbers.{of_walk-numbers}
 use Rattle.ch_cost.specs.ShortCost.{no_short, short_of, kept_in}
 use Rattle.ch_cost.specs.ShortCost.Fields.{no_short-is, short-fits, short-none, kept-none, kept-some}
 
--- the short form of no cost gives none back
+-- the short form of no cost yields none
 pub kept_not : kept_in no_short ≡ None
 kept_not = sym (kept-none no_short (ap (λ (t : ShortCost). t.length) (sym no_short-is)))
 
--- a cost that fits is kept, and one that doesn't gives none back
+-- a cost that fits is kept, and one that doesn't yields none
 read_back : (c d : Cost) (fits : Bool) → (nat_lt (length_of c) (2 ^ 32 - 1) && nat_le (arcs_of c) (2 ^ 32 - 1)) ≡ fits → kept_in (short_of c) ≡ Some d → d ≡ c
 read_back c d true test is =
     let low : length_of c < 2 ^ 32 - 1 = ltb-true (length_of c) (2 ^ 32 - 1) (first_so _ _ test) in
@@ -22,6 +22,6 @@ read_back c d true test is =
     sym (same_Some (of_walk (length_of c) (arcs_of c)) d whole) ∙ of_walk-numbers c
 read_back c d false test is = absurd (none-some d (sym kept_not ∙ (ap kept_in (short-none c test) ∙ is)))
 
--- what it gives back is the cost that it was made of
+-- what it yields is the cost that it was made of
 pub kept : (c d : Cost) → kept_in (short_of c) ≡ Some d → d ≡ c
 kept c d is = read_back c d (nat_lt (length_of c) (2 ^ 32 - 1) && nat_le (arcs_of c) (2 ^ 32 - 1)) refl is

@@ -46,7 +46,7 @@ module _ {S : Type 0} (step : S → S → Result ℕ Error → Type 0) where
   waits_give (Waits.one_more {answer = Ok n} waits last is) = absurd is
   waits_give (Waits.one_more {answer = Err e} waits last is) = Calls.one_more (waits_give waits) (last, is)
 
-  -- one loop that answered how many bytes came
+  -- one loop that returned how many bytes came
   pub read_by : (before after n : ℕ) {a b : S} → (calls : ℕ) × (before ≡ after + calls) × EndsBy step calls a b (Ok n) → IsRead step before after a b
   read_by before after n ends = record { calls = suc ends.2.interruptions; counted = omega (arith, ends.1, ends.2.calls_are); none_failed = Calls.one_more (waits_give ends.2.waits) (ends.2.last, tt) }
 

@@ -2,7 +2,7 @@ use Rattle.std.proofs.Common.{◌≡◌, ◌<◌, ℕ, length, get_or, None}
 use Rattle.ch_graph.specs.Outgoing.{road_at, IsLastFrom}
 use Rattle.ch_graph.proofs.outgoing.Outgoing.new.Given as goal
 
--- so many arcs are linked
+-- this many arcs are linked
 abbrev pub invariant-loop-at : goal.invariant-loop-at
 invariant-loop-at l = record {
   nodes : length l.last.items ≡ l.graph.nodes;
