@@ -33,7 +33,7 @@ reader_set words ws views id front f below = record {
   told = λ j v at. ⊎_elim (λ here. subst (λ (u : KnownWords). IsBelow u.heard ws) here.1 (λ i. omega arith)) (λ other. f.told j v other.1) (at_set views id j (reader_with front) v at);
 }
 
--- the pen knows the words, and is told a front that isn't above them
+-- the pen knows the words, and receives a front that isn't above them
 pen_set : (words : ℕ) (ws : List ℕ) (views : List KnownWords) (known heard : List ℕ) → Fits words ws views → known ≡ ws → IsBelow heard ws → Fits words ws (set views 0 (hearing known heard))
 pen_set words ws views known heard f same told = record {
   wide = f.wide;

@@ -55,7 +55,7 @@ pub record IsOf (list : Shelves) (next x : ℕ) (t : Where Record) : Type 0 wher
   pub node : t.value.node ≡ x
   pub below : t.index < next
 
--- so many tokens are of the nodes of their places
+-- this many tokens are of the nodes of their places
 abbrev pub AreOf : Shelves → ℕ → ℕ → List (Where Record) → Type 0
 AreOf list next nodes tokens = (x : ℕ) (d : Where Record) → x < nodes → IsOf list next x (slice_index_or tokens x d)
 

@@ -5,7 +5,7 @@ use lib.ListN.{get_elem?}
 use Rattle.atomic_table.specs.Table.{State, Me, Step}
 use Rattle.ch_rowbook.specs.declared.words.KnownWords.{KnownWords}
 
--- the pen knows the words as they are, and was told a front
+-- the pen knows the words as they are, and received a front
 abbrev pub hearing : List ℕ → List ℕ → KnownWords
 hearing versions heard = record { is_pen = true; versions = versions; heard = heard }
 
@@ -34,8 +34,8 @@ greater [] ys = ys
 greater (x ∷ xs) [] = x ∷ xs
 greater (x ∷ xs) (y ∷ ys) = max x y ∷ greater xs ys
 
--- The rule: there are so many words, the first seat alone is the pen's, who knows each word, and no front is above its
--- word, nor one that the pen was told. A front that was joined into another is empty.
+-- The rule: there are this many words, the first seat alone is the pen's, who knows each word, and no front is above its
+-- word, nor one that the pen received. A front that was joined into another is empty.
 pub record Keeps (words : ℕ) (s : State (Unit {0}) KnownWords) : Type 0 where
   pub wide : length s.words ≡ words
   pub pens : (id : ℕ) (v : KnownWords) → get_elem? s.views id ≡ some v → v.is_pen ≡ true → (id ≡ 0) × (v.versions ≡ s.words)
@@ -46,7 +46,7 @@ pub record Keeps (words : ℕ) (s : State (Unit {0}) KnownWords) : Type 0 where
 abbrev pub IsLoad : Step (Unit {0}) → Me (Unit {0}) KnownWords → ℕ → Me (Unit {0}) KnownWords → Type 0
 IsLoad s me found after = (slice_index me.0.versions s.word ≤ found) × (after ≡ (reader_with (slice_set me.0.versions s.word found), me.1))
 
--- the pen's load: the front that it was told is nowhere above the words, and it forgets that front
+-- the pen's load: the front that it received is nowhere above the words, and it forgets that front
 abbrev pub IsCompare : Step (Unit {0}) → Me (Unit {0}) KnownWords → ℕ → Me (Unit {0}) KnownWords → Type 0
 IsCompare s me found after = IsBelow me.0.heard me.0.versions × (after ≡ (pen_with me.0.versions, me.1))
 

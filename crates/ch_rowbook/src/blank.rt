@@ -10,7 +10,7 @@ use ch_cost::Cost;
 use ch_overlay::{Record, SoundRows};
 use std::alloc::{AllocError, Global};
 
-/// The words of a book, which no slot stands beside.
+/// The words of a book, without slots beside them.
 pub(crate) type Words = Table<(), KnownWords, usize, Versions, Global>;
 
 /// The records of a book, first to last.
@@ -31,7 +31,7 @@ pub struct Blank {
 }
 
 impl Blank {
-    /// A blank for so many nodes and rows within this bound.
+    /// A blank for this many nodes and rows within this bound.
     ///
     /// Takes memory for a word for each node, or one where there is none, and for the first places of the list. The
     /// list grows by every row that is laid, and never shrinks.

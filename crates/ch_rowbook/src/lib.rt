@@ -1,6 +1,6 @@
 //! Rows that are read without a lock, while one pen writes them.
 //!
-//! Stands on `ch_overlay` for rows, on `boxcar` for the list of records, which only grows, and on `atomic_table` for
+//! Builds on `ch_overlay` for rows, on `boxcar` for the list of records, which only grows, and on `atomic_table` for
 //! one word for each node, the place of its current record.
 //!
 //! - A [`Blank`] is a book that no type names yet; [`open`] returns its one [`Pen`] and a first [`Reader`], both of a type

@@ -151,7 +151,7 @@ impl<B: Book> Pen<B> {
         self.shelf.seen(self.current[node as usize].again())
     }
 
-    /// Tells a reader of the book all current versions, which become its front: what it reads next isn't older.
+    /// Gives a reader of the book all current versions, which become its front: what it reads next isn't older.
     ///
     /// Takes no memory, and doesn't wait.
     pub fn tell(&mut self, reader: &mut Reader<B>)

@@ -103,12 +103,12 @@ impl<B: Book> Shelf<B> {
         self.table.shared.load::<Compares>(seat, 0);
     }
 
-    /// Makes room for so many more records, so that laying them takes no more memory.
+    /// Makes room for this many more records, so that laying them takes no more memory.
     pub(crate) fn reserve(&self, records: usize) -> Result<(), AllocError> {
         self.list.reserve(records)
     }
 
-    /// Appends a record, whose place isn't below `next`, and answers its token.
+    /// Appends a record, whose place isn't below `next`, and returns its token.
     pub(crate) fn append<R: Wait>(
         &self,
         rt: &R,

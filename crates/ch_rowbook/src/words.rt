@@ -1,4 +1,4 @@
-//! The words of a book: the rule that they keep, and what each step on them tells.
+//! The words of a book: the rule that they keep, and what each step on them shows.
 ghost use Rattle.ch_rowbook.specs.Words.{Keeps, IsCompare, IsLoad, IsStore, greater, hearing, no_versions, pen_with, reader_with};
 
 use atomic_table::{Join, Play, Split, TableRule};
@@ -10,11 +10,11 @@ pub struct KnownWords {
     pub is_pen: bool,
     /// The pen: each node's word. A reader: its front.
     pub versions: LinkedList<u64>,
-    /// The pen: a front that it was told, until it compares it with the words.
+    /// The pen: a front that it received, until it compares it with the words.
     pub heard: LinkedList<u64>,
 }
 
-/// The rule of the words, of which there are so many.
+/// The rule of the words, of which there are this many.
 pub struct Versions;
 
 impl TableRule<(), KnownWords, usize> for Versions {
@@ -37,7 +37,7 @@ impl Play<(), KnownWords> for Stores {
     ghost then = { IsStore };
 }
 
-/// The pen's load of a word, by which it compares the front that it was told with the words.
+/// The pen's load of a word, by which it compares the front that it received with the words.
 pub struct Compares;
 
 impl Play<(), KnownWords> for Compares {
@@ -64,7 +64,7 @@ impl Join<KnownWords> for Merges {
     ghost spent = { reader_with [] };
 }
 
-/// A reader is joined into the pen, which is told its front.
+/// A reader is joined into the pen, which receives its front.
 pub struct Hears;
 
 impl Join<KnownWords> for Hears {

@@ -11,7 +11,7 @@ use Rattle.ch_witness.specs.declared.rule.Rule.{Rule}
 use Rattle.ch_witness.specs.Tree.{Labels, IsSettled, IsAtMost}
 use Rattle.ch_witness.specs.Frontier.{IsOffered, IsFollowed, IsOpened}
 
--- the first arcs were told
+-- the first arcs were offered
 pub record AreFollowedSoFar (r : Rule) (entries : List Entry) (c : Cost) (step : Option ℕ) (n : ℕ) (old new : Labels) : Type 0 where
   pub opened : (v : ℕ) (l : Label) → new v ≡ Some l → (old v ≡ Some l) ⊎ IsOpened r entries c step v l
   pub settled : (v : ℕ) → IsSettled (old v) → new v ≡ old v
@@ -83,7 +83,7 @@ offer_settled new next v c step offered u h = elim (cases_eq u v) [
       let k = known_settled (new v) settled in
       true-false k.0.settled k.2 (was k.0 k.1).0
 
--- the arc at the next place is told
+-- the arc at the next place is offered
 pub followed_offer : (r : Rule) (entries : List Entry) (c : Cost) (step : Option ℕ) (n : ℕ) (old new next : Labels) (e : Entry) → n < length entries
     → slice_index_or entries n e ≡ e → e.other ≢ r.avoid → c ⊕ e.cost ≼ r.cutoff → IsOffered new e.other (c ⊕ e.cost) step next
     → AreFollowedSoFar r entries c step n old new → AreFollowedSoFar r entries c step (n + 1) old next

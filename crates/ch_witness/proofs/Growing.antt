@@ -243,7 +243,7 @@ seen_gone IsKind r at seen old new known labels this all gone k s is = elim gone
   | inr same ↦ all k s (subst (λ (ss : List TreeNode). slice_get ss k ≡ Some s) same.1 is)
 ]
 
--- The start's row is the first that is read, so what it shows is told, and stays so.
+-- The start's row is the first that is read, so what it shows is offered, and stays so.
 pub start_seen : (r : Rule) (z : Cost) → z ≡ zero_cost → (seen : Seen) (mid steps : List TreeNode) (labels between new : Labels)
     → IsStartAlone r.from labels → IsLater [] mid labels between → IsGoneOn r
     (record { node = r.from; cost = z; before = None }) seen [] mid labels between → IsLater mid steps between new → IsStartSeen r seen steps new

@@ -1,4 +1,4 @@
--- Ways along rows that are kept are ways along them as they are handed out.
+-- Ways along rows that are kept are ways along them as they are returned.
 use Rattle.std.proofs.Common.{ℕ, ◌≡◌, List, map, get_or, slice_index, Option, Some, None, Contains, ap, sym, subst, ◌∙◌}
 use Rattle.std.specs.List.{All}
 use Rattle.std.proofs.lemmas.Option.{IfSome_then}
@@ -23,11 +23,11 @@ seen-same : (a b : Seen) → Some a ≡ Some b → a ≡ b
 seen-same a b e = cc
 
 module _ (kept : Kept) (rows listed : List Seen) (are : All (IsKept kept) rows) (listing : AreListed kept (nodes_of rows) listed) where
-  -- what is among the rows is handed out
+  -- what is among the rows is returned
   among_listed : (s : Seen) → Contains rows s → Contains listed s
   among_listed s among = listing.every s.node s (contains-map (λ (t : Seen). t.node) rows s among) (subst (IsKept kept) among.2 (are among.0 s among.1))
 
-  -- and what is handed out is among the rows
+  -- and what is returned is among the rows
   among_rows : (s : Seen) → Contains listed s → Contains rows s
   among_rows s among =
       let t = contains-mapped (λ (u : Seen). u.node) rows s.node (listing.of_nodes s among) in
@@ -35,7 +35,7 @@ module _ (kept : Kept) (rows listed : List Seen) (are : All (IsKept kept) rows) 
       let it : t.0 ≡ s = seen-same t.0 s (sym is ∙ subst (λ (n : ℕ). kept n ≡ Some s) (sym t.2) (listing.from_kept s among)) in
       subst (λ (u : Seen). Contains rows u) it t.1
 
-  -- each row that is found among the rows is found among what is handed out
+  -- each row that is found among the rows is found among what is returned
   row_still : (x : ℕ) (r : Row) → row_of rows x ≡ Some r → row_of listed x ≡ Some r
   row_still x r is =
       let s = row_among rows x r is in

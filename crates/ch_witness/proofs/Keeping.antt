@@ -1,4 +1,4 @@
--- Answers that are kept: what the source stands by, as it moves and answers more.
+-- Answers that are kept: what the source vouches for, as it moves and answers more.
 use Rattle.std.proofs.Common.{ℕ, ◌≡◌, ◌≢◌, get_or, length, Option, Some, None, true, false, refl, ap, sym, subst, ◌∙◌, arith, inl, inr}
 use Rattle.std.specs.List.{slice_get}
 use Rattle.std.specs.Option.{is_some}
@@ -47,7 +47,7 @@ more_refl kept x s is = is
 pub more_trans : (a b c : Kept) → IsMore a b → IsMore b c → IsMore a c
 more_trans a b c h k x s is = k x s (h x s is)
 
--- what stands at the place of a node is what is kept for it, if anything is
+-- what is at the place of a node is what is kept for it, if anything is
 pub stands : (r : Rows) (v k : ℕ) (o : Option Seen) → length r.kept.items ≡ length r.nodes → IsFirstAt r.nodes v k → o ≡ get_or r.kept.items k o → (slice_get r.kept.items k ≡ Some o) × (kept_of r v ≡ o)
 stands r v k o paired at is = (
   slice_get-get_or r.kept.items k o (omega (arith, paired, at.within)) ∙ ap (λ (p : Option Seen). Some p) (sym is),

@@ -10,7 +10,7 @@ use Rattle.std.proofs.lemmas.Map.Views.{Contains-from_any}
 use Rattle.ch_laws.specs.Members.{contains_cases, place_of}
 use Rattle.ch_witness.specs.Places.{ArePlacesOf}
 
--- no node stands twice
+-- no node occurs twice
 placed_once : {places nodes : List ℕ} → ArePlacesOf places nodes → AllPairs (λ x y. x ≢ y) nodes
 placed_once {places} {nodes} placed i j d before within same = omega (arith, before, at_i, at_j)
   where

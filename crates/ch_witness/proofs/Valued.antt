@@ -1,4 +1,4 @@
--- Values that stand where their nodes do.
+-- Values at the places of their nodes.
 use Rattle.std.proofs.Common.{ℕ, ◌≡◌, ◌≢◌, ◌<◌, List, [], ◌∷◌, ◌++◌, get_or, length, set, slice_index, Option, Some, None, zero, suc, true, false, Bool, cond, refl, ap, sym, subst, ◌∙◌, arith, nat_eq, get_or-set_same}
 use Rattle.std.proofs.lemmas.Bool.Decides.{nat_tests}
 use Rattle.std.specs.List.{slice_get}
@@ -27,7 +27,7 @@ module _ {X : Type 0} where
       when_false (nat_eq n v) (Some x) (value_in nodes values v) (unlike n v (absent 0 (omega arith)))
       ∙ value_absent nodes values v (λ k h. absent (suc k) (omega (arith, h)))
 
-  -- the value of a node that stands at a place
+  -- the value of a node that is at a place
   found : (nodes : List ℕ) (values : List X) (v k : ℕ) (d : X) → length values ≡ length nodes → k < length nodes → slice_index nodes k ≡ v → ((j : ℕ) → j < k → slice_index nodes j ≢ v) → value_in nodes values v ≡ Some (get_or values k d)
   found [] values v k d as_many within here first = absurd (omega (arith, within))
   found (n ∷ nodes) [] v k d as_many within here first = absurd (omega (arith, as_many))
@@ -45,7 +45,7 @@ module _ {X : Type 0} where
       value_found nodes (set values k y) v k y (length-set values k y ∙ as_many) at
       ∙ ap (λ (z : X). Some z) (get_or-set_same values k y y (omega (arith, as_many, at.within)))
 
-  -- it stands at its place
+  -- it is at its place
   pub read_written : (values : List X) (k : ℕ) (y : X) → k < length values → slice_get (set values k y) k ≡ Some y
   read_written values k y within =
       slice_get-get_or (set values k y) k y (omega (arith, within, length-set values k y))

@@ -1,10 +1,10 @@
--- The step before: its place or none, and the number of four bytes that stands for each.
+-- The step before: its place or none, and the number of four bytes that represents each.
 use Rattle.std.specs.Prelude.{ℕ, ◌≡◌, ◌-◌, ◌^◌, ◌==◌, Option, Some, None, if◌then◌else◌}
 use Rattle.std.proofs.Common.{arith, ap}
 use Rattle.std.proofs.lemmas.Bool.Decides.{nat_tests}
 use Rattle.ch_witness.specs.declared.before.Before.TheInside.{Inside}
 
--- none stands as the greatest of four bytes, and a place as its own number
+-- none is represented by the greatest of four bytes, and a place by its own number
 abbrev pub number_of : Option ℕ → ℕ
 number_of None = 2 ^ 32 - 1
 number_of (Some place) = place

@@ -19,7 +19,7 @@ abbrev pub Improves : Cost → Option Label → Type 0
 Improves c None = Unit {0}
 Improves c (Some l) = (l.settled ≡ false) × (c ≺ l.cost)
 
--- A way of cost c to v that goes on from a step was told: v is opened with it, or what is there is settled or at
+-- A way of cost c to v that goes on from a step was offered: v is opened with it, or what is there is settled or at
 -- most that cost and stays.
 pub record IsOffered (old : Labels) (v : ℕ) (c : Cost) (step : Option ℕ) (new : Labels) : Type 0 where
   pub others : (u : ℕ) → u ≢ v → new u ≡ old u
@@ -41,13 +41,13 @@ pub record IsOpened (r : Rule) (entries : List Entry) (c : Cost) (step : Option 
   pub apart : v ≢ r.avoid
   pub at_most : l.cost ≼ r.cutoff
 
--- Each of these arcs out of a step, which costs c, was told.
+-- Each of these arcs out of a step, which costs c, was offered.
 pub record AreFollowed (r : Rule) (entries : List Entry) (c : Cost) (step : Option ℕ) (old new : Labels) : Type 0 where
   pub opened : (v : ℕ) (l : Label) → new v ≡ Some l → (old v ≡ Some l) ⊎ IsOpened r entries c step v l
   pub settled : (v : ℕ) → IsSettled (old v) → new v ≡ old v
   pub kept : (v : ℕ) (d : Cost) → IsAtMost (old v) d → IsAtMost (new v) d
   pub told : (v : ℕ) (d : Cost) → Lists entries v d → v ≢ r.avoid → c ⊕ d ≼ r.cutoff → IsSettled (old v) ⊎ IsAtMost (new v) (c ⊕ d)
 
--- The arc out of a step, which costs c, was told where it is to be.
+-- The arc out of a step, which costs c, was offered where it is to be.
 abbrev pub IsFollowed : Rule → Entry → Cost → Option ℕ → Labels → Labels → Type 0
 IsFollowed r e c step old new = ((e.other ≢ r.avoid) × (c ⊕ e.cost ≼ r.cutoff) × IsOffered old e.other (c ⊕ e.cost) step new) ⊎ ((e.other ≢ r.avoid → c ⊕ e.cost ≼ r.cutoff → ⊥) × (new ≡ old))

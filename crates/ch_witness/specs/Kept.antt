@@ -14,7 +14,7 @@ use Rattle.ch_witness.specs.Places.{value_in}
 abbrev pub Kept : Type 0
 Kept = ℕ → Option Seen
 
--- the answer that stands there, if one does
+-- the answer that is there, if one is
 abbrev pub joined : Option (Option Seen) → Option Seen
 joined None = None
 joined (Some o) = o
@@ -22,7 +22,7 @@ joined (Some o) = o
 abbrev pub kept_of : Rows → Kept
 kept_of r x = joined (value_in r.nodes r.kept.items x)
 
--- the answer stands at this place
+-- the answer is at this place
 abbrev pub StandsAt : Rows → ℕ → Seen → Type 0
 StandsAt r place s = slice_get r.kept.items place ≡ Some (Some s)
 
@@ -30,7 +30,7 @@ StandsAt r place s = slice_get r.kept.items place ≡ Some (Some s)
 abbrev pub IsKept : Kept → Seen → Type 0
 IsKept kept s = kept s.node ≡ Some s
 
--- an answer for x that the source has given and stands by
+-- an answer for x that the source has given and vouches for
 pub record IsAnswer (Bears Shows : Seen → Type 0) (bound : Cost) (x : ℕ) (s : Seen) : Type 0 where
   pub node : s.node ≡ x
   pub bears : Bears s
@@ -38,14 +38,14 @@ pub record IsAnswer (Bears Shows : Seen → Type 0) (bound : Cost) (x : ℕ) (s 
   pub row : IsSeenRow bound s
   pub limit : IsBound bound
 
--- an answer for x that the source has given and stands by is kept, and stands at this place
+-- an answer for x that the source has given and vouches for is kept, and is at this place
 pub record IsReadAt (Bears Shows : Seen → Type 0) (bound : Cost) (x : ℕ) (r : Rows) (place : ℕ) : Type 0 where
   pub seen : Seen
   pub there : StandsAt r place seen
   pub kept : kept_of r x ≡ Some seen
   pub answer : IsAnswer Bears Shows bound x seen
 
--- each answer that is kept is of its node, and the source stands by it
+-- each answer that is kept is of its node, and the source vouches for it
 abbrev pub AreKept : (Seen → Type 0) → (Seen → Type 0) → Cost → Kept → Type 0
 AreKept Bears Shows bound kept = (x : ℕ) (s : Seen) → kept x ≡ Some s → IsAnswer Bears Shows bound x s
 
@@ -57,7 +57,7 @@ IsMore old new = (x : ℕ) (s : Seen) → old x ≡ Some s → new x ≡ Some s
 abbrev pub AllNamed : (ℕ → Type 0) → Kept → Type 0
 AllNamed IsKind kept = (x : ℕ) (s : Seen) → kept x ≡ Some s → NamesAlone IsKind (row_in s)
 
--- The source moved in this way; it stands by the answers that are kept now, and what was kept is kept on.
+-- The source moved in this way; it vouches for the answers that are kept now, and what was kept is kept on.
 pub record IsReadOn (Bears Shows : Seen → Type 0) (bound : Cost) (Moved : Type 0) (old new : Kept) : Type 0 where
   pub kept : AreKept Bears Shows bound new
   pub more : IsMore old new
@@ -85,7 +85,7 @@ abbrev pub HasAll : Kept → List ℕ → Type 0
 HasAll kept nodes = (x : ℕ) → Contains nodes x → (s : Seen) × (kept x ≡ Some s)
 
 -- The list has the answers that are kept for these nodes, each once, that of the first node first. Where one is kept for
--- each of them, they stand in the order of the nodes, each at its first place.
+-- each of them, they are in the order of the nodes, each at its first place.
 pub record AreListed (kept : Kept) (nodes : List ℕ) (listed : List Seen) : Type 0 where
   pub once : AllPairs (λ a b. a.node ≢ b.node) listed
   pub from_kept : (s : Seen) → Contains listed s → kept s.node ≡ Some s
@@ -100,7 +100,7 @@ all_listed_are Bears Shows IsKind bound kept nodes listed answers listing to k d
     let s = slice_index_or listed k d in
     to s.node s (answers s.node s (listing.from_kept s (Contains-get_or listed k d h)))
 
--- what stands where a node was read is the answer that is kept for it
+-- what is at the place where a node was read is the answer that is kept for it
 pub read_there : (Bears Shows : Seen → Type 0) (bound : Cost) (x : ℕ) (r : Rows) (place : ℕ) (s : Seen) → IsReadAt Bears Shows bound x r place → StandsAt r place s → IsKept (kept_of r) s × IsAnswer Bears Shows bound x s
 read_there Bears Shows bound x r place s read here =
     let it : read.seen ≡ s = same (slice_get r.kept.items place) read.seen s read.there here in

@@ -27,7 +27,7 @@ node_of s = s.seen.value.node
 abbrev pub step_row : TreeNode → Row
 step_row s = row_in s.seen.value
 
--- the answers that the steps went by
+-- the answers that the steps used
 abbrev pub seen_of : List TreeNode → List Seen
 seen_of steps = map (λ s. s.seen.value) steps
 
@@ -92,7 +92,7 @@ pub record IsStepFrom (r : Reached) (seen : Seen) (s : TreeNode) : Type 0 where
   pub before : s.before ≡ r.before
 
 -- The row of a node that was reached was read: where it has no rank, it became a step, and each of its arcs out was
--- told.
+-- offered.
 pub record IsGoneOn (r : Rule) (at : Reached) (seen : Seen) (old new : List TreeNode) (known labels : Labels) : Type 0 where
   pub node : seen.node ≡ at.node
   pub steps : (((row_in seen).rank ≡ None) × ((s : TreeNode) × IsStepFrom at seen s × (new ≡ old ++ s ∷ []))) ⊎ (((row_in seen).rank ≡ None → ⊥) × (new ≡ old))

@@ -10,7 +10,7 @@ use ch_cost::Cost;
 use ch_laws::Entry;
 use std::alloc::AllocError;
 
-/// Follows each arc out of this step, which costs this much: it tells the frontier of the ways over it that
+/// Follows each arc out of this step, which costs this much: it offers the frontier the ways over it that
 /// don't enter the avoided node and cost at most the cutoff.
 pub fn follow(
     rule: Rule,

@@ -10,7 +10,7 @@ use std::collections::BinaryHeap;
 
 /// The labels of the nodes that a search has come to, and which of them is settled next.
 ///
-/// Its memory goes by the number of these nodes and of the offers, and by the greatest of the nodes. It is kept for the
+/// Its memory grows with the number of these nodes and of the offers, and with the greatest of them. It is kept for the
 /// next search.
 #[derive(Drop)]
 pub struct Frontier {
@@ -74,7 +74,7 @@ impl Frontier {
         Some(self.labels[place])
     }
 
-    /// Tells of a way of this cost to a node, and of the step that it goes on from. It opens the node where it is better
+    /// Offers a way of this cost to a node, and the step that it goes on from. It opens the node where it is better
     /// than what is known of it.
     pub fn offer(&mut self, node: u32, cost: Cost, before: Before) -> Result<(), AllocError>
         ensures { OnOk result (IsOffered (labels_of self.old) node cost before (labels_of self.new)) }
@@ -85,7 +85,7 @@ impl Frontier {
         }
     }
 
-    /// The same for a node whose label stands at this place.
+    /// The same for a node whose label is at this place.
     fn improve(
         &mut self,
         at: usize,
@@ -157,7 +157,7 @@ const NODE_BITS: u32 = 25;
 const ARCS_BITS: u32 = 42;
 
 /// The number by which an offer is taken: by its cost, and of equal costs by the node. Its length is at most the bound's,
-/// and a way of fewer than 2^16 entries, each of which stands for fewer than 2^25 arcs, has fewer than 2^42.
+/// and a way of fewer than 2^16 entries, each of which represents fewer than 2^25 arcs, has fewer than 2^42.
 fn key(cost: Cost, node: u32) -> u128 {
     let by_cost = (u128::from(cost.length()) << ARCS_BITS) | u128::from(cost.arcs());
     (by_cost << NODE_BITS) | u128::from(node)

@@ -1,6 +1,6 @@
 //! Searches for witnesses: ways that avoid a node, along the rows that a source answers.
 //!
-//! Stands on `ch_overlay`, of which it uses what a [`ch_overlay::RowSource`] promises, on `ch_laws` for the words of
+//! Builds on `ch_overlay`, of which it uses what a [`ch_overlay::RowSource`] promises, on `ch_laws` for the words of
 //! rows and ways, and on `smallvec` for the nodes of a way.
 //!
 //! - [`search`] makes one search and returns a [`Found`]: the ways, and the source's own answers that they rest on.

@@ -6,7 +6,7 @@ use std::marker::Model;
 
 /// Different nodes in the order in which they came, and the place of each.
 ///
-/// A list by node number tells the place of each. What it tells counts only where that node does stand there, so that
+/// A list by node number has the place of each. An entry counts only where that node is at that place, so that
 /// all nodes are forgotten at once (Briggs and Torczon 1993). It takes 4 bytes for each number up to the greatest of a
 /// node so far.
 #[derive(Drop)]
@@ -57,7 +57,7 @@ impl NodeIndex {
         Some(place)
     }
 
-    /// Puts in a node that isn't there, behind the others. Refused for want of memory; the nodes are then as they
+    /// Puts in a node that isn't there, behind the others. Fails where memory runs out; the nodes are then as they
     /// were.
     pub fn push(&mut self, node: u32) -> Result<(), AllocError>
         requires absent { (k : ℕ) → k < length self.old → slice_index self.old k ≢ node }
@@ -72,7 +72,7 @@ impl NodeIndex {
     }
 }
 
-/// Sees to it that a place can be told of the node. Refused for want of memory.
+/// Makes sure that the node has an entry for its place. Fails where memory runs out.
 fn make_room(places: &mut Vec<u32>, nodes: &[u32], node: u32) -> Result<(), AllocError>
     requires placed { ArePlacesOf places.old.items nodes.now }
     requires few { length places.old.items ≤ 2 ^ 32 }
@@ -87,7 +87,7 @@ fn make_room(places: &mut Vec<u32>, nodes: &[u32], node: u32) -> Result<(), Allo
     places.resize(at + 1, 0)
 }
 
-/// The place behind these nodes, where another one is to stand: each has a number of its own, so they are fewer than
+/// The place behind these nodes, where another one is to go: each has a number of its own, so they are fewer than
 /// there are numbers.
 fn next_place(places: &[u32], nodes: &[u32], node: u32) -> u32
     requires placed { ArePlacesOf places.now nodes.now }

@@ -6,12 +6,12 @@ use std::alloc::{AllocError, Global};
 
 /// The answers of a source that were read, each node asked for once.
 ///
-/// Its memory goes by the number of these nodes and by the greatest of them, and is kept for others.
+/// Its memory grows with the number of these nodes and with the greatest of them, and is kept for others.
 #[derive(Drop)]
 pub struct Rows {
     /// The nodes that were read.
     pub nodes: NodeIndex,
-    /// The answer for each of them, in their order, or none where it was handed out.
+    /// The answer for each of them, in their order, or none where it was moved out.
     pub kept: Vec<Option<Seen>>,
     ghost paired: { length kept.items ≡ length nodes },
 }
@@ -61,7 +61,7 @@ impl Rows {
         Ok(self.put(node, found, seen)?)
     }
 
-    /// The answer that stands at a place.
+    /// The answer at a place.
     pub fn at(&self, place: usize) -> &Seen
         requires there { (seen : Seen) × StandsAt self.now place seen }
         ensures { StandsAt self.now place result.now }
@@ -125,8 +125,8 @@ impl Rows {
         None
     }
 
-    /// Keeps the answer for a node that was looked for and for which none is kept, and gives its place. Refused for want
-    /// of memory; what is kept is then what it was.
+    /// Keeps the answer for a node that was looked for and for which none is kept, and returns its place. Fails where
+    /// memory runs out; what is kept is then what it was.
     fn put(&mut self, node: u32, found: Option<usize>, seen: Seen) -> Result<usize, AllocError>
         requires found { IfSome found (IsFirstAt self.old.nodes node) }
         requires absent { IfNone found ((k : ℕ) → k < length self.old.nodes → slice_index self.old.nodes k ≢ node) }

@@ -7,7 +7,7 @@ use std::snapshot::Snapshot;
 
 /// A node that a search went on from: the step before it, and what the way to it costs. It takes 24 bytes.
 ///
-/// Its row stands among those that the search kept. The snapshot says which one it is, and takes no memory.
+/// Its row is among those that the search kept. The snapshot says which one it is, and takes no memory.
 #[derive(Drop)]
 pub struct TreeNode {
     pub node: u32,

@@ -29,7 +29,7 @@ pub struct Tree {
 const STEPS: usize = 32;
 
 impl Tree {
-    /// The tree of a whole search, which settles at most so many nodes. An earlier one is forgotten, and its memory used.
+    /// The tree of a whole search, which settles at most this many nodes. Forgets an earlier one, and uses its memory.
     pub fn new<S: RowSource>(
         earlier: Tree,
         source: &mut S,
@@ -67,7 +67,7 @@ impl Tree {
         Ok(tree)
     }
 
-    /// Goes on with the search: settles node after node and goes on from each, until so many turns are over, no node
+    /// Goes on with the search: settles node after node and goes on from each, until this many turns are over, no node
     /// is open, or every target is done, and the row of the node that was settled last isn't read.
     pub fn grow<S: RowSource>(
         &mut self,
@@ -102,8 +102,8 @@ impl Tree {
         Ok(())
     }
 
-    /// How many targets at the beginning of the list are done, where it is known of so many, and nodes of this cost
-    /// are settled now.
+    /// How many targets at the beginning of the list are done, where it is known of the first `known`, and nodes of
+    /// this cost are settled now.
     fn done_targets(&self, targets: &[u32], aims: &[Aim], known: usize, cost: Cost) -> usize {
         let mut done = known;
         'targets: while done < targets.len() {

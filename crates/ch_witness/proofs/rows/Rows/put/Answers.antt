@@ -4,7 +4,7 @@ use Rattle.ch_witness.specs.Places.{IsFirstAt}
 use Rattle.ch_witness.proofs.Valued.{read_written, value_elsewhere, value_written}
 use Rattle.ch_witness.proofs.rows.Rows.put.Goals as goal
 
--- the node stands at the place that was found
+-- the node is at the place that was found
 at_place : (nodes : List ℕ) (node place : ℕ) (found : Option ℕ) → found ≡ Some place → IfSome found (IsFirstAt nodes node) → IsFirstAt nodes node place
 at_place nodes node place found is at = subst (λ (o : Option ℕ). IfSome o (IsFirstAt nodes node)) is at
 

@@ -31,7 +31,7 @@ follow-requires-clause-entries g c =
     let out : c.deref-3.result.now ≡ (row_in c.at-seen.result.now).out = c.deref-3.ensures.value ∙ ap (λ (r : Row). r.out) (c.behind-seen-2.view_is ∙ c.deref-2.ensures) in
     subst (λ (es : List Entry). (k : ℕ) (d : Entry) → k < length es → IsInLimit (slice_index_or es k d).cost) (sym out) (entries_fit _ c.at-seen.result.now answer.limit answer.row)
 
--- the answer that was read is kept, and the source stands by it
+-- the answer that was read is kept, and the source vouches for it
 there : (g : given.Over) (c : goal.In_ok-push g) → IsKept (kept_of c.read.new.self) c.at-seen.result.now × IsAnswer g.S.RowSource.bears (g.S.RowSource.shows c.read.new.source) (g.S.RowSource.bound_of c.args.source.now) c.args.reached.node c.at-seen.result.now
 there g c = read_there g.S.RowSource.bears (g.S.RowSource.shows c.read.new.source) (g.S.RowSource.bound_of c.args.source.now) c.args.reached.node c.read.new.self c.in_ok-kept_at.kept_at c.at-seen.result.now c.in_ok-kept_at.ensures.here c.at-seen.ensures
 
