@@ -1,4 +1,4 @@
--- What a chain has, and what it has when one more arc stands before it.
+-- What a chain has, and what it has when one more arc comes before it.
 use Rattle.std.proofs.Common.{ℕ, zero, suc, ◌≡◌, ◌≢◌, ◌+◌, ◌-◌, ◌<◌, ◌≤◌, true, false, List, [], ◌∷◌, ◌++◌, All, length, map, get_or, cond, nat_lt, replicate, slice_index, slice_index_or, slice_set, arith, length-append, ap, sym, subst, refl, ◌∙◌, inl, inr}
 use Rattle.std.specs.List.{take_while}
 use Rattle.std.proofs.lemmas.Bool.{cases_lt}

@@ -1,4 +1,4 @@
--- Which rows of a proposal are current, and the answers that this gives.
+-- Which rows of a proposal are current, and the results that follow from this.
 use Rattle.std.proofs.Common.{ℕ, ◌≡◌, ◌≢◌, ◌<◌, ◌↔◌, Bool, true, false, List, [], ◌∷◌, ◌++◌, Option, Some, None, Result, Ok, Err, is_some, is_none, IsTrue, length, Contains, get_or, drop, ap, sym, subst, refl, ◌∙◌, inl, inr}
 use Rattle.std.proofs.lemmas.Bool.{cases_Bool, false≢true}
 use Rattle.std.proofs.lemmas.List.Elements.{All-contains, All-head, All-tail, Contains-append_right}
@@ -58,7 +58,7 @@ module _ (l : Ledger) where
     pub current-not_stale : (node seen now front : ℕ) → NoneIsOld l p.rests_on → IsStale l p node seen now front → ⊥
     current-not_stale node seen now front current stale = none_first p.rests_on node seen now current stale.first
 
-  -- what is refused is told apart
+  -- what is refused is distinguished
   module _ (A : Type 0) (p : Proposal) where
     abbrev refused_by : CommitError → Result A CommitError
     refused_by e = Err e
@@ -100,7 +100,7 @@ module _ (l : Ledger) where
     stale_told commits.OutOfMemory is node seen now front = absurd is
     stale_told commits.Slot is node seen now front = absurd is
 
--- what was done wasn't refused, and another call answers the same refusal
+-- what was done wasn't refused, and another call returns the same refusal
 module _ (A : Type 0) where
   abbrev pub done_by : A → Result A CommitError
   done_by a = Ok a

@@ -15,7 +15,7 @@ pub on_ok_too : {T E P Q : Type 0} (r : Result T E) → (P → Q) → OnOk r P �
 on_ok_too (Ok x) to p = to p
 on_ok_too (Err e) to p = tt
 
--- where memory was refused
+-- where memory ran out
 pub finds_short : {T : Type 0} (IsKind : ℕ → Type 0) (kept : Kept) (r : Result T SearchError) (e : SearchError) → r ≡ Err e → e ≡ OutOfMemory → FindsRows Unseen IsKind kept r
 finds_short IsKind kept r e is memory = finds_unless Unseen IsKind kept r e is (λ unseen. apart e memory unseen) where
   apart : (e : SearchError) → e ≡ OutOfMemory → e ≡ Unseen → ⊥

@@ -25,7 +25,7 @@ use Rattle.ch_contract.proofs.Pairing.{last_is_past}
 none-in : (x : Shortcut) (xs : List Shortcut) → xs ≡ [] → Contains xs x → ⊥
 none-in x xs e among = let h = subst (λ (ys : List Shortcut). Contains ys x) e among in omega (arith, h.1)
 
--- what a neighbour names goes by the shortcuts from it alone
+-- what a neighbour names depends on the shortcuts from it alone
 named_by : (bound : Cost) (seen : ℕ → Option Row) (v : ℕ) (row : Row) (a b : List Shortcut) (u : Entry) (named : List ℕ) → ((w : ℕ) → NoShortcut a u.other w ↔ NoShortcut b u.other w) → IsNamedBy bound seen v row a u named → IsNamedBy bound seen v row b u named
 named_by bound seen v row a b u named same by = elim by [
   | inr none ↦ inr none

@@ -1,4 +1,4 @@
--- A ledger whose rows stand in a book.
+-- A ledger whose rows are in a book.
 use Rattle.std.proofs.Common.{ℕ, ◌≡◌, ◌+◌, ◌<◌, ◌≤◌, List, [], ◌∷◌, All, AllPairs, length, map, get_or, arith, ap, sym, subst, refl, ◌∙◌, inl, inr}
 use Rattle.std.specs.List.{zip}
 use Rattle.std.specs.Prelude.{slice_index}
@@ -47,12 +47,12 @@ showable_above current next vs is k d h j e g =
     let above : is.low ≤ get_or vs j e = rising_from is.low vs next is.rising j e g in
     omega (arith, below, above)
 
--- pairs of what two functions answer
+-- pairs of what two functions return
 pub zip_map : {A : Type 0} (f g : A → ℕ) (xs : List A) → map (λ x. (f x, g x)) xs ≡ zip (map f xs) (map g xs)
 zip_map f g [] = refl
 zip_map f g (x ∷ xs) = ap (λ (l : List (ℕ × ℕ)). (f x, g x) ∷ l) (zip_map f g xs)
 
--- what holds of all that a function answers
+-- what holds of all that a function returns
 pub from_map : {X Y : Type 0} (P : Y → Type 0) (f : X → Y) (xs : List X) (ys : List Y) → map f xs ≡ ys → All P ys → All (λ x. P (f x)) xs
 from_map P f xs ys is all k d h =
     subst P (get_or-map f xs k d (f d) h) (subst (λ (l : List _). All P l) (sym is) all k (f d) (subst (λ n. k < n) (sym (length-map xs f)) h))

@@ -120,7 +120,7 @@ apart-permutation xs ys moved apart = pairs-from_distinct ys (IsDistinct-IsPermu
 
 -- The arcs of a state that is over
 
--- of two nodes in an order without repeats the one of the earlier place stands before the other
+-- of two nodes in an order without repeats the one of the earlier place comes before the other
 before_by_place : (order : List ℕ) (x y p q : ℕ) → AllPairs (λ x y. x ≢ y) order → p < q → q < length order → get_or order p 0 ≡ x → get_or order q 0 ≡ y → Before order x y
 before_by_place order x y p q once less inside here there = record {
   place = p;

@@ -34,7 +34,7 @@ gone-from_some {s} {x} {r} row some = by_rank r.rank refl
     by_rank (Some k) is = let at = (row.rank k).0 is in contains_place s.order k 0 x at.0 at.1
 
 module _ (o : Overlay) (is : IsOverlay o) (x : ℕ) (in_range : x < length o.rows) where
-  -- so the rows tell which nodes aren't contracted
+  -- so the rows show which nodes aren't contracted
   pub alive-from_none : is_none (row_at o.rows x).rank ≡ true → IsAlive (state_of o) x
   alive-from_none none = record { in_range = in_range; waits = waits-from_none (is.rows x in_range) none }
 

@@ -15,7 +15,7 @@ use Rattle.ch_contract.specs.Finish.{link_out, link_in}
 abbrev pub chained_at : List Chained → ℕ → Chained
 chained_at arcs place = slice_index_or arcs place (record { arc = record { other = 0; middle = None; cost = zero_cost }; next = 0 })
 
--- of the chain whose first arc has this number so many arcs at most
+-- this many arcs at most of the chain whose first arc has this number
 abbrev pub chain_within : ℕ → List Chained → ℕ → List Entry
 chain_within zero arcs number = []
 chain_within (suc most) arcs zero = []
@@ -25,11 +25,11 @@ chain_within (suc most) arcs (suc place) = (chained_at arcs place).arc ∷ chain
 abbrev pub chain : List Chained → ℕ → List Entry
 chain arcs number = chain_within number arcs number
 
--- each arc is followed by one that stands before it in the list
+-- each arc is followed by one that comes before it in the list
 abbrev pub Fall : List Chained → Type 0
 Fall arcs = (place : ℕ) → place < length arcs → (chained_at arcs place).next ≤ place
 
--- and each chain begins at one that stands there
+-- and each chain begins at one that is there
 pub record ChainsFall (firsts : List ℕ) (arcs : List Chained) : Type 0 where
   pub begin : All (λ number. number ≤ length arcs) firsts
   pub fall : Fall arcs
@@ -42,7 +42,7 @@ abbrev pub dropped_while : {X : Type 0} → (X → Bool) → List X → List X
 dropped_while p [] = []
 dropped_while p (x ∷ xs) = cond (p x) (dropped_while p xs) (x ∷ xs)
 
--- Two lists of entries as one: those of the second that come before an entry of the first stand before it.
+-- Two lists of entries as one: those of the second that precede an entry of the first come before it.
 abbrev pub merged_by_other : List Entry → List Entry → List Entry
 merged_by_other [] fs = fs
 merged_by_other (e ∷ es) fs = take_while (comes_before e.other) fs ++ e ∷ merged_by_other es (dropped_while (comes_before e.other) fs)
@@ -51,11 +51,11 @@ merged_by_other (e ∷ es) fs = take_while (comes_before e.other) fs ++ e ∷ me
 abbrev pub chain_links : List (List Entry) → List Link
 chain_links chains = flat_map (λ x. map (link_out x) (slice_index_or chains x [])) (range_with_len 0 (length chains))
 
--- the links that the rows of so many nodes from a node on have into their nodes
+-- the links that the rows of this many nodes from a node on have into their nodes
 abbrev pub links_in : List Row → ℕ → ℕ → List Link
 links_in rows first count = flat_map (λ x. map (link_in x) (row_at rows x).inn) (range_with_len first count)
 
--- The chains of so many nodes are these links, by the nodes that they leave; those of a chain come to nodes in rising
+-- The chains of this many nodes are these links, by the nodes that they leave; those of a chain come to nodes in rising
 -- order, and to none below `least`.
 pub record AreChainsOf (nodes : ℕ) (links : List Link) (least : ℕ) (chains : List (List Entry)) : Type 0 where
   pub count : length chains ≡ nodes

@@ -39,7 +39,7 @@ pub record IsUpToDate (l : Ledger) (p : Proposal) : Type 0 where
   pub waits : IsContractedYet l p → ⊥
   pub current : NoneIsOld l p.rests_on
 
--- the node isn't contracted, and a row is old, the first of them this node's; so many contractions were made so far
+-- the node isn't contracted, and a row is old, the first of them this node's; this many contractions were made so far
 pub record IsStale (l : Ledger) (p : Proposal) (node seen now front : ℕ) : Type 0 where
   pub waits : IsContractedYet l p → ⊥
   pub first : IsFirstOld l p.rests_on node seen now

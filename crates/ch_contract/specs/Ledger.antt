@@ -42,7 +42,7 @@ pub record IsLedger (l : Ledger) : Type 0 where
   pub bound : l.overlay.bound ≡ bound_of l.graph
   pub reached : IsReached l.graph l.log (state_of l.overlay)
 
--- the entry of rank k stands at k, and its neighbours rise
+-- the entry of rank k is at k, and its neighbours rise
 pub record IsLog (log : List Contraction) : Type 0 where
   pub few : length log ≤ 2 ^ 25
   pub ranks : (k : ℕ) (e : Contraction) → slice_get log k ≡ Some e → e.rank ≡ k
@@ -61,11 +61,11 @@ pub record Contracts (old : Ledger) (e : Contraction) (new : Ledger) : Type 0 wh
   pub log : new.log ≡ old.log ++ e ∷ []
   pub step : Step (bound_of old.graph) (state_of old.overlay) e (state_of new.overlay)
 
--- what is handed out for an entry
+-- the receipt for an entry
 abbrev pub receipt_of : Contraction → Receipt
 receipt_of e = record { node = e.node; rank = e.rank }
 
--- The ledger contracted this node, put these shortcuts in, and handed this receipt out. The rows of the node and of its
+-- The ledger contracted this node, put these shortcuts in, and returned this receipt. The rows of the node and of its
 -- neighbours have versions above all earlier ones now, and each other row has its own.
 pub record IsContracted (old : Ledger) (node : ℕ) (put : List Shortcut) (receipt : Receipt) (new : Ledger) : Type 0 where
   pub entry : Contraction

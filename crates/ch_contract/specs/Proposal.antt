@@ -90,7 +90,7 @@ pub record AreFactsOf (p : Proposal) (f : Facts) : Type 0 where
   pub outs : f.outs ≡ length row.out
   pub shortcuts : f.shortcuts ≡ length p.shortcuts
 
--- Where memory sufficed and no row was missing, a row of the node was read, and the answer is that the node is contracted
+-- Where memory sufficed and no row was missing, a row of the node was read, and the result is that the node is contracted
 -- exactly where that row has a rank.
 pub record IsToldByRank (Bears Shows : Seen → Type 0) (node : ℕ) (result : Result Proposal ProposeError) : Type 0 where
   pub row : Seen
@@ -115,7 +115,7 @@ pub record IsReadUnranked (Bears Shows : Seen → Type 0) (node : ℕ) : Type 0 
 abbrev pub MissesRow : (Seen → Type 0) → (Seen → Type 0) → Type 0 → ℕ → Result Proposal ProposeError → Type 0
 MissesRow Bears Shows Same node result = result ≡ Err Unseen → Same ⊎ IsReadUnranked Bears Shows node
 
--- What is answered where a node is to be proposed under a bound, by a source that moved in this way, or is the same: a
+-- What is returned where a node is to be proposed under a bound, by a source that moved in this way, or is the same: a
 -- proposal by answers that the source bears and shows; `Contracted` exactly where the node's row has a rank, and before
 -- another row is asked for; and `Unseen` nowhere where the source is whole around the node.
 pub record IsProposedBy (Bears Shows : Seen → Type 0) (limit : Cost) (Moved Same IsWhole : Type 0) (v : ℕ) (result : Result Proposal ProposeError) : Type 0 where

@@ -7,7 +7,7 @@ use Rattle.ch_overlay.specs.Overlay.{state_of}
 use Rattle.ch_contract.specs.declared.contraction.Receipt.{Receipt}
 use Rattle.ch_contract.specs.Ledger.{Ledger, IsContracted, receipt_of, alive_nodes}
 
--- These nodes were contracted, one after the other: their entries stand behind the old ones in the log, and tell the
+-- These nodes were contracted, one after the other: their entries follow the old ones in the log, and record the
 -- lawful contractions that lead from the old rows to the new ones.
 pub record AreContracted (old : Ledger) (nodes : List ℕ) (entries : List Contraction) (new : Ledger) : Type 0 where
   pub graph : new.graph ≡ old.graph
@@ -15,7 +15,7 @@ pub record AreContracted (old : Ledger) (nodes : List ℕ) (entries : List Contr
   pub of_nodes : map (λ e. e.node) entries ≡ nodes
   pub run : Run (bound_of old.graph) (state_of old.overlay) entries (state_of new.overlay)
 
--- each node that wasn't contracted was, by rising number, and its receipt was handed out
+-- each node that wasn't contracted was, by rising number, and its receipt was returned
 pub record IsSwept (old : Ledger) (receipts : List Receipt) (new : Ledger) : Type 0 where
   pub entries : List Contraction
   pub contracted : AreContracted old (alive_nodes old) entries new

@@ -33,7 +33,7 @@ use std::sync::Wait;
 
 /// A graph whose nodes are contracted by proposals, and the log of their contractions.
 ///
-/// The type names the graph, and the book in which the rows stand for readers. Whatever happens to a board, its rows are
+/// The type names the graph, and the book that holds the rows for readers. Whatever happens to a board, its rows are
 /// those that its log leads to from that graph by lawful contractions, and they are the current rows of the book.
 #[derive(Drop)]
 pub struct Board<S: Site> {
@@ -53,7 +53,7 @@ impl<S: Site> Model for Board<S> {
 }
 
 impl<S: Site> Board<S> {
-    /// A board of this graph, with no node contracted, whose rows stand in the book that the blank is opened as; and a
+    /// A board of this graph, with no node contracted, whose rows are in the book that the blank is opened as; and a
     /// reader of that book.
     ///
     /// Takes memory for the rows, an entry for each end of an arc, for a record a row, and for the log of all
@@ -80,10 +80,10 @@ impl<S: Site> Board<S> {
         }
     }
 
-    /// The board of a ledger, whose rows stand in the book that the blank is opened as; and a reader of that book.
+    /// The board of a ledger, whose rows are in the book that the blank is opened as; and a reader of that book.
     ///
     /// The rows get versions anew, and nothing else of the ledger changes. So a ledger that is taken out of a board goes
-    /// on with a new book, which keeps no earlier version of a row. On a refusal it is handed back as it was, and the
+    /// on with a new book, which keeps no earlier version of a row. On a refusal it is returned as it was, and the
     /// blank is dropped. Takes memory for a record a row, and waits while another thread makes room for records.
     pub fn of_ledger<R: Wait>(
         rt: &R,
@@ -137,7 +137,7 @@ impl<S: Site> Board<S> {
         self.ledger.overlay()
     }
 
-    /// What was done so far, first to last: the entry of rank k stands at k.
+    /// What was done so far, first to last: the entry of rank k is at k.
     pub fn log(&self) -> &[Contraction]
         ensures entries { result.now ≡ self.now.log }
         ensures log { IsLog self.now.log }
@@ -155,10 +155,10 @@ impl<S: Site> Board<S> {
         self.ledger.holds()
     }
 
-    /// Contracts the node of a proposal, whose rows are still the board's, and answers a receipt.
+    /// Contracts the node of a proposal, whose rows are still the board's, and returns a receipt.
     ///
     /// The proposal was made by the board itself or by a reader of its book. Refused, in this order, where the node is
-    /// contracted already, where a row that the proposal rests on has another version now, for want of memory, and where
+    /// contracted already, where a row that the proposal rests on has another version now, where memory runs out, and where
     /// the book gives a place that isn't above the earlier ones (`Slot`): all memory, for the new rows, for lists and for
     /// the records, is taken before the first row has its place. The board is then as it was. No row is compared: an
     /// answer of the book whose version is current has the current row.
@@ -177,7 +177,7 @@ impl<S: Site> Board<S> {
         self.accept(rt, &proposal)
     }
 
-    /// Commits a proposal, as [`Board::commit`] does, and tells a reader of the board's book the versions as they are
+    /// Commits a proposal, as [`Board::commit`] does, and gives a reader of the board's book the versions as they are
     /// then, so that it reads no older row from there on. On a refusal the reader is as it was, too. The proposal is left to
     /// the caller, who may drop it where no lock is held.
     pub fn commit_and_see<R: Wait>(
@@ -267,10 +267,10 @@ impl<S: Site> Board<S> {
     }
 
     /// Contracts each node that isn't contracted, by rising number, by proposals whose searches settle at most
-    /// `settle` nodes (1 to 65,536), and answers their receipts.
+    /// `settle` nodes (1 to 65,536), and returns their receipts.
     ///
     /// The more nodes a search settles, the fewer shortcuts are put in, and the longer the sweep takes. After a refusal
-    /// the contractions that were made stand in the log. Takes memory for the receipts, for the searches, and for the
+    /// the contractions that were made are in the log. Takes memory for the receipts, for the searches, and for the
     /// rows that change, and waits as [`Board::commit`] does.
     pub fn sweep<R: Wait>(&mut self, rt: &R, settle: u32) -> Result<Vec<Receipt>, SweepError>
         requires low { 0 < settle }
@@ -292,7 +292,7 @@ impl<S: Site> Board<S> {
     /// The hierarchy that the contractions lead to: the rank of a node is the number of nodes that were contracted
     /// before it, and the links are the arcs that the rows have, by their ends. It is right for the graph.
     ///
-    /// Refused while a node isn't contracted, which is tested first, or for want of memory; the board is handed back as
+    /// Refused while a node isn't contracted, which is tested first, or where memory runs out; the board is returned as
     /// it was. Takes memory for the ranks and the links, and for chains of the links while it works.
     pub fn into_hierarchy(self) -> Result<Hierarchy, (Board<S>, FinishError)>
         ensures made { IfOk result (λ h. IsMade self.graph (state_of self.overlay) h) }

@@ -10,7 +10,7 @@ use std::marker::Model;
 
 /// For each node a chain of arcs out of it, of which the one that was put in last comes first.
 ///
-/// The arcs of all chains stand in one list, and each has the number of the one behind it. It takes 32 bytes an arc and
+/// The arcs of all chains are in one list, and each has the number of the one behind it. It takes 32 bytes an arc and
 /// 8 a node.
 #[derive(Drop)]
 pub(crate) struct Chains {
@@ -39,7 +39,7 @@ impl Model for Chains {
 }
 
 impl Chains {
-    /// Empty chains for so many nodes, with room for so many arcs.
+    /// Empty chains for this many nodes, with room for this many arcs.
     pub(crate) fn new(alloc: Global, nodes: u32, room: usize) -> Result<Chains, AllocError>
         ensures { IfOk result (λ chains. chains ≡ replicate nodes []) }
     {
@@ -82,7 +82,7 @@ impl Chains {
 }
 
 /// Puts the first links of a node's chain behind other links, up to the first one that comes to a node that isn't below
-/// `end`, and tells where that one stands.
+/// `end`, and returns where that one is.
 fn push_before(
     links: &mut Vec<Link>,
     node: u32,

@@ -183,7 +183,7 @@ pub fn leads_on(entries: &[Entry], node: u32) -> bool
     entries.iter().any(|entry| node != entry.other)
 }
 
-/// The pairs from one neighbour to the others that aren't heavy, and what a search for their ways is told. They take the
+/// The pairs from one neighbour to the others that aren't heavy, and what a search for their ways is given. They take the
 /// place of what was there.
 fn find_pairs(
     task: Task,

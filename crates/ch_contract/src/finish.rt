@@ -17,7 +17,7 @@ use ch_overlay::Overlay;
 pub struct Finished {
     /// The hierarchy that the contractions lead to. It has no index: [`Hierarchy::into_indexed`] gives it one.
     pub hierarchy: Hierarchy,
-    /// What was done, first to last: the entry of rank k stands at k.
+    /// What was done, first to last: the entry of rank k is at k.
     pub log: Vec<Contraction>,
     /// The rows, which the hierarchy was made of and needs no longer.
     pub rows: Overlay,
@@ -25,8 +25,8 @@ pub struct Finished {
 
 /// The hierarchy that the contractions of a ledger lead to, with an index and the places of the halves of links.
 ///
-/// Refused while a node isn't contracted, which is tested first, or for want of memory. Takes memory for the ranks, for the
-/// links, and for where links and their halves are.
+/// Refused while a node isn't contracted, which is tested first, or where memory runs out. Takes memory for the ranks,
+/// for the links, and for where links and their halves are.
 pub fn hierarchy_of(ledger: &Ledger) -> Result<Hierarchy, FinishError>
     ensures made { IfOk result (λ h. IsMade ledger.now.graph (state_of ledger.now.overlay) h) }
     ensures right { IfOk result (λ h. IsRight ledger.now.graph h) }
@@ -44,8 +44,8 @@ pub fn hierarchy_of(ledger: &Ledger) -> Result<Hierarchy, FinishError>
 
 /// The hierarchy that the contractions of a ledger lead to, with no index.
 ///
-/// Refused while a node isn't contracted, which is tested first, or for want of memory. Takes memory for the ranks and
-/// the links, and for chains of the links while it works.
+/// Refused while a node isn't contracted, which is tested first, or where memory runs out. Takes memory for the ranks
+/// and the links, and for chains of the links while it works.
 pub fn plain_hierarchy_of(ledger: &Ledger) -> Result<Hierarchy, FinishError>
     ensures made { IfOk result (λ h. IsMade ledger.now.graph (state_of ledger.now.overlay) h) }
     ensures right { IfOk result (λ h. IsRight ledger.now.graph h) }

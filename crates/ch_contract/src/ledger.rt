@@ -106,7 +106,7 @@ impl Ledger {
         &self.overlay
     }
 
-    /// What was done so far, first to last: the entry of rank k stands at k.
+    /// What was done so far, first to last: the entry of rank k is at k.
     pub fn log(&self) -> &[Contraction]
         ensures entries { result.now ≡ self.now.log }
         ensures log { IsLog self.now.log }
@@ -135,7 +135,7 @@ impl Ledger {
     /// were contracted before it, and the links are the arcs that the rows have, by their ends. It is right for the
     /// graph, and has no index yet, so that the rows can be dropped before or beside the making of one.
     ///
-    /// Refused while a node isn't contracted, which is tested first, or for want of memory; the ledger is handed back as
+    /// Refused while a node isn't contracted, which is tested first, or where memory runs out; the ledger is returned as
     /// it was. Takes memory for the ranks and the links, and for chains of the links while it works.
     pub fn finish(self) -> Result<Finished, (Ledger, FinishError)>
         ensures made { IfOk result (λ f. IsMade self.graph (state_of self.overlay) f.hierarchy) }
@@ -191,7 +191,7 @@ impl Ledger {
     }
 
     /// Contracts the node of what was planned: the new rows become current, with these versions, one for each in the
-    /// order of [`Planned::rows`], rising, and above all that were given so far; and the entry stands at the end of the
+    /// order of [`Planned::rows`], rising, and above all that were given so far; and the entry is at the end of the
     /// log. Takes no memory.
     pub fn enter(&mut self, planned: Planned, versions: &[u64]) -> Receipt
         requires planned { WasPlanned self.old planned }
@@ -213,7 +213,7 @@ impl Ledger {
     }
 }
 
-/// So many versions, from this one on. New rows may get them where all earlier ones are below.
+/// This many versions, from this one on. New rows may get them where all earlier ones are below.
 pub fn versions_from(alloc: Global, first: u64, count: usize) -> Result<Vec<u64>, AllocError>
     requires { first + count < 2 ^ 64 }
     ensures items { IfOk result (λ versions. versions.items ≡ range_with_len first count) }

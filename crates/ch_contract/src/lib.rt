@@ -1,6 +1,6 @@
 //! Contraction of the nodes of a graph, one by one, into a hierarchy.
 //!
-//! Stands on `ch_overlay`, whose rows it changes, on the book of `ch_rowbook`, on the searches of `ch_witness`, and on the
+//! Builds on `ch_overlay`, whose rows it changes, on the book of `ch_rowbook`, on the searches of `ch_witness`, and on the
 //! laws of `ch_laws`. Its main types:
 //!
 //! - [`Proposal`], a contraction that was worked out by rows.

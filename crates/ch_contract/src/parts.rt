@@ -26,9 +26,9 @@ pub fn ranks_of(alloc: Global, overlay: &Overlay) -> Result<Vec<u32>, AllocError
     Ok(ranks)
 }
 
-/// The links that all rows of an overlay tell of, by their ends.
+/// The links that all rows of an overlay describe, by their ends.
 ///
-/// What rows tell of arcs into their nodes is put in chains, by the nodes that the arcs leave. Each chain rises, and is merged
+/// What rows hold of arcs into their nodes is put in chains, by the nodes that the arcs leave. Each chain rises, and is merged
 /// with the row of its node, so that nothing is sorted: it takes time by the number of nodes and links. Takes memory for the
 /// links once, as many as there are, and while it works 32 bytes for each of those arcs and 8 for each node.
 pub fn links_of(alloc: Global, overlay: &Overlay) -> Result<Vec<Link>, AllocError>
@@ -44,7 +44,7 @@ pub fn links_of(alloc: Global, overlay: &Overlay) -> Result<Vec<Link>, AllocErro
     )
 }
 
-/// The links of all rows, each row merged with the chain of its node, with room for so many.
+/// The links of all rows, each row merged with the chain of its node, with room for this many.
 fn merge_rows(
     alloc: Global,
     overlay: &Overlay,
@@ -61,8 +61,8 @@ fn merge_rows(
     Ok(links)
 }
 
-/// The arcs into the nodes of all rows in chains by the nodes that they leave, with room for so many. The nodes are taken from
-/// the last to the first, so that each chain rises.
+/// The arcs into the nodes of all rows in chains by the nodes that they leave, with room for this many. The nodes are
+/// taken from the last to the first, so that each chain rises.
 fn chain_rows(alloc: Global, overlay: &Overlay, room: usize) -> Result<Chains, AllocError>
     ensures { IfOk result (AreChainsOfRows overlay.now.rows) }
 {
@@ -92,7 +92,7 @@ fn chain_row(chains: &mut Chains, node: u32, inn: &[Entry]) -> Result<(), AllocE
     Ok(())
 }
 
-/// How many entries for arcs out of their nodes the rows have. Only the memory that is taken goes by it.
+/// How many entries for arcs out of their nodes the rows have. Only the memory that is taken depends on it.
 fn count_out(overlay: &Overlay) -> usize {
     let mut count = 0usize;
     for row in overlay.rows() {
@@ -101,7 +101,7 @@ fn count_out(overlay: &Overlay) -> usize {
     count
 }
 
-/// How many entries for arcs into their nodes the rows have. Only the memory that is taken goes by it.
+/// How many entries for arcs into their nodes the rows have. Only the memory that is taken depends on it.
 fn count_in(overlay: &Overlay) -> usize {
     let mut count = 0usize;
     for row in overlay.rows() {

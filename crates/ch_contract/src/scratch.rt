@@ -16,7 +16,7 @@ impl Model for Scratch {
     ghost view = { λ _. tt };
 }
 
-/// What lies there.
+/// What a [`Scratch`] holds.
 #[derive(Drop)]
 pub(crate) struct Desk {
     pub(crate) searcher: Searcher,
@@ -25,7 +25,7 @@ pub(crate) struct Desk {
     pub(crate) listed: Vec<u32>,
 }
 
-/// The pairs from one neighbour, and what a search for their ways is told.
+/// The pairs from one neighbour, and what a search for their ways is given.
 #[derive(Drop)]
 pub(crate) struct NeighbourPairs {
     /// Those that aren't heavy.

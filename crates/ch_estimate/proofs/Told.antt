@@ -3,7 +3,7 @@ use Rattle.std.proofs.Common.{◌≡◌, ℕ, suc, ◌+◌, ◌≤◌, Bool, tru
 use Rattle.ch_laws.specs.Contraction.{Contraction}
 use Rattle.ch_estimate.specs.Notes.{Note, no_note, raised, is_among, noted, noted_all, note_of}
 
--- the last entry stands outermost
+-- the last entry is outermost
 noted_last : (notes : ℕ → Note) (entries : List Contraction) (e : Contraction) → noted_all notes (entries ++ e ∷ []) ≡ noted (noted_all notes entries) e
 noted_last notes [] e = refl
 noted_last notes (f ∷ entries) e = noted_last (noted notes f) entries e

@@ -1,4 +1,4 @@
--- How the logic tells the entries of a log apart.
+-- How the logic distinguishes the entries of a log.
 use Rattle.std.specs.Prelude.{ℕ, List, refl}
 use Rattle.std.specs.Coded.{Coded, code_by, coded×, coded_list, coded_ℕ}
 use Rattle.ch_laws.specs.Contraction.{Contraction}

@@ -11,7 +11,7 @@ use Rattle.ch_estimate.specs.declared.counted.KnownCount.{KnownCount}
 abbrev pub CountId : Type 0
 CountId = TableId
 
--- leases of one count: which count it is, and that at most so many are out
+-- leases of one count: which count it is, and that at most this many are out
 pub record Group : Type 0 where
   pub count : CountId
   pub out : ℕ
@@ -24,7 +24,7 @@ abbrev pub all_out : List KnownCount → ℕ
 all_out [] = 0
 all_out (v ∷ views) = v.out + all_out views
 
--- The rule: there is one word, which is the sum of what the views have of it, as far as 64 bits tell, and the first seat's
+-- The rule: there is one word, which is the sum of what the views have of it, modulo 2^64, and the first seat's
 -- view bounds that sum.
 pub record Keeps (s : State (Unit {0}) KnownCount) : Type 0 where
   pub wide : length s.words ≡ 1
@@ -35,7 +35,7 @@ pub record Keeps (s : State (Unit {0}) KnownCount) : Type 0 where
 abbrev pub adds : Step (Unit {0}) → Me (Unit {0}) KnownCount → ℕ → Me (Unit {0}) KnownCount → Type 0
 adds step before found after = after ≡ (known (before.0.bound + 1) (before.0.out + 1), before.1)
 
--- one is given back
+-- one is returned
 abbrev pub gives : Step (Unit {0}) → Me (Unit {0}) KnownCount → ℕ → Me (Unit {0}) KnownCount → Type 0
 gives step before found after = after ≡ (known before.0.bound (before.0.out - 1), before.1)
 
@@ -43,7 +43,7 @@ gives step before found after = after ≡ (known before.0.bound (before.0.out - 
 abbrev pub finds : Step (Unit {0}) → Me (Unit {0}) KnownCount → ℕ → Me (Unit {0}) KnownCount → Type 0
 finds step before found after = (found ≡ 0 → after ≡ (known 0 before.0.out, before.1)) × (found ≢ 0 → after ≡ before)
 
--- the first seat of a count, which knows that at most so many are out
+-- the first seat of a count, which knows that at most this many are out
 pub record IsFirst (count : CountId) (out : ℕ) (seat : Seat (Unit {0}) KnownCount) : Type 0 where
   pub words : count.words ≡ 1
   pub of : seat.table_id ≡ count

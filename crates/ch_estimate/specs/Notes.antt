@@ -1,4 +1,4 @@
--- What a log of contractions tells of each node: its depth, and how many of its neighbours are gone.
+-- What a log of contractions says of each node: its depth, and how many of its neighbours are gone.
 use Rattle.std.specs.Prelude.{ℕ, ◌+◌, max, Bool, cond, nat_eq, unwrap_or, List, [], ◌∷◌}
 use Rattle.std.specs.List.{list_any}
 use Rattle.std.specs.HashMap.{HashMap, get}
@@ -26,7 +26,7 @@ abbrev pub noted_all : (ℕ → Note) → List Contraction → ℕ → Note
 noted_all notes [] = notes
 noted_all notes (e ∷ entries) = noted_all (noted notes e) entries
 
--- what the entries tell of a node
+-- what the entries say of a node
 abbrev pub note_of : List Contraction → ℕ → Note
 note_of entries = noted_all (λ _. no_note) entries
 

@@ -22,7 +22,7 @@ pub type Depth = ByKey<ArcsAndDepth>;
 
 /// An estimator whose keys are those of `K`.
 ///
-/// Seen as the entries that it was told.
+/// Seen as the entries that it received.
 #[derive(Drop)]
 pub struct ByKey<K: Key> {
     space: WorkSpace,
@@ -43,7 +43,7 @@ impl<K: Key> Model for ByKey<K> {
 }
 
 impl<K: Key> ByKey<K> {
-    /// One that was told nothing, and works under this lease. Takes no memory.
+    /// One that received nothing, and works under this lease. Takes no memory.
     pub fn new(alloc: Global, lease: Lease) -> ByKey<K>
         ensures { result ≡ [] }
     {
@@ -57,7 +57,7 @@ impl<K: Key> ByKey<K> {
 impl<K: Key> Estimator for ByKey<K> {
     ghost heard = { λ entries. entries };
 
-    /// The key of the kind, by what it was told of the node.
+    /// The key of the kind, by what it knows of the node.
     fn key(&mut self, facts: &Facts) -> u64
         requires few { AreFacts facts.now }
         ensures heard { self.new ≡ self.old }

@@ -1,11 +1,11 @@
-//! The count of leases that are out: the rule that it keeps, and what each step on it tells.
+//! The count of leases that are out: the rule that it keeps, and what each step on it shows.
 ghost use Rattle.ch_estimate.specs.Leases.{Keeps, adds, finds, gives, known};
 
 use atomic_table::{Join, Play, Split, TableRule};
 
 /// What the holder of a seat knows of the count. No value of it is made.
 pub struct KnownCount {
-    /// Of the first seat: at most so many are out.
+    /// Of the first seat: at most this many are out.
     pub bound: u64,
     /// How much of the count is its own: one for a lease that is out.
     pub out: u64,
@@ -27,14 +27,14 @@ impl Play<(), KnownCount> for Adds {
     ghost then = { adds };
 }
 
-/// One is given back.
+/// One is returned.
 pub struct Gives;
 
 impl Play<(), KnownCount> for Gives {
     ghost then = { gives };
 }
 
-/// A look at the count, which tells something where it is zero.
+/// A look at the count, which shows something where it is zero.
 pub struct Finds;
 
 impl Play<(), KnownCount> for Finds {
@@ -48,7 +48,7 @@ impl Play<(), KnownCount> for Never {
     ghost then = { λ _ _ _ _. ⊥ };
 }
 
-/// The one that was counted is handed to a lease.
+/// The one that was counted goes to a lease.
 pub struct Hands;
 
 impl Split<KnownCount> for Hands {

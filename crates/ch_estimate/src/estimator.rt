@@ -2,7 +2,7 @@ use crate::note::Note;
 use ch_contract::{Contraction, Facts};
 use std::alloc::AllocError;
 
-/// A way to choose the order of contraction, by what it was told of the contractions so far.
+/// A way to choose the order of contraction, by the contractions that it has received so far.
 ///
 /// No promise on answers rests on one: whatever keys it gives, the hierarchy is right.
 pub trait Estimator: Drop {
@@ -11,7 +11,7 @@ pub trait Estimator: Drop {
     ghost use Rattle.ch_contract.specs.Proposal.{AreFacts};
     ghost use Rattle.ch_estimate.specs.Notes.{note_of};
 
-    /// The entries that it was told, first to last.
+    /// The entries that it received, first to last.
     ghost heard: { Self → List Contraction };
 
     /// A key for a node, by the counts of its proposal: nodes of smaller keys go first. Any number is allowed.
@@ -19,9 +19,9 @@ pub trait Estimator: Drop {
         requires few { AreFacts facts.now }
         ensures { heard self.new ≡ heard self.old };
 
-    /// Tells it of the next entry of the log.
+    /// Gives it the next entry of the log.
     ///
-    /// Refused for want of memory; it is then as it was.
+    /// Fails where memory runs out; it is then as it was.
     fn told(&mut self, entry: &Contraction) -> Result<(), AllocError>
         requires rank { entry.now.rank ≡ length (heard self.old) }
         requires few { entry.now.rank < 2 ^ 25 }

@@ -7,7 +7,7 @@ ghost use Rattle.ch_estimate.specs.Heard.{coded_entry};
 use ch_contract::Contraction;
 use std::marker::Model;
 
-/// The entries that an estimator was told, first to last. Only proofs read them: it takes no memory.
+/// The entries that an estimator received, first to last. Only proofs read them: it takes no memory.
 #[derive(Drop)]
 pub struct Heard {
     pub ghost entries: { List Contraction } by { coded_list coded_entry },
@@ -21,7 +21,7 @@ impl Model for Heard {
 unsafe impl Send for Heard {}
 
 impl Heard {
-    /// Of one that wasn't told of any entry.
+    /// Of one that received no entry.
     pub fn new() -> Heard
         ensures { result.entries ≡ [] }
     {

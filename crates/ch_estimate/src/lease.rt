@@ -11,10 +11,10 @@ use std::sync::{Arc, Wait};
 /// The word that counts the leases that are out.
 type Count = Table<(), KnownCount, (), Counted, Global>;
 
-/// Leases that are out: a count of the work that is still to be given back.
+/// Leases that are out: a count of the work that is still to be returned.
 ///
-/// Leases that are made between two answers of [`wait`](Leases::wait) are one group. A contract sees which count it is,
-/// and that at most so many are out. Of 2^64 - 1 leases or more in a group, `wait` wouldn't answer any more.
+/// Leases that are made between two returns of [`wait`](Leases::wait) are one group. A contract sees which count it is,
+/// and that at most this many are out. Of 2^64 - 1 leases or more in a group, `wait` wouldn't return any more.
 #[derive(Drop)]
 pub struct Leases {
     alloc: Global,
@@ -36,7 +36,7 @@ impl Model for Leases {
     ghost invariant = { λ l. IsFirst (arc_value l.count).shared.table_id l.seat.me.0.bound l.seat × Tells l.made l.seat.me.0.bound };
 }
 
-/// A lease, given back by its drop, which any thread may do. A contract sees of which count it is.
+/// A lease, returned by its drop, which any thread may do. A contract sees of which count it is.
 pub struct Lease {
     count: Arc<Count>,
     seat: Seat<(), KnownCount>,
@@ -76,7 +76,7 @@ impl Leases {
 
     /// One more lease, the first of a new group where all earlier ones were waited for.
     ///
-    /// Refused only for memory; as many are then out as before.
+    /// Fails only where memory runs out; as many are then out as before.
     pub fn lease(&mut self) -> Result<Lease, AllocError>
         ensures one { OnOk result (self.new ≡ record self.old { out = self.old.out + 1 }) }
         ensures of { IfOk result (λ lease. lease ≡ self.old.count) }
@@ -107,7 +107,7 @@ impl Leases {
         }
     }
 
-    /// Answers when no lease is out: at once where none was made since the last answer. The next lease begins a new
+    /// Returns when no lease is out: at once where none was made since the last return. The next lease begins a new
     /// group. Takes no memory.
     ///
     /// A lease leaves its group after it is counted back, so the count is zero as soon as the group is empty, and the

@@ -1,15 +1,15 @@
 //! Estimators: what an order of contraction is chosen by.
 //!
-//! Stands on `ch_contract`, of which it uses the counts of a proposal and the entries of the log, and for the leases on
+//! Builds on `ch_contract`, of which it uses the counts of a proposal and the entries of the log, and for the leases on
 //! `atomic_table`, which counts them, and `crossbeam_utils`, by which they are waited for. Its main item is the trait
-//! [`Estimator`]: it is told of each contraction in turn, and gives keys, smaller ones first. Three kinds are here:
+//! [`Estimator`]: it receives each contraction in turn, and gives keys, smaller ones first. Three kinds are here:
 //! [`EdgeDifference`], [`Neighbours`] and [`Depth`]. They are one type, [`ByKey`], with three kinds of [`Key`]. What they
 //! know of the nodes is kept in a [`WorkSpace`], and each works under a [`Lease`]. The promise of the layer is the contract
-//! of `note`, that a note is what the told entries tell, that of each kind's `key`, which says which number it is, and that
-//! of [`Leases::wait`], that no lease is out; [`Leases::none_is_left`] says what that means. No promise on answers rests on
-//! any of these.
+//! of `note`, that a note is what the received entries say, that of each kind's `key`, which says which number it is, and
+//! that of [`Leases::wait`], that no lease is out; [`Leases::none_is_left`] says what that means. No promise on answers
+//! rests on any of these.
 //!
-//! An estimator works under a lease, is told the log from its start, and gives the key of a node by the counts of its
+//! An estimator works under a lease, receives the log from its start, and gives the key of a node by the counts of its
 //! proposal. Once it is dropped the wait is over:
 //!
 //! ```rust

@@ -13,7 +13,7 @@ use std::marker::Model;
 /// What an estimator keeps between two questions: the notes of the nodes that were named, and the lease under which
 /// it works.
 ///
-/// It is seen as the entries that it was told, which it doesn't keep.
+/// It is seen as the entries that it received, which it doesn't keep.
 #[derive(Drop)]
 pub struct WorkSpace {
     notes: Notes,
@@ -38,7 +38,7 @@ impl Model for WorkSpace {
 }
 
 impl WorkSpace {
-    /// One that was told nothing. Takes no memory.
+    /// One that received nothing. Takes no memory.
     pub fn new(alloc: Global, lease: Lease) -> WorkSpace
         ensures { result ≡ [] }
     {
@@ -49,7 +49,7 @@ impl WorkSpace {
         }
     }
 
-    /// What the entries tell of a node. Takes the time of a look-up.
+    /// What the entries say of a node. Takes the time of a look-up.
     pub fn note(&self, node: u32) -> Note
         ensures { result ≡ told.note_of self.now node }
     {

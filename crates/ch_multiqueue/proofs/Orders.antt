@@ -22,7 +22,7 @@ not_after-trans a b c x y = omega (arith, x, y)
 abbrev pub item_cmp : Item → Item → Ordering
 item_cmp a b = ordering_then (nat_cmp a.key b.key) (nat_cmp a.node b.node)
 
--- in a sorted list an item isn't after one that stands so much further on
+-- in a sorted list an item isn't after one that is this much further on
 not_after-further : (items : List Item) (d : Item) → IsSorted item_cmp items → (n i : ℕ) → i + n < length items → IsNotAfter (get_or items i d) (get_or items (i + n) d)
 not_after-further items d sorted zero i h = subst (λ k. IsNotAfter (get_or items i d) (get_or items k d)) (sym (add-zero i)) (not_after-refl (get_or items i d))
 not_after-further items d sorted (suc n) i h =

@@ -14,7 +14,7 @@ pub record Closed : Type 0 where
 abbrev pub IsAmong : ℕ → List Pass → Type 0
 IsAmong number passes = Any (λ (p : Pass). p.number ≡ number) passes
 
--- of so many passes that were made, numbered from 0, one isn't among those that were handed in
+-- of this many passes that were made, numbered from 0, one isn't among those that were given
 abbrev pub IsLacking : ℕ → List Pass → Type 0
 IsLacking made passes = (number : ℕ) × (number < made) × (IsAmong number passes → ⊥)
 

@@ -4,12 +4,12 @@ ghost use Rattle.ch_multiqueue.specs.Closing.{error_name};
 use std::error::Error;
 use std::fmt;
 
-/// Why a queue wasn't closed. Queue and passes are handed back as they were.
+/// Why a queue wasn't closed. Queue and passes are returned as they were.
 #[derive(Clone, Copy, Debug, PartialEq, Eq)]
 pub enum CloseError {
     /// A growth was refused.
     OutOfMemory = 1,
-    /// A pass that was made isn't among those that were handed in.
+    /// A pass that was made isn't among those that were given.
     PassMissing,
     /// The accounts of the passes don't agree with what is left.
     Mixed,

@@ -7,7 +7,7 @@ use std::cmp::Reverse;
 use std::collections::BinaryHeap;
 use std::marker::Model;
 
-/// A sequential heap of items, the one that stands behind a lock of the queue. A contract sees it as the list of its
+/// A sequential heap of items, the one behind a lock of the queue. A contract sees it as the list of its
 /// items, in no particular order.
 #[derive(Drop)]
 pub struct Heap {
@@ -37,7 +37,7 @@ impl Heap {
         }
     }
 
-    /// Puts an item in. Refused only for memory: the item is handed back then, and the heap stays as it was.
+    /// Puts an item in. Fails only where memory runs out: the item is returned then, and the heap stays as it was.
     ///
     /// Takes time by the logarithm of the number of items.
     pub fn put(&mut self, item: Item) -> Result<(), Item>

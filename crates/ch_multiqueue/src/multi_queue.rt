@@ -39,7 +39,7 @@ impl Model for MultiQueue {
 }
 
 impl MultiQueue {
-    /// An empty queue of so many heaps, and its first pass, which has the number 0.
+    /// An empty queue of this many heaps, and its first pass, which has the number 0.
     ///
     /// There are 1 to 256 heaps. Takes memory for the locks alone: a heap takes its own when items come.
     pub fn new(alloc: Global, heaps: u32, seed: u64) -> Result<(MultiQueue, Pass), AllocError>
@@ -86,8 +86,8 @@ impl MultiQueue {
 
     /// Puts an item into a heap that the pass draws, and into the account of the pass.
     ///
-    /// Draws one word, also where it is refused. Refused only for memory: the item is handed back then, and the queue
-    /// and the account are unchanged. It may wait for the heap's lock, and takes time by the logarithm of the number of
+    /// Draws one word, also where it is refused. Fails only where memory runs out: the item is returned then, and the
+    /// queue and the account are unchanged. It may wait for the heap's lock, and takes time by the logarithm of the number of
     /// items there. Under the lock it takes memory for the heap alone.
     pub fn push<R: Wait>(&self, rt: &R, pass: &mut Pass, item: Item) -> Result<(), Item>
         ensures put { OnOk result (pass.new ≡ having_put item (moved_on pass.old)) }
@@ -123,9 +123,9 @@ impl MultiQueue {
     /// Ends the queue, and returns what is left in it, in order: each item was put through one of the passes exactly as
     /// often as it was taken through one or is left.
     ///
-    /// All passes that were made are to be handed in, in any order. Refused where one is missing, then where memory is
-    /// refused, and then where the accounts of the passes don't agree with what is left, as with a pass of another
-    /// queue; queue and passes are handed back as they were. Takes memory for a copy of the accounts and twice the list,
+    /// All passes that were made are to be given, in any order. Refused where one is missing, then where memory
+    /// runs out, and then where the accounts of the passes don't agree with what is left, as with a pass of another
+    /// queue; queue and passes are returned as they were. Takes memory for a copy of the accounts and twice the list,
     /// and the time to sort these.
     pub fn close(self, passes: Vec<Pass>) -> Result<Vec<Item>, (CloseError, MultiQueue, Vec<Pass>)>
         ensures missing { IsErrAnd result (λ refused. refused.0 ≡ CloseError.PassMissing) ↔ IsLacking self.passes passes.items }

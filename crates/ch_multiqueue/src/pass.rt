@@ -14,8 +14,8 @@ use std::sync::{Mutex, Wait};
 /// the account of what went through it.
 ///
 /// The words are those of `Pcg32::new(seed, number)`, with the seed of the queue that made the pass. A `push` takes one
-/// word, a `pop` two. As long as one pass alone is used, what is popped is told by its words. The account keeps each
-/// item that was put and each that was taken, 16 bytes each in lists that double, until the queue is closed.
+/// word, a `pop` two. As long as one pass alone is used, what is popped is determined by its words. The account keeps
+/// each item that was put and each that was taken, 16 bytes each in lists that double, until the queue is closed.
 #[derive(Drop)]
 pub struct Pass {
     number: u32,
@@ -66,7 +66,7 @@ impl Pass {
         self.taken.as_slice()
     }
 
-    /// Draws one of so many heaps, by the next word.
+    /// Draws one of this many heaps, by the next word.
     pub(crate) fn draw(&mut self, heaps: usize) -> usize
         requires some { 0 < heaps }
         requires few { heaps ≤ 256 }
@@ -77,8 +77,8 @@ impl Pass {
         self.generator.next_word() as usize % heaps
     }
 
-    /// Puts an item into the heap behind a lock, and into the account. Refused only for memory: the item is handed back
-    /// then, and the account stays as it was. Under the lock it takes memory for the heap alone.
+    /// Puts an item into the heap behind a lock, and into the account. Fails only where memory runs out: the item is
+    /// returned then, and the account stays as it was. Under the lock it takes memory for the heap alone.
     pub(crate) fn put_behind<R: Wait>(
         &mut self,
         rt: &R,
@@ -110,8 +110,8 @@ impl Pass {
     }
 }
 
-/// Puts an item into a heap, and into a list that has room for it. Refused only for memory: the item is handed back then,
-/// and heap and list stay as they were.
+/// Puts an item into a heap, and into a list that has room for it. Fails only where memory runs out: the item is returned
+/// then, and heap and list stay as they were.
 fn put_into(heap: &mut Heap, list: &mut Vec<Item>, item: Item) -> Result<(), Item>
     requires room { vec_len list.old < vec_capacity list.old }
     ensures heap { OnOk result (IsPermutation (item ∷ heap.old) heap.new) }

@@ -115,7 +115,7 @@ impl<B: Book> Reader<B> {
     }
 }
 
-/// A reader answers the current rows, and its front only rises.
+/// A reader returns the current rows, and its front only rises.
 impl<B: Book> RowSource for Reader<B> {
     ghost use Rattle.std.specs.Prelude.{◌≡◌, ◌≤◌, ℕ, IfOk, OnErr, slice_index, refl};
     ghost use Rattle.ch_overlay.specs.declared.source.Seen.{Seen};

@@ -35,7 +35,7 @@ apart_front xs ys h = record {
   only = λ r among. h.only r (Contains-append_left xs ys r among);
 }
 
--- the entry of a receipt stands at its rank
+-- the entry of a receipt is at its rank
 pub entry_of : {log : List Contraction} → IsLog log → (r : Receipt) (of : IsOfLog log r) → slice_get log r.rank ≡ Some of.entry
 entry_of {log} is r of =
     let k = of.within.0 in

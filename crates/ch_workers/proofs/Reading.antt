@@ -2,7 +2,7 @@
 use Rattle.std.proofs.Common.{◌≡◌, ℕ, ◌<◌, List, [], ◌∷◌, Some, length, slice_index_or, All, map, refl, sym, subst, ap, arith, zero, suc}
 use Rattle.std.specs.List.{slice_get}
 
--- what is read at a place, whatever stands for what isn't there, stands there
+-- what is read at a place, whatever the default for what isn't there, is there
 pub at_get : {X : Type 0} (xs : List X) (k : ℕ) (x : X) → k < length xs → x ≡ slice_index_or xs k x → slice_get xs k ≡ Some x
 at_get [] k x within here = absurd (omega arith)
 at_get (y ∷ ys) zero x within here = ap Some (sym here)

@@ -12,14 +12,14 @@ all_of lists = flat_map (λ receipts. receipts) lists
 abbrev pub Rises : List Receipt → Type 0
 Rises receipts = AllPairs (λ a b. a.rank < b.rank) receipts
 
--- the receipt was handed out for an entry of the log
+-- the receipt was issued for an entry of the log
 pub record IsOfLog (log : List Contraction) (r : Receipt) : Type 0 where
   pub entry : Contraction
   pub within : Contains log entry
   pub handed : r ≡ receipt_of entry
 
 -- The lists account for the log: each entry has its receipt in one of the lists, no two receipts have one rank, each
--- receipt is of an entry, and each list rises. So the receipt of an entry stands in exactly one place of exactly one list.
+-- receipt is of an entry, and each list rises. So the receipt of an entry is in exactly one place of exactly one list.
 pub record IsAccount (log : List Contraction) (lists : List (List Receipt)) : Type 0 where
   pub each : (e : Contraction) → Contains log e → Contains (all_of lists) (receipt_of e)
   pub once : AllPairs (λ a b. a.rank ≢ b.rank) (all_of lists)

@@ -19,7 +19,7 @@ pub record IsMadeBy (graph : Graph) (log : List Contraction) (hierarchy : Hierar
   pub over : IsOver state
   pub made : IsMade graph state hierarchy
 
--- What was built of a graph, with so many lists of receipts: the hierarchy is the one to which the log leads from the
+-- What was built of a graph, with this many lists of receipts: the hierarchy is the one to which the log leads from the
 -- graph, it is right for the graph, and the receipts account for the log.
 pub record IsBuilt (graph : Graph) (count : ℕ) (b : Built) : Type 0 where
   pub made : IsMadeBy graph b.log.items b.hierarchy

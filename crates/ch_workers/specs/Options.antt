@@ -8,7 +8,7 @@ pub record IsFrom (least greatest n : ℕ) : Type 0 where
   pub above : least ≤ n
   pub below : n ≤ greatest
 
--- The queue in which nodes wait for the workers: so many heaps for each of them, a pass for each, and the seed of their
+-- The queue in which nodes wait for the workers: `heaps` heaps for each of them, a pass for each, and the seed of their
 -- draws.
 abbrev pub queue_of : Options → Queue
 queue_of o = record { heaps = o.workers * o.heaps; passes = o.workers; seed = o.seed }

@@ -26,17 +26,17 @@ use std::thread::Threads;
 
 /// Contracts the nodes of a graph by workers, each in a thread of its own, and makes a hierarchy of what they did.
 ///
-/// The workers choose nodes by their estimators, of which none was told anything: worker k by those of list k, one after
-/// the other. It goes by the first until it has made `stint` commits by it, drops it behind the gate at `Committed`, and
-/// goes on by the next, and so on; the last one stays. Each is told the log from entry 0. A worker that is refused memory
-/// ends. One whose thread can't be started does nothing in that shift, and gets a thread in the next one. A sweep contracts
-/// what they leave. Then the queue is closed.
+/// The workers choose nodes by their estimators, of which none has received anything: worker k by those of list k, one
+/// after the other. It uses the first until it has made `stint` commits by it, drops it behind the gate at `Committed`,
+/// and goes on with the next, and so on; the last one stays. Each receives the log from entry 0. A worker that runs out
+/// of memory ends. One whose thread can't be started does nothing in that shift, and gets a thread in the next one. A sweep
+/// contracts what they leave. Then the queue is closed.
 /// `BadOptions`, which is tested first, where a number of the options is outside its range or there isn't one list for
 /// each worker; `OutOfMemory` where a growth was refused; `Mixed` where the receipts and the log don't agree, or the
-/// accounts of the queue, or where a book of rows has no place left. On every answer the estimators were dropped and no
-/// lease of `leases` is out: so it doesn't answer as long as one is out elsewhere. Takes memory for the rows of the nodes, shortcuts included, and for those
-/// that are replaced in a shift, which have a dozen entries or so for each node of the graph, and are given back by a
-/// thread of its own beside the next shift; for the log, the receipts and the queue.
+/// accounts of the queue, or where a book of rows has no place left. On every return the estimators were dropped and no
+/// lease of `leases` is out: so it doesn't return as long as one is out elsewhere. Takes memory for the rows of the
+/// nodes, shortcuts included, and for those that are replaced in a shift, which have a dozen entries or so for each node
+/// of the graph, and are freed by a thread of its own beside the next shift; for the log, the receipts and the queue.
 pub fn build<G: Gate, R: Threads + Wait + Sync>(
     rt: &R,
     alloc: Global,
@@ -60,7 +60,7 @@ pub fn build<G: Gate, R: Threads + Wait + Sync>(
     built
 }
 
-/// Builds where the options are good, which is tested first. The estimators are dropped when it answers.
+/// Builds where the options are good, which is tested first. The estimators are dropped when it returns.
 fn build_with_good<G: Gate, R: Threads + Wait + Sync>(
     rt: &R,
     alloc: Global,

@@ -16,7 +16,7 @@ pub enum Point {
 /// Sees where the workers are.
 ///
 /// A worker calls it in its own thread, and never holds a lock then. A gate may keep a worker for as long as it likes,
-/// and so may force an order among workers; it isn't handed anything to wait by. Between two shifts the workers wait for
+/// and so may force an order among workers; it receives nothing to wait by. Between two shifts the workers wait for
 /// each other, so a gate that keeps one until another has come to a further point may keep it for good, on a graph of
 /// more than 16 nodes.
 pub trait Gate: Sync {

@@ -36,7 +36,7 @@ pub(crate) fn hire<E: Estimator>(
     Ok(Crew { queue, workers })
 }
 
-/// The first pass of a queue, and those that follow it, so many in all.
+/// The first pass of a queue, and those that follow it, this many in all.
 fn passes_of(
     alloc: Global,
     queue: &mut MultiQueue,
@@ -57,7 +57,7 @@ fn passes_of(
     Ok(passes)
 }
 
-/// The workers with these passes and estimators, numbered from 0, each of whom may take so many turns.
+/// The workers with these passes and estimators, numbered from 0, each of whom may take this many turns.
 fn workers_of<E: Estimator>(
     alloc: Global,
     passes: Vec<Pass>,

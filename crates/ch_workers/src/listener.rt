@@ -5,7 +5,7 @@ use ch_contract::{Contraction, Facts};
 use ch_estimate::Estimator;
 use std::alloc::AllocError;
 
-/// An estimator of a worker, and how many entries of the log it was told.
+/// An estimator of a worker, and how many entries of the log it received.
 #[derive(Drop)]
 pub(crate) struct Listener<E: Estimator> {
     estimator: E,
@@ -14,7 +14,7 @@ pub(crate) struct Listener<E: Estimator> {
 }
 
 impl<E: Estimator> Listener<E> {
-    /// An estimator that wasn't told anything.
+    /// An estimator that received nothing.
     pub(crate) fn new(estimator: E) -> Listener<E>
         requires untold { E.heard estimator ≡ [] }
         ensures { result.told ≡ 0 }
@@ -22,7 +22,7 @@ impl<E: Estimator> Listener<E> {
         Listener { estimator, told: 0 }
     }
 
-    /// How many entries it was told: the rank of the next.
+    /// How many entries it received: the rank of the next.
     pub(crate) fn told(&self) -> u32
         ensures { result ≡ self.now.told }
     {
@@ -37,7 +37,7 @@ impl<E: Estimator> Listener<E> {
         self.estimator.key(facts)
     }
 
-    /// Tells it the next entry of the log. Refused for want of memory; it is then as it was.
+    /// Gives it the next entry of the log. Fails where memory runs out; it is then as it was.
     pub(crate) fn tell(&mut self, entry: &Contraction) -> Result<(), AllocError>
         requires rank { entry.now.rank ≡ self.old.told }
         requires few { entry.now.rank < 2 ^ 25 }

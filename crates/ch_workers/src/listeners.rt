@@ -5,7 +5,7 @@ use ch_estimate::Estimator;
 use std::alloc::{AllocError, Global};
 use std::collections::VecDeque;
 
-/// The estimators of a worker: the current one, by which it chooses, and those that come later, which were told nothing.
+/// The estimators of a worker: the current one, by which it chooses, and those that come later, which received nothing.
 #[derive(Drop)]
 pub(crate) struct Listeners<E: Estimator> {
     current: Option<Listener<E>>,
@@ -16,7 +16,7 @@ pub(crate) struct Listeners<E: Estimator> {
 }
 
 impl<E: Estimator> Listeners<E> {
-    /// The estimators of a list, none of which was told anything: the first is the current one. An empty list has none.
+    /// The estimators of a list, which have received nothing: the first is the current one. An empty list has none.
     pub(crate) fn new(alloc: Global, estimators: Vec<E>) -> Result<Listeners<E>, AllocError>
         requires untold { All (λ estimator. E.heard estimator ≡ []) estimators.items }
     {
@@ -34,8 +34,8 @@ impl<E: Estimator> Listeners<E> {
         self.current.as_mut()
     }
 
-    /// Counts a commit by the current estimator. Where so many have been made by it, and there is a later one, it drops
-    /// the current one and goes on by the next, which was told nothing yet.
+    /// Counts a commit by the current estimator. Where `stint` have been made by it, and there is a later one, it drops
+    /// the current one and goes on with the next, which received nothing yet.
     pub(crate) fn committed(&mut self, stint: u64)
         ensures counted { self.old.commits + 1 < stint → self.new.commits ≡ self.old.commits + 1 }
         ensures same { self.old.commits + 1 < stint → self.new.current ≡ self.old.current }
@@ -91,7 +91,7 @@ pub(crate) fn listeners_of<E: Estimator>(
     Ok(made)
 }
 
-/// Estimators with the number of entries that they were told: none.
+/// Estimators with the number of entries that they received: none.
 fn untold<E: Estimator>(
     alloc: Global,
     estimators: Vec<E>,

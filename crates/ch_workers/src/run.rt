@@ -37,7 +37,7 @@ struct Left {
     receipts: Vec<Vec<Receipt>>,
 }
 
-/// Lets workers contract nodes of a ledger, as many workers as there are lists of estimators, which are dropped. Answers
+/// Lets workers contract nodes of a ledger, as many workers as there are lists of estimators, which are dropped. Returns
 /// their queue too, if there is a worker.
 pub(crate) fn contract<E: Estimator + Send, G: Gate, R: Threads + Wait + Sync>(
     rt: &R,

@@ -93,13 +93,13 @@ impl<S: Site> Shared<S> {
         self.hold(rt).commit_and_see(rt, proposal, reader)
     }
 
-    /// Adds what the rows weigh that a commit replaced. Answers whether the shift is over with them.
+    /// Adds what the rows weigh that a commit replaced. Returns whether the shift is over with them.
     pub(crate) fn is_over_with(&self, weight: u64) -> bool {
         let before = self.replaced.fetch_add(weight, Ordering::Relaxed);
         before.saturating_add(weight) >= self.room
     }
 
-    /// Tells a listener the entry of this rank, which is its next, by a copy, if the log has it. Answers how many entries
+    /// Gives a listener the entry of this rank, which is its next, by a copy, if the log has it. Returns how many entries
     /// the log has.
     pub(crate) fn tell_next<E: Estimator, R: Wait>(
         &self,
@@ -120,7 +120,7 @@ impl<S: Site> Shared<S> {
         Ok(count)
     }
 
-    /// Copies the entry of this rank, if the log has it, under one hold of the board's lock. Answers how many entries the
+    /// Copies the entry of this rank, if the log has it, under one hold of the board's lock. Returns how many entries the
     /// log has.
     fn copy_entry<R: Wait>(
         &self,
@@ -140,7 +140,7 @@ impl<S: Site> Shared<S> {
         Ok(log.len())
     }
 
-    /// Tells a listener each entry of the log that it wasn't told, in order, by a copy, which takes one hold of the
+    /// Gives a listener each entry of the log that it hasn't received, in order, by a copy, which takes one hold of the
     /// board's lock each. An entry that comes after the last of these holds waits for the next call.
     pub(crate) fn tell_all<E: Estimator, R: Wait>(
         &self,

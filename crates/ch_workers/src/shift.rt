@@ -33,7 +33,7 @@ struct OnShift<S: Site, E: Estimator> {
 }
 
 /// Lets the workers go on for a shift: by a board whose book is new, so that it keeps no row that isn't current, until
-/// each of them has ended or so many nodes are contracted that the book is to be renewed.
+/// each of them has ended or enough nodes are contracted for the book to be renewed.
 pub(crate) fn shift<E: Estimator + Send, G: Gate, R: Threads + Wait + Sync>(
     rt: &R,
     alloc: Global,
@@ -98,7 +98,7 @@ fn shift_named<
     })
 }
 
-/// Hands each worker a reader that is split off this one.
+/// Gives each worker a reader that is split off this one.
 fn begin<S: Site, E: Estimator>(
     alloc: Global,
     reader: &mut Reader<S>,

@@ -19,7 +19,7 @@ pub(crate) enum Trouble {
 }
 
 impl Trouble {
-    /// The error that tells it.
+    /// The error that reports it.
     pub(crate) fn error(self) -> BuildError
         ensures good { result ≢ building.BadOptions }
         ensures memory { (result ≡ building.OutOfMemory) ↔ (self ≡ OutOfMemory) }

@@ -13,7 +13,7 @@ use ch_rowbook::Reader;
 use std::alloc::AllocError;
 use std::sync::Wait;
 
-/// Memory was refused, or a proposal didn't fit the board. The worker ends.
+/// Memory ran out, or a proposal didn't fit the board. The worker ends.
 #[derive(Drop)]
 struct Refused;
 
@@ -35,7 +35,7 @@ enum Shift {
 /// How a turn went.
 #[derive(Drop)]
 enum Turn {
-    /// An item was taken. So much weigh the rows that were replaced.
+    /// An item was taken. The rows that were replaced weigh this much.
     Taken(u64),
     /// No item was found.
     NoItem,
@@ -174,7 +174,7 @@ impl<E: Estimator> Worker<E> {
         }
     }
 
-    /// Works out the contraction of a node by the rows that a reader answers, or answers none where it is contracted
+    /// Works out the contraction of a node by the rows that a reader answers, or returns none where it is contracted
     /// already. It takes no lock.
     fn propose<S: Site>(
         &mut self,
@@ -193,7 +193,7 @@ impl<E: Estimator> Worker<E> {
         }
     }
 
-    /// Tells its current estimator, if it has one, what it wasn't told of the log.
+    /// Gives its current estimator, if it has one, what it hasn't received of the log.
     fn hear<S: Site, R: Wait>(&mut self, rt: &R, shared: &Shared<S>) -> Result<(), Refused> {
         if let Some(listener) = self.listeners.current() {
             shared.tell_all(rt, &mut self.entry, listener)?;
@@ -210,7 +210,7 @@ impl<E: Estimator> Worker<E> {
     }
 
     /// Puts an item back with the key that its node has now, where that is greater and the worker hasn't put back as
-    /// many items as it may since its last commit. Answers whether it did.
+    /// many items as it may since its last commit. Returns whether it did.
     fn put_back<S: Site, R: Wait>(
         &mut self,
         rt: &R,
@@ -227,7 +227,7 @@ impl<E: Estimator> Worker<E> {
         Ok(true)
     }
 
-    /// Commits a proposal and keeps the receipt, or puts the item back where a row has changed. Answers whether it was
+    /// Commits a proposal and keeps the receipt, or puts the item back where a row has changed. Returns whether it was
     /// committed. Where that ends the stint of its estimator, it goes on by the next.
     fn commit<S: Site, G: Gate, R: Wait>(
         &mut self,

@@ -52,7 +52,7 @@ module _ {Bears Shows : Seen → Type 0} {limit : Cost} {Moved Same IsWhole : Ty
         found = λ whole missing. let it : e ≡ Unseen = cc (missing) in found whole it;
       })
 
-  -- where memory was refused
+  -- where memory ran out
   short : e ≡ OutOfMemory → Moved → IsProposedBy Bears Shows limit Moved Same IsWhole v r
   short memory moved = refused (λ other unseen. let it : r ≡ Err OutOfMemory = cc (is, memory) in absurd (other it)) (λ missing. absurd (apart e memory missing)) moved (λ whole missing. apart e memory missing)
 

@@ -5,7 +5,7 @@ use Rattle.ch_overlay.specs.Overlay.{Overlay, row_at}
 use Rattle.ch_contract.proofs.Sweeping.{alive-from_none, none-from_alive}
 use Rattle.ch_contract.proofs.board.Board.is_alive.Goals as goal
 
--- what the test of an option answers
+-- what the test of an option returns
 tested : (o : Option ℕ) (b : Bool) → is_some o ≡ not b → b ≡ is_none o
 tested None true e = refl
 tested None false e = absurd (false≢true e)
