@@ -26,7 +26,8 @@ use std::sync::Arc;
 /// settles at most `settle` nodes (1 to 65,536). `OutOfMemory` where a growth was refused, `Unseen` where the source
 /// has no row of a node that is asked for, `Contracted` exactly where the node's row, which is read first, has a rank, and
 /// before a row of another node is asked for; the source has then moved as reading moves it, and nothing else.
-/// Memory and time grow with the nodes that are settled and their neighbours, with 8 bytes for each number up to the greatest of them, which [`propose_with`] takes once.
+/// Memory and time grow with the nodes that are settled and their neighbours, with 8 bytes for each number up to the
+/// greatest of them, which [`propose_with`] takes once.
 pub fn propose<S: RowSource>(
     alloc: Global,
     source: &mut S,
