@@ -42,7 +42,7 @@ lawful_offer agreement_is_lawful w is worker p holds may current = agreement_is_
   rows = λ k d h. standing_now w is worker (get_or p.rests_on k d) (may.rows k d h) (current k d h);
 })
 
--- a row that stands in a view is current where it isn't old
+-- a row that is in a view is current where it isn't old
 pub all_current : (w : World) → IsWorld w → (k : ℕ) (rows : List Seen) → All (StandsIn (view_of w k)) rows → NoneIsOld w.ledger rows → All (IsCurrent w) rows
 all_current w is k rows stand none i d h =
     let s : Seen = get_or rows i d in

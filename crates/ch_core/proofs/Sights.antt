@@ -36,7 +36,7 @@ standing_sound w is k x t there =
 pub sight_of : (w : World) → IsWorld w → (k : ℕ) → IsSight (record { view = view_of w k; bound = w.ledger.overlay.bound })
 sight_of w is k = record { limit = is.bound; rows = standing_sound w is k }
 
--- and what is answered
+-- and what is returned
 pub seen_sound : (sight : Sight) → IsSight sight → (s : Seen) → StandsIn sight.view s → IsSeenRow sight.bound s
 seen_sound sight is s stands =
     let sound = is.rows s.node (record { version = s.version; row = row_in s }) stands in

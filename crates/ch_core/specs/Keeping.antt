@@ -7,7 +7,7 @@ use Rattle.ch_overlay.specs.Overlay.{Overlay, AreEntries}
 use Rattle.ch_contract.specs.Ledger.{IsLedger, IsNode, row_now, version_now}
 use Rattle.ch_core.specs.World.{World, RowVersion, View, Standing, stands_at, has, IsIn}
 
--- a row that can be relied on, of a node among so many
+-- a row that can be relied on, of a node among this many
 pub record IsSound (nodes : ℕ) (bound : Cost) (x : ℕ) (r : Row) : Type 0 where
   pub in_range : x < nodes
   pub out_rises : Rises r.out

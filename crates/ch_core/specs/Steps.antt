@@ -1,4 +1,4 @@
--- What each event does to a world, and what is answered.
+-- What each event does to a world, and what is returned.
 use Rattle.std.specs.Prelude.{ℕ, ◌≡◌, ◌<◌, List, [], ◌∷◌, length}
 use Rattle.ch_graph.specs.Graph.{Graph}
 use Rattle.ch_contract.specs.Ledger.{IsContracted}
@@ -25,7 +25,7 @@ pub data Runs : World → List Event → List Outcome → World → Type 0 where
   ends : {w : World} → Runs w [] [] w
   goes : {old mid new : World} {event : Event} {outcome : Outcome} {events : List Event} {outcomes : List Outcome} → IsStep old event outcome mid → Runs mid events outcomes new → Runs old (event ∷ events) (outcome ∷ outcomes) new
 
--- the same from the start of a graph with so many workers
+-- the same from the start of a graph with this many workers
 pub record IsRun (g : Graph) (workers : ℕ) (events : List Event) (outcomes : List Outcome) (new : World) : Type 0 where
   pub start : World
   pub opens : IsOpening g workers start

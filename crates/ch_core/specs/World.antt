@@ -97,7 +97,7 @@ pub record IsForgotten (old : World) (worker : ℕ) (new : World) : Type 0 where
 
 -- Offers
 
--- the row stands in the view, with its version and its content
+-- the row is in the view, with its version and its content
 abbrev pub StandsIn : View → Seen → Type 0
 StandsIn view s = stands_at view s.node ≡ Some (record { version = s.version; row = row_in s })
 

@@ -26,7 +26,7 @@ pub enum Event {
     },
 }
 
-/// What is answered to an event.
+/// What is returned for an event.
 #[derive(Clone, Copy, Debug, PartialEq, Eq)]
 pub enum Outcome {
     /// The worker has the row now.

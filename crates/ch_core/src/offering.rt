@@ -5,7 +5,7 @@ ghost use Rattle.ch_core.specs.World.{StandsIn};
 use crate::reads::Reads;
 use ch_overlay::Seen;
 
-/// Whether all of these rows stand in the view, with their versions and contents. Looks once at each entry.
+/// Whether all of these rows are in the view, with their versions and contents. Looks once at each entry.
 pub fn all_stand(view: &Reads, rows: &[Seen]) -> bool
     ensures { IsTrue result ↔ All (StandsIn view.now) rows.now }
 {
@@ -17,7 +17,7 @@ pub fn all_stand(view: &Reads, rows: &[Seen]) -> bool
     true
 }
 
-/// Whether a row stands in the view, with its version and content.
+/// Whether a row is in the view, with its version and content.
 fn stands(view: &Reads, seen: &Seen) -> bool
     ensures { IsTrue result ↔ StandsIn view.now seen.now }
 {

@@ -9,9 +9,9 @@ use crate::world::World;
 use ch_graph::Graph;
 use std::alloc::{AllocError, Global};
 
-/// The world of this graph with so many workers after these events, one after the other, and the outcome of each.
+/// The world of this graph with this many workers after these events, one after the other, and the outcome of each.
 ///
-/// Fails only for want of memory, which goes by the book and by what is read.
+/// Fails only where memory runs out. Its memory grows with the book and with what is read.
 pub fn run(
     alloc: Global,
     graph: Graph,

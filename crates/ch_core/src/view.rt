@@ -10,7 +10,7 @@ use ch_cost::Cost;
 use ch_overlay::{RowSource, SeeError, Seen};
 use std::marker::Model;
 
-/// What a worker has read, and the bound of the graph: a source of rows that answers each row as the worker read it,
+/// What a worker has read, and the bound of the graph: a source of rows that returns each row as the worker read it,
 /// with its version, and no other.
 #[derive(Drop)]
 pub struct View<'a> {

@@ -52,7 +52,7 @@ impl Model for World {
 }
 
 impl World {
-    /// The world of this graph with so many workers: no node is contracted, node x has the version x, and no worker
+    /// The world of this graph with this many workers: no node is contracted, node x has the version x, and no worker
     /// has read a row.
     ///
     /// Takes memory for the rows, an entry for each end of an arc, for the book and for the workers.
@@ -85,7 +85,7 @@ impl World {
         self.ledger.overlay()
     }
 
-    /// What was done so far, first to last: the entry of rank k stands at k.
+    /// What was done so far, first to last: the entry of rank k is at k.
     pub fn log(&self) -> &[Contraction]
         ensures entries { result.now ≡ self.now.ledger.log }
         ensures reached { IsReached self.now.ledger.graph self.now.ledger.log (state_of self.now.ledger.overlay) }
@@ -118,13 +118,13 @@ impl World {
         View::new(&self.views[worker as usize], self.ledger.overlay().bound())
     }
 
-    /// One event, and what is answered to it.
+    /// One event, and what is returned for it.
     ///
     /// `NoSuch`, which is tested first, where there is no such worker, no such version of the node, or where an offer
     /// is under another bound than the graph's or rests on a row that the worker doesn't have with this version and
     /// content. Of an offer then `Contracted` where its node is, or else `Stale` where a version isn't current, by the
-    /// first such row, or else it is accepted: nothing but versions is compared. After one of these refusals, and for
-    /// want of memory, the world is as it was. Takes memory for a row that a worker reads and for the rows that
+    /// first such row, or else it is accepted: nothing but versions is compared. After one of these refusals, and where
+    /// memory runs out, the world is as it was. Takes memory for a row that a worker reads and for the rows that
     /// change; a step costs what it touches.
     pub fn step(&mut self, event: Event) -> Result<Outcome, AllocError>
         ensures step { IfOk result (λ outcome. IsStep self.old event outcome self.new) }
@@ -240,7 +240,7 @@ impl World {
     }
 }
 
-/// The views of so many workers that have read nothing.
+/// The views of this many workers that have read nothing.
 fn empty_views(alloc: Global, workers: u32) -> Result<Vec<Reads>, AllocError>
     ensures { IfOk result (λ views. views.items ≡ replicate workers []) }
 {

@@ -74,7 +74,7 @@ module _ (h : Hierarchy) (s t : ℕ) where
         subst (λ (p : Seed). Joined h p.node places) start walk.joined,
       )
 
--- the same where the hierarchy, the seeds and the bound are told by equations
+-- the same where the hierarchy, the seeds and the bound are given by equations
 pub value-here : (h k : Hierarchy) → h ≡ k → (s t : ℕ) (a b : Seed) → a ≡ free s → b ≡ free t → (bound : Cost) → bound ≡ h.bound → (v : Option Cost) → IsValueBetween h (a ∷ []) (b ∷ []) bound v → IsValue k s t v
 value-here h k same s t a b start stop bound is_bound v value =
     let first = subst (λ (p : Seed). IsValueBetween h (p ∷ []) (b ∷ []) bound v) start value in

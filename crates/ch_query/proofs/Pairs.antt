@@ -32,7 +32,7 @@ between_below : (start stop : Seed) {a b : Cost} → a ≺ b → cost_between st
 between_below start stop below = sum_below_left (sum_below_right (at_most_refl start.cost) below) (at_most_refl stop.cost)
 
 module _ (g : Graph) (h : Hierarchy) (right : IsRight g h) where
-  -- a link stands for a walk of the graph
+  -- a link represents a walk of the graph
   link_walk : (l : Link) → Contains h.links l → Walk (ArcOf g) l.from l.to l.cost
   link_walk l among =
       let arcs = right.unfolds l among in
@@ -131,7 +131,7 @@ IsLeastFound h starts ends found = IfSome found (λ (f : FoundBetween). IsLeastW
 abbrev pub IsExact : Hierarchy → List Seed → List Seed → Option Cost → Type 0
 IsExact h starts ends v = (g : Graph) → IsRight g h → IsDistanceBetween g starts ends v
 
--- The same where the hierarchy and the bound are told by equations
+-- The same where the hierarchy and the bound are given by equations
 
 module _ (h k : Hierarchy) (same : h ≡ k) (made : IsWellMade h) (starts ends : List Seed) (begins : AreSeeds k starts) (stops : AreSeeds k ends) (bound : Cost) (is_bound : bound ≡ longest) where
   value_here : (v : Option Cost) → IsValueBetween h starts ends bound v → IsValueBetween k starts ends longest v

@@ -42,7 +42,7 @@ any_below n (x ∷ xs) all q among = elim (cases_eq q x) [
       any_below n xs (All-tail (λ r. r < n) x xs all) q (rw apart at among)
 ]
 
--- so many different numbers below their number are all of these
+-- n different numbers below n are all of these
 pub rank_taken : (h : Hierarchy) → IsWellMade h → (r : ℕ) → r < length h.ranks → (x : ℕ) × (x < length h.ranks) × (rank_of h x ≡ r)
 rank_taken h made r low = elim (found_or_apart r h.ranks) [
   | inl found ↦ found

@@ -1,4 +1,4 @@
--- One side of a query, as its marks tell it: a search by marks over ranks.
+-- One side of a query, as its marks describe it: a search by marks over ranks.
 use Rattle.std.specs.Prelude.{ℕ, ◌≡◌, ◌+◌, ◌<◌, ◌⊎◌, true, false, Bool, List, length, slice_index, slice_index_or, Option}
 use Rattle.ch_cost.specs.declared.cost.Cost.{Cost}
 use Rattle.ch_cost.specs.Cost.{◌⊕◌, IsNoLonger, IsOfWalks}
@@ -53,7 +53,7 @@ pub record ComesFrom (h : Hierarchy) (side : Side) (marks : List (Mark Label)) (
 abbrev pub IsFrom : Hierarchy → Side → List Seed → List (Mark Label) → ℕ → Label → Type 0
 IsFrom h side seeds marks r e = IsOfSeed h seeds r e ⊎ ComesFrom h side marks r e
 
--- Each label tells where it is from, and its cost stays in range.
+-- Each label says where it is from, and its cost stays in range.
 pub record IsSearching (h : Hierarchy) (side : Side) (seeds : List Seed) (bound : Cost) (marks : List (Mark Label)) : Type 0 where
   pub nodes : length marks ≡ length h.ranks
   pub origin : (r : ℕ) (e : Label) → HasLabel (mark marks r) e → IsFrom h side seeds marks r e

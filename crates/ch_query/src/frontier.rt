@@ -19,10 +19,10 @@ use std::marker::Model;
 
 /// The marks of one side of a query, one for each rank, and which open node is the next to be settled.
 ///
-/// The marks are made once, and take 24 bytes a node: what a climb to a node is compared with stands in one place. The
-/// queue goes by the lengths of the labels, and where these are equal by the ranks. That is enough: a side climbs, so of
+/// The marks are made once, and take 24 bytes a node: what a climb to a node is compared with is in one place. The
+/// queue is ordered by the lengths of the labels, and for equal lengths by the ranks. That is enough: a side climbs, so of
 /// two nodes with labels of one length only that of the lower rank can lead on to the other. The queue may hold older,
-/// longer entries of a node; they are passed over when they come up. The list of touched ranks tells which marks to take
+/// longer entries of a node; they are passed over when they come up. The list of touched ranks says which marks to take
 /// back before the next query.
 #[derive(Drop)]
 pub struct Frontier {
@@ -56,7 +56,7 @@ pub struct Reached {
 }
 
 impl Frontier {
-    /// Marks for so many nodes, none of them seen.
+    /// Marks for this many nodes, none of them seen.
     pub fn new(alloc: Global, nodes: u32) -> Result<Frontier, AllocError>
         ensures { IfOk result (λ f. f ≡ replicate nodes Unseen) }
     {

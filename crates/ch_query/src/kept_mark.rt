@@ -18,7 +18,7 @@ pub enum State {
 }
 
 /// A mark in 24 bytes, as a long list has it: whatever the state there is room for a label. Where the node is unseen its
-/// length is the greatest number, so that of most climbs the lengths alone tell that they are no better.
+/// length is the greatest number, so that of most climbs the lengths alone show that they are no better.
 #[derive(Clone, Copy)]
 pub struct KeptMark {
     cost: Cost,
@@ -83,7 +83,7 @@ impl KeptMark {
         }
     }
     /// Whether a climb of this cost is better than what is known. For a settled node it costs at least what the label does,
-    /// so that open and settled ones need not be told apart.
+    /// so that open and settled ones need not be distinguished.
     pub fn is_improved_by(&self, cost: Cost) -> bool
         requires { (e : Label) → mark_in self.now ≡ Settled e → e.cost ≼ cost }
         ensures { IsTrue result ↔ Improves label_cost cost (mark_in self.now) }

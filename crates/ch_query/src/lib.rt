@@ -1,6 +1,6 @@
 //! Queries of a contraction hierarchy: least rise-fall walks.
 //!
-//! Stands on `ch_graph`, of which it uses that a hierarchy is well made, and on the laws of costs of `ch_cost`. Its main
+//! Builds on `ch_graph`, of which it uses that a hierarchy is well made, and on the laws of costs of `ch_cost`. Its main
 //! type is [`Search`]. The promise of the layer is the contract of [`Search::distance`]: the cost is the value of the
 //! hierarchy for the two nodes, none exactly where it has none, and the links are a rise-fall walk of that cost. It is the
 //! case of one start and one end of [`Search::between`], which takes several, each with a cost of its own. A query

@@ -29,7 +29,7 @@ impl Model for LinkNumbers {
 }
 
 impl LinkNumbers {
-    /// So many numbers, all of them 0, for a hierarchy that has so many links.
+    /// This many numbers, all of them 0, for a hierarchy that has this many links.
     ///
     /// Takes 4 bytes each, or 8 where there are 2^32 links or more.
     pub fn with_room(alloc: Global, count: usize, links: usize) -> Result<LinkNumbers, AllocError>

@@ -100,7 +100,7 @@ impl UpwardSteps {
     }
 }
 
-/// Adds to the count of each rank those of the ranks below it. Answers how many links there are in all.
+/// Adds to the count of each rank those of the ranks below it. Returns how many links there are in all.
 fn sum_up(hierarchy: &Hierarchy, side: Side, counts: &mut LinkNumbers) -> usize
     requires few { length hierarchy.now.links < 2 ^ 64 }
     requires counted { IsCounted hierarchy.now side (length hierarchy.now.links) counts.old.items }

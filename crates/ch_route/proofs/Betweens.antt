@@ -19,7 +19,7 @@ use Rattle.ch_unpack.specs.declared.error.UnpackError.TheVariants.{TooLong}
 use Rattle.ch_route.specs.Between.{HasTooLongBetween, IsLeastLengthBetween, IsRouteBetweenBy, IsUnfoldedWay}
 use Rattle.ch_route.specs.Laws.{LengthsBetweenAreLeast}
 
--- The places of a walk between a start and an end, and the arcs that its links stand for
+-- The places of a walk between a start and an end, and the arcs that its links represent
 
 module _ (names : PlacesNameLinks) (h : Hierarchy) (starts ends : List Seed) (from to : ℕ) (places : List LinkId) (c : Cost) (w : IsWalkBetween h starts ends from to places c) where
   unfolded_way : (arcs : List Link) → Unfolded h places arcs → IsUnfoldedWay h w.start w.stop c arcs

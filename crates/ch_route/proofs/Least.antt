@@ -63,6 +63,6 @@ pub never_long : {T : Type 0} (h : Hierarchy) (s t : ℕ) (r : Result T UnpackEr
 never_long h s t r law made source target long is one g graph right =
     law g h s t graph right one made (subst (λ k. s < k) right.nodes source) (subst (λ k. t < k) right.nodes target) (long is)
 
--- and what it answered
+-- and what it returned
 pub length_over : LengthsAreLeast → (h : Hierarchy) (s t : ℕ) (n : Option ℕ) → s < length h.ranks → t < length h.ranks → IsLengthBy h s t n → (g : Graph) → IsRight g h → IsLeastLength g s t n
 length_over law h s t n source target found g right = law g h s t n right (subst (λ k. s < k) right.nodes source) (subst (λ k. t < k) right.nodes target) found

@@ -51,7 +51,7 @@ record HasLength (g : Graph) (x z n : ℕ) : Type 0 where
 joined : {g : Graph} {x y z m n : ℕ} → HasLength g x y m → HasLength g y z n → HasLength g x z (m + n)
 joined a b = record { cost = a.cost ⊕ b.cost; walk = join a.walk b.walk; long = omega (arith, length_of-sum a.cost b.cost, a.long, b.long) }
 
--- a chain of links of which each stands for a walk of its length
+-- a chain of links of which each represents a walk of its length
 chain-long : {g : Graph} {IsKind : Link → Type 0} → ((l : Link) → IsKind l → HasLength g l.from l.to (length_of l.cost)) → {ls : List Link} {x z : ℕ} {c : Cost} → Chain IsKind ls x z c → HasLength g x z (length_of c)
 chain-long each nothing = record { cost = zero_cost; walk = stay; long = refl }
 chain-long {g} each (then {l = l} {z = z} {d = d} kind from rest) =
@@ -79,7 +79,7 @@ module _ (g : Graph) (h : Hierarchy) (right : IsRightByWeight g h) where
       let arcs = right.unfolds l within in
       chain-long arc-long (right.unfolded l arcs.0 within arcs.1)
 
-  -- a rise-fall walk, of any length, stands for a walk of the graph
+  -- a rise-fall walk, of any length, represents a walk of the graph
   graph-long : {links : List Link} {s t : ℕ} {c : Cost} → IsRiseFall h links s t c → HasLength g s t (length_of c)
   graph-long {c = c} leads =
       let up = chain-long (λ l kind. link-long l kind.among) leads.rises in

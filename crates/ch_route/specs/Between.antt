@@ -68,7 +68,7 @@ IsShortestBetween IsRoute g starts ends None = IsLeastLengthBetween g starts end
 -- By a hierarchy
 
 -- The links are a rise-fall walk from one seed to the other, the three cost c together, and the arcs are what the links
--- stand for.
+-- represent.
 pub record IsUnfoldedWay (h : Hierarchy) (start stop : Seed) (c : Cost) (arcs : List Link) : Type 0 where
   pub links : List Link
   pub way : Cost
@@ -76,7 +76,7 @@ pub record IsUnfoldedWay (h : Hierarchy) (start stop : Seed) (c : Cost) (arcs : 
   pub sum : c ≡ cost_between start way stop
   pub unfolds : UnfoldsAll h links arcs
 
--- The nodes are those of the arcs that such a walk stands for, from the start to the end that were taken, fewer than there
+-- The nodes are those of the arcs that such a walk represents, from the start to the end that were taken, fewer than there
 -- are nodes.
 pub record IsUnfoldedBetween (h : Hierarchy) (starts ends : List Seed) (r : RouteBetween) : Type 0 where
   pub start : Seed
@@ -94,7 +94,7 @@ abbrev pub IsRouteBetweenBy : Hierarchy → List Seed → List Seed → Option R
 IsRouteBetweenBy h starts ends (Some r) = IsValueBetween h starts ends longest (Some r.cost) × IsUnfoldedBetween h starts ends r
 IsRouteBetweenBy h starts ends None = IsValueBetween h starts ends longest None
 
--- a least rise-fall walk between a start and an end stands for as many arcs as there are nodes, or more
+-- a least rise-fall walk between a start and an end represents as many arcs as there are nodes, or more
 pub record HasTooLongBetween (h : Hierarchy) (starts ends : List Seed) : Type 0 where
   pub start : Seed
   pub stop : Seed

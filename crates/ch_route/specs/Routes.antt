@@ -32,8 +32,8 @@ IsFewestWalk g s t None = IsLeastLength g s t None
 
 -- By a hierarchy
 
--- The cost is the value of the hierarchy, and the nodes are those of the arcs that a rise-fall walk of that cost stands
--- for, fewer than there are nodes.
+-- The cost is the value of the hierarchy, and the nodes are those of the arcs that a rise-fall walk of that cost
+-- represents, fewer than there are nodes.
 pub record IsUnfoldedRoute (h : Hierarchy) (s t : ℕ) (r : Route) : Type 0 where
   pub links : List Link
   pub arcs : List Link
@@ -46,7 +46,7 @@ abbrev pub IsRouteBy : Hierarchy → ℕ → ℕ → Option Route → Type 0
 IsRouteBy h s t (Some r) = IsUnfoldedRoute h s t r
 IsRouteBy h s t None = IsValue h s t None
 
--- a least rise-fall walk from s to t stands for as many arcs as there are nodes, or more
+-- a least rise-fall walk from s to t represents as many arcs as there are nodes, or more
 pub record HasTooLong (h : Hierarchy) (s t : ℕ) : Type 0 where
   pub cost : Cost
   pub links : List Link

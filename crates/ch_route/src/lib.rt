@@ -1,6 +1,6 @@
 //! One route, or its length alone: the least walk from one node to another, by a hierarchy.
 //!
-//! Uses `ch_query` for the least rise-fall walk of the hierarchy, `ch_unpack` for the nodes that its links stand for, and
+//! Uses `ch_query` for the least rise-fall walk of the hierarchy, `ch_unpack` for the nodes that its links represent, and
 //! of `ch_laws` why both together are a least walk of the graph. Its main type is [`Router`]. The promise of the layer is
 //! the contract of [`Router::route`]: for every graph that the hierarchy is right for, a least walk of that graph, of all
 //! least walks one with the fewest arcs, or none exactly where there is no walk; and of [`Router::length`], the least

@@ -22,7 +22,7 @@ use std::marker::Model;
 /// Answers pairs of nodes by one hierarchy, each with a least route or with its length alone.
 ///
 /// It holds what [`Search`] holds: about 56 bytes a node and 16 a link, or 64 and 20 where there are 2^32 links or more,
-/// and what the largest call so far needed beside it. After a call that failed it answers as a new one.
+/// and what the largest call so far needed beside it. After a call that failed it works as a new one.
 #[derive(Drop)]
 pub struct Router<'a> {
     alloc: Global,
@@ -79,7 +79,7 @@ impl<'a> Router<'a> {
     /// The least route from the first node of the pair to the second, or none where there is no way.
     ///
     /// The cost is the value of the hierarchy, and the nodes are those of the arcs that a rise-fall walk of that cost
-    /// stands for. Where the hierarchy is right for a graph the route is a least walk of it, and of all least walks one
+    /// represents. Where the hierarchy is right for a graph the route is a least walk of it, and of all least walks one
     /// with the fewest arcs; where it is right by weight, as in version 1, it is any least walk. From a node to itself it
     /// is that node alone, at no cost.
     ///

@@ -1,4 +1,4 @@
--- The arcs that links at places stand for, when the first of the links is unfolded.
+-- The arcs that links at places represent, when the first of the links is unfolded.
 use Rattle.std.proofs.Common.{ℕ, ◌≡◌, ◌<◌, ◌≤◌, List, [], ◌∷◌, ◌++◌, length, map, None, Contains, get_or, arith, ap, subst, sym, refl, ◌∙◌, append_assoc, length-append}
 use Rattle.std.specs.List.{AllZip}
 use Rattle.std.proofs.lemmas.List.{get_or_default}

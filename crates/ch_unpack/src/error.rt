@@ -11,7 +11,7 @@ use std::fmt;
 pub enum UnpackError {
     /// A growth was refused.
     OutOfMemory = 1,
-    /// The links stand for as many arcs as there are nodes, or more.
+    /// The links represent as many arcs as there are nodes, or more.
     TooLong,
 }
 

@@ -1,7 +1,7 @@
-//! Routes as nodes: the arcs that the links of a route stand for.
+//! Routes as nodes: the arcs that the links of a route represent.
 //!
-//! Stands on `ch_graph`, of which it uses that hierarchies are well made, that each link unfolds to one list of links
-//! ([`ch_graph::links_unfold`]), and that [`ch_graph::Hierarchy::parts`] tells where the halves of a link are, and of an
+//! Builds on `ch_graph`, of which it uses that hierarchies are well made, that each link unfolds to one list of links
+//! ([`ch_graph::links_unfold`]), and that [`ch_graph::Hierarchy::parts`] says where the halves of a link are, and of an
 //! arc where it leads. The promise of the layer is the contract of [`unpack`]: the source and the heads of the unfolded
 //! links, in order, or a refusal where there are more of them than a route without a repeated node has.
 //!

@@ -8,13 +8,13 @@ use smallvec::SmallVec;
 use std::alloc::{AllocError, Global};
 
 /// The nodes of the route from `source` along the links at these places: the source, and then the heads of the arcs
-/// that the links stand for, in order.
+/// that the links represent, in order.
 ///
 /// The first link leaves `source`, and each other leaves the node where the one before it came to. `TooLong` where
 /// the arcs are not fewer than the nodes of the hierarchy, since then the route repeats a node.
 ///
 /// It keeps the nodes that it came to and the places of the links that still lie ahead, together at most as many as the
-/// hierarchy has nodes, and asks for the parts of each of these once, however many arcs the links stand for: as soon as
+/// hierarchy has nodes, and asks for the parts of each of these once, however many arcs the links represent: as soon as
 /// they would be more it ends, and it never calls itself.
 ///
 /// In the hierarchy that is drawn at `Search::distance` of `ch_query`, the least walk from 0 to 3 is a link that is an
@@ -25,7 +25,7 @@ use std::alloc::{AllocError, Global};
 /// 0 ------> 1 =========> 3     the links from 0 to 3
 ///
 ///      2         1         1
-/// 0 ------> 1 ------> 4 ------> 3     the arcs that they stand for
+/// 0 ------> 1 ------> 4 ------> 3     the arcs that they represent
 /// ```
 pub fn unpack(
     alloc: Global,
@@ -58,7 +58,7 @@ pub fn unpack(
 }
 
 // Puts the halves of a shortcut ahead, the first of them last, where that leaves the nodes that the route came to and
-// the links ahead together at most as many as there is room for. Else it goes no further: each link ahead stands for one
+// the links ahead together at most as many as there is room for. Else it goes no further: each link ahead represents one
 // arc or more, so the route has more than it may have.
 fn turn_off(
     ahead: &mut SmallVec<LinkId, 32>,

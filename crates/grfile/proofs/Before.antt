@@ -164,7 +164,7 @@ module _ {E : Type 0} (grammar : Grammar E) where
   pub told_fresh : (taken : Taken E) (rest : List ℕ) → taken.failed ≡ None → told_with grammar taken rest ≡ listing_from grammar taken.line taken.listing (lines_after taken.begun rest)
   told_fresh taken rest fresh = rw fresh refl
 
-  -- after so many bytes
+  -- after this many bytes
   pub read_so_far : (first mid : Taken E) (bytes : List ℕ) (e : GrError) → mid.failed ≡ None → ((rest : List ℕ) → told_with grammar mid rest ≡ told_with grammar first (bytes ++ rest)) → e.line ≡ next_line mid.line → IsReadTo grammar (λ rest. told_with grammar first (bytes ++ rest)) e
   read_so_far first mid bytes e fresh told line_is = record { number = mid.line; listing = mid.listing; begun = mid.begun; back = []; so_far = λ rest. sym (told rest) ∙ told_fresh mid rest fresh; line_is = line_is }
 

@@ -30,7 +30,7 @@ drop_two : (fields : List (List ℕ)) (at : ℕ) → drop (suc (suc at)) fields 
 drop_two [] at = refl
 drop_two (f ∷ fields) at = refl
 
--- what stands behind the colon, by its place in the line
+-- what is behind the colon, by its place in the line
 pub behind_is : (fields behind : List (List ℕ)) (at : ℕ) → behind ≡ drop (at + 2) fields → at ≡ colon_at (drop 1 fields) → behind ≡ behind_colon (drop 1 fields)
 behind_is fields behind at is colon =
     let two : at + 2 ≡ suc (suc at) = omega arith in
@@ -46,7 +46,7 @@ and_false false b is = refl
 and_true : (a b : Bool) → a ≡ true → b ≡ true → (a && b) ≡ true
 and_true a b a_is b_is = rw a_is b_is
 
--- too few or too many stand before it or behind it
+-- too few or too many are before it or behind it
 pub no_starts : (fields : List (List ℕ)) → is_of_places (colon_at fields) ≡ false → are_ends fields ≡ false
 no_starts fields is = rw is refl
 

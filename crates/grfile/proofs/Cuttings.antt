@@ -1,4 +1,4 @@
--- What is told of a text that was taken in pieces, and how many of its lines have ended.
+-- What is said of a text that was taken in pieces, and how many of its lines have ended.
 use Rattle.std.proofs.Common.{ℕ, ◌≡◌, ◌≢◌, ◌+◌, ◌*◌, ◌^◌, ◌<◌, ◌≤◌, List, [], ◌++◌, length, Option, Some, None, Result, Ok, Err, MatchResult, MatchOption, IfSome, arith, refl, ap, sym, subst, ◌∙◌}
 use Rattle.std.specs.Prelude.{⊤}
 use Rattle.std.specs.Io.KnownBytes.{Consumes, Keeps, IsAtEnd}
@@ -152,7 +152,7 @@ pub nothing_taken : (had : Option (List ℕ)) → IfSome had (λ text. MatchOpti
 nothing_taken None = tt
 nothing_taken (Some text) = refl
 
--- what is told of the end is refused by no failed read
+-- what is said of the end is refused by no failed read
 pub reads_at_end : {S A B : Type 0} (step : S → S → Result ℕ Error → Type 0) (remaining : S → Option (List ℕ)) {most : ℕ} {from to : S}
     (r : Result A GrError) (old mid : List ℕ → Result B GrError) (line : ℕ) → HasTaken old mid line (remaining from) (remaining to)
     → IfErr r (IsAtEndOf line) → ReachesEnd step remaining most from to

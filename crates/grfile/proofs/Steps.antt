@@ -59,7 +59,7 @@ push_front {E} size front entry (Ok entries) = ap (λ (all : List E). joined siz
 push_front size front entry (Err e) = refl
 
 module _ {E : Type 0} (grammar : Grammar E) (n : ℕ) (rest : List (List ℕ)) where
-  -- what is said once an entry was read, with so many left
+  -- what is said once an entry was read, with this many left
   abbrev said_after : Listing E → ℕ → E → Result (Listing E) GrError
   said_after listing left entry = (entries_after grammar listing.size left n rest >>= (λ entries. Ok (entry ∷ entries))) >>= joined listing.size listing.entries
 
@@ -142,7 +142,7 @@ module _ {E : Type 0} (grammar : Grammar E) (n : ℕ) (line : List ℕ) (more : 
   pub step-lists : (listed : Listed E) → o ≡ Some listed → IsRead grammar line Entry more → listing_from grammar n (option_map listing_of o) (line ∷ rest) ≡ entry_then grammar (next_line n) (listing_of listed) more rest
   step-lists listed some read = ap (λ (p : Option (Listed E)). listing_from grammar n (option_map listing_of p) (line ∷ rest)) some ∙ step-entry grammar n line more rest (listing_of listed) read
 
--- what was taken, told otherwise
+-- what was taken, in other words
 pub taken_along : {Rest B : Type 0} (r : Result ⊤ GrError) (old new old' new' : Rest → Result B GrError) → Takes r old new → ((rest : Rest) → old' rest ≡ old rest) → ((rest : Rest) → new' rest ≡ new rest) → Takes r old' new'
 taken_along (Ok x) old new old' new' taken olds news = λ rest. news rest ∙ taken rest ∙ sym (olds rest)
 taken_along {B = B} (Err e) old new old' new' taken olds news = λ rest. subst (λ (told : Result B GrError). FromText e.kind (told ≡ Err e)) (sym (olds rest)) (taken rest)

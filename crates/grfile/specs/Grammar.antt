@@ -1,4 +1,4 @@
--- The grammar that the texts share: comments, a problem line, and then so many lines of entries.
+-- The grammar that the texts share: comments, a problem line, and then as many lines of entries as that one says.
 use Rattle.std.specs.Prelude.{ℕ, ◌-◌, ◌==◌, if◌then◌else◌, List, [], ◌∷◌, drop, Some, None, Result, Ok}
 use Rattle.grfile.specs.Letters.{letter_c, letter_p}
 use Rattle.grfile.specs.declared.error.GrError.{GrError}

@@ -1,4 +1,4 @@
--- The bytes that the texts are told by, with the names of their characters.
+-- The bytes that the texts are parsed by, with the names of their characters.
 use Rattle.std.specs.Prelude.{ℕ}
 
 abbrev pub tab : ℕ

@@ -1,4 +1,4 @@
--- What a text says, or its first fault, and how an answer of the code compares with it.
+-- What a text says, or its first fault, and how a result of the code compares with it.
 use Rattle.std.specs.Prelude.{◌≡◌, ◌≢◌, ℕ, ◌+◌, ◌-◌, ◌^◌, min, Result, Ok, Err, MatchResult, ⊤}
 use Rattle.grfile.specs.declared.error.GrError.{GrError}
 use Rattle.grfile.specs.declared.error.GrErrorKind.{GrErrorKind}
@@ -21,22 +21,22 @@ capped n = min n (2 ^ 64 - 1)
 abbrev pub next_line : ℕ → ℕ
 next_line n = capped (n + 1)
 
--- what a fault of this kind says of a text: want of memory and a failed read say nothing
+-- what a fault of this kind says of a text: out of memory and a failed read say nothing
 abbrev pub FromText : GrErrorKind → Type 0 → Type 0
 FromText OutOfMemory P = Unit {0}
 FromText Read P = Unit {0}
 FromText kind P = P
 
--- a refusal for want of memory or a failed read
+-- a refusal because memory ran out or a read failed
 abbrev pub SaysNothing : GrError → Type 0
 SaysNothing e = FromText e.kind ⊥
 
--- The answer, seen by view, is the reading that was told of a text: the same value, or the same fault of the same line.
+-- The result, seen by view, is the reading of a text: the same value, or the same fault of the same line.
 abbrev pub IsReading : {A B : Type 0} → (A → B) → Result A GrError → Result B GrError → Type 0
 IsReading view (Ok x) told = told ≡ Ok (view x)
 IsReading view (Err e) told = FromText e.kind (told ≡ Err e)
 
--- A call that took a part of a text: what was told of the text with that part, whatever follows, is told of what
+-- A call that took a part of a text: what was said of the text with that part, whatever follows, is said of what
 -- follows, now that the part is taken. A fault is the text's, whatever follows.
 abbrev pub Takes : {Rest B : Type 0} → Result ⊤ GrError → (Rest → Result B GrError) → (Rest → Result B GrError) → Type 0
 Takes {Rest} result old new = MatchResult result (λ _. (rest : Rest) → new rest ≡ old rest) (λ e. (rest : Rest) → FromText e.kind (old rest ≡ Err e))

@@ -1,4 +1,4 @@
--- The lines of a text of pairs.
+-- The lines of a query file.
 use Rattle.std.specs.Prelude.{ℕ, ◌-◌, ◌^◌, ◌&&◌, if◌then◌else◌, nat_lt, List, [], ◌∷◌, codes, Result, Ok}
 use Rattle.std.specs.Str.{bytes_eq}
 use Rattle.grfile.specs.Letters.{letter_q}

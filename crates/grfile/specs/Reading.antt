@@ -14,11 +14,11 @@ use Rattle.grfile.specs.Pairs.{pair_grammar}
 unfoldable pub graph_of : List ℕ → Result Graph GrError
 graph_of text = listing_after graph_grammar 0 (lines_of text) >>= (λ (read : Listing Road). Ok (record { nodes = read.size.nodes; arcs = read.entries }))
 
--- the pairs of nodes that a text spells for a graph of so many nodes, or the text's first fault
+-- the pairs of nodes that a text spells for a graph of this many nodes, or the text's first fault
 unfoldable pub pairs_of : ℕ → List ℕ → Result (List (ℕ × ℕ)) GrError
 pairs_of nodes text = listing_after (pair_grammar nodes) 0 (lines_of text) >>= (λ (read : Listing (ℕ × ℕ)). Ok read.entries)
 
--- two of so many nodes
+-- two of this many nodes
 abbrev pub IsPair : ℕ → ℕ × ℕ → Type 0
 IsPair nodes p = (p.0 < nodes) × (p.1 < nodes)
 

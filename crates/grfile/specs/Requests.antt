@@ -39,13 +39,13 @@ place_in_range nodes node weight =
 abbrev pub place_of : ℕ → List ℕ → List ℕ → Result Place GrError
 place_of nodes s c = number_in 0 s >>= (λ node. number_in 0 c >>= (λ weight. place_in_range nodes node weight))
 
--- so many places, which stand at the front of these fields, two fields each
+-- this many places, which are at the front of these fields, two fields each
 abbrev pub places_of : ℕ → ℕ → List (List ℕ) → Result (List Place) GrError
 places_of nodes zero fields = Ok []
 places_of nodes (suc n) (s ∷ c ∷ more) = place_of nodes s c >>= (λ place. places_of nodes n more >>= (λ places. Ok (place ∷ places)))
 places_of nodes (suc n) fields = fault FieldCount 0
 
--- how many fields stand before the first that is a colon; all of them, if none is
+-- how many fields come before the first that is a colon; all of them, if none is
 abbrev pub colon_at : List (List ℕ) → ℕ
 colon_at [] = 0
 colon_at (field ∷ fields) = if bytes_eq field (codes ":") then 0 else suc (colon_at fields)
@@ -54,7 +54,7 @@ colon_at (field ∷ fields) = if bytes_eq field (codes ":") then 0 else suc (col
 abbrev pub behind_colon : List (List ℕ) → List (List ℕ)
 behind_colon fields = drop (suc (colon_at fields)) fields
 
--- so many fields are those of one to eight places
+-- this many fields are those of one to eight places
 abbrev pub is_of_places : ℕ → Bool
 is_of_places n = n == 2 || n == 4 || n == 6 || n == 8 || n == 10 || n == 12 || n == 14 || n == 16
 
@@ -71,7 +71,7 @@ ends_of nodes fields =
     if are_ends fields then places_of nodes (colon_at fields / 2) fields >>= (λ starts. places_of nodes (length (behind_colon fields) / 2) (behind_colon fields) >>= (λ ends. Ok (ends_from starts ends)))
     else fault FieldCount 0
 
--- so many fields stand on each side of the colon, and they are those of places
+-- this many fields are on each side of the colon, and they are those of places
 pub record AreSides (fields : List (List ℕ)) (sides : Sides) : Type 0 where
   pub are : are_ends fields ≡ true
   pub starts : sides.starts ≡ colon_at fields
@@ -122,7 +122,7 @@ request_of nodes line =
     if nat_lt most_bytes (length line) then LineTooLong
     else request_by nodes (fields_of (strip_carriage_return line))
 
--- The requests of a text by a hierarchy of so many nodes: one for each line.
+-- The requests of a text by a hierarchy of this many nodes: one for each line.
 abbrev pub requests_of : ℕ → List ℕ → List Request
 requests_of nodes text = map (request_of nodes) (cut_lines text)
 
@@ -135,7 +135,7 @@ pub record RequestsTaken : Type 0 where
 abbrev pub requests_with : RequestsTaken → List ℕ → List Request
 requests_with taken text = map (request_of taken.nodes) (cut_after taken.begun text)
 
--- one of so many nodes, and a length as a text has it
+-- one of this many nodes, and a length as a text has it
 abbrev pub IsPlace : ℕ → Place → Type 0
 IsPlace nodes place = (place.node < nodes) × (place.weight < 2 ^ 32)
 

@@ -22,7 +22,7 @@ graph_size line (word ∷ n ∷ m ∷ []) =
     else fault UnknownLine line
 graph_size line fields = fault FieldCount line
 
--- a number of a node in a text that has so many
+-- a number of a node in a text that has this many
 abbrev pub is_outside : ℕ → ℕ → Bool
 is_outside nodes node = node == 0 || nat_lt nodes node
 

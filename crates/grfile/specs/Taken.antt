@@ -34,14 +34,14 @@ line_feeds [] = 0
 line_feeds (b ∷ text) = if b == line_feed then line_feeds text + 1 else line_feeds text
 
 -- What is kept of a text: how many lines have ended, what they say once a problem line has come, the bytes of the
--- line that hasn't ended, and the refusal that was answered, if there was one.
+-- line that hasn't ended, and the refusal that was returned, if there was one.
 pub record Taken (E : Type 0) : Type 0 where
   pub line : ℕ
   pub listing : Option (Listing E)
   pub begun : List ℕ
   pub failed : Option GrError
 
--- what is kept of a text of pairs of so many nodes
+-- what is kept of a query file for this many nodes
 pub record PairsTaken : Type 0 where
   pub nodes : ℕ
   pub taken : Taken (ℕ × ℕ)
@@ -49,7 +49,7 @@ pub record PairsTaken : Type 0 where
 abbrev pub taken_of : {E : Type 0} → Pieces E → Taken E
 taken_of pieces = record { line = pieces.progress.line; listing = option_map listing_of pieces.progress.listed; begun = pieces.begun.items; failed = pieces.failed }
 
--- what is told of the whole text if `rest` follows what was taken
+-- what is said of the whole text if `rest` follows what was taken
 abbrev pub told_with : {E : Type 0} → Grammar E → Taken E → List ℕ → Result (Listing E) GrError
 told_with grammar taken rest = elim taken.failed [ Some e ↦ Err e | None ↦ listing_from grammar taken.line taken.listing (lines_after taken.begun rest) ]
 
@@ -68,30 +68,30 @@ pub record TakesLine {E : Type 0} (grammar : Grammar E) (n number : ℕ) (old ne
   pub shorter : length rest < length text
 
 -- A refusal of the line that was reached, by no failed read. `old` lines had ended before the call and `new` have
--- now, of at most so many.
+-- now, of at most this many.
 pub record IsLineReached (old most new : ℕ) (e : GrError) : Type 0 where
   pub from : capped old ≤ new
   pub to : new ≤ most
   pub line_is : e.line ≡ next_line new
   pub no_read : e.kind ≢ Read
 
--- How many lines have ended after a call that took bytes with so many line feeds: one for each, or, after a refusal,
+-- How many lines have ended after a call that took bytes with this many line feeds: one for each, or, after a refusal,
 -- those before the line that was reached.
 abbrev pub CountsLines : {A : Type 0} → Result A GrError → ℕ → ℕ → ℕ → Type 0
 CountsLines result old feeds new = MatchResult result (λ _. new ≡ capped (old + feeds)) (IsLineReached old (old + feeds) new)
 
--- A refusal at the end of a text of which so many lines had ended: no failed read, and want of memory at the next.
+-- A refusal at the end of a text of which this many lines had ended: no failed read, and out of memory at the next.
 pub record IsAtEndOf (line : ℕ) (e : GrError) : Type 0 where
   pub no_read : e.kind ≢ Read
   pub memory : e.kind ≡ OutOfMemory → e.line ≡ next_line line
 
--- Some bytes were taken: what was told of them and of what follows is told of what follows, and as many lines have
+-- Some bytes were taken: what was said of them and of what follows is said of what follows, and as many lines have
 -- ended as they have line feeds. They are those that the reader had before what it has left, where these are known.
 abbrev pub HasTaken : {B : Type 0} → (List ℕ → Result B GrError) → (List ℕ → Result B GrError) → ℕ → Option (List ℕ) → Option (List ℕ) → Type 0
 HasTaken old new line had left = (bytes : List ℕ) × ((rest : List ℕ) → new rest ≡ old (bytes ++ rest)) × (line ≡ capped (line_feeds bytes)) × IfSome had (λ text. MatchOption left ⊥ (λ rest. bytes ++ rest ≡ text))
 
 -- The line of a refusal that says nothing of a text, once these bytes of it were taken: that after the lines which have
--- ended, or, for want of memory, one that was reached in the last piece, of at most 65,536 bytes.
+-- ended, or, where memory ran out, one that was reached in the last piece, of at most 65,536 bytes.
 pub record IsReachedAfter (taken : List ℕ) (e : GrError) : Type 0 where
   pub before : List ℕ
   pub last : List ℕ
@@ -114,7 +114,7 @@ StopsAtReached had left e = StopsWith IsReachedAfter had left e
 abbrev pub ComesFirst : {B : Type 0} → (List ℕ → Result B GrError) → List ℕ → GrError → Type 0
 ComesFirst told taken e = (fault : GrError) → ((rest : List ℕ) → told (taken ++ rest) ≡ Err fault) → e.line ≤ fault.line
 
--- The lines before that of the refusal were read: what is told of the whole text is told of its bytes from that line on.
+-- The lines before that of the refusal were read: what is said of the whole text is said of its bytes from that line on.
 pub record IsReadTo {E : Type 0} (grammar : Grammar E) (told : List ℕ → Result (Listing E) GrError) (e : GrError) : Type 0 where
   pub number : ℕ
   pub listing : Option (Listing E)

@@ -13,7 +13,7 @@ pub enum GrErrorKind {
     Read,
     /// A line of no known kind, or a problem line of another problem.
     UnknownLine,
-    /// No problem line stands before the entries, or none at all.
+    /// No problem line comes before the entries, or none at all.
     NoProblemLine,
     /// A second problem line.
     SecondProblemLine,
@@ -39,7 +39,7 @@ pub struct GrError {
     /// What is wrong.
     pub kind: GrErrorKind,
     /// The line that has the fault, numbered from 1; of a fault at the end of the text, the number of its lines.
-    /// For a failed read one more than the line feeds that were taken. For want of memory the line of the entry, or of the
+    /// For a failed read one more than the line feeds that were taken. Out of memory: the line of the entry, or of the
     /// bytes of a line that hasn't ended, that there was no room for. A number that would pass 2^64 - 1 stays there.
     pub line: u64,
 }

@@ -20,7 +20,7 @@ use std::marker::Model;
 /// Reads the text of a graph that comes in pieces, however it was cut.
 ///
 /// It keeps the arcs of the lines that have ended, and the bytes of the line that hasn't. After a refusal each
-/// further call answers that refusal again.
+/// further call returns that refusal again.
 #[derive(Drop)]
 pub struct GrReader {
     pieces: Pieces<Road>,
@@ -53,7 +53,7 @@ impl GrReader {
 
     /// Takes the next piece of the text.
     ///
-    /// A refusal is of the line that was reached: the fault of a line that has ended, or want of memory, for what
+    /// A refusal is of the line that was reached: the fault of a line that has ended, or out of memory, for what
     /// the line says or for the bytes of one that hasn't ended. No earlier line has a fault, whatever follows.
     pub fn feed(&mut self, piece: &[u8]) -> Result<(), GrError>
         ensures takes { Takes result (λ rest. graph_with self.old (piece.now ++ rest)) (graph_with self.new) }
@@ -79,9 +79,9 @@ impl GrReader {
 
 /// Reads the text of a graph to the reader's end.
 ///
-/// The first fault of the text is answered, with its line; `Read` where the reader fails, and `OutOfMemory` where
-/// a growth is refused, both at the line that was reached, and only where no earlier line has a fault. What is kept is the arcs so far, one line and 64 KiB:
-/// memory grows with what the text has spelled, never with what a line announces.
+/// The first fault of the text is returned, with its line; `Read` where the reader fails, and `OutOfMemory` where
+/// a growth is refused, both at the line that was reached, and only where no earlier line has a fault. What is kept
+/// is the arcs so far, one line and 64 KiB: memory grows with what the text has spelled, never with what a line announces.
 pub fn read_graph<R: StepRead>(alloc: Global, reader: &mut R) -> Result<Graph, GrError>
     ensures reading { IfSome (R.remaining reader.old) (λ text. IsReading (λ g. g) result (graph_of text)) }
     ensures ended { OnOk result (IsAtEnd (R.remaining reader.new)) }
@@ -94,8 +94,8 @@ pub fn read_graph<R: StepRead>(alloc: Global, reader: &mut R) -> Result<Graph, G
     read_graph_within(alloc, reader, MOST_CALLS)
 }
 
-/// Reads as [`read_graph`] does, by so many calls of the reader, or 2^40 where they are more. After the last of them
-/// the answer is `Read`.
+/// Reads as [`read_graph`] does, by this many calls of the reader, or 2^40 where they are more. After the last of them
+/// the result is `Read`.
 pub fn read_graph_within<R: StepRead>(
     alloc: Global,
     reader: &mut R,

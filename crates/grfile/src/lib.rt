@@ -1,9 +1,10 @@
 //! The texts of road graphs and of pairs of nodes, as the Ninth DIMACS Implementation Challenge has them.
 //!
-//! Stands on `ch_graph`, whose graphs it makes, on `counted_io`, which calls the reader, and on `bstr`, which cuts the lines. Its main types are
-//! [`GrReader`] and [`QueryReader`], which take a text in pieces, and [`GrError`], the first fault of a text.
+//! Builds on `ch_graph`, whose graphs it makes, on `counted_io`, which calls the reader, and on `bstr`, which cuts
+//! the lines. Its main types are [`GrReader`] and [`QueryReader`], which take a text in pieces, and [`GrError`], the
+//! first fault of a text.
 //! The promise of the layer is the contract of [`read_graph`] and [`read_queries`]: whatever a text says, its
-//! graph, its pairs or its first fault and the line of that, is what the call answers. Of a text no more is kept than
+//! graph, its pairs or its first fault and the line of that, is what the call returns. Of a text no more is kept than
 //! what its lines have spelled, and the bytes of the line that hasn't ended.
 //!
 //! The texts number nodes from 1, and what is read of them from 0:

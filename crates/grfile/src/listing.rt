@@ -100,7 +100,7 @@ fn take_numbered<F: Form>(
 }
 
 /// Takes the line with this number, the first of a text, where it is a plain one of an entry and there is room for it,
-/// and answers what follows it. Else nothing is taken.
+/// and returns what follows it. Else nothing is taken.
 pub(crate) fn take_plain<'a, F: Form>(
     listed: &mut Option<Listed<F::Entry>>,
     form: F,

@@ -9,7 +9,7 @@ use crate::form::{Form, PlainLine, Size};
 use crate::number::number_in;
 use crate::plain::{after_letter, number_before};
 
-/// The text of pairs of nodes: `p aux sp p2p K`, and then pairs `q S T`.
+/// The query file: `p aux sp p2p K`, and then pairs `q S T`.
 #[derive(Clone, Copy)]
 pub(crate) struct Pairs {
     /// How many nodes there are.

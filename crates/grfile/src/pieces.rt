@@ -26,7 +26,7 @@ pub(crate) struct Pieces<E> {
     pub(crate) progress: Progress<E>,
     /// The bytes of the line that hasn't ended.
     pub(crate) begun: Vec<u8>,
-    /// The refusal that was answered, if there was one.
+    /// The refusal that was returned, if there was one.
     pub(crate) failed: Option<GrError>,
 }
 
@@ -46,7 +46,7 @@ impl<E> Pieces<E> {
     }
 }
 
-/// Takes the next piece of a text. After a refusal each further call answers it again.
+/// Takes the next piece of a text. After a refusal each further call returns it again.
 pub(crate) fn feed<F: Form>(
     pieces: &mut Pieces<F::Entry>,
     form: F,
@@ -122,7 +122,7 @@ fn end_line<F: Form>(
     Ok(())
 }
 
-/// Takes the first line that ends in a text, and answers what follows it, or none where no line ends.
+/// Takes the first line that ends in a text, and returns what follows it, or none where no line ends.
 fn take_first<'a, F: Form>(
     alloc: Global,
     progress: &mut Progress<F::Entry>,
@@ -146,7 +146,7 @@ fn take_first<'a, F: Form>(
     Ok(Some(cut.rest))
 }
 
-/// Takes the lines that end in a text, and answers what follows the last of them.
+/// Takes the lines that end in a text, and returns what follows the last of them.
 fn take_lines<'a, F: Form>(
     alloc: Global,
     progress: &mut Progress<F::Entry>,
@@ -189,7 +189,7 @@ pub(crate) fn finish<F: Form>(
     end(progress)
 }
 
-/// What the text lists that a reader gives to its end in so many calls, or its first fault.
+/// What the text lists that a reader gives to its end in this many calls, or its first fault.
 pub(crate) fn read_listing<F: Form, R: StepRead>(
     alloc: Global,
     form: F,
@@ -206,7 +206,7 @@ pub(crate) fn read_listing<F: Form, R: StepRead>(
     finish(pieces, form)
 }
 
-/// Takes all that a reader gives in so many calls, in pieces of 64 KiB at most.
+/// Takes all that a reader gives in this many calls, in pieces of 64 KiB at most.
 fn feed_all<F: Form, R: StepRead>(
     pieces: &mut Pieces<F::Entry>,
     form: F,
@@ -229,7 +229,7 @@ fn feed_all<F: Form, R: StepRead>(
     Ok(())
 }
 
-/// Reads the next bytes into the piece, and answers how many they are, or none at the end. So many lines have ended.
+/// Reads the next bytes into the piece, and returns how many they are, or none at the end. This many lines have ended.
 fn read_piece<R: StepRead>(
     calls: &mut ReadCalls,
     reader: &mut R,

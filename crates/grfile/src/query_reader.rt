@@ -15,10 +15,10 @@ use counted_io::{MOST_CALLS, StepRead};
 use std::alloc::Global;
 use std::marker::Model;
 
-/// Reads the text of pairs of nodes that comes in pieces, however it was cut.
+/// Reads a query file that comes in pieces, however it was cut.
 ///
 /// It keeps the pairs of the lines that have ended, and the bytes of the line that hasn't. After a refusal each
-/// further call answers that refusal again.
+/// further call returns that refusal again.
 #[derive(Drop)]
 pub struct QueryReader {
     nodes: u32,
@@ -39,7 +39,7 @@ impl Model for QueryReader {
 }
 
 impl QueryReader {
-    /// A reader of pairs of so many nodes that has taken nothing. Takes no memory.
+    /// A reader of pairs of this many nodes that has taken nothing. Takes no memory.
     pub fn new(alloc: Global, nodes: u32) -> QueryReader
         ensures told { (rest : List ℕ) → pairs_with result rest ≡ pairs_of nodes rest }
         ensures begins { (result.taken.line ≡ 0) × (result.taken.failed ≡ None) }
@@ -53,7 +53,7 @@ impl QueryReader {
 
     /// Takes the next piece of the text.
     ///
-    /// A refusal is of the line that was reached: the fault of a line that has ended, or want of memory, for what
+    /// A refusal is of the line that was reached: the fault of a line that has ended, or out of memory, for what
     /// the line says or for the bytes of one that hasn't ended. No earlier line has a fault, whatever follows.
     pub fn feed(&mut self, piece: &[u8]) -> Result<(), GrError>
         ensures takes { Takes result (λ rest. pairs_with self.old (piece.now ++ rest)) (pairs_with self.new) }
@@ -81,11 +81,11 @@ impl QueryReader {
     }
 }
 
-/// Reads the text of pairs of so many nodes to the reader's end. The pairs are numbered from 0.
+/// Reads a query file for this many nodes to the reader's end. The pairs are numbered from 0.
 ///
-/// The first fault of the text is answered, with its line; `Read` where the reader fails, and `OutOfMemory` where
-/// a growth is refused, both at the line that was reached, and only where no earlier line has a fault. What is kept is the pairs so far, one line and 64 KiB:
-/// memory grows with what the text has spelled, never with what a line announces.
+/// The first fault of the text is returned, with its line; `Read` where the reader fails, and `OutOfMemory` where
+/// a growth is refused, both at the line that was reached, and only where no earlier line has a fault. What is kept
+/// is the pairs so far, one line and 64 KiB: memory grows with what the text has spelled, never with what a line announces.
 pub fn read_queries<R: StepRead>(
     alloc: Global,
     reader: &mut R,
@@ -103,8 +103,8 @@ pub fn read_queries<R: StepRead>(
     read_queries_within(alloc, reader, nodes, MOST_CALLS)
 }
 
-/// Reads as [`read_queries`] does, by so many calls of the reader, or 2^40 where they are more. After the last of them
-/// the answer is `Read`.
+/// Reads as [`read_queries`] does, by this many calls of the reader, or 2^40 where they are more. After the last of them
+/// the result is `Read`.
 pub fn read_queries_within<R: StepRead>(
     alloc: Global,
     reader: &mut R,

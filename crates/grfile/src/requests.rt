@@ -17,7 +17,7 @@ use std::marker::Model;
 /// How many bytes a line of a request has at most, its carriage return among them, its line feed not.
 const MOST_BYTES: usize = 4096;
 
-/// So many bytes of a line are kept: one more than a line may have.
+/// This many bytes of a line are kept: one more than a line may have.
 const KEPT_BYTES: usize = 4097;
 
 /// How many fields one to eight places have at most.
@@ -84,7 +84,7 @@ impl Model for RequestReader {
 }
 
 impl RequestReader {
-    /// A reader of requests about so many nodes that has taken nothing.
+    /// A reader of requests about this many nodes that has taken nothing.
     pub fn new(nodes: u32) -> RequestReader
         ensures told { (text : List ℕ) → requests_with result text ≡ requests_of nodes text }
         ensures nodes { result.nodes ≡ nodes }
@@ -267,7 +267,7 @@ fn sides_of(line: &[u8]) -> Option<Sides>
     Some(Sides { starts, ends })
 }
 
-// Whether so many fields are those of one to eight places.
+// Whether this many fields are those of one to eight places.
 fn is_of_places(fields: usize) -> bool
     ensures { result ≡ is_of_places fields }
 {
@@ -281,7 +281,7 @@ fn is_of_places(fields: usize) -> bool
         || fields == 16
 }
 
-// The fields of the line behind the first ones, so many.
+// The fields of the line behind the first ones, this many.
 fn fields_behind(first: usize, line: &[u8]) -> Fields<'_>
     ensures { result ≡ drop first (fields_of line.now) }
 {
@@ -294,7 +294,7 @@ fn fields_behind(first: usize, line: &[u8]) -> Fields<'_>
     fields
 }
 
-// How many fields stand before the first that is a colon, or none where they are more than sixteen.
+// How many fields come before the first that is a colon, or none where they are more than sixteen.
 fn colon_at(mut fields: Fields<'_>) -> Option<usize>
     ensures { MatchOption result (16 < colon_at fields.entry) (λ at. at ≡ colon_at fields.entry) }
 {
@@ -321,7 +321,7 @@ fn count(mut fields: Fields<'_>) -> Option<usize>
     None
 }
 
-// So many places, from the front of the fields.
+// This many places, from the front of the fields.
 fn places_of(
     nodes: u32,
     count: usize,

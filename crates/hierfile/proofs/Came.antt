@@ -16,7 +16,7 @@ stops_behind front P Q (Some xs) None left h f stops = absurd h
 stops_behind front P Q (Some xs) (Some ys) None h f stops = absurd stops
 stops_behind front P Q (Some xs) (Some ys) (Some rest) h f stops = (front ++ stops.0, append_assoc front stops.0 rest ∙ ap (λ l. front ++ l) stops.1 ∙ sym h, f stops.0 stops.2)
 
--- the reader failed where fewer waited than so many
+-- the reader failed where fewer waited than this many
 pub stops_short : (waiting : List ℕ) (count : ℕ) (old mid left : Option (List ℕ)) → Keeps old (coming waiting mid) → Keeps mid left → length waiting < count → StopsWhere (λ came. length came < count) old left
 stops_short waiting count None mid left h k less = tt
 stops_short waiting count (Some xs) None left h k less = absurd h

@@ -44,7 +44,7 @@ other_byte a b c h other = grind (arith, nat_tests)
 equal_byte : (a b : ℕ) → (a == b) ≡ true → a ≡ b
 equal_byte a b h = grind (arith, nat_tests)
 
--- the last byte is that of the version that it tells
+-- the last byte is that of the version that it names
 last_byte : (a : ℕ) → not (is_magic 3 a) ≡ false → a ≡ slice_index (magic_of (if a == slice_index (magic_of One) 3 then One else Two)) 3
 last_byte a h =
     elim (a == slice_index (magic_of One) 3) as (λ b. (a == slice_index (magic_of One) 3) ≡ b → a ≡ slice_index (magic_of (if b then One else Two)) 3) [
@@ -134,7 +134,7 @@ faultless_body v n k b bytes sizes none =
     let two : ranks otherwise links ≡ None = first_none (ranks otherwise links) halves three in
     record { sizes = sizes; ranks = first_none ranks links two; links = second_none ranks links two; halves = second_none (ranks otherwise links) halves three; end = second_none (ranks otherwise links otherwise halves) end none }
 
--- the hierarchy that bytes of so many nodes and links say
+-- the hierarchy that bytes of this many nodes and links say
 said : Version → ℕ → ℕ → ℕ → List ℕ → Hierarchy
 said v n k b bytes = record { version = v; ranks = words_in n bytes; links = links_in v k (drop (4 * n) bytes); bound = bound_in v n b }
 

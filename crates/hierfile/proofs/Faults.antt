@@ -123,7 +123,7 @@ found front g old new e {P} h step = of_bytes-map e (λ p. known_behind front (�
     everywhere None p = tt
     everywhere (Some xs) p = p
 
--- what a `?` hands on
+-- what a `?` propagates
 pub hands_on : {T E : Type 0} (r : Result T E) (P : E → Type 0) (e : E) → IsErrAnd r (λ y. y ≡ e) → P e → IfErr r P
 hands_on (Ok x) P e is h = tt
 hands_on (Err y) P e is h = subst P (sym is) h

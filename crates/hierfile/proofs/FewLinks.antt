@@ -17,7 +17,7 @@ slot-rises : (x y z : ℕ) → x ≢ y → x ≢ z → y < z → slot x y < slot
 unfolding slot
 slot-rises x y z apart other less = omega arith
 
--- the place of a link among those that may be, where each node has so many others
+-- the place of a link among those that may be, where each node has this many others
 place : ℕ → Link → ℕ
 place m l = l.from * m + slot l.from l.to
 
@@ -77,7 +77,7 @@ few_for h (suc m) made e =
 pub few_links : (h : Hierarchy) → IsWellMade h → length h.links ≤ length h.ranks * (length h.ranks - 1)
 few_links h made = few_for h (length h.ranks) made (omega arith)
 
--- and eight bytes tell how many there are
+-- and eight bytes hold how many there are
 pub few_enough : (h : Hierarchy) → IsWellMade h → length h.links < 2 ^ 64
 few_enough h made =
     let few : length h.links ≤ length h.ranks * (length h.ranks - 1) = few_links h made in

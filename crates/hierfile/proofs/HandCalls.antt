@@ -1,4 +1,4 @@
--- The calls that handed gathered bytes to a writer, one after the other.
+-- The calls that passed gathered bytes to a writer, one after the other.
 use Rattle.std.proofs.Common.{ℕ, ◌≡◌, ◌+◌, [], Result, arith, ap, sym, subst}
 use Rattle.std.specs.declared.io.Error.{Error}
 use Rattle.counted_io.specs.Calls.{StopsBy, Takings}
@@ -20,7 +20,7 @@ module _ {S : Type 0} (step : S → S → Result ℕ Error → Type 0) where
   pub stops_later : (x y : Gathered) (written : ℕ) {a b c : S} → Hands step x y a b → Stops step y written b c → Stops step x written a c
   stops_later x y written h k = (h.0 + k.0, omega (arith, h.1, k.1), stops_then step x.left y.left h.0 k.0 h.2 k.2)
 
-  -- from the start on, where so many calls may be made
+  -- from the start on, where this many calls may be made
   pub all_written : (start end : Gathered) (most count : ℕ) {a b : S} → start ≡ record { waiting = []; written = 0; left = most } → Hands step start end a b → end.written ≡ count → IsWrittenWithin step most count a b
   all_written start end most count {a} {b} e h whole =
       let left : start.left ≡ most = ap (λ (g : Gathered). g.left) e in

@@ -93,7 +93,7 @@ took_part a b g most whole written e k =
     let first : take written whole ≡ taken = ap (take written) parts ∙ ap (λ n. take n (taken ++ (rest ++ k.1))) count ∙ take-append_seam taken (rest ++ k.1) in
     (omega (arith, k.5, count, ap length parts, length-append taken (rest ++ k.1), length-append rest k.1), subst (Appends a b) (sym first) k.4.given)
 
--- and where all was handed to it
+-- and where all was passed to it
 pub took_all : (a b c : Option (List ℕ)) (x y z : Gathered) (most : ℕ) (whole : List ℕ) → x ≡ record { waiting = []; written = 0; left = most } → Handed a b x y whole → HandsOn b c y.waiting z.waiting y.written z.written → z.waiting ≡ [] → Appends a c whole
 took_all a b c x y z most whole e h k none =
     let empty : x.waiting ≡ [] = ap (λ (g : Gathered). g.waiting) e in

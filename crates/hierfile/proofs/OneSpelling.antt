@@ -1,4 +1,4 @@
--- A well made hierarchy can be told by its bytes.
+-- A well made hierarchy is determined by its bytes.
 use Rattle.std.proofs.Common.{ℕ, ◌≡◌, ◌-◌, ◌*◌, ◌^◌, ◌<◌, ◌≤◌, List, [], ◌++◌, length, get_or, drop, Option, None, Some, All, sym, refl, ap, ◌∙◌, subst, arith, append_assoc, append-nil}
 use Rattle.std.specs.Prelude.{IfSome}
 use Rattle.std.specs.List.{flat_map}
@@ -28,7 +28,7 @@ arcs_fit h made =
     let greatest : Cost = cost_of_arcs (length h.ranks - 1) (2 ^ 32 - 1) in
     omega (arith, arcs-from_within h.bound greatest made.bound, arcs_of-cost_of_arcs (length h.ranks - 1) (2 ^ 32 - 1), made.few_nodes)
 
--- the bound is told by its length
+-- the bound is determined by its length
 pub bound_is : (h : Hierarchy) → IsWellMade h → bound_in h.version (length h.ranks) (length_of h.bound) ≡ h.bound
 bound_is h made = ap (λ (n : ℕ). of_walk (length_of h.bound) n) (sym made.bound_arcs) ∙ of_walk-numbers h.bound
 

@@ -13,7 +13,7 @@ use Rattle.hierfile.specs.Reading.{FailsBefore, HasRead, IsRefused, Refuses}
 use Rattle.hierfile.proofs.Faults.{behind, found, memory_is_no_read}
 use Rattle.hierfile.proofs.Came.{stops_behind, stops_where}
 
--- what a `?` hands on
+-- what a `?` propagates
 pub hands_back : {T E : Type 0} (r : Result T E) (Q : T → Type 0) (P : E → Type 0) (e : E) → IsErrAnd r (λ y. y ≡ e) → P e → MatchResult r Q P
 hands_back (Ok x) Q P e is h = absurd is
 hands_back (Err y) Q P e is h = subst P (sym is) h
@@ -54,7 +54,7 @@ module _ {S : Type 0} (step : S → S → Result ℕ Error → Type 0) (remainin
   pub fault_found : {x y : Buffered} {a b : S} {front : List ℕ} {e : HierError} {P : Type 0} {Q : List ℕ → Type 0} (g : List ℕ → Option HierError) → Takes x y a b front → (P → (rest : List ℕ) → g (front ++ rest) ≡ Some e) → OfBytes e P → e ≢ Read → IsRefused step remaining x a b (Refuses g Q) e
   fault_found {e = e} g h leads is no_read = record { fault = record { told = found _ g _ _ e h.bytes leads is; read = λ read. absurd (no_read read) }; calls = refused_after step h.calls no_read }
 
-  -- want of memory after calls of the reader
+  -- out of memory after calls of the reader
   pub no_memory : {x : Buffered} {left : ℕ} {a b : S} {Q : List ℕ → Type 0} (g : List ℕ → Option HierError) → IsRead step x.left left a b → IsRefused step remaining x a b (Refuses g Q) OutOfMemory
   no_memory g h = record { fault = record { told = tt; read = λ read. absurd (memory_is_no_read read) }; calls = refused_after step h memory_is_no_read }
 

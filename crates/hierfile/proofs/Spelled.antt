@@ -105,7 +105,7 @@ unfolding link_bytes word long
 drop-link_bytes One l rest = refl
 drop-link_bytes Two l rest = refl
 
--- so many links, and one more
+-- this many links, and one more
 pub one_more : (v : Version) (n : ℕ) → link_size v * (n + 1) ≡ link_size v * n + link_size v
 one_more v n = ap (λ m. link_size v * m) (add-one n) ∙ mul-suc (link_size v) n
 

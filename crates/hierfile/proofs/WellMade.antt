@@ -293,7 +293,7 @@ well_made v n k b ranks links sizes count_ranks ranks_ok count_links links_ok ha
           };
     }
 
--- the same of parts that go by other names
+-- the same of parts that have other names
 pub well_made_of : (v : Version) (n k b : ℕ) (ranks seen : List ℕ) (links tested : List Link) (bound : Cost) → size_fault n k b ≡ None → length ranks ≡ n → NoneBelow n (rank_fault n ranks) → length links ≡ k
     → NoneBelow k (link_fault_at v seen bound links) → first_along (half_fault tested) tested ≡ None → seen ≡ ranks → tested ≡ links → bound ≡ bound_in v n b → IsWellMade (record { version = v; ranks = ranks; links = links; bound = bound })
 well_made_of v n k b ranks seen links tested bound sizes count_ranks ranks_ok count_links links_ok halves_ok same_ranks same_links same_bound =

@@ -19,7 +19,7 @@ use Rattle.hierfile.proofs.Heads.{sizes, head_fault-sizes, nodes-sizes, links-si
 abbrev pub at_magic : List ℕ → ℕ → Option HierError
 at_magic bytes k = cut (k + 1) bytes otherwise fault_if (not (is_magic k (slice_index bytes k))) BadMagic
 
--- a byte of a magic stands where it is
+-- a byte of a magic is one at its place
 its_byte : (v : Version) (rest : List ℕ) (k : ℕ) → k < 4 → not (is_magic k (slice_index (magic_of v ++ rest) k)) ≡ false
 its_byte One rest zero h = refl
 its_byte One rest (suc zero) h = refl
@@ -40,7 +40,7 @@ magic_none v rest = none_below 4 (at_magic (magic_of v ++ rest)) (λ k less.
     let room : k + 1 ≤ length (magic_of v ++ rest) = omega (arith, less, length-magic v, length-append (magic_of v) rest) in
     neither (cut_none (k + 1) (magic_of v ++ rest) room) (unfound _ BadMagic (its_byte v rest k less)))
 
--- what follows it, and the version that it tells
+-- what follows it, and the version that it names
 pub drop-magic : (v : Version) (rest : List ℕ) → drop 4 (magic_of v ++ rest) ≡ rest
 drop-magic One rest = refl
 drop-magic Two rest = refl

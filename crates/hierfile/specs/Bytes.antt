@@ -47,7 +47,7 @@ HasNoneSoFar fault_of bytes = IsCut fault_of bytes ⊎ (fault_of bytes ≡ None)
 abbrev pub StopsWhere : (List ℕ → Type 0) → Option (List ℕ) → Option (List ℕ) → Type 0
 StopsWhere came had left = IfSome had (λ bytes. MatchOption left ⊥ (λ rest. (front : List ℕ) × (front ++ rest ≡ bytes) × came front))
 
--- a test answers this fault, or none; it reads nothing, so Read is no fault of a test
+-- a test returns this fault, or none; it reads nothing, so Read is no fault of a test
 abbrev pub Tells : {X : Type 0} → Result X HierError → Option HierError → Type 0
 Tells (Ok x) fault = fault ≡ None
 Tells (Err e) fault = (fault ≡ Some e) × (e ≢ Read)
@@ -56,7 +56,7 @@ Tells (Err e) fault = (fault ≡ Some e) × (e ≢ Read)
 abbrev pub NoneBelow : ℕ → (ℕ → Option HierError) → Type 0
 NoneBelow n fault_at = (k : ℕ) → k < n → fault_at k ≡ None
 
--- so many arcs fit the bytes that they have in a version, where version 1 has none
+-- this many arcs fit the bytes that they have in a version, where version 1 has none
 abbrev pub AreTold : Version → ℕ → Type 0
 AreTold One n = n ≡ 0
 AreTold Two n = n < 2 ^ 32
@@ -69,7 +69,7 @@ pub record IsWritable (v : Version) (l : Link) : Type 0 where
   pub arcs : AreTold v (arcs_of l.cost)
   pub middle : IfSome l.middle (λ m. m < 2 ^ 32 - 1)
 
--- a hierarchy of a version, of so many nodes and links, with a bound of this length
+-- a hierarchy of a version, of this many nodes and links, with a bound of this length
 pub record IsBodyOf (h : Hierarchy) (v : Version) (nodes count longest : ℕ) : Type 0 where
   pub version : h.version ≡ v
   pub ranks : length h.ranks ≡ nodes
@@ -87,11 +87,11 @@ pub record Gathered : Type 0 where
   pub written : ℕ
   pub left : ℕ
 
--- Gathered bytes were handed to a writer. None of its calls failed, and what they took was counted, and they themselves.
+-- Gathered bytes were passed to a writer. None of its calls failed, and what they took was counted, and they themselves.
 abbrev pub Hands : {S : Type 0} → (S → S → Result ℕ Error → Type 0) → Gathered → Gathered → S → S → Type 0
 Hands step before after old new = (taken : ℕ) × (after.written ≡ before.written + taken) × IsWritten step before.left after.left taken old new
 
--- The writer was called until it failed, or until no call was left, and had then taken so many bytes in all.
+-- The writer was called until it failed, or until no call was left, and had then taken this many bytes in all.
 abbrev pub Stops : {S : Type 0} → (S → S → Result ℕ Error → Type 0) → Gathered → ℕ → S → S → Type 0
 Stops step before written old new = (taken : ℕ) × (written ≡ before.written + taken) × StopsWithin step before.left taken old new
 
@@ -99,6 +99,6 @@ Stops step before written old new = (taken : ℕ) × (written ≡ before.written
 abbrev pub IsPartOf : Option (List ℕ) → Option (List ℕ) → Gathered → List ℕ → ℕ → Type 0
 IsPartOf old new gathered bytes written = (front : List ℕ) × (back : List ℕ) × (rest : List ℕ) × (bytes ≡ front ++ back) × HandsOn old new (gathered.waiting ++ front) rest gathered.written written × (0 < length rest)
 
--- the writer took so many of the bytes, from the first on, but not all
+-- the writer took this many of the bytes, from the first on, but not all
 abbrev pub Took : Option (List ℕ) → Option (List ℕ) → ℕ → List ℕ → Type 0
 Took old new written bytes = (written < length bytes) × Appends old new (take written bytes)

@@ -1,4 +1,4 @@
--- The first fault of the bytes of a file, in the order in which faults are told.
+-- The first fault of the bytes of a file, in the order in which faults are reported.
 use Rattle.std.specs.Prelude.{ℕ, zero, suc, ◌+◌, ◌-◌, ◌*◌, ◌^◌, ◌==◌, Bool, not, ◌||◌, ◌&&◌, nat_lt, nat_le, List, [], ◌∷◌, length, drop, take, Option, Some, None, if◌then◌else◌, slice_index, slice_get, option_and_then, is_some, true}
 use Rattle.std.specs.List.{list_any, find}
 use Rattle.ch_cost.specs.declared.cost.Cost.{Cost}
@@ -25,11 +25,11 @@ abbrev pub first_below : ℕ → (ℕ → Option HierError) → Option HierError
 first_below zero fault_at = None
 first_below (suc n) fault_at = first_below n fault_at otherwise fault_at n
 
--- fewer than so many bytes
+-- fewer than this many bytes
 abbrev pub cut : ℕ → List ℕ → Option HierError
 cut n bytes = fault_if (nat_lt (length bytes) n) Truncated
 
--- whether this byte stands at this place of some magic
+-- whether this byte is at this place of some magic
 abbrev pub is_magic : ℕ → ℕ → Bool
 is_magic k byte = byte == slice_index (magic_of One) k || byte == slice_index (magic_of Two) k
 
@@ -37,7 +37,7 @@ is_magic k byte = byte == slice_index (magic_of One) k || byte == slice_index (m
 abbrev pub magic_fault : List ℕ → Option HierError
 magic_fault bytes = first_below 4 (λ k. cut (k + 1) bytes otherwise fault_if (not (is_magic k (slice_index bytes k))) BadMagic)
 
--- so many nodes and links, and a bound of this length
+-- this many nodes and links, and a bound of this length
 abbrev pub size_fault : ℕ → ℕ → ℕ → Option HierError
 size_fault nodes links bound = fault_if (nat_lt (2 ^ 25) nodes || nat_lt (nodes * (nodes - 1)) links) TooBig
     otherwise fault_if (nat_lt ((nodes - 1) * (2 ^ 32 - 1)) bound) BoundTooBig
@@ -46,7 +46,7 @@ size_fault nodes links bound = fault_if (nat_lt (2 ^ 25) nodes || nat_lt (nodes 
 abbrev pub head_fault : List ℕ → Option HierError
 head_fault bytes = cut 20 bytes otherwise size_fault (word_in bytes) (long_in (drop 4 bytes)) (long_in (drop 12 bytes))
 
--- a rank of one of so many nodes, beside the earlier ranks
+-- a rank of one of this many nodes, beside the earlier ranks
 unfoldable pub rank_test : ℕ → List ℕ → ℕ → Option HierError
 rank_test nodes earlier rank = fault_if (nat_le nodes rank) RankRange otherwise fault_if (list_any (λ r. r == rank) earlier) RankTwice
 
@@ -101,7 +101,7 @@ links_fault v ranks bound count bytes = first_below count (λ k. cut (link_size 
 abbrev pub leads : ℕ → ℕ → Link → Bool
 leads x y l = l.from == x && l.to == y
 
--- halves that were looked for, of a link that costs so much
+-- halves that were looked for, of a link that costs this much
 abbrev pub sum_fault : Option Link → Option Link → Cost → Option HierError
 sum_fault None b cost = Some HalfMissing
 sum_fault (Some a) None cost = Some HalfMissing
@@ -124,7 +124,7 @@ first_along fault_of (l ∷ ls) = fault_of l otherwise first_along fault_of ls
 abbrev pub end_fault : List ℕ → Option HierError
 end_fault bytes = fault_if (nat_lt 0 (length bytes)) Trailing
 
--- the bytes behind the head of a version, where it tells so many nodes and links and a bound of this length
+-- the bytes behind the head of a version, where it gives this many nodes and links and a bound of this length
 unfoldable pub body_fault : Version → ℕ → ℕ → ℕ → List ℕ → Option HierError
 body_fault v nodes count bound bytes =
     let rest = drop (4 * nodes) bytes in

@@ -8,7 +8,7 @@ use Rattle.hierfile.specs.declared.error.HierError.{HierError}
 use Rattle.hierfile.specs.declared.error.HierError.TheVariants.{Read}
 use Rattle.hierfile.specs.Bytes.{Buffered, coming, IsCut, IsFaultOf, StopsWhere}
 
--- The call answered.
+-- The call succeeded.
 pub record HasRead {S : Type 0} (step : S → S → Result ℕ Error → Type 0) (remaining : S → Option (List ℕ)) (was now : Buffered) (old new : S) (says : Option (List ℕ) → Option (List ℕ) → Type 0) : Type 0 where
   -- what is said of the bytes that were to come before it, and of those that are to come after it
   pub bytes : says (coming was.waiting (remaining old)) (coming now.waiting (remaining new))
@@ -22,7 +22,7 @@ pub record IsRefused {S : Type 0} (step : S → S → Result ℕ Error → Type 
   -- no more calls of the reader were made than were left: it gave out where the refusal is Read, and else none failed
   pub calls : ReadsWithin step was.left (e ≡ Read) old new
 
--- The call answered, and this is said of its answer and of the bytes; or it was refused, and that is said of the refusal.
+-- The call succeeded, and this is said of its result and of the bytes; or it was refused, and that is said of the refusal.
 abbrev pub Reads : {S X : Type 0} → (S → S → Result ℕ Error → Type 0) → (S → Option (List ℕ)) → Buffered → Buffered → S → S → (X → Option (List ℕ) → Option (List ℕ) → Type 0) → (Option (List ℕ) → Option (List ℕ) → HierError → Type 0) → Result X HierError → Type 0
 Reads step remaining was now old new says refuses result = MatchResult result (λ x. HasRead step remaining was now old new (says x)) (IsRefused step remaining was old new refuses)
 
@@ -31,12 +31,12 @@ pub record Refuses (fault_of : List ℕ → Option HierError) (came : List ℕ �
   pub told : IsFaultOf fault_of had e
   pub read : e ≡ Read → StopsWhere came had left
 
--- The reader failed when fewer than so many bytes had come.
+-- The reader failed when fewer than this many bytes had come.
 pub record FailsBefore (count : ℕ) (had left : Option (List ℕ)) (e : HierError) : Type 0 where
   pub read : e ≡ Read
   pub came : StopsWhere (λ came. length came < count) had left
 
--- The call took the bytes that spell its answer; or it was refused, and the bytes to come have this fault. Where a read
+-- The call took the bytes that spell its result; or it was refused, and the bytes to come have this fault. Where a read
 -- failed, those that came had no other fault than that more of them were wanted.
 abbrev pub ReadsValue : {S X : Type 0} → (S → S → Result ℕ Error → Type 0) → (S → Option (List ℕ)) → Buffered → Buffered → S → S → (X → List ℕ) → (List ℕ → Option HierError) → Result X HierError → Type 0
 ReadsValue step remaining was now old new spelled fault_of result = Reads step remaining was now old new (λ x before after. Consumes before after (spelled x)) (Refuses fault_of (IsCut fault_of)) result

@@ -77,11 +77,11 @@ arcs_in Two bytes = word_in bytes
 unfoldable pub link_in : Version → List ℕ → Link
 link_in v bytes = record { from = word_in bytes; to = word_in (drop 4 bytes); cost = of_walk (long_in (drop 8 bytes)) (arcs_in v (drop 16 bytes)); middle = middle_in (word_in (drop (16 + arcs_size v) bytes)) }
 
--- the bound of a hierarchy of so many nodes, where the file tells this length
+-- the bound of a hierarchy of this many nodes, where the file gives this length
 abbrev pub bound_in : Version → ℕ → ℕ → Cost
 bound_in v nodes length = of_walk length (bound_arcs v nodes)
 
--- so many numbers of four bytes, and so many links
+-- this many numbers of four bytes, and this many links
 abbrev pub words_in : ℕ → List ℕ → List ℕ
 words_in zero bytes = []
 words_in (suc n) bytes = word_in bytes ∷ words_in n (drop 4 bytes)

@@ -25,7 +25,7 @@ HasPlaceOf (Marks marks) n = n < length marks.items
 abbrev pub AreMarksOf : List ℕ → List Bool → Type 0
 AreMarksOf numbers marks = (n : ℕ) → slice_index_or marks n false ≡ list_any (λ m. m == n) numbers
 
--- what has come are these ranks of so many nodes
+-- what has come are these ranks of this many nodes
 pub record AreTaken (nodes : ℕ) (taken : Taken) (ranks : List ℕ) : Type 0 where
   pub places : HasPlaces nodes taken
   pub below : All (λ r. r < nodes) ranks

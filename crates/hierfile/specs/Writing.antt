@@ -6,14 +6,14 @@ use Rattle.counted_io.specs.declared.writing.WriteFault.{WriteFault}
 use Rattle.counted_io.specs.Handing.{HandsOn, HandsOnPart}
 use Rattle.hierfile.specs.Bytes.{Gathered, Hands, IsPartOf, Stops}
 
--- The call answered: these bytes were taken or gathered.
+-- The call succeeded: these bytes were taken or gathered.
 pub record Gathers {S : Type 0} (step : S → S → Result ℕ Error → Type 0) (contents : S → Option (List ℕ)) (was now : Gathered) (old new : S) (bytes : List ℕ) : Type 0 where
   -- the writer took the first of them, and the rest is gathered now
   pub given : HandsOn (contents old) (contents new) bytes now.waiting was.written now.written
   -- none of the calls of the writer failed, and what they took was counted, and they themselves
   pub calls : Hands step was now old new
 
--- The call was refused: the writer failed, and had then taken so many bytes in all.
+-- The call was refused: the writer failed, and had then taken this many bytes in all.
 pub record Fails {S : Type 0} (step : S → S → Result ℕ Error → Type 0) (contents : S → Option (List ℕ)) (was : Gathered) (old new : S) (says : Option (List ℕ) → Option (List ℕ) → ℕ → Type 0) (written : ℕ) : Type 0 where
   -- what is said of the bytes that it had taken before the call and has taken after it
   pub part : says (contents old) (contents new) written

@@ -20,7 +20,7 @@ const SIZE: usize = 1 << 16;
 #[derive(Drop)]
 pub struct Input {
     buffer: Vec<u8>,
-    // The waiting bytes stand from here on,
+    // The waiting bytes start here,
     at: usize,
     // and end before this place.
     end: usize,
@@ -84,7 +84,7 @@ impl Input {
         Ok(number)
     }
 
-    // Sees that so many bytes wait.
+    // Makes sure that this many bytes wait.
     fn need<R: StepRead>(&mut self, reader: &mut R, count: usize) -> Result<(), HierError>
         requires { count ≤ 8 }
         ensures reads { Reads R.step R.remaining self.old self.new reader.old reader.new (λ _. Keeps) (Refuses (cut count) (IsCut (cut count))) result }
@@ -96,7 +96,7 @@ impl Input {
         Ok(())
     }
 
-    // Whether so many bytes are still to come. If so they wait.
+    // Whether this many bytes are still to come. If so they wait.
     #[inline]
     fn has<R: StepRead>(&mut self, reader: &mut R, count: usize) -> Result<bool, HierError>
         requires { count ≤ 8 }
@@ -109,7 +109,7 @@ impl Input {
         self.fill(reader, count)
     }
 
-    // Reads on until so many bytes wait; false where the reader's bytes end before.
+    // Reads on until this many bytes wait; false where the reader's bytes end before.
     #[cold]
     fn fill<R: StepRead>(&mut self, reader: &mut R, count: usize) -> Result<bool, HierError>
         requires { count ≤ 8 }

@@ -20,7 +20,7 @@ use std::alloc::Global;
 /// The number that is written for no middle.
 pub const NO_MIDDLE: u32 = u32::MAX;
 
-/// Reads so many links, of a hierarchy of this version with these ranks and this bound.
+/// Reads this many links, of a hierarchy of this version with these ranks and this bound.
 pub fn read_links<R: StepRead>(
     alloc: Global,
     input: &mut Input,
@@ -66,7 +66,7 @@ fn read_link<R: StepRead>(
     })
 }
 
-// Reads the arcs of a link, which stand in files of version 2 alone.
+// Reads the arcs of a link, which are in files of version 2 alone.
 fn read_arcs<R: StepRead>(
     input: &mut Input,
     reader: &mut R,
@@ -81,7 +81,7 @@ fn read_arcs<R: StepRead>(
     }
 }
 
-// The middle that this number stands for.
+// The middle that this number represents.
 fn middle_of(number: u32) -> Option<u32>
     ensures number { middle_number result ≡ number }
     ensures node { IfSome result (λ m. m < 2 ^ 32 - 1) }
@@ -192,7 +192,7 @@ pub fn find_halves(
     Ok(halves)
 }
 
-// What a link stands for: its halves, or itself where it has no middle.
+// What a link represents: its halves, or itself where it has no middle.
 #[tactic(auto, unfolding(crate::specs::Fault::half_fault))]
 fn parts_of(links: &[Link], index: &LinkIndex, link: Link) -> Result<Parts, HierError>
     requires sorted { AllPairs ComesBefore links.now }

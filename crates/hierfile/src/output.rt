@@ -7,7 +7,7 @@ use byteorder::{BigEndian, ByteOrder};
 use counted_io::{StepWrite, WriteCalls, WriteFault};
 use std::marker::Model;
 
-/// How many bytes are gathered before they are handed to the writer.
+/// How many bytes are gathered before they are passed to the writer.
 const SIZE: usize = 1 << 13;
 
 /// Numbers that are gathered for a writer, which gets many of them at a time.
@@ -75,7 +75,7 @@ impl Output {
         self.hand_over(writer)
     }
 
-    /// Hands what is gathered to the writer.
+    /// Passes what is gathered to the writer.
     pub fn hand_over<W: StepWrite>(&mut self, writer: &mut W) -> Result<(), WriteFault>
         ensures writes { HandsOver W.step W.contents self.old self.new writer.old writer.new self.old.waiting result }
         ensures all { OnOk result (self.new.waiting ≡ []) }

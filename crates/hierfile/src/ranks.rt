@@ -13,7 +13,7 @@ use counted_io::StepRead;
 use std::alloc::Global;
 use std::collections::BTreeSet;
 
-/// Reads the ranks of so many nodes.
+/// Reads the ranks of this many nodes.
 pub fn read_ranks<R: StepRead>(
     alloc: Global,
     input: &mut Input,

@@ -18,7 +18,7 @@ use ch_graph::{Hierarchy, LinkIndex, Version};
 use counted_io::{MOST_CALLS, StepRead};
 use std::alloc::Global;
 
-/// What every file begins with, before the byte that tells its version.
+/// What every file begins with, before the byte that has its version.
 const STEM: [u8; 3] = *b"RCH";
 
 /// The greatest number of nodes.
@@ -27,7 +27,7 @@ const MOST_NODES: u32 = 1 << 25;
 /// The greatest weight of an arc.
 const HEAVIEST: u64 = u32::MAX as u64;
 
-// What the bytes behind the magic tell.
+// What the bytes behind the magic say.
 #[derive(Clone, Copy)]
 struct Head {
     nodes: u32,
@@ -38,7 +38,7 @@ struct Head {
 /// Reads a hierarchy from a file's bytes, of version 1 or 2, to the end of the reader.
 ///
 /// On Ok the bytes were its spelling, and on an error this was their first fault: which bytes spell a hierarchy and
-/// how faults are ordered is told in `docs/FORMATS.md`. A spelling has no fault, so only `Read` and `OutOfMemory`
+/// how faults are ordered is described in `docs/FORMATS.md`. A spelling has no fault, so only `Read` and `OutOfMemory`
 /// refuse one. The hierarchy is of the version that the file begins with; costs of version 1 count no arcs. `Read` is
 /// returned where the reader fails, also after 2^40 calls, and only where the bytes before have no fault but that they may
 /// end too early; an interrupted call is tried again. `OutOfMemory` is returned where a growth is refused. Memory is taken as bytes come in, beside a buffer of 64 KiB: 4 bytes
@@ -58,8 +58,8 @@ pub fn read<R: StepRead>(alloc: Global, reader: &mut R) -> Result<Hierarchy, Hie
     read_within(alloc, reader, MOST_CALLS)
 }
 
-/// Reads as [`read`] does, by so many calls of the reader, or 2^40 where they are more. After the last of them the
-/// answer is `Read`.
+/// Reads as [`read`] does, by this many calls of the reader, or 2^40 where they are more. After the last of them the
+/// result is `Read`.
 pub fn read_within<R: StepRead>(
     alloc: Global,
     reader: &mut R,
@@ -80,7 +80,7 @@ pub fn read_within<R: StepRead>(
     Ok(hierarchy)
 }
 
-// Reads the magic, and compares each byte as it comes. The last one tells the version.
+// Reads the magic, and compares each byte as it comes. The last one gives the version.
 fn read_magic<R: StepRead>(input: &mut Input, reader: &mut R) -> Result<Version, HierError>
     ensures reads { ReadsValue R.step R.remaining input.old input.new reader.old reader.new magic_of magic_fault result }
 {

@@ -4,12 +4,12 @@ ghost use Rattle.hierfile.specs.Taken.{AreMarksOf, AreTaken, HasPlaceOf, HasPlac
 use std::alloc::{AllocError, AllocFailed, Global};
 use std::collections::BTreeSet;
 
-/// Of so many nodes the ranks are marked once as many ranks have come as there are nodes, divided by this.
+/// The ranks are marked once as many of them have come as there are nodes, divided by this.
 const SHARE: u32 = 16;
 
 /// Which numbers have come as ranks of nodes.
 ///
-/// It holds memory by how many have come, and not by how many nodes there are: the first ones stand in a set, and only
+/// It holds memory by how many have come, and not by how many nodes there are: the first ones are in a set, and only
 /// when they are a sixteenth of the nodes each node has a mark of one byte.
 #[derive(Drop)]
 pub enum Taken {
@@ -20,7 +20,7 @@ pub enum Taken {
 }
 
 impl Taken {
-    /// Takes one rank more, and tells whether it is new. It is looked for once.
+    /// Takes one rank more, and returns whether it is new. It is looked for once.
     pub fn add(&mut self, rank: u32) -> Result<bool, AllocFailed<u32>>
         requires { HasPlaceOf self.old rank }
         ensures new { IfOk result (λ is_new. is_new ≡ not (is_taken self.old rank)) }
@@ -52,7 +52,7 @@ impl Taken {
     }
 }
 
-// Marks a number, and tells whether it wasn't marked before.
+// Marks a number, and returns whether it wasn't marked before.
 fn mark(marks: &mut [bool], number: usize) -> bool
     requires { number < length marks.old }
     ensures new { result ≡ not (slice_index_or marks.old number false) }

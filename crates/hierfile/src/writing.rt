@@ -32,7 +32,7 @@ pub fn write<W: StepWrite>(hierarchy: &Hierarchy, writer: &mut W) -> Result<(), 
     write_within(hierarchy, writer, MOST_CALLS)
 }
 
-/// Writes as [`write`] does, by so many calls of the writer, or 2^40 where they are more. After the last of them it has
+/// Writes as [`write`] does, by this many calls of the writer, or 2^40 where they are more. After the last of them it has
 /// failed.
 pub fn write_within<W: StepWrite>(
     hierarchy: &Hierarchy,
@@ -114,7 +114,7 @@ fn write_link<W: StepWrite>(
     Ok(())
 }
 
-// The number that stands for a middle.
+// The number that represents a middle.
 fn number_of(middle: Option<u32>) -> u32
     ensures { result ≡ middle_number middle }
 {

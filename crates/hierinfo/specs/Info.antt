@@ -26,7 +26,7 @@ pub record Informs (bytes text : List ℕ) : Type 0 where
   pub spelled : bytes ≡ bytes_of hierarchy
   pub tells : text ≡ info hierarchy
 
--- Where it isn't printed. A refused file has the fault that is told of its bytes, and nothing is written; nor is where memory
+-- Where it isn't printed. A refused file has the first fault of its bytes, and nothing is written; nor is where memory
 -- is refused. Where the write fails, the writer took the first `written` bytes of the text, but not all.
 abbrev pub RefusesInfo : Option (List ℕ) → Option (List ℕ) → Option (List ℕ) → InfoError → Type 0
 RefusesInfo file old new (HierarchyFault e) = IfSome file (λ bytes. OfBytes e (first_fault bytes ≡ Some e)) × Keeps old new

@@ -35,7 +35,7 @@ returns-in_err-end_line-clause-before g c =
     let old = c.args.progress.now in
     rw (exit.1, exit.2) (record { number = old.line; listing = option_map listing_of old.listed; begun = c.args.begun.now.items; back = c.args.piece.now; so_far = λ rest. refl; line_is = c.in_err-end_line.ensures.at })
 
--- what was told before the first line is told after it
+-- what was said before the first line is said after it
 pub returns-in_err-rest-clause-before : goal.returns-in_err-rest-clause-before
 returns-in_err-rest-clause-before g c =
     let exit = err_from_is_err_and c.from_residual-in_err-rest.result c.from_residual-in_err-rest.ensures.1 in
