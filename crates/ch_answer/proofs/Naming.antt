@@ -1,4 +1,4 @@
--- What a line tells: its nodes, one by one, and what stands before them.
+-- What a line says: its nodes, one by one, and what comes before them.
 use Rattle.std.proofs.Common.{ℕ, ◌≡◌, ◌+◌, ◌<◌, List, [], ◌∷◌, ◌++◌, length, map, take, get_or, refl, sym, ◌∙◌, ap, append_assoc, append-nil}
 use Rattle.std.specs.Prelude.{◌-◌, ⊤, Result, Ok, Err, OnOk, codes, decimal}
 use Rattle.std.specs.List.{concat}

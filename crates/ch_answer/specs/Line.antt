@@ -12,7 +12,7 @@ named nodes = concat (map (λ (n : ℕ). codes " " ++ decimal (n + 1)) nodes)
 abbrev pub told_along : ℕ → List ℕ → List ℕ
 told_along n nodes = codes " " ++ decimal n ++ codes " " ++ decimal (length nodes - 1) ++ named nodes
 
--- what a line tells of a route: its length, how many arcs it has, and its nodes
+-- what a line says of a route: its length, how many arcs it has, and its nodes
 abbrev pub told : Route → List ℕ
 told r = told_along (length_of r.cost) r.nodes
 
@@ -21,7 +21,7 @@ abbrev pub line_of : ℕ × ℕ → Option Route → List ℕ
 line_of pair (Some r) = codes "r" ++ named (pair.0 ∷ pair.1 ∷ []) ++ told r ++ codes "\n"
 line_of pair None = codes "n" ++ named (pair.0 ∷ pair.1 ∷ []) ++ codes "\n"
 
--- the line answers the pair: it tells a route from the first node to the second, of the kind that is asked for
+-- the line answers the pair: it gives a route from the first node to the second, of the kind that is asked for
 pub record IsAnswer (IsRoute : ℕ → ℕ → Option Route → Type 0) (pair : ℕ × ℕ) (line : List ℕ) : Type 0 where
   pub route : Option Route
   pub leads : IsRoute pair.0 pair.1 route

@@ -6,7 +6,7 @@ use ch_route::Route;
 use itoa::Buffer;
 use std::alloc::AllocError;
 
-/// Appends the line that answers the pair by the route. Where memory is refused the lines stay as they were. Takes
+/// Appends the line that answers the pair by the route. Where memory runs out the lines stay as they were. Takes
 /// memory for the line.
 pub fn push_line(
     pair: (u32, u32),
@@ -24,7 +24,7 @@ pub fn push_line(
     pushed
 }
 
-// Appends the line that answers the pair, or a part of it where memory is refused.
+// Appends the line that answers the pair, or a part of it where memory runs out.
 fn push_answer(
     pair: (u32, u32),
     route: &Option<Route>,

@@ -120,7 +120,7 @@ module _ (told : Told) where
   pub breaks_hand : {ended : ℕ} {before after : List ℕ → List Request} {old mid new : Option (List ℕ)} {lines rest : List ℕ} {from at to : ℕ} → Replies told ended before after old mid lines rest from at → HandsOnPart mid new rest at to → Breaks told before old new lines from to
   breaks_hand {after = after} h k = record { asked = h.asked; cuts = λ more. (after more, h.cuts more); text = h.text; replied = h.replied; handed = part_join h.handed k }
 
-  -- the same of requests that are told in another way
+  -- the same of requests that are given in another way
   pub replies_as : {ended : ℕ} {asks before after : List ℕ → List Request} {old new : Option (List ℕ)} {lines rest : List ℕ} {from to : ℕ} (count : ℕ)
       (last : List ℕ → List Request) → ended ≡ count → ((more : List ℕ) → before more ≡ asks more) → ((more : List ℕ) → after more ≡ last more)
       → Replies told ended asks after old new lines rest from to → Replies told count before last old new lines rest from to

@@ -1,4 +1,4 @@
--- Places of a request as starts and ends of a query, and what is told of the route between them.
+-- Places of a request as starts and ends of a query, and what is said of the route between them.
 use Rattle.std.proofs.Common.{ℕ, ◌≡◌, inl, inr, if◌then◌else◌, List, [], ◌∷◌, ◌++◌, All, length, codes, slice_index_or, Result, Ok, Err, Some, None, refl, sym, subst}
 use Rattle.std.specs.Prelude.{⊤, OnOk, is_ok}
 use Rattle.std.proofs.lemmas.List.Elements.{All-head, All-tail}
@@ -23,7 +23,7 @@ are_seeds h (p ∷ ps) all =
 pub seeds_as : (h : Hierarchy) (places : List Place) (seeds : List Seed) → All (IsPlace (length h.ranks)) places → seeds ≡ seeds_of places → AreSeeds h seeds
 seeds_as h places seeds all is = subst (AreSeeds h) (sym is) (are_seeds h places all)
 
--- What is told
+-- What is said
 
 pub way_told : {E : Type 0} (r : Result ⊤ E) (h : Hierarchy) (starts ends : List Seed) (route : RouteBetween) (d e : Seed) (old new : List ℕ) → IsRouteBetweenBy h starts ends (Some route)
     → OnOk r (new ≡ old ++ way_line ((slice_index_or starts route.start d).node, (slice_index_or ends route.end e).node) route)
@@ -48,7 +48,7 @@ pub too_long_told : {E : Type 0} (r : Result ⊤ E) (told : Told) (starts ends :
 too_long_told (Err e) told starts ends old new long is = tt
 too_long_told (Ok x) told starts ends old new long is = (refused (codes "TooLong"), inr (inr (long, refl)), is)
 
--- where seeds are told by an equation
+-- where seeds are given by an equation
 pub told_as : {E : Type 0} (r : Result ⊤ E) (told : Told) (starts ends more others : List Seed) (old new : List ℕ) → starts ≡ more → ends ≡ others
     → OnOk r ((reply : List ℕ) × IsBetweenTold told starts ends reply × (new ≡ old ++ reply))
     → OnOk r ((reply : List ℕ) × IsBetweenTold told more others reply × (new ≡ old ++ reply))

@@ -24,7 +24,7 @@ use Rattle.ch_serve.specs.Reply.{AreReplies, Gets, IsBetweenTold, IsReply, by_hi
 use Rattle.ch_serve.specs.Serving.{ServicesAre}
 use Rattle.ch_serve.proofs.Seeding.{are_seeds}
 
--- what a hierarchy answers is what the graph does, in this version
+-- what a hierarchy returns is what the graph does, in this version
 pub record AnswersAs (IsRoute : Graph → ℕ → ℕ → Option Route → Type 0) (g : Graph) (h : Hierarchy) : Type 0 where
   pub nodes : length h.ranks ≡ g.nodes
   pub routes : (s t : ℕ) (r : Option Route) → s < g.nodes → t < g.nodes → IsRouteBy h s t r → IsRoute g s t r

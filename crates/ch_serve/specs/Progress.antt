@@ -50,7 +50,7 @@ pub record BreaksIn (told : Told) (had left : Option (List ℕ)) (before : List 
   pub consumed : Consumes had left bytes
   pub breaks : Breaks told (λ more. before (bytes ++ more)) old new lines from to
 
--- nothing is left to hand over of the replies to the lines that end in what the reader gave
+-- nothing is left to pass on of the replies to the lines that end in what the reader gave
 pub record StopsAtRead (told : Told) (had left : Option (List ℕ)) (before : List ℕ → List Request) (old new : Option (List ℕ)) (lines : List ℕ) (from : ℕ) : Type 0 where
   pub after : List ℕ → List Request
   pub to : ℕ

@@ -12,7 +12,7 @@ use Rattle.grfile.specs.declared.requests.Request.{Request}
 use Rattle.grfile.specs.declared.requests.Request.TheVariants as asks
 use Rattle.ch_serve.specs.Places.{seeds_of}
 
--- what may be told of two nodes: a route, a length, and that the route is too long; and the same of several starts and ends
+-- what may be said of two nodes: a route, a length, and that the route is too long; and the same of several starts and ends
 pub record Told : Type 1 where
   pub IsRoute : ℕ → ℕ → Option Route → Type 0
   pub IsLength : ℕ → ℕ → Option ℕ → Type 0
@@ -73,7 +73,7 @@ Gets told (asks.Between ends) reply = IsBetweenTold told (seeds_of ends.starts.i
 Gets told (asks.Fault kind) reply = reply ≡ refused (kind_name kind)
 Gets told asks.LineTooLong reply = reply ≡ refused (codes "LineTooLong")
 
--- The same, or memory was refused for this request.
+-- The same, or memory ran out for this request.
 abbrev pub IsReply : Told → Request → List ℕ → Type 0
 IsReply told request reply = Gets told request reply ⊎ (reply ≡ refused (codes "OutOfMemory"))
 

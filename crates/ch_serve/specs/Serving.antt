@@ -77,7 +77,7 @@ IsOwn stops.Read = ⊤
 IsOwn (stops.Write fault) = ⊤
 IsOwn stops.Flush = ⊤
 
--- a refused hierarchy has the fault that is told of its bytes
+-- a refused hierarchy has the first fault of its bytes
 abbrev pub IsFileFault : List ℕ → ServeError → Type 0
 IsFileFault bytes (stops.Hierarchy e) = OfBytes e (first_fault bytes ≡ Some e)
 IsFileFault bytes stops.OutOfMemory = ⊤

@@ -13,7 +13,7 @@ use std::fmt;
 pub enum ServeError {
     /// The file of the hierarchy was refused, or couldn't be read. Nothing is written.
     Hierarchy(HierError),
-    /// Memory was refused before the first request was read. Nothing is written.
+    /// Memory ran out before the first request was read. Nothing is written.
     OutOfMemory,
     /// The requests couldn't be read. The replies to all lines that had ended are written.
     Read,

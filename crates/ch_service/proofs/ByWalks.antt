@@ -89,7 +89,7 @@ none_too_long g h pairs text nodes short within s =
     let target : s.pair.1 < g.nodes = subst (λ n. s.pair.1 < n) nodes ends.1 in
     short s.pair.0 s.pair.1 source target s.too_long
 
--- the texts of the readers, where they are told
+-- the texts of the readers, where they are known
 
 first-spelled : (h : Hierarchy) (pairs : List (ℕ × ℕ)) (bytes pairs_text text : List ℕ) → Spells bytes h → pairs_of (length h.ranks) pairs_text ≡ Ok pairs → ((count : ℕ) × Routed h (take count pairs) text) → RoutesFirst bytes pairs_text text
 first-spelled h pairs bytes pairs_text text spells read first = record {
@@ -136,7 +136,7 @@ fault-told h pairs None queries (Err e) spells read f = tt
 fault-told h pairs (Some bytes) None (Err e) spells read f = tt
 fault-told h pairs (Some bytes) (Some pairs_text) (Err e) spells read f = fault-read h pairs bytes pairs_text e spells read f
 
--- routes by a hierarchy whose file the reader told
+-- routes by a hierarchy whose file is known of the reader
 pub routes-told : (h : Hierarchy) (pairs : List (ℕ × ℕ)) (hier queries old new : Option (List ℕ)) (r : Result ⊤ ServiceError) → IfSome hier (λ bytes. Spells bytes h) → IfSome queries (λ text. pairs_of (length h.ranks) text ≡ Ok pairs)
     → OnOk r (Writes (Routed h pairs) old new) → OnOk r (IfTold hier queries (λ bytes pairs_text. Writes (Routes bytes pairs_text) old new))
 routes-told h pairs hier queries old new (Err e) spells read w = tt
@@ -169,7 +169,7 @@ no_text_fault P Q (Err (Unpack e)) f = tt
 no_text_fault P Q (Err (Write fault)) f = tt
 no_text_fault P Q (Err OutOfMemory) f = tt
 
--- answers by a hierarchy that is right for the graph that the reader told
+-- answers by a hierarchy that is right for the graph whose text is known of the reader
 pub answers-told : {Is : Graph → ℕ → ℕ → Option Route → Type 0} → RightRoutesAre Two Is → (g : Graph) (h : Hierarchy) (pairs : List (ℕ × ℕ)) (gr queries old new : Option (List ℕ)) (r : Result ⊤ ServiceError)
     → IfSome gr (λ text. graph_of text ≡ Ok g) → IfSome queries (λ text. pairs_of g.nodes text ≡ Ok pairs)
     → IsGraph g → IsRight g h → All (IsPair g.nodes) pairs → OnOk r (Writes (Routed h pairs) old new) → OnOk r (IfTold gr queries (λ graph_text pairs_text. Writes (AnswersBy Is graph_text pairs_text) old new))

@@ -1,4 +1,4 @@
--- What a build tells of its options.
+-- What a build says of its options.
 use Rattle.std.proofs.Common.{rules, ℕ, ◌≡◌}
 use Rattle.std.specs.Prelude.{◌↔◌, ⊤, Result, Ok, Err, IfErr, OnOk, IsErrAnd}
 use Rattle.ch_workers.specs.Options.{AreBad, AreGood}
@@ -9,7 +9,7 @@ use Rattle.ch_service.specs.declared.error.ServiceError.{ServiceError}
 use Rattle.ch_service.specs.declared.error.ServiceError.TheVariants.{Graph, Queries, Hierarchy, Build, Unpack, Write, OutOfMemory}
 use Rattle.ch_service.specs.Outcome.{IfBuilt}
 
--- where it answers they were good, whatever comes after it
+-- where it succeeds they were good, whatever comes after it
 pub built-good : {T : Type 0} (built : Result T BuildError) (b : T) (o : Options) (lists : ℕ) (r : Result ⊤ ServiceError) → built ≡ Ok b → (built ≡ Err BadOptions) ↔ AreBad o lists → OnOk r (AreGood o lists)
 built-good built b o lists (Ok x) was bad =
     let fine : AreBad o lists → ⊥ = λ worse. let refused : built ≡ Err BadOptions = bad.1 worse in absurd (cc) in
@@ -30,7 +30,7 @@ pub ready-built : {T : Type 0} (built : Result T BuildError) (b : T) (o : Option
 ready-built built b o lists (Ok x) was bad = tt
 ready-built built b o lists (Err e) was bad = if_built (AreGood o lists) e (built-good built b o lists (Ok tt) was bad)
 
--- and its refusal is handed on
+-- and its refusal is propagated
 pub refused-bad : {T : Type 0} (built : Result T BuildError) (x : BuildError) (o : Options) (lists : ℕ) (r : Result ⊤ ServiceError) → built ≡ Err x → IsErrAnd r (λ s. s ≡ Build x) → (built ≡ Err BadOptions) ↔ AreBad o lists
     → (e : BuildError) → r ≡ Err (Build e) → (e ≡ BadOptions) ↔ AreBad o lists
 refused-bad built x o lists (Ok y) was is bad e same = absurd is

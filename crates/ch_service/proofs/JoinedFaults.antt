@@ -1,4 +1,4 @@
--- Faults of two texts that stand in one input.
+-- Faults of two texts that are in one input.
 use Rattle.std.proofs.Common.{ℕ, ◌≡◌, List, ◌∙◌, ap, subst}
 use Rattle.std.specs.Prelude.{Option, Some, None, IfSome, IfErr, Result, Ok, Err, ⊤}
 use Rattle.ch_service.specs.declared.error.ServiceError.{ServiceError}

@@ -1,4 +1,4 @@
--- What a preparation tells of the text of the graph.
+-- What a preparation says of the text of the graph.
 use Rattle.std.proofs.Common.{ℕ, ◌≡◌, List, Option, refl, sym, subst}
 use Rattle.std.specs.Prelude.{⊤, Some, None, IfSome, Result, Ok, Err, IfErr, IsErrAnd}
 use Rattle.std.specs.Io.KnownBytes.{Appends}
@@ -25,7 +25,7 @@ pub writes-prepared : (g : Graph) (h : Hierarchy) (gr old new : Option (List ℕ
 writes-prepared g h None old new reads right made two given = tt
 writes-prepared g h (Some text) old new reads right made two given = (bytes_of h, prepared text g h reads right made two, given)
 
--- so many of its bytes were
+-- this many of its bytes were
 pub breaks-prepared : (g : Graph) (h : Hierarchy) (gr old new : Option (List ℕ)) (fault : WriteFault) (r : Result ⊤ ServiceError) → IfSome gr (λ text. graph_of text ≡ Ok g) → IsRight g h → IsWellMade h → h.version ≡ Two
     → IsErrAnd r (λ e. e ≡ Write fault) → Took old new fault.written (bytes_of h) → IfErr r (λ e. IfSome gr (λ text. BreaksOff (Prepares text) old new e))
 breaks-prepared g h gr old new fault (Ok x) reads right made two is took = tt

@@ -16,7 +16,7 @@ use Rattle.std.specs.Prelude.{⊤, Result, Ok, Err, IfErr, IsErrAnd}
 use Rattle.std.proofs.lemmas.List.{take_more, take_all, take-append-drop}
 use Rattle.std.proofs.Common.{get_or, ◌<◌}
 
--- what is told of two nodes
+-- what is said of two nodes
 abbrev pub Told : Type 1
 Told = ℕ → ℕ → Option Route → Type 0
 
@@ -134,7 +134,7 @@ comes_of_answering h pair (Unpack e) f = f.0
 comes_of_answering h pair (Write fault) f = tt
 comes_of_answering h pair OutOfMemory f = tt
 
--- what a router of the same hierarchy answered, or refused
+-- what a router of the same hierarchy returned, or refused
 
 pub in_range-by : {k h : Hierarchy} (pair : ℕ × ℕ) → k ≡ h → IsPair (length h.ranks) pair → IsPair (length k.ranks) pair
 in_range-by pair same within = subst (λ (m : Hierarchy). IsPair (length m.ranks) pair) (sym same) within
@@ -151,7 +151,7 @@ pub gathered-next : {Is : Told} (pairs : List (ℕ × ℕ)) (i : ℕ) {old new :
 gathered-next {Is} pairs i {old} {new} {more = more} {written = written} within h a =
     subst (λ ps. IsGathered Is ps old new more written) (sym (take_more pairs i (0, 0) within)) (gathered-push (get_or pairs i (0, 0)) a.0 more h a.1 a.2)
 
--- nothing is left to hand over
+-- nothing is left to pass on
 pub gathered-whole : {Is : Told} {pairs : List (ℕ × ℕ)} {old new : Option (List ℕ)} {lines : List ℕ} {written : ℕ} → IsGathered Is pairs old new lines written → lines ≡ [] → Writes (AreAnswers Is pairs) old new
 gathered-whole {Is} {pairs} {lines = lines} h none = (h.given, subst (AreAnswers Is pairs) (ap (λ l. h.given ++ l) none ∙ append-nil h.given) h.answered, h.taken)
 

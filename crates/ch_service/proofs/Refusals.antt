@@ -1,4 +1,4 @@
--- Why a refusal tells by its cause what its call says of it.
+-- Why a refusal says by its cause what its call says of it.
 use Rattle.std.proofs.Common.{ℕ, ◌≡◌, List, length, Option, inl, inr, refl, ap}
 use Rattle.std.specs.Prelude.{Some, None, IfSome, Ok, Err}
 use Rattle.grfile.specs.Outcome.{FromText}
@@ -22,7 +22,7 @@ use Rattle.ch_service.specs.Outcome.{IfTold, IsFaultOf, IsFaultOfJoined, IsPrepa
 use Rattle.ch_service.specs.Refusals.{RefusesAnswers, RefusesPreparing, RefusesRoutes, AnswersTell, JoinedAnswersTell, PreparationsTell, RoutesTell}
 use Rattle.ch_service.specs.Route.{Prepares, RoutesFirst, RoutesToTooLong}
 
--- a fault of a text is one of its own, or want of memory or a failed read
+-- a fault of a text is one of its own, or out of memory or a failed read
 text_case : (kind : GrErrorKind) (own : Cause) (P : Cause → Type 0) → P causes.Memory → P causes.Read → (((F : Type 0) → FromText kind F → F) → P own) → P (of_text kind own)
 text_case kinds.OutOfMemory own P memory read other = memory
 text_case kinds.Read own P memory read other = read
@@ -56,7 +56,7 @@ file_case faults.HalfMissing P memory read other = other (λ F f. f)
 file_case faults.HalfSum P memory read other = other (λ F f. f)
 file_case faults.Trailing P memory read other = other (λ F f. f)
 
--- what is so of all texts, and what follows of texts that are told
+-- what is so of all texts, and what follows of texts that are known
 
 of_all : (first second : Option (List ℕ)) (P : List ℕ → List ℕ → Type 0) → ((a b : List ℕ) → P a b) → IfTold first second P
 of_all None second P f = tt
@@ -92,7 +92,7 @@ pub answers-tell : AnswersTell
 answers-tell graph pairs old new (Ok x) good c f k s = tt
 answers-tell graph pairs old new (Err e) good c f k s = answers graph pairs old new e (λ is. good (ap Err is)) c f k s
 
--- and where both stand in one input
+-- and where both are in one input
 joined : (text : List ℕ) (old new : Option (List ℕ)) (e : ServiceError) → (e ≡ Build building.BadOptions → ⊥) → ComesOfTexts e → IsFaultOfJoined text e → KeepsAtFault old new e → StopsShort (AnswersFirst (graph_part text) (pairs_part text)) (λ _. ⊥) old new e
     → RefusesAnswers (Some (graph_part text)) (Some (pairs_part text)) old new (cause_of e)
 joined text old new (Graph fault) good c f k s = answers (Some (graph_part text)) (Some (pairs_part text)) old new (Graph fault) good c f k s

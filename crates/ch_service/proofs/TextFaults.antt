@@ -1,4 +1,4 @@
--- What is told of texts where one of them was refused, or where the build was.
+-- What is said of texts where one of them was refused, or where the build was.
 use Rattle.std.proofs.Common.{ℕ, ◌≡◌, List, Option, Some, None, Result, Ok, Err, subst, sym}
 use Rattle.std.specs.Prelude.{⊤, IfSome, IfErr, IsErrAnd}
 use Rattle.ch_graph.specs.Graph.{Graph}
@@ -10,7 +10,7 @@ use Rattle.ch_service.specs.Outcome.{IfTold, IsFaultOf}
 use Rattle.ch_service.specs.declared.error.ServiceError.{ServiceError}
 use Rattle.ch_service.specs.declared.error.ServiceError.TheVariants.{Build}
 
--- the text of pairs was refused
+-- the query file was refused
 pub pairs-fault : {V : Type 0} (view : V → List (ℕ × ℕ)) (n m : ℕ) (known : Option (List ℕ)) (r : Result V GrError) → n ≡ m → IfSome known (λ text. IsReading view r (pairs_of n text))
     → IfErr r (λ fault. IfSome known (λ text. FromText fault.kind (pairs_of m text ≡ Err fault)))
 pairs-fault view n m known (Ok x) same h = tt

@@ -13,7 +13,7 @@ use Rattle.ch_service.specs.declared.cause.Cause.TheVariants.{Graph, Queries, Hi
 use Rattle.ch_service.specs.declared.error.ServiceError.{ServiceError}
 use Rattle.ch_service.specs.declared.error.ServiceError.TheVariants as refusals
 
--- want of memory and a failed read are no faults of the text that they came with
+-- out of memory and a failed read are no faults of the text that they came with
 abbrev pub of_text : GrErrorKind → Cause → Cause
 of_text kinds.OutOfMemory own = Memory
 of_text kinds.Read own = Read

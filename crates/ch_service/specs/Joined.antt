@@ -1,4 +1,4 @@
--- One input that holds a graph's text, a line that is the single byte %, and the text of pairs.
+-- One input that holds a graph's text, a line that is the single byte %, and the text of the queries.
 use Rattle.std.specs.Prelude.{ℕ, ◌==◌, ◌||◌, Bool, List, [], ◌∷◌, if◌then◌else◌, codes}
 use Rattle.std.specs.List.{concat, onto_first}
 use Rattle.std.specs.Str.{bytes_eq}

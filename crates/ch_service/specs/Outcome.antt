@@ -43,7 +43,7 @@ IsFaultOf graph_text pairs_text (Unpack e) = ⊥
 IsFaultOf graph_text pairs_text (Write fault) = AreTexts graph_text pairs_text
 IsFaultOf graph_text pairs_text OutOfMemory = AreTexts graph_text pairs_text
 
--- The same where both stand in one input. Memory may be refused before they are read.
+-- The same where both are in one input. Memory may run out before they are read.
 abbrev pub IsFaultOfJoined : List ℕ → ServiceError → Type 0
 IsFaultOfJoined input OutOfMemory = ⊤
 IsFaultOfJoined input e = IsFaultOf (graph_part input) (pairs_part input) e
@@ -69,8 +69,8 @@ IsRoutingFault bytes pairs_text (Unpack e) = AreRoutingTexts bytes pairs_text
 IsRoutingFault bytes pairs_text (Write fault) = AreRoutingTexts bytes pairs_text
 IsRoutingFault bytes pairs_text OutOfMemory = AreRoutingTexts bytes pairs_text
 
--- Where a hierarchy is prepared and pairs are answered by its file, both in memory. The file has no fault, so only want of
--- memory and a failed read refuse it, and no route is too long.
+-- Where a hierarchy is prepared and pairs are answered by its file, both in memory. The file has no fault, so it is
+-- refused only where memory runs out or a read fails, and no route is too long.
 abbrev pub IsFaultInMemory : List ℕ → List ℕ → ServiceError → Type 0
 IsFaultInMemory graph_text pairs_text (GraphFault fault) = FromText fault.kind (graph_of graph_text ≡ Err fault)
 IsFaultInMemory graph_text pairs_text (Queries fault) = (g : Graph) × (graph_of graph_text ≡ Ok g) × FromText fault.kind (pairs_of g.nodes pairs_text ≡ Err fault)
@@ -121,7 +121,7 @@ IsReadFault bytes fault = fault ≡ record { kind = Read; line = next_line (line
 abbrev pub StopsWithin : List ℕ → GrError → Type 0
 StopsWithin text fault = (left : Option (List ℕ)) × StopsAtReached (Some text) left fault
 
--- The same where both texts stand in one input, which is read first. A read that fails is a fault of the graph's text,
+-- The same where both texts are in one input, which is read first. A read that fails is a fault of the graph's text,
 -- whatever text it fails in, at the line of the input that was reached. Memory is refused at a line of the text's own.
 abbrev pub StopsInJoined : Option (List ℕ) → Option (List ℕ) → ServiceError → Type 0
 StopsInJoined had left = IfTextFault (λ fault. (fault.kind ≡ Read → StopsAtReached had left fault) × (fault.kind ≢ Read → IfSome had (λ input. StopsWithin (graph_part input) fault)))
@@ -179,7 +179,7 @@ ComesOfAnswering (Unpack e) = e ≡ TooLong
 ComesOfAnswering (Write fault) = ⊤
 ComesOfAnswering OutOfMemory = ⊤
 
--- what the refusal of a pair is told as: memory is refused for a pair as it is beside the pairs
+-- what the refusal of a pair is reported as: memory is refused for a pair as it is beside the pairs
 abbrev pub of_pair : UnpackError → ServiceError
 of_pair unpacking.OutOfMemory = OutOfMemory
 of_pair TooLong = Unpack TooLong

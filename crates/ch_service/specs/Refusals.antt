@@ -1,4 +1,4 @@
--- What each call tells where it refuses, by what the refusal comes of: which text is at fault, and what was written.
+-- What each call says where it refuses, by what the refusal comes of: which text is at fault, and what was written.
 use Rattle.std.specs.Prelude.{ℕ, ◌≡◌, ◌⊎◌, ⊤, List, length, Option, Some, option_map, IfSome, Result, Ok, Err, IfErr}
 use Rattle.std.specs.Io.KnownBytes.{Keeps}
 use Rattle.ch_graph.specs.Graph.{Graph}
@@ -56,7 +56,7 @@ RefusesRoutes file pairs old new Mixed = ⊥
 abbrev pub NotBad : Result ⊤ ServiceError → Type 0
 NotBad r = r ≡ Err (Build BadOptions) → ⊥
 
--- Why what the contracts say of a refusal tells this of its cause.
+-- Why what the contracts say of a refusal shows this of its cause.
 
 abbrev pub AnswersTell : Type 0
 AnswersTell = (graph pairs old new : Option (List ℕ)) (r : Result ⊤ ServiceError) → NotBad r → IfErr r ComesOfTexts → IfErr r (λ e. IfTold graph pairs (λ graph_text pairs_text. IsFaultOf graph_text pairs_text e)) → IfErr r (KeepsAtFault old new)

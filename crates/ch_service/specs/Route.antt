@@ -61,7 +61,7 @@ RightRoutesAreLeast v = (g : Graph) (h : Hierarchy) (pairs : List (ℕ × ℕ)) 
 abbrev pub RoutesAre : (Graph → ℕ → ℕ → Option Route → Type 0) → Version → Type 0
 RoutesAre IsRoute v = (graph_text bytes pairs_text text : List ℕ) → PreparesIn v graph_text bytes → Routes bytes pairs_text text → AnswersBy IsRoute graph_text pairs_text text
 
--- By a file of either version routes are exact: each line tells the least length over all walks and the nodes along a walk
+-- By a file of either version routes are exact: each line gives the least length over all walks and the nodes along a walk
 -- of that length, or that there is no walk.
 abbrev pub RoutesAreExact : Version → Type 0
 RoutesAreExact = RoutesAre IsLeastWalk

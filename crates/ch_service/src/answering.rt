@@ -28,8 +28,8 @@ use std::thread::Threads;
 /// order: its least length, how many arcs its route has, and the nodes of the route; of all least routes it is one with
 /// the fewest arcs. The texts are read first, the
 /// graph's before the pairs', and the hierarchy is built next, as [`prepare`](crate::prepare) does; where one of them
-/// is refused nothing is written. Where memory is refused while pairs are answered, the lines of the pairs before are
-/// written first. On every answer the estimators were dropped, and no lease of `leases` is out. Takes the time and memory
+/// is refused nothing is written. Where memory runs out while pairs are answered, the lines of the pairs before are
+/// written first. On every return the estimators were dropped, and no lease of `leases` is out. Takes the time and memory
 /// of [`prepare`](crate::prepare), and then those of [`route`](crate::route).
 pub fn answer<G: Read, Q: Read, W: Write, P: Gate, R: Threads + Wait + Sync>(
     rt: &R,

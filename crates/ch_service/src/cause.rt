@@ -22,7 +22,7 @@ pub enum Cause {
     Hierarchy(HierError),
     /// A route by the hierarchy would repeat a node, so it isn't right for any graph.
     TooLong,
-    /// Memory was refused.
+    /// Out of memory.
     Memory,
     /// What was to be read couldn't be.
     Read,
@@ -30,7 +30,7 @@ pub enum Cause {
     Write(WriteFault),
     /// The options for building a hierarchy are bad.
     Options,
-    /// What the workers told doesn't agree.
+    /// What the workers reported doesn't agree.
     Mixed,
 }
 
@@ -76,7 +76,7 @@ impl ServiceError {
     }
 }
 
-// What a fault of this kind comes of: want of memory and a failed read are none of the text's own.
+// What a fault of this kind comes of: out of memory and a failed read are none of the text's own.
 fn of_text(kind: GrErrorKind, own: Cause) -> Cause
     ensures { result ≡ of_text kind own }
 {

@@ -23,14 +23,14 @@ pub enum ServiceError {
     Queries(GrError),
     /// The file of the hierarchy was refused, or couldn't be read.
     Hierarchy(HierError),
-    /// No hierarchy was built: memory was refused, the options are bad, or what the workers told doesn't agree.
+    /// No hierarchy was built: memory ran out, the options are bad, or what the workers reported doesn't agree.
     Build(BuildError),
     /// A route is too long: it would repeat a node, so the hierarchy isn't right for any graph. No call of this crate
     /// fails with `Unpack(OutOfMemory)`: where a pair runs out of memory it is `OutOfMemory`.
     Unpack(UnpackError),
     /// The answers, or the file of the hierarchy, couldn't be written.
     Write(WriteFault),
-    /// Memory was refused beside the reading and the build.
+    /// Memory ran out beside the reading and the build.
     OutOfMemory,
 }
 

@@ -22,9 +22,9 @@ use std::thread::Threads;
 /// [`prepare`] writes the file from the text of the graph, and [`route`] reads it and answers the pairs: what a user does
 /// by two commands. The answers have one line for each pair, in order: the least length over all walks in the graph and
 /// the nodes along a walk of exactly that length, of all such walks one with the fewest arcs, or that there is no walk. This holds for all options and estimators,
-/// and however the workers' reads and commits fall. On every answer the estimators were dropped, and no lease of
+/// and however the workers' reads and commits fall. On every return the estimators were dropped, and no lease of
 /// `leases` is out. Time and memory are those of the two calls, with the bytes of the file and of the answers. So are the
-/// refusals, but that the file has no fault and no route is too long; where memory is refused to the file or to the answers
+/// refusals, but that the file has no fault and no route is too long; where memory runs out for the file or for the answers
 /// it is a failed write.
 pub fn routes_in_memory<P: Gate, R: Threads + Wait + Sync>(
     rt: &R,

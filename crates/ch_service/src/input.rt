@@ -50,7 +50,7 @@ fn read_pieces<R: Read>(
     Ok(())
 }
 
-// Appends the next bytes that the reader gives, and answers whether there were any before its end.
+// Appends the next bytes that the reader gives, and returns whether there were any before its end.
 fn read_piece<R: Read>(
     calls: &mut ReadCalls,
     input: &mut R,

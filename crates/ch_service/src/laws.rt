@@ -17,7 +17,7 @@ pub fn right_routes_are_least()
 
 /// Routes are exact: whenever [`prepare`](crate::prepare) has written a hierarchy from the text of a graph,
 /// [`route`](crate::route), reading those bytes, answers each pair with the least length of a walk in that graph and the
-/// nodes along a walk of exactly that length, and answers none exactly where there is no walk. Of all least walks it tells
+/// nodes along a walk of exactly that length, and returns none exactly where there is no walk. Of all least walks it names
 /// one with the fewest arcs. By a file of version 1 whose hierarchy is right by weight routes are exact too, but they
 /// needn't have the fewest arcs. It does nothing when it runs.
 pub fn routes_are_exact()
@@ -42,7 +42,7 @@ pub fn first_routes_are_exact()
     routes_are_least();
 }
 
-/// By its cause alone a refusal tells which text is at fault, and what was written. It does nothing when it runs.
+/// By its cause alone a refusal shows which text is at fault, and what was written. It does nothing when it runs.
 pub fn causes_tell_refusals()
     ensures answers { AnswersTell }
     ensures joined { JoinedAnswersTell }

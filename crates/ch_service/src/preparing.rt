@@ -20,8 +20,8 @@ use std::thread::Threads;
 /// Prepares a hierarchy of a graph.
 ///
 /// `gr` gives the text of the graph, and `out` gets the file of the hierarchy. The text is read first, and then the
-/// hierarchy is built by workers as the options say, each with the estimators of its list, of which none was told
-/// anything; where one of the two is refused nothing is written. On every answer the estimators were dropped, and
+/// hierarchy is built by workers as the options say, each with the estimators of its list, of which none has received
+/// anything; where one of the two is refused nothing is written. On every return the estimators were dropped, and
 /// no lease of `leases` is out. Takes memory for the graph, and then that of [`build`](ch_workers::build).
 pub fn prepare<G: Read, W: Write, P: Gate, R: Threads + Wait + Sync>(
     rt: &R,

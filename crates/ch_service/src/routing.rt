@@ -22,8 +22,8 @@ use std::io::{Read, Write};
 /// order: its least length, how many arcs its route has, and the nodes of the route. Where [`prepare`](crate::prepare)
 /// wrote the file, it is of all least routes one with the fewest arcs; by a file of version 1, whose costs count no
 /// arcs, it is any of them. The hierarchy is read before the pairs, and where one is refused nothing is written. Where a
-/// pair is refused, for want of memory or since its route is too long, the lines of the pairs before are written first;
-/// no route is too long where the hierarchy is right for some graph, in the sense of its version. Takes memory for the
+/// pair is refused, because memory ran out or its route is too long, the lines of the pairs before are written first; no
+/// route is too long where the hierarchy is right for some graph, in the sense of its version. Takes memory for the
 /// hierarchy and once more for its links by their ends, for the pairs, one query at a time, and for about 64 KiB of lines
 /// and one line more.
 pub fn route<H: Read, Q: Read, W: Write>(

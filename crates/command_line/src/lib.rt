@@ -1,9 +1,9 @@
 //! The command line of the program `routecli`.
 //!
-//! Stands on `jobs`, and on `clap`, which reads the words. [`command`] turns them into a [`Call`](jobs::Call), or says why
-//! they name no job.
+//! Builds on `jobs`, and on `clap`, which reads the arguments. [`command`] turns them into a [`Call`](jobs::Call), or says
+//! why they name no job.
 //!
-//! The words `routecli`, `route`, `net.rch` and `net.p2p` name a job:
+//! The arguments `routecli`, `route`, `net.rch` and `net.p2p` name a job:
 //!
 //! ```rust
 //! let call = command(alloc, words)?;

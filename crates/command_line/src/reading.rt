@@ -8,10 +8,10 @@ use clap::{Arg, ArgAction, ArgMatches, Command, Error, value_parser};
 use jobs::{Call, Job, Order, Preparation, Stint, Stop, Workers};
 use std::alloc::{AllocError, Global};
 
-/// What the words of a command line ask for. The first word is the program's name.
+/// What the arguments of a command line ask for. The first one is the program's name.
 ///
-/// Words that ask for help or the version, and words that are refused, stop with the text for the user. One word for both files of
-/// `prepare` is refused: the hierarchy would take the place of the graph.
+/// Arguments that ask for help or the version, and arguments that are refused, stop with the text for the user. One name
+/// for both files of `prepare` is refused: the hierarchy would take the place of the graph.
 pub fn command(alloc: Global, words: &[String]) -> Result<Call<'_>, Stop>
     ensures { IfOk result (λ call. names_one_file call.job ≡ false) }
 {
@@ -41,7 +41,7 @@ fn stop_of(alloc: Global, error: &Error) -> Stop {
     }
 }
 
-// What the words ask for, or the error that tells the user.
+// What the arguments ask for, or the error that is shown to the user.
 fn read_words(alloc: Global, words: &[String]) -> Result<Call<'_>, Error> {
     let program = program(alloc)?;
     let matches = program.try_get_matches_from(words)?;
@@ -165,7 +165,7 @@ fn with<'a>(
     program.subcommand(command?)
 }
 
-// The command line, which is refused where its words name no command.
+// The command line, which is refused where its arguments name no command.
 fn with_a_command(program: Command<'_>) -> Command<'_>
     ensures local { (out-Command result).has_globals ≡ (out-Command program.entry).has_globals }
     ensures needs { (out-Command result).subcommand_required ≡ true }

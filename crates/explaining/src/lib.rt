@@ -5,7 +5,7 @@
 //! what was expected, and what to do. [`Heard`] keeps the program's line while it is written, [`Kept`] the failure of a reader
 //! or a writer, [`Trouble`] the file that it came of, and [`explain`] prints. A text is looked at once more by its name, so
 //! only a regular file is: a pipe has been read. [`warn_of`] says before the work that a file can't be made. Nothing rests on what
-//! is printed, and no contract speaks of it; what a [`Kept`] reader or writer hands on is what the one behind it does.
+//! is printed, and no contract speaks of it; what a [`Kept`] reader or writer passes on is what the one behind it does.
 //!
 //! The line of a refusal, and what is printed for it:
 //!

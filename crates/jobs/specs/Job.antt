@@ -4,7 +4,7 @@ use Rattle.std.specs.Str.{bytes_eq}
 use Rattle.jobs.specs.declared.job.Job.{Job}
 use Rattle.jobs.specs.declared.job.Job.TheVariants.{Answer, Prepare, Route, Serve, Info}
 
--- both texts stand in one input
+-- both texts are in one input
 abbrev pub is_joined : Job → Bool
 is_joined (Answer graph queries) = bytes_eq graph.now (codes "-") && bytes_eq queries.now (codes "-")
 is_joined (Prepare preparation) = false

@@ -51,7 +51,7 @@ pub enum Stop {
     Refused(String),
     /// The graph and the file that is made for its hierarchy are one file.
     OneFile,
-    /// Memory was refused.
+    /// Out of memory.
     OutOfMemory,
 }
 
@@ -59,7 +59,7 @@ impl Job<'_> {
     ghost use Rattle.jobs.specs.Job.{is_joined, names_one_file};
     ghost use Rattle.jobs.specs.declared.job.Stop.TheVariants.{OneFile};
 
-    /// Whether a graph's text and that of the pairs stand in one input, which is standard input: both files of
+    /// Whether a graph's text and that of the pairs are in one input, which is standard input: both files of
     /// `answer` are named `-`.
     pub fn is_joined(&self) -> bool
         ensures { result ≡ is_joined self.now }

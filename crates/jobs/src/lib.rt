@@ -1,10 +1,10 @@
 //! What the program `routecli` can be asked for, and how it ends where it is asked for nothing.
 //!
-//! Stands on nothing. A [`Job`] has its files and options, whose numbers are within their ranges; [`Job::of_two_files`]
-//! refuses one word for two files, and [`show_stop`] tells the user why there is no job, and answers the program's exit
+//! Uses no other crate. A [`Job`] has its files and options, whose numbers are within their ranges; [`Job::of_two_files`]
+//! refuses one name for two files, and [`show_stop`] shows the user why there is no job, and returns the program's exit
 //! status. The promise is in the contracts of these two, and of [`Workers`], [`Stint`] and [`Preparation::orders`].
 //!
-//! A job to prepare is refused where one word names both files; any other stands as it was made:
+//! A job to prepare is refused where one name is that of both files; any other stays as it was made:
 //!
 //! ```rust
 //! let job = Job::Route { hierarchy: "net.rch", queries: "net.p2p" };

@@ -5,7 +5,7 @@ use crate::orders::{Order, Orders};
 use crate::stint::Stint;
 use crate::workers::Workers;
 
-/// What a hierarchy is to be prepared of, where it is to stand, and how.
+/// What a hierarchy is to be prepared of, where it is to be put, and how.
 #[derive(Clone, Copy, Debug, PartialEq, Eq)]
 pub struct Preparation<'a> {
     /// The file with the graph's text.

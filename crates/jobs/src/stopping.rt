@@ -4,7 +4,7 @@ ghost use Rattle.jobs.specs.Stops.{HasStatus, IsShown};
 use crate::job::Stop;
 use std::io::Write;
 
-/// Shows why the command line names no job, and answers the program's exit status: help and the version go to
+/// Shows why the command line names no job, and returns the program's exit status: help and the version go to
 /// `out`, and a refusal to `err`.
 pub fn show_stop<W: Write, E: Write>(stop: &Stop, out: &mut W, err: &mut E) -> u8
     ensures status { HasStatus stop.now result }
@@ -24,7 +24,7 @@ pub fn show_stop<W: Write, E: Write>(stop: &Stop, out: &mut W, err: &mut E) -> u
     }
 }
 
-/// Writes a line of the program's own and answers the status. Where the line can't be written there is nobody to tell.
+/// Writes a line of the program's own and returns the status. A line that can't be written is not reported.
 pub fn end<E: Write>(status: u8, line: &str, err: &mut E) -> u8
     ensures { result ≡ status }
 {

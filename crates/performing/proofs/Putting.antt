@@ -1,4 +1,4 @@
--- What the status of a preparation tells where its bytes come to stand at a destination.
+-- What the status of a preparation says where its bytes are put at a destination.
 use Rattle.std.proofs.Common.{ℕ, ◌≡◌, List, [], Option, refl, sym, subst, inl, inr, ap, ◌∙◌}
 use Rattle.std.specs.Prelude.{◌⊎◌, Some, None, option_map, IfSome}
 use Rattle.ch_service.specs.declared.cause.Cause.{Cause}
@@ -9,7 +9,7 @@ use Rattle.ch_service.specs.Route.{Prepares}
 use Rattle.performing.specs.Destination.{HasPrepared}
 use Rattle.performing.specs.Status.{TellsPrepared}
 
--- what was written, where nobody tells the bytes
+-- what was written, where the bytes aren't known
 untold_file : (graph old new : Option (List ℕ)) → IfSome graph (λ text. Writes (Prepares text) old new) → IfSome graph (λ text. Writes (Prepares text) None None)
 untold_file None old new file = tt
 untold_file (Some text) old new file = (file.0, file.1, tt)
@@ -26,22 +26,22 @@ untold_refusal (Some text) old new (causes.Write fault) f = (f.0, f.1, f.2, tt)
 untold_refusal graph old new causes.Options f = absurd f
 untold_refusal graph old new causes.Mixed f = (f.0, tt)
 
--- what a status tells of the text alone
+-- what a status says of the text alone
 untold : (graph old new : Option (List ℕ)) (status : ℕ) → TellsPrepared status graph old new → TellsPrepared status graph None None
 untold graph old new status ends = record {
   done = λ is. untold_file graph old new (ends.done is);
   refused = λ other. let why = ends.refused other in (why.0, why.1, untold_refusal graph old new why.0 why.2);
 }
 
--- where memory was refused before the text was read
+-- where memory ran out before the text was read
 pub no_memory : (graph : Option (List ℕ)) (status : ℕ) → status ≡ 6 → TellsPrepared status graph None None
 no_memory graph status is = record { done = λ zero. absurd (cc); refused = λ other. (causes.Memory, is, tt) }
 
--- where a file can't be put: 7 tells nothing of the text, since a read may have failed
+-- where a file can't be put: 7 says nothing of the text, since a read may have failed
 refused_destination : (graph : Option (List ℕ)) → TellsPrepared 7 graph None None
 refused_destination graph = record { done = λ seven. absurd (cc); refused = λ other. (causes.Read, refl, tt) }
 
--- what the status tells of the text once the draft was put or thrown away
+-- what the status says of the text once the draft was put or thrown away
 pub finished : (graph old new : Option (List ℕ)) (status result : ℕ) → (result ≡ status) ⊎ ((status ≡ 0) × (result ≡ 7)) → TellsPrepared status graph old new → TellsPrepared result graph None None
 finished graph old new status result (inl is) ends = subst (λ n. TellsPrepared n graph None None) (sym is) (untold graph old new status ends)
 finished graph old new status result (inr failed) ends = subst (λ n. TellsPrepared n graph None None) (sym failed.1) (refused_destination graph)

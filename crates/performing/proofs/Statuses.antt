@@ -1,4 +1,4 @@
--- What the status after a call tells.
+-- What the status after a call says.
 use Rattle.std.proofs.Common.{ℕ, ◌≡◌, List, Option, refl, sym, subst, inl, inr, ⊎_elim}
 use Rattle.std.specs.Prelude.{⊤, ◌≢◌, ◌⊎◌, ◌↔◌, Some, None, option_map, Result, Ok, Err, OnOk, IfErr, IfSome, IsErrAnd}
 use Rattle.std.specs.Io.KnownBytes.{Keeps}
@@ -32,7 +32,7 @@ some_status (causes.Write fault) = λ is. absurd (cc)
 some_status causes.Options = λ is. absurd (cc)
 some_status causes.Mixed = λ is. absurd (cc)
 
--- the status after a call tells what the call has done
+-- the status after a call says what the call has done
 pub told : (r : Result ⊤ ServiceError) (Done : Type 0) (Refuses : Cause → Type 0) → OnOk r Done → IfErr r (λ e. Refuses (cause_of e)) → Ends (status_after r) Done Refuses
 told (Ok x) Done Refuses done refused = record { done = λ is. done; refused = λ other. absurd (other refl) }
 told (Err e) Done Refuses done refused = record { done = λ is. absurd (some_status (cause_of e) is); refused = λ other. (cause_of e, refl, refused) }
@@ -41,7 +41,7 @@ told (Err e) Done Refuses done refused = record { done = λ is. absurd (some_sta
 pub after : (r : Result ⊤ ServiceError) (status : ℕ) (Done : Type 0) (Refuses : Cause → Type 0) → status ≡ status_after r → Ends (status_after r) Done Refuses → Ends status Done Refuses
 after r status Done Refuses is ends = subst (λ n. Ends n Done Refuses) (sym is) ends
 
--- where memory was refused before the call
+-- where memory ran out before the call
 pub wants_memory : (r : Result ⊤ ServiceError) (Done : Type 0) (Refuses : Cause → Type 0) → IsErrAnd r (λ e. e ≡ OutOfMemory) → Refuses causes.Memory → Ends (status_after r) Done Refuses
 wants_memory (Ok x) Done Refuses is memory = absurd is
 wants_memory (Err e) Done Refuses is memory = told (Err e) Done Refuses tt (subst (λ x. Refuses (cause_of x)) (sym is) memory)
@@ -51,7 +51,7 @@ unwritten None pairs old new k = tt
 unwritten (Some graph) None old new k = tt
 unwritten (Some graph) (Some pairs) old new k = inl k
 
--- where both texts stand in one input
+-- where both texts are in one input
 pub joined_told : (input old new : Option (List ℕ)) (r : Result ⊤ ServiceError) → OnOk r (IfSome input (λ text. Writes (AnswersByFewest (graph_part text) (pairs_part text)) old new))
     → IfErr r (λ e. RefusesAnswers (option_map graph_part input) (option_map pairs_part input) old new (cause_of e)) → Tells (status_after r) (option_map graph_part input) (option_map pairs_part input) old new
 joined_told None old new (Ok x) w f = told (Ok x) _ _ tt f

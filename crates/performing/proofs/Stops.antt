@@ -1,4 +1,4 @@
--- What the status tells of a service, and where what a hierarchy file has isn't printed.
+-- What the status says of a service, and where what a hierarchy file has isn't printed.
 use Rattle.std.proofs.Common.{ℕ, ◌≡◌, ◌≢◌, inl, inr, arith, refl}
 use Rattle.std.specs.Prelude.{◌⊎◌}
 use Rattle.hierfile.specs.declared.error.HierError.TheVariants as faults

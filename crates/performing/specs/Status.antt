@@ -36,12 +36,12 @@ abbrev pub status_after : Result ⊤ ServiceError → ℕ
 status_after (Ok done) = 0
 status_after (Err e) = status_of (cause_of e)
 
--- What a status tells: that all is done, or that a refusal has this status, and what it tells by what it comes of.
+-- What a status says: that all is done, or that a refusal has this status, and what it says by what it comes of.
 pub record Ends (status : ℕ) (Done : Type 0) (Refuses : Cause → Type 0) : Type 0 where
   pub done : status ≡ 0 → Done
   pub refused : status ≢ 0 → (cause : Cause) × (status ≡ status_of cause) × Refuses cause
 
--- what the status of an answering job tells of the texts of the graph and the pairs, and of what was written
+-- what the status of an answering job says of the texts of the graph and the pairs, and of what was written
 abbrev pub Tells : ℕ → Option (List ℕ) → Option (List ℕ) → Option (List ℕ) → Option (List ℕ) → Type 0
 Tells status graph pairs old new = Ends status (IfTold graph pairs (λ graph_text pairs_text. Writes (AnswersByFewest graph_text pairs_text) old new)) (RefusesAnswers graph pairs old new)
 

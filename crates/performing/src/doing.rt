@@ -16,10 +16,10 @@ use std::io::{Read, Write};
 use std::sync::Wait;
 use std::thread::Threads;
 
-/// Does the job and answers the program's exit status, by [`perform_answer`], [`perform_joined`],
+/// Does the job and returns the program's exit status, by [`perform_answer`], [`perform_joined`],
 /// [`perform_preparation`], [`perform_route`], [`perform_service`] or [`perform_info`]. A caller that knows its job calls that one.
 ///
-/// To answer, `first` gives the graph's text and `second` that of the pairs; where both stand in one input, `first`
+/// To answer, `first` gives the graph's text and `second` that of the pairs; where both are in one input, `first`
 /// gives it and `second` isn't read. To prepare, `first` gives the graph's text, `second` isn't read, and `out` gets
 /// the hierarchy. To route, `first` gives the hierarchy and `second` the text of the pairs; to serve, `second` gives the
 /// requests; to print what a hierarchy file has, `first` gives it and `second` isn't read. Answers go to `out`. Of a refusal

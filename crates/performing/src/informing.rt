@@ -26,7 +26,7 @@ pub fn perform_info<A: Read, W: Write, E: Write>(
     }
 }
 
-// Writes the line of the refusal and returns its status. Where the line can't be written there is nobody to tell.
+// Writes the line of the refusal and returns its status. A line that can't be written is not reported.
 fn report_uninformed<E: Write>(error: InfoError, err: &mut E) -> u8
     ensures { result ≡ status_uninformed error }
 {

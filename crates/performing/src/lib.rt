@@ -1,11 +1,12 @@
-//! Does what a command line asks for, over readers and writers, and answers the program's exit status.
+//! Does what a command line asks for, over readers and writers, and returns the program's exit status.
 //!
-//! Stands on `jobs`, on `ch_service`, which does the work, and on `ch_workers` and `ch_estimate` for the workers that
-//! prepare a hierarchy and the orders in which they contract nodes. The file of a hierarchy comes to stand whole by
+//! Builds on `jobs`, on `ch_service`, which does the work, and on `ch_workers` and `ch_estimate` for the workers that
+//! prepare a hierarchy and the orders in which they contract nodes. The file of a hierarchy is put in place whole by
 //! `whole_file`. Each job has a call and a contract of its own: [`perform_answer`] and [`perform_joined`], [`perform_route`],
-//! [`perform_service`], [`perform_info`], [`perform_preparation`] into any writer, and [`prepare_whole`] for a destination. A status of 0 means that what was
-//! written answers all pairs, or that what stands at its destination is a hierarchy that is right for the graph; with any
-//! other status there stands what stood there before. [`perform`] does any job by these calls.
+//! [`perform_service`], [`perform_info`], [`perform_preparation`] into any writer, and [`prepare_whole`] for a
+//! destination. A status of 0 means that what was written answers all pairs, or that what is at its destination is a
+//! hierarchy that is right for the graph; with any other status what was there before stays there.
+//! [`perform`] does any job by these calls.
 //!
 //! To answer, the job gets a reader for each of its two files, and writers for the answers and for a refusal:
 //!

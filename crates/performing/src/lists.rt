@@ -6,7 +6,7 @@ use ch_estimate::{Lease, Leases};
 use jobs::Order;
 use std::alloc::{AllocError, Global};
 
-/// So many lists, each of one thing for each of the orders, as they follow each other, that is made for a lease of its
+/// This many lists, each of one thing for each of the orders, as they follow each other, that is made for a lease of its
 /// own.
 pub fn a_list_each<T: Drop, F: Fn(Order, Lease) -> Result<T, AllocError>>(
     alloc: Global,

@@ -15,7 +15,7 @@ use std::io::{Read, Write};
 use std::sync::Wait;
 use std::thread::Threads;
 
-/// How so many workers contract the nodes of a graph. All but their number, the seed and the stint is the same for every
+/// How `workers` workers contract the nodes of a graph. All but their number, the seed and the stint is the same for every
 /// job.
 pub fn options(workers: Workers, seed: u64, stint: Stint) -> Options
     ensures good { AreGood result workers.count }

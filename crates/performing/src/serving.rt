@@ -27,7 +27,7 @@ pub fn perform_service<A: Read, B: Read, W: Write, E: Write>(
     }
 }
 
-// Writes the line of the refusal and answers its status. Where the line can't be written there is nobody to tell.
+// Writes the line of the refusal and returns its status. A line that can't be written is not reported.
 fn report_stop<E: Write>(error: ServeError, err: &mut E) -> u8
     ensures { result ≡ status_stopped error }
 {

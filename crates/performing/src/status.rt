@@ -5,7 +5,7 @@ ghost use Rattle.performing.specs.Status.{status_after, status_of};
 use ch_service::{Cause, ServiceError};
 use std::io::Write;
 
-/// The status after a call, whose refusal is told in a line.
+/// The status after a call, whose refusal is reported in a line.
 pub fn status_after<E: Write>(ended: Result<(), ServiceError>, err: &mut E) -> u8
     ensures status { result ≡ status_after ended }
     ensures quiet { result ≡ 0 → err.new ≡ err.old }
@@ -16,7 +16,7 @@ pub fn status_after<E: Write>(ended: Result<(), ServiceError>, err: &mut E) -> u
     }
 }
 
-/// Writes the line of the refusal and answers its status. Where the line can't be written there is nobody to tell.
+/// Writes the line of the refusal and returns its status. A line that can't be written is not reported.
 pub fn report<E: Write>(error: &ServiceError, err: &mut E) -> u8
     ensures status { result ≡ status_of (cause_of error.now) }
     ensures refused { result ≢ 0 }

@@ -11,10 +11,10 @@ use std::sync::Wait;
 use std::thread::Threads;
 use whole_file::Destination;
 
-/// Prepares a hierarchy and lets it stand at its destination, whole, and answers the program's exit status.
+/// Prepares a hierarchy and puts it at its destination, whole, and returns the program's exit status.
 ///
-/// `graph` gives the graph's text. With a status of 0 the file of the hierarchy stands at the destination, and with any
-/// other what stood there before. What the status tells of the text is what it tells in
+/// `graph` gives the graph's text. With a status of 0 the file of the hierarchy is at the destination, and with any
+/// other what was there before. What the status says of the text is what it says in
 /// [`perform_preparation`]. The workers pass the gate. Of a refusal one line goes to `err`.
 pub fn prepare_whole<G: Read, D: Destination, E: Write, P: Gate, R: Threads + Wait + Sync>(
     rt: &R,
@@ -38,7 +38,7 @@ pub fn prepare_whole<G: Read, D: Destination, E: Write, P: Gate, R: Threads + Wa
     finish(destination, draft, status, err)
 }
 
-// Lets the draft of a job that is done stand at its destination, and throws any other away.
+// Puts the draft of a job that is done at its destination, and throws any other away.
 fn finish<D: Destination, E: Write>(
     destination: &mut D,
     draft: D::PendingFile,

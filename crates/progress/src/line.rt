@@ -1,6 +1,6 @@
 use std::io::Write;
 
-/// For how many milliseconds of contraction nothing is said of the time that is left: the first pace tells little.
+/// For how many milliseconds of contraction nothing is said of the time that is left: the first pace says little.
 const FIRST: u64 = 5_000;
 
 /// How far a preparation has come.

@@ -38,12 +38,12 @@ impl<'a, R: Clock> Meter<'a, R> {
         })
     }
 
-    /// Is told how many nodes the graph has.
+    /// Receives the number of nodes of the graph.
     pub fn announce(&self, nodes: u64) {
         self.nodes.store(nodes, Ordering::SeqCst);
     }
 
-    /// How many nodes it was told, or 0.
+    /// The number of nodes that it received, or 0.
     pub fn announced(&self) -> u64 {
         self.nodes.load(Ordering::SeqCst)
     }

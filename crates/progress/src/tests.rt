@@ -5,7 +5,7 @@ use std::io::Read;
 use std::test::Fail;
 use std::time::Clock;
 
-/// Commits, nodes, milliseconds, and those of contraction, and the line that tells them.
+/// Commits, nodes, milliseconds, and those of contraction, and the line that shows them.
 const LINES: [([u64; 4], &[u8]); 7] = [
     (
         [1, 0, 999, 999],
@@ -73,7 +73,7 @@ const TEXTS: [(&[u8], u64); 9] = [
     (b"", 0),
 ];
 
-/// Whether a meter is told this number while the text is read in pieces of so many bytes, and the text is handed on.
+/// Whether a meter receives this number while the text is read in pieces of this many bytes, and the text is passed on.
 fn is_told<R: Clock>(
     meter: &Meter<'_, R>,
     alloc: Global,

@@ -1,7 +1,7 @@
 use std::alloc::AllocError;
 use std::io::{self, Write};
 
-/// Where bytes come to stand all at once, or not at all.
+/// Where bytes are put all at once, or not at all.
 ///
 /// They are gathered in a draft, which is put there once it is whole. Each draft that a destination gives is put there
 /// or thrown away.
@@ -11,19 +11,19 @@ pub trait Destination {
     /// What gathers the bytes.
     type PendingFile: Write + Drop;
 
-    /// What stands there, where the destination tells it: nothing, or these bytes.
+    /// What is there, where the destination shows it: nothing, or these bytes.
     ghost stands: { Self → Option (Option (List ℕ)) } = { λ _. None };
 
-    /// A draft without bytes. It tells its bytes where the destination tells what stands there.
+    /// A draft without bytes. It shows its bytes where the destination shows what is there.
     fn draft(&self) -> Result<Self::PendingFile, AllocError>
         ensures { IfOk result (λ draft. Self.PendingFile.contents draft ≡ option_map (λ _. []) (stands self.now)) };
 
-    /// Lets the bytes of the draft stand there. Where that fails, the draft is thrown away, and what stood there stays.
+    /// Puts the bytes of the draft there. Where that fails, the draft is thrown away, and what was there stays.
     fn put(&mut self, draft: Self::PendingFile) -> io::Result<()>
         ensures put { OnOk result (stands self.new ≡ option_map Some (Self.PendingFile.contents draft)) }
         ensures kept { OnErr result (stands self.new ≡ stands self.old) };
 
-    /// Throws the draft away. What stands there stays.
+    /// Throws the draft away. What is there stays.
     fn throw_away(&mut self, draft: Self::PendingFile)
         ensures { stands self.new ≡ stands self.old };
 }

@@ -20,7 +20,7 @@ const MOST_LINKS: u32 = 40;
 #[derive(Drop)]
 pub struct PendingFile<'a, R: Files> {
     files: &'a R,
-    // where the bytes come to stand: the path as it was given, or what its links lead to
+    // where the bytes are put: the path as it was given, or what its links lead to
     target: PathBuf,
     // they are written there at once, by the path as it was given
     is_straight: bool,
@@ -31,7 +31,7 @@ pub struct PendingFile<'a, R: Files> {
 }
 
 impl<'a, R: Files + AllocGlobal> PendingFile<'a, R> {
-    /// A draft of what comes to stand at this path.
+    /// A draft of what is to be put at this path.
     pub(crate) fn new(files: &'a R, path: &str) -> Result<PendingFile<'a, R>, AllocError> {
         let followed = target_of(files, path)?;
         let is_straight = is_straight(files, path, followed.as_str());
@@ -52,7 +52,7 @@ impl<'a, R: Files + AllocGlobal> PendingFile<'a, R> {
 }
 
 impl<R: Files> PendingFile<'_, R> {
-    /// Lets the bytes stand where they belong: they are made to last first, and then take the name in one step.
+    /// Puts the bytes where they belong: they are made to last first, and then take the name in one step.
     pub(crate) fn keep(&mut self) -> io::Result<()> {
         self.make()?;
         let Some(file) = &self.file else {
@@ -143,7 +143,7 @@ impl<R: Files> Write for PendingFile<'_, R> {
     }
 }
 
-// Where a file stands that is opened by this path: what the links at its end lead to.
+// Where the file is that is opened by this path: what the links at its end lead to.
 fn target_of<R: Files + AllocGlobal>(rt: &R, path: &str) -> Result<PathBuf, AllocError> {
     let mut target = PathBuf::from_str(rt.alloc(), path)?;
     for _ in 0..MOST_LINKS {

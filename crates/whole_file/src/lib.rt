@@ -1,13 +1,13 @@
 //! Files that are whole or not there.
 //!
-//! Whoever writes a file where it stands leaves a cut one where a write fails, and what stood there is lost. So bytes are
+//! Whoever writes a file in place leaves a cut one where a write fails, and what was there is lost. So bytes are
 //! gathered in a draft, beside their [`Destination`], and put there once the draft is whole; a draft that isn't is thrown
-//! away. Stands on std alone. [`OutFile`] is a destination in the file system, and [`is_one_file`] tells whether two names
-//! are of one file. The promise is in the contract of [`Destination`]: what stands there changes by [`Destination::put`]
-//! alone, and then it is the draft whole. One that tells what stands there is held to it; a file tells no contract what it
+//! away. Uses std alone. [`OutFile`] is a destination in the file system, and [`is_one_file`] says whether two names
+//! are of one file. The promise is in the contract of [`Destination`]: what is there changes by [`Destination::put`]
+//! alone, and then it is the draft whole. One that shows what is there is held to it; a file shows no contract what it
 //! keeps, so of [`OutFile`] that is tested.
 //!
-//! Bytes are written to a draft, and stand at the path all at once:
+//! Bytes are written to a draft, and appear at the path all at once:
 //!
 //! ```rust
 //! let mut out = OutFile::new(rt, "net.rch");
