@@ -27,7 +27,7 @@ impl Write for Broken {
     }
 }
 
-/// Words that name a job without options, and whether both texts of it stand in standard input.
+/// Arguments that name a job without options, and whether both texts of it come from standard input.
 const NAMED: [(&[&str], Job<'static>, bool); 7] = [
     (
         &["routecli", "answer", "a.gr", "b.p2p"],
@@ -247,7 +247,7 @@ fn job_of(chosen: &Chosen) -> Option<Job<'static>> {
     }))
 }
 
-/// Whether the words name this job, and both texts of it stand in standard input as it is said.
+/// Whether the arguments name this job, and both texts of it come from standard input as it is said.
 fn names(
     alloc: Global,
     texts: &[&str],
@@ -477,7 +477,7 @@ const REFUSED: [(&[&str], &[u8]); 38] = [
     ),
 ];
 
-/// Whether the user is told of a refusal, in a text that begins with `error: ` and this.
+/// Whether a refusal is shown to the user, in a text that begins with `error: ` and this.
 fn tells_error(alloc: Global, why: &Stop, line: &[u8]) -> bool {
     let mut out = Vec::new(alloc);
     let mut err = Vec::new(alloc);
@@ -522,7 +522,7 @@ fn one_word_for_both_files(rt: HostRuntime) -> Result<(), Fail> {
     Ok(())
 }
 
-/// Words that ask for help, and what the help tells.
+/// Arguments that ask for help, and what the help says.
 const HELP: [(&[&str], &[&str]); 6] = [
     (&["routecli", "--help"], &["--version"]),
     (&["routecli", "help"], &["--version"]),

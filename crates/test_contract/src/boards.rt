@@ -21,7 +21,7 @@ use std::test::Fail;
 /// How many nodes each search settles at most.
 const SETTLE: u32 = 64;
 
-/// A proposal, and what the board answers to it: its node, the nodes of the rows that it rests on, its verdicts, and its
+/// A proposal, and what the board returns for it: its node, the nodes of the rows that it rests on, its verdicts, and its
 /// shortcuts.
 type Offer = (
     u32,
@@ -256,7 +256,7 @@ const CASES: [Case; 11] = [
     },
 ];
 
-/// Whether a board of the graph answers the offers, and the sweep and the hierarchy are those of the case.
+/// Whether a board of the graph returns what the case expects for the offers, and the sweep and the hierarchy are its own.
 fn comes_to<S: Site, R: Wait>(
     rt: &R,
     alloc: Global,
@@ -319,7 +319,7 @@ fn is_given_away(ledger: Ledger, case: &Case) -> bool {
     }
 }
 
-/// Whether the board answers the offers of each turn, and the sweep then contracts what is left.
+/// Whether the board returns what is expected for the offers of each turn, and the sweep then contracts what is left.
 fn takes_turns<S: Site, R: Wait>(
     rt: &R,
     alloc: Global,
@@ -350,7 +350,7 @@ fn is_swept<S: Site, R: Wait>(
     Ok(holds & many & in_order(&receipts, contracted) & is_log(board.log(), case.log))
 }
 
-/// Whether the proposals by the rows as they are, and then the board's answers to them, are as expected.
+/// Whether the proposals by the rows as they are, and then the board's results for them, are as expected.
 ///
 /// An offer is worked out before those in front of it are, and committed after them.
 fn answers<S: Site, R: Wait>(
@@ -391,7 +391,7 @@ fn in_order(receipts: &[Receipt], first: u32) -> bool {
     (first..).zip(receipts).all(|(node, receipt)| (receipt.node == node) & (receipt.rank == node))
 }
 
-/// Whether the log has an entry for each node, by its number, with these neighbours and so many shortcuts.
+/// Whether the log has an entry for each node, by its number, with these neighbours and this many shortcuts.
 fn is_log(entries: &[Contraction], expected: &[(&[u32], u64)]) -> bool {
     are_numbered(entries) & are_expected(entries, expected)
 }
@@ -401,7 +401,7 @@ fn are_numbered(entries: &[Contraction]) -> bool {
     (0u32..).zip(entries).all(|(node, entry)| (entry.node == node) & (entry.rank == node))
 }
 
-/// Whether the entries have these neighbours, and so many shortcuts.
+/// Whether the entries have these neighbours, and this many shortcuts.
 fn are_expected(entries: &[Contraction], expected: &[(&[u32], u64)]) -> bool {
     entries.len() == expected.len()
         && entries.iter().zip(expected).all(|(entry, (neighbours, shortcuts))| {
@@ -456,7 +456,7 @@ fn ledgers_come_to_their_hierarchies(rt: HostRuntime) -> Result<(), Fail> {
     Ok(())
 }
 
-/// Whether a fresh board of the row of three nodes is handed back, as it was, in place of a hierarchy.
+/// Whether a fresh board of the row of three nodes is returned, as it was, in place of a hierarchy.
 fn has_nodes_left<S: Site, R: Wait>(
     rt: &R,
     alloc: Global,
@@ -472,7 +472,7 @@ fn has_nodes_left<S: Site, R: Wait>(
     Ok(is_handed_back(board))
 }
 
-/// Whether a board of the row of three nodes is handed back, with no node contracted.
+/// Whether a board of the row of three nodes is returned, with no node contracted.
 fn is_handed_back<S: Site>(board: Board<S>) -> bool {
     match board.into_hierarchy() {
         Ok(_) => false,
@@ -496,7 +496,7 @@ fn nodes_left(rt: HostRuntime) -> Result<(), Fail> {
     Ok(())
 }
 
-/// Whether a ledger of three nodes is handed back, with no node contracted.
+/// Whether a ledger of three nodes is returned, with no node contracted.
 fn is_ledger_handed_back(ledger: Ledger) -> bool {
     match ledger.finish() {
         Ok(_) => false,

@@ -1,7 +1,7 @@
 //! Worked cases of the layers from rows to hierarchies: small networks, and what is to come of them by hand; and threads
 //! that read the rows of a board while another commits.
 //!
-//! Stands on `ch_overlay`, `ch_rowbook`, `ch_witness` and `ch_contract`, and has nothing but their tests. They stand apart
+//! Builds on `ch_overlay`, `ch_rowbook`, `ch_witness` and `ch_contract`, and has nothing but their tests. They are apart
 //! so that the proofs of the layers are made once.
 #![tactic(auto)]
 

@@ -15,7 +15,7 @@ type Entries = &'static [(u32, u32)];
 struct Opening {
     lines: &'static [Line],
     rows: &'static [(Entries, Entries)],
-    /// What so many arcs of this weight cost.
+    /// What this many arcs of this weight cost.
     bound: (u32, u32),
 }
 

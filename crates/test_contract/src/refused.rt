@@ -1,4 +1,4 @@
-//! What rows, searches, proposals and boards answer where one growth is refused: `tests/refusals` runs each test
+//! What rows, searches, proposals and boards return where one growth is refused: `tests/refusals` runs each test
 //! once for each of its growths.
 //!
 //! A call that is refused memory leaves its value as it was, is made again, and has to give what it gives with ample
@@ -139,7 +139,7 @@ fn committed<S: Site, R: Wait>(
     }
 }
 
-/// Commits a node that memory was refused to, with so many contractions in the log.
+/// Commits a node for which memory ran out, with this many contractions in the log.
 fn committed_again<S: Site, R: Wait>(
     rt: &R,
     alloc: Global,
@@ -186,13 +186,13 @@ fn seen_again<S: Site, R: Wait>(
     Ok(board.commit_and_see(rt, &proposal, reader)?)
 }
 
-/// Contracts the nodes that are left: whether a receipt is handed out for each.
+/// Contracts the nodes that are left: whether a receipt is returned for each.
 fn sweep<S: Site, R: Wait>(rt: &R, board: &mut Board<S>) -> Result<bool, SweepError> {
     let left = board.overlay().alive() as usize;
     Ok(board.sweep(rt, SETTLE)?.len() == left)
 }
 
-/// Contracts the nodes that are left, and then those that a refused sweep left: whether a receipt is handed out for each of
+/// Contracts the nodes that are left, and then those that a refused sweep left: whether a receipt is returned for each of
 /// these.
 fn swept<S: Site, R: Wait>(rt: &R, board: &mut Board<S>) -> Result<bool, SweepError> {
     match sweep(rt, board) {
@@ -201,7 +201,7 @@ fn swept<S: Site, R: Wait>(rt: &R, board: &mut Board<S>) -> Result<bool, SweepEr
     }
 }
 
-/// The hierarchy of a board, by what is handed back where memory is refused.
+/// The hierarchy of a board, by what is returned where memory runs out.
 fn hierarchy_of<S: Site>(board: Board<S>) -> Result<Hierarchy, FinishError> {
     match board.into_hierarchy() {
         Ok(hierarchy) => Ok(hierarchy),
@@ -259,7 +259,7 @@ fn board(rt: HostRuntime) -> Result<(), Fail> {
     Ok(())
 }
 
-/// Whether a ledger goes on with a new book, and has no contraction yet. It is handed back where memory is refused.
+/// Whether a ledger goes on with a new book, and has no contraction yet. It is returned where memory runs out.
 fn goes_on<S: Site, R: Wait>(
     rt: &R,
     alloc: Global,
@@ -277,7 +277,7 @@ fn goes_on<S: Site, R: Wait>(
     }
 }
 
-/// Whether a ledger that was handed back goes on with another book.
+/// Whether a ledger that was returned goes on with another book.
 fn goes_on_again<R: Wait>(rt: &R, alloc: Global, ledger: Ledger) -> Result<bool, AllocError> {
     let (blank, ledger) = with_book(alloc, ledger)?;
     Ok(matches!(goes_on::<Brand, R>(rt, alloc, blank, ledger), Ok(true)))

@@ -138,7 +138,7 @@ fn one_search(rt: HostRuntime) -> Result<(), Fail> {
     Ok(())
 }
 
-/// Whether nodes 1 and 2 are handed out, whose rows were read, node 1 once though it is named twice, and not node 3.
+/// Whether nodes 1 and 2 are returned, whose rows were read, node 1 once though it is named twice, and not node 3.
 fn hands_out(alloc: Global, searcher: &mut Searcher) -> Result<bool, AllocError>
     requires { OfTheirNodes (kept_of searcher.old.rows) }
 {
@@ -170,7 +170,7 @@ fn finds_by(
     Ok(is_one_way(&traced.ways, BY_1))
 }
 
-/// Whether two searches of one searcher find the same way, and it hands out what they have read.
+/// Whether two searches of one searcher find the same way, and it returns what they have read.
 fn finds_twice(alloc: Global, shelf: &mut Shelf) -> Result<bool, Fail> {
     let mut searcher = Searcher::new(alloc);
     let mut traced = Traced::new(alloc);

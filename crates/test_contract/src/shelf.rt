@@ -12,7 +12,7 @@ use test_kit::{entry, is_sound};
 /// A length and a number of arcs.
 pub type Numbers = (u64, u32);
 
-/// What leads from one node to another, and its cost: that of an arc, or of the arcs for which a shortcut stands.
+/// What leads from one node to another, and its cost: that of an arc, or of the arcs that a shortcut represents.
 pub type Lead = (u32, u32, Numbers);
 
 /// The cost of these numbers.
@@ -26,7 +26,7 @@ pub struct Shelf {
     rows: Vec<Arc<Row>>,
     /// Each node that was asked for, also where there is no row of it.
     pub asked: Vec<u32>,
-    /// The bound is what so many arcs of this weight cost.
+    /// The bound is what this many arcs of this weight cost.
     count: u16,
     heaviest: u32,
 }
@@ -42,7 +42,7 @@ impl Model for Shelf {
 }
 
 impl Shelf {
-    /// So many rows, by what leads from one of their nodes to another; a node may have a rank.
+    /// This many rows, by what leads from one of their nodes to another; a node may have a rank.
     pub fn new(
         alloc: Global,
         nodes: u32,

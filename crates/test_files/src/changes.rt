@@ -32,7 +32,8 @@ fn is_told(alloc: Global, bytes: &[u8]) -> bool {
     refusal(alloc, bytes) == first_fault(bytes)
 }
 
-/// Whether a file is told with each value of the byte at this place. The byte is then as it was.
+/// Whether a file is refused as the plain reader says, with each value of the byte at this place. The byte
+/// is then as it was.
 fn is_told_at(alloc: Global, file: &mut [u8], place: usize) -> bool {
     let Some(kept) = file.get(place).copied() else {
         return false;
@@ -50,7 +51,7 @@ fn is_told_at(alloc: Global, file: &mut [u8], place: usize) -> bool {
     is_each_told
 }
 
-/// Whether a file is told with each value of each byte. Where it is, it is then as it was.
+/// Whether a file is refused as the plain reader says, with each value of each byte. Where it is, it is then as it was.
 fn is_told_everywhere(alloc: Global, file: &mut [u8]) -> bool {
     for place in 0..file.len() {
         if !is_told_at(alloc, file, place) {
@@ -60,7 +61,7 @@ fn is_told_everywhere(alloc: Global, file: &mut [u8]) -> bool {
     true
 }
 
-/// Whether a file is well made, and told with each value of each byte.
+/// Whether a file is well made, and refused as the plain reader says with each value of each byte.
 fn is_each_change_told(alloc: Global, words: &[u32]) -> Result<bool, AllocError> {
     let mut file = bytes(alloc, words)?;
     let is_told = is_told_everywhere(alloc, file.as_mut_slice());
@@ -81,7 +82,7 @@ fn each_byte_of_version_1_changed(rt: HostRuntime) -> Result<(), AllocError> {
     Ok(())
 }
 
-/// Whether each front of a file is told.
+/// Whether each front of a file is refused as the plain reader says.
 fn is_each_front_told(alloc: Global, file: &[u8]) -> bool {
     for length in 0..=file.len() {
         if !is_told(alloc, &file[..length]) {
@@ -122,7 +123,7 @@ fn change(draw: &mut Draw, file: &mut Vec<u8>) {
     }
 }
 
-/// Whether a file is told with some bytes changed, drawn anew so often.
+/// Whether a file is refused as the plain reader says with some bytes changed, drawn anew each time.
 fn is_told_with_some(alloc: Global, words: &[u32]) -> Result<bool, AllocError> {
     let mut draw = Draw { state: 1 };
     let file = bytes(alloc, words)?;

@@ -301,7 +301,7 @@ fn refuses_files(rt: HostRuntime) -> Result<(), AllocError> {
 }
 
 // Of 38 nodes each two are linked, by way of the node below the lower one, in the version of this magic. In version 2 a link
-// has as many arcs as it is long, or the greatest number that is told.
+// has as many arcs as it is long, or the greatest number that is kept.
 pub(crate) fn cascade(alloc: Global, magic: u32) -> Result<Vec<u32>, AllocError> {
     let mut words = Vec::new(alloc);
     words.extend_from_slice(&[magic, 38, 0, 1406, 36, 0xffff_ffdb])?;
@@ -469,7 +469,7 @@ const HOSTILE: [(&[u32], u32, HierError); 5] = [
     ),
 ];
 
-/// Why a file is refused by a reader that gives so many bytes, one at each call, and then fails.
+/// Why a file is refused by a reader that gives this many bytes, one at each call, and then fails.
 fn refusal_before(alloc: Global, bytes: &[u8], calls: u32) -> Option<HierError> {
     let mut pieces = Pieces {
         bytes,
@@ -480,7 +480,7 @@ fn refusal_before(alloc: Global, bytes: &[u8], calls: u32) -> Option<HierError> 
     read(alloc, &mut pieces).err()
 }
 
-/// Whether a fault is told by a reader that fails right behind it, and not by one that fails a byte before.
+/// Whether a fault is reported by a reader that fails right behind it, and not by one that fails a byte before.
 fn comes_before_a_failed_read(
     alloc: Global,
     words: &[u32],
@@ -510,7 +510,7 @@ fn reads_in_pieces(rt: HostRuntime) -> Result<(), AllocError> {
     Ok(())
 }
 
-// A writer that takes a few bytes at each call and so many in all, and is interrupted at each other call.
+// A writer that takes a few bytes at each call and this many in all, and is interrupted at each other call.
 #[derive(Drop)]
 struct Taker {
     taken: Vec<u8>,
@@ -540,7 +540,7 @@ pub(crate) fn row(alloc: Global) -> Result<Option<Hierarchy>, AllocError> {
     hierarchy_of(alloc, &ROW)
 }
 
-// How a hierarchy is written in so many calls, if it is of version 2.
+// How a hierarchy is written in this many calls, if it is of version 2.
 fn writes(hierarchy: &Hierarchy, taker: &mut Taker, limit: u64) -> Option<Result<(), WriteFault>> {
     if hierarchy.version() != 2 {
         return None;
@@ -548,7 +548,7 @@ fn writes(hierarchy: &Hierarchy, taker: &mut Taker, limit: u64) -> Option<Result
     Some(write_within(hierarchy, taker, limit))
 }
 
-// How the row is written in so many calls, if it is read.
+// How the row is written in this many calls, if it is read.
 fn writes_row(
     alloc: Global,
     taker: &mut Taker,
@@ -560,7 +560,7 @@ fn writes_row(
     }
 }
 
-/// How many bytes a writer takes at a call and in all, the limit of the calls, the answer, and how many bytes are taken.
+/// How many bytes a writer takes at a call and in all, the limit of the calls, the result, and how many bytes are taken.
 type Writing = (usize, usize, u64, Result<(), WriteFault>, usize);
 
 /// Whether the row, of these bytes, is written so.

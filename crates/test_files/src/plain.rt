@@ -1,6 +1,6 @@
 use hierfile::HierError;
 
-/// The number that stands for no middle.
+/// The number that represents no middle.
 const NONE: u64 = 0xffff_ffff;
 
 /// What files begin with, in version 1 and in version 2.
@@ -11,14 +11,14 @@ const MAGICS: [[u8; 4]; 2] = [*b"RCH1", *b"RCH2"];
 #[derive(Clone, Copy)]
 struct File<'a> {
     bytes: &'a [u8],
-    /// Whether links tell their arcs, as in version 2.
+    /// Whether links have their arcs, as in version 2.
     tells_arcs: bool,
     nodes: u64,
     links: u64,
     bound: u64,
 }
 
-/// A link as the bytes tell it, with no arcs where they tell none.
+/// A link as the bytes have it, with no arcs where they have none.
 #[derive(Clone, Copy)]
 struct Told {
     from: u64,
@@ -87,7 +87,7 @@ fn place_of(start: u64, number: u64, size: u64) -> u64 {
     start.saturating_add(number.saturating_mul(size))
 }
 
-// The number of so many bytes from a place on, or none where they end before.
+// The number of this many bytes from a place on, or none where they end before.
 fn number(bytes: &[u8], at: u64, count: u64) -> Option<u64> {
     let mut number = 0u64;
     for place in at..at.saturating_add(count) {

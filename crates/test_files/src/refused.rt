@@ -1,4 +1,4 @@
-//! What the readers and the queries over a file answer where one growth is refused: `tests/refusals` runs each test once
+//! What the readers and the queries over a file return where one growth is refused: `tests/refusals` runs each test once
 //! for each of its growths.
 //!
 //! A call that is refused memory is made again, and has to give what it gives with ample memory. A growth of what a test
@@ -107,12 +107,12 @@ const FILES: [(&[u32], Option<HierError>); 4] = [
     (&[MAGIC, 3, 0, 3, 0, 6, 0, 1, 2], Some(HierError::Truncated)),
 ];
 
-/// Whether memory was refused.
+/// Whether memory ran out.
 fn lacks_memory<T>(answer: &Result<T, GrError>) -> bool {
     matches!(answer, Err(error) if error.kind == GrErrorKind::OutOfMemory)
 }
 
-/// The fault of an answer; where another graph was read than that of one arc, a fault that no text has.
+/// The fault of a result; where another graph was read than that of one arc, a fault that no text has.
 fn graph_fault(answer: Result<Graph, GrError>) -> Option<(GrErrorKind, u64)> {
     let (from, to, weight) = (0, 1, 7);
     match answer {
@@ -122,7 +122,7 @@ fn graph_fault(answer: Result<Graph, GrError>) -> Option<(GrErrorKind, u64)> {
     }
 }
 
-/// The fault of an answer; where other pairs were read than that of 2 and 1, a fault that no text has.
+/// The fault of a result; where other pairs were read than that of 2 and 1, a fault that no text has.
 fn pairs_fault(answer: Result<Vec<(u32, u32)>, GrError>) -> Option<(GrErrorKind, u64)> {
     match answer {
         Ok(pairs) if pairs.as_slice() == [(1, 0)].as_slice() => None,
@@ -239,7 +239,7 @@ fn read_queries(rt: HostRuntime) {
     }
 }
 
-/// The last answer of a reader that is fed a problem line of another problem and then a long line in pieces.
+/// The last result of a reader that is fed a problem line of another problem and then a long line in pieces.
 fn long_line(alloc: Global) -> Result<Graph, GrError> {
     let mut reader = GrReader::new(alloc);
     let mut answer = reader.feed(b"p max 2 1");
@@ -254,7 +254,7 @@ fn long_line(alloc: Global) -> Result<Graph, GrError> {
     reader.finish()
 }
 
-/// The fault of the first line is told, or that there was no memory for that line; never want of memory for the second.
+/// Returns the fault of the first line, or out of memory for that line; never out of memory for the second.
 #[test]
 fn before_a_long_line(rt: HostRuntime) {
     let answer = long_line(rt.alloc());
@@ -398,7 +398,7 @@ fn search(rt: HostRuntime) -> Result<(), Fail> {
     Ok(())
 }
 
-/// A search's answer; where it is refused memory it is asked again.
+/// A search's result; where memory runs out it is made again.
 fn found(search: &mut Search, source: u32, target: u32) -> Result<Option<Found>, AllocError>
     requires source_in { source < length search.old.ranks }
     requires target_in { target < length search.old.ranks }
@@ -428,7 +428,7 @@ fn nodes_of(
     }
 }
 
-/// Whether links from 1 go by way of 0 to 2.
+/// Whether links from 1 lead by way of 0 to 2.
 fn are_round(alloc: Global, hierarchy: &Hierarchy, links: &[LinkId]) -> Result<bool, UnpackError>
     requires source_in { 1 < length hierarchy.now.ranks }
     requires joined { Joined hierarchy.now 1 links.now }
@@ -437,7 +437,7 @@ fn are_round(alloc: Global, hierarchy: &Hierarchy, links: &[LinkId]) -> Result<b
     Ok(nodes.as_slice() == [1u32, 0, 2].as_slice())
 }
 
-/// Whether a walk from 1 to 2 of three nodes is found, costs this, and goes by way of 0.
+/// Whether a walk from 1 to 2 of three nodes is found, costs this, and leads by way of 0.
 fn goes_round(
     alloc: Global,
     hierarchy: &Hierarchy,
@@ -498,7 +498,7 @@ fn query_and_route(rt: HostRuntime) -> Result<(), Fail> {
     Ok(())
 }
 
-/// A search's answers of a file of one arc.
+/// A search's results for a file of one arc.
 fn goes_by_one_arc(search: &mut Search, cost: Cost) -> Result<bool, AllocError>
     requires two { length search.old.ranks ≡ 2 }
 {
@@ -593,7 +593,7 @@ fn too_long_a_route(rt: HostRuntime) -> Result<(), Fail> {
     Ok(())
 }
 
-/// Of 38 nodes each two are linked, and the link from 37 to 36 stands for 2^36 arcs.
+/// Of 38 nodes each two are linked, and the link from 37 to 36 represents 2^36 arcs.
 #[test]
 fn one_link_for_too_long_a_route(rt: HostRuntime) -> Result<(), Fail> {
     let words = cascade(rt.alloc(), MAGIC_1)?;

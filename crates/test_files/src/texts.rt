@@ -343,22 +343,22 @@ fn reads_graphs(alloc: Global) -> bool {
     is_each_read(alloc, &GRAPHS)
 }
 
-/// Whether the faults of the places of lines are told.
+/// Whether the faults of the places of lines are returned.
 fn tells_places(alloc: Global) -> bool {
     is_each_read(alloc, &PLACES)
 }
 
-/// Whether the faults of the kinds and fields of lines are told.
+/// Whether the faults of the kinds and fields of lines are returned.
 fn tells_kinds(alloc: Global) -> bool {
     is_each_read(alloc, &KINDS)
 }
 
-/// Whether the faults of problem lines are told.
+/// Whether the faults of problem lines are returned.
 fn tells_problems(alloc: Global) -> bool {
     is_each_read(alloc, &PROBLEMS)
 }
 
-/// Whether the faults of arc lines are told.
+/// Whether the faults of arc lines are returned.
 fn tells_arcs(alloc: Global) -> bool {
     is_each_read(alloc, &ARCS)
 }
@@ -372,7 +372,7 @@ fn graphs_however_cut(rt: HostRuntime) {
     assert!(rt; tells_arcs(rt.alloc()));
 }
 
-/// Whether the text of pairs is read as it is said, whole or cut in two at any place, and byte by byte.
+/// Whether the query file is read as expected, whole or cut in two at any place, and byte by byte.
 fn are_read(alloc: Global, (text, want): Case) -> bool {
     for at in 0..text.len() {
         if !are_pairs(pairs_cut(alloc, text, at, false), want) {
@@ -392,7 +392,7 @@ fn pairs_however_cut(rt: HostRuntime) {
 /// More calls than any reader here gets.
 const MANY: u64 = 1 << 40;
 
-/// Whether a reader that fails at this call, 0 for none, is read so by so many calls.
+/// Whether a reader that fails at this call, 0 for none, is read so by this many calls.
 fn is_read_so(alloc: Global, text: &[u8], fails_at: u32, calls: u64, wanted: Wanted) -> bool {
     let mut reader = Uneven::new(text, 3, u64::from(fails_at));
     is_graph(read_graph_within(alloc, &mut reader, calls), wanted)
@@ -419,8 +419,8 @@ fn fails_at_lines(alloc: Global) -> bool {
     true
 }
 
-/// Whether the fault of a line is told by readers that fail behind it, and not by ones that fail in that line. They give a
-/// byte at each call, and are interrupted at each third one.
+/// Whether the fault of a line is reported by readers that fail behind it, and not by ones that fail in that line. They give
+/// a byte at each call, and are interrupted at each third one.
 fn faults_come_before(alloc: Global) -> bool {
     let text = b"c\nx\nc y\n".as_slice();
     let in_line = is_read_so(alloc, text, 5, MANY, Wanted::Fault(GrErrorKind::Read, 2));
@@ -429,7 +429,7 @@ fn faults_come_before(alloc: Global) -> bool {
     in_line & behind & are_read_before(alloc)
 }
 
-/// The same of a text of pairs.
+/// The same of a query file.
 fn are_read_before(alloc: Global) -> bool {
     let text = b"c\nx\nc y\n".as_slice();
     let mut in_line = Uneven::new(text, 3, 5);

@@ -1,4 +1,4 @@
-//! Files of version 1, which tell no arcs: what they say, how they answer, and what they are refused for.
+//! Files of version 1, which have no arcs: what they say, how they answer, and what they are refused for.
 ghost use Rattle.std.specs.Prelude.{◌<◌, length};
 
 use crate::files::{
@@ -189,7 +189,7 @@ fn is_joined(alloc: Global, words: &[u32]) -> Result<bool, AllocError> {
     }
 }
 
-/// Whether a file is read, and answers each of these pairs so.
+/// Whether a file is read, and answers each of these pairs as expected.
 fn answers(
     alloc: Global,
     words: &[u32],
@@ -252,7 +252,7 @@ fn reads_a_cascade(rt: HostRuntime) -> Result<(), AllocError> {
     Ok(())
 }
 
-/// Whether a file has so many bytes, and each front of it but the whole is refused as cut.
+/// Whether a file has this many bytes, and each front of it but the whole is refused as cut.
 fn is_cut(alloc: Global, words: &[u32], count: usize) -> Result<bool, AllocError> {
     let mut file = bytes(alloc, words)?;
     let are_cut = fronts_are_cut(alloc, file.as_slice()) & (file.len() == count);
@@ -303,7 +303,7 @@ const CHANGES: [Change; 19] = [
     (&[(22, 5), (23, 3)], HierError::MiddleRange),
     (&[(22, 5), (23, 2)], HierError::MiddleRank),
     (&[(21, 0), (22, 4)], HierError::HalfSum),
-    // More than one fault: the first is told.
+    // More than one fault: the first is returned.
     (&[(20, 0), (22, 0), (23, 3)], HierError::LinkOrder),
     (&[(22, 0), (23, 3)], HierError::LinkWeight),
     (&[(22, 4), (23, 3)], HierError::MiddleRange),

@@ -27,7 +27,7 @@ impl Drops {
         Ok(drops)
     }
 
-    /// Whether each of the first so many was dropped once, and no other.
+    /// Whether each of the first `count` was dropped once, and no other.
     pub fn are_one_each(&self, count: usize) -> bool {
         self.of.iter().enumerate().all(|(number, drops)| {
             drops.load(Ordering::SeqCst) == u64::from(number < count)
@@ -43,7 +43,7 @@ pub struct Numbered {
 }
 
 impl Numbered {
-    /// One of this number, which was told nothing.
+    /// One of this number, which received nothing.
     pub fn new(inner: Depth, number: usize, drops: Arc<Drops>) -> Numbered
         requires untold { inner ≡ [] }
         ensures untold { result.inner ≡ [] }

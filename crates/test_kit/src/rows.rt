@@ -23,7 +23,7 @@ pub fn bound() -> Cost
     Cost::of_arcs((1 << 25) - 1, u32::MAX)
 }
 
-/// The cost of a walk of this length and so many arcs.
+/// The cost of a walk of this length and this many arcs.
 fn cost_of(length: u64, arcs: u32) -> NarrowCost {
     NarrowCost::of(Cost::of_walk(length, u64::from(arcs)))
 }

@@ -12,7 +12,7 @@ use std::thread;
 use std::thread::Threads;
 use test_kit::{Drops, Numbered};
 
-/// Tells an estimator of a log, from its start.
+/// Gives an estimator a log, from its start.
 fn tell(estimator: &mut Box<dyn Estimator + Send>, log: &[Contraction]) -> Result<(), AllocError>
     requires none { heard estimator.old ≡ [] }
     requires few { length log.now < 2 ^ 25 }
@@ -110,7 +110,7 @@ fn keys_of_a_chain_and_a_star(rt: HostRuntime) -> Result<(), Fail> {
     Ok(())
 }
 
-/// Does a piece of work in a thread of its own, under a lease, and waits for the lease. Answers whether the work was done
+/// Does a piece of work in a thread of its own, under a lease, and waits for the lease. Returns whether the work was done
 /// then.
 fn waits_for_work<R: Threads + Wait>(
     rt: &R,
@@ -212,7 +212,7 @@ fn boxes_give_their_leases_back(rt: HostRuntime) -> Result<(), Fail> {
     Ok(())
 }
 
-/// Tells a boxed estimator of a log, and answers what it knows of node 2.
+/// Gives a boxed estimator a log, and returns what it knows of node 2.
 fn note_by_a_box(
     mut estimator: Box<dyn Estimator + Send>,
     log: &[Contraction],

@@ -1,4 +1,4 @@
-//! Tests of what an order is made by: queues, whose draws are told word by word, and estimators with their leases.
+//! Tests of what an order is made by: queues, whose draws are known word by word, and estimators with their leases.
 //!
 //! A crate of its own, so that `ch_multiqueue` and `ch_estimate` are proved once and nothing waits for their tests. It
 //! has no code but tests.

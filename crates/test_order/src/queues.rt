@@ -68,8 +68,8 @@ fn is_push(turn: u64) -> bool {
     }
 }
 
-/// What is left in a queue, or why it isn't closed. Where memory is refused, it is tried once more with what was handed
-/// back.
+/// What is left in a queue, or why it isn't closed. Where memory runs out, it is tried once more with what was
+/// returned.
 fn closed(queue: MultiQueue, passes: Vec<Pass>) -> Result<Vec<Item>, CloseError> {
     match queue.close(passes) {
         Ok(items) => Ok(items),
@@ -91,7 +91,7 @@ fn closed_at_once(queue: MultiQueue, passes: Vec<Pass>) -> Result<Vec<Item>, Clo
     }
 }
 
-/// What is handed back where a pass is missing. Fails where the queue is closed, or isn't for another reason.
+/// What is returned where a pass is missing. Fails where the queue is closed, or isn't for another reason.
 fn lacking(queue: MultiQueue, passes: Vec<Pass>) -> Result<(MultiQueue, Vec<Pass>), Fail> {
     match queue.close(passes) {
         Ok(_items) => Err(Fail::from("closed with a pass missing")),
@@ -150,7 +150,7 @@ fn pops_one_of_two<R: Wait>(
     Ok(holds & pops(rt, queue, first, Some(item(5, 7)))?)
 }
 
-/// Whether the first pass alone doesn't close a queue and is handed back, and both do, with one item left.
+/// Whether the first pass alone doesn't close a queue and is returned, and both do, with one item left.
 fn needs_both(alloc: Global, queue: MultiQueue, first: Pass, second: Pass) -> Result<bool, Fail> {
     let (queue, mut passes) = lacking(queue, vec![in alloc; first]?)?;
     let is_first = passes.iter().map(|pass| pass.number()).eq([0]);
@@ -175,7 +175,7 @@ fn stranger(alloc: Global) -> Result<Pass, AllocError> {
     Ok(stranger)
 }
 
-/// Whether a queue isn't closed by these passes, nor then by its second one, which is handed back.
+/// Whether a queue isn't closed by these passes, nor then by its second one, which is returned.
 fn lacks_one(
     alloc: Global,
     queue: MultiQueue,
@@ -196,7 +196,7 @@ fn one_pass_of_another_queue_for_two(rt: HostRuntime) -> Result<(), Fail> {
     Ok(())
 }
 
-/// Whether a queue of so many heaps has them, and nothing is popped and nothing left.
+/// Whether a queue of this many heaps has them, and nothing is popped and nothing left.
 fn is_empty<R: Wait>(rt: &R, alloc: Global, heaps: u32) -> Result<bool, Fail>
     requires some { 0 < heaps }
     requires few { heaps ≤ 256 }
@@ -247,7 +247,7 @@ fn pops_by_rule<R: Wait>(
     pops(rt, queue, pass, want)
 }
 
-/// Whether each of 450 turns goes by the rules over the lists, and 200 items are found.
+/// Whether each of 450 turns follows the rules over the lists, and 200 items are found.
 fn goes_by_rule<R: Wait>(
     rt: &R,
     queue: &MultiQueue,
@@ -388,7 +388,7 @@ fn two_threads_lose_nothing(rt: HostRuntime) -> Result<(), Fail> {
     Ok(())
 }
 
-/// What is handed back where the accounts don't agree with what is left. Fails where the queue is closed, or isn't for
+/// What is returned where the accounts don't agree with what is left. Fails where the queue is closed, or isn't for
 /// another reason.
 fn mixed(queue: MultiQueue, passes: Vec<Pass>) -> Result<(MultiQueue, Vec<Pass>), Fail> {
     match queue.close(passes) {
@@ -409,7 +409,7 @@ fn accounts_of_another_queue_are_mixed(rt: HostRuntime) -> Result<(), Fail> {
     Ok(())
 }
 
-/// Whether the accounts of this pass don't agree with what is left, and it is handed back with what it has put.
+/// Whether the accounts of this pass don't agree with what is left, and it is returned with what it has put.
 fn hands_back(alloc: Global, queue: MultiQueue, pass: Pass, put: &[Item]) -> Result<bool, Fail> {
     let (_queue, passes) = mixed(queue, vec![in alloc; pass]?)?;
     let Some(back) = passes.first() else {

@@ -1,4 +1,4 @@
-//! What leases, estimators and queues answer where one growth is refused: `tests/refusals` runs each test once for each
+//! What leases, estimators and queues return where one growth is refused: `tests/refusals` runs each test once for each
 //! of its growths.
 //!
 //! A call that is refused memory leaves its value as it was, is made again, and has to give what it gives with ample
@@ -62,7 +62,7 @@ const AFTER: [Note; 3] = [
     Note { depth: 1, gone: 1 },
 ];
 
-/// Whether an estimator that is told the entry has the notes that follow from it; while it is refused, the first ones.
+/// Whether an estimator that receives the entry has the notes that follow from it; while it is refused, the first ones.
 fn hears<E: Estimator>(mut estimator: E, entry: &Contraction) -> bool
     requires fresh { E.heard estimator ≡ [] }
     requires rank { entry.now.rank ≡ 0 }
@@ -95,7 +95,7 @@ fn told(rt: HostRuntime) -> Result<(), Fail> {
     Ok(())
 }
 
-/// Pushes an item, and once more where it is handed back.
+/// Pushes an item, and once more where it is returned.
 fn put<R: Wait>(rt: &R, queue: &MultiQueue, pass: &mut Pass, item: Item) -> Result<(), AllocError> {
     match queue.push(rt, pass, item) {
         Ok(()) => Ok(()),
@@ -104,7 +104,7 @@ fn put<R: Wait>(rt: &R, queue: &MultiQueue, pass: &mut Pass, item: Item) -> Resu
     }
 }
 
-/// What is left in a queue, which is closed with what it hands back where memory is refused.
+/// What is left in a queue, which is closed with what it returns where memory runs out.
 fn left(queue: MultiQueue, passes: Vec<Pass>) -> Result<Vec<Item>, Fail> {
     match queue.close(passes) {
         Ok(items) => Ok(items),

@@ -23,7 +23,7 @@ const SHORTCUT: Given = (1, 2, (5, 2), Some(0));
 /// The row.
 pub const ROW: [Given; 3] = [UP, DOWN, SHORTCUT];
 
-/// The row as files of version 1 tell it.
+/// The row as files of version 1 have it.
 const ROW_BY_WEIGHT: [Given; 3] = [
     (0, 2, (3, 0), None),
     (1, 0, (2, 0), None),
@@ -395,7 +395,7 @@ pub fn is_too_long(route: Option<Result<Vec<u32>, UnpackError>>) -> bool {
     matches!(route, Some(Err(UnpackError::TooLong)))
 }
 
-/// One link stands for 2^36 arcs, and a route of 38 nodes has at most 37. Version 1 doesn't count them; in version 2 the
+/// One link represents 2^36 arcs, and a route of 38 nodes has at most 37. Version 1 doesn't count them; in version 2 the
 /// link from 6 to 7 is the first of more.
 #[test]
 fn unpacks_no_route_that_is_too_long(rt: HostRuntime) -> Result<(), Fail> {

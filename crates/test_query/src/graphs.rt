@@ -69,7 +69,7 @@ fn graph_of(alloc: Global, nodes: u32, arcs: &[(u32, u32, u32)]) -> Result<Graph
 /// Two nodes, and the least cost between them, if there is a walk.
 type Least = (u32, u32, Option<Numbers>);
 
-/// The least costs that are told at the drawing.
+/// The least costs that are given at the drawing.
 const DRAWN_COSTS: [Least; 4] = [
     (0, 3, Some((4, 3))),
     (2, 3, Some((5, 1))),
@@ -116,7 +116,7 @@ fn sum_of(rt: &impl Abort, weights: &[u32]) -> Cost {
     cost
 }
 
-/// Tells lists of nodes from walks, each given with the weights that cost as much and whether it is a walk.
+/// Separates walks from other lists of nodes, each given with the weights that cost as much and whether it is a walk.
 fn check_walks(rt: &impl Abort, graph: &Graph, walks: &[(&[u32], &[u32], bool)]) {
     for (nodes, weights, expected) in walks {
         let is_walk = graph.is_walk(nodes, sum_of(rt, weights));

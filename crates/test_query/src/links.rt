@@ -71,7 +71,7 @@ fn is_of_two_nodes(hierarchy: &Hierarchy) -> bool {
         & (hierarchy.links() == [link(0, 1)].as_slice())
 }
 
-/// Whether the hierarchy of two nodes tells its parts.
+/// Whether the hierarchy of two nodes returns its parts.
 fn is_told(alloc: Global, is_indexed: bool) -> Result<bool, Fail> {
     let hierarchy = two_nodes(alloc, is_indexed)?;
     Ok(is_of_two_nodes(&hierarchy))

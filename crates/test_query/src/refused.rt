@@ -1,4 +1,4 @@
-//! What the plain search and the test of a hierarchy answer where one growth is refused: `tests/refusals` runs each test
+//! What the plain search and the test of a hierarchy return where one growth is refused: `tests/refusals` runs each test
 //! here once for each of its growths.
 ghost use Rattle.std.specs.Prelude.{◌≡◌, IfOk};
 
@@ -19,7 +19,7 @@ fn row(alloc: Global) -> Result<Graph, Fail>
     Ok(graph)
 }
 
-/// A search that is refused memory is made again, and has to answer as with ample memory.
+/// A search that runs out of memory is made again, and has to return the same as with ample memory.
 #[test]
 fn least(rt: HostRuntime) -> Result<(), Fail> {
     let graph = row(rt.alloc())?;
@@ -48,7 +48,7 @@ fn two_nodes(alloc: Global) -> Result<Result<Hierarchy, HierarchyError>, AllocEr
     Ok(Hierarchy::checked(alloc, ranks, links, Cost::of_weight(7)))
 }
 
-/// That hierarchy, which is made again where it is refused for want of memory.
+/// That hierarchy, which is made again where memory runs out.
 fn plain(alloc: Global) -> Result<Result<Hierarchy, HierarchyError>, AllocError> {
     match two_nodes(alloc)? {
         Err(HierarchyError::OutOfMemory) => two_nodes(alloc),

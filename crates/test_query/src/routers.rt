@@ -1,4 +1,4 @@
-//! What a router answers: least routes and their lengths, none where there is no way, and a route that is too long.
+//! What a router returns: least routes and their lengths, none where there is no way, and a route that is too long.
 ghost use Rattle.std.specs.Prelude.{◌≡◌, length};
 
 use crate::checked::{BY_WAY_OF_0, DRAWN, DRAWN_RANKS, hierarchy_of};
@@ -20,7 +20,7 @@ enum Nodes {
     TooMany,
 }
 
-/// Whether a route is answered so.
+/// Whether this route is returned.
 fn is_routed(
     answer: Result<Option<Route>, UnpackError>,
     length: Option<u64>,
@@ -36,7 +36,7 @@ fn is_routed(
     }
 }
 
-/// Whether a router answers this, and its length, which is asked before and behind it.
+/// Whether a router returns this, and its length, which is asked before and behind it.
 fn answers(router: &mut Router<'_>, question: Question) -> Result<bool, Fail> {
     let (source, target, length, nodes) = question;
     if source >= router.nodes() || target >= router.nodes() {
@@ -48,7 +48,7 @@ fn answers(router: &mut Router<'_>, question: Question) -> Result<bool, Fail> {
     Ok((before == length) & (behind == length) & is_routed(route, length, nodes))
 }
 
-/// Whether one router of a hierarchy answers all of these, one after the other.
+/// Whether one router of a hierarchy returns all of these, one after the other.
 fn answers_all(alloc: Global, hierarchy: &Hierarchy, questions: &[Question]) -> Result<bool, Fail> {
     let mut router = Router::new(alloc, hierarchy)?;
     let mut holds = true;

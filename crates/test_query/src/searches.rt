@@ -57,7 +57,7 @@ fn no_node(rt: HostRuntime) -> Result<(), Fail> {
 /// Two nodes, and the cost and the links of the walk that is found between them, or none.
 type Question = (u32, u32, Option<(Numbers, &'static [LinkId])>);
 
-/// Whether a search of a hierarchy of so many nodes gives this answer.
+/// Whether a search of a hierarchy of this many nodes returns this.
 fn answers(search: &mut Search, nodes: u32, question: Question) -> Result<bool, AllocError>
     requires { length search.old.ranks ≡ nodes }
 {
@@ -69,7 +69,7 @@ fn answers(search: &mut Search, nodes: u32, question: Question) -> Result<bool, 
     Ok(is_found(found, expected))
 }
 
-/// Whether a new search of a hierarchy gives this answer.
+/// Whether a new search of a hierarchy returns this.
 fn is_answered(
     alloc: Global,
     hierarchy: &Hierarchy,
@@ -80,7 +80,7 @@ fn is_answered(
     answers(&mut search, nodes, question)
 }
 
-/// Whether new searches of a hierarchy give each of these answers.
+/// Whether new searches of a hierarchy return each of these.
 fn are_answered(
     alloc: Global,
     hierarchy: &Hierarchy,
@@ -177,7 +177,7 @@ const CASES: [Case; 9] = [
     (&[0, 1, 2, 3], &BY_WAY_OF_0, (3, 3), &[(1, 3, None)]),
 ];
 
-/// Whether searches of the hierarchy of a case give its answers.
+/// Whether searches of the hierarchy of a case return its results.
 fn holds_so(alloc: Global, (ranks, links, bound, questions): Case) -> Result<bool, Fail> {
     let hierarchy = hierarchy_of(alloc, ranks, links, bound)?;
     are_answered(alloc, &hierarchy, questions)
@@ -191,7 +191,7 @@ fn least_walks(rt: HostRuntime) -> Result<(), Fail> {
     Ok(())
 }
 
-/// Whether a thousand calls of a search give the costs that were found by hand.
+/// Whether a thousand calls of a search return the costs that were found by hand.
 fn answers_a_thousand(search: &mut Search) -> Result<bool, Fail>
     requires { length search.old.ranks ≡ 4 }
 {

@@ -301,7 +301,7 @@ fn finds(alloc: Global, hierarchy: &Hierarchy, case: Case) -> Result<bool, Alloc
     Ok(is_found(found, case.5))
 }
 
-/// Whether the hierarchy of a case answers as it should.
+/// Whether the hierarchy of a case returns what it should.
 fn holds_so(alloc: Global, case: Case) -> Result<bool, Fail> {
     let hierarchy = hierarchy_of(alloc, case.0, case.1, case.2)?;
     Ok(finds(alloc, &hierarchy, case)?)

@@ -17,7 +17,7 @@ use test_kit::{Given, are, are_sound, bound, is_sound, row};
 /// The nodes, each of which leads to the next, and the last to the first.
 const NODES: u32 = 3;
 
-/// The weights of the rows: those below [`NODES`] plus one stand in the opening rows.
+/// The weights of the rows: those below [`NODES`] plus one are in the opening rows.
 const WEIGHTS: u32 = 6_000;
 
 /// How often a reader reads all rows at most.
@@ -26,7 +26,7 @@ const ROUNDS: u32 = 40_000;
 /// How often the pen looks at most whether the readers have begun.
 const LOOKS: u32 = 10_000_000;
 
-/// A row that became current, as its only entry tells it.
+/// A row that became current, as its only entry says.
 #[derive(Clone, Copy)]
 struct Written {
     node: u32,

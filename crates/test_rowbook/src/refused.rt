@@ -1,4 +1,4 @@
-//! What a book answers where one growth is refused: `tests/refusals` runs the test once for each of its growths.
+//! What a book returns where one growth is refused: `tests/refusals` runs the test once for each of its growths.
 //!
 //! A call that is refused memory leaves pen and reader as they were, is made again, and has to give what it gives with
 //! ample memory. What is used up by a refused call, as a blank, ends the test with that error, and so does a growth of
@@ -125,7 +125,7 @@ fn shown<B: Book, R: Wait>(
     Ok((pen.version(1), pen.version(2)))
 }
 
-/// Whether both rows stand above this version, one after the other, once they are laid together.
+/// Whether both rows are above this version, one after the other, once they are laid together.
 fn are_shown<B: Book, R: Wait>(
     rt: &R,
     alloc: Global,

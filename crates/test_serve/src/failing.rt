@@ -22,7 +22,7 @@ impl Read for Failing<'_> {
     }
 }
 
-/// A writer that takes one byte in a call, and fails after so many.
+/// A writer that takes one byte in a call, and fails after this many.
 #[derive(Drop)]
 struct Full {
     taken: Vec<u8>,

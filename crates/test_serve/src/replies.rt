@@ -23,7 +23,7 @@ pub(crate) const REPLIES: &[u8] =
 c\nc\nc\ne FieldCount\ne NodeRange\ne NotANumber\ne NodeRange\ne UnknownLine\ne UnknownLine\ne FieldCount\ne FieldCount\ne FieldCount\ne FieldCount\ne WeightTooBig\ne NodeRange\n\
 e FieldCount\nd 3 3 0\nr 1 3 3 1 1 3\nr 1 1 2 0 1\nr 3 3 0 0 3\n";
 
-/// A reader that gives so many bytes in a call, in turn one more and one fewer.
+/// A reader that gives this many bytes in a call, in turn one more and one fewer.
 #[derive(Drop)]
 pub(crate) struct Uneven<'a> {
     /// What it has left.
@@ -62,7 +62,7 @@ fn worked_requests(rt: HostRuntime) {
     assert!(rt; is_served(alloc, &mut none, b"ready 3 3 2\n"));
 }
 
-/// So many bytes that aren't fields, and then a request, all in one line.
+/// This many bytes that aren't fields, and then a request, all in one line.
 fn padded(alloc: Global, blanks: usize) -> Result<Vec<u8>, AllocError> {
     let mut text = vec![in alloc; b' '; blanks]?;
     text.extend_from_slice(b"d 2 3\nd 1 3\n")?;

@@ -201,7 +201,7 @@ fn writes_that_fail_or_are_short(rt: HostRuntime) -> Result<(), Fail> {
     Ok(())
 }
 
-/// Calls that fail, of the graph's reader and of that of the pairs, and the line that is told. A byte comes at each
+/// Calls that fail, of the graph's reader and of that of the pairs, and the line that is reported. A byte comes at each
 /// call of odd number.
 const BROKEN: [(u64, u64, u64); 6] = [
     (1, 0, 1),
@@ -212,7 +212,7 @@ const BROKEN: [(u64, u64, u64); 6] = [
     (0, 3, 1),
 ];
 
-/// Whether a call that fails is told by its line, of two texts and of a joined input, and nothing is written.
+/// Whether a call that fails is reported with its line, of two texts and of a joined input, and nothing is written.
 fn are_told<R: Threads + Wait + Sync>(
     rt: &R,
     alloc: Global,
@@ -246,8 +246,9 @@ fn reads_that_fail(rt: HostRuntime) -> Result<(), Fail> {
     Ok(())
 }
 
-/// Calls that fail of one input that holds both texts, behind its line `%`, and the line that is told: in the first line of
-/// the pairs, and in the second. A byte comes at each call of odd number; the first three lines of the input have 19 bytes, and the fourth 15.
+/// Calls that fail of one input that holds both texts, behind its line `%`, and the line that is reported: in the first line
+/// of the pairs, and in the second. A byte comes at each call of odd number; the first three lines of the input have 19
+/// bytes, and the fourth 15.
 const BROKEN_BEHIND: [(u64, u64); 4] = [(37, 3), (39, 4), (67, 4), (69, 5)];
 
 #[test]
@@ -264,7 +265,7 @@ fn reads_that_fail_behind_the_parting_line(rt: HostRuntime) -> Result<(), Fail> 
     Ok(())
 }
 
-/// So many times these bytes, behind a first line.
+/// This many times these bytes, behind a first line.
 fn repeated(alloc: Global, first: &[u8], line: &[u8]) -> Result<Vec<u8>, AllocError> {
     let mut text = Vec::from_slice(alloc, first)?;
     for _ in 0..20000u32 {
@@ -273,7 +274,7 @@ fn repeated(alloc: Global, first: &[u8], line: &[u8]) -> Result<Vec<u8>, AllocEr
     Ok(text)
 }
 
-/// Whether the pairs are answered so, and where the writer takes only so many bytes it gets the first of them.
+/// Whether the pairs are answered so, and where the writer takes only this many bytes it gets the first of them.
 fn is_answered_as_far<R: Threads + Wait + Sync>(
     rt: &R,
     alloc: Global,
@@ -301,7 +302,7 @@ fn many_answers(rt: HostRuntime) -> Result<(), Fail> {
 /// How many nodes the row has: its line doesn't fit into what is gathered.
 const LONG: u32 = 13000;
 
-/// The text of a row of so many nodes, each with an arc of weight 1 to the next.
+/// The text of a row of this many nodes, each with an arc of weight 1 to the next.
 fn long_row(alloc: Global) -> Result<String, AllocError> {
     let mut text = format!(in alloc; "p sp {LONG} 12999\n")?;
     for node in 1..LONG {

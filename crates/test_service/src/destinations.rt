@@ -40,7 +40,7 @@ impl Destination for Shelf {
     fn throw_away(&mut self, _draft: Vec<u8>) {}
 }
 
-/// A writer that takes so many bytes, and then fails.
+/// A writer that takes this many bytes, and then fails.
 #[derive(Drop)]
 struct Narrow {
     room: usize,
@@ -61,7 +61,7 @@ impl Write for Narrow {
     }
 }
 
-/// A destination whose drafts take so many bytes, and what became of them.
+/// A destination whose drafts take this many bytes, and what became of them.
 #[derive(Drop)]
 struct Bench {
     room: usize,
@@ -121,7 +121,7 @@ fn is_ended<G: Read, D: Destination, R: Threads + Wait + Sync>(
     (ended == status) & (err.as_slice() == line)
 }
 
-/// The graph's text, whether the destination refuses it, the status, what stands there then, and the line on standard error.
+/// The graph's text, whether the destination refuses it, the status, what is there then, and the line on standard error.
 const PUT: [(&[u8], bool, u8, &[u8], &[u8]); 3] = [
     (ONE_ARC_TEXT, false, 0, ONE_ARC, b""),
     (ONE_ARC_TEXT, true, 7, b"old", b"routecli: write\n"),

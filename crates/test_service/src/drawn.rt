@@ -96,9 +96,9 @@ enum Way {
     ByOne,
     /// In memory, by the file that two workers prepare.
     InMemory,
-    /// By the file that so many workers prepare in this order.
+    /// By the file that this many workers prepare in this order.
     ByFile(Order, u32),
-    /// By one that so many workers prepare, in this order first, and after so many commits in another.
+    /// By one that this many workers prepare, in this order first, and after this many commits in another.
     ByStints(Order, u32, u64),
 }
 
@@ -145,7 +145,7 @@ fn by_one_input<R: Threads + Wait + Sync>(
     Ok(out)
 }
 
-/// The answers by the file that so many workers prepare in this order.
+/// The answers by the file that this many workers prepare in this order.
 fn by_file<R: Threads + Wait + Sync>(
     rt: &R,
     alloc: Global,

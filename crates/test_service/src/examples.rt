@@ -120,7 +120,7 @@ pub(crate) const ONE_ARC: &[u8] =
     b"RCH2\0\0\0\x02\0\0\0\0\0\0\0\x01\0\0\0\0\0\0\0\x07\0\0\0\0\0\0\0\x01\
 \0\0\0\0\0\0\0\x01\0\0\0\0\0\0\0\x07\0\0\0\x01\xff\xff\xff\xff";
 
-/// The same in version 1, which tells no arcs.
+/// The same in version 1, which has no arcs.
 pub(crate) const ONE_ARC_V1: &[u8] =
     b"RCH1\0\0\0\x02\0\0\0\0\0\0\0\x01\0\0\0\0\0\0\0\x07\0\0\0\0\0\0\0\x01\
 \0\0\0\0\0\0\0\x01\0\0\0\0\0\0\0\x07\xff\xff\xff\xff";

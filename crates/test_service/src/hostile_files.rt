@@ -9,7 +9,7 @@ use std::thread::Threads;
 
 const PAIRS: &[u8] = b"p aux sp p2p 1\nq 2 3\n";
 
-/// A byte of the row's file in version 2, by its place, what it is changed to, and what is then told.
+/// A byte of the row's file in version 2, by its place, what it is changed to, and what is then reported.
 type Change = (usize, u8, &'static [u8]);
 
 /// Changes of the head and of the ranks.

@@ -11,7 +11,7 @@ use std::thread::Threads;
 /// The estimators of each worker.
 pub(crate) type Lists = Vec<Vec<Box<dyn Estimator + Send>>>;
 
-/// Options of so many workers.
+/// Options of this many workers.
 pub(crate) fn options(workers: u32) -> Options
     ensures { result.workers ≡ workers }
 {

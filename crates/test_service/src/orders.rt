@@ -46,7 +46,7 @@ const CASES: [(Order, u32); 9] = [
     (Order::Depth, 4),
 ];
 
-/// The job to prepare by so many workers in this order, and after each stint in another.
+/// The job to prepare by this many workers in this order, and after each stint in another.
 fn preparing(order: Order, workers: Workers, stint: Option<Stint>) -> Job<'static> {
     Job::Prepare(Preparation {
         graph: "a.gr",
@@ -77,7 +77,7 @@ fn file_of<R: Threads + Wait + Sync>(
     }
 }
 
-/// The file of the graph's hierarchy by so many workers in this order.
+/// The file of the graph's hierarchy by this many workers in this order.
 pub(crate) fn prepared<R: Threads + Wait + Sync>(
     rt: &R,
     alloc: Global,
@@ -91,7 +91,7 @@ pub(crate) fn prepared<R: Threads + Wait + Sync>(
     Ok(file)
 }
 
-/// The file of the graph's hierarchy by so many workers, who go on by another order after so many commits.
+/// The file of the graph's hierarchy by this many workers, who use another order after this many commits.
 pub(crate) fn prepared_by_stints<R: Threads + Wait + Sync>(
     rt: &R,
     alloc: Global,

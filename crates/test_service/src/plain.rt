@@ -1,5 +1,5 @@
-//! Answers of a small network, told slowly: the least costs by a plain search over all pairs of nodes, and whether a line
-//! tells one of the walks of that cost.
+//! Answers of a small network, found slowly: the least costs by a plain search over all pairs of nodes, and whether a
+//! line gives one of the walks of that cost.
 use std::alloc::{AllocError, Global};
 
 /// The nodes of a network, few enough that the number of each is one digit.

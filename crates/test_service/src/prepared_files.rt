@@ -60,7 +60,7 @@ const LINKED: [(&[u8], u32, u64, &[Link]); 5] = [
     (TWO_TOPS, 4, 15, &TWO_TOPS_LINKS),
 ];
 
-/// The file of these links between so many nodes, each of the rank of its number, and of this bound.
+/// The file of these links between this many nodes, each of the rank of its number, and of this bound.
 fn file_of(alloc: Global, nodes: u32, bound: u64, links: &[Link]) -> Result<Vec<u8>, AllocError> {
     let mut file = Vec::from_slice(alloc, b"RCH2")?;
     file.extend_from_slice(&nodes.to_be_bytes())?;

@@ -1,8 +1,8 @@
-//! What the commands answer where one growth is refused: `tests/refusals` runs each test once for each of its growths.
+//! What the commands return where one growth is refused: `tests/refusals` runs each test once for each of its growths.
 //!
-//! A command either does all its work or tells of want of memory, and has then written whole lines, `prepare` nothing.
-//! Made again it does its work. A growth of what a test sets up ends the test with that error. Writers have room from
-//! the start, so that none of them is refused memory.
+//! A command either does all its work or reports that memory ran out, and has then written whole lines, `prepare`
+//! nothing. Made again it does its work. A growth of what a test sets up ends the test with that error. Writers have
+//! room from the start, so that none of them is refused memory.
 ghost use Rattle.std.specs.Prelude.{◌≡◌, [], All, IfOk};
 
 use crate::examples::{EXAMPLES, Example, ONE_ARC, ROW, ROW_TEXT};
@@ -38,7 +38,7 @@ struct Ended {
 }
 
 impl Ended {
-    /// What is told of a command that has this much of its room left.
+    /// What is reported of a command that has this much of its room left.
     fn new(end: Result<(), ServiceError>, room: [u8; 128], left: usize) -> Ended {
         Ended {
             end,
@@ -57,7 +57,7 @@ impl Ended {
         self.end == end && self.room.get(..self.written) == Some(all)
     }
 
-    /// Whether memory was refused, after whole lines of these.
+    /// Whether memory ran out, after whole lines of these.
     fn lacks_memory(&self, all: &[u8]) -> bool {
         let Some(lines) = all.get(..self.written) else {
             return false;

@@ -51,7 +51,7 @@ fn list_of_three(
     Ok(lists)
 }
 
-/// The file of the square's hierarchy that one worker prepares by these lists, each stint of so many commits.
+/// The file of the square's hierarchy that one worker prepares by these lists, each stint of this many commits.
 fn prepared_by_lists<R: Threads + Wait + Sync>(
     rt: &R,
     alloc: Global,
@@ -73,7 +73,7 @@ fn prepared_by_lists<R: Threads + Wait + Sync>(
     Ok(file)
 }
 
-/// The orders that one worker goes by, one after the other.
+/// The orders that one worker uses, one after the other.
 #[derive(Clone, Copy)]
 enum Sequence {
     EdgesNeighboursDepth,
@@ -84,7 +84,7 @@ enum Sequence {
     DepthNeighboursEdges,
 }
 
-/// The list of one worker that goes by these estimators in that order.
+/// The list of one worker that uses these estimators in that order.
 fn in_sequence(
     alloc: Global,
     sequence: Sequence,
@@ -107,7 +107,7 @@ fn in_sequence(
     }
 }
 
-/// The file of the square's hierarchy that one worker prepares by these orders, each stint of so many commits.
+/// The file of the square's hierarchy that one worker prepares by these orders, each stint of this many commits.
 fn prepared_in_sequence<R: Threads + Wait + Sync>(
     rt: &R,
     alloc: Global,
@@ -123,7 +123,7 @@ fn prepared_in_sequence<R: Threads + Wait + Sync>(
     prepared_by_lists(rt, alloc, lists, &mut leases, stint)
 }
 
-/// The order that is asked for, the sequence that it stands for, and one that it doesn't.
+/// The order that is asked for, the sequence that it means, and one that it doesn't.
 const SEQUENCES: [(Order, Sequence, Sequence); 3] = [
     (
         Order::Edges,

@@ -119,7 +119,7 @@ pub(crate) fn cascade(alloc: Global) -> Result<Vec<u8>, AllocError> {
     Ok(file)
 }
 
-/// One link of the cascade stands for 2^36 arcs. It is right for no graph, and is read all the same.
+/// One link of the cascade represents 2^36 arcs. It is right for no graph, and is read all the same.
 #[test]
 fn refuses_a_route_that_is_too_long(rt: HostRuntime) -> Result<(), AllocError> {
     let file = cascade(rt.alloc())?;

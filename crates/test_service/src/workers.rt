@@ -137,7 +137,7 @@ fn worked_examples_by_two_workers(rt: HostRuntime) -> Result<(), Fail> {
     Ok(())
 }
 
-/// The list of one worker, of an estimator that was told nothing and counts its drop here.
+/// The list of one worker, of an estimator that received nothing and counts its drop here.
 fn counted_list(alloc: Global, leases: &mut Leases, drops: &Arc<Drops>) -> Result<Lists, AllocError>
     ensures { IfOk result (λ lists. All (λ list. All (λ estimator. heard estimator ≡ []) list.items) lists.items) }
 {
@@ -216,7 +216,7 @@ fn is_refused_by_prepare<R: Threads + Wait + Sync>(
     Ok((result == Err(refused.error)) & out.is_empty() & is_dropped)
 }
 
-/// Whether `answer` refuses the texts or the options as it is said, writes nothing, and drops the estimator.
+/// Whether `answer` refuses the texts or the options as expected, writes nothing, and drops the estimator.
 fn is_refused_by_answer<R: Threads + Wait + Sync>(
     rt: &R,
     alloc: Global,

@@ -6,7 +6,7 @@ use ch_workers::is_account;
 use std::alloc::{AllocError, Global};
 use std::test::Fail;
 
-/// A log in which so many nodes are contracted, the last first: the node of rank 0 is the one of the highest number.
+/// A log in which this many nodes are contracted, the last first: the node of rank 0 is the one of the highest number.
 fn falling_log(alloc: Global, nodes: u32) -> Result<Vec<Contraction>, AllocError>
     requires { nodes ≤ 2 ^ 20 }
     ensures { IfOk result (λ log. IsLog log.items) }
@@ -45,13 +45,13 @@ fn lists_of(alloc: Global, lists: &[&[(u32, u32)]]) -> Result<Vec<Vec<Receipt>>,
     Ok(receipts)
 }
 
-/// Whether lists of receipts account for the log of so many nodes.
+/// Whether lists of receipts account for the log of this many nodes.
 fn account_for(alloc: Global, nodes: u8, receipts: &[Vec<Receipt>]) -> Result<bool, AllocError> {
     let log = falling_log(alloc, u32::from(nodes))?;
     is_account(alloc, &log, receipts)
 }
 
-/// Whether the lists of these receipts account for the log of so many nodes, or don't, as is wanted.
+/// Whether the lists of these receipts account for the log of this many nodes, or don't, as is wanted.
 fn is_as_wanted(
     alloc: Global,
     nodes: u8,
@@ -72,7 +72,7 @@ const ACCOUNTS: [(u8, &[&[(u32, u32)]], bool); 10] = [
     // one list, and two that interleave
     (3, &[&[(2, 0), (1, 1), (0, 2)]], true),
     (3, &[&[(2, 0), (0, 2)], &[(1, 1)]], true),
-    // a receipt is missing, or stands twice
+    // a receipt is missing, or occurs twice
     (3, &[&[(2, 0), (0, 2)], &[]], false),
     (3, &[&[(2, 0), (1, 1), (0, 2)], &[(1, 1)]], false),
     // a receipt is of another node, a list falls, and a rank is beyond the log

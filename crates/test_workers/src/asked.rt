@@ -26,7 +26,7 @@ struct Asked {
 }
 
 impl Asked {
-    /// Nothing was asked. There is room for so many calls.
+    /// Nothing was asked. There is room for this many calls.
     fn new(alloc: Global, room: usize) -> Result<Arc<Asked>, AllocError> {
         let mut calls = Vec::new(alloc);
         'calls: for _ in 0..room {

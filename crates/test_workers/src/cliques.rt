@@ -15,7 +15,7 @@ fn clique_of(node: u32) -> u32 {
 
 /// A network of cliques of 10 nodes each, whose numbers follow each other: from each node an arc of weight 1 leads to each
 /// other one of its clique. No shortcut ever comes of it, so a node has arcs to and from all of its clique that are left,
-/// and its edge difference goes by their number alone.
+/// and its edge difference depends on their number alone.
 pub(crate) fn cliques(alloc: Global, nodes: u32) -> Result<Graph, Fail> {
     let mut arcs = Vec::new(alloc);
     'tails: for from in 0..nodes {
@@ -64,7 +64,7 @@ fn weight_of(log: &[Contraction], receipt: Receipt, room: u64) -> u64 {
 }
 
 /// What a single worker does on a network of cliques by the rules of docs/ALGORITHM.md, where its queue has one heap, and
-/// what the sweep does then. Written anew and plainly: the nodes that wait stand in a list of keys by node, of which the
+/// what the sweep does then. Written anew and plainly: the nodes that wait are in a list of keys by node, of which the
 /// least is looked for.
 #[derive(Drop)]
 pub(crate) struct Course {
@@ -76,7 +76,7 @@ pub(crate) struct Course {
     pub(crate) took: u64,
     /// How many of the nodes it contracted.
     pub(crate) own: usize,
-    /// How many entries each of its three estimators was told.
+    /// How many entries each of its three estimators received.
     pub(crate) told: [usize; 3],
     keys: [Keys; 3],
     current: usize,
@@ -85,7 +85,7 @@ pub(crate) struct Course {
 }
 
 impl Course {
-    /// The course of a worker with three estimators, on so many nodes.
+    /// The course of a worker with three estimators, on this many nodes.
     pub(crate) fn new(
         alloc: Global,
         nodes: u32,
@@ -225,7 +225,7 @@ fn are_others(alloc: Global, left: &[u32], entry: &Contraction) -> Result<bool, 
     Ok(entry.neighbours.as_slice() == others.as_slice())
 }
 
-/// Whether these are the receipts of the nodes that stand in an order from this rank on.
+/// Whether these are the receipts of the nodes that are in an order from this rank on.
 pub(crate) fn are_receipts_from(first: usize, order: &[u32], receipts: &[Receipt]) -> bool {
     receipts.iter().enumerate().all(|(place, receipt)| {
         let rank = first.wrapping_add(place);

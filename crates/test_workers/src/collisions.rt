@@ -71,7 +71,7 @@ impl Gate for Collision {
     }
 }
 
-/// An estimator that always answers the key 0, the first time when worker 0 has come to its first proposal.
+/// An estimator that always returns the key 0, the first time when worker 0 has come to its first proposal.
 #[derive(Drop)]
 struct Follower {
     inner: EdgeDifference,
@@ -95,7 +95,7 @@ impl Estimator for Follower {
     }
 }
 
-/// An estimator that was told nothing.
+/// An estimator that received nothing.
 fn make_follower(
     alloc: Global,
     lease: Lease,
@@ -131,7 +131,7 @@ fn link(from: u32, to: u32) -> Link {
     }
 }
 
-/// Whether the workers were handed two receipts, and the sweep none.
+/// Whether the workers received two receipts, and the sweep none.
 fn is_by_workers(built: &Built) -> bool {
     match built.receipts.as_slice() {
         [first, second, swept] => first.len() + second.len() == 2 && swept.is_empty(),

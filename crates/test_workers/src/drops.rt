@@ -11,7 +11,7 @@ use std::sync::{Arc, Wait};
 use std::test::Fail;
 use std::thread::Threads;
 
-/// Builds by workers whose estimators always answer the greatest key, and leave traces.
+/// Builds by workers whose estimators always return the greatest key, and leave traces.
 fn built_by<G: Gate, R: Threads + Wait + Sync>(
     rt: &R,
     alloc: Global,
@@ -25,8 +25,8 @@ fn built_by<G: Gate, R: Threads + Wait + Sync>(
     Ok(build(rt, alloc, graph, options, lists, &mut leases, gate))
 }
 
-// The first estimator alone is told. The worker takes the fourth node when the log has three entries, and its own entry
-// isn't told.
+// The first estimator alone receives entries. The worker takes the fourth node when the log has three of them, and its
+// own entry isn't received.
 #[test]
 fn one_worker_hears_of_the_log(rt: HostRuntime) -> Result<(), Fail> {
     let alloc = rt.alloc();

@@ -39,7 +39,7 @@ fn a_worker_is_overtaken(rt: HostRuntime) -> Result<(), Fail> {
     Ok(())
 }
 
-/// Whether so many workers are at their first items at the same time, and contract the graph whole, with its costs.
+/// Whether this many workers are at their first items at the same time, and contract the graph whole, with its costs.
 fn meet<R: Threads + Wait + Sync>(
     rt: &R,
     alloc: Global,

@@ -1,9 +1,9 @@
 //! What a worker keeps from one shift to the next: how many turns are left to it, whether it has put its nodes into the
-//! queue, how far its estimators have come in the log, and for how long it goes by the current one.
+//! queue, how far its estimators have come in the log, and for how long it uses the current one.
 //!
 //! The networks are of cliques, since in a clique each contraction weighs the same until few nodes are left, and shifts are
-//! short. How many of them ended at least is told by the receipts and the log: a shift ends once what was committed in it
-//! comes to the room.
+//! short. How many of them ended at least follows from the receipts and the log: a shift ends once what was committed in
+//! it comes to the room.
 use crate::cliques::{Course, are_receipts_from, cliques, is_log_of, shifts_of};
 use crate::kit::{Keys, ONE, TWO};
 use crate::stations::{Both, OneAtATime, Tally};
@@ -15,7 +15,7 @@ use std::sync::{Arc, Wait};
 use std::test::Fail;
 use std::thread::Threads;
 
-/// Builds a network of cliques, of so many nodes, by workers whose estimators give such keys and leave traces.
+/// Builds a network of cliques, of this many nodes, by workers whose estimators give such keys and leave traces.
 fn built_by<G: Gate, R: Threads + Wait + Sync>(
     rt: &R,
     alloc: Global,
@@ -47,7 +47,7 @@ fn is_by_course(alloc: Global, built: &Built, course: &Course) -> Result<bool, F
 }
 
 /// Whether one worker does what it does by the rules on cliques of 100 nodes, node by node, and brings three shifts or more
-/// to an end; its three estimators are told what they are told by the rules.
+/// to an end; its three estimators receive what they are to receive by the rules.
 fn goes_by_the_rules<R: Threads + Wait + Sync>(
     rt: &R,
     alloc: Global,
@@ -96,7 +96,7 @@ fn one_worker_goes_by_the_rules(rt: HostRuntime) -> Result<(), Fail> {
     Ok(())
 }
 
-/// Whether each of two workers has so many receipts, and three shifts or more came to an end.
+/// Whether each of two workers has this many receipts, and three shifts or more came to an end.
 fn are_both(built: &Built, receipts: usize) -> bool {
     let [first, second, _] = built.receipts.as_slice() else {
         return false;
@@ -104,7 +104,7 @@ fn are_both(built: &Built, receipts: usize) -> bool {
     first.len() == receipts && second.len() == receipts && shifts_of(built) >= 3
 }
 
-/// Whether each estimator of two workers, who went on by the next after each 20 commits, was told what was committed
+/// Whether each estimator of two workers, who used the next after each 20 commits, received what was committed
 /// before its last turn: all but the last of its worker's commits so far, at least.
 fn have_heard<R: Wait>(rt: &R, traces: &Traces) -> bool {
     (0..6usize).all(|number| {
@@ -138,8 +138,8 @@ fn two_workers_of_sixty_turns(rt: HostRuntime) -> Result<(), Fail> {
     Ok(())
 }
 
-// Each node is put into the queue once, and again where its proposal was refused: so many items are taken. The 200 nodes
-// weigh more than four times the room.
+// Each node is put into the queue once, and again where its proposal was refused: this many items are taken. The 200
+// nodes weigh more than four times the room.
 #[test]
 fn two_workers_take_each_node_once(rt: HostRuntime) -> Result<(), Fail> {
     let alloc = rt.alloc();

@@ -162,7 +162,7 @@ impl Estimator for Chooser {
 /// The estimators of each worker.
 pub(crate) type Lists = Vec<Vec<Box<dyn Estimator + Send>>>;
 
-/// So many lists without estimators.
+/// This many lists without estimators.
 pub(crate) fn empty_lists(alloc: Global, count: u32) -> Result<Lists, AllocError>
     ensures untold { IfOk result (λ lists. All (λ list. All (λ estimator. heard estimator ≡ []) list.items) lists.items) }
 {
@@ -173,7 +173,7 @@ pub(crate) fn empty_lists(alloc: Global, count: u32) -> Result<Lists, AllocError
     Ok(lists)
 }
 
-/// So many lists, each of one thing that is made for a lease of its own.
+/// This many lists, each of one thing that is made for a lease of its own.
 pub(crate) fn a_list_each<T: Drop, F: Fn(Lease) -> Result<T, AllocError>>(
     alloc: Global,
     leases: &mut Leases,

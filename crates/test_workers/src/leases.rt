@@ -10,7 +10,7 @@ use std::thread;
 /// How often the keeper of a lease lets others go first, once the worker has ended.
 const LONGER: u32 = 100_000;
 
-/// Tells when a worker has ended.
+/// Signals when a worker has ended.
 #[derive(Drop)]
 struct Ended {
     done: Arc<AtomicU64>,
@@ -32,7 +32,7 @@ fn wait_longer(done: &AtomicU64) {
     }
 }
 
-// Another thread has a lease until the worker has ended, and longer. It says so before it gives it back.
+// Another thread has a lease until the worker has ended, and longer. It says so before it returns it.
 #[test]
 fn a_build_waits_for_leases(rt: HostRuntime) -> Result<(), Fail> {
     let alloc = rt.alloc();

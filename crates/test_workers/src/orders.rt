@@ -48,7 +48,7 @@ fn are_ranks(hierarchy: &Hierarchy, ranks: &[u32]) -> bool {
     true
 }
 
-/// Whether one worker and the sweep were handed these receipts.
+/// Whether one worker and the sweep received these receipts.
 fn are_receipts(built: &Built, worker: &[Receipt], sweep: &[Receipt]) -> bool {
     match built.receipts.as_slice() {
         [first, second] => first.as_slice() == worker && second.as_slice() == sweep,
@@ -56,7 +56,7 @@ fn are_receipts(built: &Built, worker: &[Receipt], sweep: &[Receipt]) -> bool {
     }
 }
 
-/// Whether so many workers make a hierarchy of the star that has these ranks and links, and the bound of four arcs.
+/// Whether this many workers make a hierarchy of the star that has these ranks and links, and the bound of four arcs.
 fn makes_of_a_star<R: Threads + Wait + Sync>(
     rt: &R,
     alloc: Global,
@@ -99,7 +99,7 @@ fn a_star_by_one_worker_and_by_none(rt: HostRuntime) -> Result<(), Fail> {
     Ok(())
 }
 
-/// Whether one worker, who takes so many turns, leaves these receipts of the tie to the sweep, of four in order, and
+/// Whether one worker, who takes this many turns, leaves these receipts of the tie to the sweep, of four in order, and
 /// passes points with these digits.
 fn takes_turns<R: Threads + Wait + Sync>(
     rt: &R,

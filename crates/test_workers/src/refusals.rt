@@ -6,8 +6,8 @@ use std::sync::Wait;
 use std::test::Fail;
 use std::thread::Threads;
 
-/// Whether a build of one arc by these options and so many lists ends as it should: it makes a hierarchy, or refuses the
-/// options.
+/// Whether a build of one arc by these options and this many lists ends as it should: it makes a hierarchy, or refuses
+/// the options.
 fn ends_well<R: Threads + Wait + Sync>(
     rt: &R,
     alloc: Global,

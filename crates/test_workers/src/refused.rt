@@ -1,4 +1,4 @@
-//! What builds answer where one growth is refused: `tests/refusals` runs each test once for each of its growths.
+//! What builds return where one growth is refused: `tests/refusals` runs each test once for each of its growths.
 //!
 //! A build that is refused memory is made again. The costs of what is built are those of the plain search, whichever
 //! growth was refused: a worker that is refused memory leaves its work to the others and to the sweep. A growth of what a

@@ -106,7 +106,7 @@ impl Tally {
         number_of(&self.refused, worker)
     }
 
-    /// Whether each of so many workers ended once, and has as many receipts as it committed.
+    /// Whether each of this many workers ended once, and has as many receipts as it committed.
     pub(crate) fn is_of_workers(&self, built: &Built, workers: usize) -> bool {
         let Some((_, lists)) = built.receipts.split_last() else {
             return false;
@@ -118,7 +118,7 @@ impl Tally {
             })
     }
 
-    /// Whether each worker ended once and was handed as many receipts as it committed, and the sweep none where there is
+    /// Whether each worker ended once and received as many receipts as it committed, and the sweep none where there is
     /// a worker.
     pub(crate) fn is_of(&self, built: &Built) -> bool {
         let Some((swept, lists)) = built.receipts.split_last() else {
@@ -202,7 +202,7 @@ impl Gate for OneAtATime {
     }
 }
 
-/// Keeps each worker at its first item until so many have come to theirs.
+/// Keeps each worker at its first item until this many have come to theirs.
 #[derive(Drop)]
 pub(crate) struct Together {
     workers: u64,

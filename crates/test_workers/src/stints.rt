@@ -52,8 +52,8 @@ fn is_entry(entry: Option<&Contraction>, node: u32, neighbours: &[u32], shortcut
     })
 }
 
-// The row of three nodes: 1 to 0, and 0 to 2. The first estimator stands until its first commit and is told nothing; the
-// second is told the two entries that the log has when the worker takes the last node.
+// The row of three nodes: 1 to 0, and 0 to 2. The first estimator is used until its first commit and receives nothing;
+// the second receives the two entries that the log has when the worker takes the last node.
 #[test]
 fn a_stint_of_one_commit(rt: HostRuntime) -> Result<(), Fail> {
     let alloc = rt.alloc();
@@ -120,8 +120,8 @@ fn a_stint_of_two_commits(rt: HostRuntime) -> Result<(), Fail> {
     Ok(())
 }
 
-/// Whether so many workers of three estimators each, who go on by the next after each commit, contract a graph whole: each
-/// has the receipts of its commits, nothing is left to the sweep, each estimator was told a first part of the log and
+/// Whether this many workers of three estimators each, who use the next after each commit, contract a graph whole: each
+/// has the receipts of its commits, nothing is left to the sweep, each estimator received a first part of the log and
 /// dropped once, and all costs are those of the same graph.
 fn do_all<R: Threads + Wait + Sync>(
     rt: &R,

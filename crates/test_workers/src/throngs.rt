@@ -8,7 +8,7 @@ use std::sync::Wait;
 use std::test::Fail;
 use std::thread::Threads;
 
-/// Whether so many workers contract a graph whole: each has the receipts of its commits, nothing is left to the sweep,
+/// Whether this many workers contract a graph whole: each has the receipts of its commits, nothing is left to the sweep,
 /// and all costs are those of the same graph.
 fn do_all<R: Threads + Wait + Sync>(
     rt: &R,
@@ -24,7 +24,7 @@ fn do_all<R: Threads + Wait + Sync>(
     Ok(tally.is_of(&built) && are_least(alloc, same, &built.hierarchy)?)
 }
 
-/// Whether so many workers contract the tie and both grids whole.
+/// Whether this many workers contract the tie and both grids whole.
 fn do_three<R: Threads + Wait + Sync>(
     rt: &R,
     alloc: Global,

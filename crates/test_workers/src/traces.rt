@@ -7,7 +7,7 @@ use std::alloc::{AllocError, Global};
 use std::sync::atomic::{AtomicU64, Ordering};
 use std::sync::{Arc, Mutex, Wait};
 
-/// What an estimator leaves behind: the entries that it was told, and how often it was dropped.
+/// What an estimator leaves behind: the entries that it received, and how often it was dropped.
 #[derive(Drop)]
 struct Tape {
     entries: Mutex<Vec<Contraction>>,
@@ -24,12 +24,12 @@ pub(crate) struct Traces {
     made: AtomicU64,
     /// How often an entry couldn't be written down.
     lost: AtomicU64,
-    /// How often one was told an entry while an earlier one of its list wasn't dropped.
+    /// How often one received an entry while an earlier one of its list wasn't dropped.
     early: AtomicU64,
 }
 
 impl Traces {
-    /// Nothing was told, and nothing dropped: so many lists of so many estimators.
+    /// Nothing was received, and nothing dropped: this many lists of this many estimators.
     pub(crate) fn new(alloc: Global, lists: usize, each: usize) -> Result<Arc<Traces>, AllocError> {
         let mut tapes = Vec::new(alloc);
         'lists: for _ in 0..lists {
@@ -72,7 +72,7 @@ impl Traces {
         }
     }
 
-    /// Whether the estimators that stand in a list before this one were dropped.
+    /// Whether the estimators that come in a list before this one were dropped.
     fn are_gone_before(&self, number: usize) -> bool {
         let place = number.checked_rem(self.each).unwrap_or(0);
         let Some((before, _)) = self.tapes.split_at_checked(number) else {
@@ -85,7 +85,7 @@ impl Traces {
             .all(|tape| tape.dropped.load(Ordering::SeqCst) == 1)
     }
 
-    /// How many entries the estimator of this number was told.
+    /// How many entries the estimator of this number received.
     pub(crate) fn told<R: Wait>(&self, rt: &R, number: usize) -> usize {
         match self.tapes.get(number) {
             Some(tape) => tape.entries.lock(rt).len(),
@@ -93,8 +93,8 @@ impl Traces {
         }
     }
 
-    /// Whether each estimator was told entries of a log, whole and from the first one on, and nothing before all that
-    /// stand before it in its list were dropped.
+    /// Whether each estimator received entries of a log, whole and from the first one on, and nothing before all that
+    /// come before it in its list were dropped.
     pub(crate) fn are_of<R: Wait>(&self, rt: &R, log: &[Contraction]) -> bool {
         if self.lost.load(Ordering::SeqCst) > 0 || self.early.load(Ordering::SeqCst) > 0 {
             return false;
@@ -186,7 +186,7 @@ impl Estimator for Traced {
     }
 }
 
-/// The next estimator, which was told nothing.
+/// The next estimator, which received nothing.
 fn make_traced(
     alloc: Global,
     lease: Lease,
@@ -209,7 +209,7 @@ fn make_traced(
     Ok(estimator)
 }
 
-/// A list of so many estimators that leave traces.
+/// A list of this many estimators that leave traces.
 fn traced_list(
     alloc: Global,
     leases: &mut Leases,
@@ -225,7 +225,7 @@ fn traced_list(
     Ok(list)
 }
 
-/// The lists of so many workers, of estimators that give such keys and leave traces.
+/// The lists of this many workers, of estimators that give such keys and leave traces.
 pub(crate) fn traced_lists(
     alloc: Global,
     leases: &mut Leases,

@@ -1,6 +1,6 @@
-//! Worked cases of the pure world: what it answers, event by event, beside a slow world that is told by lists.
+//! Worked cases of the pure world: what it returns, event by event, beside a slow world that works by lists.
 //!
-//! Stands on `ch_core` and `ch_contract`, and has nothing but their tests. They stand apart from those of boards so that
+//! Builds on `ch_core` and `ch_contract`, and has nothing but their tests. They are apart from those of boards so that
 //! both are proved at the same time.
 #![tactic(auto)]
 

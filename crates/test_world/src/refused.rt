@@ -1,4 +1,4 @@
-//! What a world answers where one growth is refused: `tests/refusals` runs each test once for each of its growths.
+//! What a world returns where one growth is refused: `tests/refusals` runs each test once for each of its growths.
 //!
 //! A call that is refused memory leaves its value as it was, is made again, and has to give what it gives with ample
 //! memory. What is used up by a refused call, as a graph, ends the test with that error, and so does a growth of what the
@@ -62,7 +62,7 @@ fn proposal(alloc: Global, world: &World, worker: u32, node: u32) -> Result<Prop
     Ok(proposed(alloc, &mut view, node)?)
 }
 
-/// What is answered to a worker's offer of a node. A refused call leaves the log.
+/// What is returned for a worker's offer of a node. A refused call leaves the log.
 fn offered(alloc: Global, world: &mut World, worker: u32, node: u32) -> Result<Outcome, Fail> {
     let before = world.log().len();
     let proposal = proposal(alloc, world, worker, node)?;

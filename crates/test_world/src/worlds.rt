@@ -1,4 +1,4 @@
-//! What a world answers, event by event.
+//! What a world returns, event by event.
 use ch_contract::{CommitError, Proposal, Receipt, propose};
 use ch_core::{Event, Outcome, World, run};
 use ch_graph::{Graph, Road};
@@ -20,7 +20,7 @@ enum Act {
     Forget(u32),
 }
 
-/// An act and what is answered to it: nothing where a worker proposes.
+/// An act and what is returned for it: nothing where a worker proposes.
 type Step = (Act, Option<Outcome>);
 
 /// An arc: its two nodes, and its weight.
@@ -44,7 +44,7 @@ const NO_SUCH: Option<Outcome> = Some(Outcome::NoSuch);
 
 const FORGOTTEN: Option<Outcome> = Some(Outcome::Forgotten);
 
-/// What is answered where node 0 is contracted first, and where a proposal then rests on an old row of node 2.
+/// What is returned where node 0 is contracted first, and where a proposal then rests on an old row of node 2.
 const FIRST: Option<Outcome> = Some(Outcome::Committed(Receipt { node: 0, rank: 0 }));
 
 const STALE: CommitError = CommitError::Stale {
@@ -95,7 +95,7 @@ fn event(act: Act, waiting: &mut Vec<Proposal>) -> Option<Event> {
     }
 }
 
-/// What is answered to an act.
+/// What is returned for an act.
 fn answer(
     alloc: Global,
     world: &mut World,
@@ -111,7 +111,7 @@ fn answer(
     Ok(Some(world.step(event)?))
 }
 
-/// Whether a world answers these acts so. The proposals that wait come first.
+/// Whether a world returns this for these acts. The proposals that wait come first.
 fn answers(
     alloc: Global,
     world: &mut World,
@@ -158,7 +158,7 @@ fn world_shown(alloc: Global, nodes: u32, lines: &[Line]) -> Result<World, Fail>
     Ok(world)
 }
 
-/// Whether such a world answers these acts so, and has these versions then.
+/// Whether such a world returns this for these acts, and has these versions then.
 fn plays(
     alloc: Global,
     nodes: u32,

@@ -1,5 +1,5 @@
-//! What a router answers where one growth is refused. One that couldn't be made is made again, and one that couldn't
-//! answer is asked again: it has to answer as with ample memory.
+//! What a router returns where one growth is refused. One that couldn't be made is made again, and one that couldn't
+//! answer is asked again: it has to return the same as with ample memory.
 
 use crate::checked::{DRAWN, DRAWN_RANKS, hierarchy_of};
 use ch_graph::Hierarchy;

@@ -1,6 +1,6 @@
-//! Whether each estimator that a build was handed is dropped once, whichever growth was refused.
+//! Whether each estimator that a build received is dropped once, whichever growth was refused.
 //!
-//! Where memory is refused to the build itself, its answer is `OutOfMemory`, and the test ends with that error once the
+//! Where memory runs out for the build itself, its result is `OutOfMemory`, and the test ends with that error once the
 //! drops were compared. Each estimator has a count of its own, so none is dropped twice in place of another.
 ghost use Rattle.std.specs.Prelude.{◌≡◌, [], All, IfOk};
 
@@ -14,7 +14,7 @@ use std::test::Fail;
 use std::thread::Threads;
 use test_kit::{Drops, Numbered};
 
-/// An estimator of this number that was told nothing.
+/// An estimator of this number that received nothing.
 fn make_numbered(
     alloc: Global,
     lease: Lease,

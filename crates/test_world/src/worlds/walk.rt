@@ -35,7 +35,7 @@ struct Had {
     version: u64,
 }
 
-/// A world told slowly, by lists that are looked through.
+/// A slow world, by lists that are looked through.
 #[derive(Drop)]
 struct Slow {
     /// The node of each version.
@@ -185,7 +185,7 @@ struct Walk {
 }
 
 impl Walk {
-    /// Whether the world answers an event as the slow one does.
+    /// Whether the world returns for an event what the slow one does.
     fn step(&mut self, event: Event) -> Result<bool, AllocError> {
         let expected = match &event {
             Event::Read {
@@ -274,7 +274,7 @@ fn walk_of(alloc: Global, dice: &mut Dice) -> Result<Walk, Fail> {
     })
 }
 
-/// Whether the world answers as the slow one does all along a walk, and how many nodes were contracted.
+/// Whether the world returns what the slow one does all along a walk, and how many nodes were contracted.
 fn walked(alloc: Global, dice: &mut Dice) -> Result<(bool, usize), Fail> {
     let mut walk = walk_of(alloc, dice)?;
     let mut same = true;

@@ -1,7 +1,7 @@
 use Rattle.ch_rowbook.specs.Blanks.{name_of}
 use Rattle.test_contract.proofs.races.readers_find_what_was_committed.Given as goal
 
--- the book is the blank's, and the graph the one that is handed over
+-- the book is the blank's, and the graph the one that is passed
 abbrev pub ghosts-race-S-Book : goal.ghosts-race-S-Book
 ghosts-race-S-Book g a = record { book = name_of a.blank }
 
