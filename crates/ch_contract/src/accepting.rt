@@ -19,7 +19,7 @@ pub fn agreement_is_lawful()
 }
 
 /// Why a proposal isn't up to date, by version numbers alone: its node is contracted already, or else a row has another
-/// version now, the first of them. None where it is.
+/// version now, the first of them. `None` where it is.
 ///
 /// Takes no memory. Looks once at the version of each row that the proposal rests on, and at no entry.
 pub fn refusal(ledger: &Ledger, proposal: &Proposal) -> Option<CommitError>

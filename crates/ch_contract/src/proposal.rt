@@ -64,7 +64,7 @@ impl Proposal {
         self.shortcuts.as_slice()
     }
 
-    /// The verdict on a pair of neighbours, or none for any other pair.
+    /// Returns the verdict on a pair of neighbours, or `None` for any other pair.
     ///
     /// The node's row is searched by halves, and the shortcuts one by one.
     pub fn verdict(&self, from: u32, to: u32) -> Option<Verdict>
@@ -116,7 +116,7 @@ impl Proposal {
     }
 }
 
-/// What the entry for this node costs, or none where no entry is for it. The entries are searched by halves.
+/// What the entry for this node costs, or `None` where no entry is for it. The entries are searched by halves.
 fn cost_of(entries: &[Entry], other: u32) -> Option<Cost>
     requires { Rises entries.now }
     ensures { IsCostOf entries.now other result }

@@ -68,7 +68,7 @@ pub fn append(book: &mut Vec<RowVersion>, fresh: Vec<RowVersion>)
     }
 }
 
-/// The version of this number where it is the node's, or none. The numbers may be any. Takes no memory.
+/// Returns the version of this number where it is the node's, or `None`. The numbers may be any. Takes no memory.
 pub fn standing(
     book: &[RowVersion],
     node: u32,

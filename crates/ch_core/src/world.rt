@@ -202,7 +202,7 @@ impl World {
         proposal.bound() == self.ledger.overlay().bound() && all_stand(view, proposal.rests_on())
     }
 
-    /// Why an offer that the worker may make isn't accepted, or none where it is.
+    /// Why an offer that the worker may make isn't accepted, or `None` where it is.
     fn refusal(&self, worker: u32, proposal: &Proposal) -> Option<CommitError>
         requires { MayOffer self.now worker proposal.now }
         ensures waits { IfNone result (IsContractedYet self.now.ledger proposal.now → ⊥) }

@@ -78,7 +78,7 @@ impl Cost {
         }
     }
 
-    /// The sum of two costs, or none where a number of it doesn't fit 64 bits. The costs may be of any size.
+    /// Returns the sum of two costs, or `None` where a number of it doesn't fit 64 bits. The costs may be of any size.
     pub fn checked_plus(self, other: Cost) -> Option<Cost>
         ensures { SomeIff result (FitsWords (self ⊕ other)) (self ⊕ other) }
     {
@@ -87,7 +87,7 @@ impl Cost {
         Some(Cost { weight, arcs })
     }
 
-    /// The sum of two costs, or none where it isn't within the bound. The costs may be of any size.
+    /// Returns the sum of two costs, or `None` where it isn't within the bound. The costs may be of any size.
     pub fn plus_within(self, other: Cost, bound: Cost) -> Option<Cost>
         ensures { SomeIff result (IsWithin (self ⊕ other) bound) (self ⊕ other) }
     {

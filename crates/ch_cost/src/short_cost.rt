@@ -41,7 +41,7 @@ impl ShortCost {
         ShortCost::none()
     }
 
-    /// The cost that it was made of, or none where that didn't fit.
+    /// Returns the cost that it was made of, or `None` where that didn't fit.
     pub fn cost(self) -> Option<Cost>
         ensures { result ≡ kept_in self }
     {

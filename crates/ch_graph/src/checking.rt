@@ -70,7 +70,7 @@ fn greatest_bound(ranks: &[u32]) -> Cost
     Cost::of_arcs(nodes.saturating_sub(1), u32::MAX)
 }
 
-// The place of the first rank that isn't below the number of ranks, or that occurs at an earlier place, or none where
+// The place of the first rank that isn't below the number of ranks, or that occurs at an earlier place, or `None` where
 // there is no such rank. Takes a byte a rank.
 fn first_bad_rank(alloc: Global, ranks: &[u32]) -> Result<Option<usize>, AllocError>
     ensures found { IfOk result (λ found. IfSome found (IsFirstWithout (IsNewRank ranks.now) (length ranks.now))) }
@@ -87,7 +87,7 @@ fn first_bad_rank(alloc: Global, ranks: &[u32]) -> Result<Option<usize>, AllocEr
     Ok(None)
 }
 
-// The place of the first link that doesn't come after the one before it, or none where each does.
+// Returns the place of the first link that doesn't come after the one before it, or `None` where each does.
 fn first_out_of_order(links: &[Link]) -> Option<usize>
     ensures found { IfSome result (IsFirstWithout (ComesNext links.now) (length links.now)) }
     ensures none { IfNone result (AllPairs ComesBefore links.now) }
@@ -107,7 +107,7 @@ fn comes_before(link: Link, later: Link) -> bool
     (link.from < later.from) | ((link.from == later.from) & (link.to < later.to))
 }
 
-// The place of the first link that isn't well made, or none where each is.
+// Returns the place of the first link that isn't well made, or `None` where each is.
 fn first_bad_link(version: Version, ranks: &[u32], links: &[Link], bound: Cost) -> Option<usize>
     requires { AllPairs ComesBefore links.now }
     ensures found { IfSome result (IsFirstWithout (IsWellMadeAt (hierarchy_of version ranks.now links.now bound)) (length links.now)) }

@@ -67,7 +67,7 @@ impl Frontier {
         Ok(())
     }
 
-    /// Settles an open node of the least cost, of equal costs the one with the smallest number. None where no
+    /// Settles an open node of the least cost, of equal costs the one with the smallest number. `None` where no
     /// node is open.
     pub fn settle_next(&mut self) -> Option<Reached>
         ensures none { IfNone result (NoneOpen self.old) }

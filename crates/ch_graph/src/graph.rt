@@ -96,7 +96,7 @@ impl Graph {
         Cost::of_arcs(self.nodes.saturating_sub(1), self.heaviest)
     }
 
-    /// The least cost over all walks from `source` to `target`, or none where there is no walk.
+    /// Returns the least cost over all walks from `source` to `target`, or `None` where there is no walk.
     ///
     /// By Dijkstra's algorithm (1959). Of N nodes and M arcs it takes time by (N + M) log N, and memory for a mark a node (a
     /// cost and a state), a place of an arc a node and one an arc, and for a queue of at most M + 1 entries. Fails only
@@ -149,7 +149,7 @@ impl Graph {
     }
 }
 
-// The place of the first of these arcs that isn't allowed between this many nodes, or none where each is.
+// Returns the place of the first of these arcs that isn't allowed between this many nodes, or `None` where each is.
 fn first_bad(nodes: u32, arcs: &[Road]) -> Option<usize>
     ensures found { IfSome result (IsFirstBad nodes arcs.now) }
     ensures none { IfNone result (All (IsRoad nodes) arcs.now) }

@@ -200,7 +200,7 @@ impl Hierarchy {
         self.links.as_slice()
     }
 
-    /// The place of the link from one node to another, or none where there is no such link.
+    /// Returns the place of the link from one node to another, or `None` where there is no such link.
     ///
     /// Takes time by the logarithm of the number of links that leave the node, and without an index of that of all.
     pub fn find(&self, from: u32, to: u32) -> Option<LinkId>
@@ -257,7 +257,7 @@ impl Hierarchy {
     }
 }
 
-/// The place of the link from one node to another among links in rising order of their ends, or none where there is
+/// The place of the link from one node to another among links in rising order of their ends, or `None` where there is
 /// no such link. It takes no memory, and looks at as many links as their number has binary digits.
 pub fn find_link(links: &[Link], from: u32, to: u32) -> Option<LinkId>
     requires { AllPairs ComesBefore links.now }

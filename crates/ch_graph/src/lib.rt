@@ -2,7 +2,7 @@
 //!
 //! Builds on `ch_cost`, of which it uses the laws of costs alone. Its main type is [`Graph`], a list of arcs
 //! between numbered nodes. The promise of the layer is the contract of [`Graph::least`]: the least cost over all
-//! walks from one node to another, or none where there is no walk. It is the plain program that every faster
+//! walks from one node to another, or `None` where there is no walk. It is the plain program that every faster
 //! answer of the workspace is compared with. [`Graph::is_walk`] separates a route of a given cost from any other list
 //! of nodes. A [`Hierarchy`] holds what faster answers come from: [`Hierarchy::checked`] makes one of any ranks and links,
 //! or reports why they make none; [`Hierarchy::find`] gives the link of a pair, by a [`LinkIndex`] where it has one, and

@@ -93,7 +93,7 @@ impl KeptHalves {
     }
 }
 
-// What is kept of the link at a place. None where a place has more than 32 bits; and a half is never the link itself.
+// What is kept of the link at a place. `None` where a place has more than 32 bits; and a half is never the link itself.
 fn kept_of(id: LinkId, parts: Parts) -> Option<KeptHalves>
     ensures { IfSome result (λ kept. parts_in id.0 kept ≡ parts) }
 {
@@ -114,7 +114,7 @@ fn kept_of(id: LinkId, parts: Parts) -> Option<KeptHalves>
     }
 }
 
-// A place in 32 bits, or none where it has more.
+// A place in 32 bits, or `None` where it has more.
 fn short(id: LinkId) -> Option<u32>
     ensures { IfSome result (λ place. place ≡ id.0) }
 {

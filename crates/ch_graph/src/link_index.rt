@@ -62,7 +62,7 @@ impl LinkIndex {
         Ok(LinkIndex { firsts })
     }
 
-    /// The place of the link from one node to another among these links, or none where there is no such link.
+    /// Returns the place of the link from one node to another among these links, or `None` where there is no such link.
     ///
     /// Takes time by the logarithm of the number of links that leave the node, and where the index doesn't have the node,
     /// of that of all.

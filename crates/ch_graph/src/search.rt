@@ -13,7 +13,7 @@ use crate::outgoing::Outgoing;
 use ch_cost::Cost;
 use std::alloc::{AllocError, Global};
 
-/// The least cost over all walks from `source` to `target`, or none where there is no walk.
+/// Returns the least cost over all walks from `source` to `target`, or `None` where there is no walk.
 ///
 /// Dijkstra's algorithm (1959): nodes are settled in the order of their costs, until the target is.
 pub fn least_cost(

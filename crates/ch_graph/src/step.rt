@@ -27,7 +27,7 @@ pub fn least_arcs_cost(graph: &Graph, first: u32, rest: &[u32], cost: Cost) -> b
     spent == cost
 }
 
-/// What was spent and the least arc from one node to another cost together, or none where there is no arc or the
+/// What was spent and the least arc from one node to another cost together, or `None` where there is no arc or the
 /// sum isn't within the limit.
 fn step(graph: &Graph, from: u32, to: u32, spent: Cost, limit: Cost) -> Option<Cost>
     ensures sum { IfSome result (λ sum. (arc : Cost) × IsLeastArc graph.now from to arc × (sum ≡ spent ⊕ arc)) }
@@ -37,7 +37,7 @@ fn step(graph: &Graph, from: u32, to: u32, spent: Cost, limit: Cost) -> Option<C
     spent.plus_within(arc, limit)
 }
 
-/// The cost of the least arc from one node to another, or none where there is no arc.
+/// Returns the cost of the least arc from one node to another, or `None` where there is no arc.
 fn least_arc(graph: &Graph, from: u32, to: u32) -> Option<Cost>
     ensures { IsLeastOrNone (ArcOf graph.now from to) result }
 {

@@ -3,7 +3,7 @@ ghost use Rattle.ch_laws.specs.Middle.{same_middles, same_middles-laws, same_mid
 
 use std::marker::Model;
 
-/// The node where the two halves of an entry meet, or none: an `Option<u32>` in 4 bytes, since no node has the number
+/// The node where the two halves of an entry meet, or `None`: an `Option<u32>` in 4 bytes, since no node has the number
 /// 2^32 - 1.
 #[derive(Clone, Copy, Debug)]
 pub struct Middle {
@@ -36,7 +36,7 @@ impl Middle {
         Middle { number: node }
     }
 
-    /// The node, or none.
+    /// Returns the node, or `None`.
     pub fn node(self) -> Option<u32>
         ensures { result ≡ self }
     {

@@ -51,7 +51,7 @@ impl Heap {
         Ok(())
     }
 
-    /// The least item, or none where the heap is empty.
+    /// Returns the least item, or `None` where the heap is empty.
     pub fn top(&self) -> Option<Item>
         ensures least { IfSome result (λ item. IsLeastOf self.now item) }
         ensures none { IfNone result (self.now ≡ []) }

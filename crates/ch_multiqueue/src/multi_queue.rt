@@ -186,7 +186,7 @@ impl MultiQueue {
         self.heaps[place].lock(rt).top()
     }
 
-    /// Goes through the heaps once, from the first, and takes the first top that is found. None where each heap was
+    /// Goes through the heaps once, from the first, and takes the first top that is found. `None` where each heap was
     /// found empty.
     fn take_first_found<R: Wait>(&self, rt: &R, pass: &mut Pass) -> Result<Option<Item>, AllocError>
         ensures taken { IfOk result (λ answer. pass.new ≡ having_taken answer pass.old) }

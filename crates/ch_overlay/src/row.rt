@@ -17,7 +17,7 @@ pub struct Row {
     pub out: Vec<Entry>,
     /// The arcs into the node.
     pub inn: Vec<Entry>,
-    /// How many nodes were contracted before it, or none where it isn't contracted.
+    /// How many nodes were contracted before it, or `None` where it isn't contracted.
     pub rank: Option<u32>,
 }
 

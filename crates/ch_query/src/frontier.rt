@@ -130,7 +130,7 @@ impl Frontier {
         Ok(())
     }
 
-    /// Settles an open node of the least length, of equal ones that of the lowest rank. None where no open node has a
+    /// Settles an open node of the least length, of equal ones that of the lowest rank. `None` where no open node has a
     /// label of at most the limit's length: then none has one below the limit.
     pub fn settle_next(&mut self, limit: Option<Cost>) -> Option<Reached>
         ensures none { IfNone result (IsStopped self.old limit) }
@@ -160,7 +160,7 @@ fn touch(touched: &mut Vec<u32>, rank: u32, mark: Mark<Label>) -> Result<(), All
     Ok(())
 }
 
-/// Takes the least entry out of a queue, if its length is at most the limit's. None where no entry's is.
+/// Takes the least entry out of a queue, if its length is at most the limit's. `None` where no entry's is.
 fn pop_up_to(
     queue: &mut BinaryHeap<Reverse<(u64, u32)>>,
     limit: Option<Cost>,

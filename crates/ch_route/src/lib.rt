@@ -3,7 +3,7 @@
 //! Uses `ch_query` for the least rise-fall walk of the hierarchy, `ch_unpack` for the nodes that its links represent, and
 //! of `ch_laws` why both together are a least walk of the graph. Its main type is [`Router`]. The promise of the layer is
 //! the contract of [`Router::route`]: for every graph that the hierarchy is right for, a least walk of that graph, of all
-//! least walks one with the fewest arcs, or none exactly where there is no walk; and of [`Router::length`], the least
+//! least walks one with the fewest arcs, or `None` exactly where there is no walk; and of [`Router::length`], the least
 //! length over all walks. Why, is the law [`routes_are_least`]. [`Router::between`] and [`Router::length_between`] answer
 //! for several starts and several ends, each with a cost of its own ([`Seed`]).
 //!

@@ -76,7 +76,7 @@ impl<'a> Router<'a> {
         self.hierarchy.nodes()
     }
 
-    /// The least route from the first node of the pair to the second, or none where there is no way.
+    /// Returns the least route from the first node of the pair to the second, or `None` where there is no way.
     ///
     /// The cost is the value of the hierarchy, and the nodes are those of the arcs that a rise-fall walk of that cost
     /// represents. Where the hierarchy is right for a graph the route is a least walk of it, and of all least walks one
@@ -105,7 +105,7 @@ impl<'a> Router<'a> {
         self.least_route(pair)
     }
 
-    /// The least length of a way from the first node of the pair to the second, or none where there is no way.
+    /// Returns the least length of a way from the first node of the pair to the second, or `None` where there is no way.
     ///
     /// It is the length of the route that [`Router::route`] finds, also where that is too long. Where the hierarchy is
     /// right for a graph, be it by weight alone, it is the least over all walks of the graph. Takes the time of
@@ -123,8 +123,8 @@ impl<'a> Router<'a> {
         Ok(length_of(cost))
     }
 
-    /// The least route from one of the starts to one of the ends, by what start, way and end cost together, or none where
-    /// there is no way from a start to an end.
+    /// The least route from one of the starts to one of the ends, by what start, way and end cost together, or `None`
+    /// where there is no way from a start to an end.
     ///
     /// Where the hierarchy is right for a graph, its cost is the least over all pairs of a start and an end of the distance
     /// from the one to the other with what both cost, and the nodes are those of a least walk of the graph between the two
@@ -159,7 +159,7 @@ impl<'a> Router<'a> {
     }
 
     /// The length of that route: the least over all pairs of a start and an end of the length of the start, of a walk
-    /// between them and of the end together, or none where no pair has a walk.
+    /// between them and of the end together, or `None` where no pair has a walk.
     ///
     /// Takes the time of [`Search::cost_between`], and memory for what the search keeps.
     pub fn length_between(

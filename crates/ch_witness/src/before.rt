@@ -2,8 +2,8 @@ ghost use Rattle.std.specs.Prelude.{◌≡◌, ◌-◌, ◌<◌, ◌^◌, Some};
 
 use std::marker::Model;
 
-/// The place of the step that a way goes on from, or none at the start: an `Option<usize>` in 4 bytes, since a search has
-/// fewer than 2^32 steps.
+/// The place of the step that a way goes on from, or `None` at the start: an `Option<usize>` in 4 bytes, since a search
+/// has fewer than 2^32 steps.
 #[derive(Clone, Copy)]
 pub struct Before {
     // The place, or the greatest number for none.
@@ -37,7 +37,7 @@ impl Before {
         }
     }
 
-    /// The place, or none.
+    /// Returns the place, or `None`.
     pub fn place(self) -> Option<usize>
         ensures { result ≡ self }
     {

@@ -10,8 +10,8 @@ use std::collections::BinaryHeap;
 
 /// The labels of the nodes that a search has come to, and which of them is settled next.
 ///
-/// Its memory grows with the number of these nodes and of the offers, and with the greatest of them. It is kept for the
-/// next search.
+/// Its memory grows with the number of these nodes and of the offers, and with the greatest of the nodes. It is kept for
+/// the next search.
 #[derive(Drop)]
 pub struct Frontier {
     /// The nodes that the search has come to.
@@ -66,7 +66,7 @@ impl Frontier {
         Ok(())
     }
 
-    /// What is known of a node, or none where the search hasn't come to it.
+    /// What is known of a node, or `None` where the search hasn't come to it.
     pub fn label(&self, node: u32) -> Option<Label>
         ensures { result ≡ labels_of self.now node }
     {
@@ -116,7 +116,7 @@ impl Frontier {
         Ok(())
     }
 
-    /// Settles the open node of the least cost, of equal costs the one with the smallest number. None where no node
+    /// Settles the open node of the least cost, of equal costs the one with the smallest number. `None` where no node
     /// is open.
     pub fn settle_next(&mut self) -> Option<Reached>
         ensures settled { IfSome result (λ r. IsSettledNow (labels_of self.old) r (labels_of self.new)) }

@@ -44,7 +44,7 @@ impl NodeIndex {
         self.nodes.clear();
     }
 
-    /// The place of a node, or none where it isn't there.
+    /// Returns the place of a node, or `None` where it isn't there.
     pub fn find(&self, node: u32) -> Option<usize>
         ensures found { IfSome result (IsFirstAt self.now node) }
         ensures absent { IfNone result ((k : ℕ) → k < length self.now → slice_index self.now k ≢ node) }

@@ -11,7 +11,7 @@ use std::alloc::{AllocError, Global};
 pub struct Rows {
     /// The nodes that were read.
     pub nodes: NodeIndex,
-    /// The answer for each of them, in their order, or none where it was moved out.
+    /// The answer for each of them, in their order, or `None` where it was moved out.
     pub kept: Vec<Option<Seen>>,
     ghost paired: { length kept.items ≡ length nodes },
 }
@@ -69,7 +69,7 @@ impl Rows {
         self.kept[place].as_ref().unwrap()
     }
 
-    /// The answer that is kept for a node, or none where none is.
+    /// Returns the answer that is kept for a node, or `None` where none is.
     pub fn get(&self, node: u32) -> Option<&Seen>
         ensures kept { IfSome result (λ seen. kept_of self.now node ≡ Some seen.now) }
         ensures none { IfNone result (kept_of self.now node ≡ None) }
@@ -111,7 +111,7 @@ impl Rows {
         self.kept[place].take()
     }
 
-    /// The place of the answer that is kept for a node, or none where none is. The node was looked for.
+    /// Returns the place of the answer that is kept for a node, or `None` where none is. The node was looked for.
     fn known(&self, node: u32, found: Option<usize>) -> Option<usize>
         requires found { IfSome found (IsFirstAt self.now.nodes node) }
         requires absent { IfNone found ((k : ℕ) → k < length self.now.nodes → slice_index self.now.nodes k ≢ node) }

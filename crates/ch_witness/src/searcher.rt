@@ -19,7 +19,7 @@ use std::mem;
 /// What a searcher found. The next search may take it back, for its memory.
 #[derive(Drop)]
 pub struct Traced {
-    /// For each target, in their order, the best way that the search has reached, or none.
+    /// For each target, in their order, the best way that the search has reached, or `None`.
     pub ways: Vec<Option<Way>>,
     /// What the search went on by, in its order: the steps of each node of a way but the last are among them.
     pub steps: Vec<TreeNode>,
@@ -118,7 +118,7 @@ impl Searcher {
     }
 }
 
-/// The way to each target, or none where the search hasn't come to it, in the memory of earlier ways.
+/// Returns the way to each target, or `None` where the search hasn't come to it, in the memory of earlier ways.
 fn ways_to(
     alloc: Global,
     rule: Rule,
@@ -137,7 +137,7 @@ fn ways_to(
     Ok(ways)
 }
 
-/// The way to a node, or none where the search hasn't come to it.
+/// Returns the way to a node, or `None` where the search hasn't come to it.
 fn known_way(alloc: Global, rule: Rule, tree: &Tree, target: u32) -> Result<Option<Way>, AllocError>
     requires tree { IsTree rule tree.now.steps.items (labels_of tree.now.frontier) }
     ensures { IfOk result (IsWayOf (seen_of tree.now.steps.items) rule.avoid rule.from target (labels_of tree.now.frontier target)) }

@@ -14,7 +14,7 @@ pub struct Way {
 /// What a search found.
 #[derive(Drop)]
 pub struct Found {
-    /// For each target, in their order, the best way that the search has reached, or none.
+    /// For each target, in their order, the best way that the search has reached, or `None`.
     pub ways: Vec<Option<Way>>,
     /// The rows that the search went on from, in its order: those of each node of a way but the last are among them.
     pub seen: Vec<Seen>,

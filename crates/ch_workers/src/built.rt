@@ -11,6 +11,6 @@ pub struct Built {
     pub receipts: Vec<Vec<Receipt>>,
     /// What was done, first to last: the entry of rank k is at k.
     pub log: Vec<Contraction>,
-    /// The queue in which the nodes waited for the workers, closed; none where there was no worker.
+    /// The queue in which the nodes waited for the workers, closed; `None` where there was no worker.
     pub queue: Option<Closed>,
 }

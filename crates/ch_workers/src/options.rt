@@ -16,7 +16,7 @@ pub struct Options {
     pub defer: u32,
     /// How many turns a worker takes at most, 1 to 2^40.
     pub turns: u64,
-    /// How many commits a worker makes by an estimator before it goes on by the next of its list, 1 to 2^40.
+    /// How many commits a worker makes by an estimator before it goes on with the next of its list, 1 to 2^40.
     pub stint: u64,
 }
 

@@ -174,7 +174,7 @@ impl<E: Estimator> Worker<E> {
         }
     }
 
-    /// Works out the contraction of a node by the rows that a reader answers, or returns none where it is contracted
+    /// Works out the contraction of a node by the rows that a reader answers, or returns `None` where it is contracted
     /// already. It takes no lock.
     fn propose<S: Site>(
         &mut self,
@@ -228,7 +228,7 @@ impl<E: Estimator> Worker<E> {
     }
 
     /// Commits a proposal and keeps the receipt, or puts the item back where a row has changed. Returns whether it was
-    /// committed. Where that ends the stint of its estimator, it goes on by the next.
+    /// committed. Where that ends the stint of its estimator, it goes on with the next.
     fn commit<S: Site, G: Gate, R: Wait>(
         &mut self,
         rt: &R,

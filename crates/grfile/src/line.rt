@@ -13,7 +13,7 @@ pub(crate) struct Cut<'a> {
     pub(crate) rest: &'a [u8],
 }
 
-/// The first line that ends in a text, or none where none does. The line may have begun before the text.
+/// Returns the first line that ends in a text, or `None` where none does. The line may have begun before the text.
 pub(crate) fn first_line(text: &[u8]) -> Option<Cut<'_>>
     ensures lines { (begun more : List ℕ) → MatchOption result (cut_after begun (text.now ++ more) ≡ cut_after (begun ++ text.now) more) (λ cut. cut_after begun (text.now ++ more) ≡ (begun ++ cut.line.now) ∷ cut_after [] (cut.rest.now ++ more)) }
     ensures feeds { MatchOption result (line_feeds text.now ≡ 0) (λ cut. line_feeds text.now ≡ line_feeds cut.rest.now + 1) }

@@ -6,7 +6,7 @@ ghost use Rattle.grfile.specs.Grammar.{capped_in};
 
 use crate::error::{GrError, GrErrorKind};
 
-/// The number that a field spells, or none where it isn't one decimal digit or more. A number above 2^64 - 1
+/// Returns the number that a field spells, or `None` where it isn't one decimal digit or more. A number above 2^64 - 1
 /// counts as that.
 pub(crate) fn number(field: &[u8]) -> Option<u64>
     ensures { result ≡ option_map capped (number_of field.now) }

@@ -122,7 +122,7 @@ fn end_line<F: Form>(
     Ok(())
 }
 
-/// Takes the first line that ends in a text, and returns what follows it, or none where no line ends.
+/// Takes the first line that ends in a text, and returns what follows it, or `None` where no line ends.
 fn take_first<'a, F: Form>(
     alloc: Global,
     progress: &mut Progress<F::Entry>,
@@ -229,7 +229,7 @@ fn feed_all<F: Form, R: StepRead>(
     Ok(())
 }
 
-/// Reads the next bytes into the piece, and returns how many they are, or none at the end. This many lines have ended.
+/// Reads the next bytes into the piece, and returns how many they are, or `None` at the end. This many lines have ended.
 fn read_piece<R: StepRead>(
     calls: &mut ReadCalls,
     reader: &mut R,

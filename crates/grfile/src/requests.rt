@@ -95,8 +95,8 @@ impl RequestReader {
         }
     }
 
-    /// The request of the first line that ends in this piece of the text; or none where no line ends in it, and then the
-    /// piece is taken. Of the line that has begun no more than the first 4,097 bytes are kept.
+    /// Returns the request of the first line that ends in this piece of the text, or `None` where no line ends in it; then
+    /// the piece is taken. Of the line that has begun no more than the first 4,097 bytes are kept.
     pub fn next<'a>(&mut self, piece: &'a [u8]) -> Option<Asked<'a>>
         ensures asked { (more : List ℕ) → MatchOption result (requests_with self.new more ≡ requests_with self.old (piece.now ++ more))
             (λ a. requests_with self.old (piece.now ++ more) ≡ a.request ∷ requests_with self.new (a.rest.now ++ more)) }
@@ -116,7 +116,7 @@ impl RequestReader {
         })
     }
 
-    /// The request of the line that hasn't ended, once the text has; or none where the text ended with a line feed.
+    /// Returns the request of the line that hasn't ended, once the text has, or `None` where the text ended with a line feed.
     pub fn last(&self) -> Option<Request>
         ensures asked { option_to_list result ≡ requests_with self.now [] }
         ensures in_range { IfSome result (IsInRange self.now.nodes) }
@@ -294,7 +294,7 @@ fn fields_behind(first: usize, line: &[u8]) -> Fields<'_>
     fields
 }
 
-// How many fields come before the first that is a colon, or none where they are more than sixteen.
+// How many fields come before the first that is a colon, or `None` where they are more than sixteen.
 fn colon_at(mut fields: Fields<'_>) -> Option<usize>
     ensures { MatchOption result (16 < colon_at fields.entry) (λ at. at ≡ colon_at fields.entry) }
 {
@@ -309,7 +309,7 @@ fn colon_at(mut fields: Fields<'_>) -> Option<usize>
     None
 }
 
-// How many fields there are, or none where they are more than sixteen.
+// How many fields there are, or `None` where they are more than sixteen.
 fn count(mut fields: Fields<'_>) -> Option<usize>
     ensures { MatchOption result (16 < length fields.entry) (λ n. n ≡ length fields.entry) }
 {

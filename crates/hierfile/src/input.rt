@@ -52,7 +52,7 @@ impl Input {
         })
     }
 
-    /// The next byte, or none at the end of the reader's bytes.
+    /// Returns the next byte, or `None` at the end of the reader's bytes.
     pub fn byte<R: StepRead>(&mut self, reader: &mut R) -> Result<Option<u8>, HierError>
         ensures reads { Reads R.step R.remaining self.old self.new reader.old reader.new (λ next before after. MatchOption next (IsAtEnd before) (λ b. Consumes before after (b ∷ []))) (FailsBefore 1) result }
     {

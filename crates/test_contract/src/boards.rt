@@ -31,7 +31,7 @@ type Offer = (
     Result<Receipt, CommitError>,
 );
 
-/// The verdict on a pair of nodes, or none where it isn't one of neighbours.
+/// The verdict on a pair of nodes, or `None` where it isn't one of neighbours.
 type Judged = (u32, u32, Option<Verdict>);
 
 /// A link: its ends, its cost and its middle.

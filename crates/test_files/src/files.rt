@@ -113,7 +113,7 @@ pub(crate) fn bytes(alloc: Global, words: &[u32]) -> Result<Vec<u8>, AllocError>
     Ok(bytes)
 }
 
-// Why bytes are refused, or none.
+// Why bytes are refused, or `None`.
 pub(crate) fn refusal(alloc: Global, mut bytes: &[u8]) -> Option<HierError> {
     read(alloc, &mut bytes).err()
 }
@@ -167,7 +167,7 @@ const CHANGES: [Change; 18] = [
     (&[(25, 1)], HierError::HalfSum),
 ];
 
-// Why a file is refused with other numbers at some places, or none.
+// Why a file is refused with other numbers at some places, or `None`.
 fn refusal_of(
     alloc: Global,
     file: &[u32],
@@ -386,7 +386,7 @@ fn is_joined(alloc: Global, words: &[u32]) -> Result<bool, AllocError> {
     }
 }
 
-// The hierarchy of a file of these numbers, or none.
+// Returns the hierarchy of a file of these numbers, or `None`.
 pub(crate) fn hierarchy_of(alloc: Global, words: &[u32]) -> Result<Option<Hierarchy>, AllocError> {
     let bytes = bytes(alloc, words)?;
     let mut rest = bytes.as_slice();

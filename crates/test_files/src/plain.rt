@@ -28,7 +28,7 @@ struct Told {
     middle: u64,
 }
 
-/// The first fault of the bytes, or none where they spell a hierarchy.
+/// Returns the first fault of the bytes, or `None` where they spell a hierarchy.
 pub(crate) fn first_fault(bytes: &[u8]) -> Option<HierError> {
     if let Some(fault) = magic_fault(bytes) {
         return Some(fault);
@@ -87,7 +87,7 @@ fn place_of(start: u64, number: u64, size: u64) -> u64 {
     start.saturating_add(number.saturating_mul(size))
 }
 
-// The number of this many bytes from a place on, or none where they end before.
+// Returns the number of this many bytes from a place on, or `None` where they end before.
 fn number(bytes: &[u8], at: u64, count: u64) -> Option<u64> {
     let mut number = 0u64;
     for place in at..at.saturating_add(count) {

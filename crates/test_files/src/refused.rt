@@ -324,7 +324,7 @@ fn lines_that_want_memory(rt: HostRuntime) {
     }
 }
 
-/// Why a file is refused, or none; where it is refused memory it is read again.
+/// Why a file is refused, or `None`; where it is refused memory it is read again.
 fn file_fault(alloc: Global, bytes: &[u8]) -> Option<HierError> {
     let fault = read_within(alloc, &mut { bytes }, MANY).err();
     if fault == Some(HierError::OutOfMemory) {

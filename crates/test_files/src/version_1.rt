@@ -135,7 +135,7 @@ fn reads_numbers(rt: HostRuntime) -> Result<(), AllocError> {
     Ok(())
 }
 
-/// The weight of the least rise-fall walk between two nodes, or none.
+/// Returns the weight of the least rise-fall walk between two nodes, or `None`.
 fn weight_between(search: &mut Search, source: u32, target: u32) -> Result<Option<u64>, AllocError>
     requires source_in { source < length search.old.ranks }
     requires target_in { target < length search.old.ranks }

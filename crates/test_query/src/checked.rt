@@ -368,7 +368,7 @@ fn checked_cascade(
     checked(alloc, (version, ranks.as_slice(), links.as_slice(), bound))
 }
 
-/// The nodes of the route along the link from one node to another, or none where there is no such link.
+/// Returns the nodes of the route along the link from one node to another, or `None` where there is no such link.
 pub fn route(
     alloc: Global,
     hierarchy: &Hierarchy,

@@ -21,8 +21,8 @@ fn three_nodes(alloc: Global, is_indexed: bool) -> Result<Hierarchy, Fail> {
     Ok(hierarchy)
 }
 
-/// The nodes of the route along the link from one node to another and the link that goes on from there, or none where one
-/// isn't there.
+/// The nodes of the route along the link from one node to another and the link that goes on from there, or `None` where
+/// one isn't there.
 fn route_over(
     alloc: Global,
     hierarchy: &Hierarchy,

@@ -54,7 +54,7 @@ fn no_node(rt: HostRuntime) -> Result<(), Fail> {
     Ok(())
 }
 
-/// Two nodes, and the cost and the links of the walk that is found between them, or none.
+/// Two nodes, and the cost and the links of the walk that is found between them, or `None`.
 type Question = (u32, u32, Option<(Numbers, &'static [LinkId])>);
 
 /// Whether a search of a hierarchy of this many nodes returns this.

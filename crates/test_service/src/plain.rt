@@ -112,8 +112,8 @@ fn is_answer(
     }
 }
 
-/// The ends of the walk along these nodes, each a blank and a digit, its length and how many arcs it has; none where an arc
-/// isn't there.
+/// The ends of the walk along these nodes, each a blank and a digit, its length and how many arcs it has; `None` where an
+/// arc isn't there.
 fn walked(arcs: &Arcs, nodes: &[u8]) -> Option<(usize, usize, u64, u64)> {
     let source = node_of(nodes.get(..2)?)?;
     let (mut at, mut length, mut count) = (source, 0u64, 0u64);

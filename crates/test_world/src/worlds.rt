@@ -82,7 +82,7 @@ fn read(worker: u32, node: u32, version: u64) -> Event {
     }
 }
 
-/// The event of an act, or none where a worker proposes. An offer takes the last proposal.
+/// Returns the event of an act, or `None` where a worker proposes. An offer takes the last proposal.
 fn event(act: Act, waiting: &mut Vec<Proposal>) -> Option<Event> {
     match act {
         Act::Read(worker, node, version) => Some(read(worker, node, version)),
