@@ -48,7 +48,7 @@ fn push_answer(
     Ok(())
 }
 
-/// Appends a length, how many arcs there are from node to node, and the nodes. Where memory is refused a part of that
+/// Appends a length, how many arcs there are from node to node, and the nodes. Where memory runs out a part of that
 /// text may be there.
 pub fn push_along(length: u64, nodes: &[u32], lines: &mut Vec<u8>) -> Result<(), AllocError>
     ensures ok { OnOk result (lines.new.items ≡ lines.old.items ++ told_along length nodes.now) }
@@ -59,7 +59,7 @@ pub fn push_along(length: u64, nodes: &[u32], lines: &mut Vec<u8>) -> Result<(),
     push_nodes(nodes, lines)
 }
 
-/// Appends the nodes as a line names them, numbered from 1, a space before each. Where memory is refused a part of that
+/// Appends the nodes as a line names them, numbered from 1, a space before each. Where memory runs out a part of that
 /// text may be there.
 pub fn push_nodes(nodes: &[u32], lines: &mut Vec<u8>) -> Result<(), AllocError>
     ensures ok { OnOk result (lines.new.items ≡ lines.old.items ++ named nodes.now) }
@@ -71,7 +71,7 @@ pub fn push_nodes(nodes: &[u32], lines: &mut Vec<u8>) -> Result<(), AllocError>
     Ok(())
 }
 
-/// Appends a space and the number in decimals. Where memory is refused a part of that text may be there.
+/// Appends a space and the number in decimals. Where memory runs out a part of that text may be there.
 pub fn push_number(number: u64, lines: &mut Vec<u8>) -> Result<(), AllocError>
     ensures ok { OnOk result (lines.new.items ≡ lines.old.items ++ codes " " ++ decimal number) }
     ensures err { StartsWith lines.new.items lines.old.items }

@@ -14,7 +14,7 @@ use std::fmt;
 /// Why a node wasn't proposed.
 #[derive(Clone, Copy, Debug, PartialEq, Eq)]
 pub enum ProposeError {
-    /// A growth was refused.
+    /// Out of memory.
     OutOfMemory = 1,
     /// The source has no row of a node that was asked for.
     Unseen,
@@ -40,7 +40,7 @@ pub enum CommitError {
         /// How many nodes were contracted so far.
         front: u64,
     },
-    /// A growth was refused.
+    /// Out of memory.
     OutOfMemory,
     /// The book gave a place to a row that isn't above the earlier ones.
     Slot,
@@ -49,7 +49,7 @@ pub enum CommitError {
 /// Why a sweep ended early.
 #[derive(Clone, Copy, Debug, PartialEq, Eq)]
 pub enum SweepError {
-    /// A growth was refused.
+    /// Out of memory.
     OutOfMemory = 1,
     /// The book gave a place to a row that isn't above the earlier ones.
     Slot,
@@ -58,7 +58,7 @@ pub enum SweepError {
 /// Why a board wasn't made into a hierarchy.
 #[derive(Clone, Copy, Debug, PartialEq, Eq)]
 pub enum FinishError {
-    /// A growth was refused.
+    /// Out of memory.
     OutOfMemory = 1,
     /// A node isn't contracted.
     NodesLeft,

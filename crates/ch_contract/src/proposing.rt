@@ -23,7 +23,7 @@ use std::sync::Arc;
 ///
 /// A pair of neighbours, an arc from the first to the node and one from there to the second, gets a shortcut unless
 /// the arcs cost more than the bound together, or a search finds another way that costs at most as much. A search
-/// settles at most `settle` nodes (1 to 65,536). `OutOfMemory` where a growth was refused, `Unseen` where the source
+/// settles at most `settle` nodes (1 to 65,536). `OutOfMemory` where memory runs out, `Unseen` where the source
 /// has no row of a node that is asked for, `Contracted` exactly where the node's row, which is read first, has a rank, and
 /// before a row of another node is asked for; the source has then moved as reading moves it, and nothing else.
 /// Memory and time grow with the nodes that are settled and their neighbours, with 8 bytes for each number up to the

@@ -7,7 +7,7 @@ use std::fmt;
 /// Why a queue wasn't closed. Queue and passes are returned as they were.
 #[derive(Clone, Copy, Debug, PartialEq, Eq)]
 pub enum CloseError {
-    /// A growth was refused.
+    /// Out of memory.
     OutOfMemory = 1,
     /// A pass that was made isn't among those that were given.
     PassMissing,

@@ -72,7 +72,7 @@ impl Heap {
         Some(item)
     }
 
-    /// Puts a copy of each item at the end of a list. The heap stays as it is, also where memory is refused.
+    /// Puts a copy of each item at the end of a list. The heap stays as it is, also where memory runs out.
     pub fn copy_into(&self, list: &mut Vec<Item>) -> Result<(), AllocError>
         ensures { OnOk result (list.new.items ≡ list.old.items ++ self.now) }
     {

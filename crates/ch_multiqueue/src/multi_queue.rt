@@ -62,7 +62,7 @@ impl MultiQueue {
 
     /// The next pass. Passes are numbered from 0, in the order that they are made.
     ///
-    /// Fewer than 256 passes were made so far. Where memory is refused, the queue is unchanged; today no memory is
+    /// Fewer than 256 passes were made so far. Where memory runs out, the queue is unchanged; today no memory is
     /// taken.
     pub fn pass(&mut self) -> Result<Pass, AllocError>
         requires { self.old.passes < 256 }

@@ -26,7 +26,7 @@ pub struct Seen {
 /// Why a row wasn't answered.
 #[derive(Clone, Copy, Debug, PartialEq, Eq)]
 pub enum SeeError {
-    /// A growth was refused.
+    /// Out of memory.
     OutOfMemory = 1,
     /// The source has no row of the node.
     Unseen,

@@ -9,7 +9,7 @@ use std::fmt;
 /// Why a row wasn't laid, or a book not opened.
 #[derive(Clone, Copy, Debug, PartialEq, Eq)]
 pub enum BookError {
-    /// A growth was refused.
+    /// Out of memory.
     OutOfMemory = 1,
     /// The list of records gave a place that isn't above the earlier ones.
     Slot,

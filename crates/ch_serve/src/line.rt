@@ -7,7 +7,7 @@ use ch_graph::Hierarchy;
 use ch_route::RouteBetween;
 use std::alloc::AllocError;
 
-/// Appends the line that the hierarchy is ready, or a part of it where memory is refused.
+/// Appends the line that the hierarchy is ready, or a part of it where memory runs out.
 pub(crate) fn push_ready(hierarchy: &Hierarchy, lines: &mut Vec<u8>) -> Result<(), AllocError>
     ensures ok { OnOk result (lines.new.items ≡ lines.old.items ++ ready hierarchy.now) }
 {
@@ -19,7 +19,7 @@ pub(crate) fn push_ready(hierarchy: &Hierarchy, lines: &mut Vec<u8>) -> Result<(
     Ok(())
 }
 
-/// Appends the line that refuses a request for this reason, or a part of it where memory is refused.
+/// Appends the line that refuses a request for this reason, or a part of it where memory runs out.
 pub(crate) fn push_refusal(reason: &[u8], lines: &mut Vec<u8>) -> Result<(), AllocError>
     ensures ok { OnOk result (lines.new.items ≡ lines.old.items ++ refused reason.now) }
     ensures err { StartsWith lines.new.items lines.old.items }
@@ -30,7 +30,7 @@ pub(crate) fn push_refusal(reason: &[u8], lines: &mut Vec<u8>) -> Result<(), All
     Ok(())
 }
 
-/// Appends the line of a pair and its length, or a part of it where memory is refused.
+/// Appends the line of a pair and its length, or a part of it where memory runs out.
 pub(crate) fn push_length(
     pair: (u32, u32),
     length: Option<u64>,
@@ -54,7 +54,7 @@ pub(crate) fn push_length(
     Ok(())
 }
 
-/// Appends the line of a route between the nodes of a start and an end, or a part of it where memory is refused.
+/// Appends the line of a route between the nodes of a start and an end, or a part of it where memory runs out.
 pub(crate) fn push_way(
     pair: (u32, u32),
     route: &RouteBetween,

@@ -13,7 +13,7 @@ use ch_route::{Router, Seed, UnpackError};
 use grfile::{Ends, Request};
 use std::alloc::AllocError;
 
-/// Appends the reply to a request. Where memory is refused the lines stay as they were.
+/// Appends the reply to a request. Where memory runs out the lines stay as they were.
 pub(crate) fn push_reply(
     router: &mut Router<'_>,
     request: &Request,
@@ -32,7 +32,7 @@ pub(crate) fn push_reply(
     pushed
 }
 
-// Appends the reply to a request, or a part of it where memory is refused.
+// Appends the reply to a request, or a part of it where memory runs out.
 fn push_parts(
     router: &mut Router<'_>,
     request: &Request,

@@ -158,7 +158,7 @@ abbrev pub BreaksOff : (List ℕ → Type 0) → Option (List ℕ) → Option (L
 BreaksOff P old new (Write fault) = WritesFirst P old new fault.written
 BreaksOff P old new e = ⊤
 
--- Where a write fails, the writer took the first `written` bytes of a text of the first kind. Where memory is refused,
+-- Where a write fails, the writer took the first `written` bytes of a text of the first kind. Where memory runs out,
 -- it took a whole text of this kind, or nothing at all, and where a route is too long, a whole text of the second kind.
 abbrev pub StopsShort : (List ℕ → Type 0) → (List ℕ → Type 0) → Option (List ℕ) → Option (List ℕ) → ServiceError → Type 0
 StopsShort P Q old new (GraphFault fault) = ⊤
@@ -179,7 +179,7 @@ ComesOfAnswering (Unpack e) = e ≡ TooLong
 ComesOfAnswering (Write fault) = ⊤
 ComesOfAnswering OutOfMemory = ⊤
 
--- what the refusal of a pair is reported as: memory is refused for a pair as it is beside the pairs
+-- what the refusal of a pair is reported as: out of memory for a pair as out of memory beside the pairs
 abbrev pub of_pair : UnpackError → ServiceError
 of_pair unpacking.OutOfMemory = OutOfMemory
 of_pair TooLong = Unpack TooLong

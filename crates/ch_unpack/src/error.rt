@@ -9,7 +9,7 @@ use std::fmt;
 /// Why links weren't unpacked.
 #[derive(Clone, Copy, Debug, PartialEq, Eq)]
 pub enum UnpackError {
-    /// A growth was refused.
+    /// Out of memory.
     OutOfMemory = 1,
     /// The links represent as many arcs as there are nodes, or more.
     TooLong,

@@ -11,7 +11,7 @@ use std::fmt;
 /// Why a search gave nothing.
 #[derive(Clone, Copy, Debug, PartialEq, Eq)]
 pub enum SearchError {
-    /// A growth was refused.
+    /// Out of memory.
     OutOfMemory = 1,
     /// The source had no row of a node that the search went to.
     Unseen,

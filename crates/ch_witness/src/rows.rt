@@ -44,7 +44,7 @@ impl Rows {
     /// The place of the answer for a node: of the one that is kept, or of what the source answers now, which is then
     /// kept. [`Rows::at`] shows it.
     ///
-    /// `OutOfMemory` where a growth was refused, `Unseen` where the source has no row of the node. What was kept
+    /// `OutOfMemory` where memory runs out, `Unseen` where the source has no row of the node. What was kept
     /// before is kept on, and where there is no row the source is what it was.
     pub fn read<S: RowSource>(&mut self, source: &mut S, node: u32) -> Result<usize, SeeError>
         requires kept { AreKept S.bears (S.shows source.old) (S.bound_of source.old) (kept_of self.old) }

@@ -21,8 +21,8 @@ use std::alloc::{AllocError, Global};
 /// asks the source for each of their rows once, and ends early where every target is settled. A target's way is the
 /// best that was reached, settled or not. The rows that it returns are the source's own answers.
 ///
-/// `from` and the targets differ from `avoid`, and the cutoff is at most the bound of the source. `OutOfMemory` where a
-/// growth was refused, `Unseen` where the source has no row of a node that is gone on from; the source has then moved
+/// `from` and the targets differ from `avoid`, and the cutoff is at most the bound of the source. `OutOfMemory` where
+/// memory runs out, `Unseen` where the source has no row of a node that is gone on from; the source has then moved
 /// as reading moves it, and nothing else. Memory and time grow with the nodes that are settled and their neighbours, with
 /// 8 bytes for each number up to the greatest of them: a [`Searcher`] keeps that memory for its next search.
 pub fn search<S: RowSource>(

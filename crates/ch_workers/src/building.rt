@@ -32,7 +32,7 @@ use std::thread::Threads;
 /// of memory ends. One whose thread can't be started does nothing in that shift, and gets a thread in the next one. A sweep
 /// contracts what they leave. Then the queue is closed.
 /// `BadOptions`, which is tested first, where a number of the options is outside its range or there isn't one list for
-/// each worker; `OutOfMemory` where a growth was refused; `Mixed` where the receipts and the log don't agree, or the
+/// each worker; `OutOfMemory` where memory runs out; `Mixed` where the receipts and the log don't agree, or the
 /// accounts of the queue, or where a book of rows has no place left. On every return the estimators were dropped and no
 /// lease of `leases` is out: so it doesn't return as long as one is out elsewhere. Takes memory for the rows of the
 /// nodes, shortcuts included, and for those that are replaced in a shift, which have a dozen entries or so for each node

@@ -7,7 +7,7 @@ use std::fmt;
 /// Why a hierarchy wasn't built.
 #[derive(Clone, Copy, Debug, PartialEq, Eq)]
 pub enum BuildError {
-    /// A growth was refused.
+    /// Out of memory.
     OutOfMemory = 1,
     /// A number of the options is outside its range, or there isn't one list of estimators for each worker.
     BadOptions,

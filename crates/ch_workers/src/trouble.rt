@@ -12,7 +12,7 @@ use std::alloc::AllocError;
 /// Why a hierarchy wasn't built by good options.
 #[derive(Clone, Copy)]
 pub(crate) enum Trouble {
-    /// A growth was refused.
+    /// Out of memory.
     OutOfMemory,
     /// The receipts and the log, the accounts of the queue, or the places of the book's records don't agree.
     Mixed,

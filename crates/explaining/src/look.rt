@@ -133,7 +133,7 @@ fn opened<R: Files>(rt: &R, path: &str) -> Option<R::File> {
     fs::open(rt, path).ok()
 }
 
-// Makes a copy of a line, or of a part of it where memory is refused.
+// Makes a copy of a line, or of a part of it where memory runs out.
 fn copy(line: &[u8], to: &mut Vec<u8>) {
     to.clear();
     let _ = to.extend_from_slice(line);

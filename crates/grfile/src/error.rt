@@ -7,7 +7,7 @@ use std::fmt;
 /// Why a text wasn't read.
 #[derive(Clone, Copy, Debug, PartialEq, Eq)]
 pub enum GrErrorKind {
-    /// A growth was refused.
+    /// Out of memory.
     OutOfMemory = 1,
     /// The reader failed.
     Read,

@@ -80,7 +80,7 @@ impl GrReader {
 /// Reads the text of a graph to the reader's end.
 ///
 /// The first fault of the text is returned, with its line; `Read` where the reader fails, and `OutOfMemory` where
-/// a growth is refused, both at the line that was reached, and only where no earlier line has a fault. What is kept
+/// memory runs out, both at the line that was reached, and only where no earlier line has a fault. What is kept
 /// is the arcs so far, one line and 64 KiB: memory grows with what the text has spelled, never with what a line announces.
 pub fn read_graph<R: StepRead>(alloc: Global, reader: &mut R) -> Result<Graph, GrError>
     ensures reading { IfSome (R.remaining reader.old) (λ text. IsReading (λ g. g) result (graph_of text)) }

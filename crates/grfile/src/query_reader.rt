@@ -84,7 +84,7 @@ impl QueryReader {
 /// Reads a query file for this many nodes to the reader's end. The pairs are numbered from 0.
 ///
 /// The first fault of the text is returned, with its line; `Read` where the reader fails, and `OutOfMemory` where
-/// a growth is refused, both at the line that was reached, and only where no earlier line has a fault. What is kept
+/// memory runs out, both at the line that was reached, and only where no earlier line has a fault. What is kept
 /// is the pairs so far, one line and 64 KiB: memory grows with what the text has spelled, never with what a line announces.
 pub fn read_queries<R: StepRead>(
     alloc: Global,

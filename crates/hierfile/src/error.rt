@@ -10,7 +10,7 @@ use std::fmt;
 /// Why a file wasn't read.
 #[derive(Clone, Copy, Debug, PartialEq, Eq)]
 pub enum HierError {
-    /// A growth was refused.
+    /// Out of memory.
     OutOfMemory = 1,
     /// The reader failed.
     Read,

@@ -36,7 +36,7 @@ pub fn write_info<H: Read, W: Write>(
     Ok(())
 }
 
-/// Appends what the file of a hierarchy has, or a part of it where memory is refused.
+/// Appends what the file of a hierarchy has, or a part of it where memory runs out.
 pub fn push_info(hierarchy: &Hierarchy, text: &mut Vec<u8>) -> Result<(), AllocError>
     ensures { OnOk result (text.new.items ≡ text.old.items ++ info hierarchy.now) }
 {
@@ -48,7 +48,7 @@ pub fn push_info(hierarchy: &Hierarchy, text: &mut Vec<u8>) -> Result<(), AllocE
     Ok(())
 }
 
-// Appends a line with a name and a number, or a part of it where memory is refused.
+// Appends a line with a name and a number, or a part of it where memory runs out.
 fn push_fact<N: Integer>(name: &[u8], number: N, text: &mut Vec<u8>) -> Result<(), AllocError>
     ensures { OnOk result (text.new.items ≡ text.old.items ++ fact name.now (N.text number)) }
 {

@@ -1,7 +1,7 @@
 //! What rows, searches, proposals and boards return where one growth is refused: `tests/refusals` runs each test
 //! once for each of its growths.
 //!
-//! A call that is refused memory leaves its value as it was, is made again, and has to give what it gives with ample
+//! A call that runs out of memory leaves its value as it was, is made again, and has to give what it gives with ample
 //! memory. What is used up by a refused call, as a graph, ends the test with that error, and so does a growth of what the
 //! test sets up.
 ghost use Rattle.std.specs.Prelude.{◌≡◌, [], IfOk, length};

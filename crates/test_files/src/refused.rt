@@ -1,8 +1,8 @@
 //! What the readers and the queries over a file return where one growth is refused: `tests/refusals` runs each test once
 //! for each of its growths.
 //!
-//! A call that is refused memory is made again, and has to give what it gives with ample memory. A growth of what a test
-//! sets up ends the test with that error.
+//! A call that runs out of memory is made again, and has to give what it gives with ample memory. A growth of what a
+//! test sets up ends the test with that error.
 ghost use Rattle.std.specs.Prelude.{◌≡◌, ◌<◌, length, IfOk, IfSome};
 ghost use Rattle.ch_graph.specs.Unfolding.{Joined};
 
@@ -324,7 +324,7 @@ fn lines_that_want_memory(rt: HostRuntime) {
     }
 }
 
-/// Why a file is refused, or `None`; where it is refused memory it is read again.
+/// Why a file is refused, or `None`; where it runs out of memory it is read again.
 fn file_fault(alloc: Global, bytes: &[u8]) -> Option<HierError> {
     let fault = read_within(alloc, &mut { bytes }, MANY).err();
     if fault == Some(HierError::OutOfMemory) {
@@ -411,7 +411,7 @@ fn found(search: &mut Search, source: u32, target: u32) -> Result<Option<Found>,
     }
 }
 
-/// The nodes of links; where they are refused memory they are asked for again.
+/// The nodes of links; where memory runs out they are asked for again.
 fn nodes_of(
     alloc: Global,
     hierarchy: &Hierarchy,

@@ -56,7 +56,7 @@ fn plain(alloc: Global) -> Result<Result<Hierarchy, HierarchyError>, AllocError>
     }
 }
 
-/// The same with an index. One that is refused memory is made again.
+/// The same with an index. One that runs out of memory is made again.
 fn indexed(alloc: Global) -> Result<Hierarchy, Fail> {
     match plain(alloc)??.into_indexed(alloc) {
         Ok(indexed) => Ok(indexed),
@@ -69,7 +69,7 @@ fn is_whole(hierarchy: &Hierarchy) -> bool {
     (hierarchy.nodes() == 2) & (hierarchy.find(0, 1) == Some(LinkId(0)))
 }
 
-/// A hierarchy that is refused memory is made again, and has to be as with ample memory.
+/// A hierarchy that runs out of memory is made again, and has to be as with ample memory.
 #[test]
 fn checked(rt: HostRuntime) -> Result<(), Fail> {
     let hierarchy = indexed(rt.alloc())?;

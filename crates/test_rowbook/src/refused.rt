@@ -1,6 +1,6 @@
 //! What a book returns where one growth is refused: `tests/refusals` runs the test once for each of its growths.
 //!
-//! A call that is refused memory leaves pen and reader as they were, is made again, and has to give what it gives with
+//! A call that runs out of memory leaves pen and reader as they were, is made again, and has to give what it gives with
 //! ample memory. What is used up by a refused call, as a blank, ends the test with that error, and so does a growth of
 //! what the test sets up.
 ghost use Rattle.std.specs.Prelude.{◌≡◌, ◌<◌, All, IfOk, length, map};
@@ -57,7 +57,7 @@ fn put<B: Book, R: Wait>(
     }
 }
 
-/// The same, made again where it is refused memory. A refused call leaves the current row.
+/// The same, made again where it runs out of memory. A refused call leaves the current row.
 fn written<B: Book, R: Wait>(
     rt: &R,
     alloc: Global,

@@ -55,8 +55,8 @@ fn are_replies(text: &[u8], expected: &[u8]) -> bool {
     holds && rest.is_empty() && more.is_empty()
 }
 
-/// A request that is refused memory has its own reply, and those behind it are as with ample memory. Where the hierarchy or
-/// the router is refused it, nothing is written.
+/// A request that runs out of memory has its own reply, and those behind it are as with ample memory. Where the
+/// hierarchy or the router runs out of memory, nothing is written.
 #[test]
 fn replies(rt: HostRuntime) {
     let (mut hier, mut requests) = (ROW, REQUESTS);

@@ -2,7 +2,7 @@
 //!
 //! A command either does all its work or reports that memory ran out, and has then written whole lines, `prepare`
 //! nothing. Made again it does its work. A growth of what a test sets up ends the test with that error. Writers have
-//! room from the start, so that none of them is refused memory.
+//! room from the start, so that none of them runs out of memory.
 ghost use Rattle.std.specs.Prelude.{◌≡◌, [], All, IfOk};
 
 use crate::examples::{EXAMPLES, Example, ONE_ARC, ROW, ROW_TEXT};

@@ -39,7 +39,7 @@ fn is_drawn(router: &mut Router<'_>) -> Result<bool, Fail> {
     Ok(is_long & is_none & (there.nodes.as_slice() == [0, 1, 4, 3].as_slice()))
 }
 
-/// The same by a router that is made again where it is refused memory.
+/// The same by a router that is made again where it runs out of memory.
 fn is_drawn_by(alloc: Global, hierarchy: &Hierarchy) -> Result<bool, Fail> {
     let mut router = match Router::new(alloc, hierarchy) {
         Ok(router) => router,
@@ -55,7 +55,7 @@ fn router(rt: HostRuntime) -> Result<(), Fail> {
     Ok(())
 }
 
-/// The same by a router beside another one, which is dropped first. One that is refused memory is made again.
+/// The same by a router beside another one, which is dropped first. One that runs out of memory is made again.
 fn is_drawn_beside(alloc: Global, hierarchy: &Hierarchy) -> Result<bool, Fail> {
     let first = match Router::new(alloc, hierarchy) {
         Ok(router) => router,

@@ -3,7 +3,7 @@ use Rattle.std.specs.Prelude.{option_map}
 use Rattle.performing.proofs.Putting.{no_memory, finished, was_done, has_prepared}
 use Rattle.performing.proofs.whole.prepare_whole.Goals as goal
 
--- where memory is refused
+-- where memory runs out
 
 pub returns-in_default-clause-told : goal.returns-in_default-clause-told
 returns-in_default-clause-told g c = no_memory _ c.end.result c.end.ensures
