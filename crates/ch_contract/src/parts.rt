@@ -28,8 +28,8 @@ pub fn ranks_of(alloc: Global, overlay: &Overlay) -> Result<Vec<u32>, AllocError
 
 /// The links that all rows of an overlay describe, by their ends.
 ///
-/// What rows hold of arcs into their nodes is put in chains, by the nodes that the arcs leave. Each chain rises, and is merged
-/// with the row of its node, so that nothing is sorted: it takes time by the number of nodes and links. Takes memory for the
+/// What rows hold of arcs into their nodes is put in chains, by the nodes that the arcs leave. Each chain rises, and is
+/// merged with the row of its node, so that nothing is sorted: it takes time by the number of nodes and links. Takes memory for the
 /// links once, as many as there are, and while it works 32 bytes for each of those arcs and 8 for each node.
 pub fn links_of(alloc: Global, overlay: &Overlay) -> Result<Vec<Link>, AllocError>
     ensures { IfOk result (λ links. AreLinks overlay.now links.items) }

@@ -87,8 +87,8 @@ impl MultiQueue {
     /// Puts an item into a heap that the pass draws, and into the account of the pass.
     ///
     /// Draws one word, also where it is refused. Fails only where memory runs out: the item is returned then, and the
-    /// queue and the account are unchanged. It may wait for the heap's lock, and takes time by the logarithm of the number of
-    /// items there. Under the lock it takes memory for the heap alone.
+    /// queue and the account are unchanged. It may wait for the heap's lock, and takes time by the logarithm of the number
+    /// of items there. Under the lock it takes memory for the heap alone.
     pub fn push<R: Wait>(&self, rt: &R, pass: &mut Pass, item: Item) -> Result<(), Item>
         ensures put { OnOk result (pass.new ≡ having_put item (moved_on pass.old)) }
         ensures refused { OnErr result (pass.new ≡ moved_on pass.old) }

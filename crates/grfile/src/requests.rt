@@ -116,7 +116,7 @@ impl RequestReader {
         })
     }
 
-    /// Returns the request of the line that hasn't ended, once the text has, or `None` where the text ended with a line feed.
+    /// Returns the request of the line that hasn't ended, once the text has, or `None` if that ended with a line feed.
     pub fn last(&self) -> Option<Request>
         ensures asked { option_to_list result ≡ requests_with self.now [] }
         ensures in_range { IfSome result (IsInRange self.now.nodes) }

@@ -42,10 +42,10 @@ struct Head {
 /// refuse one. The hierarchy is of the version that the file begins with; costs of version 1 count no arcs. `Read` is
 /// returned where the reader fails, also after 2^40 calls, and only where the bytes before have no fault but that they may
 /// end too early; an interrupted call is tried again. `OutOfMemory` is returned where memory runs out. Memory
-/// is taken as bytes come in, beside a buffer of 64 KiB: 4 bytes for each rank, and one for each node when a sixteenth of the ranks has come, about 40 for each link, and then, when all
-/// links have come, 8 bytes for each node and for each link. What the file announces takes none. Linear in the bytes, but
-/// for two binary searches for each link with a middle, among the links that leave one node, and one for each of the first
-/// ranks, among those before it.
+/// is taken as bytes come in, beside a buffer of 64 KiB: 4 bytes for each rank, and one for each node when a sixteenth of
+/// the ranks has come, about 40 for each link, and then, when all links have come, 8 bytes for each node and
+/// for each link. What the file announces takes none. Linear in the bytes, but for two binary searches for each link
+/// with a middle, among the links that leave one node, and one for each of the first ranks, among those before it.
 pub fn read<R: StepRead>(alloc: Global, reader: &mut R) -> Result<Hierarchy, HierError>
     ensures ok { IfOk result (λ hierarchy. IfSome (R.remaining reader.old) (λ bytes. bytes ≡ bytes_of hierarchy)) }
     ensures made { IfOk result IsWellMade }
