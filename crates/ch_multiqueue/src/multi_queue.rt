@@ -104,8 +104,8 @@ impl MultiQueue {
     /// Draws two words, always. The tops are looked at one after the other, each under its heap's lock, and the better
     /// heap gives its top as it is when it is locked again; of two equal tops the first drawn counts. Where both
     /// heaps were empty, or the better one has become empty since, the heaps are gone through once from the first, and
-    /// the first top found is taken. Takes memory for the account of the pass, before it locks a heap to take from; where it
-    /// is refused, the queue and the account are unchanged.
+    /// the first top found is taken. Takes memory for the account of the pass, before it locks a heap to take from; where
+    /// that runs out, the queue and the account are unchanged.
     pub fn pop<R: Wait>(&self, rt: &R, pass: &mut Pass) -> Result<Option<Item>, AllocError>
         ensures taken { IfOk result (λ answer. pass.new ≡ having_taken answer (moved_on (moved_on pass.old))) }
         ensures refused { OnErr result (pass.new ≡ moved_on (moved_on pass.old)) }

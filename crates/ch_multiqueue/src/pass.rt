@@ -96,7 +96,7 @@ impl Pass {
     }
 
     /// Takes the least item out of the heap behind a lock, and into the account; nothing where the heap is empty. Takes
-    /// memory for the account, before the lock; where it is refused, heap and account stay as they were.
+    /// memory for the account, before the lock; where that runs out, heap and account stay as they were.
     pub(crate) fn take_behind<R: Wait>(
         &mut self,
         rt: &R,

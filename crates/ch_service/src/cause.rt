@@ -16,7 +16,7 @@ use std::fmt;
 pub enum Cause {
     /// The text of the graph has this fault.
     Graph(GrError),
-    /// The text of the pairs has this fault.
+    /// The query file has this fault.
     Queries(GrError),
     /// The file of the hierarchy has this fault.
     Hierarchy(HierError),

@@ -19,7 +19,7 @@ use std::fmt;
 pub enum ServiceError {
     /// The text of the graph was refused, or couldn't be read.
     Graph(GrError),
-    /// The text of the pairs was refused, or couldn't be read.
+    /// The query file was refused, or couldn't be read.
     Queries(GrError),
     /// The file of the hierarchy was refused, or couldn't be read.
     Hierarchy(HierError),

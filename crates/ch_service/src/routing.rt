@@ -18,7 +18,7 @@ use std::io::{Read, Write};
 
 /// Answers pairs of nodes by a hierarchy.
 ///
-/// `hier` gives the file of the hierarchy, `queries` the text of the pairs, and `out` gets one line for each pair, in
+/// `hier` gives the file of the hierarchy, `queries` the query file, and `out` gets one line for each pair, in
 /// order: its least length, how many arcs its route has, and the nodes of the route. Where [`prepare`](crate::prepare)
 /// wrote the file, it is of all least routes one with the fewest arcs; by a file of version 1, whose costs count no
 /// arcs, it is any of them. The hierarchy is read before the pairs, and where one is refused nothing is written. Where a

@@ -4,7 +4,7 @@ use std::io::{self, Write};
 /// How many bytes of what is written are kept.
 const MOST: usize = 200;
 
-/// A writer that keeps what was written to it, for whoever explains it. Where memory for that is refused, or it is long, it
+/// A writer that keeps what was written to it, for whoever explains it. Where memory for that runs out, or it is long, it
 /// keeps the first part.
 #[derive(Drop)]
 pub struct Heard<E> {

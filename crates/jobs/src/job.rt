@@ -9,7 +9,7 @@ pub enum Job<'a> {
     Answer {
         /// The file with the graph's text.
         graph: &'a str,
-        /// The file with the text of the pairs.
+        /// The query file.
         queries: &'a str,
     },
     /// To prepare a hierarchy of a graph.
@@ -18,7 +18,7 @@ pub enum Job<'a> {
     Route {
         /// The file of the hierarchy.
         hierarchy: &'a str,
-        /// The file with the text of the pairs.
+        /// The query file.
         queries: &'a str,
     },
     /// To reply to requests by a hierarchy.
@@ -47,7 +47,7 @@ pub struct Call<'a> {
 pub enum Stop {
     /// Help or the version was asked for.
     Told(String),
-    /// The words were refused.
+    /// The arguments were refused.
     Refused(String),
     /// The graph and the file that is made for its hierarchy are one file.
     OneFile,

@@ -18,7 +18,7 @@ pub struct Preparation<'a> {
     pub seed: u64,
     /// Which nodes go first.
     pub order: Order,
-    /// After how many commits a worker goes on by another order; without a stint it keeps to the one.
+    /// After how many commits a worker changes to another order; without a stint it keeps to the one.
     pub stint: Option<Stint>,
     /// Whether the user is shown how far it has come, at a terminal.
     pub progress: bool,

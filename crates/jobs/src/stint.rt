@@ -1,6 +1,6 @@
 ghost use Rattle.std.specs.Prelude.{◌≡◌, ◌<◌, ◌≤◌, ◌⊎◌, ◌^◌, IfSome, IfNone};
 
-/// How many commits a worker makes by one order before it goes on by the next, 1 to 1,099,511,627,776.
+/// How many commits a worker makes by one order before it changes to the next, 1 to 1,099,511,627,776.
 #[derive(Clone, Copy, Debug, PartialEq, Eq)]
 pub struct Stint {
     commits: u64,

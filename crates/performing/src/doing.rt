@@ -21,7 +21,7 @@ use std::thread::Threads;
 ///
 /// To answer, `first` gives the graph's text and `second` that of the pairs; where both are in one input, `first`
 /// gives it and `second` isn't read. To prepare, `first` gives the graph's text, `second` isn't read, and `out` gets
-/// the hierarchy. To route, `first` gives the hierarchy and `second` the text of the pairs; to serve, `second` gives the
+/// the hierarchy. To route, `first` gives the hierarchy and `second` the query file; to serve, `second` gives the
 /// requests; to print what a hierarchy file has, `first` gives it and `second` isn't read. Answers go to `out`. Of a refusal
 /// one line goes to `err`. Only to prepare by workers are threads started.
 pub fn perform<A: Read, B: Read, W: Write, E: Write, R: Threads + Wait + Sync>(

@@ -8,7 +8,7 @@ use std::io::{Read, Write};
 
 /// Answers pairs of nodes by the file of a hierarchy, and returns the program's exit status.
 ///
-/// `hierarchy` gives the file and `queries` the text of the pairs. Answers go to `out`, and of a refusal one line to
+/// `hierarchy` gives the file and `queries` the query file. Answers go to `out`, and of a refusal one line to
 /// `err`. Takes the time and memory of [`route`].
 pub fn perform_route<A: Read, B: Read, W: Write, E: Write>(
     alloc: Global,

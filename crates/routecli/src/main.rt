@@ -1,6 +1,6 @@
 //! The program `routecli`: prepares hierarchies of road graphs, and answers pairs of nodes with least routes.
 //!
-//! Uses `command_line`, which turns the words of a command line into a [`Job`], `performing`, which does it over readers
+//! Uses `command_line`, which turns the program's arguments into a [`Job`], `performing`, which does it over readers
 //! and writers and returns the exit status, `whole_file`, by which the file of a hierarchy is whole or not there, `progress`,
 //! which shows how far a preparation has come, and `explaining`, which helps a user whose call was refused. `main` opens the
 //! files.
@@ -270,12 +270,12 @@ fn prepare_file<
     status
 }
 
-// The words of the command line, the program's name first.
+// The arguments of the command line, the program's name first.
 fn words<R: Env + AllocGlobal>(rt: &R) -> io::Result<Vec<String>> {
     Ok(env::args(rt)?.collect(rt.alloc())?)
 }
 
-// The status where the words can't be taken.
+// The status where the arguments can't be read.
 fn refuse_words<E: io::Write>(error: &io::Error, err: &mut E) -> u8
     ensures { (result ≡ 2) ⊎ (result ≡ 6) }
 {

@@ -4,7 +4,7 @@ use std::alloc::{AllocError, Global};
 use std::io::{self, ErrorKind, Write};
 use std::test::Fail;
 
-/// The words of a command line.
+/// The arguments of a command line.
 fn words(alloc: Global, texts: &[&str]) -> Result<Vec<String>, AllocError> {
     let mut words = Vec::new(alloc);
     for text in texts {
@@ -81,7 +81,7 @@ const NAMED: [(&[&str], Job<'static>, bool); 7] = [
     ),
 ];
 
-/// The words after the program's name, and what they choose.
+/// The arguments after the program's name, and what they choose.
 #[derive(Clone, Copy)]
 struct Chosen {
     words: &'static [&'static str],
@@ -276,7 +276,7 @@ const EXPLAINED: [&[&str]; 6] = [
     &["routecli", "info", "a.rch", "--explain"],
 ];
 
-/// Whether the words ask for explanations.
+/// Whether the arguments ask for explanations.
 fn explains(alloc: Global, texts: &[&str]) -> Result<bool, Fail> {
     let words = words(alloc, texts)?;
     let named = command(alloc, words.as_slice()).ok().ok_or("a job")?;
@@ -303,7 +303,7 @@ fn words_that_name_a_job(rt: HostRuntime) -> Result<(), Fail> {
     Ok(())
 }
 
-/// Why the words name no job.
+/// Why the arguments name no job.
 fn stop_of(alloc: Global, texts: &[&str]) -> Result<Stop, Fail> {
     let words = words(alloc, texts)?;
     let why = command(alloc, words.as_slice()).err().ok_or("no job")?;

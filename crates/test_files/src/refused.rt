@@ -269,8 +269,8 @@ fn before_a_long_line(rt: HostRuntime) {
     );
 }
 
-/// Texts of graphs without a fault, each in two pieces, and the first and last line that may want memory: those of arcs,
-/// and those in which a piece ends.
+/// Texts of graphs without a fault, each in two pieces, and the first and last line that may run out of memory: those of
+/// arcs, and those in which a piece ends.
 const WANTING: [(&[u8], &[u8], u64, u64); 4] = [
     (b"c\nc\n\np sp 2 2\na 1 2 7\na 2 1 7\n", b"c\n", 5, 6),
     (b"c\nc\np sp 2", b" 0\nc\nc\n", 3, 3),
@@ -278,7 +278,7 @@ const WANTING: [(&[u8], &[u8], u64, u64); 4] = [
     (b"p sp 2 1\na 1 2", b" 7\nc\nc\n", 2, 2),
 ];
 
-/// The same of texts of pairs of three nodes.
+/// The same of query files for three nodes.
 const PAIRS_WANTING: [(&[u8], &[u8], u64, u64); 2] = [
     (b"c\n\np aux sp p2p 2\nq 1 2\nq 2 1\n", b"c\n", 4, 5),
     (b"c\nc\np aux", b" sp p2p 0\nc\nc\n", 3, 3),

@@ -76,7 +76,7 @@ fn hears<E: Estimator>(mut estimator: E, entry: &Contraction) -> bool
     notes(&estimator) == AFTER
 }
 
-/// Whether one estimator of each kind hears of the entry.
+/// Whether one estimator of each kind receives the entry.
 fn all_hear(alloc: Global, leases: &mut Leases, entry: &Contraction) -> Result<bool, AllocError>
     requires rank { entry.now.rank ≡ 0 }
     requires neighbours { entry.now.neighbours ≡ 1 ∷ 2 ∷ [] }

@@ -73,7 +73,7 @@ fn drawn(alloc: Global, draw: &mut Draw) -> Result<Network, AllocError> {
     Ok(network)
 }
 
-/// The text of the pairs of all nodes, in order.
+/// The query file of all pairs of nodes, in order.
 fn all_pairs(alloc: Global) -> Result<String, AllocError> {
     let mut text = format!(in alloc; "p aux sp p2p {}\n", NODES * NODES)?;
     for source in 1..=NODES {

@@ -1,5 +1,5 @@
-//! Workers who go on by another order after a stint: which orders follow each other, and that lengths are the least whatever
-//! the stint.
+//! Workers who change to another order after a stint: which orders follow each other, and that lengths are the least
+//! whatever the stint.
 ghost use Rattle.std.specs.Prelude.{◌≡◌, [], All, IfOk};
 
 use crate::drawn::Draw;
@@ -195,7 +195,7 @@ fn drawn(alloc: Global, draw: &mut Draw) -> Result<String, AllocError> {
     Ok(text)
 }
 
-/// The text of the pairs of all nodes, in order.
+/// The query file of all pairs of nodes, in order.
 fn all_pairs(alloc: Global) -> Result<String, AllocError> {
     let mut text = format!(in alloc; "p aux sp p2p {}\n", NODES * NODES)?;
     for source in 1..=NODES {

@@ -44,7 +44,7 @@ fn is_first_of(worker: usize, built: &Built) -> bool {
     first.is_some_and(|receipt| receipt.rank == 0)
 }
 
-// Worker 0 hears of the first entry, which isn't its own, before it commits anything.
+// Worker 0 receives the first entry, which isn't its own, before it commits anything.
 #[test]
 fn two_workers_hear_of_each_other(rt: HostRuntime) -> Result<(), Fail> {
     let alloc = rt.alloc();
