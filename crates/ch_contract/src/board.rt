@@ -53,8 +53,8 @@ impl<S: Site> Model for Board<S> {
 }
 
 impl<S: Site> Board<S> {
-    /// A board of this graph, with no node contracted, whose rows are in the book that the blank is opened as; and a
-    /// reader of that book.
+    /// Returns a board of this graph, with no node contracted, whose rows are in the book that the blank is opened
+    /// as; and a reader of that book.
     ///
     /// Takes memory for the rows, an entry for each end of an arc, for a record a row, and for the log of all
     /// contractions. Waits while another thread makes room for records. On a refusal the blank is dropped.
@@ -80,7 +80,8 @@ impl<S: Site> Board<S> {
         }
     }
 
-    /// The board of a ledger, whose rows are in the book that the blank is opened as; and a reader of that book.
+    /// Returns the board of a ledger, whose rows are in the book that the blank is opened as; and a reader of that
+    /// book.
     ///
     /// The rows get versions anew, and nothing else of the ledger changes. So a ledger that is taken out of a board goes
     /// on with a new book, which keeps no earlier version of a row. On a refusal it is returned as it was, and the
@@ -114,7 +115,7 @@ impl<S: Site> Board<S> {
         Ok((Board { ledger, pen }, reader))
     }
 
-    /// The ledger, and the pen, with which the book's records go if no reader is left. Takes no memory.
+    /// Returns the ledger, and the pen, with which the book's records go if no reader is left. Takes no memory.
     pub fn into_parts(self) -> (Ledger, Pen<S>)
         ensures same { result.0 ≡ self }
         ensures named { result.0.graph ≡ S.graph }
@@ -122,7 +123,7 @@ impl<S: Site> Board<S> {
         (self.ledger, self.pen)
     }
 
-    /// The graph that the board was made of.
+    /// Returns the graph that the board was made of.
     pub fn graph(&self) -> &Graph
         ensures graph { result.now ≡ self.now.graph }
         ensures named { result.now ≡ S.graph }
@@ -130,14 +131,14 @@ impl<S: Site> Board<S> {
         self.ledger.graph()
     }
 
-    /// The rows of the nodes, as the contractions so far left them.
+    /// Returns the rows of the nodes, as the contractions so far left them.
     pub fn overlay(&self) -> &Overlay
         ensures { result.now ≡ self.now.overlay }
     {
         self.ledger.overlay()
     }
 
-    /// What was done so far, first to last: the entry of rank k is at k.
+    /// Returns what was done so far, first to last: the entry of rank k is at k.
     pub fn log(&self) -> &[Contraction]
         ensures entries { result.now ≡ self.now.log }
         ensures log { IsLog self.now.log }
@@ -289,8 +290,8 @@ impl<S: Site> Board<S> {
         Ok(receipts)
     }
 
-    /// The hierarchy that the contractions lead to: the rank of a node is the number of nodes that were contracted
-    /// before it, and the links are the arcs that the rows have, by their ends. It is right for the graph.
+    /// Returns the hierarchy that the contractions lead to: the rank of a node is the number of nodes that were
+    /// contracted before it, and the links are the arcs that the rows have, by their ends. It is right for the graph.
     ///
     /// Refused while a node isn't contracted, which is tested first, or where memory runs out; the board is returned as
     /// it was. Takes memory for the ranks and the links, and for chains of the links while it works.

@@ -101,8 +101,8 @@ impl fmt::Display for ProposeError {
 impl Error for ProposeError {}
 
 impl CommitError {
-    /// The number of the error: 1, 2, 4 and 5, in the order of the variants. 3 had an error that doesn't come any more,
-    /// and isn't used again.
+    /// Returns the number of the error: 1, 2, 4 and 5, in the order of the variants. 3 had an error that doesn't come
+    /// any more, and isn't used again.
     pub fn number(self) -> u8
         ensures { result ≡ commit_error_number self }
     {

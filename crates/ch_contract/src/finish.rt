@@ -23,7 +23,8 @@ pub struct Finished {
     pub rows: Overlay,
 }
 
-/// The hierarchy that the contractions of a ledger lead to, with an index and the places of the halves of links.
+/// Returns the hierarchy that the contractions of a ledger lead to, with an index and the places of the halves of
+/// links.
 ///
 /// Refused while a node isn't contracted, which is tested first, or where memory runs out. Takes memory for the ranks,
 /// for the links, and for where links and their halves are.
@@ -42,7 +43,7 @@ pub fn hierarchy_of(ledger: &Ledger) -> Result<Hierarchy, FinishError>
     Ok(indexed)
 }
 
-/// The hierarchy that the contractions of a ledger lead to, with no index.
+/// Returns the hierarchy that the contractions of a ledger lead to, with no index.
 ///
 /// Refused while a node isn't contracted, which is tested first, or where memory runs out. Takes memory for the ranks
 /// and the links, and for chains of the links while it works.

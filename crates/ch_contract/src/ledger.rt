@@ -62,8 +62,8 @@ impl Model for Planned {
 }
 
 impl Planned {
-    /// The new rows, each with its node: first the row of the contracted node, and then those of its neighbours, by
-    /// rising number.
+    /// Returns the new rows, each with its node: first the row of the contracted node, and then those of its
+    /// neighbours, by rising number.
     pub fn rows(&self) -> &[(u32, Arc<Row>)]
         ensures { map (λ a. (a.0, arc_value a.1)) result.now ≡ self.now.change.rows }
     {
@@ -72,7 +72,7 @@ impl Planned {
 }
 
 impl Ledger {
-    /// The ledger of this graph, with no node contracted. Node x has the version x.
+    /// Returns the ledger of this graph, with no node contracted. Node x has the version x.
     ///
     /// Takes memory for the rows, an entry for each end of an arc, and for the log of all contractions.
     pub fn new(alloc: Global, graph: Graph) -> Result<Ledger, AllocError>
@@ -92,21 +92,21 @@ impl Ledger {
         })
     }
 
-    /// The graph that the ledger was made of.
+    /// Returns the graph that the ledger was made of.
     pub fn graph(&self) -> &Graph
         ensures { result.now ≡ self.now.graph }
     {
         &self.graph
     }
 
-    /// The rows of the nodes, as the contractions so far left them.
+    /// Returns the rows of the nodes, as the contractions so far left them.
     pub fn overlay(&self) -> &Overlay
         ensures { result.now ≡ self.now.overlay }
     {
         &self.overlay
     }
 
-    /// What was done so far, first to last: the entry of rank k is at k.
+    /// Returns what was done so far, first to last: the entry of rank k is at k.
     pub fn log(&self) -> &[Contraction]
         ensures entries { result.now ≡ self.now.log }
         ensures log { IsLog self.now.log }
@@ -131,9 +131,9 @@ impl Ledger {
         let _ = self.log.len();
     }
 
-    /// The hierarchy that the contractions lead to, the log, and the rows: the rank of a node is the number of nodes that
-    /// were contracted before it, and the links are the arcs that the rows have, by their ends. It is right for the
-    /// graph, and has no index yet, so that the rows can be dropped before or beside the making of one.
+    /// Returns the hierarchy that the contractions lead to, the log, and the rows: the rank of a node is the number
+    /// of nodes that were contracted before it, and the links are the arcs that the rows have, by their ends. It is
+    /// right for the graph, and has no index yet, so that the rows can be dropped before or beside the making of one.
     ///
     /// Refused while a node isn't contracted, which is tested first, or where memory runs out; the ledger is returned as
     /// it was. Takes memory for the ranks and the links, and for chains of the links while it works.
@@ -172,8 +172,8 @@ impl Ledger {
         self.overlay.renumber(versions);
     }
 
-    /// The contraction of a node that puts these shortcuts in. Nothing changes yet, and nothing can be refused any
-    /// more. Takes memory for the new rows and the entry.
+    /// Returns the contraction of a node that puts these shortcuts in. Nothing changes yet, and nothing can be
+    /// refused any more. Takes memory for the new rows and the entry.
     pub fn plan(&self, node: u32, shortcuts: &[Shortcut]) -> Result<Planned, AllocError>
         requires { AreLawful self.now node shortcuts.now }
         ensures { IfOk result (λ planned. IsPlanned self.now node shortcuts.now planned) }
@@ -213,7 +213,7 @@ impl Ledger {
     }
 }
 
-/// This many versions, from this one on. New rows may get them where all earlier ones are below.
+/// Returns this many versions, from this one on. New rows may get them where all earlier ones are below.
 pub fn versions_from(alloc: Global, first: u64, count: usize) -> Result<Vec<u64>, AllocError>
     requires { first + count < 2 ^ 64 }
     ensures items { IfOk result (λ versions. versions.items ≡ range_with_len first count) }

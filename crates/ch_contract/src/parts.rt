@@ -10,7 +10,7 @@ use ch_graph::Link;
 use ch_overlay::{Entry, Overlay};
 use std::alloc::{AllocError, Global};
 
-/// The rank of each node of an overlay whose nodes are all contracted.
+/// Returns the rank of each node of an overlay whose nodes are all contracted.
 pub fn ranks_of(alloc: Global, overlay: &Overlay) -> Result<Vec<u32>, AllocError>
     requires { IsOver (state_of overlay.now) }
     ensures { IfOk result (λ ranks. AreRanks overlay.now ranks.items) }
@@ -26,7 +26,7 @@ pub fn ranks_of(alloc: Global, overlay: &Overlay) -> Result<Vec<u32>, AllocError
     Ok(ranks)
 }
 
-/// The links that all rows of an overlay describe, by their ends.
+/// Returns the links that all rows of an overlay describe, by their ends.
 ///
 /// What rows hold of arcs into their nodes is put in chains, by the nodes that the arcs leave. Each chain rises, and is
 /// merged with the row of its node, so that nothing is sorted: it takes time by the number of nodes and links. Takes memory for the

@@ -34,22 +34,22 @@ impl Model for Proposal {
 }
 
 impl Proposal {
-    /// The bound of the source that it was made by.
+    /// Returns the bound of the source that it was made by.
     pub fn bound(&self) -> Cost
         ensures { result ≡ self.now.bound }
     {
         self.bound
     }
 
-    /// The node that it would contract.
+    /// Returns the node that it would contract.
     pub fn node(&self) -> u32
         ensures { result ≡ self.now.node }
     {
         self.node
     }
 
-    /// The rows that it rests on, each node once: the node's own, and then for each node with an arc to it, by rising
-    /// number, that node's and those of the nodes that its ways come by.
+    /// Returns the rows that it rests on, each node once: the node's own, and then for each node with an arc to it,
+    /// by rising number, that node's and those of the nodes that its ways come by.
     pub fn rests_on(&self) -> &[Seen]
         ensures rows { result.now ≡ self.now.rests_on }
         ensures holds { IsProposal self.now }
@@ -57,7 +57,7 @@ impl Proposal {
         self.rests_on.as_slice()
     }
 
-    /// The shortcuts that it would put in, by their ends.
+    /// Returns the shortcuts that it would put in, by their ends.
     pub fn shortcuts(&self) -> &[Shortcut]
         ensures { result.now ≡ self.now.shortcuts }
     {

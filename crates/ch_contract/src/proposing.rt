@@ -50,7 +50,7 @@ pub fn propose<S: RowSource>(
     propose_with(alloc, source, &mut scratch, node, settle)
 }
 
-/// The proposal of [`propose`], worked out in memory that is used again.
+/// Returns the proposal of [`propose`], worked out in memory that is used again.
 ///
 /// The conditions and the errors are those of [`propose`]. Nothing rests on what was worked out there before.
 pub fn propose_with<S: RowSource>(

@@ -25,7 +25,7 @@ impl Cost {
         arcs: u64::MAX,
     };
 
-    /// The cost of one arc of this weight.
+    /// Returns the cost of one arc of this weight.
     pub fn of_weight(weight: u32) -> Cost
         ensures { result ≡ of_weight weight }
     {
@@ -35,7 +35,7 @@ impl Cost {
         }
     }
 
-    /// The most that `count` arcs of at most the weight `heaviest` cost together.
+    /// Returns the most that `count` arcs of at most the weight `heaviest` cost together.
     pub fn of_arcs(count: u32, heaviest: u32) -> Cost
         ensures { result ≡ cost_of_arcs count heaviest }
     {
@@ -46,7 +46,7 @@ impl Cost {
         }
     }
 
-    /// The cost of a walk of this length and of this many arcs, as they are written in a file.
+    /// Returns the cost of a walk of this length and of this many arcs, as they are written in a file.
     pub fn of_walk(length: u64, arcs: u64) -> Cost
         ensures { result ≡ of_walk length arcs }
     {
@@ -56,7 +56,7 @@ impl Cost {
         }
     }
 
-    /// The cost of two walks, one after the other. Each number of both is at most 2^57, so the sums fit.
+    /// Returns the cost of two walks, one after the other. Each number of both is at most 2^57, so the sums fit.
     pub fn plus(self, other: Cost) -> Cost
         requires first { IsInLimit self }
         requires second { IsInLimit other }
@@ -65,8 +65,8 @@ impl Cost {
         self.plus_wide(other)
     }
 
-    /// The cost of two walks, one after the other, where each number of both is at most 2^62: as [`Cost::plus`], for walks
-    /// that are longer than a graph's, since more was added to them at their ends.
+    /// Returns the cost of two walks, one after the other, where each number of both is at most 2^62: as
+    /// [`Cost::plus`], for walks that are longer than a graph's, since more was added to them at their ends.
     pub fn plus_wide(self, other: Cost) -> Cost
         requires first { IsSummable self }
         requires second { IsSummable other }
@@ -133,14 +133,14 @@ impl Cost {
         (self.weight <= 1 << 57) & (self.arcs <= 1 << 57)
     }
 
-    /// The sum of the weights, in the unit of the graph's text.
+    /// Returns the sum of the weights, in the unit of the graph's text.
     pub fn length(self) -> u64
         ensures { result ≡ length_of self }
     {
         self.weight
     }
 
-    /// How many arcs the walk has.
+    /// Returns the number of arcs of the walk.
     pub fn arcs(self) -> u64
         ensures { result ≡ arcs_of self }
     {

@@ -34,7 +34,7 @@ impl Model for NarrowCost {
 }
 
 impl NarrowCost {
-    /// The narrow form of a cost of fewer than 2^32 arcs.
+    /// Returns the narrow form of a cost of fewer than 2^32 arcs.
     pub fn of(cost: Cost) -> NarrowCost
         requires few { arcs_of cost < 2 ^ 32 }
         ensures { result ≡ cost }
@@ -47,14 +47,14 @@ impl NarrowCost {
         }
     }
 
-    /// The cost of one arc of this weight.
+    /// Returns the cost of one arc of this weight.
     pub fn of_weight(weight: u32) -> NarrowCost
         ensures { result ≡ of_weight weight }
     {
         NarrowCost::of(Cost::of_weight(weight))
     }
 
-    /// The cost.
+    /// Returns the cost.
     pub fn cost(self) -> Cost
         ensures { result ≡ self }
     {

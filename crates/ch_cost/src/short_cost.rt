@@ -16,7 +16,7 @@ pub struct ShortCost {
 }
 
 impl ShortCost {
-    /// The short form of no cost: it keeps none.
+    /// Returns the short form of no cost: it keeps none.
     pub fn none() -> ShortCost
         ensures { result ≡ no_short }
     {
@@ -26,7 +26,7 @@ impl ShortCost {
         }
     }
 
-    /// The short form of a cost.
+    /// Returns the short form of a cost.
     pub fn of(cost: Cost) -> ShortCost
         ensures { result ≡ short_of cost }
     {

@@ -34,7 +34,7 @@ impl Model for Graph {
 }
 
 impl Graph {
-    /// The graph of these arcs, in this order, between this many nodes.
+    /// Returns the graph of these arcs, in this order, between this many nodes.
     ///
     /// There are at most 2^25 nodes and 2^27 arcs, each end is below `nodes`, and a weight may be 0. Takes no
     /// memory, and looks at each arc once.
@@ -53,7 +53,8 @@ impl Graph {
         }
     }
 
-    /// The graph of these arcs, as [`Graph::new`] makes it, where they are within the limits, and else why they aren't.
+    /// Returns the graph of these arcs, as [`Graph::new`] makes it, where they are within the limits, and else why
+    /// they aren't.
     ///
     /// Takes no memory, and looks at each arc twice. The arcs are dropped where they are refused.
     pub fn checked(nodes: u32, arcs: Vec<Road>) -> Result<Graph, GraphError>
@@ -72,7 +73,7 @@ impl Graph {
         Ok(Graph::new(nodes, arcs))
     }
 
-    /// How many nodes there are.
+    /// Returns the number of nodes.
     pub fn nodes(&self) -> u32
         ensures count { result ≡ self.now.nodes }
         ensures graph { IsGraph self.now }
@@ -80,7 +81,7 @@ impl Graph {
         self.nodes
     }
 
-    /// The arcs, in the order that they were given in.
+    /// Returns the arcs, in the order in which they were given.
     pub fn arcs(&self) -> &[Road]
         ensures list { result.now ≡ self.now.arcs }
         ensures graph { IsGraph self.now }
@@ -88,7 +89,7 @@ impl Graph {
         self.arcs.as_slice()
     }
 
-    /// What a walk that repeats no node costs at most: one arc less than there are nodes, each of the greatest
+    /// Returns what a walk that repeats no node costs at most: one arc less than there are nodes, each of the greatest
     /// weight of an arc.
     pub fn bound(&self) -> Cost
         ensures { result ≡ bound_of self.now }

@@ -53,8 +53,8 @@ impl Model for Hierarchy {
 }
 
 impl Hierarchy {
-    /// The hierarchy of version 2 of these ranks, one for each node, these links, in rising order of their ends, and this
-    /// bound.
+    /// Returns the hierarchy of version 2 of these ranks, one for each node, these links, in rising order of their
+    /// ends, and this bound.
     ///
     /// It has no index: a link is looked for among all, and so are its halves. Takes no memory.
     pub fn new(ranks: Vec<u32>, links: Vec<Link>, bound: Cost) -> Hierarchy
@@ -67,7 +67,7 @@ impl Hierarchy {
         Hierarchy::with_index(Version::Two, ranks, links, bound, index, halves)
     }
 
-    /// The same of version 1, whose costs count no arcs.
+    /// Returns the same of version 1, whose costs count no arcs.
     pub fn new_v1(ranks: Vec<u32>, links: Vec<Link>, bound: Cost) -> Hierarchy
         requires { IsWellMade (hierarchy_of One ranks.items links.items bound) }
         ensures { result ≡ hierarchy_of One ranks.items links.items bound }
@@ -78,8 +78,8 @@ impl Hierarchy {
         Hierarchy::with_index(Version::One, ranks, links, bound, index, halves)
     }
 
-    /// The hierarchy of these ranks, links and bound, as [`Hierarchy::new`] makes it, where they are well made, and else
-    /// why they aren't. They may be any.
+    /// Returns the hierarchy of these ranks, links and bound, as [`Hierarchy::new`] makes it, where they are well
+    /// made, and else why they aren't. They may be any.
     ///
     /// It is refused only where it isn't well made or memory runs out. Takes a byte a node while it runs. It looks at
     /// each rank and each link once, and looks for the halves of each link among all. All are dropped where they are
@@ -104,7 +104,7 @@ impl Hierarchy {
         Ok(Hierarchy::new(ranks, links, bound))
     }
 
-    /// The same of version 1, as [`Hierarchy::new_v1`] makes it.
+    /// Returns the same of version 1, as [`Hierarchy::new_v1`] makes it.
     pub fn checked_v1(
         alloc: Global,
         ranks: Vec<u32>,
@@ -125,8 +125,8 @@ impl Hierarchy {
         Ok(Hierarchy::new_v1(ranks, links, bound))
     }
 
-    /// The same hierarchy, with an index, so that a link is looked for among those that leave its first node, and with the
-    /// places of the halves of links.
+    /// Returns the same hierarchy, with an index, so that a link is looked for among those that leave its first node,
+    /// and with the places of the halves of links.
     ///
     /// Takes 8 bytes a node and 8 a link. It looks at each link once, and looks for the halves of each. It fails only where
     /// memory runs out, and the hierarchy is dropped then.
@@ -138,7 +138,8 @@ impl Hierarchy {
         Ok(self)
     }
 
-    /// The hierarchy of this version, with this index of its links and these places of their halves. Takes no memory.
+    /// Returns the hierarchy of this version, with this index of its links and these places of their halves. Takes no
+    /// memory.
     pub fn with_index(
         version: Version,
         ranks: Vec<u32>,
@@ -162,14 +163,14 @@ impl Hierarchy {
         }
     }
 
-    /// The version of the file that it is of: 1 or 2. Costs of version 1 count no arcs.
+    /// Returns the version of the file that it is of: 1 or 2. Costs of version 1 count no arcs.
     pub fn version(&self) -> u8
         ensures { result ≡ version_number self.now.version }
     {
         self.version.number()
     }
 
-    /// How many nodes there are.
+    /// Returns the number of nodes.
     pub fn nodes(&self) -> u32
         ensures count { result ≡ length self.now.ranks }
         ensures made { IsWellMade self.now }
@@ -177,14 +178,14 @@ impl Hierarchy {
         self.ranks.len() as u32
     }
 
-    /// The greatest length of an answer: no longer walk is needed.
+    /// Returns the greatest length of an answer: no longer walk is needed.
     pub fn bound(&self) -> Cost
         ensures { result ≡ self.now.bound }
     {
         self.bound
     }
 
-    /// The rank of a node: how many nodes were contracted before it.
+    /// Returns the rank of a node: how many nodes were contracted before it.
     pub fn rank(&self, node: u32) -> u32
         requires { node < length self.now.ranks }
         ensures { result ≡ slice_index self.now.ranks node }
@@ -192,7 +193,7 @@ impl Hierarchy {
         self.ranks[node as usize]
     }
 
-    /// The links, by the node that they leave and then by the one that they come to; at most one for each pair.
+    /// Returns the links, by the node that they leave and then by the one that they come to; at most one for each pair.
     pub fn links(&self) -> &[Link]
         ensures links { result.now ≡ self.now.links }
         ensures made { IsWellMade self.now }
@@ -210,8 +211,8 @@ impl Hierarchy {
         self.index.find(self.links.as_slice(), from, to)
     }
 
-    /// What the link at a place represents: the places of its halves, or for an arc of the graph the node that it comes
-    /// to.
+    /// Returns what the link at a place represents: the places of its halves, or for an arc of the graph the node
+    /// that it comes to.
     ///
     /// Where the hierarchy keeps the places, it looks at one of these, and else it looks for both halves as
     /// [`Hierarchy::find`] does.
@@ -257,8 +258,8 @@ impl Hierarchy {
     }
 }
 
-/// The place of the link from one node to another among links in rising order of their ends, or `None` where there is
-/// no such link. It takes no memory, and looks at as many links as their number has binary digits.
+/// Returns the place of the link from one node to another among links in rising order of their ends, or `None` where
+/// there is no such link. It takes no memory, and looks at as many links as their number has binary digits.
 pub fn find_link(links: &[Link], from: u32, to: u32) -> Option<LinkId>
     requires { AllPairs ComesBefore links.now }
     ensures found { IfSome result (λ id. IsLinkAt links.now from to id.0) }

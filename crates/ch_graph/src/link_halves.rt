@@ -72,7 +72,7 @@ impl LinkHalves {
         Ok(())
     }
 
-    /// What is kept of the link at a place, if something is.
+    /// Returns what is kept of the link at a place, if something is.
     pub fn get(&self, id: LinkId) -> Option<KeptHalves>
         ensures { result ≡ slice_get self.now id.0 }
     {
@@ -81,7 +81,7 @@ impl LinkHalves {
 }
 
 impl KeptHalves {
-    /// What the link at this place represents, of which this is kept.
+    /// Returns what the link at this place represents, of which this is kept.
     pub fn parts(self, id: LinkId) -> Parts
         ensures { result ≡ parts_in id.0 self }
     {

@@ -36,7 +36,7 @@ struct Part {
 }
 
 impl LinkIndex {
-    /// The index that has no node, of any links: by it a link is looked for among all. Takes no memory.
+    /// Returns the index that has no node, of any links: by it a link is looked for among all. Takes no memory.
     pub fn none(alloc: Global) -> LinkIndex
         ensures { result ≡ [] }
     {
@@ -45,7 +45,7 @@ impl LinkIndex {
         }
     }
 
-    /// The index of these links, which are in rising order of their ends, for this many nodes.
+    /// Returns the index of these links, which are in rising order of their ends, for this many nodes.
     ///
     /// Looks at each link and each node once, and takes 8 bytes a node.
     pub fn new(alloc: Global, nodes: u32, links: &[Link]) -> Result<LinkIndex, AllocError>

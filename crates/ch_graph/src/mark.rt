@@ -29,7 +29,7 @@ impl<L: Copy> Clone for Mark<L> {
 impl<L: Copy> Copy for Mark<L> {}
 
 impl<L: Copy> Mark<L> {
-    /// The label, if there is one.
+    /// Returns the label, if there is one.
     pub fn label(self) -> Option<L>
         ensures { result ≡ label_in self }
     {

@@ -13,7 +13,8 @@ pub enum Better {
     Neither,
 }
 
-/// The better of two tops, the first of two equal ones. A heap with no top is never better than one that has one.
+/// Returns the better of two tops, the first of two equal ones. A heap with no top is never better than one that has
+/// one.
 pub fn better_of(first: Option<Item>, second: Option<Item>) -> Better
     ensures { IsBetter first second result }
 {

@@ -23,7 +23,7 @@ impl Model for Closed {
 }
 
 impl Closed {
-    /// What was left in the queue, in order.
+    /// Returns what was left in the queue, in order.
     pub fn into_left(self) -> Vec<Item>
         ensures { result.items ≡ self.left }
     {

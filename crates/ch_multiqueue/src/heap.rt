@@ -28,7 +28,7 @@ impl Model for Heap {
 }
 
 impl Heap {
-    /// A heap with no item. Takes no memory.
+    /// Returns a heap with no item. Takes no memory.
     pub fn new(alloc: Global) -> Heap
         ensures { result ≡ [] }
     {

@@ -39,7 +39,7 @@ impl Model for MultiQueue {
 }
 
 impl MultiQueue {
-    /// An empty queue of this many heaps, and its first pass, which has the number 0.
+    /// Returns an empty queue of this many heaps, and its first pass, which has the number 0.
     ///
     /// There are 1 to 256 heaps. Takes memory for the locks alone: a heap takes its own when items come.
     pub fn new(alloc: Global, heaps: u32, seed: u64) -> Result<(MultiQueue, Pass), AllocError>
@@ -60,7 +60,7 @@ impl MultiQueue {
         Ok((queue, Pass::new(alloc, seed, 0)))
     }
 
-    /// The next pass. Passes are numbered from 0, in the order that they are made.
+    /// Returns the next pass. Passes are numbered from 0, in the order that they are made.
     ///
     /// Fewer than 256 passes were made so far. Where memory runs out, the queue is unchanged; today no memory is
     /// taken.
@@ -75,7 +75,7 @@ impl MultiQueue {
         Ok(pass)
     }
 
-    /// How many heaps there are.
+    /// Returns the number of heaps.
     pub fn heaps(&self) -> usize
         ensures count { result ≡ self.now.heaps }
         ensures some { 0 < result }
@@ -140,7 +140,7 @@ impl MultiQueue {
         }
     }
 
-    /// The same as [`close`](MultiQueue::close), and returns which queue it was, too.
+    /// Does the same as [`close`](MultiQueue::close), and returns which queue it was, too.
     pub fn end(self, passes: Vec<Pass>) -> Result<Closed, (CloseError, MultiQueue, Vec<Pass>)>
         ensures closed { IfOk result (λ closed. closed.queue ≡ self) }
         ensures missing { IsErrAnd result (λ refused. refused.0 ≡ CloseError.PassMissing) ↔ IsLacking self.passes passes.items }

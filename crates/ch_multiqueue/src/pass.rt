@@ -52,14 +52,14 @@ impl Pass {
         self.number
     }
 
-    /// The items that were put through it, in the order of the calls.
+    /// Returns the items that were put through it, in the order of the calls.
     pub fn put(&self) -> &[Item]
         ensures { result.now ≡ self.now.put }
     {
         self.put.as_slice()
     }
 
-    /// The items that were taken through it, in the order of the calls.
+    /// Returns the items that were taken through it, in the order of the calls.
     pub fn taken(&self) -> &[Item]
         ensures { result.now ≡ self.now.taken }
     {

@@ -25,8 +25,8 @@ impl Model for Change {
 }
 
 impl Change {
-    /// The new rows, each with its node: first the row of the contracted node, and then those of its neighbours, by
-    /// rising number.
+    /// Returns the new rows, each with its node: first the row of the contracted node, and then those of its
+    /// neighbours, by rising number.
     pub fn rows(&self) -> &[(u32, Arc<Row>)]
         ensures { map (λ a. (a.0, arc_value a.1)) result.now ≡ self.now.rows }
     {

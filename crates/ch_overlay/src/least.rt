@@ -6,7 +6,7 @@ ghost use Rattle.ch_overlay.specs.Opening.{AreLeast, ComesNoLater, have_same_end
 use ch_graph::Road;
 use std::alloc::{AllocError, Global};
 
-/// The least arc of each pair of different nodes that has one, by its first node and then by its second.
+/// Returns the least arc of each pair of different nodes that has one, by its first node and then by its second.
 pub fn least_arcs(alloc: Global, arcs: &[Road]) -> Result<Vec<Road>, AllocError>
     ensures { IfOk result (λ least. AreLeast arcs.now least.items) }
 {

@@ -48,8 +48,8 @@ impl Model for Overlay {
 }
 
 impl Overlay {
-    /// The rows of a graph in which no node is contracted: for each ordered pair of different nodes that has an arc,
-    /// the least one. Node x has the version x.
+    /// Returns the rows of a graph in which no node is contracted: for each ordered pair of different nodes that has
+    /// an arc, the least one. Node x has the version x.
     ///
     /// Takes memory for the rows and, while it works, for a copy of the arcs, which it sorts.
     pub fn start(alloc: Global, graph: &Graph) -> Result<Overlay, AllocError>
@@ -71,7 +71,7 @@ impl Overlay {
         })
     }
 
-    /// How many nodes there are, contracted or not.
+    /// Returns the number of nodes, contracted or not.
     pub fn nodes(&self) -> u32
         ensures count { result ≡ length self.now.rows }
         ensures holds { IsOverlay self.now }
@@ -79,7 +79,7 @@ impl Overlay {
         self.rows.len() as u32
     }
 
-    /// How many nodes aren't contracted.
+    /// Returns the number of nodes that aren't contracted.
     pub fn alive(&self) -> u32
         ensures { result + length self.now.order ≡ length self.now.rows }
     {
@@ -93,14 +93,14 @@ impl Overlay {
         self.order.len() as u32
     }
 
-    /// What no cost of an entry is above: the bound of the graph.
+    /// Returns what no cost of an entry is above: the bound of the graph.
     pub fn bound(&self) -> Cost
         ensures { result ≡ self.now.bound }
     {
         self.bound
     }
 
-    /// The row of a node, which is in range.
+    /// Returns the row of a node, which is in range.
     pub fn row(&self, node: u32) -> &Arc<Row>
         requires { node < length self.now.rows }
         ensures { arc_value result.now ≡ row_at self.now.rows node }
@@ -108,7 +108,7 @@ impl Overlay {
         &self.rows[node as usize]
     }
 
-    /// The rows of all nodes, by their numbers.
+    /// Returns the rows of all nodes, by their numbers.
     pub fn rows(&self) -> &[Arc<Row>]
         ensures rows { map arc_value result.now ≡ self.now.rows }
         ensures sound { AreSoundRows self.now.bound self.now.rows }
@@ -116,7 +116,7 @@ impl Overlay {
         self.rows.as_slice()
     }
 
-    /// The version of a node's row. The node is in range.
+    /// Returns the version of a node's row. The node is in range.
     pub fn version(&self, node: u32) -> u64
         requires { node < length self.now.rows }
         ensures { result ≡ slice_index self.now.versions node }
@@ -132,7 +132,7 @@ impl Overlay {
         self.versions.as_mut_slice().copy_from_slice(versions);
     }
 
-    /// The new rows of a contraction of `node` that puts these shortcuts in. Nothing changes yet.
+    /// Returns the new rows of a contraction of `node` that puts these shortcuts in. Nothing changes yet.
     ///
     /// The node isn't contracted. Each shortcut is from a node with an arc to `node` to another one with an arc from
     /// it, at most one for each pair, and costs the sum of the two arcs, at most the bound and less than the arc of

@@ -37,7 +37,7 @@ impl PlacedEntries {
         Ok(PlacedEntries { placed, entries })
     }
 
-    /// The entries for the row of one node. Looks at few of the others.
+    /// Returns the entries for the row of one node. Looks at few of the others.
     pub fn at(&self, node: u32) -> &[Entry]
         requires { IsInOrder self.now.placed.items }
         ensures rises { Rises result.now }
@@ -50,7 +50,7 @@ impl PlacedEntries {
     }
 }
 
-/// The entries of shortcuts in the rows of the nodes that they leave. `middle` is the contracted node.
+/// Returns the entries of shortcuts in the rows of the nodes that they leave. `middle` is the contracted node.
 pub fn out_entries(
     alloc: Global,
     middle: Middle,
@@ -65,7 +65,7 @@ pub fn out_entries(
     Ok(placed)
 }
 
-/// The entries of shortcuts in the rows of the nodes that they come to.
+/// Returns the entries of shortcuts in the rows of the nodes that they come to.
 pub fn in_entries(
     alloc: Global,
     middle: Middle,

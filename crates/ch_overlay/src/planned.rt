@@ -10,7 +10,7 @@ use crate::row::Row;
 use std::alloc::{AllocError, Global};
 use std::sync::Arc;
 
-/// The row with its entries and this rank, to be shared.
+/// Returns the row with its entries and this rank, to be shared.
 pub fn ranked_row(alloc: Global, row: &Row, rank: u32) -> Result<Arc<Row>, AllocError>
     ensures { IfOk result (λ new. arc_value new ≡ record row.now { rank = Some rank }) }
 {

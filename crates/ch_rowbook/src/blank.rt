@@ -31,7 +31,7 @@ pub struct Blank {
 }
 
 impl Blank {
-    /// A blank for this many nodes and rows within this bound.
+    /// Returns a blank for this many nodes and rows within this bound.
     ///
     /// Takes memory for a word for each node, or one where there is none, and for the first places of the list. The
     /// list grows by every row that is laid, and never shrinks.

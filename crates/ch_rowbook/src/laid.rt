@@ -19,7 +19,7 @@ pub struct Laid<B: Book> {
 }
 
 impl<B: Book> Laid<B> {
-    /// The node of the row.
+    /// Returns the node of the row.
     pub fn node(&self) -> u32
         ensures node { result ≡ self.now.node }
         ensures within { result < B.book.nodes }
@@ -27,7 +27,7 @@ impl<B: Book> Laid<B> {
         self.node
     }
 
-    /// The version that the row has where it is shown: the place of its record. Takes no memory.
+    /// Returns the version that the row has where it is shown: the place of its record. Takes no memory.
     pub fn version(&self) -> u64
         ensures { result ≡ self.now.token.index }
     {

@@ -123,7 +123,7 @@ impl<B: Book> Pen<B> {
         Ok(version)
     }
 
-    /// The version of a node's current row. The node is in range.
+    /// Returns the version of a node's current row. The node is in range.
     pub fn version(&self, node: u32) -> u64
         requires { node < B.book.nodes }
         ensures { result ≡ slice_index self.now.versions node }
@@ -131,15 +131,15 @@ impl<B: Book> Pen<B> {
         self.current[node as usize].index() as u64
     }
 
-    /// The versions of all nodes' current rows, by the nodes' numbers. Takes memory for them.
+    /// Returns the versions of all nodes' current rows, by the nodes' numbers. Takes memory for them.
     pub fn versions(&self, alloc: Global) -> Result<Vec<u64>, AllocError>
         ensures { IfOk result (λ versions. versions.items ≡ self.now.versions) }
     {
         places_of(alloc, self.current.as_slice())
     }
 
-    /// The current row of a node, which is in range. The row is shared, so no memory is taken; refused where it can't
-    /// have one more owner.
+    /// Returns the current row of a node, which is in range. The row is shared, so no memory is taken; refused where
+    /// it can't have one more owner.
     pub fn see(&self, node: u32) -> Result<Seen, AllocError>
         requires { node < B.book.nodes }
         ensures node { IfOk result (λ s. s.node ≡ node) }

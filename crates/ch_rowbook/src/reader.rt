@@ -43,7 +43,7 @@ impl<B: Book> Reader<B> {
         Reader { shelf, seat }
     }
 
-    /// The current row of a node, as one load of its word finds it, and the token of its record.
+    /// Returns the current row of a node, as one load of its word finds it, and the token of its record.
     ///
     /// `Unseen` where the node is out of range. Its version isn't below the front there, and becomes the front there.
     /// A refusal leaves the front as it was. The row is shared, so no memory is taken; `OutOfMemory` where it can't have
@@ -67,7 +67,7 @@ impl<B: Book> Reader<B> {
         Ok(seen)
     }
 
-    /// The version of a node's current row, as one load of its word finds it. The node is in range.
+    /// Returns the version of a node's current row, as one load of its word finds it. The node is in range.
     ///
     /// It isn't below the front there, and becomes the front there. Takes no memory.
     pub fn glance(&mut self, node: u32) -> u64

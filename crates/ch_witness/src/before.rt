@@ -27,7 +27,7 @@ impl Before {
     /// The start has no step before it.
     pub const NONE: Before = Before { number: u32::MAX };
 
-    /// The step at a place below 2^32 - 1.
+    /// Returns the step at a place below 2^32 - 1.
     pub fn at(place: usize) -> Before
         requires { place < 2 ^ 32 - 1 }
         ensures { result ≡ Some place }

@@ -66,7 +66,7 @@ impl Frontier {
         Ok(())
     }
 
-    /// What is known of a node, or `None` where the search hasn't come to it.
+    /// Returns what is known of a node, or `None` where the search hasn't come to it.
     pub fn label(&self, node: u32) -> Option<Label>
         ensures { result ≡ labels_of self.now node }
     {

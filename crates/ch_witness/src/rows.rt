@@ -41,8 +41,8 @@ impl Rows {
         self.nodes.clear();
     }
 
-    /// The place of the answer for a node: of the one that is kept, or of what the source answers now, which is then
-    /// kept. [`Rows::at`] shows it.
+    /// Returns the place of the answer for a node: of the one that is kept, or of what the source answers now, which
+    /// is then kept. [`Rows::at`] shows it.
     ///
     /// `OutOfMemory` where memory runs out, `Unseen` where the source has no row of the node. What was kept
     /// before is kept on, and where there is no row the source is what it was.
@@ -61,7 +61,7 @@ impl Rows {
         Ok(self.put(node, found, seen)?)
     }
 
-    /// The answer at a place.
+    /// Returns the answer at a place.
     pub fn at(&self, place: usize) -> &Seen
         requires there { (seen : Seen) × StandsAt self.now place seen }
         ensures { StandsAt self.now place result.now }
@@ -78,8 +78,8 @@ impl Rows {
         Some(self.at(place))
     }
 
-    /// The answers that are kept for these nodes, in this order, each node's once and at its first place. Of those nodes
-    /// no answer is kept any more.
+    /// Returns the answers that are kept for these nodes, in this order, each node's once and at its first place. Of
+    /// those nodes no answer is kept any more.
     pub fn hand_out(&mut self, alloc: Global, nodes: &[u32]) -> Result<Vec<Seen>, AllocError>
         requires nodes { OfTheirNodes (kept_of self.old) }
         ensures { IfOk result (λ listed. AreListed (kept_of self.old) nodes.now listed.items) }

@@ -67,7 +67,7 @@ impl Searcher {
         }
     }
 
-    /// The ways of [`search`](crate::search), along rows that are kept from one search to the next.
+    /// Finds the ways of [`search`](crate::search), along rows that are kept from one search to the next.
     ///
     /// The source is asked for a row only where none is kept for the node, and what it answers is kept, also where the
     /// search fails. The rows of the steps are those that are kept, so that several searches may rest on the same

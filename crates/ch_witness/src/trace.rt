@@ -9,7 +9,7 @@ use crate::way::Way;
 use smallvec::SmallVec;
 use std::alloc::{AllocError, Global};
 
-/// The way to a node that the search has come to, by what is known of it.
+/// Returns the way to a node that the search has come to, by what is known of it.
 pub fn way_to(
     alloc: Global,
     rule: Rule,

@@ -29,7 +29,8 @@ pub struct Tree {
 const STEPS: usize = 32;
 
 impl Tree {
-    /// The tree of a whole search, which settles at most this many nodes. Forgets an earlier one, and uses its memory.
+    /// Returns the tree of a whole search, which settles at most this many nodes. Forgets an earlier one, and uses
+    /// its memory.
     pub fn new<S: RowSource>(
         earlier: Tree,
         source: &mut S,

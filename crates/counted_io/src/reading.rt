@@ -44,7 +44,7 @@ pub struct ReadCalls {
 }
 
 impl ReadCalls {
-    /// This many calls, but no more than 2^40.
+    /// Returns this many calls, but no more than 2^40.
     pub fn new(calls: u64) -> ReadCalls
         ensures { result.left ≡ min calls MOST_CALLS }
     {

@@ -50,7 +50,7 @@ pub struct WriteCalls {
 }
 
 impl WriteCalls {
-    /// This many calls, but no more than 2^40. Nothing is written yet.
+    /// Returns this many calls, but no more than 2^40. Nothing is written yet.
     pub fn new(calls: u64) -> WriteCalls
         ensures left { result.left ≡ min calls MOST_CALLS }
         ensures written { result.written ≡ 0 }
