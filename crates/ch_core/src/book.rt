@@ -28,7 +28,7 @@ impl Model for RowVersion {
     ghost view = { λ v. record { node = v.node; row = arc_value v.row } };
 }
 
-/// The book of the first versions: that of each node, at its number.
+/// Returns the book of the first versions: that of each node, at its number.
 ///
 /// Takes memory for an entry a node; the rows are shared.
 pub fn opening_book(alloc: Global, overlay: &Overlay) -> Result<Vec<RowVersion>, AllocError>
@@ -44,7 +44,7 @@ pub fn opening_book(alloc: Global, overlay: &Overlay) -> Result<Vec<RowVersion>,
     Ok(book)
 }
 
-/// The versions of these rows, each with its node, in their order.
+/// Returns the versions of these rows, each with its node, in their order.
 ///
 /// Takes memory for an entry a row; the rows are shared.
 pub fn versions_of(alloc: Global, rows: &[(u32, Arc<Row>)]) -> Result<Vec<RowVersion>, AllocError>

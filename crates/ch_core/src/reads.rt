@@ -34,8 +34,8 @@ impl Standing {
         self.version == version && self.row.is_same(row)
     }
 
-    /// The same, with the number of its node. The row is shared, so no memory is taken; refused where it can't have one
-    /// more owner.
+    /// Returns the same, with the number of its node. The row is shared, so no memory is taken; refused where it
+    /// can't have one more owner.
     pub fn seen(&self, node: u32) -> Result<Seen, AllocError>
         ensures node { IfOk result (λ s. s.node ≡ node) }
         ensures row { IfOk result (λ s. self.now ≡ record { version = s.version; row = arc_value s.row }) }
@@ -76,7 +76,7 @@ impl Reads {
         }
     }
 
-    /// What it has of a node.
+    /// Returns what it has of a node.
     pub fn get(&self, node: u32) -> Option<&Standing>
         ensures { option_copied result ≡ stands_at self.now node }
     {

@@ -9,7 +9,8 @@ use crate::world::World;
 use ch_graph::Graph;
 use std::alloc::{AllocError, Global};
 
-/// The world of this graph with this many workers after these events, one after the other, and the outcome of each.
+/// Returns the world of this graph with this many workers after these events, one after the other, and the outcome of
+/// each.
 ///
 /// Fails only where memory runs out. Its memory grows with the book and with what is read.
 pub fn run(

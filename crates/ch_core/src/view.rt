@@ -39,8 +39,8 @@ impl<'a> View<'a> {
         View { reads, bound }
     }
 
-    /// The row that the worker has of a node, with its version. `Unseen` where it has none, `OutOfMemory` where the row,
-    /// which is shared, can't have one more owner.
+    /// Returns the row that the worker has of a node, with its version. `Unseen` where it has none, `OutOfMemory`
+    /// where the row, which is shared, can't have one more owner.
     pub fn seen(&self, node: u32) -> Result<Seen, SeeError>
         ensures node { IfOk result (λ s. s.node ≡ node) }
         ensures stands { IfOk result (StandsIn self.now.view) }

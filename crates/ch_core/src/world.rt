@@ -52,8 +52,8 @@ impl Model for World {
 }
 
 impl World {
-    /// The world of this graph with this many workers: no node is contracted, node x has the version x, and no worker
-    /// has read a row.
+    /// Returns the world of this graph with this many workers: no node is contracted, node x has the version x, and
+    /// no worker has read a row.
     ///
     /// Takes memory for the rows, an entry for each end of an arc, for the book and for the workers.
     pub fn new(alloc: Global, graph: Graph, workers: u32) -> Result<World, AllocError>
@@ -71,21 +71,21 @@ impl World {
         })
     }
 
-    /// The graph that the world was made of.
+    /// Returns the graph that the world was made of.
     pub fn graph(&self) -> &Graph
         ensures { result.now ≡ self.now.ledger.graph }
     {
         self.ledger.graph()
     }
 
-    /// The rows of the nodes that are current, and their versions.
+    /// Returns the rows of the nodes that are current, and their versions.
     pub fn overlay(&self) -> &Overlay
         ensures { result.now ≡ self.now.ledger.overlay }
     {
         self.ledger.overlay()
     }
 
-    /// What was done so far, first to last: the entry of rank k is at k.
+    /// Returns what was done so far, first to last: the entry of rank k is at k.
     pub fn log(&self) -> &[Contraction]
         ensures entries { result.now ≡ self.now.ledger.log }
         ensures reached { IsReached self.now.ledger.graph self.now.ledger.log (state_of self.now.ledger.overlay) }
@@ -102,14 +102,14 @@ impl World {
         let _ = self.views.len();
     }
 
-    /// How many workers there are.
+    /// Returns the number of workers.
     pub fn workers(&self) -> u32
         ensures { result ≡ length self.now.views }
     {
         self.views.len() as u32
     }
 
-    /// What a worker, which is in range, has read, as a source of rows. Takes no memory.
+    /// Returns what a worker, which is in range, has read, as a source of rows. Takes no memory.
     pub fn view(&self, worker: u32) -> View<'_>
         requires { worker < length self.now.views }
         ensures view { result.view ≡ view_of self.now worker }

@@ -27,7 +27,7 @@ pub struct WayBack {
     pub seed: usize,
 }
 
-/// The way by which a side came to the node of a rank, which has a label.
+/// Returns the way by which a side came to the node of a rank, which has a label.
 pub fn descent(
     alloc: Global,
     hierarchy: &Hierarchy,

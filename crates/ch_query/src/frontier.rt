@@ -85,7 +85,7 @@ impl Frontier {
         self.marks[rank as usize].mark()
     }
 
-    /// The label of the node of a rank, if it has one.
+    /// Returns the label of the node of a rank, if it has one.
     pub fn label(&self, rank: u32) -> Option<Label>
         requires { rank < length self.now }
         ensures { result ≡ label_in (mark self.now rank) }
@@ -93,7 +93,7 @@ impl Frontier {
         self.mark(rank).label()
     }
 
-    /// What the label of the node of a rank costs, if it has one.
+    /// Returns what the label of the node of a rank costs, if it has one.
     pub fn cost(&self, rank: u32) -> Option<Cost>
         requires { rank < length self.now }
         ensures { result ≡ costs_of self.now rank }

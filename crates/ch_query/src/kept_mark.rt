@@ -35,7 +35,7 @@ impl KeptMark {
     ghost use Rattle.ch_query.specs.declared.label.Label.{Label};
     ghost use Rattle.ch_graph.specs.declared.mark.Mark.TheVariants.{Unseen, Open, Settled};
 
-    /// The mark of a node that isn't seen.
+    /// Returns the mark of a node that isn't seen.
     pub fn unseen() -> KeptMark
         ensures { mark_in result ≡ Unseen }
     {
@@ -68,7 +68,7 @@ impl KeptMark {
         }
     }
 
-    /// The mark itself.
+    /// Returns the mark itself.
     pub fn mark(self) -> Mark<Label>
         ensures { result ≡ mark_in self }
     {

@@ -29,7 +29,7 @@ impl Model for LinkNumbers {
 }
 
 impl LinkNumbers {
-    /// This many numbers, all of them 0, for a hierarchy that has this many links.
+    /// Returns this many numbers, all of them 0, for a hierarchy that has this many links.
     ///
     /// Takes 4 bytes each, or 8 where there are 2^32 links or more.
     pub fn with_room(alloc: Global, count: usize, links: usize) -> Result<LinkNumbers, AllocError>
@@ -48,7 +48,7 @@ impl LinkNumbers {
         })
     }
 
-    /// How many numbers there are.
+    /// Returns how many numbers there are.
     pub fn len(&self) -> usize
         ensures { result ≡ length self.now.items }
     {
@@ -58,7 +58,7 @@ impl LinkNumbers {
         }
     }
 
-    /// The number at an index.
+    /// Returns the number at an index.
     pub fn get(&self, index: usize) -> usize
         requires { index < length self.now.items }
         ensures { result ≡ slice_index self.now.items index }

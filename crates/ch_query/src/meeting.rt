@@ -14,7 +14,7 @@ pub struct Meeting {
     pub cost: Cost,
 }
 
-/// What a meeting costs, if there is one.
+/// Returns what a meeting costs, if there is one.
 pub fn cost_of(best: Option<Meeting>) -> Option<Cost>
     ensures { result ≡ cost_of best }
 {
@@ -24,8 +24,8 @@ pub fn cost_of(best: Option<Meeting>) -> Option<Cost>
     }
 }
 
-/// The best meeting so far, once the node of a rank is settled with a label of this cost: where the other side has a
-/// label there too, the sides may meet at less than before.
+/// Returns the best meeting so far, once the node of a rank is settled with a label of this cost: where the other
+/// side has a label there too, the sides may meet at less than before.
 pub fn look_at(
     rank: u32,
     cost: Cost,

@@ -76,7 +76,7 @@ impl<'a> Model for Search<'a> {
 }
 
 impl<'a> Search<'a> {
-    /// A search of a hierarchy. Looks at each node a fixed number of times and at each link twice.
+    /// Returns a search of a hierarchy. Looks at each node a fixed number of times and at each link twice.
     pub fn new(alloc: Global, hierarchy: &'a Hierarchy) -> Result<Search<'a>, AllocError>
         ensures { IfOk result (λ search. search ≡ hierarchy.now) }
     {
@@ -112,8 +112,8 @@ impl<'a> Search<'a> {
         })
     }
 
-    /// The least rise-fall walk from `source` to `target`: links that first rise in rank and then fall, of a length
-    /// within the hierarchy's bound. `None` where there is no such walk.
+    /// Returns the least rise-fall walk from `source` to `target`: links that first rise in rank and then fall, of a
+    /// length within the hierarchy's bound. `None` where there is no such walk.
     ///
     /// From a node to itself it is the walk of no link, at no cost. Both nodes are numbered from 0. A call costs what
     /// it touches: each side settles its nodes in the order of their lengths, by a heap, and stops where the next one
@@ -162,7 +162,7 @@ impl<'a> Search<'a> {
         Ok(Some(Found { cost, links }))
     }
 
-    /// What the walk of [`Search::distance`] costs, without the walk: `None` where there is none.
+    /// Returns what the walk of [`Search::distance`] costs, without the walk: `None` where there is none.
     ///
     /// It costs what `distance` costs but for the links, which aren't looked for.
     pub fn cost(&mut self, source: u32, target: u32) -> Result<Option<Cost>, AllocError>
@@ -185,8 +185,9 @@ impl<'a> Search<'a> {
         )
     }
 
-    /// The least rise-fall walk from one of the starts to one of the ends, by what start, walk and end cost together, and
-    /// the places of these two in their lists. `None` where no walk leads from a start to an end, as for an empty list.
+    /// Returns the least rise-fall walk from one of the starts to one of the ends, by what start, walk and end cost
+    /// together, and the places of these two in their lists. `None` where no walk leads from a start to an end, as
+    /// for an empty list.
     ///
     /// In a graph that the hierarchy is right for it is the least over all pairs of a start and an end of the distance
     /// from the one to the other with what both cost (`exact`), and the links are a least walk of their pair (`walk`). A
@@ -221,7 +222,8 @@ impl<'a> Search<'a> {
         )
     }
 
-    /// What start, walk and end of [`Search::between`] cost together, without the walk: `None` where there is none.
+    /// Returns what start, walk and end of [`Search::between`] cost together, without the walk: `None` where there is
+    /// none.
     pub fn cost_between(
         &mut self,
         starts: &[Seed],

@@ -13,7 +13,7 @@ pub enum Side {
 }
 
 impl Side {
-    /// The end where the side comes to a link.
+    /// Returns the end where the side comes to a link.
     pub fn foot(self, link: Link) -> u32
         ensures { result ≡ foot_of self link }
     {
@@ -23,7 +23,7 @@ impl Side {
         }
     }
 
-    /// The end where it leaves the link.
+    /// Returns the end where it leaves the link.
     pub fn head(self, link: Link) -> u32
         ensures { result ≡ head_of self link }
     {

@@ -19,8 +19,9 @@ use ch_cost::Cost;
 use ch_graph::Hierarchy;
 use std::alloc::AllocError;
 
-/// A turn of one side: it settles its first open node, looks whether the other side has a label there, and follows the
-/// links that climb from it. False where each open node is longer than the best meeting so far: the side has stopped.
+/// Takes a turn of one side: settles its first open node, looks whether the other side has a label there, and follows
+/// the links that climb from it. Returns false where each open node is longer than the best meeting so far: the side
+/// has stopped.
 pub fn turn(
     hierarchy: &Hierarchy,
     upward: &UpwardSteps,

@@ -83,7 +83,8 @@ impl UpwardSteps {
         self.steps[place] = step;
     }
 
-    /// The place in the hierarchy of the link that leads up from the node of one rank to that of another. There is one.
+    /// Returns the place in the hierarchy of the link that leads up from the node of one rank to that of another.
+    /// There is one.
     ///
     /// Takes time by the number of steps from the lower node.
     pub fn link_between(&self, hierarchy: &Hierarchy, side: Side, foot: u32, head: u32) -> usize
@@ -144,7 +145,7 @@ fn step_along(hierarchy: &Hierarchy, side: Side, at: usize) -> UpwardStep
     }
 }
 
-/// What the step at a place costs: the link itself is read only where its cost doesn't fit into the step.
+/// Returns what the step at a place costs: the link itself is read only where its cost doesn't fit into the step.
 pub fn step_cost(hierarchy: &Hierarchy, upward: &UpwardSteps, place: usize) -> Cost
     requires { IsOneStepAt hierarchy.now upward.now.links.items upward.now.steps.items place }
     ensures { result ≡ cost_at hierarchy.now (slice_index upward.now.links.items place) }

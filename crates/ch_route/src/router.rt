@@ -42,7 +42,7 @@ impl<'a> Model for Router<'a> {
 }
 
 impl<'a> Router<'a> {
-    /// A router of a hierarchy. Looks at each node a fixed number of times and at each link twice.
+    /// Returns a router of a hierarchy. Looks at each node a fixed number of times and at each link twice.
     pub fn new(alloc: Global, hierarchy: &'a Hierarchy) -> Result<Router<'a>, AllocError>
         ensures { IfOk result (λ router. router ≡ hierarchy.now) }
     {
@@ -68,7 +68,7 @@ impl<'a> Router<'a> {
         })
     }
 
-    /// How many nodes the hierarchy has.
+    /// Returns the number of nodes of the hierarchy.
     pub fn nodes(&self) -> u32
         ensures count { result ≡ length self.now.ranks }
         ensures made { IsWellMade self.now }
@@ -123,8 +123,8 @@ impl<'a> Router<'a> {
         Ok(length_of(cost))
     }
 
-    /// The least route from one of the starts to one of the ends, by what start, way and end cost together, or `None`
-    /// where there is no way from a start to an end.
+    /// Returns the least route from one of the starts to one of the ends, by what start, way and end cost together,
+    /// or `None` where there is no way from a start to an end.
     ///
     /// Where the hierarchy is right for a graph, its cost is the least over all pairs of a start and an end of the distance
     /// from the one to the other with what both cost, and the nodes are those of a least walk of the graph between the two
@@ -158,8 +158,8 @@ impl<'a> Router<'a> {
         self.least_between(starts, ends)
     }
 
-    /// The length of that route: the least over all pairs of a start and an end of the length of the start, of a walk
-    /// between them and of the end together, or `None` where no pair has a walk.
+    /// Returns the length of that route: the least over all pairs of a start and an end of the length of the start,
+    /// of a walk between them and of the end together, or `None` where no pair has a walk.
     ///
     /// Takes the time of [`Search::cost_between`], and memory for what the search keeps.
     pub fn length_between(

@@ -53,7 +53,7 @@ impl fmt::Display for Cause {
 }
 
 impl ServiceError {
-    /// What it comes of.
+    /// Returns what it comes of.
     pub fn cause(&self) -> Cause
         ensures { result ≡ cause_of self.now }
     {

@@ -17,7 +17,7 @@ use std::alloc::Global;
 use std::sync::Wait;
 use std::thread::Threads;
 
-/// The answers to the pairs of one text over the graph of another, by a hierarchy's file in memory.
+/// Returns the answers to the pairs of one text over the graph of another, by a hierarchy's file in memory.
 ///
 /// [`prepare`] writes the file from the text of the graph, and [`route`] reads it and answers the pairs: what a user does
 /// by two commands. The answers have one line for each pair, in order: the least length over all walks in the graph and

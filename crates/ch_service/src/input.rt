@@ -74,8 +74,8 @@ fn read_piece<R: Read>(
     }
 }
 
-/// What is refused of texts that were read from the bytes of one whole input. Bytes in memory have no failed read; if one were
-/// reported of them, it would be one of the input behind its last byte.
+/// Returns the refusal of texts that were read from the bytes of one whole input. Bytes in memory have no failed
+/// read; if one were reported of them, it would be one of the input behind its last byte.
 pub fn of_whole(text: &[u8], refusal: ServiceError) -> ServiceError
     ensures { result ≡ of_whole text.now refusal }
 {

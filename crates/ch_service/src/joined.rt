@@ -3,8 +3,8 @@ ghost use Rattle.ch_service.specs.Joined.{ended_lines, is_percent, graph_part, p
 
 use memchr::memchr;
 
-/// The texts before and behind the first line that is `%`: the graph's and the pairs'. Without such a line they are
-/// the whole input and nothing.
+/// Returns the texts before and behind the first line that is `%`: the graph's and the pairs'. Without such a line
+/// they are the whole input and nothing.
 pub fn parts(input: &[u8]) -> (&[u8], &[u8])
     ensures graph { result.0.now ≡ graph_part input.now }
     ensures pairs { result.1.now ≡ pairs_part input.now }

@@ -7,8 +7,8 @@ use ch_graph::{Hierarchy, LinkId, Parts, links_unfold};
 use smallvec::SmallVec;
 use std::alloc::{AllocError, Global};
 
-/// The nodes of the route from `source` along the links at these places: the source, and then the heads of the arcs
-/// that the links represent, in order.
+/// Returns the nodes of the route from `source` along the links at these places: the source, and then the heads of
+/// the arcs that the links represent, in order.
 ///
 /// The first link leaves `source`, and each other leaves the node where the one before it came to. `TooLong` where
 /// the arcs are not fewer than the nodes of the hierarchy, since then the route repeats a node.

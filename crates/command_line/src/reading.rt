@@ -8,7 +8,7 @@ use clap::{Arg, ArgAction, ArgMatches, Command, Error, value_parser};
 use jobs::{Call, Job, Order, Preparation, Stint, Stop, Workers};
 use std::alloc::{AllocError, Global};
 
-/// What the arguments of a command line ask for. The first one is the program's name.
+/// Returns what the arguments of a command line ask for. The first one is the program's name.
 ///
 /// Arguments that ask for help or the version, and arguments that are refused, stop with the text for the user. One name
 /// for both files of `prepare` is refused: the hierarchy would take the place of the graph.

@@ -32,7 +32,7 @@ impl<E: Drop> Heard<E> {
         }
     }
 
-    /// What was written.
+    /// Returns what was written.
     pub fn text(&self) -> &[u8] {
         self.text.as_slice()
     }

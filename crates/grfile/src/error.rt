@@ -52,7 +52,7 @@ impl GrErrorKind {
         GrError { kind: self, line }
     }
 
-    /// The variant's name.
+    /// Returns the variant's name.
     pub fn name(self) -> &'static str
         ensures { result.now ≡ kind_name self }
     {

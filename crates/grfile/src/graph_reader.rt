@@ -41,7 +41,7 @@ impl Model for GrReader {
 }
 
 impl GrReader {
-    /// A reader that has taken nothing. Takes no memory.
+    /// Returns a reader that has taken nothing. Takes no memory.
     pub fn new(alloc: Global) -> GrReader
         ensures told { (rest : List ℕ) → graph_with result rest ≡ graph_of rest }
         ensures begins { (result.line ≡ 0) × (result.failed ≡ None) }
@@ -65,7 +65,7 @@ impl GrReader {
         feed(&mut self.pieces, Roads, piece)
     }
 
-    /// The graph that the whole text spells, or the text's first fault.
+    /// Returns the graph that the whole text spells, or the text's first fault.
     pub fn finish(self) -> Result<Graph, GrError>
         ensures reading { IsReading (λ g. g) result (graph_with self []) }
         ensures refused { self.failed ≡ None → IfErr result (IsAtEndOf self.line) }

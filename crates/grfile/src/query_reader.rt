@@ -39,7 +39,7 @@ impl Model for QueryReader {
 }
 
 impl QueryReader {
-    /// A reader of pairs of this many nodes that has taken nothing. Takes no memory.
+    /// Returns a reader of pairs of this many nodes that has taken nothing. Takes no memory.
     pub fn new(alloc: Global, nodes: u32) -> QueryReader
         ensures told { (rest : List ℕ) → pairs_with result rest ≡ pairs_of nodes rest }
         ensures begins { (result.taken.line ≡ 0) × (result.taken.failed ≡ None) }
@@ -67,7 +67,7 @@ impl QueryReader {
         feed(&mut self.pieces, Pairs { nodes }, piece)
     }
 
-    /// The pairs that the whole text spells, in the order of their lines, or the text's first fault. Nodes are
+    /// Returns the pairs that the whole text spells, in the order of their lines, or the text's first fault. Nodes are
     /// numbered from 0.
     pub fn finish(self) -> Result<Vec<(u32, u32)>, GrError>
         ensures reading { IsReading (λ v. v.items) result (pairs_with self []) }

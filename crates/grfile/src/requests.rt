@@ -84,7 +84,7 @@ impl Model for RequestReader {
 }
 
 impl RequestReader {
-    /// A reader of requests about this many nodes that has taken nothing.
+    /// Returns a reader of requests about this many nodes that has taken nothing.
     pub fn new(nodes: u32) -> RequestReader
         ensures told { (text : List ℕ) → requests_with result text ≡ requests_of nodes text }
         ensures nodes { result.nodes ≡ nodes }

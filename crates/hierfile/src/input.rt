@@ -64,7 +64,7 @@ impl Input {
         Ok(Some(byte))
     }
 
-    /// The next number of four bytes.
+    /// Returns the next number of four bytes.
     pub fn word<R: StepRead>(&mut self, reader: &mut R) -> Result<u32, HierError>
         ensures reads { ReadsValue R.step R.remaining self.old self.new reader.old reader.new word (cut 4) result }
     {
@@ -74,7 +74,7 @@ impl Input {
         Ok(number)
     }
 
-    /// The next number of eight bytes.
+    /// Returns the next number of eight bytes.
     pub fn long<R: StepRead>(&mut self, reader: &mut R) -> Result<u64, HierError>
         ensures reads { ReadsValue R.step R.remaining self.old self.new reader.old reader.new long (cut 8) result }
     {

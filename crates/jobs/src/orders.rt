@@ -28,7 +28,7 @@ impl Order {
         Order::NAMES[self as usize]
     }
 
-    /// The order of this name, if there is one.
+    /// Returns the order of this name, if there is one.
     pub fn named(name: &str) -> Option<Order>
         ensures some { IfSome result (λ order. name_of order ≡ name.now) }
         ensures none { IfNone result ((order : Order) → name_of order ≢ name.now) }

@@ -25,8 +25,8 @@ pub struct Preparation<'a> {
 }
 
 impl Preparation<'_> {
-    /// The orders by which each worker goes, one after the other: the one that is asked for, and with stints then the
-    /// others.
+    /// Returns the orders that each worker uses, one after the other: the one that is asked for, and with stints then
+    /// the others.
     pub fn orders(&self) -> Orders
         ensures { result ≡ orders_of self.now.order self.now.stint }
     {
@@ -41,7 +41,8 @@ impl Preparation<'_> {
         }
     }
 
-    /// How many commits a worker makes by one order, where another is left: the longest stint, if none is asked for.
+    /// Returns the number of commits that a worker makes by one order, where another is left: the longest stint, if
+    /// none is asked for.
     pub fn stint(&self) -> Stint
         ensures { result.commits ≡ stint_of self.now.stint }
     {

@@ -12,7 +12,7 @@ impl Stint {
     /// The greatest number of commits.
     pub const MAX: u64 = 1_099_511_627_776;
 
-    /// This many commits, or `None` where that is none or more than the greatest number.
+    /// Returns this many commits, or `None` where that is none or more than the greatest number.
     pub fn new(commits: u64) -> Option<Stint>
         ensures commits { IfSome result (λ stint. stint.commits ≡ commits) }
         ensures outside { IfNone result ((commits ≡ 0) ⊎ (2 ^ 40 < commits)) }
@@ -24,14 +24,14 @@ impl Stint {
         }
     }
 
-    /// The longest.
+    /// Returns the longest stint.
     pub fn longest() -> Stint
         ensures { result.commits ≡ 2 ^ 40 }
     {
         Stint { commits: Self::MAX }
     }
 
-    /// How many commits they are.
+    /// Returns the number of commits.
     pub fn commits(self) -> u64
         ensures commits { result ≡ self.commits }
         ensures some { 0 < result }

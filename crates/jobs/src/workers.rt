@@ -11,7 +11,7 @@ impl Workers {
     /// The greatest number.
     pub const MAX: u32 = 64;
 
-    /// This many, or `None` where that is more than the greatest number.
+    /// Returns this many workers, or `None` where that is more than the greatest number.
     pub fn new(count: u32) -> Option<Workers>
         ensures count { IfSome result (λ workers. workers.count ≡ count) }
         ensures few { IfNone result (64 < count) }
@@ -23,14 +23,14 @@ impl Workers {
         }
     }
 
-    /// None: the calling thread does the work.
+    /// Returns no workers: the calling thread does the work.
     pub fn none() -> Workers
         ensures { result.count ≡ 0 }
     {
         Workers { count: 0 }
     }
 
-    /// How many they are.
+    /// Returns the number of workers.
     pub fn count(self) -> u32
         ensures count { result ≡ self.count }
         ensures few { result ≤ 64 }

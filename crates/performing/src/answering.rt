@@ -34,7 +34,8 @@ pub fn perform_answer<A: Read, B: Read, W: Write, E: Write, R: Threads + Wait + 
     status_after(answer_alone(rt, alloc, graph, queries, out), err)
 }
 
-/// The same where one input has both texts: the graph's, a line that is the single byte `%`, and that of the pairs.
+/// Does the same where one input has both texts: the graph's, a line that is the single byte `%`, and that of the
+/// pairs.
 pub fn perform_joined<I: Read, W: Write, E: Write, R: Threads + Wait + Sync>(
     rt: &R,
     alloc: Global,

@@ -6,8 +6,8 @@ use ch_estimate::{Lease, Leases};
 use jobs::Order;
 use std::alloc::{AllocError, Global};
 
-/// This many lists, each of one thing for each of the orders, as they follow each other, that is made for a lease of its
-/// own.
+/// Returns this many lists, each of one thing for each of the orders, as they follow each other, that is made for a
+/// lease of its own.
 pub fn a_list_each<T: Drop, F: Fn(Order, Lease) -> Result<T, AllocError>>(
     alloc: Global,
     leases: &mut Leases,

@@ -5,7 +5,7 @@ ghost use Rattle.performing.specs.Status.{status_after, status_of};
 use ch_service::{Cause, ServiceError};
 use std::io::Write;
 
-/// The status after a call, whose refusal is reported in a line.
+/// Returns the status after a call, whose refusal is reported in a line.
 pub fn status_after<E: Write>(ended: Result<(), ServiceError>, err: &mut E) -> u8
     ensures status { result ≡ status_after ended }
     ensures quiet { result ≡ 0 → err.new ≡ err.old }

@@ -25,7 +25,7 @@ pub struct Meter<'a, R> {
 }
 
 impl<'a, R: Clock> Meter<'a, R> {
-    /// A meter that begins now. Fails where the clock does.
+    /// Returns a meter that begins now. Fails where the clock does.
     pub fn new(clock: &'a R, err: Stderr) -> io::Result<Meter<'a, R>> {
         Ok(Meter {
             clock,
@@ -43,17 +43,17 @@ impl<'a, R: Clock> Meter<'a, R> {
         self.nodes.store(nodes, Ordering::SeqCst);
     }
 
-    /// The number of nodes that it received, or 0.
+    /// Returns the number of nodes that it received, or 0.
     pub fn announced(&self) -> u64 {
         self.nodes.load(Ordering::SeqCst)
     }
 
-    /// How many commits it has seen.
+    /// Returns the number of commits that it has seen.
     pub fn done(&self) -> u64 {
         self.commits.load(Ordering::SeqCst)
     }
 
-    /// How many milliseconds have passed since it began, or 0 where the clock fails.
+    /// Returns how many milliseconds have passed since it began, or 0 where the clock fails.
     pub fn millis(&self) -> u64 {
         let Ok(elapsed) = self.begun.elapsed(self.clock) else {
             return 0;

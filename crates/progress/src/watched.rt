@@ -51,7 +51,7 @@ fn in_problem(number: u64, byte: u8) -> Place {
 }
 
 impl<'a, G: Read, R: Clock> Watched<'a, G, R> {
-    /// The reader of a graph's text, which this meter watches.
+    /// Returns the reader of a graph's text, which this meter watches.
     pub fn new(graph: G, meter: &'a Meter<'a, R>) -> Watched<'a, G, R> {
         Watched {
             graph,

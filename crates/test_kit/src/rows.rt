@@ -16,7 +16,7 @@ pub type Given = (u32, (u64, u32));
 /// Entries of a row.
 pub type Entries<'a> = &'a [Given];
 
-/// The bound of every book here: that of the largest graph.
+/// Returns the bound of every book here: that of the largest graph.
 pub fn bound() -> Cost
     ensures { IsBound result }
 {
@@ -28,7 +28,7 @@ fn cost_of(length: u64, arcs: u32) -> NarrowCost {
     NarrowCost::of(Cost::of_walk(length, u64::from(arcs)))
 }
 
-/// The entry of an arc, without a middle.
+/// Returns the entry of an arc, without a middle.
 pub fn entry((other, (length, arcs)): Given) -> Entry {
     Entry {
         other,
@@ -45,7 +45,7 @@ fn entries(alloc: Global, all: Entries<'_>) -> Result<Vec<Entry>, AllocError> {
     Ok(list)
 }
 
-/// A row of these entries.
+/// Returns a row of these entries.
 pub fn row(alloc: Global, out: Entries<'_>, inn: Entries<'_>) -> Result<Arc<Row>, AllocError> {
     let row = Row {
         out: entries(alloc, out)?,

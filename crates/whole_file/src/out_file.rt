@@ -19,7 +19,7 @@ pub struct OutFile<'a, R: Files> {
 }
 
 impl<'a, R: Files> OutFile<'a, R> {
-    /// The destination at this path. Nothing is looked at or made yet.
+    /// Returns the destination at this path. Nothing is looked at or made yet.
     pub fn new(files: &'a R, path: &'a str) -> OutFile<'a, R> {
         OutFile {
             files,
