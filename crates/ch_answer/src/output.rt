@@ -32,7 +32,7 @@ impl Lines {
         }
     }
 
-    /// Passes the lines to the writer where there are many of them.
+    /// Hands the lines to the writer where there are many of them.
     pub fn hand_over_if_many<W: Write>(&mut self, out: &mut W) -> Result<(), WriteFault>
         ensures ok { OnOk result (HandsOn (W.contents out.old) (W.contents out.new) self.old.lines.items self.new.lines.items self.old.calls.written self.new.calls.written) }
         ensures few { OnOk result (length self.new.lines.items < 2 ^ 16) }
@@ -44,7 +44,7 @@ impl Lines {
         self.hand_over(out)
     }
 
-    /// Passes all lines to the writer. Their memory is kept for the next lines, or freed where they had more than 1 MiB.
+    /// Hands all lines to the writer. Their memory is kept for the next lines, or given back where they had more than 1 MiB.
     pub fn hand_over<W: Write>(&mut self, out: &mut W) -> Result<(), WriteFault>
         ensures ok { OnOk result (HandsOn (W.contents out.old) (W.contents out.new) self.old.lines.items self.new.lines.items self.old.calls.written self.new.calls.written) }
         ensures all { OnOk result (self.new.lines.items ≡ []) }

@@ -41,8 +41,8 @@ pub struct Draft {
 }
 
 impl Draft {
-    /// Returns a draft that rests on the row of the node, and has worked out no pair. It lists nodes in the memory of
-    /// an earlier list.
+    /// A draft that rests on the row of the node, and has worked out no pair. It lists nodes in the memory of an earlier
+    /// list.
     pub fn new(alloc: Global, earlier: Vec<u32>, node: u32) -> Result<Draft, AllocError>
         ensures listed { IfOk result (λ d. d.listed.items ≡ node ∷ []) }
         ensures shortcuts { IfOk result (λ d. d.shortcuts.items ≡ []) }

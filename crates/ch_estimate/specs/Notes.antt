@@ -1,4 +1,4 @@
--- What a log of contractions says of each node: its depth, and how many of its neighbours are gone.
+-- What a log of contractions tells of each node: its depth, and how many of its neighbours are gone.
 use Rattle.std.specs.Prelude.{ℕ, ◌+◌, max, Bool, cond, nat_eq, unwrap_or, List, [], ◌∷◌}
 use Rattle.std.specs.List.{list_any}
 use Rattle.std.specs.HashMap.{HashMap, get}

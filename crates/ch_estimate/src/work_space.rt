@@ -49,7 +49,7 @@ impl WorkSpace {
         }
     }
 
-    /// Returns what the entries say of a node. Takes the time of a look-up.
+    /// What the entries tell of a node. Takes the time of a look-up.
     pub fn note(&self, node: u32) -> Note
         ensures { result ≡ told.note_of self.now node }
     {

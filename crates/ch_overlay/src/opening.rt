@@ -11,7 +11,7 @@ use ch_laws::{Entry, Middle};
 use std::alloc::{AllocError, Global};
 use std::sync::Arc;
 
-/// Returns the rows of this many nodes with these arcs, in their order.
+/// The rows of so many nodes with these arcs, in their order.
 pub fn rows_of(alloc: Global, nodes: u32, arcs: &[Road]) -> Result<Vec<Row>, AllocError>
     requires from_in { All (λ r. r.from < nodes) arcs.now }
     requires to_in { All (λ r. r.to < nodes) arcs.now }
@@ -58,7 +58,7 @@ fn add_arc(rows: &mut [Row], arc: Road) -> Result<(), AllocError>
     Ok(())
 }
 
-/// Returns the same rows, to be shared, in no more memory than they need.
+/// The same rows, to be shared, in no more memory than they need.
 pub fn shared(alloc: Global, rows: Vec<Row>) -> Result<Vec<Arc<Row>>, AllocError>
     ensures { IfOk result (λ all. map arc_value all.items ≡ rows.items) }
 {

@@ -55,7 +55,7 @@ impl Row {
         Ok(())
     }
 
-    /// Frees the memory that its entries don't need.
+    /// Gives back the memory that its entries don't need.
     pub(crate) fn shrink(&mut self)
         ensures { self.new ≡ self.old }
     {

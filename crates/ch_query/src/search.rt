@@ -54,7 +54,7 @@ pub struct FoundBetween {
 /// It keeps for either side the steps over the links that it climbs, apart from them the places of those links, and
 /// a mark for each node, all by rank: about 56 bytes a node and 16 a link, or 64 and 20 where there are 2^32 links or
 /// more. The steps and places can be shared with other searches ([`Search::beside`]). The marks, queues and lists of one call are kept for the next, which takes back what the one before it touched.
-/// So after a call that ran out of memory it works as a new one.
+/// So after a call that ran out of memory it answers as a new one.
 #[derive(Drop)]
 pub struct Search<'a> {
     hierarchy: &'a Hierarchy,

@@ -8,7 +8,7 @@ use ch_answer::Lines;
 use counted_io::MOST_CALLS;
 use std::io::{ErrorKind, Write};
 
-/// Passes all lines to the writer, and flushes it.
+/// Hands all lines to the writer, and flushes it.
 pub(crate) fn send<W: Write>(output: &mut Lines, out: &mut W) -> Result<(), ServeError>
     ensures ok { OnOk result (HandsOn (W.contents out.old) (W.contents out.new) output.old.lines.items [] output.old.calls.written output.new.calls.written) }
     ensures all { OnOk result (output.new.lines.items ≡ []) }

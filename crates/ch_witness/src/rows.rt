@@ -78,8 +78,8 @@ impl Rows {
         Some(self.at(place))
     }
 
-    /// Returns the answers that are kept for these nodes, in this order, each node's once and at its first place. Of
-    /// those nodes no answer is kept any more.
+    /// The answers that are kept for these nodes, in this order, each node's once and at its first place. Of those nodes
+    /// no answer is kept any more.
     pub fn hand_out(&mut self, alloc: Global, nodes: &[u32]) -> Result<Vec<Seen>, AllocError>
         requires nodes { OfTheirNodes (kept_of self.old) }
         ensures { IfOk result (λ listed. AreListed (kept_of self.old) nodes.now listed.items) }

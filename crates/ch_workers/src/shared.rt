@@ -140,7 +140,7 @@ impl<S: Site> Shared<S> {
         Ok(log.len())
     }
 
-    /// Gives a listener each entry of the log that it hasn't received, in order, by a copy, which takes one hold of the
+    /// Tells a listener each entry of the log that it wasn't told, in order, by a copy, which takes one hold of the
     /// board's lock each. An entry that comes after the last of these holds waits for the next call.
     pub(crate) fn tell_all<E: Estimator, R: Wait>(
         &self,
