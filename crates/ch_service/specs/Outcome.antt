@@ -122,7 +122,7 @@ abbrev pub StopsWithin : List ℕ → GrError → Type 0
 StopsWithin text fault = (left : Option (List ℕ)) × StopsAtReached (Some text) left fault
 
 -- The same where both texts are in one input, which is read first. A read that fails is a fault of the graph's text,
--- whatever text it fails in, at the line of the input that was reached. Memory is refused at a line of the text's own.
+-- whatever text it fails in, at the line of the input that was reached. Memory runs out at a line of the text's own.
 abbrev pub StopsInJoined : Option (List ℕ) → Option (List ℕ) → ServiceError → Type 0
 StopsInJoined had left = IfTextFault (λ fault. (fault.kind ≡ Read → StopsAtReached had left fault) × (fault.kind ≢ Read → IfSome had (λ input. StopsWithin (graph_part input) fault)))
     (λ fault. (fault.kind ≢ Read) × IfSome had (λ input. StopsWithin (pairs_part input) fault))
