@@ -153,7 +153,8 @@ fn take_lines<'a, F: Form>(
     form: F,
     text: &'a [u8],
 ) -> Result<&'a [u8], GrError>
-    ensures takes { MatchResult result (λ last. (rest : List ℕ) → told_from (F.grammar form) progress.new (lines_after last.now rest) ≡ told_from (F.grammar form) progress.old (lines_after [] (text.now ++ rest))) (λ e. (rest : List ℕ) → FromText e.kind (told_from (F.grammar form) progress.old (lines_after [] (text.now ++ rest)) ≡ Err e)) }
+    ensures takes { MatchResult result (λ last. (rest : List ℕ) → told_from (F.grammar form) progress.new (lines_after last.now rest) ≡ told_from (F.grammar form) progress.old (lines_after [] (text.now ++ rest)))
+        (λ e. (rest : List ℕ) → FromText e.kind (told_from (F.grammar form) progress.old (lines_after [] (text.now ++ rest)) ≡ Err e)) }
     ensures lines { MatchResult result (λ _. capped progress.new.line ≡ capped (progress.old.line + line_feeds text.now)) (IsLineReached progress.old.line (progress.old.line + line_feeds text.now) progress.new.line) }
     ensures before { IfErr result (IsReadTo (F.grammar form) (λ rest. told_from (F.grammar form) progress.old (lines_after [] (text.now ++ rest)))) }
 {

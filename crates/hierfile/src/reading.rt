@@ -150,7 +150,8 @@ fn read_body<R: StepRead>(
     requires { size_fault head.nodes head.links head.bound ≡ None }
     ensures made { IfOk result IsWellMade }
     ensures sizes { IfOk result (λ hierarchy. IsBodyOf hierarchy version head.nodes head.links head.bound) }
-    ensures reads { Reads R.step R.remaining input.old input.new reader.old reader.new (λ hierarchy before _. IfSome before (λ bytes. bytes ≡ flat_map word hierarchy.ranks ++ flat_map (link_bytes version) hierarchy.links)) (Refuses (body_fault version head.nodes head.links head.bound) (HasNoneSoFar (body_fault version head.nodes head.links head.bound))) result }
+    ensures reads { Reads R.step R.remaining input.old input.new reader.old reader.new (λ hierarchy before _. IfSome before (λ bytes. bytes ≡ flat_map word hierarchy.ranks ++ flat_map (link_bytes version) hierarchy.links))
+        (Refuses (body_fault version head.nodes head.links head.bound) (HasNoneSoFar (body_fault version head.nodes head.links head.bound))) result }
 {
     let bound = bound_of(version, head);
     let ranks = read_ranks(alloc, input, reader, head.nodes)?;

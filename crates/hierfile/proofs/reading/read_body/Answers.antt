@@ -100,7 +100,8 @@ returns-in_err-read_end-clause-reads g c =
 
 pub with_index-requires : goal.with_index-requires
 with_index-requires g c = record {
-  made = well_made_of c.args.version c.args.head.nodes c.args.head.links c.args.head.bound c.in_ok-ranks.ranks.items c.as_slice.result.now c.in_ok-links.links.items c.as_slice-all.result.now c.bound_of-bound.result c.requires c.in_ok-ranks.ensures.count c.in_ok-ranks.ensures.faultless c.in_ok-links.ensures.count c.in_ok-links.ensures.faultless c.in_ok-halves.ensures.faultless c.as_slice.ensures.value c.as_slice-all.ensures.value c.bound_of-bound.ensures;
+  made = well_made_of c.args.version c.args.head.nodes c.args.head.links c.args.head.bound c.in_ok-ranks.ranks.items c.as_slice.result.now c.in_ok-links.links.items c.as_slice-all.result.now
+      c.bound_of-bound.result c.requires c.in_ok-ranks.ensures.count c.in_ok-ranks.ensures.faultless c.in_ok-links.ensures.count c.in_ok-links.ensures.faultless c.in_ok-halves.ensures.faultless c.as_slice.ensures.value c.as_slice-all.ensures.value c.bound_of-bound.ensures;
   index = subst (λ (ls : List Link). IsIndexOf ls c.in_ok-index.index) c.as_slice-all.ensures.value c.in_ok-index.ensures.index;
   halves = subst (λ (ls : List Link). AreHalvesOf ls c.in_ok-halves.halves) c.as_slice-all.ensures.value c.in_ok-halves.ensures.halves;
 }
@@ -112,7 +113,8 @@ returns-clause-sizes g c =
 pub returns-clause-made : goal.returns-clause-made
 returns-clause-made g c =
     subst IsWellMade (sym c.with_index.ensures)
-    (well_made_of c.args.version c.args.head.nodes c.args.head.links c.args.head.bound c.in_ok-ranks.ranks.items c.as_slice.result.now c.in_ok-links.links.items c.as_slice-all.result.now c.bound_of-bound.result c.requires c.in_ok-ranks.ensures.count c.in_ok-ranks.ensures.faultless c.in_ok-links.ensures.count c.in_ok-links.ensures.faultless c.in_ok-halves.ensures.faultless c.as_slice.ensures.value c.as_slice-all.ensures.value c.bound_of-bound.ensures)
+    (well_made_of c.args.version c.args.head.nodes c.args.head.links c.args.head.bound c.in_ok-ranks.ranks.items c.as_slice.result.now c.in_ok-links.links.items c.as_slice-all.result.now
+    c.bound_of-bound.result c.requires c.in_ok-ranks.ensures.count c.in_ok-ranks.ensures.faultless c.in_ok-links.ensures.count c.in_ok-links.ensures.faultless c.in_ok-halves.ensures.faultless c.as_slice.ensures.value c.as_slice-all.ensures.value c.bound_of-bound.ensures)
 
 pub returns-in_err-index-clause-reads : goal.returns-in_err-index-clause-reads
 returns-in_err-index-clause-reads g c =
