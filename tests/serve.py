@@ -3,8 +3,8 @@
 
     tests/serve.py [--requests N] [--rubbish MEGABYTES] [--long]
 
-A client asks and waits for each reply, asks all requests at once while it reads, closes early, and sends rubbish without a
-line feed; memory has to stay level. By default it asks 20,000 requests at once and sends 20 MB; with --long 1,000,000 and
+A client asks and waits for each reply, asks all requests at once while it reads, closes early, sends rubbish without a
+line feed, and asks for a way whose search comes to a million nodes; memory has to stay level. By default it asks 20,000 requests at once and sends 20 MB; with --long 1,000,000 and
 100 MB. It needs g++ and the proved program (README.md says how to build it), or the path in the environment variable
 ROUTECLI. The exit status is 1 at the first difference.
 """
@@ -18,7 +18,7 @@ import threading
 
 sys.path.insert(0, str(pathlib.Path(__file__).resolve().parent.parent))
 
-from common import counted
+from common import counted, hierarchy_file
 from common.program import PROGRAM, need_program
 
 # A row: 2 to 1 of weight 2, and 1 to 3 of weight 3.
@@ -42,6 +42,8 @@ WORKED = [
 ]
 
 KEPT_KB = 16384  # by how much memory may grow
+
+FAN = 1000000  # how many nodes a far search comes to, for which it takes 20 bytes each
 
 
 class Service:
@@ -159,6 +161,22 @@ def rubbish(hierarchy: pathlib.Path, megabytes: int) -> int:
     return 1
 
 
+def far(folder: pathlib.Path) -> int:
+    """Asks for the length of a way from a node that a million links leave: the search's memory is given back. Returns 2, for
+    two tests."""
+    links = [(0, node, 2, 1, hierarchy_file.NONE) for node in range(1, FAN - 1)] + [(0, FAN - 1, 1, 1, hierarchy_file.NONE)]
+    fan = folder / "fan.rch"
+    fan.write_bytes(hierarchy_file.spelled(range(FAN), links, 2 * (FAN - 1)))
+    service = Service(fan)
+    need(service.ask("d 2 3") == "n 2 3", "links lead where there are none")
+    before = service.kilobytes()
+    for _ in range(3):
+        need(service.ask(f"d 1 {FAN}") == f"d 1 {FAN} 1", "a far search finds another length")
+    grown = service.kilobytes() - before
+    need(grown < FAN * 20 // 2048 and service.end() == 0, f"a far search keeps {grown} kB")
+    return 2
+
+
 def many(folder: pathlib.Path, count: int) -> int:
     """Asks drawn pairs at once: the replies are those of `route`, and memory stays level. Returns 3, for three tests."""
     draw = random.Random(1)
@@ -190,6 +208,7 @@ def main() -> None:
         row = prepared(folder, "row", ROW, 0)
         passed = worked(row) + early(row)
         passed += rubbish(row, options.rubbish or (100 if options.long else 20))
+        passed += far(folder)
         passed += many(folder, options.requests or (1000000 if options.long else 20000))
     counted.end("tests/serve.py", passed, 0)
 

@@ -1,3 +1,4 @@
 pub mod Line
 pub mod File
 pub mod Written
+pub mod Sending

@@ -17,6 +17,9 @@ use std::cmp::Reverse;
 use std::collections::BinaryHeap;
 use std::marker::Model;
 
+/// How many entries a queue or a list of touched ranks has room for at most when it is kept for the next query.
+const KEPT: usize = 1 << 16;
+
 /// The marks of one side of a query, one for each rank, and which open node is the next to be settled.
 ///
 /// The marks are made once, and take 24 bytes a node: what a climb to a node is compared with is in one place. The
@@ -75,6 +78,19 @@ impl Frontier {
         'touched: while let Some(rank) = self.touched.pop() {
             self.marks[rank as usize] = KeptMark::unseen();
         }
+    }
+
+    /// Gives back the memory of the queue and of the list of touched ranks, where either has room for more than 65,536
+    /// entries, and then forgets what was seen. Takes no memory.
+    pub fn give_back(&mut self)
+        ensures { length self.new ≡ length self.old }
+    {
+        if (self.queue.capacity() <= KEPT) & (self.touched.capacity() <= KEPT) {
+            return;
+        }
+        self.clear();
+        self.queue.shrink_to_fit();
+        self.touched.shrink_to_fit();
     }
 
     /// The mark of the node of a rank.

@@ -53,8 +53,10 @@ pub struct FoundBetween {
 ///
 /// It keeps for either side the steps over the links that it climbs, apart from them the places of those links, and
 /// a mark for each node, all by rank: about 56 bytes a node and 16 a link, or 64 and 20 where there are 2^32 links or
-/// more. The steps and places can be shared with other searches ([`Search::beside`]). The marks, queues and lists of one call are kept for the next, which takes back what the one before it touched.
-/// So after a call that ran out of memory it answers as a new one.
+/// more. The steps and places can be shared with other searches ([`Search::beside`]). The marks of one call are kept for
+/// the next, which takes back what the one before it touched. So after a call that ran out of memory it answers as a new
+/// one. Either side's queue and its list of touched nodes are kept too; but where one of them has room for more than 65,536
+/// entries, both are given back when the call ends.
 #[derive(Drop)]
 pub struct Search<'a> {
     hierarchy: &'a Hierarchy,
@@ -117,7 +119,7 @@ impl<'a> Search<'a> {
     ///
     /// From a node to itself it is the walk of no link, at no cost. Both nodes are numbered from 0. A call costs what
     /// it touches: each side settles its nodes in the order of their lengths, by a heap, and stops where the next one
-    /// is longer than the best walk so far. Memory is taken by the number of nodes that a call comes to, and kept.
+    /// is longer than the best walk so far. Memory is taken by the number of nodes that a call comes to.
     ///
     /// This is a hierarchy of the graph that is drawn at [`Graph::least`](ch_graph::Graph::least), with the rank of each
     /// node in brackets. Node 4 was contracted before 1 and 3, so there is a shortcut between these, there and back, of
@@ -261,8 +263,32 @@ fn free(node: u32) -> Seed
     }
 }
 
-/// What the least walk from a start to an end costs with both, if one is no longer than the bound.
+/// What the least walk from a start to an end costs with both, if one is no longer than the bound. Gives
+/// back the memory of a far search.
 fn least_cost(
+    hierarchy: &Hierarchy,
+    starts: &[Seed],
+    ends: &[Seed],
+    bound: Cost,
+    layout: &Layout,
+    up: &mut Frontier,
+    down: &mut Frontier,
+) -> Result<Option<Cost>, AllocError>
+    requires ready { IsReady hierarchy.now layout.now up.old down.old }
+    requires starts { AreSeeds hierarchy.now starts.now }
+    requires ends { AreSeeds hierarchy.now ends.now }
+    requires bound { IsSummable bound }
+    ensures ready { IsReady hierarchy.now layout.now up.new down.new }
+    ensures value { IfOk result (IsValueBetween hierarchy.now starts.now ends.now bound) }
+{
+    let found = find_cost(hierarchy, starts, ends, bound, layout, up, down);
+    up.give_back();
+    down.give_back();
+    found
+}
+
+/// What it costs, by a search whose memory is kept.
+fn find_cost(
     hierarchy: &Hierarchy,
     starts: &[Seed],
     ends: &[Seed],
@@ -282,8 +308,33 @@ fn least_cost(
     Ok(cost_of(best))
 }
 
-/// The least walk from a start to an end, if one is no longer than the bound with both.
+/// The least walk from a start to an end, if one is no longer than the bound with both. Gives back the memory of a
+/// far search.
 fn least_walk(
+    hierarchy: &Hierarchy,
+    starts: &[Seed],
+    ends: &[Seed],
+    bound: Cost,
+    layout: &Layout,
+    up: &mut Frontier,
+    down: &mut Frontier,
+) -> Result<Option<FoundBetween>, AllocError>
+    requires ready { IsReady hierarchy.now layout.now up.old down.old }
+    requires starts { AreSeeds hierarchy.now starts.now }
+    requires ends { AreSeeds hierarchy.now ends.now }
+    requires bound { IsSummable bound }
+    ensures ready { IsReady hierarchy.now layout.now up.new down.new }
+    ensures value { IfOk result (λ found. IsValueBetween hierarchy.now starts.now ends.now bound (option_map (λ f. f.cost) found)) }
+    ensures walk { IfOk result (λ found. IfSome found (λ f. IsWalkBetween hierarchy.now starts.now ends.now f.start f.end f.links.items f.cost)) }
+{
+    let found = find_walk(hierarchy, starts, ends, bound, layout, up, down);
+    up.give_back();
+    down.give_back();
+    found
+}
+
+/// That walk, by a search whose memory is kept.
+fn find_walk(
     hierarchy: &Hierarchy,
     starts: &[Seed],
     ends: &[Seed],

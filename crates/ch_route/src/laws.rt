@@ -1,4 +1,5 @@
-ghost use Rattle.ch_route.specs.Laws.{LengthsAreLeast, LengthsAreLeastByWeight, LengthsBetweenAreLeast, NoneTooLong, NoneTooLongBetween, NoneTooLongBetweenByWeight, NoneTooLongByWeight, RoutesAreFewest, RoutesAreLeastByWeight, RoutesBetweenAreFewest, RoutesBetweenAreLeast, RoutesBetweenAreLeastByWeight};
+ghost use Rattle.ch_route.specs.Laws.{LengthsAreLeast, LengthsAreLeastByWeight, NoneTooLong, NoneTooLongByWeight, RoutesAreFewest, RoutesAreLeastByWeight};
+ghost use Rattle.ch_route.specs.Laws.{LengthsBetweenAreLeast, NoneTooLongBetween, NoneTooLongBetweenByWeight, RoutesBetweenAreFewest, RoutesBetweenAreLeast, RoutesBetweenAreLeastByWeight};
 
 use ch_laws::{
     least_route_is_a_least_walk, least_route_is_never_too_long, right_is_right_by_weight,

@@ -3,3 +3,4 @@ pub mod Handed
 pub mod Served
 pub mod ServedOver
 pub mod Fronts
+pub mod Called

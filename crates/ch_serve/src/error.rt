@@ -2,6 +2,7 @@ ghost use Rattle.std.specs.Prelude.{◌≡◌, Some};
 ghost use Rattle.ch_serve.specs.Serving.{shown};
 ghost use Rattle.ch_serve.specs.declared.error.ServeError.TheVariants.{Flush, Hierarchy, OutOfMemory, Read, Write};
 
+use ch_answer::FlushFault;
 use counted_io::{ReadFault, WriteFault};
 use hierfile::HierError;
 use std::alloc::{AllocError, AllocFailed};
@@ -22,10 +23,6 @@ pub enum ServeError {
     /// The writer has taken the replies to all lines that had ended, and couldn't be flushed.
     Flush,
 }
-
-/// The writer couldn't be flushed.
-#[derive(Clone, Copy)]
-pub(crate) struct FlushFault;
 
 impl fmt::Display for ServeError {
     ghost output = { λ e. Some (shown e) };

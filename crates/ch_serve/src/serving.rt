@@ -1,12 +1,17 @@
 ghost use Rattle.std.specs.Prelude.{◌≡◌, ◌<◌, ◌++◌, ℕ, List, [], false, take, length, OnOk, IfOk, IfErr, IfSome};
 ghost use Rattle.std.specs.Io.KnownBytes.{Consumes, IsAtEnd};
 ghost use Rattle.counted_io.specs.Handing.{HandsOn};
+ghost use Rattle.counted_io.specs.Limits.{IsRead, IsReadWithin, ReadsWithin};
+ghost use Rattle.counted_io.specs.declared.TheConstants.{MOST_CALLS};
 ghost use Rattle.ch_route.specs.Routes.{IsFewestWalk, IsLeastWalk};
 ghost use Rattle.ch_graph.specs.declared.version.Version.TheVariants.{One, Two};
 ghost use Rattle.ch_answer.specs.File.{PreparesIn};
+ghost use Rattle.ch_answer.specs.Sending.{IsSending, IsSentWithin};
 ghost use Rattle.ch_answer.specs.Written.{IfTold, Writes};
 ghost use Rattle.grfile.specs.Requests.{IsInRange, requests_of, requests_with};
 ghost use Rattle.grfile.specs.Taken.{line_feeds};
+ghost use Rattle.hierfile.specs.declared.error.HierError.TheVariants as faults;
+ghost use Rattle.ch_serve.specs.declared.error.ServeError.TheVariants as stop;
 ghost use Rattle.ch_serve.specs.Progress.{Breaks, BreaksAt, IsUnsent, Replies, RepliesOnce, RepliesTo, StopsReplying};
 ghost use Rattle.ch_serve.specs.Reply.{AreReplies, by_hierarchy, ready};
 ghost use Rattle.ch_serve.specs.Serving.{AreServed, IsFileFault, IsOwn, KeepsBefore, ServedFirst, Serves, ServesFirst, ServesOver, StopsServing};
@@ -16,13 +21,12 @@ use crate::laws::services_are_exact;
 use crate::line::push_ready;
 use crate::replying::push_reply;
 use crate::sending::send;
-use ch_answer::Lines;
+use ch_answer::{Lines, StepFlush};
 use ch_graph::Hierarchy;
 use ch_route::Router;
-use counted_io::{MOST_CALLS, ReadCalls, WriteFault};
+use counted_io::{MOST_CALLS, ReadCalls, StepRead, WriteFault};
 use grfile::{Request, RequestReader};
 use std::alloc::Global;
-use std::io::{Read, Write};
 
 /// How many bytes a reader is asked for in a call.
 const PIECE: usize = 1 << 16;
@@ -36,10 +40,10 @@ const PIECE: usize = 1 << 16;
 ///
 /// A request that is refused, be it for a fault of its line or for want of memory, gets a line that says so, and the
 /// service goes on. It ends with an error where the hierarchy is refused, where memory for it is refused, or where a reader
-/// or the writer fails; each of them is called 2^40 times at most. Takes memory for the hierarchy and once more for its
+/// or the writer fails; each of them is called 2^40 times at most, and the writer flushed 2^40 times at most. Takes memory for the hierarchy and once more for its
 /// links by their ends, for one query at a time, and for about 64 KiB of lines and one line more; of a request 4,097 bytes
 /// are kept at most.
-pub fn serve<H: Read, Q: Read, W: Write>(
+pub fn serve<H: StepRead, Q: StepRead, W: StepFlush>(
     alloc: Global,
     hier: &mut H,
     requests: &mut Q,
@@ -59,6 +63,13 @@ pub fn serve<H: Read, Q: Read, W: Write>(
     ensures fault { IfErr result (λ e. IfSome (H.remaining hier.old) (λ bytes. IsFileFault bytes e)) }
     ensures stops { IfErr result (λ e. IfSome (H.remaining hier.old)
         (λ bytes. StopsServing (λ count. ServesFirst count bytes) (Q.remaining requests.old) (Q.remaining requests.new) (W.contents out.old) (W.contents out.new) e)) }
+
+    // How often the readers and the writer were called, and which calls failed.
+    ensures file_calls { OnOk result (IsReadWithin H.step MOST_CALLS hier.old hier.new) }
+    ensures file_stopped { IfErr result (λ e. ReadsWithin H.step MOST_CALLS (e ≡ stop.Hierarchy faults.Read) hier.old hier.new) }
+    ensures calls { OnOk result (IsReadWithin Q.step MOST_CALLS requests.old requests.new) }
+    ensures stopped { IfErr result (λ e. ReadsWithin Q.step MOST_CALLS (e ≡ stop.Read) requests.old requests.new) }
+    ensures sends { IsSentWithin W.step W.flush_step MOST_CALLS out.old out.new }
 {
     services_are_exact();
     let hierarchy = hierfile::read(alloc, hier)?;
@@ -66,7 +77,7 @@ pub fn serve<H: Read, Q: Read, W: Write>(
 }
 
 /// Serves requests by a hierarchy in memory, as [`serve`] does by its file.
-pub fn serve_by<Q: Read, W: Write>(
+pub fn serve_by<Q: StepRead, W: StepFlush>(
     alloc: Global,
     hierarchy: &Hierarchy,
     requests: &mut Q,
@@ -76,6 +87,9 @@ pub fn serve_by<Q: Read, W: Write>(
         (λ text. Writes (AreServed (ready hierarchy.now) (by_hierarchy hierarchy.now) (requests_of (length hierarchy.now.ranks) text)) (W.contents out.old) (W.contents out.new))) }
     ensures stops { IfErr result (StopsServing (ServedFirst hierarchy.now) (Q.remaining requests.old) (Q.remaining requests.new) (W.contents out.old) (W.contents out.new)) }
     ensures own { IfErr result IsOwn }
+    ensures calls { OnOk result (IsReadWithin Q.step MOST_CALLS requests.old requests.new) }
+    ensures stopped { IfErr result (λ e. ReadsWithin Q.step MOST_CALLS (e ≡ stop.Read) requests.old requests.new) }
+    ensures sends { IsSentWithin W.step W.flush_step MOST_CALLS out.old out.new }
 {
     let mut router = Router::new(alloc, hierarchy)?;
     let mut output = Lines::new(alloc);
@@ -84,7 +98,7 @@ pub fn serve_by<Q: Read, W: Write>(
 }
 
 // Serves requests behind the lines that are gathered.
-fn serve_all<Q: Read, W: Write>(
+fn serve_all<Q: StepRead, W: StepFlush>(
     router: &mut Router<'_>,
     requests: &mut Q,
     output: &mut Lines,
@@ -96,6 +110,9 @@ fn serve_all<Q: Read, W: Write>(
     ensures err { IfErr result (StopsServing (λ count read. AreServed output.old.lines.items (by_hierarchy router.old) (take count (requests_of (length router.old.ranks) read)))
         (Q.remaining requests.old) (Q.remaining requests.new) (W.contents out.old) (W.contents out.new)) }
     ensures own { IfErr result IsOwn }
+    ensures calls { OnOk result (IsReadWithin Q.step MOST_CALLS requests.old requests.new) }
+    ensures stopped { IfErr result (λ e. ReadsWithin Q.step MOST_CALLS (e ≡ stop.Read) requests.old requests.new) }
+    ensures sends { IsSending W.step W.flush_step output.old output.new out.old out.new }
 {
     send(output, out)?;
     let mut reader = RequestReader::new(router.nodes());
@@ -104,7 +121,7 @@ fn serve_all<Q: Read, W: Write>(
 }
 
 // Replies to the request of the line that hasn't ended, where there is one, and sends the reply.
-fn reply_to_last<W: Write>(
+fn reply_to_last<W: StepFlush>(
     router: &mut Router<'_>,
     reader: &RequestReader,
     output: &mut Lines,
@@ -116,6 +133,7 @@ fn reply_to_last<W: Write>(
         × HandsOn (W.contents out.old) (W.contents out.new) text [] output.old.calls.written output.new.calls.written) }
     ensures err { IfErr result (λ e. (text : List ℕ) × AreReplies (by_hierarchy router.old) (requests_with reader.now []) text
         × IsUnsent (W.contents out.old) (W.contents out.new) text output.old.calls.written e) }
+    ensures sends { IsSending W.step W.flush_step output.old output.new out.old out.new }
 {
     let Some(request) = reader.last() else {
         return Ok(());
@@ -125,7 +143,7 @@ fn reply_to_last<W: Write>(
 }
 
 // Replies to one request. Where memory is refused for the reply, that is told in its place.
-fn reply<W: Write>(
+fn reply<W: StepFlush>(
     router: &mut Router<'_>,
     request: &Request,
     output: &mut Lines,
@@ -135,6 +153,7 @@ fn reply<W: Write>(
     ensures ok { OnOk result (RepliesOnce (by_hierarchy router.old) request.now (W.contents out.old) (W.contents out.new) output.old.lines.items output.new.lines.items output.old.calls.written output.new.calls.written) }
     ensures err { IfErr result (λ fault. BreaksAt (by_hierarchy router.old) request.now (W.contents out.old) (W.contents out.new) output.old.lines.items output.old.calls.written fault.written) }
     ensures kept { router.new ≡ router.old }
+    ensures sends { IsSending W.step W.flush_step output.old output.new out.old out.new }
 {
     let Err(_) = push_reply(router, request, &mut output.lines) else {
         return output.hand_over_if_many(out);
@@ -144,7 +163,7 @@ fn reply<W: Write>(
 }
 
 // Replies to the requests of all lines that end in a piece.
-fn reply_to_lines<W: Write>(
+fn reply_to_lines<W: StepFlush>(
     router: &mut Router<'_>,
     reader: &mut RequestReader,
     piece: &[u8],
@@ -158,6 +177,7 @@ fn reply_to_lines<W: Write>(
         (W.contents out.old) (W.contents out.new) output.old.lines.items output.old.calls.written fault.written) }
     ensures nodes { reader.new.nodes ≡ reader.old.nodes }
     ensures kept { router.new ≡ router.old }
+    ensures sends { IsSending W.step W.flush_step output.old output.new out.old out.new }
 {
     let mut rest = piece;
     'lines: while let Some(asked) = reader.next(rest) {
@@ -169,7 +189,7 @@ fn reply_to_lines<W: Write>(
 
 // Reads once, replies to the lines that end in what came, and sends all replies; whether anything came before the reader's
 // end.
-fn serve_piece<Q: Read, W: Write>(
+fn serve_piece<Q: StepRead, W: StepFlush>(
     calls: &mut ReadCalls,
     router: &mut Router<'_>,
     reader: &mut RequestReader,
@@ -191,6 +211,9 @@ fn serve_piece<Q: Read, W: Write>(
     ensures counted { OnOk result (calls.new.left < calls.old.left) }
     ensures nodes { reader.new.nodes ≡ reader.old.nodes }
     ensures kept { router.new ≡ router.old }
+    ensures calls { OnOk result (IsRead Q.step calls.old.left calls.new.left requests.old requests.new) }
+    ensures stopped { IfErr result (λ e. ReadsWithin Q.step calls.old.left (e ≡ stop.Read) requests.old requests.new) }
+    ensures sends { IsSending W.step W.flush_step output.old output.new out.old out.new }
 {
     let count = calls.read(requests, piece)?;
     if count == 0 {
@@ -202,7 +225,7 @@ fn serve_piece<Q: Read, W: Write>(
 }
 
 // Replies to the lines of all that the reader gives.
-fn serve_pieces<Q: Read, W: Write>(
+fn serve_pieces<Q: StepRead, W: StepFlush>(
     router: &mut Router<'_>,
     reader: &mut RequestReader,
     requests: &mut Q,
@@ -219,6 +242,9 @@ fn serve_pieces<Q: Read, W: Write>(
     ensures all { OnOk result (output.new.lines.items ≡ []) }
     ensures nodes { reader.new.nodes ≡ reader.old.nodes }
     ensures kept { router.new ≡ router.old }
+    ensures calls { OnOk result (IsReadWithin Q.step MOST_CALLS requests.old requests.new) }
+    ensures stopped { IfErr result (λ e. ReadsWithin Q.step MOST_CALLS (e ≡ stop.Read) requests.old requests.new) }
+    ensures sends { IsSending W.step W.flush_step output.old output.new out.old out.new }
 {
     let mut calls = ReadCalls::new(MOST_CALLS);
     let mut piece = [0u8; PIECE];

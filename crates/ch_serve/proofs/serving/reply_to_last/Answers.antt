@@ -1,6 +1,7 @@
 use Rattle.std.proofs.lemmas.Result.{err_from_is_err_and}
 use Rattle.ch_serve.specs.Reply.{by_hierarchy}
 use Rattle.ch_serve.proofs.Handed.{last_breaks, last_done, last_fails, no_last}
+use Rattle.ch_answer.specs.Sending.Laws.{sending_none, sending_then}
 use Rattle.ch_serve.proofs.serving.reply_to_last.Goals as goal
 
 pub returns-in_default-clause-ok : goal.returns-in_default-clause-ok
@@ -16,3 +17,9 @@ returns-clause-ok g c = last_done c.send.result (by_hierarchy c.args.router.now)
 
 pub returns-clause-err : goal.returns-clause-err
 returns-clause-err g c = last_fails c.send.result (by_hierarchy c.args.router.now) c.last.result c.in-Some.request _ _ _ _ _ _ _ _ c.in-Some.is c.last.ensures.asked c.requires.empty c.in_ok-reply.ensures.ok c.send.ensures.err
+
+pub returns-in_default-clause-sends : goal.returns-in_default-clause-sends
+returns-in_default-clause-sends g c = sending_none g.W.StepWrite.step g.W.StepFlush.flush_step _ _ _
+
+pub returns-clause-sends : goal.returns-clause-sends
+returns-clause-sends g c = sending_then g.W.StepWrite.step g.W.StepFlush.flush_step c.reply.ensures.sends c.send.ensures.sends

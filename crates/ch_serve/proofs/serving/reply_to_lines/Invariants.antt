@@ -3,6 +3,7 @@ use Rattle.grfile.specs.Requests.{requests_with}
 use Rattle.grfile.specs.Taken.{line_feeds}
 use Rattle.ch_serve.specs.Progress.{Replies}
 use Rattle.ch_serve.specs.Reply.{by_hierarchy}
+use Rattle.ch_answer.specs.Sending.{IsSending}
 use Rattle.ch_serve.proofs.serving.reply_to_lines.Given as goal
 
 abbrev pub invariant-lines : goal.invariant-lines
@@ -15,6 +16,7 @@ invariant-lines g l =
           × Replies (by_hierarchy l.fn.router) ended (λ (more : List ℕ). requests_with l.fn.reader (l.fn.piece ++ more))
           (λ (more : List ℕ). requests_with l.reader (l.rest ++ more)) (contents l.fn.out)
           (contents l.out) l.fn.output.lines.items l.output.lines.items l.fn.output.calls.written l.output.calls.written);
+      sends : IsSending g.W.StepWrite.step g.W.StepFlush.flush_step l.fn.output l.output l.fn.out l.out;
     }
 
 abbrev pub decreases-lines : goal.decreases-lines

@@ -3,6 +3,9 @@ use Rattle.std.proofs.lemmas.Result.{err_from_is_err_and}
 use Rattle.ch_serve.specs.Reply.{ready}
 use Rattle.ch_serve.proofs.Fronts.{by_front}
 use Rattle.ch_serve.proofs.Handed.{keeps_all}
+use Rattle.counted_io.specs.declared.TheConstants.{MOST_CALLS}
+use Rattle.ch_answer.specs.Sending.Laws.{sent_within}
+use Rattle.ch_serve.proofs.Called.{memory_no_read, unread, unsent}
 use Rattle.ch_serve.proofs.serving.serve_by.Goals as goal
 
 pub returns-in_err-push_ready-clause-stops : goal.returns-in_err-push_ready-clause-stops
@@ -13,3 +16,22 @@ returns-in_err-push_ready-clause-stops g c =
 pub returns-clause-serves : goal.returns-clause-serves
 returns-clause-serves g c =
     by_front c.serve_all.result (ready c.args.hierarchy.now) _ c.args.hierarchy.now _ _ _ _ _ (c.in_ok-push_ready.ensures.ok ∙ ap (λ (l : List ℕ). l ++ ready c.args.hierarchy.now) c.new-output.ensures.lines) c.in_ok-router.ensures c.serve_all.ensures.ok
+
+pub returns-in_err-router-clause-stopped : goal.returns-in_err-router-clause-stopped
+returns-in_err-router-clause-stopped g c =
+    let exit = err_from_is_err_and c.from_residual.result c.from_residual.ensures.1 in
+    rw (exit.1, exit.2) (unread g.Q.StepRead.step MOST_CALLS _ _ memory_no_read)
+
+pub returns-in_err-router-clause-sends : goal.returns-in_err-router-clause-sends
+returns-in_err-router-clause-sends g c = unsent g.W.StepWrite.step g.W.StepFlush.flush_step MOST_CALLS _
+
+pub returns-in_err-push_ready-clause-stopped : goal.returns-in_err-push_ready-clause-stopped
+returns-in_err-push_ready-clause-stopped g c =
+    let exit = err_from_is_err_and c.from_residual-in_err-push_ready.result c.from_residual-in_err-push_ready.ensures.1 in
+    rw (exit.1, exit.2) (unread g.Q.StepRead.step MOST_CALLS _ _ memory_no_read)
+
+pub returns-in_err-push_ready-clause-sends : goal.returns-in_err-push_ready-clause-sends
+returns-in_err-push_ready-clause-sends g c = unsent g.W.StepWrite.step g.W.StepFlush.flush_step MOST_CALLS _
+
+pub returns-clause-sends : goal.returns-clause-sends
+returns-clause-sends g c = sent_within g.W.StepWrite.step g.W.StepFlush.flush_step MOST_CALLS c.new-output.ensures.left c.new-output.ensures.flushes c.serve_all.ensures.sends

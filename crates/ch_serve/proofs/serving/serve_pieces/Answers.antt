@@ -1,8 +1,12 @@
-use Rattle.std.proofs.Common.{[], ◌∙◌, refl}
+use Rattle.std.proofs.Common.{ℕ, [], ◌∙◌, refl, subst, sym}
 use Rattle.std.proofs.lemmas.Result.{err_from_is_err_and}
 use Rattle.grfile.specs.Requests.{requests_with}
 use Rattle.ch_serve.specs.Reply.{by_hierarchy}
 use Rattle.ch_serve.proofs.Handed.{keeps_all, stops_step, to_none, to_step}
+use Rattle.counted_io.specs.Limits.{IsRead}
+use Rattle.counted_io.specs.declared.TheConstants.{MOST_CALLS}
+use Rattle.counted_io.specs.Limits.Laws.{read_none, read_then, reads_then}
+use Rattle.ch_answer.specs.Sending.Laws.{sending_none, sending_then}
 use Rattle.ch_serve.proofs.serving.serve_pieces.Goals as goal
 
 pub pieces-init : goal.pieces-init
@@ -11,6 +15,8 @@ pieces-init g c = record {
   nodes = refl;
   empty = c.requires.empty;
   replies = to_none (by_hierarchy c.args.router.now) _ _ (requests_with c.args.reader.now) _ [] _ (keeps_all (g.Q.Read.remaining c.args.requests.now));
+  reads = subst (λ (n : ℕ). IsRead g.Q.StepRead.step MOST_CALLS n c.args.requests.now c.args.requests.now) (sym c.new-calls.ensures) (read_none g.Q.StepRead.step MOST_CALLS c.args.requests.now);
+  sends = sending_none g.W.StepWrite.step g.W.StepFlush.flush_step _ _ _;
 }
 
 pub returns-in_err-serve_piece-clause-err : goal.returns-in_err-serve_piece-clause-err
@@ -27,9 +33,25 @@ pieces-preserved g c =
       nodes = c.in_ok-serve_piece.ensures.nodes ∙ kept.nodes;
       empty = c.in_ok-serve_piece.ensures.all;
       replies = to_step kept.same kept.replies c.in_ok-serve_piece.ensures.ok;
+      reads = read_then g.Q.StepRead.step kept.reads c.in_ok-serve_piece.ensures.calls;
+      sends = sending_then g.W.StepWrite.step g.W.StepFlush.flush_step kept.sends c.serve_piece.ensures.sends;
     }
 
 pub returns-clause-ok : goal.returns-clause-ok
 returns-clause-ok g c =
     let kept = c.pieces.invariant in
     to_step kept.same kept.replies c.in_ok-serve_piece.ensures.ok
+
+pub returns-in_err-serve_piece-clause-stopped : goal.returns-in_err-serve_piece-clause-stopped
+returns-in_err-serve_piece-clause-stopped g c =
+    let exit = err_from_is_err_and c.from_residual.result c.from_residual.ensures.1 in
+    rw (exit.1, exit.2) (reads_then g.Q.StepRead.step c.pieces.invariant.reads c.in_err-serve_piece.ensures.stopped)
+
+pub returns-in_err-serve_piece-clause-sends : goal.returns-in_err-serve_piece-clause-sends
+returns-in_err-serve_piece-clause-sends g c = sending_then g.W.StepWrite.step g.W.StepFlush.flush_step c.pieces.invariant.sends c.serve_piece.ensures.sends
+
+pub returns-clause-calls : goal.returns-clause-calls
+returns-clause-calls g c = (_, read_then g.Q.StepRead.step c.pieces.invariant.reads c.in_ok-serve_piece.ensures.calls)
+
+pub returns-clause-sends : goal.returns-clause-sends
+returns-clause-sends g c = sending_then g.W.StepWrite.step g.W.StepFlush.flush_step c.pieces.invariant.sends c.serve_piece.ensures.sends

@@ -2,6 +2,9 @@ use Rattle.std.proofs.Common.{◌≡◌, []}
 use Rattle.grfile.specs.Requests.{requests_with}
 use Rattle.ch_serve.specs.Progress.{RepliesTo}
 use Rattle.ch_serve.specs.Reply.{by_hierarchy}
+use Rattle.counted_io.specs.Limits.{IsRead}
+use Rattle.counted_io.specs.declared.TheConstants.{MOST_CALLS}
+use Rattle.ch_answer.specs.Sending.{IsSending}
 use Rattle.ch_serve.proofs.serving.serve_pieces.Given as goal
 
 abbrev pub invariant-pieces : goal.invariant-pieces
@@ -13,6 +16,8 @@ invariant-pieces g l =
       nodes : l.reader.nodes ≡ l.fn.reader.nodes;
       empty : l.output.lines.items ≡ [];
       replies : RepliesTo (by_hierarchy l.fn.router) (remaining l.fn.requests) (remaining l.requests) (requests_with l.fn.reader) (requests_with l.reader) (contents l.fn.out) (contents l.out) [] [] l.fn.output.calls.written l.output.calls.written;
+      reads : IsRead g.Q.StepRead.step MOST_CALLS l.calls.left l.fn.requests l.requests;
+      sends : IsSending g.W.StepWrite.step g.W.StepFlush.flush_step l.fn.output l.output l.fn.out l.out;
     }
 
 abbrev pub decreases-pieces : goal.decreases-pieces

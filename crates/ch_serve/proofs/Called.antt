@@ -1,0 +1,69 @@
+-- How often the readers and the writer were called, and where a reader gave out.
+use Rattle.std.proofs.Common.{ℕ, ◌≡◌, List, Option, Result, Ok, Err, arith, subst}
+use Rattle.std.specs.Prelude.{⊤, IfErr, OnOk}
+use Rattle.std.specs.declared.io.Error.{Error}
+use Rattle.counted_io.specs.Limits.{IsRead, IsReadWithin, ReadsWithin}
+use Rattle.counted_io.specs.Limits.Laws.{read_none, refused_after}
+use Rattle.counted_io.specs.declared.writing.WriteFault.{WriteFault}
+use Rattle.grfile.specs.declared.requests.Request.{Request}
+use Rattle.hierfile.specs.declared.error.HierError.{HierError}
+use Rattle.hierfile.specs.declared.error.HierError.TheVariants as faults
+use Rattle.ch_answer.specs.Sending.{IsSentWithin, no_call}
+use Rattle.ch_serve.specs.declared.error.ServeError.{ServeError}
+use Rattle.ch_serve.specs.declared.error.ServeError.TheVariants as stops
+use Rattle.ch_serve.specs.Progress.{IsUnsent}
+use Rattle.ch_serve.specs.Reply.{Told}
+use Rattle.ch_serve.specs.Serving.{IsOwn}
+use Rattle.ch_serve.proofs.Served.{LastUnsent}
+
+-- Which refusals are no failed read
+
+pub write_no_read : (fault : WriteFault) → stops.Write fault ≡ stops.Read → ⊥
+write_no_read fault is = cc
+
+pub memory_no_read : stops.OutOfMemory ≡ stops.Read → ⊥
+memory_no_read is = cc
+
+pub file_no_read : (e : HierError) → stops.Hierarchy e ≡ stops.Read → ⊥
+file_no_read e is = cc
+
+pub unsent_no_read : (old new : Option (List ℕ)) (lines : List ℕ) (from : ℕ) (e : ServeError) → IsUnsent old new lines from e → e ≡ stops.Read → ⊥
+unsent_no_read old new lines from e unsent is = subst (λ (d : ServeError). IsUnsent old new lines from d) is unsent
+
+own_no_file : (e : ServeError) → IsOwn e → e ≡ stops.Hierarchy faults.Read → ⊥
+own_no_file e own is = subst (λ (d : ServeError). IsOwn d) is own
+
+same_file : (e : HierError) → e ≡ faults.Read → stops.Hierarchy e ≡ stops.Hierarchy faults.Read
+same_file e is = cc
+
+file_is : (e : HierError) → stops.Hierarchy e ≡ stops.Hierarchy faults.Read → e ≡ faults.Read
+file_is e is = cc
+
+module _ {S : Type 0} (step : S → S → Result ℕ Error → Type 0) (most : ℕ) where
+  -- no call of a reader
+  pub unread : (failed : Type 0) (a : S) → (failed → ⊥) → ReadsWithin step most failed a a
+  unread failed a no_failure = refused_after step (read_none step most a) no_failure
+
+  -- the file gave out exactly where its refusal says so
+  pub file_stops : (e : HierError) {a b : S} → ReadsWithin step most (e ≡ faults.Read) a b → ReadsWithin step most (stops.Hierarchy e ≡ stops.Hierarchy faults.Read) a b
+  file_stops e (ReadsWithin.gives_out so out) = ReadsWithin.gives_out (same_file e so) out
+  file_stops e (ReadsWithin.reads_on not_so all) = ReadsWithin.reads_on (λ is. not_so (file_is e is)) all
+
+  -- and where it was read, no refusal says so
+  pub file_read : (r : Result ⊤ ServeError) {a b : S} → IsReadWithin step most a b → IfErr r IsOwn → IfErr r (λ e. ReadsWithin step most (e ≡ stops.Hierarchy faults.Read) a b)
+  file_read (Ok x) reads own = tt
+  file_read (Err e) reads own = ReadsWithin.reads_on (own_no_file e own) reads
+
+  -- the requests were read, and the last reply couldn't be sent
+  pub last_read : (r : Result ⊤ ServeError) (told : Told) (asks : List Request) (old new : Option (List ℕ)) (from : ℕ) {a b : S} → IsReadWithin step most a b → LastUnsent r told asks old new from
+      → IfErr r (λ e. ReadsWithin step most (e ≡ stops.Read) a b)
+  last_read (Ok x) told asks old new from reads unsent = tt
+  last_read (Err e) told asks old new from reads unsent = ReadsWithin.reads_on (unsent_no_read old new unsent.0 from e unsent.2) reads
+
+pub always_ok : {E : Type 0} (r : Result ⊤ E) {P : Type 0} → P → OnOk r P
+always_ok (Err e) p = tt
+always_ok (Ok x) p = p
+
+-- no call of the writer
+pub unsent : {S : Type 0} (step : S → S → Result ℕ Error → Type 0) (flush : S → S → Result ⊤ Error → Type 0) (most : ℕ) (a : S) → IsSentWithin step flush most a a
+unsent step flush most a = (0, 0, omega arith, omega arith, no_call)
