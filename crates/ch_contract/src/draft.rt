@@ -41,19 +41,22 @@ pub struct Draft {
 }
 
 impl Draft {
-    /// A draft that rests on the row of the node, and has worked out no pair. It lists nodes in the memory of an earlier
-    /// list.
-    pub fn new(alloc: Global, earlier: Vec<u32>, node: u32) -> Result<Draft, AllocError>
+    /// A draft that rests on the row of the node, and has worked out no pair. Its lists are made in the memory of earlier
+    /// ones.
+    pub fn new(
+        earlier_listed: Vec<u32>,
+        earlier_shortcuts: Vec<Shortcut>,
+        node: u32,
+    ) -> Result<Draft, AllocError>
         ensures listed { IfOk result (λ d. d.listed.items ≡ node ∷ []) }
         ensures shortcuts { IfOk result (λ d. d.shortcuts.items ≡ []) }
     {
-        let mut listed = earlier;
+        let mut listed = earlier_listed;
         listed.clear();
         listed.push(node)?;
-        Ok(Draft {
-            listed,
-            shortcuts: Vec::new(alloc),
-        })
+        let mut shortcuts = earlier_shortcuts;
+        shortcuts.clear();
+        Ok(Draft { listed, shortcuts })
     }
 
     /// Puts in a shortcut for each pair to which no way leads that costs at most as much, and lists the inner

@@ -52,7 +52,8 @@ pub fn propose<S: RowSource>(
 
 /// Returns the proposal of [`propose`], worked out in memory that is used again.
 ///
-/// The conditions and the errors are those of [`propose`]. Nothing rests on what was worked out there before.
+/// The conditions and the errors are those of [`propose`]. Nothing rests on what was worked out there before. The lists of
+/// the proposal are made in the memory of the one that [`Scratch::keep`] took last.
 pub fn propose_with<S: RowSource>(
     alloc: Global,
     source: &mut S,
@@ -100,11 +101,13 @@ fn propose_in<S: RowSource>(
         return Err(ProposeError::Contracted);
     }
     let row = Arc::try_clone(&own.row)?;
-    let earlier = mem::replace(&mut desk.listed, Vec::new(alloc));
-    let mut draft = Draft::new(alloc, earlier, node)?;
+    let listed = mem::replace(&mut desk.listed, Vec::new(alloc));
+    let shortcuts = mem::replace(&mut desk.shortcuts, Vec::new(alloc));
+    let mut draft = Draft::new(listed, shortcuts, node)?;
     draft_all(alloc, source, desk, task, &row, &mut draft)?;
     let Draft { listed, shortcuts } = draft;
-    let rests_on = desk.searcher.rows.hand_out(alloc, &listed)?;
+    let earlier = mem::replace(&mut desk.rests_on, Vec::new(alloc));
+    let rests_on = desk.searcher.rows.hand_out(&listed, earlier)?;
     desk.listed = listed;
     Ok(Proposal {
         bound: task.bound,

@@ -1,4 +1,5 @@
-use ch_overlay::Shortcut;
+use crate::proposal::Proposal;
+use ch_overlay::{Seen, Shortcut};
 use ch_witness::{Aim, Searcher};
 use std::alloc::Global;
 use std::marker::Model;
@@ -23,6 +24,10 @@ pub(crate) struct Desk {
     pub(crate) pairs: NeighbourPairs,
     /// Memory for the nodes whose rows a proposal rests on.
     pub(crate) listed: Vec<u32>,
+    /// Memory for the rows that a proposal rests on. It has no items.
+    pub(crate) rests_on: Vec<Seen>,
+    /// Memory for the shortcuts of a proposal.
+    pub(crate) shortcuts: Vec<Shortcut>,
 }
 
 /// The pairs from one neighbour, and what a search for their ways is given.
@@ -48,7 +53,23 @@ impl Scratch {
                     aims: Vec::new(alloc),
                 },
                 listed: Vec::new(alloc),
+                rests_on: Vec::new(alloc),
+                shortcuts: Vec::new(alloc),
             },
         }
+    }
+
+    /// Takes ownership of a proposal that isn't needed any more. Its rows are dropped, and the memory of its lists is kept
+    /// for the next proposal, in place of what was kept of an earlier one. Takes no memory.
+    pub fn keep(&mut self, proposal: Proposal) {
+        let Proposal {
+            rests_on,
+            shortcuts,
+            ..
+        } = proposal;
+        let mut rests_on = rests_on;
+        rests_on.clear();
+        self.desk.rests_on = rests_on;
+        self.desk.shortcuts = shortcuts;
     }
 }

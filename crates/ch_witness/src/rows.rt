@@ -1,5 +1,6 @@
 ghost use Rattle.std.specs.Prelude.{◌≡◌, length};
 
+use crate::memory::emptied;
 use crate::node_index::NodeIndex;
 use ch_overlay::{RowSource, SeeError, Seen};
 use std::alloc::{AllocError, Global};
@@ -78,13 +79,13 @@ impl Rows {
         Some(self.at(place))
     }
 
-    /// The answers that are kept for these nodes, in this order, each node's once and at its first place. Of those nodes
-    /// no answer is kept any more.
-    pub fn hand_out(&mut self, alloc: Global, nodes: &[u32]) -> Result<Vec<Seen>, AllocError>
+    /// Moves out the answers that are kept for these nodes, in this order, each node's once and at its first place. Of
+    /// those nodes no answer is kept any more. The list is made in the memory of an earlier one, whose items are dropped.
+    pub fn hand_out(&mut self, nodes: &[u32], earlier: Vec<Seen>) -> Result<Vec<Seen>, AllocError>
         requires nodes { OfTheirNodes (kept_of self.old) }
         ensures { IfOk result (λ listed. AreListed (kept_of self.old) nodes.now listed.items) }
     {
-        let mut listed = Vec::with_capacity(alloc, nodes.len())?;
+        let mut listed = emptied(earlier, nodes.len())?;
         'nodes: for node in nodes {
             self.list(*node, &mut listed)?;
         }

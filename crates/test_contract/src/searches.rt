@@ -142,7 +142,7 @@ fn one_search(rt: HostRuntime) -> Result<(), Fail> {
 fn hands_out(alloc: Global, searcher: &mut Searcher) -> Result<bool, AllocError>
     requires { OfTheirNodes (kept_of searcher.old.rows) }
 {
-    let listed = searcher.rows.hand_out(alloc, &[1, 2, 3, 1])?;
+    let listed = searcher.rows.hand_out(&[1, 2, 3, 1], Vec::new(alloc))?;
     Ok(are_of(&listed, &[1, 2]))
 }
 

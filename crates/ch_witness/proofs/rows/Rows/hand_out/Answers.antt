@@ -6,7 +6,7 @@ use Rattle.ch_witness.proofs.Listing.{Listing, listing-start, listing-more}
 use Rattle.ch_witness.proofs.rows.Rows.hand_out.Goals as goal
 
 pub nodes-init : goal.nodes-init
-nodes-init c = subst (λ (ss : List Seen). Listing (kept_of c.args.self.now) (kept_of c.args.self.now) [] ss) (sym c.in_ok-listed.ensures.items) (listing-start (kept_of c.args.self.now))
+nodes-init c = subst (λ (ss : List Seen). Listing (kept_of c.args.self.now) (kept_of c.args.self.now) [] ss) (sym c.in_ok-listed.ensures) (listing-start (kept_of c.args.self.now))
 
 pub nodes-preserved : goal.nodes-preserved
 nodes-preserved c =
