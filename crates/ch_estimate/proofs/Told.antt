@@ -1,5 +1,6 @@
 -- The notes of a list of entries: one more entry, and a bound by their number.
-use Rattle.std.proofs.Common.{◌≡◌, ℕ, suc, ◌+◌, ◌≤◌, Bool, true, false, cond, List, [], ◌∷◌, ◌++◌, length, refl, ap, sym, ◌∙◌, arith}
+use Rattle.std.proofs.Common.{◌≡◌, ℕ, suc, ◌+◌, ◌≤◌, Bool, true, false, cond, List, [], ◌∷◌, ◌++◌, length, take, drop, refl, ap, sym, ◌∙◌, arith}
+use Rattle.std.proofs.lemmas.List.{take_all, drop_all, append-nil}
 use Rattle.ch_laws.specs.Contraction.{Contraction}
 use Rattle.ch_estimate.specs.Notes.{Note, no_note, raised, is_among, noted, noted_all, note_of}
 
@@ -51,3 +52,9 @@ taken_in entries e old neighbours depth were deep same x new is =
     ∙ ap (λ (d : ℕ). cond (is_among e.neighbours x) (raised d (old x)) (old x)) deep
     ∙ ap (λ (n : Note). cond (is_among e.neighbours x) (raised (note_of entries e.node).depth n) n) (were x)
     ∙ sym (note_more entries e x)
+
+-- as many notes, written over a whole list, are the list
+pub written : (notes before : List Note) (n : ℕ) → length notes ≡ length before → length before ≡ n → take n (notes ++ drop (length notes) before) ≡ notes
+written notes before n as_many whole =
+    ap (λ (l : List Note). take n (notes ++ l)) (drop_all (length notes) before (omega (arith, as_many)))
+    ∙ ap (take n) (append-nil notes) ∙ take_all n notes (omega (arith, as_many, whole))

@@ -1,7 +1,6 @@
 -- What a log of contractions tells of each node: its depth, and how many of its neighbours are gone.
-use Rattle.std.specs.Prelude.{ℕ, ◌+◌, max, Bool, cond, nat_eq, unwrap_or, List, [], ◌∷◌}
+use Rattle.std.specs.Prelude.{ℕ, ◌+◌, max, Bool, cond, nat_eq, get_or, List, [], ◌∷◌}
 use Rattle.std.specs.List.{list_any}
-use Rattle.std.specs.HashMap.{HashMap, get}
 use Rattle.ch_laws.specs.Contraction.{Contraction}
 pub use Rattle.ch_estimate.specs.declared.note.Note.{Note}
 
@@ -30,6 +29,6 @@ noted_all notes (e ∷ entries) = noted_all (noted notes e) entries
 abbrev pub note_of : List Contraction → ℕ → Note
 note_of entries = noted_all (λ _. no_note) entries
 
--- the note of a node by a map from nodes to notes, which leaves out nodes that were never named
-abbrev pub note_in : {S : Type 0} → HashMap ℕ Note S → ℕ → Note
-note_in notes x = unwrap_or (get nat_eq notes x) no_note
+-- the note of a node by a list of notes, which ends before nodes that were never named
+abbrev pub note_in : List Note → ℕ → Note
+note_in notes x = get_or notes x no_note

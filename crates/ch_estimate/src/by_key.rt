@@ -66,7 +66,7 @@ impl<K: Key> Estimator for ByKey<K> {
         K::of(facts, self.space.note(facts.node))
     }
 
-    /// Takes memory for a note of each neighbour.
+    /// Takes memory for the notes of all nodes up to the greatest that was named.
     fn told(&mut self, entry: &Contraction) -> Result<(), AllocError> {
         self.space.told(entry)
     }

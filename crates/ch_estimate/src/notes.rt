@@ -1,34 +1,50 @@
-ghost use Rattle.std.specs.Prelude.{◌≡◌, ℕ, ◌+◌, ◌<◌, ◌≤◌, ◌^◌, ◌-◌, cond, nat_eq, length, AllPairs};
-ghost use Rattle.std.specs.HashMap.{spare};
+ghost use Rattle.std.specs.Prelude.{◌≡◌, ℕ, ◌+◌, ◌<◌, ◌≤◌, ◌^◌, ◌-◌, cond, nat_eq, length, All, AllPairs, OnOk};
 ghost use Rattle.ch_estimate.specs.Notes.{note_in, raised, is_among};
 
 use crate::note::Note;
-use std::collections::HashMap;
+use std::alloc::AllocError;
 
-/// Notes of nodes, by node. A node that isn't there has no depth, and nobody gone.
-pub(crate) type Notes = HashMap<u32, Note>;
+/// The note of a node that was never named: it has no depth, and nobody is gone.
+const NO_NOTE: Note = Note { depth: 0, gone: 0 };
 
-/// The note of a node.
-pub(crate) fn note_of(notes: &Notes, node: u32) -> Note
+/// The note of a node. One past the end of the list was never named.
+pub(crate) fn note_of(notes: &[Note], node: u32) -> Note
     ensures { result ≡ note_in notes.now node }
 {
-    match notes.get(&node) {
+    match notes.get(node as usize) {
         Some(note) => *note,
-        None => Note { depth: 0, gone: 0 },
+        None => NO_NOTE,
     }
 }
 
-/// Notes that a node loses a neighbour of this depth. There is room for one more note.
-fn lose(notes: &mut Notes, node: u32, depth: u32)
-    requires room { 0 < spare notes.old }
+/// Extends the list, where it is shorter, by notes of nodes that were never named, so that these nodes, which rise, are in
+/// it. No note changes, also where memory for that is refused.
+pub(crate) fn make_room(notes: &mut Vec<Note>, nodes: &[u32]) -> Result<(), AllocError>
+    requires rising { AllPairs (λ x y. x < y) nodes.now }
+    ensures same { (x : ℕ) → note_in notes.new.items x ≡ note_in notes.old.items x }
+    ensures room { OnOk result (All (λ x. x < length notes.new.items) nodes.now) }
+{
+    let Some(last) = nodes.last() else {
+        return Ok(());
+    };
+    let count = *last as usize + 1;
+    if notes.len() < count {
+        notes.resize(count, NO_NOTE)?;
+    }
+    Ok(())
+}
+
+/// Notes that a node in the list loses a neighbour of this depth.
+fn lose(notes: &mut [Note], node: u32, depth: u32)
+    requires room { node < length notes.old }
     requires deep { depth < 2 ^ 32 - 1 }
     requires few { (note_in notes.old node).gone < 2 ^ 32 - 1 }
     ensures notes { (x : ℕ) → note_in notes.new x ≡ cond (nat_eq x node) (raised depth (note_in notes.old x)) (note_in notes.old x) }
-    ensures room { spare notes.old ≤ spare notes.new + 1 }
+    ensures room { length notes.new ≡ length notes.old }
 {
-    let note = note_of(notes, node);
+    let note = notes[node as usize];
     let lower = depth + 1;
-    let raised = Note {
+    notes[node as usize] = Note {
         depth: if note.depth < lower {
             lower
         } else {
@@ -36,16 +52,16 @@ fn lose(notes: &mut Notes, node: u32, depth: u32)
         },
         gone: note.gone + 1,
     };
-    let _ = notes.insert(node, raised);
 }
 
-/// Notes that these nodes, which rise, lose a neighbour of this depth. There is room for a note of each.
-pub(crate) fn lose_all(notes: &mut Notes, nodes: &[u32], depth: u32)
-    requires room { length nodes.now ≤ spare notes.old }
+/// Notes that these nodes, which rise and are in the list, lose a neighbour of this depth.
+pub(crate) fn lose_all(notes: &mut [Note], nodes: &[u32], depth: u32)
+    requires room { All (λ x. x < length notes.old) nodes.now }
     requires deep { depth < 2 ^ 32 - 1 }
     requires few { (x : ℕ) → (note_in notes.old x).gone < 2 ^ 32 - 1 }
     requires rising { AllPairs (λ x y. x < y) nodes.now }
-    ensures { (x : ℕ) → note_in notes.new x ≡ cond (is_among nodes.now x) (raised depth (note_in notes.old x)) (note_in notes.old x) }
+    ensures notes { (x : ℕ) → note_in notes.new x ≡ cond (is_among nodes.now x) (raised depth (note_in notes.old x)) (note_in notes.old x) }
+    ensures room { length notes.new ≡ length notes.old }
 {
     'nodes: for i in 0..nodes.len() {
         lose(notes, nodes[i], depth);

@@ -4,19 +4,18 @@ ghost use Rattle.ch_estimate.specs.Notes as told;
 use crate::heard::Heard;
 use crate::lease::Lease;
 use crate::note::Note;
-use crate::notes::{Notes, lose_all, note_of};
+use crate::notes::{lose_all, make_room, note_of};
 use ch_contract::Contraction;
 use std::alloc::{AllocError, Global};
-use std::collections::HashMap;
 use std::marker::Model;
 
-/// What an estimator keeps between two questions: the notes of the nodes that were named, and the lease under which
-/// it works.
+/// What an estimator keeps between two questions: the notes of the nodes, up to the greatest that was named, in a list by
+/// node, and the lease under which it works.
 ///
 /// It is seen as the entries that it received, which it doesn't keep.
 #[derive(Drop)]
 pub struct WorkSpace {
-    notes: Notes,
+    notes: Vec<Note>,
     heard: Heard,
     lease: Lease,
 }
@@ -34,7 +33,7 @@ impl Model for WorkSpace {
 
     ghost view = { λ w. w.heard.entries };
 
-    ghost invariant = { λ w. (x : ℕ) → note_in w.notes x ≡ note_of w.heard.entries x };
+    ghost invariant = { λ w. (x : ℕ) → note_in w.notes.items x ≡ note_of w.heard.entries x };
 }
 
 impl WorkSpace {
@@ -43,13 +42,13 @@ impl WorkSpace {
         ensures { result ≡ [] }
     {
         WorkSpace {
-            notes: HashMap::new(alloc),
+            notes: Vec::new(alloc),
             heard: Heard::new(),
             lease,
         }
     }
 
-    /// What the entries tell of a node. Takes the time of a look-up.
+    /// What the entries tell of a node. Takes constant time.
     pub fn note(&self, node: u32) -> Note
         ensures { result ≡ told.note_of self.now node }
     {
@@ -58,7 +57,8 @@ impl WorkSpace {
 
     /// Takes in the next entry of the log.
     ///
-    /// Takes memory for a note of each neighbour, and time for that. Refused where that memory is; it is then as it was.
+    /// Takes memory for the notes of all nodes up to the greatest that was named, 8 bytes each, and time for that and for
+    /// each neighbour. Refused where that memory is; it is then as it was.
     pub fn told(&mut self, entry: &Contraction) -> Result<(), AllocError>
         requires rank { entry.now.rank ≡ length self.old }
         requires few { entry.now.rank < 2 ^ 25 }
@@ -68,7 +68,7 @@ impl WorkSpace {
     {
         let depth = note_of(&self.notes, entry.node).depth;
         let neighbours = entry.neighbours.as_slice();
-        self.notes.reserve(neighbours.len())?;
+        make_room(&mut self.notes, neighbours)?;
         lose_all(&mut self.notes, neighbours, depth);
         self.heard = self.heard.and(entry);
         Ok(())
