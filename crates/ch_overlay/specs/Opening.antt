@@ -1,9 +1,9 @@
 -- The rows of a graph in which no node is contracted. Contracts of private functions alone cite it.
-use Rattle.std.specs.Prelude.{ℕ, ◌≡◌, ◌≢◌, ◌<◌, ◌≤◌, ◌⊎◌, ◌++◌, ◌&&◌, Bool, cond, nat_eq, List, [], ◌∷◌, None, map, filter, All, AllPairs, Contains}
+use Rattle.std.specs.Prelude.{ℕ, ◌≡◌, ◌≢◌, ◌+◌, ◌<◌, ◌≤◌, ◌⊎◌, ◌++◌, ◌&&◌, Bool, cond, nat_eq, List, [], ◌∷◌, None, length, map, filter, All, AllPairs, Contains}
 use Rattle.ch_cost.specs.Cost.{of_weight}
 use Rattle.ch_graph.specs.declared.road.Road.{Road}
 use Rattle.ch_laws.specs.declared.entry.Entry.{Entry}
-use Rattle.ch_laws.specs.Rows.{Row}
+use Rattle.ch_laws.specs.Rows.{Row, row_at}
 
 -- the entry of an arc in the row of the node that it leaves, and of the one that it comes to
 abbrev pub out_entry : Road → Entry
@@ -19,6 +19,11 @@ opening_row arcs x = record {
   inn = map in_entry (filter (λ r. nat_eq r.to x) arcs);
   rank = None;
 }
+
+-- the rows of these nodes from one on, so many
+pub record AreOpening (arcs : List Road) (from nodes : ℕ) (all : List Row) : Type 0 where
+  pub count : length all ≡ nodes
+  pub rows : (k : ℕ) → k < nodes → row_at all k ≡ opening_row arcs (from + k)
 
 -- the row of x with one more arc, where it is an end of it
 abbrev pub with_out : Road → ℕ → Row → Row

@@ -1,8 +1,8 @@
-ghost use Rattle.std.specs.Prelude.{◌≡◌, ◌<◌, ℕ, IfOk, All, length, map, replicate};
+ghost use Rattle.std.specs.Prelude.{◌≡◌, ◌+◌, ◌^◌, ◌<◌, ℕ, IfOk, length, map, replicate};
 ghost use Rattle.std.specs.Arc.{arc_value};
 ghost use Rattle.std.specs.List.{range_with_len};
 ghost use Rattle.ch_overlay.specs.Overlay.{no_arcs, row_at};
-ghost use Rattle.ch_overlay.specs.Opening.{opening_row, with_arc};
+ghost use Rattle.ch_overlay.specs.Opening.{AreOpening, with_in, with_out};
 
 use crate::row::Row;
 use ch_cost::NarrowCost;
@@ -10,62 +10,147 @@ use ch_graph::Road;
 use ch_laws::{Entry, Middle};
 use std::alloc::{AllocError, Global};
 use std::sync::Arc;
+use std::thread;
+use std::thread::Threads;
 
-/// The rows of so many nodes with these arcs, in their order.
-pub fn rows_of(alloc: Global, nodes: u32, arcs: &[Road]) -> Result<Vec<Row>, AllocError>
-    requires from_in { All (λ r. r.from < nodes) arcs.now }
-    requires to_in { All (λ r. r.to < nodes) arcs.now }
-    ensures count { IfOk result (λ rows. length rows.items ≡ nodes) }
-    ensures rows { IfOk result (λ rows. (x : ℕ) → x < nodes → row_at rows.items x ≡ opening_row arcs.now x) }
+/// The rows of `count` nodes from `from` on with these arcs, by the nodes' numbers, to be shared. Up to so many threads make
+/// a part of them each.
+#[cycle(halves)]
+pub fn shared_rows<R: Threads + Sync>(
+    rt: &R,
+    alloc: Global,
+    arcs: &[Road],
+    from: u32,
+    count: u32,
+    threads: u32,
+) -> Result<Vec<Arc<Row>>, AllocError>
+    requires room { from + count < 2 ^ 32 }
+    ensures { IfOk result (λ all. AreOpening arcs.now from count (map arc_value all.items)) }
 {
-    let mut rows = rows_without_arcs(alloc, nodes)?;
+    if threads < 2 {
+        return shared(alloc, rows_of(alloc, arcs, from, count)?);
+    }
+    let low = count / 2;
+    let high = count - low;
+    let up = from + low;
+    let few = threads / 2;
+    let others = threads - few;
+    let lower = move || -> Result<Vec<Arc<Row>>, AllocError>
+        requires { from + low < 2 ^ 32 }
+        ensures { IfOk result (λ all. AreOpening arcs.entry.now from low (map arc_value all.items)) }
+    { shared_rows(rt, alloc, arcs, from, low, few) };
+    let upper = move || -> Result<Vec<Arc<Row>>, AllocError>
+        requires { up + high < 2 ^ 32 }
+        ensures { IfOk result (λ all. AreOpening arcs.entry.now up high (map arc_value all.items)) }
+    { shared_rows(rt, alloc, arcs, up, high, others) };
+    let (first, second) = thread::join(rt, lower, upper);
+    let mut all = first?;
+    let mut more = second?;
+    all.append(&mut more)?;
+    Ok(all)
+}
+
+/// The rows of `count` nodes from `from` on with these arcs, by the nodes' numbers. Each has just the memory that it needs.
+pub fn rows_of(
+    alloc: Global,
+    arcs: &[Road],
+    from: u32,
+    count: u32,
+) -> Result<Vec<Row>, AllocError>
+    ensures { IfOk result (λ rows. AreOpening arcs.now from count rows.items) }
+{
+    let mut rows = rows_without_arcs(alloc, arcs, from, count)?;
     for arc in arcs {
-        add_arc(rows.as_mut_slice(), *arc)?;
+        add_out(rows.as_mut_slice(), from, *arc)?;
+        add_in(rows.as_mut_slice(), from, *arc)?;
     }
     Ok(rows)
 }
 
-fn rows_without_arcs(alloc: Global, nodes: u32) -> Result<Vec<Row>, AllocError>
-    ensures { IfOk result (λ rows. rows.items ≡ replicate nodes no_arcs) }
+/// So many rows without an entry, with room for those that these arcs have for `count` nodes from `from` on.
+fn rows_without_arcs(
+    alloc: Global,
+    arcs: &[Road],
+    from: u32,
+    count: u32,
+) -> Result<Vec<Row>, AllocError>
+    ensures { IfOk result (λ rows. rows.items ≡ replicate count no_arcs) }
 {
-    let mut rows = Vec::with_capacity(alloc, nodes as usize)?;
-    for _ in 0..nodes {
-        rows.push(Row::without_arcs(alloc))?;
+    let mut out = vec![in alloc; 0u32; count as usize]?;
+    let mut inn = vec![in alloc; 0u32; count as usize]?;
+    'arcs: for arc in arcs {
+        count_one(out.as_mut_slice(), from, arc.from);
+        count_one(inn.as_mut_slice(), from, arc.to);
+    }
+    let mut rows = Vec::with_capacity(alloc, count as usize)?;
+    'rows: for at in 0..count as usize {
+        rows.push(Row::with_room(alloc, out[at] as usize, inn[at] as usize)?)?;
     }
     Ok(rows)
 }
 
-/// The arc joins the rows of its two nodes, which are in range.
-fn add_arc(rows: &mut [Row], arc: Road) -> Result<(), AllocError>
-    requires from_in { arc.from < length rows.old }
-    requires to_in { arc.to < length rows.old }
+/// Counts one more for a node, if it is one of those that are counted, from `from` on. Only the memory that is taken goes
+/// by it.
+fn count_one(counts: &mut [u32], from: u32, node: u32)
+    ensures { length counts.new ≡ length counts.old }
+{
+    if node < from {
+        return;
+    }
+    let at = (node - from) as usize;
+    if at < counts.len() {
+        counts[at] = counts[at].saturating_add(1);
+    }
+}
+
+/// The arc joins the row of the node that it leaves, if that is one of these rows, which are of the nodes from `from` on.
+fn add_out(rows: &mut [Row], from: u32, arc: Road) -> Result<(), AllocError>
     ensures count { IfOk result (λ _. length rows.new ≡ length rows.old) }
-    ensures rows { IfOk result (λ _. (x : ℕ) → x < length rows.old → row_at rows.new x ≡ with_arc arc x (row_at rows.old x)) }
+    ensures rows { IfOk result (λ _. (k : ℕ) → k < length rows.old → row_at rows.new k ≡ with_out arc (from + k) (row_at rows.old k)) }
 {
-    let cost = NarrowCost::of_weight(arc.weight);
-    let from = &mut rows[arc.from as usize];
-    from.add_out(Entry {
+    if arc.from < from {
+        return Ok(());
+    }
+    let at = (arc.from - from) as usize;
+    if at >= rows.len() {
+        return Ok(());
+    }
+    let row = &mut rows[at];
+    row.add_out(Entry {
         other: arc.to,
-        cost,
-        middle: Middle::NONE,
-    })?;
-    let to = &mut rows[arc.to as usize];
-    to.add_in(Entry {
-        other: arc.from,
-        cost,
+        cost: NarrowCost::of_weight(arc.weight),
         middle: Middle::NONE,
     })?;
     Ok(())
 }
 
-/// The same rows, to be shared, in no more memory than they need.
+/// The arc joins the row of the node that it comes to, if that is one of these rows, which are of the nodes from `from` on.
+fn add_in(rows: &mut [Row], from: u32, arc: Road) -> Result<(), AllocError>
+    ensures count { IfOk result (λ _. length rows.new ≡ length rows.old) }
+    ensures rows { IfOk result (λ _. (k : ℕ) → k < length rows.old → row_at rows.new k ≡ with_in arc (from + k) (row_at rows.old k)) }
+{
+    if arc.to < from {
+        return Ok(());
+    }
+    let at = (arc.to - from) as usize;
+    if at >= rows.len() {
+        return Ok(());
+    }
+    let row = &mut rows[at];
+    row.add_in(Entry {
+        other: arc.from,
+        cost: NarrowCost::of_weight(arc.weight),
+        middle: Middle::NONE,
+    })?;
+    Ok(())
+}
+
+/// The same rows, to be shared.
 pub fn shared(alloc: Global, rows: Vec<Row>) -> Result<Vec<Arc<Row>>, AllocError>
     ensures { IfOk result (λ all. map arc_value all.items ≡ rows.items) }
 {
     let mut all = Vec::with_capacity(alloc, rows.len())?;
     for row in rows {
-        let mut row = row;
-        row.shrink();
         all.push(Arc::new(alloc, row)?)?;
     }
     Ok(all)

@@ -4,18 +4,19 @@ ghost use Rattle.std.specs.Arc.{arc_value};
 ghost use Rattle.ch_graph.specs.Limits.{bound_of};
 ghost use Rattle.ch_laws.specs.declared.shortcut.Shortcut.{Shortcut};
 ghost use Rattle.ch_laws.specs.Contraction.{IsStart, IsPlan, contracted};
+ghost use Rattle.ch_overlay.specs.Opening.{AreLeast, AreOpening};
 ghost use Rattle.ch_overlay.specs.Overlay.{IsOverlay, row_at, state_of};
 ghost use Rattle.ch_overlay.specs.Records.{AreSoundRows, ChangesAreSound};
 ghost use Rattle.ch_overlay.specs.Change.{AreRenewed, IsChange, IsOf, changed_nodes, puts};
 
 use crate::change::{Change, put_rows, put_versions};
 use crate::least::least_arcs;
-use crate::opening::{first_versions, rows_of, shared};
+use crate::opening::{first_versions, rows_of, shared, shared_rows};
 use crate::placed::{in_entries, out_entries};
 use crate::planned::{push_changed, ranked_row};
 use crate::row::Row;
 use ch_cost::Cost;
-use ch_graph::Graph;
+use ch_graph::{Graph, Road};
 use ch_laws::{
     Middle, Shortcut, rows_are_the_state, rows_of_alive_nodes_show_what_remains,
     rows_of_least_arcs_are_the_start, updated_rows_are_the_next,
@@ -23,6 +24,7 @@ use ch_laws::{
 use std::alloc::{AllocError, Global};
 use std::marker::Model;
 use std::sync::Arc;
+use std::thread::Threads;
 
 /// The rows of a graph's nodes under contraction, and a version number for each.
 ///
@@ -57,10 +59,42 @@ impl Overlay {
         ensures versions { IfOk result (λ o. o.versions ≡ range_with_len 0 graph.now.nodes) }
         ensures bound { IfOk result (λ o. o.bound ≡ bound_of graph.now) }
     {
+        let least = least_arcs(alloc, graph.arcs())?;
+        let rows = rows_of(alloc, least.as_slice(), 0, graph.nodes())?;
+        Overlay::opened(alloc, graph, least.as_slice(), shared(alloc, rows)?)
+    }
+
+    /// The same rows as [`Overlay::start`] makes, made in up to so many threads.
+    pub fn start_by<R: Threads + Sync>(
+        rt: &R,
+        alloc: Global,
+        graph: &Graph,
+        threads: u32,
+    ) -> Result<Overlay, AllocError>
+        ensures start { IfOk result (λ o. IsStart graph.now (state_of o)) }
+        ensures versions { IfOk result (λ o. o.versions ≡ range_with_len 0 graph.now.nodes) }
+        ensures bound { IfOk result (λ o. o.bound ≡ bound_of graph.now) }
+    {
+        let least = least_arcs(alloc, graph.arcs())?;
+        let rows = shared_rows(rt, alloc, least.as_slice(), 0, graph.nodes(), threads)?;
+        Overlay::opened(alloc, graph, least.as_slice(), rows)
+    }
+
+    /// The overlay of a graph in which no node is contracted, with these rows.
+    fn opened(
+        alloc: Global,
+        graph: &Graph,
+        least: &[Road],
+        rows: Vec<Arc<Row>>,
+    ) -> Result<Overlay, AllocError>
+        requires least { AreLeast graph.now.arcs least.now }
+        requires rows { AreOpening least.now 0 graph.now.nodes (map arc_value rows.items) }
+        ensures start { IfOk result (λ o. IsStart graph.now (state_of o)) }
+        ensures versions { IfOk result (λ o. o.versions ≡ range_with_len 0 graph.now.nodes) }
+        ensures bound { IfOk result (λ o. o.bound ≡ bound_of graph.now) }
+    {
         rows_of_least_arcs_are_the_start();
         let nodes = graph.nodes();
-        let least = least_arcs(alloc, graph.arcs())?;
-        let rows = shared(alloc, rows_of(alloc, nodes, least.as_slice())?)?;
         let versions = first_versions(alloc, nodes)?;
         let order = Vec::with_capacity(alloc, nodes as usize)?;
         Ok(Overlay {

@@ -30,15 +30,15 @@ impl Model for Row {
 }
 
 impl Row {
-    /// The row of a node without arcs.
-    pub(crate) fn without_arcs(alloc: Global) -> Row
-        ensures { result ≡ no_arcs }
+    /// The row of a node without arcs, with room for so many entries out of it and into it.
+    pub(crate) fn with_room(alloc: Global, out: usize, inn: usize) -> Result<Row, AllocError>
+        ensures { IfOk result (λ row. row ≡ no_arcs) }
     {
-        Row {
-            out: Vec::new(alloc),
-            inn: Vec::new(alloc),
+        Ok(Row {
+            out: Vec::with_capacity(alloc, out)?,
+            inn: Vec::with_capacity(alloc, inn)?,
             rank: None,
-        }
+        })
     }
 
     pub(crate) fn add_out(&mut self, entry: Entry) -> Result<(), AllocError>
@@ -53,14 +53,6 @@ impl Row {
     {
         self.inn.push(entry)?;
         Ok(())
-    }
-
-    /// Gives back the memory that its entries don't need.
-    pub(crate) fn shrink(&mut self)
-        ensures { self.new ≡ self.old }
-    {
-        self.out.shrink_to_fit();
-        self.inn.shrink_to_fit();
     }
 
     /// Whether it has the same entries and the same rank as another row. Looks once at each entry.
