@@ -49,6 +49,11 @@ impl Chains {
         })
     }
 
+    /// How many arcs all chains have. Only the memory that is taken goes by it.
+    pub(crate) fn len(&self) -> usize {
+        self.arcs.len()
+    }
+
     /// Puts an arc out of a node before the others of its chain.
     pub(crate) fn push(&mut self, node: u32, arc: Entry) -> Result<(), AllocError>
         requires { node < length self.old }

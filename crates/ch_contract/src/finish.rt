@@ -1,16 +1,17 @@
 ghost use Rattle.std.specs.Prelude.{◌≡◌, ◌↔◌, IfOk};
 ghost use Rattle.ch_graph.specs.Hierarchy.{IsRight};
-ghost use Rattle.ch_laws.specs.Contraction.{IsMade};
+ghost use Rattle.ch_laws.specs.Contraction.{IsMade, IsOver};
 ghost use Rattle.ch_overlay.specs.Overlay.{state_of};
-ghost use Rattle.ch_contract.specs.Finish.{HasNodesLeft};
+ghost use Rattle.ch_contract.specs.Finish.{AreLinks, AreRanks, HasNodesLeft};
 
 use crate::contraction::Contraction;
 use crate::error::FinishError;
 use crate::ledger::Ledger;
-use crate::parts::{links_of, ranks_of};
+use crate::parts::{Parts, links_of, parts_by_two, ranks_of};
 use ch_graph::Hierarchy;
 use ch_laws::{reached_hierarchy_is_right, reached_hierarchy_is_well_made};
 use ch_overlay::Overlay;
+use std::thread::Threads;
 
 /// What a ledger comes to when each node is contracted.
 #[derive(Drop)]
@@ -52,19 +53,46 @@ pub fn plain_hierarchy_of(ledger: &Ledger) -> Result<Hierarchy, FinishError>
     ensures right { IfOk result (λ h. IsRight ledger.now.graph h) }
     ensures left { (result ≡ Err FinishError.NodesLeft) ↔ HasNodesLeft ledger.now }
 {
-    ledger.holds();
-    reached_hierarchy_is_right();
-    reached_hierarchy_is_well_made();
-    let overlay = ledger.overlay();
-    if overlay.alive() > 0 {
+    if !ledger.is_over() {
         return Err(FinishError::NodesLeft);
     }
+    let overlay = ledger.overlay();
     let Ok(ranks) = ranks_of(ledger.allocator(), overlay) else {
         return Err(FinishError::OutOfMemory);
     };
     let Ok(links) = links_of(ledger.allocator(), overlay) else {
         return Err(FinishError::OutOfMemory);
     };
+    Ok(hierarchy_from(ledger, Parts { ranks, links }))
+}
+
+/// The same as [`plain_hierarchy_of`] by two threads, of which one makes the ranks.
+pub fn plain_hierarchy_by_two<R: Threads>(rt: &R, ledger: &Ledger) -> Result<Hierarchy, FinishError>
+    ensures made { IfOk result (λ h. IsMade ledger.now.graph (state_of ledger.now.overlay) h) }
+    ensures right { IfOk result (λ h. IsRight ledger.now.graph h) }
+    ensures left { (result ≡ Err FinishError.NodesLeft) ↔ HasNodesLeft ledger.now }
+{
+    if ledger.is_over() {
+        match parts_by_two(rt, ledger.allocator(), ledger.overlay()) {
+            Ok(parts) => Ok(hierarchy_from(ledger, parts)),
+            Err(_refused) => Err(FinishError::OutOfMemory),
+        }
+    } else {
+        Err(FinishError::NodesLeft)
+    }
+}
+
+/// The hierarchy of the ranks and the links of a ledger's rows, whose nodes are all contracted.
+fn hierarchy_from(ledger: &Ledger, parts: Parts) -> Hierarchy
+    requires over { IsOver (state_of ledger.now.overlay) }
+    requires ranks { AreRanks ledger.now.overlay parts.ranks.items }
+    requires links { AreLinks ledger.now.overlay parts.links.items }
+    ensures made { IsMade ledger.now.graph (state_of ledger.now.overlay) result }
+    ensures right { IsRight ledger.now.graph result }
+{
+    ledger.holds();
+    reached_hierarchy_is_right();
+    reached_hierarchy_is_well_made();
     let bound = ledger.graph().bound();
-    Ok(Hierarchy::new(ranks, links, bound))
+    Hierarchy::new(parts.ranks, parts.links, bound)
 }

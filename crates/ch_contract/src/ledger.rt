@@ -1,4 +1,4 @@
-ghost use Rattle.std.specs.Prelude.{◌≡◌, ◌+◌, ◌<◌, ◌^◌, ℕ, List, [], ◌↔◌, IfOk, IfErr, IsErrOf, IsFalse, IsTrue, All, length, map, drop};
+ghost use Rattle.std.specs.Prelude.{Ok, Err, ◌≡◌, ◌+◌, ◌<◌, ◌^◌, ℕ, List, [], ◌↔◌, IfOk, IfErr, IsErrOf, IsFalse, IsTrue, All, length, map, drop};
 ghost use Rattle.std.specs.List.{zip, range_with_len};
 ghost use Rattle.std.specs.Arc.{arc_value};
 ghost use Rattle.ch_laws.specs.declared.shortcut.Shortcut.{Shortcut};
@@ -14,13 +14,14 @@ ghost use Rattle.ch_contract.specs.Planned as plans;
 
 use crate::contraction::{Contraction, Receipt};
 use crate::error::FinishError;
-use crate::finish::{Finished, plain_hierarchy_of};
-use ch_graph::Graph;
+use crate::finish::{Finished, plain_hierarchy_by_two, plain_hierarchy_of};
+use ch_graph::{Graph, Hierarchy};
 use ch_laws::{plan_is_lawful, reached_goes_on};
 use ch_overlay::{Change, Overlay, Row, Shortcut};
 use std::alloc::{AllocError, Global};
 use std::marker::Model;
 use std::sync::Arc;
+use std::thread::Threads;
 
 /// A graph whose nodes are contracted one by one: its rows, and the log of the contractions that made them.
 ///
@@ -145,7 +146,35 @@ impl Ledger {
         ensures left { IsErrOf result (self, FinishError.NodesLeft) ↔ HasNodesLeft self }
         ensures back { IfErr result (λ refused. refused.0 ≡ self) }
     {
-        match plain_hierarchy_of(&self) {
+        let made = plain_hierarchy_of(&self);
+        self.finished(made)
+    }
+
+    /// The same as [`finish`](Ledger::finish) by two threads, of which one makes the ranks.
+    pub fn finish_by_two<R: Threads>(self, rt: &R) -> Result<Finished, (Ledger, FinishError)>
+        ensures made { IfOk result (λ f. IsMade self.graph (state_of self.overlay) f.hierarchy) }
+        ensures right { IfOk result (λ f. IsRight self.graph f.hierarchy) }
+        ensures log { IfOk result (λ f. f.log.items ≡ self.log) }
+        ensures rows { IfOk result (λ f. f.rows ≡ self.overlay) }
+        ensures left { IsErrOf result (self, FinishError.NodesLeft) ↔ HasNodesLeft self }
+        ensures back { IfErr result (λ refused. refused.0 ≡ self) }
+    {
+        let made = plain_hierarchy_by_two(rt, &self);
+        self.finished(made)
+    }
+
+    /// The hierarchy that was made, with the log and the rows.
+    fn finished(
+        self,
+        made: Result<Hierarchy, FinishError>,
+    ) -> Result<Finished, (Ledger, FinishError)>
+        ensures made { IfOk result (λ f. made ≡ Ok f.hierarchy) }
+        ensures log { IfOk result (λ f. f.log.items ≡ self.log) }
+        ensures rows { IfOk result (λ f. f.rows ≡ self.overlay) }
+        ensures refused { IfErr result (λ refused. made ≡ Err refused.1) }
+        ensures back { IfErr result (λ refused. refused.0 ≡ self) }
+    {
+        match made {
             Ok(hierarchy) => {
                 let log = self.log;
                 let rows = self.overlay;

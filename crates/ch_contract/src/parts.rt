@@ -9,6 +9,8 @@ use crate::chains::Chains;
 use ch_graph::Link;
 use ch_overlay::{Entry, Overlay};
 use std::alloc::{AllocError, Global};
+use std::thread;
+use std::thread::Threads;
 
 /// Returns the rank of each node of an overlay whose nodes are all contracted.
 pub fn ranks_of(alloc: Global, overlay: &Overlay) -> Result<Vec<u32>, AllocError>
@@ -34,14 +36,60 @@ pub fn ranks_of(alloc: Global, overlay: &Overlay) -> Result<Vec<u32>, AllocError
 pub fn links_of(alloc: Global, overlay: &Overlay) -> Result<Vec<Link>, AllocError>
     ensures { IfOk result (λ links. AreLinks overlay.now links.items) }
 {
-    let into = count_in(overlay);
-    let chains = chain_rows(alloc, overlay, into)?;
-    merge_rows(
-        alloc,
-        overlay,
-        &chains,
-        count_out(overlay).saturating_add(into),
-    )
+    let chains = chains_of(alloc, overlay)?;
+    let room = count_out(overlay).saturating_add(chains.len());
+    merge_rows(alloc, overlay, &chains, room)
+}
+
+/// The ranks of all nodes and the links of all rows.
+#[derive(Drop)]
+pub struct Parts {
+    pub ranks: Vec<u32>,
+    pub links: Vec<Link>,
+}
+
+/// The ranks and how many entries for arcs out of their nodes the rows have.
+#[derive(Drop)]
+struct Ranked {
+    ranks: Vec<u32>,
+    out: usize,
+}
+
+/// The ranks and the links that [`ranks_of`] and [`links_of`] make, where one thread makes the ranks and another the chains.
+pub fn parts_by_two<R: Threads>(
+    rt: &R,
+    alloc: Global,
+    overlay: &Overlay,
+) -> Result<Parts, AllocError>
+    requires { IsOver (state_of overlay.now) }
+    ensures ranks { IfOk result (λ parts. AreRanks overlay.now parts.ranks.items) }
+    ensures links { IfOk result (λ parts. AreLinks overlay.now parts.links.items) }
+{
+    let (ranked, chains) = thread::join(
+        rt,
+        || ranks_and_count(alloc, overlay),
+        || chains_of(alloc, overlay),
+    );
+    let Ranked { ranks, out } = ranked?;
+    let chains = chains?;
+    let room = out.saturating_add(chains.len());
+    let links = merge_rows(alloc, overlay, &chains, room)?;
+    Ok(Parts { ranks, links })
+}
+
+fn ranks_and_count(alloc: Global, overlay: &Overlay) -> Result<Ranked, AllocError>
+    requires { IsOver (state_of overlay.now) }
+    ensures { IfOk result (λ ranked. AreRanks overlay.now ranked.ranks.items) }
+{
+    let ranks = ranks_of(alloc, overlay)?;
+    let out = count_out(overlay);
+    Ok(Ranked { ranks, out })
+}
+
+fn chains_of(alloc: Global, overlay: &Overlay) -> Result<Chains, AllocError>
+    ensures { IfOk result (AreChainsOfRows overlay.now.rows) }
+{
+    chain_rows(alloc, overlay, count_in(overlay))
 }
 
 /// The links of all rows, each row merged with the chain of its node, with room for this many.

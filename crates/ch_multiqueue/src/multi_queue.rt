@@ -1,10 +1,10 @@
-ghost use Rattle.std.specs.Prelude.{◌≡◌, ◌≢◌, ◌+◌, ◌<◌, ◌≤◌, ◌↔◌, ◌⊎◌, AllPairs, IfErr, IfOk, IfSome, IsErrAnd, IsTrue, OnErr, OnOk};
+ghost use Rattle.std.specs.Prelude.{Ok, true, ◌≡◌, ◌≢◌, ◌+◌, ◌<◌, ◌≤◌, ◌↔◌, ◌⊎◌, AllPairs, IfErr, IfOk, IfSome, IsErrAnd, IsTrue, OnErr, OnOk};
 ghost use Rattle.ch_multiqueue.specs.Accounts.{AreBalanced};
 ghost use Rattle.ch_multiqueue.specs.Closing.{IsAmong, IsLacking};
 ghost use Rattle.ch_multiqueue.specs.Items.{IsNotAfter};
 ghost use Rattle.ch_multiqueue.specs.Passes.{pass_of, moved_on, having_put, having_taken};
 
-use crate::account::{are_balanced, in_order};
+use crate::account::{are_balanced, are_balanced_by_two, in_order};
 use crate::better::{Better, better_of};
 use crate::closed::Closed;
 use crate::error::CloseError;
@@ -14,6 +14,7 @@ use crate::pass::Pass;
 use std::alloc::{AllocError, Global};
 use std::marker::Model;
 use std::sync::{Mutex, Wait};
+use std::thread::Threads;
 
 /// A relaxed priority queue, which threads share by reference, each with a [`Pass`] of its own.
 ///
@@ -153,7 +154,49 @@ impl MultiQueue {
         if is_lacking(passes.as_slice(), queue.passes) {
             return Err((CloseError::PassMissing, queue, passes));
         }
-        match queue.settle(passes.as_slice()) {
+        let settled = queue.settle(passes.as_slice());
+        queue.into_closed(passes, settled)
+    }
+
+    /// The same as [`end`](MultiQueue::end), where two threads make and sort the copies of the accounts.
+    pub fn end_by_two<R: Threads>(
+        self,
+        rt: &R,
+        passes: Vec<Pass>,
+    ) -> Result<Closed, (CloseError, MultiQueue, Vec<Pass>)>
+        ensures closed { IfOk result (λ closed. closed.queue ≡ self) }
+        ensures missing { IsErrAnd result (λ refused. refused.0 ≡ CloseError.PassMissing) ↔ IsLacking self.passes passes.items }
+        ensures sorted { IfOk result (λ closed. AllPairs IsNotAfter closed.left) }
+        ensures balanced { IfOk result (λ closed. AreBalanced passes.items closed.left) }
+        ensures queue { IfErr result (λ refused. refused.1 ≡ self) }
+        ensures passes { IfErr result (λ refused. refused.2 ≡ passes) }
+    {
+        let mut queue = self;
+        if is_lacking(passes.as_slice(), queue.passes) {
+            return Err((CloseError::PassMissing, queue, passes));
+        }
+        let settled = queue.settle_by_two(rt, passes.as_slice());
+        queue.into_closed(passes, settled)
+    }
+
+    /// The queue closed, where it was settled what is left, and else why it isn't.
+    fn into_closed(
+        self,
+        passes: Vec<Pass>,
+        settled: Result<Vec<Item>, CloseError>,
+    ) -> Result<Closed, (CloseError, MultiQueue, Vec<Pass>)>
+        requires sorted { IfOk settled (λ items. AllPairs IsNotAfter items.items) }
+        requires balanced { IfOk settled (λ items. AreBalanced passes.items items.items) }
+        requires found { IfErr settled (λ error. error ≢ CloseError.PassMissing) }
+        ensures closed { IfOk result (λ closed. closed.queue ≡ self) }
+        ensures found { IfErr result (λ refused. refused.0 ≢ CloseError.PassMissing) }
+        ensures sorted { IfOk result (λ closed. AllPairs IsNotAfter closed.left) }
+        ensures balanced { IfOk result (λ closed. AreBalanced passes.items closed.left) }
+        ensures queue { IfErr result (λ refused. refused.1 ≡ self) }
+        ensures passes { IfErr result (λ refused. refused.2 ≡ passes) }
+    {
+        let queue = self;
+        match settled {
             Ok(left) => Ok(Closed {
                 heaps: queue.heaps.len(),
                 passes: queue.passes,
@@ -211,11 +254,27 @@ impl MultiQueue {
         let Ok(items) = self.left() else {
             return Err(CloseError::OutOfMemory);
         };
-        match are_balanced(alloc, passes, items.as_slice()) {
-            Ok(true) => Ok(items),
-            Ok(false) => Err(CloseError::Mixed),
-            Err(_refused) => Err(CloseError::OutOfMemory),
-        }
+        let balanced = are_balanced(alloc, passes, items.as_slice());
+        where_balanced(items, balanced)
+    }
+
+    /// The same, where two threads make and sort the copies of the accounts.
+    fn settle_by_two<R: Threads>(
+        &mut self,
+        rt: &R,
+        passes: &[Pass],
+    ) -> Result<Vec<Item>, CloseError>
+        ensures queue { self.new ≡ self.old }
+        ensures sorted { IfOk result (λ items. AllPairs IsNotAfter items.items) }
+        ensures balanced { IfOk result (λ items. AreBalanced passes.now items.items) }
+        ensures found { IfErr result (λ error. error ≢ CloseError.PassMissing) }
+    {
+        let alloc = *self.heaps.allocator();
+        let Ok(items) = self.left() else {
+            return Err(CloseError::OutOfMemory);
+        };
+        let balanced = are_balanced_by_two(rt, alloc, passes, items.as_slice());
+        where_balanced(items, balanced)
     }
 
     /// A list of what is left, in order. The queue stays as it is.
@@ -248,4 +307,20 @@ fn has_number(passes: &[Pass], number: u32) -> bool
     ensures { IsTrue result ↔ IsAmong number passes.now }
 {
     passes.iter().any(|pass| pass.number() == number)
+}
+
+/// These items, where the accounts agree with them.
+fn where_balanced(
+    items: Vec<Item>,
+    balanced: Result<bool, AllocError>,
+) -> Result<Vec<Item>, CloseError>
+    ensures same { IfOk result (λ left. left ≡ items) }
+    ensures balanced { OnOk result (balanced ≡ Ok true) }
+    ensures found { IfErr result (λ error. error ≢ CloseError.PassMissing) }
+{
+    match balanced {
+        Ok(true) => Ok(items),
+        Ok(false) => Err(CloseError::Mixed),
+        Err(_refused) => Err(CloseError::OutOfMemory),
+    }
 }
