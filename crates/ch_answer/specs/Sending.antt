@@ -5,7 +5,7 @@ use Rattle.std.specs.declared.io.Error.{Error}
 use Rattle.ch_answer.specs.declared.output.Lines.{Lines}
 pub mod Laws
 
--- So many calls offered the writer bytes, and so many flushed it, one after the other, whatever they answered.
+-- This many calls offered the writer bytes, and this many flushed it, one after the other, whatever they answered.
 pub data Sends {S : Type 0} (step : S → S → Result ℕ Error → Type 0) (flush : S → S → Result ⊤ Error → Type 0) : ℕ → ℕ → S → S → Type 0 where
   no_call : {a : S} → Sends step flush 0 0 a a
   one_write : {writes flushes : ℕ} {a b c : S} {answer : Result ℕ Error} → Sends step flush writes flushes a b → step b c answer → Sends step flush (suc writes) flushes a c
@@ -26,6 +26,6 @@ pub record IsSendingBy {S : Type 0} (step : S → S → Result ℕ Error → Typ
 abbrev pub IsSending : {S : Type 0} → (S → S → Result ℕ Error → Type 0) → (S → S → Result ⊤ Error → Type 0) → Lines → Lines → S → S → Type 0
 IsSending step flush before after old new = IsSendingBy step flush before.calls.left after.calls.left before.flushes.left after.flushes.left old new
 
--- At most so many of either were made.
+-- At most this many of either were made.
 abbrev pub IsSentWithin : {S : Type 0} → (S → S → Result ℕ Error → Type 0) → (S → S → Result ⊤ Error → Type 0) → ℕ → S → S → Type 0
 IsSentWithin step flush most old new = (writes : ℕ) × (flushes : ℕ) × (writes ≤ most) × (flushes ≤ most) × Sends step flush writes flushes old new

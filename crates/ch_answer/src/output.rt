@@ -39,7 +39,7 @@ impl Lines {
         }
     }
 
-    /// Hands the lines to the writer where there are many of them.
+    /// Passes the lines to the writer where there are many of them.
     pub fn hand_over_if_many<W: StepFlush>(&mut self, out: &mut W) -> Result<(), WriteFault>
         ensures ok { OnOk result (HandsOn (W.contents out.old) (W.contents out.new) self.old.lines.items self.new.lines.items self.old.calls.written self.new.calls.written) }
         ensures few { OnOk result (length self.new.lines.items < 2 ^ 16) }
@@ -52,7 +52,7 @@ impl Lines {
         self.hand_over(out)
     }
 
-    /// Hands all lines to the writer. Their memory is kept for the next lines, or given back where it is more than 1 MiB.
+    /// Passes all lines to the writer. Their memory is kept for the next lines, or freed where it is more than 1 MiB.
     pub fn hand_over<W: StepFlush>(&mut self, out: &mut W) -> Result<(), WriteFault>
         ensures ok { OnOk result (HandsOn (W.contents out.old) (W.contents out.new) self.old.lines.items self.new.lines.items self.old.calls.written self.new.calls.written) }
         ensures all { OnOk result (self.new.lines.items ≡ []) }

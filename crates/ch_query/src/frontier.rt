@@ -80,7 +80,7 @@ impl Frontier {
         }
     }
 
-    /// Gives back the memory of the queue and of the list of touched ranks, where either has room for more than 65,536
+    /// Frees the memory of the queue and of the list of touched ranks, where either has room for more than 65,536
     /// entries, and then forgets what was seen. Takes no memory.
     pub fn give_back(&mut self)
         ensures { length self.new ≡ length self.old }

@@ -56,7 +56,7 @@ pub struct FoundBetween {
 /// more. The steps and places can be shared with other searches ([`Search::beside`]). The marks of one call are kept for
 /// the next, which takes back what the one before it touched. So after a call that ran out of memory it answers as a new
 /// one. Either side's queue and its list of touched nodes are kept too; but where one of them has room for more than 65,536
-/// entries, both are given back when the call ends.
+/// entries, both are freed when the call ends.
 #[derive(Drop)]
 pub struct Search<'a> {
     hierarchy: &'a Hierarchy,
@@ -188,8 +188,8 @@ impl<'a> Search<'a> {
     }
 
     /// Returns the least rise-fall walk from one of the starts to one of the ends, by what start, walk and end cost
-    /// together, and the places of these two in their lists. `None` where no walk leads from a start to an end, as
-    /// for an empty list.
+    /// together, and the places of these two in their lists. `None` where no walk of at most 2^62 leads from a start to
+    /// an end, as for an empty list.
     ///
     /// In a graph that the hierarchy is right for it is the least over all pairs of a start and an end of the distance
     /// from the one to the other with what both cost (`exact`), and the links are a least walk of their pair (`walk`). A
@@ -308,7 +308,7 @@ fn find_cost(
     Ok(cost_of(best))
 }
 
-/// The least walk from a start to an end, if one is no longer than the bound with both. Gives back the memory of a
+/// The least walk from a start to an end, if one is no longer than the bound with both. Frees the memory of a
 /// far search.
 fn least_walk(
     hierarchy: &Hierarchy,

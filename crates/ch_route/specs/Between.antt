@@ -89,7 +89,7 @@ pub record IsUnfoldedBetween (h : Hierarchy) (starts ends : List Seed) (r : Rout
   pub along : r.nodes ≡ start.node ∷ map (λ (l : Link). l.to) arcs
 
 -- such a route, of the least cost over all pairs of a start and an end; or none, where no rise-fall walk leads from a start
--- to an end
+-- to an end and is at most `longest` with both
 abbrev pub IsRouteBetweenBy : Hierarchy → List Seed → List Seed → Option RouteBetween → Type 0
 IsRouteBetweenBy h starts ends (Some r) = IsValueBetween h starts ends longest (Some r.cost) × IsUnfoldedBetween h starts ends r
 IsRouteBetweenBy h starts ends None = IsValueBetween h starts ends longest None

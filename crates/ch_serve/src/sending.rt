@@ -6,7 +6,7 @@ ghost use Rattle.ch_serve.specs.Progress.{IsUnsent};
 use crate::error::ServeError;
 use ch_answer::{Lines, StepFlush};
 
-/// Hands all lines to the writer, and flushes it.
+/// Passes all lines to the writer, and flushes it.
 pub(crate) fn send<W: StepFlush>(output: &mut Lines, out: &mut W) -> Result<(), ServeError>
     ensures ok { OnOk result (HandsOn (W.contents out.old) (W.contents out.new) output.old.lines.items [] output.old.calls.written output.new.calls.written) }
     ensures all { OnOk result (output.new.lines.items ≡ []) }

@@ -38,8 +38,8 @@ const PIECE: usize = 1 << 16;
 /// and the replies are written and flushed before the next read. Where the file was prepared from the text of a graph, lengths are least
 /// over all walks of that graph, and routes are least walks, in version 2 with the fewest arcs.
 ///
-/// A request that is refused, be it for a fault of its line or for want of memory, gets a line that says so, and the
-/// service goes on. It ends with an error where the hierarchy is refused, where memory for it is refused, or where a reader
+/// A request that is refused, for a fault of its line or because memory ran out, gets a line that says so, and the
+/// service goes on. It ends with an error where the hierarchy is refused, where memory for it runs out, or where a reader
 /// or the writer fails; each of them is called 2^40 times at most, and the writer flushed 2^40 times at most. Takes memory for the hierarchy and once more for its
 /// links by their ends, for one query at a time, and for about 64 KiB of lines and one line more; of a request 4,097 bytes
 /// are kept at most.
@@ -142,7 +142,7 @@ fn reply_to_last<W: StepFlush>(
     send(output, out)
 }
 
-// Replies to one request. Where memory is refused for the reply, that is told in its place.
+// Replies to one request. Where memory for the reply runs out, that is reported in its place.
 fn reply<W: StepFlush>(
     router: &mut Router<'_>,
     request: &Request,
