@@ -12,6 +12,8 @@ mod checked;
 #[cfg(test)]
 mod costs;
 #[cfg(test)]
+mod drawn;
+#[cfg(test)]
 mod graphs;
 #[cfg(test)]
 mod links;

@@ -11,7 +11,7 @@ use std::alloc::{AllocError, Global};
 use std::test::Fail;
 
 /// A node, and what it costs to begin or to end there.
-type GivenSeed = (u32, Numbers);
+pub type GivenSeed = (u32, Numbers);
 
 /// Puts a seed into a list, if it is one of a hierarchy.
 fn put_seed(
@@ -32,7 +32,7 @@ fn put_seed(
 }
 
 /// The seeds that are given.
-fn seeds_of(
+pub fn seeds_of(
     alloc: Global,
     hierarchy: &Hierarchy,
     given: &[GivenSeed],
@@ -47,7 +47,7 @@ fn seeds_of(
 }
 
 /// The lesser of two costs, where there are any.
-fn lesser(first: Option<Cost>, second: Option<Cost>) -> Option<Cost> {
+pub fn lesser(first: Option<Cost>, second: Option<Cost>) -> Option<Cost> {
     match (first, second) {
         (Some(one), Some(other)) if other.is_below(one) => second,
         (None, _) => second,
@@ -56,7 +56,7 @@ fn lesser(first: Option<Cost>, second: Option<Cost>) -> Option<Cost> {
 }
 
 /// What a start, a way and an end cost together.
-fn sum(start: Cost, way: Option<Cost>, end: Cost) -> Option<Cost> {
+pub fn sum(start: Cost, way: Option<Cost>, end: Cost) -> Option<Cost> {
     start.checked_plus(way?)?.checked_plus(end)
 }
 
@@ -118,6 +118,27 @@ fn is_walk(hierarchy: &Hierarchy, starts: &[Seed], ends: &[Seed], found: &FoundB
     sum(start.cost, way, end.cost) == Some(found.cost)
 }
 
+/// Whether a search finds this least, and a walk of that cost.
+pub fn is_found_between(
+    search: &mut Search,
+    hierarchy: &Hierarchy,
+    starts: &[Seed],
+    ends: &[Seed],
+    least: Option<Cost>,
+) -> Result<bool, AllocError>
+    requires starts { AreSeeds search.old starts.now }
+    requires ends { AreSeeds search.old ends.now }
+    ensures { search.new ≡ search.old }
+{
+    let cost = search.cost_between(starts, ends)?;
+    let found = search.between(starts, ends)?;
+    let holds = match found {
+        Some(found) => least == Some(found.cost) && is_walk(hierarchy, starts, ends, &found),
+        None => least.is_none(),
+    };
+    Ok(holds & (cost == least))
+}
+
 /// Whether what is found is the least over all pairs, and a walk of that cost.
 fn is_least(
     search: &mut Search,
@@ -130,13 +151,7 @@ fn is_least(
     ensures { search.new ≡ search.old }
 {
     let least = least_of_pairs(search, starts, ends)?;
-    let cost = search.cost_between(starts, ends)?;
-    let found = search.between(starts, ends)?;
-    let holds = match found {
-        Some(found) => least == Some(found.cost) && is_walk(hierarchy, starts, ends, &found),
-        None => least.is_none(),
-    };
-    Ok(holds & (cost == least))
+    is_found_between(search, hierarchy, starts, ends, least)
 }
 
 /// A start or an end for a call, by a place among all of the calls.
