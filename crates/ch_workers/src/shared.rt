@@ -7,14 +7,17 @@ use ch_contract::{Board, CommitError, Contraction, Facts, Proposal, Receipt, Sit
 use ch_estimate::Estimator;
 use ch_multiqueue::MultiQueue;
 use ch_rowbook::Reader;
+use crossbeam_utils::{Backoff, CachePadded};
 use std::alloc::{AllocError, Global};
-use std::hint;
-use std::sync::atomic::{AtomicU64, Ordering};
+use std::sync::atomic::{AtomicBool, AtomicU64, AtomicUsize, Ordering};
 use std::sync::{Mutex, MutexGuard, Wait};
 
-/// How often a thread tries a lock that another one holds, before it sleeps until the lock is free. A commit takes less
+/// How often a thread looks at a lock that another one holds, before it sleeps until the lock is free. A commit takes less
 /// time than to sleep and to be woken does.
-const TRIES: u32 = 1000;
+const LOOKS: u32 = 100;
+
+/// For how many neighbours a worker's copy of an entry has room before the board's lock is taken.
+const NEIGHBOURS: usize = 64;
 
 /// What the rows that are replaced in a shift may weigh for each node of the network, in entries.
 const ROOM: u64 = 12;
@@ -24,17 +27,38 @@ const FEWEST: u64 = 16;
 
 /// What the workers of a build share in a shift: the board behind its lock, the queue of the nodes that wait, and the
 /// options.
+///
+/// What is written often has cache lines of its own, behind the board: threads that wait for the lock read `is_held`
+/// and leave the lines that its holder works with alone.
 #[derive(Drop)]
 pub(crate) struct Shared<S: Site> {
     pub(crate) alloc: Global,
     pub(crate) board: Mutex<Board<S>>,
+    /// Whether a thread holds the board's lock. It says when a try is worth while, and nothing rests on it.
+    is_held: CachePadded<AtomicBool>,
+    /// How many entries the log has. It is stored before the lock is let go.
+    entries: CachePadded<AtomicUsize>,
+    /// What the rows weigh that were replaced so far, by all workers together.
+    replaced: CachePadded<AtomicU64>,
     pub(crate) queue: MultiQueue,
     pub(crate) crew: CrewOptions,
     pub(crate) nodes: u32,
     /// What the rows weigh after whose replacement a shift is over, by all workers together.
     pub(crate) room: u64,
-    /// What the rows weigh that were replaced so far, by all workers together.
-    replaced: AtomicU64,
+}
+
+/// A hold of the board's lock, which is over when this is dropped.
+struct Hold<'a, S: Site> {
+    board: MutexGuard<'a, Board<S>>,
+    is_held: &'a AtomicBool,
+}
+
+impl<S: Site> Drop for Hold<'_, S> {
+    fn drop(self) {
+        let Self { board, is_held } = self;
+        is_held.store(false, Ordering::Relaxed);
+        drop(board);
+    }
 }
 
 impl<S: Site> Shared<S> {
@@ -49,14 +73,17 @@ impl<S: Site> Shared<S> {
     {
         let nodes = board.graph().nodes();
         let room = FEWEST.max(ROOM * u64::from(nodes));
+        let entries = board.log().len();
         Shared {
             alloc,
             board: Mutex::new(board),
+            is_held: CachePadded::new(AtomicBool::new(false)),
+            entries: CachePadded::new(AtomicUsize::new(entries)),
+            replaced: CachePadded::new(AtomicU64::new(0)),
             queue,
             crew,
             nodes,
             room,
-            replaced: AtomicU64::new(0),
         }
     }
 
@@ -68,13 +95,27 @@ impl<S: Site> Shared<S> {
         (board.into_inner(), queue)
     }
 
-    /// The board behind its lock, which is tried for a while and then waited for.
-    fn hold<R: Wait>(&self, rt: &R) -> MutexGuard<'_, Board<S>> {
-        'tries: for _ in 0..TRIES {
-            if let Some(board) = self.board.try_lock() {
-                return board;
+    /// Takes the board's lock.
+    fn hold<R: Wait>(&self, rt: &R) -> Hold<'_, S> {
+        let board = self.lock(rt);
+        self.is_held.store(true, Ordering::Relaxed);
+        Hold {
+            board,
+            is_held: &self.is_held,
+        }
+    }
+
+    /// The board behind its lock, which is looked at for a while, in pauses that grow, and then waited for. It is tried only
+    /// where it seems free: each try takes the cache line of the lock from its holder.
+    fn lock<R: Wait>(&self, rt: &R) -> MutexGuard<'_, Board<S>> {
+        let backoff = Backoff::new();
+        'looks: for _ in 0..LOOKS {
+            if !self.is_held.load(Ordering::Relaxed) {
+                if let Some(board) = self.board.try_lock() {
+                    return board;
+                }
             }
-            hint::spin_loop();
+            backoff.spin();
         }
         self.board.lock(rt)
     }
@@ -90,7 +131,11 @@ impl<S: Site> Shared<S> {
         requires of_book { All (IsOfBook S.book) proposal.now.rests_on }
         requires bound { proposal.now.bound ≡ S.book.bound }
     {
-        self.hold(rt).commit_and_see(rt, proposal, reader)
+        let mut hold = self.hold(rt);
+        let committed = hold.board.commit_and_see(rt, proposal, reader);
+        self.entries
+            .store(hold.board.log().len(), Ordering::Relaxed);
+        committed
     }
 
     /// Adds what the rows weigh that a commit replaced. Returns whether the shift is over with them.
@@ -132,8 +177,10 @@ impl<S: Site> Shared<S> {
         ensures few { IfOk result (λ count. rank < count → copy.new.rank < 2 ^ 25) }
         ensures rising { IfOk result (λ count. rank < count → AllPairs (λ x y. x < y) copy.new.neighbours) }
     {
-        let board = self.hold(rt);
-        let log = board.log();
+        copy.neighbours.clear();
+        copy.neighbours.reserve(NEIGHBOURS)?;
+        let hold = self.hold(rt);
+        let log = hold.board.log();
         if (rank as usize) < log.len() {
             copy_to(&log[rank as usize], copy)?;
         }
@@ -141,13 +188,17 @@ impl<S: Site> Shared<S> {
     }
 
     /// Tells a listener each entry of the log that it wasn't told, in order, by a copy, which takes one hold of the
-    /// board's lock each. An entry that comes after the last of these holds waits for the next call.
+    /// board's lock each. An entry that comes after the last of these holds waits for the next call. Where the listener was
+    /// told all of them, no lock is taken.
     pub(crate) fn tell_all<E: Estimator, R: Wait>(
         &self,
         rt: &R,
         copy: &mut Contraction,
         listener: &mut Listener<E>,
     ) -> Result<(), AllocError> {
+        if listener.told() as usize >= self.entries.load(Ordering::Relaxed) {
+            return Ok(());
+        }
         'entries: while self.tell_next(rt, listener.told(), copy, listener)?
             > listener.told() as usize
         {}
