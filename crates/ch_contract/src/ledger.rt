@@ -3,6 +3,7 @@ ghost use Rattle.std.specs.List.{zip, range_with_len};
 ghost use Rattle.std.specs.Arc.{arc_value};
 ghost use Rattle.ch_laws.specs.declared.shortcut.Shortcut.{Shortcut};
 ghost use Rattle.ch_graph.specs.Hierarchy.{IsRight};
+ghost use Rattle.ch_graph.specs.Limits.{bound_of};
 ghost use Rattle.ch_laws.specs.Contraction.{IsStart, IsOver, IsMade};
 ghost use Rattle.ch_overlay.specs.Overlay.{state_of};
 ghost use Rattle.ch_overlay.specs.Change.{puts, changed_nodes};
@@ -83,6 +84,33 @@ impl Ledger {
         ensures versions { IfOk result (λ l. versions_now l ≡ range_with_len 0 graph.nodes) }
     {
         let overlay = Overlay::start(alloc, &graph)?;
+        Ledger::opened(alloc, graph, overlay)
+    }
+
+    /// The same ledger as [`Ledger::new`] makes, whose rows are made in up to so many threads.
+    pub fn new_by<R: Threads + Sync>(
+        rt: &R,
+        alloc: Global,
+        graph: Graph,
+        threads: u32,
+    ) -> Result<Ledger, AllocError>
+        ensures graph { IfOk result (λ l. l.graph ≡ graph) }
+        ensures log { IfOk result (λ l. l.log ≡ []) }
+        ensures start { IfOk result (λ l. IsStart graph (state_of l.overlay)) }
+        ensures versions { IfOk result (λ l. versions_now l ≡ range_with_len 0 graph.nodes) }
+    {
+        let overlay = Overlay::start_by(rt, alloc, &graph, threads)?;
+        Ledger::opened(alloc, graph, overlay)
+    }
+
+    /// The ledger of this graph and its opening rows, with no node contracted.
+    fn opened(alloc: Global, graph: Graph, overlay: Overlay) -> Result<Ledger, AllocError>
+        requires start { IsStart graph (state_of overlay) }
+        requires bound { overlay.bound ≡ bound_of graph }
+        ensures graph { IfOk result (λ l. l.graph ≡ graph) }
+        ensures log { IfOk result (λ l. l.log ≡ []) }
+        ensures overlay { IfOk result (λ l. l.overlay ≡ overlay) }
+    {
         let nodes = overlay.nodes();
         let log = Vec::with_capacity(alloc, nodes as usize)?;
         Ok(Ledger {

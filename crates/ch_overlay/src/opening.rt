@@ -51,12 +51,7 @@ pub fn shared_rows<R: Threads + Sync>(
 }
 
 /// The rows of `count` nodes from `from` on with these arcs, by the nodes' numbers. Each has just the memory that it needs.
-pub fn rows_of(
-    alloc: Global,
-    arcs: &[Road],
-    from: u32,
-    count: u32,
-) -> Result<Vec<Row>, AllocError>
+pub fn rows_of(alloc: Global, arcs: &[Road], from: u32, count: u32) -> Result<Vec<Row>, AllocError>
     ensures { IfOk result (λ rows. AreOpening arcs.now from count rows.items) }
 {
     let mut rows = rows_without_arcs(alloc, arcs, from, count)?;

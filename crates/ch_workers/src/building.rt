@@ -103,7 +103,7 @@ fn build_by_good<G: Gate, R: Threads + Wait + Sync>(
     ensures queue { IfOk result (λ b. IsClosed good.options b.queue) }
 {
     let lists = box_lists(alloc, estimators)?;
-    let ledger = Ledger::new(alloc, graph)?;
+    let ledger = Ledger::new_by(rt, alloc, graph, good.options.workers)?;
     let (worked, waiting) = contract(rt, alloc, ledger, good, lists, gate, disposal)?;
     finish_beside(rt, alloc, worked, waiting, good, disposal)
 }

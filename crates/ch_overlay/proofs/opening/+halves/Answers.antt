@@ -13,5 +13,5 @@ returns g t c =
     let first = IfOk-at_ok (λ all. AreOpening arcs c.args.from _ (map arc_value all.items)) c.in_ok-all.was c.join-first.ensures.first in
     let second = IfOk-at_ok (λ all. AreOpening arcs _ _ (map arc_value all.items)) c.in_ok-more.was c.join-first.ensures.second in
     subst (λ (rows : List Row). AreOpening arcs c.args.from c.args.count rows)
-        (sym (ap (map arc_value) c.in_ok-append.ensures.items ∙ map-append arc_value c.in_ok-all.all.items c.in_ok-more.more.items))
-        (opens_both arcs c.args.from _ _ _ c.args.count _ _ (omega arith) (omega arith) first second)
+    (sym (ap (map arc_value) c.in_ok-append.ensures.items ∙ map-append arc_value c.in_ok-all.all.items c.in_ok-more.more.items))
+    (opens_both arcs c.args.from _ _ _ c.args.count _ _ (omega arith) (omega arith) first second)

@@ -34,10 +34,10 @@ loop-arc-preserved c =
     let more = opens_more arcs c.loop-arc.arc-index nowhere from c.args.count c.loop-arc.rows.items mid new c.loop-arc-test.true c.loop-arc.invariant
     (out.count ∙ ap length first.value)
     (λ k h.
-        let here : k < length c.as_mut_slice.result.now = omega (arith, h, ap length first.value) in
-        out.rows k here ∙ ap (λ (rows : List Row). with_out arc (from + k) (row_at rows k)) first.value)
+    let here : k < length c.as_mut_slice.result.now = omega (arith, h, ap length first.value) in
+    out.rows k here ∙ ap (λ (rows : List Row). with_out arc (from + k) (row_at rows k)) first.value)
     (inn.count ∙ ap length mid_is)
     (λ k h.
-        let here : k < length c.as_mut_slice-in-loop-arc.result.now = omega (arith, h, ap length mid_is) in
-        inn.rows k here ∙ ap (λ (rows : List Row). with_in arc (from + k) (row_at rows k)) mid_is) in
+    let here : k < length c.as_mut_slice-in-loop-arc.result.now = omega (arith, h, ap length mid_is) in
+    inn.rows k here ∙ ap (λ (rows : List Row). with_in arc (from + k) (row_at rows k)) mid_is) in
     subst (λ (rows : List Row). AreOpening (take (c.loop-arc.arc-index + 1) arcs) from c.args.count rows) (sym (written c.loop-arc.rows.len new _ long2)) more
