@@ -486,7 +486,7 @@ fn has_nodes_left<S: Site, R: Wait>(
 }
 
 /// Whether a board of the row of three nodes is returned, with no node contracted.
-fn is_handed_back<S: Site>(board: Board<S>) -> bool {
+fn is_given_back<S: Site>(board: Board<S>) -> bool {
     match board.into_hierarchy() {
         Ok(_) => false,
         Err((back, error)) => (error == FinishError::NodesLeft) & is_fresh(&back),
@@ -525,7 +525,7 @@ fn given_back(given: Result<Finished, (Ledger, FinishError)>) -> Option<Ledger> 
 }
 
 /// Whether a ledger of three nodes is handed back by one thread, and then by two.
-fn is_ledger_handed_back<R: Threads>(rt: &R, ledger: Ledger) -> bool {
+fn is_ledger_given_back<R: Threads>(rt: &R, ledger: Ledger) -> bool {
     match given_back(ledger.finish()) {
         Some(back) => given_back(back.finish_by_two(rt)).is_some(),
         None => false,
