@@ -1,5 +1,5 @@
 -- The rows of a graph in which no node is contracted.
-use Rattle.std.proofs.Common.{ℕ, ◌≡◌, ◌≢◌, ◌+◌, ◌-◌, ◌<◌, ◌≤◌, cond, nat_eq, true, false, Bool, List, [], ◌∷◌, ◌++◌, length, get_or, set, take, map, replicate, None, arith, refl, sym, ◌∙◌, ap, subst, inl, inr}
+use Rattle.std.proofs.Common.{ℕ, ◌≡◌, ◌≢◌, ◌+◌, ◌-◌, ◌<◌, cond, nat_eq, true, false, Bool, List, [], ◌∷◌, ◌++◌, length, get_or, set, take, map, replicate, None, arith, refl, sym, ◌∙◌, ap, subst, inl, inr}
 use Rattle.std.specs.List.{filter}
 use Rattle.std.proofs.lemmas.Bool.{cases_eq, cases_lt}
 use Rattle.std.proofs.lemmas.Bool.Decides.{nat_tests}
