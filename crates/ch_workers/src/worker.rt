@@ -130,6 +130,7 @@ impl<E: Estimator> Worker<E> {
             return Ok(());
         };
         let key = self.key(&proposal);
+        self.scratch.keep(proposal);
         self.push(rt, shared, Item { key, node })
     }
 
@@ -151,14 +152,14 @@ impl<E: Estimator> Worker<E> {
         self.hear(rt, shared)?;
         let key = self.key(&proposal);
         if self.put_back(rt, shared, item, key)? {
+            self.scratch.keep(proposal);
             return Ok(Turn::Taken(0));
         }
         gate.pass(self.number, Point::Proposed);
         let weight = weight(proposal.facts(), shared.room);
-        if self.commit(rt, shared, gate, reader, item, proposal)? {
-            return Ok(Turn::Taken(weight));
-        }
-        Ok(Turn::Taken(0))
+        let committed = self.commit(rt, shared, gate, reader, item, &proposal)?;
+        self.scratch.keep(proposal);
+        Ok(Turn::Taken(if committed { weight } else { 0 }))
     }
 
     /// Puts an item into the queue.
@@ -236,13 +237,13 @@ impl<E: Estimator> Worker<E> {
         gate: &G,
         reader: &mut Reader<S>,
         item: Item,
-        proposal: Proposal,
+        proposal: &Proposal,
     ) -> Result<bool, Refused>
-        requires of_book { All (IsOfBook S.book) proposal.rests_on }
-        requires bound { proposal.bound ≡ S.book.bound }
+        requires of_book { All (IsOfBook S.book) proposal.now.rests_on }
+        requires bound { proposal.now.bound ≡ S.book.bound }
     {
         self.receipts.reserve(1)?;
-        match shared.commit(rt, &proposal, reader) {
+        match shared.commit(rt, proposal, reader) {
             Ok(receipt) => {
                 self.receipts.push_reserved(receipt);
                 self.deferred = 0;
