@@ -1,5 +1,5 @@
 use crate::shelf::{Lead, Shelf, cost_of};
-use ch_contract::{Facts, Proposal, ProposeError, Verdict, propose};
+use ch_contract::{Facts, Proposal, ProposeError, Scratch, Verdict, propose, propose_with};
 use ch_cost::Cost;
 use ch_overlay::{Seen, Shortcut};
 use std::alloc::Global;
@@ -248,6 +248,41 @@ fn comes_true(alloc: Global, case: &Case) -> Result<bool, Fail> {
 fn proposals_of_a_shelf(rt: HostRuntime) -> Result<(), Fail> {
     for case in &CASES {
         assert!(rt; comes_true(rt.alloc(), case)?);
+    }
+    Ok(())
+}
+
+/// Whether a source answers with the proposal of the case, twice, where each is made in the memory of the one before.
+fn proposes_again(
+    alloc: Global,
+    source: &mut Shelf,
+    scratch: &mut Scratch,
+    case: &Case,
+) -> Result<bool, ProposeError> {
+    if case.settle == 0 || case.settle > 64 {
+        return Ok(false);
+    }
+    let first = propose_with(alloc, source, scratch, case.node, case.settle)?;
+    let holds = is_proposed(&first, case) & has_verdicts(&first, case);
+    scratch.keep(first);
+    let second = propose_with(alloc, source, scratch, case.node, case.settle)?;
+    let still_holds = is_proposed(&second, case) & has_verdicts(&second, case);
+    scratch.keep(second);
+    Ok(holds & still_holds)
+}
+
+/// Whether the case comes true in the memory of what was proposed before.
+fn comes_true_again(alloc: Global, scratch: &mut Scratch, case: &Case) -> Result<bool, Fail> {
+    let mut shelf = Shelf::new(alloc, 6, case.leads, case.bound, None)?;
+    Ok(proposes_again(alloc, &mut shelf, scratch, case)?)
+}
+
+/// The proposals of all cases, longer and shorter lists in turn, are those that are made anew.
+#[test]
+fn proposals_in_kept_memory(rt: HostRuntime) -> Result<(), Fail> {
+    let mut scratch = Scratch::new(rt.alloc());
+    for case in &CASES {
+        assert!(rt; comes_true_again(rt.alloc(), &mut scratch, case)?);
     }
     Ok(())
 }
