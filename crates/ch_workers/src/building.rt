@@ -6,7 +6,7 @@ ghost use Rattle.ch_workers.specs.Options.{AreBad, queue_of};
 ghost use Rattle.ch_workers.specs.declared.error.BuildError.TheVariants.{BadOptions};
 
 use crate::boxed::box_lists;
-use crate::built::Built;
+use crate::built::{Built, with_index};
 use crate::disposal::Disposal;
 use crate::error::BuildError;
 use crate::finishing::finish;
@@ -55,7 +55,46 @@ pub fn build<G: Gate, R: Threads + Wait + Sync>(
     ensures queue { IfOk result (λ b. IsClosed options b.queue) }
     ensures leases { leases.new ≡ record leases.old { out = 0 } }
 {
-    let built = build_with_good(rt, alloc, graph, options, estimators, gate);
+    let mut disposal = Disposal::new();
+    let built = build_plain(
+        rt,
+        alloc,
+        graph,
+        options,
+        estimators,
+        leases,
+        gate,
+        &mut disposal,
+    );
+    let indexed = with_index(alloc, built);
+    disposal.wait(rt);
+    indexed
+}
+
+/// Builds as [`build`] does, and makes no index of the hierarchy's links, which its file doesn't have.
+///
+/// Rows and books that are needed no longer are dropped beside what comes next, also after it has answered: `disposal`
+/// waits for that.
+pub fn build_plain<G: Gate, R: Threads + Wait + Sync>(
+    rt: &R,
+    alloc: Global,
+    graph: Graph,
+    options: Options,
+    estimators: Vec<Vec<Box<dyn Estimator + Send>>>,
+    leases: &mut Leases,
+    gate: &G,
+    disposal: &mut Disposal,
+) -> Result<Built, BuildError>
+    requires untold { All (λ list. All (λ estimator. heard estimator ≡ []) list.items) estimators.items }
+    ensures bad { (result ≡ Err BadOptions) ↔ AreBad options (vec_len estimators) }
+    ensures built { IfOk result (λ b. IsMadeBy graph b.log.items b.hierarchy) }
+    ensures right { IfOk result (λ b. IsRight graph b.hierarchy) }
+    ensures account { IfOk result (λ b. IsAccount b.log.items (map (λ v. v.items) b.receipts.items)) }
+    ensures lists { IfOk result (λ b. vec_len b.receipts ≡ options.workers + 1) }
+    ensures queue { IfOk result (λ b. IsClosed options b.queue) }
+    ensures leases { leases.new ≡ record leases.old { out = 0 } }
+{
+    let built = build_with_good(rt, alloc, graph, options, estimators, gate, disposal);
     leases.wait(rt);
     built
 }
@@ -68,6 +107,7 @@ fn build_with_good<G: Gate, R: Threads + Wait + Sync>(
     options: Options,
     estimators: Vec<Vec<Box<dyn Estimator + Send>>>,
     gate: &G,
+    disposal: &mut Disposal,
 ) -> Result<Built, BuildError>
     requires untold { All (λ list. All (λ estimator. heard estimator ≡ []) list.items) estimators.items }
     ensures bad { (result ≡ Err BadOptions) ↔ AreBad options (vec_len estimators) }
@@ -78,10 +118,7 @@ fn build_with_good<G: Gate, R: Threads + Wait + Sync>(
         return Err(BuildError::BadOptions);
     }
     let good = GoodOptions { options };
-    let mut disposal = Disposal::new();
-    let built = build_by_good(rt, alloc, graph, good, estimators, gate, &mut disposal);
-    disposal.wait(rt);
-    match built {
+    match build_by_good(rt, alloc, graph, good, estimators, gate, disposal) {
         Ok(built) => Ok(built),
         Err(trouble) => Err(trouble.error()),
     }
@@ -129,7 +166,7 @@ fn finish_beside<R: Threads + Wait + Sync>(
         rt,
         move || -> Result<Closed, Trouble>
             ensures closed { IfOk result (λ closed. closed.queue ≡ waiting.queue) }
-        { waiting.close() },
+        { waiting.close(rt) },
         move || -> Result<Built, Trouble>
             ensures built { IfOk result (IsBuilt worked.ledger.graph (vec_len worked.receipts + 1)) }
         { finish(rt, alloc, worked, good, disposal) },

@@ -26,8 +26,8 @@ struct Swept {
     receipts: Vec<Receipt>,
 }
 
-/// Contracts what the workers left, and makes the hierarchy. The rows are dropped beside the making of its index. The queue
-/// is put in when it is closed.
+/// Contracts what the workers left, and makes the hierarchy, with no index. The rows are dropped beside what comes next. The
+/// queue is put in when it is closed.
 pub(crate) fn finish<R: Threads + Wait>(
     rt: &R,
     alloc: Global,
@@ -51,7 +51,7 @@ pub(crate) fn finish<R: Threads + Wait>(
     if !is_account(alloc, ledger.log(), receipts.as_slice())? {
         return Err(Trouble::Mixed);
     }
-    built_of(rt, alloc, ledger, receipts, disposal)
+    built_of(rt, ledger, receipts, disposal)
 }
 
 /// Contracts each node that is left, by a board whose book is new. There is none where no node is left.
@@ -104,7 +104,6 @@ fn sweep_named<S: Site + Send + Sync + 'static, R: Threads + Wait>(
 /// The hierarchy and the log of a ledger whose nodes are all contracted, beside the receipts that account for the log.
 fn built_of<R: Threads>(
     rt: &R,
-    alloc: Global,
     ledger: Ledger,
     receipts: Vec<Vec<Receipt>>,
     disposal: &mut Disposal,
@@ -115,15 +114,14 @@ fn built_of<R: Threads>(
     ensures built { IfOk result (IsBuilt ledger.graph (vec_len receipts)) }
     ensures queue { IfOk result (λ b. b.queue ≡ None) }
 {
-    let finished = match ledger.finish() {
+    let finished = match ledger.finish_by_two(rt) {
         Ok(finished) => finished,
         Err((_, FinishError::OutOfMemory)) => return Err(Trouble::OutOfMemory),
         Err((_, FinishError::NodesLeft)) => unreachable!(),
     };
-    disposal.take(rt, finished.rows);
-    let hierarchy = finished.hierarchy.into_indexed(alloc)?;
+    disposal.take_last(rt, finished.rows);
     Ok(Built {
-        hierarchy,
+        hierarchy: finished.hierarchy,
         receipts,
         log: finished.log,
         queue: None,

@@ -40,8 +40,9 @@ mod trouble;
 mod worker;
 
 pub use account::is_account;
-pub use building::build;
+pub use building::{build, build_plain};
 pub use built::Built;
+pub use disposal::Disposal;
 pub use error::BuildError;
 pub use gate::{Gate, OpenGate, Point};
 pub use options::Options;

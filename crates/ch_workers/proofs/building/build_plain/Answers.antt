@@ -1,5 +1,5 @@
 use Rattle.std.proofs.Common.{rules}
-use Rattle.ch_workers.proofs.building.build.Goals as goal
+use Rattle.ch_workers.proofs.building.build_plain.Goals as goal
 
 pub returns-clause-leases : goal.returns-clause-leases
 returns-clause-leases g c = search rules

@@ -1,6 +1,6 @@
 use Rattle.std.proofs.Common.{◌≡◌, List, refl, sym, subst}
 use Rattle.ch_graph.specs.Graph.{Graph}
-use Rattle.ch_graph.specs.Hierarchy.{Hierarchy, IsRight}
+use Rattle.ch_graph.specs.Hierarchy.{Hierarchy}
 use Rattle.ch_laws.specs.Contraction.{Contraction, State, IsReached, IsOver, IsMade}
 use Rattle.ch_overlay.specs.Overlay.{state_of}
 use Rattle.ch_workers.specs.Built.{IsMadeBy}
@@ -12,13 +12,10 @@ made_by graph log told state h is reached over made =
 
 pub returns : goal.returns
 returns g c =
-    let graph = c.args.ledger.graph in
-    let same = sym c.in_ok-hierarchy.ensures in
-    let made = subst (λ (h : Hierarchy). IsMade graph (state_of c.args.ledger.overlay) h) same c.in-Ok.ensures.made in
     record {
       built = record {
-        made = made_by graph c.args.ledger.log c.in-Ok.finished.log.items (state_of c.args.ledger.overlay) c.in_ok-hierarchy.hierarchy c.in-Ok.ensures.log c.requires.holds.reached c.requires.over made;
-        right = subst (λ (h : Hierarchy). IsRight graph h) same c.in-Ok.ensures.right;
+        made = made_by c.args.ledger.graph c.args.ledger.log c.in-Ok.finished.log.items (state_of c.args.ledger.overlay) c.in-Ok.finished.hierarchy c.in-Ok.ensures.log c.requires.holds.reached c.requires.over c.in-Ok.ensures.made;
+        right = c.in-Ok.ensures.right;
         account = rw c.in-Ok.ensures.log c.requires.account;
         lists = refl;
       };
