@@ -43,5 +43,5 @@ pub use in_memory::routes_in_memory;
 pub use laws::{
     causes_tell_refusals, first_routes_are_exact, right_routes_are_least, routes_are_exact,
 };
-pub use preparing::prepare;
+pub use preparing::{prepare, prepare_beside};
 pub use routing::route;

@@ -10,7 +10,7 @@ ghost use Rattle.ch_workers.specs.declared.error.BuildError.TheVariants.{BadOpti
 use crate::error::ServiceError;
 use crate::refusing::refuse;
 use ch_estimate::{Estimator, Leases};
-use ch_workers::{Built, Gate, Options, build};
+use ch_workers::{Built, Disposal, Gate, Options, build_plain};
 use grfile::read_graph;
 use std::alloc::Global;
 use std::io::{Read, Write};
@@ -49,11 +49,66 @@ pub fn prepare<G: Read, W: Write, P: Gate, R: Threads + Wait + Sync>(
     ensures broken { IfErr result (λ e. IfSome (G.remaining gr.old)
         (λ text. BreaksOff (Prepares text) (W.contents out.old) (W.contents out.new) e)) }
 {
+    let mut disposal = Disposal::new();
+    let prepared = prepare_beside(
+        rt,
+        alloc,
+        gr,
+        out,
+        options,
+        lists,
+        leases,
+        gate,
+        &mut disposal,
+    );
+    disposal.wait(rt);
+    prepared
+}
+
+/// Prepares a hierarchy as [`prepare`] does. What the build needs no longer may still be dropped after it has answered:
+/// `disposal` waits for that.
+pub fn prepare_beside<G: Read, W: Write, P: Gate, R: Threads + Wait + Sync>(
+    rt: &R,
+    alloc: Global,
+    gr: &mut G,
+    out: &mut W,
+    options: Options,
+    lists: Vec<Vec<Box<dyn Estimator + Send>>>,
+    leases: &mut Leases,
+    gate: &P,
+    disposal: &mut Disposal,
+) -> Result<(), ServiceError>
+    requires untold { All (λ list. All (λ estimator. heard estimator ≡ []) list.items) lists.items }
+    ensures prepares { OnOk result (IfSome (G.remaining gr.old)
+        (λ text. Writes (Prepares text) (W.contents out.old) (W.contents out.new))) }
+    ensures good { OnOk result (AreGood options (vec_len lists)) }
+    ensures leases { leases.new ≡ record leases.old { out = 0 } }
+
+    // At a refusal.
+    ensures bad { (e : BuildError) → result ≡ Err (Build e) → (e ≡ BadOptions) ↔ AreBad options (vec_len lists) }
+    ensures ready { IfErr result (IfBuilt (AreGood options (vec_len lists))) }
+    ensures kinds { IfErr result ComesOfPreparing }
+    ensures fault { IfErr result (λ e. IfSome (G.remaining gr.old) (λ text. IsPreparingFault text e)) }
+    ensures reached { IfErr result (IfTextFault (StopsAtReached (G.remaining gr.old) (G.remaining gr.new)) (λ _. ⊥)) }
+    ensures untouched { IfErr result (KeepsUnlessWriting (W.contents out.old) (W.contents out.new)) }
+    ensures broken { IfErr result (λ e. IfSome (G.remaining gr.old)
+        (λ text. BreaksOff (Prepares text) (W.contents out.old) (W.contents out.new) e)) }
+{
     let graph = match read_graph(alloc, gr) {
         Ok(graph) => graph,
         Err(fault) => return refuse(rt, ServiceError::Graph(fault), lists, leases),
     };
-    let Built { hierarchy, .. } = build(rt, alloc, graph, options, lists, leases, gate)?;
-    hierfile::write(&hierarchy, out)?;
+    let built = build_plain(rt, alloc, graph, options, lists, leases, gate, disposal)?;
+    let Built {
+        hierarchy,
+        receipts,
+        log,
+        queue,
+    } = built;
+    let mut rest = Disposal::new();
+    rest.take(rt, (receipts, log, queue));
+    let written = hierfile::write(&hierarchy, out);
+    rest.wait(rt);
+    written?;
     Ok(())
 }

@@ -29,7 +29,7 @@ mod whole;
 pub use answering::{perform_answer, perform_joined};
 pub use doing::perform;
 pub use informing::perform_info;
-pub use preparing::perform_preparation;
+pub use preparing::{perform_preparation, perform_preparation_beside};
 pub use routing::perform_route;
 pub use serving::perform_service;
 pub use status::report;

@@ -7,8 +7,8 @@ ghost use Rattle.performing.specs.Status.{IsPreparingStatus, TellsPrepared, stat
 use crate::lists::a_list_each;
 use crate::status::status_after;
 use ch_estimate::{Depth, EdgeDifference, Estimator, Lease, Leases, Neighbours};
-use ch_service::{ServiceError, causes_tell_refusals, prepare};
-use ch_workers::{Gate, Options};
+use ch_service::{ServiceError, causes_tell_refusals, prepare_beside};
+use ch_workers::{Disposal, Gate, Options};
 use jobs::{Order, Preparation, Stint, Workers};
 use std::alloc::{AllocError, Global};
 use std::io::{Read, Write};
@@ -34,7 +34,7 @@ pub fn options(workers: Workers, seed: u64, stint: Stint) -> Options
 /// Prepares a hierarchy of a graph, and returns the program's exit status.
 ///
 /// `graph` gives the graph's text, and `out` gets the hierarchy. Of a refusal one line goes to `err`. The workers pass the
-/// gate. Takes the time and memory of [`prepare`].
+/// gate. Takes the time and memory of [`prepare`](ch_service::prepare).
 pub fn perform_preparation<G: Read, W: Write, E: Write, P: Gate, R: Threads + Wait + Sync>(
     rt: &R,
     alloc: Global,
@@ -49,11 +49,44 @@ pub fn perform_preparation<G: Read, W: Write, E: Write, P: Gate, R: Threads + Wa
     ensures mixed { result ≡ 8 → Keeps (W.contents out.old) (W.contents out.new) }
     ensures quiet { result ≡ 0 → err.new ≡ err.old }
 {
-    status_after(prepare_by(rt, alloc, graph, out, preparation, gate), err)
+    let mut disposal = Disposal::new();
+    let status = perform_preparation_beside(
+        rt,
+        alloc,
+        preparation,
+        graph,
+        out,
+        err,
+        gate,
+        &mut disposal,
+    );
+    disposal.wait(rt);
+    status
+}
+
+/// Prepares a hierarchy as [`perform_preparation`] does. What the build needs no longer may still be dropped after it has
+/// returned: `disposal` waits for that.
+pub fn perform_preparation_beside<G: Read, W: Write, E: Write, P: Gate, R: Threads + Wait + Sync>(
+    rt: &R,
+    alloc: Global,
+    preparation: &Preparation<'_>,
+    graph: &mut G,
+    out: &mut W,
+    err: &mut E,
+    gate: &P,
+    disposal: &mut Disposal,
+) -> u8
+    ensures told { TellsPrepared result (G.remaining graph.old) (W.contents out.old) (W.contents out.new) }
+    ensures status { IsPreparingStatus result }
+    ensures mixed { result ≡ 8 → Keeps (W.contents out.old) (W.contents out.new) }
+    ensures quiet { result ≡ 0 → err.new ≡ err.old }
+{
+    let prepared = prepare_by(rt, alloc, graph, out, preparation, gate, disposal);
+    status_after(prepared, err)
 }
 
 // Prepares a hierarchy of a graph by workers, each with an estimator for each of its orders. Takes memory for the
-// estimators, and then that of `prepare`.
+// estimators, and then that of `prepare_beside`.
 fn prepare_by<G: Read, W: Write, P: Gate, R: Threads + Wait + Sync>(
     rt: &R,
     alloc: Global,
@@ -61,6 +94,7 @@ fn prepare_by<G: Read, W: Write, P: Gate, R: Threads + Wait + Sync>(
     out: &mut W,
     preparation: &Preparation<'_>,
     gate: &P,
+    disposal: &mut Disposal,
 ) -> Result<(), ServiceError>
     ensures { TellsPrepared (status_after result) (G.remaining graph.old) (W.contents out.old) (W.contents out.new) }
 {
@@ -82,5 +116,15 @@ fn prepare_by<G: Read, W: Write, P: Gate, R: Threads + Wait + Sync>(
             }
         },
     )?;
-    prepare(rt, alloc, graph, out, options, lists, &mut leases, gate)
+    prepare_beside(
+        rt,
+        alloc,
+        graph,
+        out,
+        options,
+        lists,
+        &mut leases,
+        gate,
+        disposal,
+    )
 }

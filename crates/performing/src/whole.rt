@@ -2,8 +2,8 @@ ghost use Rattle.std.specs.Prelude.{◌≡◌, ◌≢◌, ◌⊎◌, Some, None,
 ghost use Rattle.performing.specs.Destination.{HasPrepared};
 ghost use Rattle.performing.specs.Status.{IsPreparingStatus, TellsPrepared};
 
-use crate::preparing::perform_preparation;
-use ch_workers::Gate;
+use crate::preparing::perform_preparation_beside;
+use ch_workers::{Disposal, Gate};
 use jobs::{Preparation, end};
 use std::alloc::Global;
 use std::io::{Read, Write};
@@ -15,7 +15,7 @@ use whole_file::Destination;
 ///
 /// `graph` gives the graph's text. With a status of 0 the file of the hierarchy stands at the destination, and with any
 /// other what stood there before. What the status tells of the text is what it tells in
-/// [`perform_preparation`]. The workers pass the gate. Of a refusal one line goes to `err`.
+/// [`perform_preparation`](crate::perform_preparation). The workers pass the gate. Of a refusal one line goes to `err`.
 pub fn prepare_whole<G: Read, D: Destination, E: Write, P: Gate, R: Threads + Wait + Sync>(
     rt: &R,
     alloc: Global,
@@ -34,8 +34,20 @@ pub fn prepare_whole<G: Read, D: Destination, E: Write, P: Gate, R: Threads + Wa
     let Ok(mut draft) = destination.draft() else {
         return end(6, "memory", err);
     };
-    let status = perform_preparation(rt, alloc, preparation, graph, &mut draft, err, gate);
-    finish(destination, draft, status, err)
+    let mut disposal = Disposal::new();
+    let status = perform_preparation_beside(
+        rt,
+        alloc,
+        preparation,
+        graph,
+        &mut draft,
+        err,
+        gate,
+        &mut disposal,
+    );
+    let status = finish(destination, draft, status, err);
+    disposal.wait(rt);
+    status
 }
 
 // Lets the draft of a job that is done stand at its destination, and throws any other away.

@@ -13,10 +13,10 @@ returns-in_default-clause-told g c = no_memory _ c.end.result c.end.ensures
 pub returns-clause-done : goal.returns-clause-done
 returns-clause-done g c zero =
     let starts : g.D.PendingFile.Write.contents c.in-Ok.draft ≡ option_map (λ _. []) (g.D.Destination.stands c.args.destination.now) = search rules in
-    has_prepared _ _ _ _ _ starts (c.finish.ensures.done zero) (c.perform_preparation-status.ensures.told.done (was_done _ _ c.finish.ensures.status zero))
+    has_prepared _ _ _ _ _ starts (c.finish-status.ensures.done zero) (c.perform_preparation_beside-status.ensures.told.done (was_done _ _ c.finish-status.ensures.status zero))
 
 pub returns-clause-kept : goal.returns-clause-kept
-returns-clause-kept g c = c.finish.ensures.kept
+returns-clause-kept g c = c.finish-status.ensures.kept
 
 pub returns-clause-told : goal.returns-clause-told
-returns-clause-told g c = finished _ _ _ c.perform_preparation-status.result c.finish.result c.finish.ensures.status c.perform_preparation-status.ensures.told
+returns-clause-told g c = finished _ _ _ c.perform_preparation_beside-status.result c.finish-status.result c.finish-status.ensures.status c.perform_preparation_beside-status.ensures.told
