@@ -8,8 +8,8 @@ use crate::networks::{
 use crate::proposals::{are_of, are_shortcuts};
 use crate::shelf::{Lead, Numbers, cost_of};
 use ch_contract::{
-    Board, CommitError, Contraction, FinishError, Ledger, Proposal, ProposeError, Receipt, Site,
-    SweepError, Verdict, propose,
+    Board, CommitError, Contraction, FinishError, Finished, Ledger, Proposal, ProposeError,
+    Receipt, Site, SweepError, Verdict, propose,
 };
 use ch_graph::{Graph, Hierarchy, Link, Road};
 use ch_rowbook::{Blank, Reader};
@@ -17,6 +17,7 @@ use std::alloc::Global;
 use std::marker::Brand;
 use std::sync::Wait;
 use std::test::Fail;
+use std::thread::Threads;
 
 /// How many nodes each search settles at most.
 const SETTLE: u32 = 64;
@@ -288,12 +289,13 @@ fn is_finished<S: Site>(board: Board<S>, case: &Case) -> Result<bool, FinishErro
 }
 
 /// Whether the ledger of such a board comes to the hierarchy, the log and the rows of the case.
-fn ledger_comes_to<S: Site, R: Wait>(
+fn ledger_comes_to<S: Site, R: Threads + Wait>(
     rt: &R,
     alloc: Global,
     blank: Blank,
     graph: Graph,
     case: &Case,
+    by_two: bool,
 ) -> Result<bool, Fail>
     requires of_graph { S.graph ≡ graph }
     requires of_book { S.book ≡ name_of blank }
@@ -303,12 +305,17 @@ fn ledger_comes_to<S: Site, R: Wait>(
     let (mut board, _): (Board<S>, Reader<S>) = Board::new(rt, alloc, blank, graph)?;
     let holds = takes_turns(rt, alloc, &mut board, case)?;
     let (ledger, _) = board.into_parts();
-    Ok(holds & is_given_away(ledger, case))
+    Ok(holds & is_given_away(rt, ledger, case, by_two))
 }
 
-/// Whether a ledger gives away the hierarchy of the case, the log and the rows.
-fn is_given_away(ledger: Ledger, case: &Case) -> bool {
-    match ledger.finish() {
+/// Whether a ledger gives away the hierarchy of the case, the log and the rows, by two threads or by one.
+fn is_given_away<R: Threads>(rt: &R, ledger: Ledger, case: &Case, by_two: bool) -> bool {
+    let given = if by_two {
+        ledger.finish_by_two(rt)
+    } else {
+        ledger.finish()
+    };
+    match given {
         Ok(finished) => {
             is_hierarchy(&finished.hierarchy, case)
                 & is_log(finished.log.as_slice(), case.log)
@@ -443,15 +450,21 @@ fn boards_come_to_their_hierarchies(rt: HostRuntime) -> Result<(), Fail> {
 }
 
 /// Whether a ledger of the case's graph comes to what the case says.
-fn ledger_comes_true<R: Wait>(rt: &R, alloc: Global, case: &Case) -> Result<bool, Fail> {
+fn ledger_comes_true<R: Threads + Wait>(
+    rt: &R,
+    alloc: Global,
+    case: &Case,
+    by_two: bool,
+) -> Result<bool, Fail> {
     let (blank, graph) = with_blank(alloc, graph_of(alloc, case.nodes, case.lines)?)?;
-    ledger_comes_to::<Brand, R>(rt, alloc, blank, graph, case)
+    ledger_comes_to::<Brand, R>(rt, alloc, blank, graph, case, by_two)
 }
 
 #[test]
 fn ledgers_come_to_their_hierarchies(rt: HostRuntime) -> Result<(), Fail> {
     for case in &CASES {
-        assert!(rt; ledger_comes_true(&rt, rt.alloc(), case)?);
+        assert!(rt; ledger_comes_true(&rt, rt.alloc(), case, false)?);
+        assert!(rt; ledger_comes_true(&rt, rt.alloc(), case, true)?);
     }
     Ok(())
 }
@@ -496,15 +509,26 @@ fn nodes_left(rt: HostRuntime) -> Result<(), Fail> {
     Ok(())
 }
 
-/// Whether a ledger of three nodes is handed back, with no node contracted.
-fn is_ledger_handed_back(ledger: Ledger) -> bool {
-    match ledger.finish() {
-        Ok(_) => false,
+/// Whether a ledger of three nodes is handed back, with no node contracted: this is it.
+fn handed_back(given: Result<Finished, (Ledger, FinishError)>) -> Option<Ledger> {
+    match given {
+        Ok(_) => None,
         Err((back, error)) => {
-            (error == FinishError::NodesLeft)
-                & back.log().is_empty()
-                & (back.overlay().alive() == 3)
+            let is_whole = back.log().is_empty() & (back.overlay().alive() == 3);
+            if is_whole & (error == FinishError::NodesLeft) {
+                Some(back)
+            } else {
+                None
+            }
         }
+    }
+}
+
+/// Whether a ledger of three nodes is handed back by one thread, and then by two.
+fn is_ledger_handed_back<R: Threads>(rt: &R, ledger: Ledger) -> bool {
+    match handed_back(ledger.finish()) {
+        Some(back) => handed_back(back.finish_by_two(rt)).is_some(),
+        None => false,
     }
 }
 
@@ -512,7 +536,7 @@ fn is_ledger_handed_back(ledger: Ledger) -> bool {
 fn nodes_left_of_a_ledger(rt: HostRuntime) -> Result<(), Fail> {
     let alloc = rt.alloc();
     let ledger = Ledger::new(alloc, graph_of(alloc, 3, &ROW)?)?;
-    assert!(rt; is_ledger_handed_back(ledger));
+    assert!(rt; is_ledger_handed_back(&rt, ledger));
     Ok(())
 }
 
