@@ -16,9 +16,6 @@ use std::sync::{Mutex, MutexGuard, Wait};
 /// time than to sleep and to be woken does.
 const LOOKS: u32 = 100;
 
-/// For how many neighbours a worker's copy of an entry has room before the board's lock is taken.
-const NEIGHBOURS: usize = 64;
-
 /// What the rows that are replaced in a shift may weigh for each node of the network, in entries.
 const ROOM: u64 = 12;
 
@@ -38,6 +35,8 @@ pub(crate) struct Shared<S: Site> {
     is_held: CachePadded<AtomicBool>,
     /// How many entries the log has. It is stored before the lock is let go.
     entries: CachePadded<AtomicUsize>,
+    /// How many neighbours an entry of the log has at most. It is stored before the number of entries is.
+    widest: CachePadded<AtomicUsize>,
     /// What the rows weigh that were replaced so far, by all workers together.
     replaced: CachePadded<AtomicU64>,
     pub(crate) queue: MultiQueue,
@@ -74,11 +73,13 @@ impl<S: Site> Shared<S> {
         let nodes = board.graph().nodes();
         let room = FEWEST.max(ROOM * u64::from(nodes));
         let entries = board.log().len();
+        let widest = widest(board.log());
         Shared {
             alloc,
             board: Mutex::new(board),
             is_held: CachePadded::new(AtomicBool::new(false)),
             entries: CachePadded::new(AtomicUsize::new(entries)),
+            widest: CachePadded::new(AtomicUsize::new(widest)),
             replaced: CachePadded::new(AtomicU64::new(0)),
             queue,
             crew,
@@ -133,8 +134,12 @@ impl<S: Site> Shared<S> {
     {
         let mut hold = self.hold(rt);
         let committed = hold.board.commit_and_see(rt, proposal, reader);
-        self.entries
-            .store(hold.board.log().len(), Ordering::Relaxed);
+        let log = hold.board.log();
+        if let Some(last) = log.last() {
+            self.widest
+                .fetch_max(last.neighbours.len(), Ordering::Relaxed);
+        }
+        self.entries.store(log.len(), Ordering::Release);
         committed
     }
 
@@ -166,7 +171,7 @@ impl<S: Site> Shared<S> {
     }
 
     /// Copies the entry of this rank, if the log has it, under one hold of the board's lock. Returns how many entries the
-    /// log has.
+    /// log has. There is room for the copy before the lock is taken, so that nothing is allocated under it.
     fn copy_entry<R: Wait>(
         &self,
         rt: &R,
@@ -178,7 +183,8 @@ impl<S: Site> Shared<S> {
         ensures rising { IfOk result (λ count. rank < count → AllPairs (λ x y. x < y) copy.new.neighbours) }
     {
         copy.neighbours.clear();
-        copy.neighbours.reserve(NEIGHBOURS)?;
+        copy.neighbours
+            .reserve(self.widest.load(Ordering::Relaxed))?;
         let hold = self.hold(rt);
         let log = hold.board.log();
         if (rank as usize) < log.len() {
@@ -196,7 +202,7 @@ impl<S: Site> Shared<S> {
         copy: &mut Contraction,
         listener: &mut Listener<E>,
     ) -> Result<(), AllocError> {
-        if listener.told() as usize >= self.entries.load(Ordering::Relaxed) {
+        if listener.told() as usize >= self.entries.load(Ordering::Acquire) {
             return Ok(());
         }
         'entries: while self.tell_next(rt, listener.told(), copy, listener)?
@@ -204,6 +210,15 @@ impl<S: Site> Shared<S> {
         {}
         Ok(())
     }
+}
+
+/// How many neighbours an entry of the log has at most.
+fn widest(log: &[Contraction]) -> usize {
+    let mut most = 0usize;
+    for entry in log {
+        most = most.max(entry.neighbours.len());
+    }
+    most
 }
 
 /// What the rows weigh, in entries or so, that are replaced where a node is contracted: for each of its arcs a row that has
