@@ -18,6 +18,9 @@ from .roads import Roads
 
 SHOWN = 1_000_000
 
+# By the unit of weights, how many are a second, or a metre, of an answer.
+UNITS_OF_ANSWERS = {"duration": 1000, "distance": 100}
+
 Ints = NDArray[np.int64]
 
 
@@ -101,10 +104,11 @@ class Course:
 
 def figures_of(roads: Roads, weight: int, seconds: float, metres: float) -> dict[str, float]:
     """A weight in the unit that answers have, seconds and metres; those that weights are follow from them."""
+    unit = UNITS_OF_ANSWERS.get(roads.unit, 1)
     return {
-        "weight": weight / {"duration": 1000, "distance": 100, "weight": 1}[roads.unit],
-        "duration": round(weight / 1000 if roads.unit == "duration" else seconds, 3),
-        "distance": round(weight / 100 if roads.unit == "distance" else metres, 2),
+        "weight": weight / unit,
+        "duration": round(weight / unit if roads.unit == "duration" else seconds, 3),
+        "distance": round(weight / unit if roads.unit == "distance" else metres, 2),
     }
 
 

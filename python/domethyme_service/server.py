@@ -101,7 +101,7 @@ class Service:
                 if endpoint in KINDS:
                     return self._whole(200, await nodes.pair(generation.pool, KINDS[endpoint], asked.query), JSON)
                 wanted = request_of(asked.path, asked.query, self.ways.within)
-                return self._json(200, await osrm.answer(generation.pool, roads_of(generation), wanted))
+                return self._json(200, await osrm.answer(generation.pool, roads_of(generation), generation.tables, wanted))
 
     async def _batch(
         self, generation: Generation, kind: bytes, asked: Asked, request: web.BaseRequest
