@@ -5,6 +5,7 @@
     guard     connections: their number, the time of a head, pipelines
     server    endpoints, limits and the access log
     metrics   counters and times in the format of Prometheus
+    direct    pairs of nodes without aiohttp
     nodes     routes and lengths between nodes by their numbers
     osrm      OSRM's API: route, nearest, table
     asked     what a request of OSRM's API asks

@@ -28,12 +28,20 @@ class Generation:
     @contextlib.contextmanager
     def used(self) -> Iterator["Generation"]:
         """With-block of a request."""
-        self._users += 1
         try:
-            yield self
+            yield self.take()
         finally:
-            self._users -= 1
-            self._close_if_done()
+            self.release()
+
+    def take(self) -> "Generation":
+        """A request begins; `release` has to follow."""
+        self._users += 1
+        return self
+
+    def release(self) -> None:
+        """A request has ended."""
+        self._users -= 1
+        self._close_if_done()
 
     def retire(self) -> None:
         """No further request takes it."""
