@@ -61,6 +61,7 @@ class Service:
         self.is_draining = False
         self.reloads = self.batches = 0
         self.connections: Callable[[], int] = lambda: 0
+        self.is_logging = access_log.isEnabledFor(logging.INFO)
         self._fields = "".join(f"{name}: {value}\r\n" for name, value in self._headers(JSON).items()).encode()
 
     async def handle(self, request: web.BaseRequest) -> web.StreamResponse:
@@ -179,10 +180,6 @@ class Service:
         body = ENCODER.encode({"code": refused.code, "message": refused.message}).encode()
         again = "Retry-After: 1\r\n" if refused.status == 503 else ""
         return plain(f"{refused.status} {http.HTTPStatus(refused.status).phrase}", body, f"{self._fields.decode()}{again}")
-
-    @property
-    def is_logging(self) -> bool:
-        return access_log.isEnabledFor(logging.INFO)
 
     def _headers(self, kind: str) -> dict[str, str]:
         headers = {"Content-Type": kind, "X-Content-Type-Options": "nosniff", "Server": "domethyme"}
