@@ -50,11 +50,11 @@ class Seeds(NamedTuple):
 
 class Side(NamedTuple):
     """Links by their lower ends. Those of node n are those from first[n] to before first[n + 1], and `ends` has their ends of
-    higher rank."""
+    higher rank. Weights have 32 bits where all of them fit."""
 
-    first: Nodes
+    first: Nodes | Numbers
     ends: Nodes
-    weights: Numbers
+    weights: NDArray[np.int64] | NDArray[np.uint32]
 
     def of(self, nodes: Numbers) -> Numbers:
         """The links of the nodes, one node after the other."""
@@ -64,7 +64,7 @@ class Side(NamedTuple):
         """The links of the nodes, with rows in place of nodes."""
         some = self.of(nodes)
         counts = self.first[nodes + 1] - self.first[nodes]
-        return Between(np.repeat(rows[nodes], counts), rows[self.ends[some]], self.weights[some])
+        return Between(np.repeat(rows[nodes], counts), rows[self.ends[some]], self.weights[some].astype(np.int64))
 
 
 class Between(NamedTuple):
@@ -96,7 +96,7 @@ class Space(NamedTuple):
 
 
 class Sweeps:
-    """The links of a hierarchy as arrays: 12 bytes for each link and 8 for each node."""
+    """The links of a hierarchy as arrays: 8 bytes for each link, or 12 where a weight needs more than 32 bits, and 8 for each node."""
 
     def __init__(self, ranks: NDArray[np.uint32], starts: Nodes, ends: Nodes, weights: Numbers) -> None:
         """Of the rank of each node, from 0, and the links from starts[i] to ends[i], which weigh weights[i]."""
@@ -160,7 +160,8 @@ class Sweeps:
         rows[used[by_level]] = np.arange(len(used))
         up, down = self.up.between(climbed, rows), self.down.between(fallen, rows)
         levels = levels[by_level]
-        return Space(len(used), rows, part(levels, up.low, up.high, up.weights, 1), part(levels, down.high, down.low, down.weights, -1))
+        ways = part(levels, up.low, up.high, up.weights, 1), part(levels, down.high, down.low, down.weights, -1)
+        return Space(len(used), rows, *ways)
 
     def _above(self, side: Side, nodes: Numbers) -> Numbers:
         """The nodes, and those of higher rank that links join them to, and so on."""
@@ -184,7 +185,9 @@ def side_of(nodes: int, low: Nodes, high: Nodes, weights: Numbers) -> Side:
     """Links by their lower ends."""
     order = np.argsort(low, kind="stable")
     first = np.concatenate([[0], np.cumsum(np.bincount(low, minlength=nodes))])
-    return Side(first.astype(np.int32 if len(low) < 1 << 31 else np.int64), high[order], weights[order])
+    does_fit = not len(weights) or weights.max() < 1 << 32
+    first = first.astype(np.int32) if len(low) < 1 << 31 else first
+    return Side(first, high[order], weights.astype(np.uint32)[order] if does_fit else weights[order])
 
 
 def ranges(begins: Nodes | Numbers, ends: Nodes | Numbers) -> Numbers:

@@ -1,4 +1,5 @@
-"""A generation: a hierarchy with its workers, its network, and its links for tables. A request keeps one from its begin to its end."""
+"""A generation: a hierarchy with its workers, its network, and its links for tables. A request keeps one from its begin to its
+end."""
 import asyncio
 import contextlib
 from collections.abc import Iterator
