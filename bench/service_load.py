@@ -5,8 +5,10 @@
 
 NETWORK is the beginning of the names of a network's files, as bench/make_roads.py writes them. Near pairs are those whose numbers
 are at most 3,000 apart, which in such networks are some 90 arcs. It needs Debian's wrk. Each line has the requests in a second,
-the median and the 99th percentile in ms, and the processor time of the fronts and of their workers for each request, since other
-work on the machine makes the former smaller and not the latter. Each is the median of the rounds. The program is that of ROUTECLI.
+the median and the 99th percentile in ms, and the processor time of the fronts, of their workers and of wrk for each request, since
+other work on the machine makes the former smaller and not the latter. Each is the median of the rounds. Beside tables single
+requests are asked one after the other, each on a connection of its own, after as many without tables. The program is that of
+ROUTECLI.
 """
 import argparse
 import concurrent.futures
@@ -16,6 +18,7 @@ import os
 import pathlib
 import random
 import re
+import resource
 import signal
 import statistics
 import subprocess
@@ -127,19 +130,26 @@ def load(service, name, paths, given):
         file.write_text("".join(f"{path}\n" for path in paths))
         script.write_text(LUA.format(file=file))
         rows = [one_load(service, script, given) for _ in range(given.rounds)]
-    rate, median, late, front, worker, wrong = (statistics.median(column) for column in zip(*rows))
+    rate, median, late, front, worker, asking, wrong = (statistics.median(column) for column in zip(*rows))
     low, high = min(row[0] for row in rows), max(row[0] for row in rows)
     said = f"{name}: {rate:,.0f}/s ({low:,.0f} to {high:,.0f}), median {median:.1f} ms, p99 {late:.1f} ms"
-    print(f"{said}; processor time {front:.0f} µs front, {worker:.0f} µs worker; {wrong:.0f} errors", flush=True)
+    print(f"{said}; processor time {front:.0f} µs front, {worker:.0f} µs worker, {asking:.0f} µs wrk; {wrong:.0f} errors", flush=True)
 
 
 def one_load(service, script, given):
-    before = service.times()
+    before = *service.times(), seconds_of_children()
     words = ["wrk", "-t", "2", "-c", given.connections, "-d", given.seconds, "-s", script, f"http://127.0.0.1:{service.port}"]
     said = subprocess.run(list(map(str, words)), capture_output=True, text=True, check=True).stdout.splitlines()[-1]
     requests, duration, median, late, wrong = map(int, said.split())
-    front, worker = (1e6 * (now - then) / max(1, requests) for now, then in zip(service.times(), before))
-    return 1e6 * requests / duration, median / 1000, late / 1000, front, worker, wrong
+    after = *service.times(), seconds_of_children()
+    each = (1e6 * (now - then) / max(1, requests) for now, then in zip(after, before))
+    return 1e6 * requests / duration, median / 1000, late / 1000, *each, wrong
+
+
+def seconds_of_children():
+    """The processor seconds of processes that this one has waited for."""
+    used = resource.getrusage(resource.RUSAGE_CHILDREN)
+    return used.ru_utime + used.ru_stime
 
 
 def tables(service, places, draw, given):
@@ -148,15 +158,23 @@ def tables(service, places, draw, given):
     nodes = [min(places.count, max(1, node + draw.randint(-NEAR, NEAR))) for _ in range(PLACES)]
     path = f"/table/v1/car/{places.text(nodes, draw)}?skip_waypoints=true"
     single = [f"/nodes/route?from={pair[0]}&to={pair[1]}" for pair in (places.pair(draw, True) for _ in range(300))]
+    without = sorted(timed(service, one) for one in single)
+    before = service.times()
     alone = [timed(service, path) for _ in range(max(5, given.rounds))]
+    used = sum(service.times()) - sum(before)
     with concurrent.futures.ThreadPoolExecutor(1) as pool:
         running = pool.submit(lambda: [timed(service, path) for _ in range(8)])
         beside = []
         while not running.done():
             beside.append(timed(service, single[len(beside) % len(single)]))
     beside.sort()
-    print(f"table of {PLACES} x {PLACES}: {1000 * statistics.median(alone):.0f} ms alone ({1000 * min(alone):.0f} to {1000 * max(alone):.0f})")
-    print(f"single requests beside tables: median {1000 * statistics.median(beside):.1f} ms, p99 {1000 * beside[int(len(beside) * 0.99)]:.1f} ms, of {len(beside)}", flush=True)
+    print(
+        f"table of {PLACES} x {PLACES}: {1000 * statistics.median(alone):.0f} ms alone ({1000 * min(alone):.0f} to {1000 * max(alone):.0f}), "
+        f"processor time {1000 * used / len(alone):.0f} ms"
+    )
+    for name, times in (("without", without), ("beside", beside)):
+        late = times[int(len(times) * 0.99)]
+        print(f"single requests {name} tables: median {1000 * statistics.median(times):.1f} ms, p99 {1000 * late:.1f} ms, of {len(times)}", flush=True)
 
 
 def timed(service, path):

@@ -1,9 +1,10 @@
 """Tables of lengths by sweeps over a hierarchy, for many sources at a time (after Delling, Goldberg, Nowatzyk and Werneck,
-PHAST, 2011). Needs numpy.
+PHAST, 2011, and Delling, Goldberg and Werneck, RPHAST, 2011). Needs numpy.
 
 A least walk goes up from its source, along links to nodes of higher rank, and then down to its target. So one pass over
 the nodes above the sources, lowest first, and one over the nodes above the targets, highest first, give all lengths. Here
-a node is a row of an array with a column for each source, and the nodes of one level are taken at a time.
+a node is a row of an array with a column for each source, and the nodes of one level are taken at a time. The nodes above
+the sources and the targets are looked for first, so the time depends on them and not on the size of the network.
 
 This reads the file of a hierarchy by itself and is no part of what is proved of `routecli`; it is tested against the
 lengths that `routecli serve` gives.
@@ -18,6 +19,7 @@ from numpy.typing import NDArray
 from .errors import HierarchyError
 
 Numbers = NDArray[np.int64]
+Nodes = NDArray[np.int32]
 
 # No length is as great: there are at most 2^25 nodes, and an arc weighs less than 2^32. It may be added to without a wrap.
 FAR = np.int64(1 << 60)
@@ -25,84 +27,179 @@ NO_WAY = -1
 HEAD_BYTES = 24
 FIELDS = [("start", ">u4"), ("end", ">u4"), ("weight", ">i8"), ("arcs", ">u4"), ("middle", ">u4")]
 LINKS = {b"RCH1": np.dtype(FIELDS[:3] + FIELDS[4:]), b"RCH2": np.dtype(FIELDS)}
+
+# So many lengths are worked on at a time, 8 bytes each, and so many links of a file.
+CELLS = 1 << 22
+LINKS_AT_A_TIME = 1 << 20
 AT_ONCE = 1 << 30
 
-# So many lengths are worked on at a time, 8 bytes each.
-CELLS = 1 << 22
+
+class Seeds(NamedTuple):
+    """Where routes begin, or where they end: place places[i] of `size`, at node nodes[i], with added[i] more length."""
+
+    size: int
+    places: Numbers
+    nodes: Numbers
+    added: Numbers
+
+    @classmethod
+    def at(cls, nodes: Numbers) -> "Seeds":
+        """A place at each node."""
+        return cls(len(nodes), np.arange(len(nodes)), nodes, np.zeros(len(nodes), np.int64))
 
 
-class Links(NamedTuple):
-    """Links from `tails` to `heads`, in an order in which a sweep may take them: by the level of their heads, then by the
-    heads. `first` are the places where another level begins, and last the number of links."""
+class Side(NamedTuple):
+    """Links by their lower ends. Those of node n are those from first[n] to before first[n + 1], and `ends` has their ends of
+    higher rank. Weights have 32 bits where all of them fit."""
+
+    first: Nodes | Numbers
+    ends: Nodes
+    weights: NDArray[np.int64] | NDArray[np.uint32]
+
+    def of(self, nodes: Numbers) -> Numbers:
+        """The links of the nodes, one node after the other."""
+        return ranges(self.first[nodes], self.first[nodes + 1])
+
+    def between(self, nodes: Numbers, rows: Numbers) -> "Between":
+        """The links of the nodes, with rows in place of nodes."""
+        some = self.of(nodes)
+        counts = self.first[nodes + 1] - self.first[nodes]
+        return Between(np.repeat(rows[nodes], counts), rows[self.ends[some]], self.weights[some].astype(np.int64))
+
+
+class Between(NamedTuple):
+    """Links between rows, from their lower to their higher ends."""
+
+    low: Numbers
+    high: Numbers
+    weights: Numbers
+
+
+class Part(NamedTuple):
+    """Links between rows, in an order in which a sweep may take them: by the level of their heads, then by the heads. `cuts`
+    are the places where another level begins, and last the number of links."""
 
     tails: Numbers
     heads: Numbers
     weights: Numbers
-    first: Numbers
+    cuts: Numbers
 
-    def levels(self) -> list[tuple[int, int]]:
-        """Where the links of each level begin and end."""
-        return list(itertools.pairwise(self.first.tolist()))
+
+class Space(NamedTuple):
+    """What a table is made in: `size` nodes, of which node n is row rows[n], in the order of their levels; the links that lead
+    up from those above the sources, and those that lead down to those above the targets."""
+
+    size: int
+    rows: Numbers
+    up: Part
+    down: Part
 
 
 class Sweeps:
-    """The links of a hierarchy as arrays: 20 bytes for each link and 12 for each node."""
+    """The links of a hierarchy as arrays: 8 bytes for each link, or 12 where a weight needs more than 32 bits, and 8 for each node."""
 
-    def __init__(self, ranks: Numbers, starts: Numbers, ends: Numbers, weights: Numbers) -> None:
+    def __init__(self, ranks: NDArray[np.uint32], starts: Nodes, ends: Nodes, weights: Numbers) -> None:
         """Of the rank of each node, from 0, and the links from starts[i] to ends[i], which weigh weights[i]."""
         rises = ranks[starts] < ranks[ends]
-        low, high = np.where(rises, starts, ends), np.where(rises, ends, starts)
         self.nodes = len(ranks)
-        self.levels = levels_of(len(ranks), low, high)
-        self.up = by_level(self.levels, low[rises], high[rises], weights[rises])
-        self.down = by_level(-self.levels, high[~rises], low[~rises], weights[~rises])
+        self.up = side_of(self.nodes, starts[rises], ends[rises], weights[rises])
+        self.down = side_of(self.nodes, ends[~rises], starts[~rises], weights[~rises])
 
     @classmethod
     def read(cls, file: int, name: str) -> "Sweeps":
         """Of the open file of a hierarchy, version 1 or 2, whose head fits its size. Raises HierarchyError where its ranks
         or links can't be."""
-        data = read_whole(file, os.fstat(file).st_size)
-        nodes, links = int.from_bytes(data[4:8], "big"), int.from_bytes(data[8:16], "big")
-        ranks = np.frombuffer(data, ">u4", nodes, HEAD_BYTES).astype(np.int64)
-        table = np.frombuffer(data, LINKS[data[:4]], links, HEAD_BYTES + 4 * nodes)
-        starts, ends, weights = (table[column].astype(np.int64) for column in ("start", "end", "weight"))
-        if not np.array_equal(np.sort(ranks), np.arange(nodes)):
+        head = os.pread(file, HEAD_BYTES, 0)
+        kind, nodes, links = LINKS[head[:4]], int.from_bytes(head[4:8], "big"), int.from_bytes(head[8:16], "big")
+        ranks = np.frombuffer(read_at(file, HEAD_BYTES, 4 * nodes), ">u4").astype(np.uint32)
+        if nodes and (ranks.max() >= nodes or np.bincount(ranks, minlength=nodes).max() > 1):
             raise HierarchyError(f"{name}: its ranks aren't the numbers from 0 to {nodes - 1}", 4)
-        if links and (max(starts.max(), ends.max()) >= nodes or (starts == ends).any() or weights.min() < 0):
-            raise HierarchyError(f"{name}: a link of it has an end or a weight that can't be", 4)
+        starts, ends, weights = np.empty(links, np.int32), np.empty(links, np.int32), np.empty(links, np.int64)
+        for begin in range(0, links, LINKS_AT_A_TIME):
+            end = min(begin + LINKS_AT_A_TIME, links)
+            place = HEAD_BYTES + 4 * nodes + begin * kind.itemsize
+            table = np.frombuffer(read_at(file, place, (end - begin) * kind.itemsize), kind)
+            most = max(table["start"].max(), table["end"].max())
+            if most >= nodes or (table["start"] == table["end"]).any() or table["weight"].min() < 0:
+                raise HierarchyError(f"{name}: a link of it has an end or a weight that can't be", 4)
+            starts[begin:end], ends[begin:end], weights[begin:end] = table["start"], table["end"], table["weight"]
         return cls(ranks, starts, ends, weights)
 
     def lengths(self, sources: Numbers, targets: Numbers) -> Numbers:
         """The least lengths, of shape (sources, targets), NO_WAY (-1) where there is no way. Memory: that of the table, and
         some 100 MB."""
-        climbed = above(self.up, self.nodes, sources)
-        fallen = above_reversed(self.down, self.nodes, targets)
-        # the rows of nodes above a source come first, then those above a target alone
-        rows = np.full(self.nodes, -1)
-        used = np.concatenate([np.flatnonzero(climbed), np.flatnonzero(fallen & ~climbed)])
-        rows[used] = np.arange(len(used))
-        up, down = restricted(self.up, climbed, rows), restricted(self.down, fallen, rows)
-        table = np.empty((len(sources), len(targets)), np.int64)
-        at_a_time = max(1, CELLS // max(1, len(used)))
-        for begin in range(0, len(sources), at_a_time):
-            some = sources[begin : begin + at_a_time]
-            least = np.full((len(used), len(some)), FAR)
-            least[rows[some], np.arange(len(some))] = 0
-            for links in (up, down):
-                sweep(links, least)
-            table[begin : begin + at_a_time] = least[rows[targets]].T
+        return self.between(Seeds.at(sources), Seeds.at(targets))
+
+    def between(self, starts: Seeds, ends: Seeds) -> Numbers:
+        """The same from places to places, each by the node of it from which, or to which, the whole length is least."""
+        space = self._space(starts.nodes, ends.nodes)
+        first, last = space.rows[starts.nodes], space.rows[ends.nodes]
+        order = np.argsort(ends.places, kind="stable")
+        places, groups = np.unique(ends.places[order], return_index=True)
+        table = np.full((starts.size, ends.size), FAR)
+        at_a_time = max(1, CELLS // max(1, space.size))
+        for begin in range(0, starts.size if len(places) else 0, at_a_time):
+            end = min(begin + at_a_time, starts.size)
+            some = (begin <= starts.places) & (starts.places < end)
+            least = np.full((space.size, end - begin), FAR)
+            np.minimum.at(least, (first[some], starts.places[some] - begin), starts.added[some])
+            for part in (space.up, space.down):
+                sweep(part, least)
+            lengths = least[last[order]] + ends.added[order, None]
+            table[begin:end, places] = np.minimum.reduceat(lengths, groups, axis=0).T
         table[table >= FAR] = NO_WAY
         return table
 
+    def _space(self, sources: Numbers, targets: Numbers) -> "Space":
+        climbed, fallen = self._above(self.up, sources), self._above(self.down, targets)
+        used = np.union1d(climbed, fallen)
+        rows = np.empty(self.nodes, np.int64)  # (where no node is used it isn't touched, and takes no memory)
+        rows[used] = np.arange(len(used))
+        levels = levels_of(len(used), self.up.between(climbed, rows), self.down.between(fallen, rows))
+        by_level = np.argsort(levels, kind="stable")
+        rows[used[by_level]] = np.arange(len(used))
+        up, down = self.up.between(climbed, rows), self.down.between(fallen, rows)
+        levels = levels[by_level]
+        ways = part(levels, up.low, up.high, up.weights, 1), part(levels, down.high, down.low, down.weights, -1)
+        return Space(len(used), rows, *ways)
 
-def read_whole(file: int, size: int) -> bytes:
-    """The bytes of an open file, from its beginning; a large one takes several reads."""
-    parts = [os.pread(file, AT_ONCE, place) for place in range(0, size, AT_ONCE)]
+    def _above(self, side: Side, nodes: Numbers) -> Numbers:
+        """The nodes, and those of higher rank that links join them to, and so on."""
+        is_reached = np.zeros(self.nodes, bool)
+        found, front = [], np.unique(nodes)
+        while len(front):
+            is_reached[front] = True
+            found.append(front)
+            ends = side.ends[side.of(front)]
+            front = np.unique(ends[~is_reached[ends]])
+        return np.concatenate(found) if found else nodes
+
+
+def read_at(file: int, place: int, size: int) -> bytes:
+    """Bytes of an open file; many take several reads."""
+    parts = [os.pread(file, min(AT_ONCE, size - begin), place + begin) for begin in range(0, size, AT_ONCE)]
     return b"".join(parts)
 
 
-def levels_of(nodes: int, low: Numbers, high: Numbers) -> Numbers:
-    """A level for each node, from 0, the least that is above those of all nodes of lower rank that a link joins it to."""
+def side_of(nodes: int, low: Nodes, high: Nodes, weights: Numbers) -> Side:
+    """Links by their lower ends."""
+    order = np.argsort(low, kind="stable")
+    first = np.concatenate([[0], np.cumsum(np.bincount(low, minlength=nodes))])
+    does_fit = not len(weights) or weights.max() < 1 << 32
+    first = first.astype(np.int32) if len(low) < 1 << 31 else first
+    return Side(first, high[order], weights.astype(np.uint32)[order] if does_fit else weights[order])
+
+
+def ranges(begins: Nodes | Numbers, ends: Nodes | Numbers) -> Numbers:
+    """The numbers from begins[i] up to ends[i], for all i, one after the other."""
+    counts = ends - begins
+    offsets: Numbers = np.repeat(begins - (np.cumsum(counts) - counts), counts)
+    return offsets + np.arange(len(offsets))
+
+
+def levels_of(nodes: int, *links: "Between") -> Numbers:
+    """A level for each row, from 0, the least that is above those of all rows of lower rank that a link joins it to."""
+    low, high = (np.concatenate([getattr(each, end) for each in links]) for end in ("low", "high"))
     order = np.argsort(low, kind="stable")
     high = high[order]
     first = np.concatenate([[0], np.cumsum(np.bincount(low, minlength=nodes))])
@@ -110,59 +207,27 @@ def levels_of(nodes: int, low: Numbers, high: Numbers) -> Numbers:
     ready, level = np.flatnonzero(waits_for == 0), 0
     while len(ready):
         levels[ready] = level
-        nexts = high[ranges(first[ready], first[ready + 1])]
-        np.subtract.at(waits_for, nexts, 1)
-        ready = np.unique(nexts[waits_for[nexts] == 0])
+        nexts, times = np.unique(high[ranges(first[ready], first[ready + 1])], return_counts=True)
+        waits_for[nexts] -= times
+        ready = nexts[waits_for[nexts] == 0]
         level += 1
     return levels
 
 
-def ranges(begins: Numbers, ends: Numbers) -> Numbers:
-    """The numbers from begins[i] up to ends[i], for all i, one after the other."""
-    counts = ends - begins
-    offsets: Numbers = np.repeat(begins - np.concatenate([[0], np.cumsum(counts)[:-1]]), counts)
-    return offsets + np.arange(len(offsets), dtype=np.int64)
-
-
-def by_level(levels: Numbers, tails: Numbers, heads: Numbers, weights: Numbers) -> Links:
-    """The links by the level of their heads, then by their heads."""
-    order = np.lexsort((heads, levels[heads]))
+def part(levels: Numbers, tails: Numbers, heads: Numbers, weights: Numbers, step: int) -> Part:
+    """Links for a sweep that goes up (step 1) or down (-1). Rows are in the order of their levels."""
+    order = np.argsort(step * heads, kind="stable")
     tails, heads, weights = tails[order], heads[order], weights[order]
-    changes = np.flatnonzero(np.diff(levels[heads])) + 1 if len(heads) else np.empty(0, np.int64)
-    return Links(tails, heads, weights, np.concatenate([[0], changes, [len(heads)]]))
+    changes = np.flatnonzero(np.diff(levels[heads])) + 1
+    return Part(tails, heads, weights, np.unique([0, *changes, len(heads)]))
 
 
-def above(links: Links, nodes: int, sources: Numbers) -> NDArray[np.bool_]:
-    """Which nodes are reached from the sources along links that rise."""
-    reached = np.zeros(nodes, bool)
-    reached[sources] = True
-    for begin, end in links.levels():
-        reached[links.heads[begin:end][reached[links.tails[begin:end]]]] = True
-    return reached
-
-
-def above_reversed(links: Links, nodes: int, targets: Numbers) -> NDArray[np.bool_]:
-    """Which nodes reach the targets along links that fall."""
-    reaches = np.zeros(nodes, bool)
-    reaches[targets] = True
-    for begin, end in reversed(links.levels()):
-        reaches[links.tails[begin:end][reaches[links.heads[begin:end]]]] = True
-    return reaches
-
-
-def restricted(links: Links, wanted: NDArray[np.bool_], rows: Numbers) -> Links:
-    """The links between nodes that are wanted, with rows in place of nodes."""
-    kept = wanted[links.tails] & wanted[links.heads]
-    before = np.concatenate([[0], np.cumsum(kept)])
-    return Links(rows[links.tails[kept]], rows[links.heads[kept]], links.weights[kept], np.unique(before[links.first]))
-
-
-def sweep(links: Links, least: Numbers) -> None:
+def sweep(links: Part, least: Numbers) -> None:
     """Lowers the row of each node to the least by its links from nodes that come before, level by level."""
-    for begin, end in links.levels():
+    for begin, end in itertools.pairwise(links.cuts.tolist()):
         heads = links.heads[begin:end]
-        reached = least[links.tails[begin:end]]
-        reached += links.weights[begin:end, None]
+        lengths = least[links.tails[begin:end]]
+        lengths += links.weights[begin:end, None]
         groups = np.flatnonzero(np.concatenate([[True], heads[1:] != heads[:-1]]))
-        nodes = heads[groups]
-        least[nodes] = np.minimum(least[nodes], np.minimum.reduceat(reached, groups, axis=0))
+        rows = heads[groups]
+        least[rows] = np.minimum(least[rows], np.minimum.reduceat(lengths, groups, axis=0))

@@ -15,9 +15,10 @@ import sys
 
 from domethyme import DomethymeError, find_program
 
+from .direct import Pairs
 from .errors import WorkerFault
 from .fronts import Fronts
-from .generation import Generation, opened
+from .generation import Files, Generation, opened
 from .guard import Bounds, Server
 from .server import Service, Ways
 from .workers import Counts, Limits
@@ -25,6 +26,8 @@ from .workers import Counts, Limits
 SECONDS_TO_DRAIN = 30.0
 IDLE_AT_THE_END = 1.0
 BACKLOG = 1024
+# Seconds after which a table's thread lets single requests in.
+SWITCH = 0.0005
 log = logging.getLogger("domethyme_service")
 
 
@@ -40,6 +43,7 @@ def parser() -> argparse.ArgumentParser:
     words.add_argument("--workers", type=number(1, 64), default=1, help="processes of routecli serve (1)")
     words.add_argument("--fronts", type=number(1, 64), default=1, help="processes that listen, each with its workers (1)")
     words.add_argument("--one-of-many", action="store_true", help=argparse.SUPPRESS)
+    words.add_argument("--tables", choices=("fast", "proved"), default="fast", help="how tables of many cells are made (fast)")
     words.add_argument("--program", help="routecli: by default that of ROUTECLI, on PATH, or built here")
     words.add_argument("--connections", type=number(1, 100_000), default=2000, help="how many at once (2000)")
     words.add_argument("--head-seconds", type=number(1, 3600), default=10, help="in which a head has to come whole (10)")
@@ -74,10 +78,11 @@ class Front:
     async def run(self) -> None:
         """Serves until it is told to end. Raises WorkerFault or OSError where it can't begin."""
         words = self.words
+        sys.setswitchinterval(SWITCH)
         signal.signal(signal.SIGHUP, lambda number, _: self._wanted.append(number))
         listening = listener(words.host, words.port, words.one_of_many)
         self.service = Service(await self.generation(), self.counts, Ways(words.cors, words.log_places, words.within))
-        server = Server(self.service.handle, Bounds(words.connections, words.head_seconds))
+        server = Server(self.service.handle, Bounds(words.connections, words.head_seconds), Pairs(self.service))
         self.service.connections = lambda: len(server.connections)
         loop = asyncio.get_running_loop()
         for name in (signal.SIGTERM, signal.SIGINT):
@@ -96,7 +101,8 @@ class Front:
 
     async def generation(self) -> Generation:
         words = self.words
-        return await opened(self.program, words.hierarchy, words.network, words.workers, Limits(), self.counts)
+        files = Files(words.hierarchy, words.network, words.tables == "fast")
+        return await opened(self.program, files, words.workers, Limits(), self.counts)
 
     def orphaned(self) -> None:
         """The process that started the fronts is gone."""

@@ -18,6 +18,9 @@ from .roads import Roads
 
 SHOWN = 1_000_000
 
+# By the unit of weights, how many are a second, or a metre, of an answer.
+UNITS_OF_ANSWERS = {"duration": 1000, "distance": 100}
+
 Ints = NDArray[np.int64]
 
 
@@ -51,16 +54,18 @@ class Course:
                 self.begins[place + 1 :] += len(line) - (high - low)
 
     @functools.cached_property
-    def _shown(self) -> Ints:
-        """The points to six places."""
-        return (self.points + UNITS // SHOWN // 2) // (UNITS // SHOWN)
+    def _shown(self) -> tuple[list[list[float]], list[int], list[int]]:
+        """The points to six places, without those that follow themselves, and the places there of the first and last of each arc."""
+        shown = (self.points + UNITS // SHOWN // 2) // (UNITS // SHOWN)
+        is_other = np.ones(len(shown), dtype=bool)
+        is_other[1:] = (shown[1:] != shown[:-1]).any(axis=1)
+        places = np.cumsum(is_other) - 1
+        return (shown[is_other] / SHOWN).tolist(), places[self.begins[:-1]].tolist(), places[self.begins[1:] - 1].tolist()
 
     def line(self, first: int, last: int) -> list[list[float]]:
         """The points of the arcs from one to before another, to six places, without one that follows itself; two at least."""
-        part = self._shown[self.begins[first] : self.begins[last]]
-        is_other = np.ones(len(part), dtype=bool)
-        is_other[1:] = (part[1:] != part[:-1]).any(axis=1)
-        found: list[list[float]] = (part[is_other] / SHOWN).tolist()
+        points, begins, ends = self._shown
+        found = points[begins[first] : ends[last - 1] + 1]
         return found if len(found) > 1 else found * 2
 
     @functools.cached_property
@@ -101,10 +106,11 @@ class Course:
 
 def figures_of(roads: Roads, weight: int, seconds: float, metres: float) -> dict[str, float]:
     """A weight in the unit that answers have, seconds and metres; those that weights are follow from them."""
+    unit = UNITS_OF_ANSWERS.get(roads.unit, 1)
     return {
-        "weight": weight / {"duration": 1000, "distance": 100, "weight": 1}[roads.unit],
-        "duration": round(weight / 1000 if roads.unit == "duration" else seconds, 3),
-        "distance": round(weight / 100 if roads.unit == "distance" else metres, 2),
+        "weight": weight / unit,
+        "duration": round(weight / unit if roads.unit == "duration" else seconds, 3),
+        "distance": round(weight / unit if roads.unit == "distance" else metres, 2),
     }
 
 

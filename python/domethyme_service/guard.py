@@ -1,5 +1,6 @@
 """Connections, with what aiohttp's server leaves open: how many there may be, the time in which a head has to come, how many
-requests one may send ahead, errors as JSON, and an end without a lost request."""
+requests one may send ahead, errors as JSON, and an end without a lost request. A connection that asks for pairs of nodes alone
+doesn't come to aiohttp at all (direct)."""
 import asyncio
 import json
 from collections.abc import Awaitable, Callable
@@ -7,7 +8,10 @@ from typing import Any, NamedTuple, cast
 
 from aiohttp import web
 
+from .direct import Asked, Pairs
+
 MOST_AHEAD = 64
+MOST_HELD = 1 << 13
 NONE_MORE = b'{"code":"Overloaded","message":"too many connections"}'
 TOO_SLOW = b'{"code":"Timeout","message":"the request\'s head has not come whole"}'
 NO_HTTP = b'{"code":"InvalidUrl","message":"the request cannot be read"}'
@@ -44,6 +48,11 @@ class Gathering:
             self._soon(self.flush)
         self._parts.append(bytes(data))
 
+    def write_now(self, data: bytes) -> bool:
+        """Writes what is whole, where nothing is held; whether the system has taken all of it."""
+        self._stream.write(data)
+        return not self._stream.get_write_buffer_size()
+
     def flush(self) -> None:
         """Writes what is held."""
         if self._parts and not self._stream.is_closing():
@@ -60,20 +69,23 @@ class Gathering:
 
 
 class Connection(web.RequestHandler):
-    """One connection. `finished` counts its requests that were answered; aiohttp counts those whose heads have come."""
+    """One connection. `finished` counts its requests that were answered; aiohttp counts those whose heads have come. As long as
+    there are `pairs`, all that was asked were pairs of nodes, and aiohttp has had nothing of it."""
 
-    __slots__ = ("bounds", "finished", "_timer", "_has_ended")
+    __slots__ = ("bounds", "finished", "_timer", "_has_ended", "_pairs", "_asked", "_held", "_answered")
 
-    def __init__(self, server: "Server", bounds: Bounds, **more: Any) -> None:
+    def __init__(self, server: "Server", bounds: Bounds, pairs: Pairs | None, **more: Any) -> None:
         super().__init__(server, **more)
         self.bounds = bounds
         self.finished = 0
         self._timer: asyncio.TimerHandle | None = None
         self._has_ended = False
+        self._pairs, self._held, self._answered = pairs, b"", 0.0
+        self._asked: Asked | None = None
 
     @property
     def is_idle(self) -> bool:
-        return self._request_count == self.finished
+        return self._asked is None and self._request_count == self.finished
 
     def connection_made(self, transport: asyncio.BaseTransport) -> None:
         """Begins the connection, or answers 503 where there are too many."""
@@ -88,9 +100,62 @@ class Connection(web.RequestHandler):
 
     def connection_lost(self, exc: BaseException | None) -> None:
         self._stop_timer()
+        if self._asked is not None:
+            self._asked.reply.cancel()
         super().connection_lost(exc)
 
     def data_received(self, data: bytes) -> None:
+        """Takes what has come."""
+        if self._asked is None:
+            self._take(data)
+        else:
+            self._held += data
+            if len(self._held) > MOST_HELD:
+                self.pause_reading()
+
+    def _take(self, data: bytes) -> None:
+        """Asks for the pair with which this begins, and holds the rest. All else goes to aiohttp, and all that follows it."""
+        found = None if self._pairs is None else self._pairs.asked(data, self._told)
+        if found is None:
+            if self._answered:
+                self._stop_timer()
+            self._pairs, self._answered = None, 0.0
+            self._parse(data)
+            return
+        self._asked, end = found
+        self._held = data[end:]
+        if not self._answered:
+            self._answered = self._loop.time()
+            self._look_later(self.bounds.idle)
+
+    def _told(self, answer: bytes, is_last: bool) -> None:
+        """Writes the answer for a pair, and takes what has come since. Where the client doesn't read, aiohttp waits for it."""
+        self._asked, self._answered = None, self._loop.time()
+        if self.transport is None:
+            return
+        if not cast(Gathering, self.transport).write_now(answer):
+            self._pairs = None
+        held, self._held = self._held, b""
+        if held and not is_last:
+            self._take(held)
+        if is_last or self._has_ended and self.is_idle:
+            self.force_close()
+        elif self._reading_paused and self._pairs is not None and len(self._held) <= MOST_HELD:
+            self.resume_reading()
+
+    def _look_later(self, seconds: float) -> None:
+        self._stop_timer()
+        self._timer = self._loop.call_later(seconds, self._look)
+
+    def _look(self) -> None:
+        """Closes a connection that has asked for pairs, where it is idle for long."""
+        left = self._answered + self.bounds.idle - self._loop.time()
+        if self._asked is None and left <= 0:
+            self.force_close()
+        else:
+            self._look_later(max(1.0, left))
+
+    def _parse(self, data: bytes) -> None:
         """Parses what has come. What can't be parsed at all is answered, and ends the connection."""
         try:
             super().data_received(data)
@@ -157,9 +222,11 @@ class Connection(web.RequestHandler):
 class Server(web.Server):
     """Makes the connections of one listening socket."""
 
-    def __init__(self, handler: Callable[[web.BaseRequest], Awaitable[web.StreamResponse]], bounds: Bounds) -> None:
+    def __init__(
+        self, handler: Callable[[web.BaseRequest], Awaitable[web.StreamResponse]], bounds: Bounds, pairs: Pairs | None = None
+    ) -> None:
         super().__init__(handler)
-        self.bounds = bounds
+        self.bounds, self.pairs = bounds, pairs
         self._kwargs = {
             "keepalive_timeout": bounds.idle,
             "max_line_size": bounds.url,
@@ -169,7 +236,7 @@ class Server(web.Server):
         }
 
     def __call__(self) -> web.RequestHandler:
-        return Connection(self, self.bounds, loop=self._loop, **self._kwargs)
+        return Connection(self, self.bounds, self.pairs, loop=self._loop, **self._kwargs)
 
     @property
     def idle(self) -> list[Connection]:

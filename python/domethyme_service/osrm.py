@@ -11,22 +11,25 @@ from typing import Any
 from . import asked
 from .asked import Request
 from .errors import Refused, invalid_value
-from .courses import Course, course_of, figures_of, leg_figures, line_of, shaped, simpler, steps_of_arcs
+from .courses import UNITS_OF_ANSWERS, Course, course_of, figures_of, leg_figures, line_of, shaped, simpler, steps_of_arcs
 from .guides import steps_of_leg
 from .legs import Leg, is_at, least_weight, leg_of, requests, requests_by, sides_of
 from .roads import Roads, Spot
+from .tables import FEW_CELLS, Tables, rows_of
 from .workers import Pool
 
 ANNOTATIONS = ("duration", "weight", "distance", "datasources", "speed")
 MOST_NEAREST = 100
 
 
-async def answer(pool: Pool, roads: Roads, request: Request) -> dict[str, Any]:
-    """The answer to a request. Raises Refused."""
-    return await {"route": route, "nearest": nearest, "table": table}[request.service](pool, roads, request)
+async def answer(pool: Pool, roads: Roads, tables: Tables | None, request: Request) -> dict[str, Any]:
+    """The answer to a request. Without Tables the program is asked for all cells of tables. Raises Refused."""
+    if request.service == "table":
+        return await table(pool, roads, tables, request)
+    return await route(pool, roads, request) if request.service == "route" else nearest(roads, request)
 
 
-async def nearest(pool: Pool, roads: Roads, request: Request) -> dict[str, Any]:
+def nearest(roads: Roads, request: Request) -> dict[str, Any]:
     """The nearest points of roads, with the ids of the nodes of OpenStreetMap at the ends of their pieces; 0 is none."""
     text = request.query.get("number", "1")
     if not asked.INDEX.fullmatch(text) or not 1 <= int(text) <= MOST_NEAREST:
@@ -132,7 +135,7 @@ def annotation(course: Course, names: list[str]) -> dict[str, list[float]]:
     return found
 
 
-async def table(pool: Pool, roads: Roads, request: Request) -> dict[str, Any]:
+async def table(pool: Pool, roads: Roads, tables: Tables | None, request: Request) -> dict[str, Any]:
     """A table of durations, of distances, or both; null where there is no way."""
     names = request.query.get("annotations", "duration").split(",")
     if not set(names) <= {"duration", "distance"}:
@@ -141,16 +144,21 @@ async def table(pool: Pool, roads: Roads, request: Request) -> dict[str, Any]:
     if len(sources) * len(destinations) > asked.MOST_CELLS:
         raise Refused(400, "TooBig", f"a table may have {asked.MOST_CELLS} cells")
     spots = await spots_of(roads, request)
-    pairs = [(spots[source], spots[end]) for source in sources for end in destinations]
-    rows = [row async for row in cells(pool, roads, pairs, set(names) == {roads.unit})]
+    starts, ends = [spots[place] for place in sources], [spots[place] for place in destinations]
+    only_weights = set(names) == {roads.unit}
     found: dict[str, Any] = {"code": "Ok"}
-    for name, values in (("duration", "durations"), ("distance", "distances")):
-        if name in names:
-            row = [None if each is None else each[name] for each in rows]
-            found[values] = [row[begin : begin + len(destinations)] for begin in range(0, len(row), len(destinations))]
+    if tables is not None and only_weights and len(starts) * len(ends) > FEW_CELLS:
+        found[f"{roads.unit}s"] = rows_of(await tables.weights(roads, starts, ends), UNITS_OF_ANSWERS[roads.unit])
+    else:
+        pairs = [(start, end) for start in starts for end in ends]
+        rows = [row async for row in cells(pool, roads, pairs, only_weights)]
+        for name in ("duration", "distance"):
+            if name in names:
+                row = [None if each is None else each[name] for each in rows]
+                found[f"{name}s"] = [row[begin : begin + len(ends)] for begin in range(0, len(row), len(ends))]
     if not request.says("skip_waypoints"):
-        found["sources"] = [waypoint(request, spots[place]) for place in sources]
-        found["destinations"] = [waypoint(request, spots[place]) for place in destinations]
+        found["sources"] = [waypoint(request, spot) for spot in starts]
+        found["destinations"] = [waypoint(request, spot) for spot in ends]
     return found
 
 

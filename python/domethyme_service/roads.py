@@ -84,7 +84,7 @@ class Roads:
         self.texts = self.arrays.texts()
         self.unit = unit_of(self.arrays)
         self.copies = copies_of(self.arrays)
-        self._round = [number for number, text in enumerate(self.texts) if text in ROUND]
+        self._is_round = np.array([text in ROUND for text in self.texts])
         self._order, self._keys = ordered(self.arrays)
         self._arcs_by_edge = np.argsort(self.arrays.arc_edge, kind="stable")
         self._first_of_edge = np.searchsorted(self.arrays.arc_edge[self._arcs_by_edge], np.arange(self.edges + 1))
@@ -118,7 +118,7 @@ class Roads:
 
     def is_round(self, arcs: NDArray[np.int64]) -> NDArray[np.bool_]:
         """Which of the arcs go round a roundabout."""
-        found: NDArray[np.bool_] = np.isin(self.arrays.arc_texts[arcs, JUNCTION], self._round)
+        found: NDArray[np.bool_] = self._is_round[self.arrays.arc_texts[arcs, JUNCTION]]
         return found
 
     def exits(self, node: int) -> int:

@@ -1,6 +1,7 @@
 """The endpoints: what is asked by which path, limits, and the access log."""
 import asyncio
 import contextlib
+import http
 import json
 import logging
 import time
@@ -9,18 +10,20 @@ from collections.abc import AsyncGenerator, Callable, Mapping
 from typing import Any, NamedTuple
 
 from aiohttp import HttpVersion10, HttpVersion11, web
+from aiohttp.helpers import rfc822_formatted_time
 
 from . import nodes, osrm
 from .asked import request_of, service_of
+from .direct import SECONDS
 from .errors import Refused, invalid_query
 from .generation import Generation
+from .guard import plain
 from .metrics import Metrics
 from .page import FILES, HEADERS, asked_by_page, endpoint_of_page, without_network
 from .roads import Roads
 from .workers import Counts
 
 MOST_BODY = 4 << 20
-SECONDS = 30.0
 BATCHES = 16
 MOST_FIELDS = 50
 JSON = "application/json; charset=utf-8"
@@ -58,6 +61,8 @@ class Service:
         self.is_draining = False
         self.reloads = self.batches = 0
         self.connections: Callable[[], int] = lambda: 0
+        self.is_logging = access_log.isEnabledFor(logging.INFO)
+        self._fields = "".join(f"{name}: {value}\r\n" for name, value in self._headers(JSON).items()).encode()
 
     async def handle(self, request: web.BaseRequest) -> web.StreamResponse:
         """Answers one request: the handler of the server."""
@@ -101,7 +106,7 @@ class Service:
                 if endpoint in KINDS:
                     return self._whole(200, await nodes.pair(generation.pool, KINDS[endpoint], asked.query), JSON)
                 wanted = request_of(asked.path, asked.query, self.ways.within)
-                return self._json(200, await osrm.answer(generation.pool, roads_of(generation), wanted))
+                return self._json(200, await osrm.answer(generation.pool, roads_of(generation), generation.tables, wanted))
 
     async def _batch(
         self, generation: Generation, kind: bytes, asked: Asked, request: web.BaseRequest
@@ -165,6 +170,17 @@ class Service:
         self._end_if_draining(answer)
         return answer
 
+    def plain_answer(self, body: bytes) -> bytes:
+        """An answer of JSON with its head, as that of a Response of aiohttp."""
+        date = rfc822_formatted_time().encode()
+        return b"HTTP/1.1 200 OK\r\n%bContent-Length: %d\r\nDate: %b\r\n\r\n%b" % (self._fields, len(body), date, body)
+
+    def plain_refusal(self, refused: Refused) -> bytes:
+        """An error with its head; it is the last answer of its connection."""
+        body = ENCODER.encode({"code": refused.code, "message": refused.message}).encode()
+        again = "Retry-After: 1\r\n" if refused.status == 503 else ""
+        return plain(f"{refused.status} {http.HTTPStatus(refused.status).phrase}", body, f"{self._fields.decode()}{again}")
+
     def _headers(self, kind: str) -> dict[str, str]:
         headers = {"Content-Type": kind, "X-Content-Type-Options": "nosniff", "Server": "domethyme"}
         if self.ways.cors != "none":
@@ -177,7 +193,7 @@ class Service:
 
     def _log(self, request: web.BaseRequest, endpoint: str, status: int, seconds: float) -> None:
         """A line of JSON; paths hold places, which are personal data, and so are left out unless they were asked for."""
-        if not access_log.isEnabledFor(logging.INFO):
+        if not self.is_logging:
             return
         line = {"time": round(time.time(), 3), "method": request.method, "endpoint": endpoint, "status": status}
         line["milliseconds"] = round(1000 * seconds, 3)

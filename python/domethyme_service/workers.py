@@ -193,13 +193,17 @@ class Pool:
 
     async def ask(self, lines: Sequence[bytes], is_bulk: bool = False) -> list[bytes]:
         """The replies to up to LINES_OF_JOB lines, in order. Raises Refused where too many wait, or no worker replies."""
+        return await self.put(lines, is_bulk)
+
+    def put(self, lines: Sequence[bytes], is_bulk: bool = False) -> "asyncio.Future[list[bytes]]":
+        """The same as a future. Raises Refused where too many wait, and the future does where no worker replies."""
         if self.waiting[is_bulk] + len(lines) > self.limits.waiting or self._is_closed:
             raise Refused(503, "Overloaded", "too many requests are waiting")
         job = Job(lines, is_bulk, asyncio.get_running_loop().create_future())
         self._queues[is_bulk].append(job)
         self.waiting[is_bulk] += len(lines)
         self.pump_soon()
-        return await job.done
+        return job.done
 
     async def ask_many(self, lines: Iterable[bytes]) -> AsyncGenerator[list[bytes], None]:
         """The replies to very many lines, in order, in lists: as the jobs of tables and batches, few at once."""

@@ -6,6 +6,7 @@ import os
 import re
 import socket
 import subprocess
+import sys
 import threading
 
 from tool_case import TOOLS, VILLAGE, ToolCase, serving_program
@@ -14,6 +15,7 @@ import domethyme
 from texts import read_graph
 
 SECONDS = 20
+sys.path.insert(0, str(TOOLS.parent / "python"))  # (for domethyme_service)
 
 
 class ServiceCase(ToolCase):

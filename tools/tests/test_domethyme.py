@@ -10,6 +10,7 @@ from tool_case import ToolCase, serving_program
 
 import domethyme
 from domethyme import service
+from domethyme.sweeps import Seeds, Sweeps
 
 # Four nodes: two ways from 0 to 2, of 3 + 4 = 7 and of 9; back from 2 to 0 by 5; node 3 leads to 0 by 6, and nothing to it.
 SQUARE = ([0, 1, 0, 2, 3], [1, 2, 2, 0, 0], [3, 4, 9, 5, 6])
@@ -82,6 +83,22 @@ class DomethymeTests(ToolCase):
                 some = draw.integers(0, nodes, 7)
                 np.testing.assert_array_equal(hierarchy.matrix(some, some[:3], by="serve"), wanted[some][:, some[:3]])
                 np.testing.assert_array_equal(hierarchy.matrix(some, some[:3], by="sweeps"), wanted[some][:, some[:3]])
+                self.check_between(hierarchy, draw)
+
+    def check_between(self, hierarchy, draw):
+        """Sweeps from and to places of several nodes with added lengths, beside `between` for each; a place may have no node."""
+        sides = []
+        for size in (6, 4):
+            places, nodes = draw.integers(0, size - 1, 8), draw.integers(0, hierarchy.nodes, 8)
+            sides.append(Seeds(size, places, nodes, draw.integers(0, 100, 8)))
+        with open(self.folder / "network.rch", "rb") as file:
+            table = Sweeps.read(file.fileno(), "network.rch").between(*sides)
+        self.assertEqual(table.shape, (6, 4))
+        for (start, end), length in np.ndenumerate(table):
+            some, others = ([*zip(nodes[at].tolist(), added[at].tolist())]
+                            for (_, places, nodes, added), place in zip(sides, (start, end)) for at in [places == place])
+            route = hierarchy.between(some, others) if some and others else None
+            self.assertEqual(length, -1 if route is None else route.length)
 
     def check(self, routes, pairs, least):
         """The lengths are those of scipy, and each route is a walk of that length between its nodes."""

@@ -10,6 +10,7 @@ from service_case import ServiceCase, lengths_from
 from test_turns import STEP as CROSSING_STEP
 from test_turns import crossing
 
+from domethyme_service.tables import FEW_CELLS
 from network import points_of, read_arcs, read_nodes
 
 METRES = math.pi / 180 * 6_371_008.8
@@ -91,6 +92,8 @@ class OsrmCase(ServiceCase):
         places += [(0.0003, 0.0001), (0.0006, 0.0001), (0.0003, -0.0001)]
         words = ";".join(f"{lon!r},{lat!r}" for lon, lat in places)
         table = self.good(f"/table/v1/car/{words}?annotations=duration,distance")
+        self.assertGreater(len(places) ** 2, FEW_CELLS)
+        self.assertEqual(self.good(f"/table/v1/car/{words}")["durations"], table["durations"])
         with_way = compared = 0
         for (row, start), (column, end) in itertools.product(enumerate(places), repeat=2):
             wanted = graph.length(start, end)
