@@ -7,8 +7,8 @@ use Rattle.ch_service.proofs.FromBuild.{built-good, ready-built, refused-bad}
 use Rattle.ch_service.proofs.Prepared.{writes-prepared, breaks-prepared, fault-prepared, fault-written}
 use Rattle.ch_service.proofs.preparing.prepare_beside.Goals as goal
 
-pub write-requires : goal.write-requires
-write-requires g c = ap version_number c.in_ok-built.ensures.built.made.version
+pub write-written-requires : goal.write-written-requires
+write-written-requires g c = ap version_number c.in_ok-built.ensures.built.made.version
 
 pub returns-clause-prepares : goal.returns-clause-prepares
 returns-clause-prepares g c = writes-prepared c.in-Ok.graph c.in_ok-built.built.hierarchy _ _ _ (search rules) c.in_ok-built.ensures.right (search rules) c.in_ok-built.ensures.built.made.version c.in_ok-written.ensures.ok
