@@ -9,7 +9,7 @@ on a sphere: x goes from 0 at 180 degrees west to 1 at 180 degrees east, and y f
     box_of(points)               the Box around points; `.grown(margin)`, `.shaped(least, most)`, `.meets(box)`
     View(box, width)             a picture of a box: `.height`, `.pixels(points)`, `.metres_of_a_pixel`
     path_of(pixels)              a line as the text of an SVG path, to the tenth of a pixel
-    arrows(pixels, every)        where arrows stand along a line, and which way they point
+    arrows(pixels, every)        where arrows are along a line, and which way they point
     share_of(places, share)      the place at which a share of a line's way, from 0 to 1, is behind
     differences(places)          a line as whole numbers, for pages: millionths of a degree, each from the one before
     bar_for(metres)              the greatest length of a scale bar that is at most that: 1, 2 or 5 and zeros
@@ -146,7 +146,7 @@ def box_of(points: Iterable[Point]) -> Box:
 
 
 class View:
-    """A picture, so many pixels wide, of a box of the plane whose width is above 0."""
+    """A picture, `width` pixels wide, of a box of the plane whose width is above 0."""
 
     def __init__(self, box: Box, width: float) -> None:
         self.box = box
@@ -178,7 +178,7 @@ def path_of(pixels: Iterable[Point]) -> str:
 
 
 def tenths(number: int) -> str:
-    """The decimal number of so many tenths, without a zero behind the point."""
+    """The decimal number of a count of tenths, without a zero behind the point."""
     return f"{number / TENTHS:g}"
 
 
@@ -193,7 +193,7 @@ def differences(places: Iterable[Point]) -> list[int]:
 
 
 def bar_for(metres: float) -> float:
-    """The greatest of .., 0.5, 1, 2, 5, 10, 20, .. that is at most so many metres, which are above 0."""
+    """The greatest of .., 0.5, 1, 2, 5, 10, 20, .. that is at most a number of metres above 0."""
     below = math.floor(math.log10(metres)) - 1
     bars = [step * 10.0**power for power in (below, below + 1) for step in (1, 2, 5)]
     return max(bar for bar in bars if bar <= metres)

@@ -3,7 +3,7 @@
 A network is files with one beginning of their names, NETWORK:
 
     NETWORK.gr          the graph, in the format of docs/FORMATS.md
-    NETWORK.nodes.csv   node, osm, lon, lat, ends: where node 1, 2, .. lies, in degrees; `osm` is empty for a point
+    NETWORK.nodes.csv   node, osm, lon, lat, ends: where node 1, 2, .. is, in degrees; `osm` is empty for a point
                         between; `ends` is empty, or says that routes begin there alone (from), end there alone (to) or
                         neither (no), as turns.py has it
     NETWORK.arcs.csv    from, to, weight, seconds, metres, osm, highway, name, ref, junction, destination, structure, WKT:
@@ -89,7 +89,7 @@ class Nodes(NamedTuple):
 
 
 class Arc(NamedTuple):
-    """An arc of the graph and the piece of road that it stands for."""
+    """An arc of the graph and its piece of road."""
 
     start: int
     end: int

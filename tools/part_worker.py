@@ -1,7 +1,7 @@
-"""What a worker of `route_many` does: it answers one part of a text of pairs by `routecli route`.
+"""What a worker of `route_many` does: it answers one part of a query file by `routecli route`.
 
 A worker is a thread of `route_many`, or a thread of a Dask worker on another machine, to which `route_many --dask` sends
-this file. So the module stands alone, on Python's own library, and what it takes and gives are plain values.
+this file. So the module needs nothing but Python's own library, and what it takes and gives are plain values.
 
     task(program, hierarchy, drafts)   what all parts of a run have in common, a dict:
         program, hierarchy             the paths of both files
@@ -39,7 +39,7 @@ def task(program: str, hierarchy: str, drafts: str) -> Task:
 
 
 def digest(path: str) -> str:
-    """The sha256 of a file, which is read again only where the file system tells that it has changed."""
+    """The sha256 of a file, which is read again only if the file system says that it has changed."""
     found = os.stat(path)
     return digest_of(path, (found.st_dev, found.st_ino, found.st_size, found.st_mtime_ns))
 
@@ -79,7 +79,7 @@ def wrong_file(task: Task) -> str | None:
 
 
 def missing_text(path: str, size: int) -> str | None:
-    """Whether no file of so many bytes comes to stand at the path, as one line, or None."""
+    """Why no file of this number of bytes comes to the path, as one line, or None."""
     if comes_true(lambda: has_size(path, size)):
         return None
     return f"{path} isn't there with its {size} bytes"
@@ -97,7 +97,7 @@ def comes_true(is_so: Callable[[], bool]) -> bool:
 
 
 def has_size(path: str, size: int) -> bool:
-    """Whether a file of so many bytes stands at the path."""
+    """Whether there is a file of this number of bytes at the path."""
     try:
         return os.stat(path).st_size == size
     except FileNotFoundError:
@@ -110,11 +110,11 @@ def has_size(path: str, size: int) -> bool:
 def answer(task: Task, text: str, size: int, answers: str) -> Result:
     """Answers the part whose pairs are the file `text`, of `size` bytes, into the file `answers`. Gives
 
-    (0, None, BYTES)       done: the file of answers stands there, whole, with so many bytes
+    (0, None, BYTES)       done: the file of answers is there, whole, of that size
     (3 to 8, LINE, 0)      the program refused with this status and line
     (1, LINE, 0)           something else failed
 
-    and but for the first leaves what stands at `answers`. A program that is killed is begun again, ATTEMPTS times in all.
+    and but for the first leaves what is at `answers`. A program that is killed is begun again, ATTEMPTS times in all.
     """
     try:
         trouble = wrong_file(task) or missing_text(text, size)
@@ -133,7 +133,7 @@ def answer(task: Task, text: str, size: int, answers: str) -> Result:
 
 
 def answer_apart(task: Task, text: str, size: int, answers: str) -> Result:
-    """As `answer`, by a Dask worker, whose name then stands before a line that isn't the program's."""
+    """As `answer`, by a Dask worker, whose name is then put before a line that isn't the program's."""
     from distributed import get_worker
 
     status, line, count = answer(task, text, size, answers)

@@ -1,10 +1,10 @@
-"""The parts of a text of pairs: how it is cut, what is kept of a run between two calls, and how the answers are joined.
+"""The parts of a query file: how it is cut, what is kept of a run between two calls, and how the answers are joined.
 
-Beside OUT stands the folder OUT.parts while a run isn't done:
+Beside OUT is the folder OUT.parts while a run isn't done:
 
     lock               what a run holds while it works here
     plan.json          of what the parts are, and how many pairs and bytes each has; there once the cut is whole
-    whole.pairs        the text of pairs, as it came
+    whole.pairs        the query file, as it came
     000000.pairs ..    the parts: a problem line, and the lines of their pairs
     000000.answers ..  what `routecli route` prints for each, whole or not there
     drafts-*/          the files of one run that aren't whole yet. Each run has a folder of its own, so what a worker that
@@ -13,7 +13,7 @@ Beside OUT stands the folder OUT.parts while a run isn't done:
 Other files in it are left alone, and with them the folder.
 
     opened(out, anew)   with-block: the Folder of OUT, which no other run has meanwhile
-    spool(path, to)     the Survey of a text of pairs, which it copies
+    spool(path, to)     the Survey of a query file, which it copies
 """
 from __future__ import annotations
 
@@ -41,20 +41,20 @@ BLANKS = re.compile(b"[ \t]+")
 NAMES = re.compile(r"plan\.json(\..+\.new)?|whole\.pairs|\d{6,}\.(pairs|answers|new)|(drafts|gone)-[0-9a-f]{32}")
 
 
-# The text of pairs
+# The query file
 
 
 class Survey(typing.NamedTuple):
-    """What a look at a text of pairs tells: its digest, and how many pairs it has; None where it is refused for certain,
-    since its lines are of other kinds, stand in another order or are of another number than it announces. The program then
-    tells the fault. What stands in the lines of pairs is left to the program in any case."""
+    """What a look at a query file finds: its digest, and how many pairs it has; None where it is refused for certain,
+    since its lines are of other kinds, in another order or of another number than it announces. The program then reports
+    the fault. What the lines of pairs hold is left to the program in any case."""
 
     sha256: str
     pairs: int | None
 
 
 def spool(path: str, to: str) -> Survey:
-    """Copies the text of pairs (`-` is standard input) to the new file `to`, and gives its Survey."""
+    """Copies the query file (`-` is standard input) to the new file `to`, and gives its Survey."""
     digest, kinds = hashlib.sha256(), KindsOfLines()
     with reading(path) as text, open(to, "xb") as copy:
         for line in text:
@@ -65,7 +65,7 @@ def spool(path: str, to: str) -> Survey:
 
 
 class KindsOfLines:
-    """Counts the lines of a text of pairs by their kinds."""
+    """Counts the lines of a query file by their kinds."""
 
     def __init__(self) -> None:
         self.announced: int | None = None
@@ -108,7 +108,7 @@ def fields_of(line: bytes) -> list[bytes]:
 
 
 def texts_of_parts(lines: Iterable[bytes], size: int) -> Iterator[tuple[int, bytes]]:
-    """Of a text of pairs that is in order: the number of pairs and the text of each part."""
+    """Of a query file that is in order: the number of pairs and the text of each part."""
     pairs = filter(is_pair, lines)
     part = list(itertools.islice(pairs, size))
     while True:
@@ -173,7 +173,7 @@ class Folder:
             remove_if_there(path)
 
     def begin(self, anew: bool) -> None:
-        """Removes the drafts of older runs, and all where there is no plan or it begins anew; makes a folder of drafts."""
+        """Removes the drafts of older runs, and all if there is no plan or it starts over; makes a folder of drafts."""
         if anew or not os.path.exists(self.plan_file):
             self.clear()
         for name in os.listdir(self.path):
@@ -235,7 +235,7 @@ class Folder:
 
 @contextlib.contextmanager
 def opened(out: str, anew: bool) -> Iterator[Folder]:
-    """The Folder of OUT, locked; a Fault where another run has it. Where it begins anew, nothing is left in it."""
+    """The Folder of OUT, locked; a Fault where another run has it. If it starts over, nothing is left in it."""
     folder = Folder(out)
     with locked(folder, out):
         folder.begin(anew)
@@ -276,7 +276,7 @@ def take_lock(lock: IO[str], out: str) -> None:
 
 
 def is_at(file: IO[str], path: str) -> bool:
-    """Whether the open file still stands at the path: a run that ends removes its lock."""
+    """Whether the open file is still the one at the path: a run that ends removes its lock."""
     try:
         return os.path.samestat(os.fstat(file.fileno()), os.stat(path))
     except FileNotFoundError:

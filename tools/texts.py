@@ -3,7 +3,7 @@
     read_graph(path)             Graph(nodes, starts, ends, weights): a number and three lists, in the file's order
     write_graph(file, nodes, arcs, comments=())     arcs are (start, end, weight)
     read_pairs(path)             [(source, target), ..]
-    write_pairs(file, pairs)     the text of pairs
+    write_pairs(file, pairs)     the query file
     read_answers(path)           yields Answer(source, target, length, nodes); length is None and nodes are () for no way
     dimacs_lines, problem_number what lines of such texts have in common
 
@@ -75,7 +75,7 @@ def write_graph(
 
 
 def read_pairs(path: StrPath) -> list[tuple[int, int]]:
-    """The pairs of a text of pairs (`-` is standard input), in order."""
+    """The pairs of a query file (`-` is standard input), in order."""
     pairs: list[tuple[int, int]] = []
     announced: int | None = None
     with reading(path) as stream:
@@ -86,7 +86,7 @@ def read_pairs(path: StrPath) -> list[tuple[int, int]]:
             elif fields[0] == b"p" and announced is None:
                 announced = problem_number(fields, (b"aux", b"sp", b"p2p"), path, row, MOST_LINES)
             else:
-                raise Fault("is no line of a text of pairs", path, row)
+                raise Fault("is no line of a query file", path, row)
     if announced is None:
         raise Fault("has no line `p aux sp p2p NUMBER`", path)
     if len(pairs) != announced:
@@ -95,7 +95,7 @@ def read_pairs(path: StrPath) -> list[tuple[int, int]]:
 
 
 def write_pairs(file: IO[str], pairs: Collection[tuple[int, int]]) -> None:
-    """Writes a text of pairs."""
+    """Writes a query file."""
     file.write(f"p aux sp p2p {len(pairs)}\n")
     file.writelines(f"q {source} {target}\n" for source, target in pairs)
 

@@ -179,7 +179,7 @@ def whole_files(*paths: StrPath) -> Iterator[list[IO[Any]]]:
 
 @contextlib.contextmanager
 def named_faults(*paths: StrPath) -> Iterator[None]:
-    """A failed write in the block, as on a full disk, is told with the names of its files."""
+    """A failed write in the block, as on a full disk, is reported with the names of its files."""
     try:
         yield
     except OSError as error:
@@ -189,7 +189,7 @@ def named_faults(*paths: StrPath) -> Iterator[None]:
 
 
 def is_straight(path: StrPath) -> bool:
-    """Whether something stands at the path that is no regular file: a pipe, a terminal, a device."""
+    """Whether there is something at the path that is no regular file: a pipe, a terminal, a device."""
     try:
         return not stat.S_ISREG(os.stat(path).st_mode)
     except FileNotFoundError:
@@ -267,7 +267,7 @@ def take_places(besides: list[str], targets: list[str]) -> None:
 
 
 def keep_old(target: str, old: str) -> None:
-    """Gives the file at the target, where one stands there, a second name, or a copy by that name."""
+    """Gives the file at the target, if there is one, a second name, or a copy by that name."""
     if not os.path.exists(target):
         return
     try:
@@ -277,7 +277,7 @@ def keep_old(target: str, old: str) -> None:
 
 
 def put_back(target: str, old: str) -> None:
-    """Lets stand at the target what stood there: the file that was kept, or none."""
+    """Puts back what was at the target: the file that was kept, or none."""
     if os.path.exists(old):
         os.replace(old, target)
     else:

@@ -114,7 +114,7 @@ class Split(NamedTuple):
 
 
 def split(arcs: Sequence[Turn], nodes: int, rules: dict[int, Rules]) -> Split:
-    """Splits the nodes that have rules, of a graph with so many nodes, which count from 0; new ones follow."""
+    """Splits the nodes that have rules, of a graph with `nodes` nodes, which count from 0; new ones follow."""
     into, out = collections.defaultdict(list), collections.defaultdict(list)
     for number, arc in enumerate(arcs):
         if arc.end in rules:

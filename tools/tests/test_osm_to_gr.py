@@ -580,7 +580,8 @@ class BadInput(NetworkCase):
 
     def test_a_folder_in_place_of_out(self):
         before = self.contents()
-        for out in ("", "folder/", "./"):
+        (self.folder / "there").mkdir()
+        for out in ("", "folder/", "./", ".", "there", "there/"):
             said = self.run_tool("osm_to_gr", VILLAGE, out, status=2).stderr
             self.assertIn("OUT is the beginning of the names of files", said)
         self.assertEqual(self.contents(), before)

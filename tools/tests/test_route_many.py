@@ -140,7 +140,7 @@ class RouteManyCase(ToolCase):
     def kept_line(self):
         """What an interrupted run says."""
         folder = self.folder.resolve() / "out.parts"
-        return f"route_many: what is done is kept in {folder}; the same call goes on with it\n"
+        return f"route_many: what is done is kept in {folder}; the same call resumes with it\n"
 
     def assert_ends(self, process, status=0):
         """The process ends, with the status."""
@@ -681,7 +681,7 @@ class DaskTests(RouteManyCase):
         self.until(lambda: "000003.pairs" in self.parts_begun())
         end(self.scheduler)
         self.assert_ends(run, 1)
-        said = "the scheduler went away; the same call goes on with the parts that are done"
+        said = "the scheduler went away; the same call resumes with the parts that are done"
         self.assertEqual(self.said(), f"route_many: scheduler.json: {said}\n")
         self.release("000003.pairs")
         self.many("--jobs", 1, "--program", program)

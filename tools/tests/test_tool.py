@@ -284,7 +284,7 @@ class Networks(SharedCase):
 
     def test_pairs_with_faults(self):
         cases = [
-            ("q 1 2\n", ", row 1: is no line of a text of pairs"),
+            ("q 1 2\n", ", row 1: is no line of a query file"),
             ("p aux sp p2p 1\nq 0 2\n", ", row 2: node 0 isn't from 1 to 33554432"),
             ("p aux sp p2p 2\nq 1 2\n", ": has 1 pairs and announces 2"),
         ]
