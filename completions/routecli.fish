@@ -66,20 +66,20 @@ complete -c routecli -n __routecli_has_no_command -s V -l version -d 'Print vers
 complete -c routecli -n '__routecli_is answer prepare route serve info' -s h -l help -d 'Print help'
 
 set -l commands '__routecli_has_no_command; or __routecli_takes_word help'
-complete -c routecli -n $commands -a answer -d 'Answers pairs of nodes over a small graph'
-complete -c routecli -n $commands -a prepare -d 'Prepares a hierarchy of a graph, by which route answers pairs of nodes'
-complete -c routecli -n $commands -a route -d 'Answers pairs of nodes, as answer does, by a hierarchy that was prepared'
-complete -c routecli -n $commands -a serve -d 'Replies to each line of standard input by a line, by a hierarchy that was prepared'
-complete -c routecli -n $commands -a info -d 'Prints the version, nodes, links, bound and bytes of a hierarchy that was prepared'
+complete -c routecli -n $commands -a answer -d 'Finds shortest paths in a small graph'
+complete -c routecli -n $commands -a prepare -d 'Prepares a hierarchy of a graph, from which route and serve answer'
+complete -c routecli -n $commands -a route -d 'Finds shortest paths, as answer does, using a prepared hierarchy'
+complete -c routecli -n $commands -a serve -d 'Replies to each line of standard input with a line, using a prepared hierarchy'
+complete -c routecli -n $commands -a info -d 'Prints the version, nodes, links, bound and bytes of a prepared hierarchy'
 complete -c routecli -n $commands -a help -d 'Print this message or the help of the given subcommand(s)'
 
 complete -c routecli -n '__routecli_takes_word answer prepare route serve info' -F
-complete -c routecli -n __routecli_takes_input -a - -d 'With - for both files standard input has both texts'
+complete -c routecli -n __routecli_takes_input -a - -d 'With - for both files, standard input has both texts'
 
-complete -c routecli -n '__routecli_lacks workers prepare' -l workers -x -d 'How many threads contract nodes, 0 to 64'
-complete -c routecli -n '__routecli_lacks seed prepare' -l seed -x -d 'Seed of the draws by which workers choose nodes, 0 to 18446744073709551615'
-complete -c routecli -n '__routecli_lacks order prepare' -l order -x -d 'Nodes that go first' \
-    -a 'edges\t"of the fewest arcs left" neighbours\t"that and fewest neighbours gone" depth\t"that and least depth"'
-complete -c routecli -n '__routecli_lacks stint prepare' -l stint -x -d 'After how many commits a worker goes on by the next order'
+complete -c routecli -n '__routecli_lacks workers prepare' -l workers -x -d 'Number of threads that contract nodes, 0 to 64'
+complete -c routecli -n '__routecli_lacks seed prepare' -l seed -x -d 'Seed of the random choices of the threads, 0 to 18446744073709551615'
+complete -c routecli -n '__routecli_lacks order prepare' -l order -x -d 'Which nodes are contracted first' \
+    -a 'edges\t"those that leave the fewest arcs" neighbours\t"that and few contracted neighbours" depth\t"that and little depth"'
+complete -c routecli -n '__routecli_lacks stint prepare' -l stint -x -d 'Number of contractions after which a thread uses the next order'
 complete -c routecli -n '__routecli_lacks progress prepare' -l progress -d 'Show on standard error how many nodes are contracted'
 complete -c routecli -n '__routecli_lacks explain answer prepare route serve info' -l explain -d 'Explain a refusal in more lines on standard error'

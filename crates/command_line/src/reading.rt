@@ -142,7 +142,7 @@ fn program<'a>(alloc: Global) -> Result<Command<'a>, AllocError>
     let program = Command::new(alloc, "routecli")
         .version(VERSION)
         .about(
-            "Answers pairs of nodes of a road graph with least routes: lengths and nodes along the way",
+            "Finds shortest paths in a road graph: the length and the nodes of one for each pair of nodes",
         )
         .after_help(STATUSES);
     let program = with(program, answer(alloc))?;
@@ -178,7 +178,7 @@ fn answer<'a>(alloc: Global) -> Result<Command<'a>, AllocError>
 {
     Command::new(alloc, "answer")
         .about(
-            "Answers pairs of nodes over a small graph: r S T LENGTH ARCS and the nodes of a least route, or n S T where there is none",
+            "Finds shortest paths in a small graph: r S T LENGTH ARCS and the nodes for each pair, or n S T if there is none",
         )
         .after_help(ANSWERING)
         .arg(explain(alloc))?
@@ -200,7 +200,7 @@ fn preparation<'a>(alloc: Global) -> Result<Command<'a>, AllocError>
     ensures { IfOk result (λ prepare. (out-Command prepare).has_globals ≡ false) }
 {
     Command::new(alloc, "prepare")
-        .about("Prepares a hierarchy of a graph, by which route answers pairs of nodes")
+        .about("Prepares a hierarchy of a graph, from which route and serve answer")
         .after_help(PREPARING)
         .arg(workers(alloc))?
         .arg(seed(alloc))?
@@ -213,7 +213,7 @@ fn route<'a>(alloc: Global) -> Result<Command<'a>, AllocError>
     ensures { IfOk result (λ route. (out-Command route).has_globals ≡ false) }
 {
     Command::new(alloc, "route")
-        .about("Answers pairs of nodes, as answer does, by a hierarchy that was prepared")
+        .about("Finds shortest paths, as answer does, using a prepared hierarchy")
         .arg(explain(alloc))?
         .arg(file(alloc, "HIER", HIER))?
         .arg(file(alloc, "QUERIES", QUERIES))
@@ -223,7 +223,7 @@ fn serve<'a>(alloc: Global) -> Result<Command<'a>, AllocError>
     ensures { IfOk result (λ serve. (out-Command serve).has_globals ≡ false) }
 {
     Command::new(alloc, "serve")
-        .about("Replies to each line of standard input by a line, by a hierarchy that was prepared")
+        .about("Replies to each line of standard input with a line, using a prepared hierarchy")
         .after_help(SERVING)
         .arg(explain(alloc))?
         .arg(file(alloc, "HIER", HIER))
@@ -233,7 +233,7 @@ fn info<'a>(alloc: Global) -> Result<Command<'a>, AllocError>
     ensures { IfOk result (λ info. (out-Command info).has_globals ≡ false) }
 {
     Command::new(alloc, "info")
-        .about("Prints the version, nodes, links, bound and bytes of a hierarchy that was prepared")
+        .about("Prints the version, nodes, links, bound and bytes of a prepared hierarchy")
         .after_help(INFORMING)
         .arg(explain(alloc))?
         .arg(file(alloc, "HIER", HIER))
@@ -314,45 +314,44 @@ fn option<'a>(alloc: Global, name: &'a str, value: &'a str, help: &'a str) -> Ar
         .action(ArgAction::Set)
 }
 
-const GRAPH: &str =
-    "File of the graph: p sp N M, and a line a U V W for each arc from U to V of weight W";
+const GRAPH: &str = "Graph file: p sp N M, and a line a U V W for each arc from U to V of weight W";
 
-const QUERIES: &str = "File of the pairs: p aux sp p2p K, and a line q S T for each pair";
+const QUERIES: &str = "Query file: p aux sp p2p K, and a line q S T for each pair";
 
-const OUT: &str = "File that is made for the hierarchy, once it is prepared";
+const OUT: &str = "Hierarchy file to write, once the hierarchy is prepared";
 
 const WORKERS: &str =
-    "How many threads contract nodes, 0 to 64; with 0 the nodes go by their numbers";
+    "Number of threads that contract nodes, 0 to 64; with 0 they are contracted in the order of their numbers";
 
-const SEED: &str = "Seed of the draws by which workers choose nodes, 0 to 18446744073709551615";
+const SEED: &str = "Seed of the random choices of the threads, 0 to 18446744073709551615";
 
 const ORDER: &str =
-    "Nodes that go first: of the fewest arcs left, or that and fewest neighbours gone, or that and least depth";
+    "Which nodes are contracted first: those that leave the fewest arcs, or that and few contracted neighbours, or that and little depth";
 
 const STINT: &str =
-    "After how many commits a worker goes on by the next order, of the one that is asked for and then the others: 1 to 1099511627776; without it a worker keeps to the one";
+    "Number of contractions after which a thread uses the next order, the requested one first and then the others: 1 to 1099511627776; without it a thread keeps the requested one";
 
 const PROGRESS: &str =
-    "Show on standard error how many nodes are contracted and how long the rest may take, where that is a terminal, and at the end what was made";
+    "Show on standard error how many nodes are contracted and how long the rest may take, if that is a terminal, and at the end what was made";
 
 const EXPLAIN: &str =
-    "Explain a refusal in more lines on standard error, as is done where that is a terminal";
+    "Explain a refusal in more lines on standard error, as is done if that is a terminal";
 
-const HIER: &str = "File of a hierarchy that prepare made";
+const HIER: &str = "Hierarchy file that prepare wrote";
 
 const STATUSES: &str =
-    "Exit status: 0 done, 2 command line, 3 graph text, 4 hierarchy, 5 text of pairs, 6 memory, 7 reading or writing, 8 workers that disagree";
+    "Exit status: 0 success, 2 command line, 3 graph file, 4 hierarchy file, 5 query file, 6 out of memory, 7 read or write failed, 8 threads disagree";
 
 const PREPARING: &str =
-    "Answers by OUT are right whatever the options: they bear on the time it takes and on the size of OUT.";
+    "Options never affect whether answers are right, only the time that preparing takes and the size of OUT.";
 
 const SERVING: &str =
-    "q S T asks for a route, d S T for its length, b S C .. : T D .. for the best from places with lengths that are added.\n\n\
+    "q S T asks for a shortest path, d S T for its length, b S C .. : T D .. for the shortest between several places with lengths that are added.\n\n\
 A line that begins with c gets c, and one with a fault e and the fault's name.";
 
 const INFORMING: &str =
-    "The file is read to its end, and refused where route refuses it; the bound is the greatest length that a route may have.";
+    "The file is read to its end, and refused if route refuses it; the bound is the greatest length that a path may have.";
 
 const ANSWERING: &str =
-    "With - for both files standard input has both texts, parted by a line that is %.\n\n\
-It prepares the graph for every call: for more than some thousand nodes use prepare once, and then route.";
+    "With - for both files, standard input has both texts, separated by a line that is %.\n\n\
+It prepares the graph for every call: for more than a few thousand nodes use prepare once, and then route.";
