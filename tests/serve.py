@@ -9,6 +9,7 @@ line feed, and asks for a way whose search comes to a million nodes; memory has 
 ROUTECLI. The exit status is 1 at the first difference.
 """
 import collections.abc
+import os
 import pathlib
 import random
 import subprocess
@@ -47,11 +48,12 @@ FAN = 1000000  # how many nodes a far search comes to, for which it takes 20 byt
 
 
 class Service:
-    """A process of `serve` and its pipes."""
+    """A process of `serve` and its pipes, with these variables in its environment beside this process's own."""
 
-    def __init__(self, hierarchy: pathlib.Path) -> None:
+    def __init__(self, hierarchy: pathlib.Path, **variables: str) -> None:
         words = [str(PROGRAM), "serve", str(hierarchy)]
-        self.child = subprocess.Popen(words, stdin=subprocess.PIPE, stdout=subprocess.PIPE)
+        environment = {**os.environ, **variables}
+        self.child = subprocess.Popen(words, stdin=subprocess.PIPE, stdout=subprocess.PIPE, env=environment)
         self.ready = self.line()
 
     def line(self) -> str:
@@ -163,11 +165,15 @@ def rubbish(hierarchy: pathlib.Path, megabytes: int) -> int:
 
 def far(folder: pathlib.Path) -> int:
     """Asks for the length of a way from a node that a million links leave: the search's memory is given back. Returns 2, for
-    two tests."""
+    two tests.
+
+    The C library may keep some 30 MB of what it is given back, and more so the second time. Its threshold is set here, so that
+    it keeps no large block, and the resident size shows what the program keeps.
+    """
     links = [(0, node, 2, 1, hierarchy_file.NONE) for node in range(1, FAN - 1)] + [(0, FAN - 1, 1, 1, hierarchy_file.NONE)]
     fan = folder / "fan.rch"
     fan.write_bytes(hierarchy_file.spelled(range(FAN), links, 2 * (FAN - 1)))
-    service = Service(fan)
+    service = Service(fan, MALLOC_MMAP_THRESHOLD_=str(1 << 17))
     need(service.ask("d 2 3") == "n 2 3", "links lead where there are none")
     before = service.kilobytes()
     for _ in range(3):
