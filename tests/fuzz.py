@@ -257,10 +257,10 @@ def is_line(line, source, target, cost, is_route):
 
 
 class Answers:
-    """What the answers by a hierarchy may be."""
+    """What the answers by a hierarchy may be, of walks that are no longer than `longest`, or than its bound."""
 
-    def __init__(self, hierarchy):
-        self.routes, self.version = plain.Routes(hierarchy), hierarchy.version
+    def __init__(self, hierarchy, longest=None):
+        self.hierarchy, self.routes, self.version = hierarchy, plain.Routes(hierarchy, longest), hierarchy.version
 
     def is_route(self, nodes, length):
         return len(nodes) <= self.routes.nodes and self.routes.is_route([node - 1 for node in nodes], length)
@@ -283,7 +283,8 @@ class Answers:
         if letter in (b"c", b"e"):
             return line == (b"c" if letter == b"c" else b"e " + first)
         if letter == b"b":
-            return self.is_way(line, first, second)
+            # (its limit is on the whole, and not the bound: only a file that is of no graph has a walk between them)
+            return Answers(self.hierarchy, 1 << 62).is_way(line, first, second)
         if line == b"e TooLong":
             return letter == b"q" and self.may_be_long(first, second)
         if letter == b"q":

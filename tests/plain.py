@@ -118,10 +118,11 @@ def does_count(version, weight, arcs, middle, nodes):
 
 
 class Routes:
-    """The least rise-fall walks of a hierarchy."""
+    """The least rise-fall walks of a hierarchy, of those that are no longer than `longest`, or than its bound."""
 
-    def __init__(self, hierarchy):
+    def __init__(self, hierarchy, longest=None):
         self.hierarchy, self.nodes = hierarchy, len(hierarchy.ranks)
+        self.longest = hierarchy.bound if longest is None else longest
 
     def climb(self, source, is_forward, costs):
         """The least cost of each node that is come to by rising alone, where links cost so much."""
@@ -137,13 +138,13 @@ class Routes:
         return best
 
     def least(self, source, target, costs):
-        """The least cost of a walk whose weight is within the bound, where links cost so much, or none."""
+        """The least cost of a walk that isn't too long, where links cost this much, or none."""
         up, down = self.climb(source, True, costs), self.climb(target, False, costs)
         found = [plus(up[top], down[top]) for top in up if top in down]
-        return min((cost for cost in found if cost[0] <= self.hierarchy.bound), default=None)
+        return min((cost for cost in found if cost[0] <= self.longest), default=None)
 
     def value(self, source, target):
-        """The least cost of a walk whose weight is within the bound, or none. It may have as many arcs as it will."""
+        """The least cost of a walk that isn't too long, or none. It may have as many arcs as it will."""
         return self.least(source, target, {ends: cost for ends, (cost, _) in self.hierarchy.links.items()})
 
     def arcs(self):
