@@ -3,9 +3,10 @@
 
     bench/speed_page.py [FOLDER [DOCS [README]]]
 
-By default of out/speed, into docs/SPEED.md and README.md, between the lines `<!-- speed: begin -->` and `<!-- speed: end -->`;
-the picture is speed.svg and the runs are speed.csv, beside SPEED.md. Each time is the least of its rounds, and each memory the
-greatest. It needs Debian's python3-matplotlib.
+By default of out/speed, into docs/SPEED.md and README.md, between the lines `<!-- speed: begin -->` and `<!-- speed: end -->`, and
+three figures between `<!-- figures: begin -->` and `<!-- figures: end -->` of SPEED.md; the picture is speed.svg and the runs are
+speed.csv, beside SPEED.md. Each time is the least of its rounds, and each memory the greatest. It needs Debian's
+python3-matplotlib.
 """
 import collections
 import csv
@@ -20,7 +21,7 @@ sys.path.insert(0, str(ROOT))
 
 from common.counted import parser
 
-BEGIN, END = "<!-- speed: begin -->\n", "<!-- speed: end -->"
+PICTURE = "![Times of preparing and of a pair against the number of nodes]({})\n"
 ORDERS, ROUTED, WORKERS = ["edges", "neighbours", "depth"], ["edges", "depth"], [1, 2, 4]
 COUNTS = {"random": 10_000, "near": 2_000}
 FEW = 20
@@ -199,6 +200,24 @@ def page(measured):
     return "\n\n".join(parts) + "\n"
 
 
+def figures(measured):
+    """The three figures that SPEED.md begins with, of the largest network for which all of them were measured, and the picture."""
+    jobs = ["prepare depth 4", "route depth none", "route depth random", "route.cpp depth none", "route.cpp depth random"]
+    names = [name for name in measured.shown() if all((name, job) in measured.runs for job in [*jobs, "search boost random"])]
+    if not names:
+        return ""
+    name = max(names, key=measured.nodes)
+    pair, beside = (measured.pair(name, "depth", "random", program) for program in ["route", "route.cpp"])
+    lines = [
+        f"- **{seconds(measured.least(name, 'prepare depth 4'))}** to prepare {measured.nodes(name):,} nodes and "
+        f"{measured.networks[name]['arcs']:,} arcs by four workers, in {megabytes(measured.memory(name, 'prepare depth 4'))}.",
+        f"- **{micros(pair)}** for a random pair, {micros(measured.pair(name, 'depth', 'near'))} for a near one: the length and the whole path.",
+        f"- **{ratio(pair, beside)} times** what an optimised C++ program takes for the same answers, and 1 / "
+        f"{measured.searched(name, 'boost', 'random') / pair:,.0f} of Boost's search without a hierarchy.",
+    ]
+    return "\n".join(lines) + "\n\n" + PICTURE.format("speed.svg")
+
+
 def summary(measured):
     """What README.md shows."""
     rows = []
@@ -212,7 +231,7 @@ def summary(measured):
     heads = ["Nodes", "`prepare`, 4 workers", "`route`: the file", "a random pair", "a near pair", "random in C++", "Boost, no hierarchy"]
     date = min(row["when"] for row in measured.rows)[:10]
     told = f"Measured on {date} on a machine of {measured.about['machine']}, by `--order depth`, on\nnetworks that are like real ones."
-    return f"{told}\n\n{table(heads, rows)}\n\n![Times of preparing and of a pair against the number of nodes](docs/speed.svg)\n"
+    return f"{told}\n\n{table(heads, rows)}\n\n{PICTURE.format('docs/speed.svg')}"
 
 
 def draw(measured, file):
@@ -251,10 +270,11 @@ def draw(measured, file):
     figure.savefig(file, metadata={"Date": None, "Creator": None})
 
 
-def put(file, text):
-    """Writes the text between the marks of a document."""
+def put(file, text, mark="speed"):
+    """Writes the text between two marks of a document."""
+    first, last = f"<!-- {mark}: begin -->\n", f"<!-- {mark}: end -->"
     whole = file.read_text()
-    begin, end = whole.index(BEGIN) + len(BEGIN), whole.index(END)
+    begin, end = whole.index(first) + len(first), whole.index(last)
     file.write_text(whole[:begin] + text + whole[end:])
 
 
@@ -270,6 +290,7 @@ def main():
         words.error(f"{asked.folder} has nothing measured: {error.strerror}")
     draw(measured, docs / "speed.svg")
     shutil.copy(asked.folder / "runs.csv", docs / "speed.csv")
+    put(docs / "SPEED.md", figures(measured), "figures")
     put(docs / "SPEED.md", page(measured))
     put(readme, summary(measured))
 
