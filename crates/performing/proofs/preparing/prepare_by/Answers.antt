@@ -9,8 +9,10 @@ prepare_beside-requires-clause-untold g c _ _ k d h = all_for _ _ (λ order thin
 
 pub returns : goal.returns
 returns g c =
-    told c.prepare_beside.result _ _ c.prepare_beside.ensures.prepares
-    (c.causes_tell_refusals.ensures.prepared _ _ _ c.prepare_beside.result (not_bad c.prepare_beside.result c.options-options.result _ (search rules) c.prepare_beside.ensures.bad) c.prepare_beside.ensures.kinds c.prepare_beside.ensures.fault c.prepare_beside.ensures.untouched c.prepare_beside.ensures.broken)
+    let asked = c.prepare_beside in
+    let bad = not_bad asked.result c.options-options.result _ (search rules) asked.ensures.bad in
+    let refused = c.causes_tell_refusals.ensures.prepared _ _ _ asked.result bad in
+    told asked.result _ _ asked.ensures.prepares (refused asked.ensures.kinds asked.ensures.fault asked.ensures.untouched asked.ensures.broken)
 
 pub returns-in_err-leases : goal.returns-in_err-leases
 returns-in_err-leases g c = wants_memory c.from_residual.result _ _ c.from_residual.ensures.1 (search rules)
