@@ -136,7 +136,7 @@ class Hierarchy:
         return None if fields is None else int(fields[3])
 
     def route(self, source: Hashable, target: Hashable) -> Route | None:
-        """A least route from one node to another, None where there is no way. Raises NoSuchNode."""
+        """A shortest path from one node to another, None where there is no way. Raises NoSuchNode."""
         start, end = self._node(source), self._node(target)
         fields = self._reply(b"q %d %d\n" % (start + 1, end + 1), {start}, {end})
         return None if fields is None else self._route(fields)

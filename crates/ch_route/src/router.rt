@@ -19,7 +19,7 @@ use ch_unpack::{UnpackError, unpack};
 use std::alloc::{AllocError, Global};
 use std::marker::Model;
 
-/// Answers pairs of nodes by one hierarchy, each with a least route or with its length alone.
+/// Answers pairs of nodes by one hierarchy, each with a shortest path or with its length alone.
 ///
 /// It holds what [`Search`] holds: about 56 bytes a node and 16 a link, or 64 and 20 where there are 2^32 links or more,
 /// and what the largest call so far needed beside it. After a call that failed it works as a new one.
@@ -76,7 +76,7 @@ impl<'a> Router<'a> {
         self.hierarchy.nodes()
     }
 
-    /// Returns the least route from the first node of the pair to the second, or `None` where there is no way.
+    /// Returns a shortest path from the first node of the pair to the second, or `None` where there is no way.
     ///
     /// The cost is the value of the hierarchy, and the nodes are those of the arcs that a rise-fall walk of that cost
     /// represents. Where the hierarchy is right for a graph the route is a least walk of it, and of all least walks one
@@ -123,7 +123,7 @@ impl<'a> Router<'a> {
         Ok(length_of(cost))
     }
 
-    /// Returns the least route from one of the starts to one of the ends, by what start, way and end cost together,
+    /// Returns a shortest path from one of the starts to one of the ends, by what start, way and end cost together,
     /// or `None` where there is no way from a start to an end.
     ///
     /// Where the hierarchy is right for a graph, its cost is the least over all pairs of a start and an end of the distance

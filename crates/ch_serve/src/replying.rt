@@ -86,7 +86,7 @@ fn push_measured(
     push_length(pair, length, lines)
 }
 
-// Appends the least route between places.
+// Appends the shortest path between places.
 fn push_between(router: &mut Router<'_>, ends: &Ends, lines: &mut Vec<u8>) -> Result<(), AllocError>
     requires in_range { IsInRange (length router.old.ranks) (asks.Between ends.now) }
     ensures ok { OnOk result ((reply : List ℕ) × Gets (by_hierarchy router.old) (asks.Between ends.now) reply × (lines.new.items ≡ lines.old.items ++ reply)) }
@@ -98,7 +98,7 @@ fn push_between(router: &mut Router<'_>, ends: &Ends, lines: &mut Vec<u8>) -> Re
     push_least(router, &first[..starts.len()], &last[..stops.len()], lines)
 }
 
-// Appends the least route from one of the starts to one of the ends.
+// Appends the shortest path from one of the starts to one of the ends.
 fn push_least(
     router: &mut Router<'_>,
     starts: &[Seed],

@@ -25,7 +25,7 @@ use std::thread::Threads;
 /// Answers pairs of nodes over a graph, by a hierarchy that is built of it for this call.
 ///
 /// `gr` gives the text of the graph, `queries` the query file, and `out` gets one line for each pair, in
-/// order: its least length, how many arcs its route has, and the nodes of the route; of all least routes it is one with
+/// order: its least length, how many arcs its route has, and the nodes of the route; of all shortest paths it is one with
 /// the fewest arcs. The texts are read first, the
 /// graph's before the pairs', and the hierarchy is built next, as [`prepare`](crate::prepare) does; where one of them
 /// is refused nothing is written. Where memory runs out while pairs are answered, the lines of the pairs before are

@@ -20,7 +20,7 @@ use std::io::{Read, Write};
 ///
 /// `hier` gives the file of the hierarchy, `queries` the query file, and `out` gets one line for each pair, in
 /// order: its least length, how many arcs its route has, and the nodes of the route. Where [`prepare`](crate::prepare)
-/// wrote the file, it is of all least routes one with the fewest arcs; by a file of version 1, whose costs count no
+/// wrote the file, it is of all shortest paths one with the fewest arcs; by a file of version 1, whose costs count no
 /// arcs, it is any of them. The hierarchy is read before the pairs, and where one is refused nothing is written. Where a
 /// pair is refused, because memory ran out or its route is too long, the lines of the pairs before are written first; no
 /// route is too long where the hierarchy is right for some graph, in the sense of its version. Takes memory for the

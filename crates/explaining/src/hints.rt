@@ -157,10 +157,7 @@ fn hint_of_number<E: Write>(text: &Text<'_>, err: &mut E) {
         Shown(wrong)
     );
     if wrong.starts_with(b"-") {
-        let _ = writeln!(
-            err,
-            "  least routes are asked for by weights that aren't negative"
-        );
+        let _ = writeln!(err, "  shortest paths need weights that aren't negative");
     } else if wrong.contains(&b'.') || wrong.contains(&b'e') {
         let _ = writeln!(
             err,

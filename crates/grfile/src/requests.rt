@@ -46,11 +46,11 @@ pub struct Ends {
 pub enum Request {
     /// Nothing: the line is a comment, or has no fields.
     Comment,
-    /// The least route from the first node to the second.
+    /// The shortest path from the first node to the second.
     Route((u32, u32)),
     /// Its length alone.
     Length((u32, u32)),
-    /// The least route from one of several places to one of several others.
+    /// The shortest path from one of several places to one of several others.
     Between(Ends),
     /// The line has this fault.
     Fault(GrErrorKind),

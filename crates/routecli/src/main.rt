@@ -1,4 +1,4 @@
-//! The program `routecli`: prepares hierarchies of road graphs, and answers pairs of nodes with least routes.
+//! The program `routecli`: prepares hierarchies of road graphs, and answers pairs of nodes with shortest paths.
 //!
 //! Uses `command_line`, which turns the program's arguments into a [`Job`], `performing`, which does it over readers
 //! and writers and returns the exit status, `whole_file`, by which the file of a hierarchy is whole or not there, `progress`,

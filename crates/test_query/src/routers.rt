@@ -1,4 +1,4 @@
-//! What a router returns: least routes and their lengths, none where there is no way, and a route that is too long.
+//! What a router returns: shortest paths and their lengths, none where there is no way, and a route that is too long.
 ghost use Rattle.std.specs.Prelude.{◌≡◌, length};
 
 use crate::checked::{BY_WAY_OF_0, DRAWN, DRAWN_RANKS, hierarchy_of};

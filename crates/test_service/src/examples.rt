@@ -87,7 +87,7 @@ pub(crate) const EXAMPLES: [Example; 13] = [
     },
 ];
 
-/// How many of them have one least route for each pair: all but the last.
+/// How many of them have one shortest path for each pair: all but the last.
 pub(crate) const UNTIED: usize = 12;
 
 /// The text of the graph of one arc.

@@ -168,7 +168,7 @@ fn are_routed<R: Threads + Wait + Sync>(
     routed(rt, alloc, file, pairs).as_slice() == answers
 }
 
-/// Whether one of the two least routes of the tie is found.
+/// Whether one of the two shortest paths of the tie is found.
 fn is_tied<R: Threads + Wait + Sync>(rt: &R, alloc: Global, file: &[u8]) -> bool {
     let tied = routed(rt, alloc, file, TIED_PAIR);
     tied.starts_with(b"r 3 4 2 2 3 ") && tied.ends_with(b" 4\n")

@@ -44,7 +44,7 @@ const ROUTED: [(&[u8], &[u8], &[u8]); 4] = [
         b"p aux sp p2p 3\nq 2 3\nq 2 1\nq 3 2\n",
         b"r 2 3 5 2 2 1 3\nr 2 1 2 1 2 1\nn 3 2\n",
     ),
-    // A least route needn't have the fewest arcs: the way 4, 1, 5 has two.
+    // A shortest path needn't have the fewest arcs: the way 4, 1, 5 has two.
     (
         TIED,
         b"p aux sp p2p 3\nq 4 5\nq 4 1\nq 2 5\n",
