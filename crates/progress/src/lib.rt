@@ -18,8 +18,6 @@
 
 mod line;
 mod meter;
-#[cfg(test)]
-mod tests;
 mod watched;
 
 pub use line::{Progress, write_end, write_line};
