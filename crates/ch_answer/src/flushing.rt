@@ -8,7 +8,7 @@ use std::error::Error;
 use std::fmt;
 use std::io::{self, ErrorKind, Write};
 
-/// A writer whose flushes can be told one by one, as its writes can. Every writer is one.
+/// A writer whose flushes are steps of their own, as its writes are. Every writer is one.
 pub trait StepFlush: StepWrite {
     ghost use Rattle.std.specs.Prelude.{⊤, Result};
     ghost use Rattle.std.specs.Io.KnownBytes.{Keeps};

@@ -87,7 +87,7 @@ impl Ledger {
         Ledger::opened(alloc, graph, overlay)
     }
 
-    /// The same ledger as [`Ledger::new`] makes, whose rows are made in up to so many threads.
+    /// The same ledger as [`Ledger::new`] makes. Up to this many threads make its rows.
     pub fn new_by<R: Threads + Sync>(
         rt: &R,
         alloc: Global,

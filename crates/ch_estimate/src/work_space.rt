@@ -48,7 +48,7 @@ impl WorkSpace {
         }
     }
 
-    /// What the entries tell of a node. Takes constant time.
+    /// What the entries show of a node. Takes constant time.
     pub fn note(&self, node: u32) -> Note
         ensures { result ≡ told.note_of self.now node }
     {

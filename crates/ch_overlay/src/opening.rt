@@ -13,8 +13,8 @@ use std::sync::Arc;
 use std::thread;
 use std::thread::Threads;
 
-/// The rows of `count` nodes from `from` on with these arcs, by the nodes' numbers, to be shared. Up to so many threads make
-/// a part of them each.
+/// The rows of `count` nodes from `from` on with these arcs, by the nodes' numbers, to be shared. Up to this many threads
+/// make a part of them each.
 #[cycle(halves)]
 pub fn shared_rows<R: Threads + Sync>(
     rt: &R,

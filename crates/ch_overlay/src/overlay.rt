@@ -64,7 +64,7 @@ impl Overlay {
         Overlay::opened(alloc, graph, least.as_slice(), shared(alloc, rows)?)
     }
 
-    /// The same rows as [`Overlay::start`] makes, made in up to so many threads.
+    /// The same rows as [`Overlay::start`] makes, by up to this many threads.
     pub fn start_by<R: Threads + Sync>(
         rt: &R,
         alloc: Global,

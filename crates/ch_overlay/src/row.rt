@@ -30,7 +30,7 @@ impl Model for Row {
 }
 
 impl Row {
-    /// The row of a node without arcs, with room for so many entries out of it and into it.
+    /// The row of a node without arcs, with room for this many entries out of it and into it.
     pub(crate) fn with_room(alloc: Global, out: usize, inn: usize) -> Result<Row, AllocError>
         ensures { IfOk result (λ row. row ≡ no_arcs) }
     {

@@ -23,7 +23,7 @@ impl<B: Book> Pen<B> {
     }
 
     /// Lays rows, each of a node in range, first to last. No current row changes, on a refusal neither, and the next
-    /// version is what it was or the one behind a record of the book, so the pen can go on.
+    /// version is what it was or the one behind a record of the book, so the pen can be used again.
     ///
     /// Takes memory for the list and for the records, all of it before the first is laid, and waits while another thread
     /// makes room for records.

@@ -65,7 +65,7 @@ pub fn prepare<G: Read, W: Write, P: Gate, R: Threads + Wait + Sync>(
     prepared
 }
 
-/// Prepares a hierarchy as [`prepare`] does. What the build needs no longer may still be dropped after it has answered:
+/// Prepares a hierarchy as [`prepare`] does. What the build needs no longer may still be dropped after it has returned:
 /// `disposal` waits for that.
 pub fn prepare_beside<G: Read, W: Write, P: Gate, R: Threads + Wait + Sync>(
     rt: &R,

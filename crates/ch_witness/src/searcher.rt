@@ -21,7 +21,7 @@ use std::mem;
 pub struct Traced {
     /// For each target, in their order, the best way that the search has reached, or `None`.
     pub ways: Vec<Option<Way>>,
-    /// What the search went on by, in its order: the steps of each node of a way but the last are among them.
+    /// The nodes that the search expanded, in its order: the steps of each node of a way but the last are among them.
     pub steps: Vec<TreeNode>,
 }
 

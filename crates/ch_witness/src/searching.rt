@@ -17,12 +17,12 @@ use std::alloc::{AllocError, Global};
 /// Ways from one node to others that don't enter the node `avoid`, along the arcs of the rows that a source shows.
 ///
 /// Dijkstra's algorithm (1959): it settles nodes in the order of their costs, of equal costs the smaller number first,
-/// at most `settle` of them (1 to 65,536) and none above the cutoff, and goes on from those whose rows have no rank. It
+/// at most `settle` of them (1 to 65,536) and none above the cutoff, and expands those whose rows have no rank. It
 /// asks the source for each of their rows once, and ends early where every target is settled. A target's way is the
-/// best that was reached, settled or not. The rows that it returns are the source's own answers.
+/// best that was reached, settled or not. The rows that it returns are those of the source.
 ///
 /// `from` and the targets differ from `avoid`, and the cutoff is at most the bound of the source. `OutOfMemory` where
-/// memory runs out, `Unseen` where the source has no row of a node that is gone on from; the source has then moved
+/// memory runs out, `Unseen` where the source has no row of a node that is to be expanded; the source has then moved
 /// as reading moves it, and nothing else. Memory and time grow with the nodes that are settled and their neighbours, with
 /// 8 bytes for each number up to the greatest of them: a [`Searcher`] keeps that memory for its next search.
 pub fn search<S: RowSource>(

@@ -5,7 +5,7 @@ use ch_cost::Cost;
 use ch_overlay::Seen;
 use std::snapshot::Snapshot;
 
-/// A node that a search went on from: the step before it, and what the way to it costs. It takes 24 bytes.
+/// A node that a search expanded: the step before it, and what the way to it costs. It takes 24 bytes.
 ///
 /// Its row is among those that the search kept. The snapshot says which one it is, and takes no memory.
 #[derive(Drop)]

@@ -68,7 +68,7 @@ impl Tree {
         Ok(tree)
     }
 
-    /// Goes on with the search: settles node after node and goes on from each, until this many turns are over, no node
+    /// Continues the search: settles node after node and expands each, until this many turns are over, no node
     /// is open, or every target is done, and the row of the node that was settled last isn't read.
     pub fn grow<S: RowSource>(
         &mut self,

@@ -26,7 +26,7 @@ pub record IsAccount (log : List Contraction) (lists : List (List Receipt)) : Ty
   pub only : (r : Receipt) → Contains (all_of lists) r → IsOfLog log r
   pub rising : All Rises lists
 
--- The work of the test
+-- The work of the test. Contracts of private functions alone cite it.
 
 -- the receipts are of entries of the log, each of another one
 pub record AreApart (log : List Contraction) (receipts : List Receipt) : Type 0 where

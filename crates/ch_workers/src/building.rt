@@ -73,7 +73,7 @@ pub fn build<G: Gate, R: Threads + Wait + Sync>(
 
 /// Builds as [`build`] does, and makes no index of the hierarchy's links, which its file doesn't have.
 ///
-/// Rows and books that are needed no longer are dropped beside what comes next, also after it has answered: `disposal`
+/// Rows and books that are needed no longer are dropped beside what comes next, also after it has returned: `disposal`
 /// waits for that.
 pub fn build_plain<G: Gate, R: Threads + Wait + Sync>(
     rt: &R,

@@ -193,9 +193,9 @@ impl<S: Site> Shared<S> {
         Ok(log.len())
     }
 
-    /// Tells a listener each entry of the log that it wasn't told, in order, by a copy, which takes one hold of the
-    /// board's lock each. An entry that comes after the last of these holds waits for the next call. Where the listener was
-    /// told all of them, no lock is taken.
+    /// Passes a listener each entry of the log that it hasn't received, in order, as a copy, which takes one hold of the
+    /// board's lock each. An entry that comes after the last of these holds waits for the next call. If the listener has
+    /// received all of them, no lock is taken.
     pub(crate) fn tell_all<E: Estimator, R: Wait>(
         &self,
         rt: &R,

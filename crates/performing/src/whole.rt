@@ -13,8 +13,8 @@ use whole_file::Destination;
 
 /// Prepares a hierarchy and puts it at its destination, whole, and returns the program's exit status.
 ///
-/// `graph` gives the graph's text. With a status of 0 the file of the hierarchy stands at the destination, and with any
-/// other what stood there before. What the status tells of the text is what it tells in
+/// `graph` gives the graph's text. With status 0 the hierarchy file is at the destination, and with any other
+/// status what was there before. The status says of the text what it says in
 /// [`perform_preparation`](crate::perform_preparation). The workers pass the gate. Of a refusal one line goes to `err`.
 pub fn prepare_whole<G: Read, D: Destination, E: Write, P: Gate, R: Threads + Wait + Sync>(
     rt: &R,
