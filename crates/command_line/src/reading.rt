@@ -326,7 +326,7 @@ const WORKERS: &str =
 const SEED: &str = "Seed of the random choices of the threads, 0 to 18446744073709551615";
 
 const ORDER: &str =
-    "Which nodes are contracted first: those that leave the fewest arcs, or that and few contracted neighbours, or that and little depth";
+    "Which nodes are contracted first: with edges those that leave the fewest arcs; neighbours also counts contracted neighbours, and depth the depth of a node: try depth first";
 
 const STINT: &str =
     "Number of contractions after which a thread uses the next order, the requested one first and then the others: 1 to 1099511627776; without it a thread keeps the requested one";
@@ -346,8 +346,8 @@ const PREPARING: &str =
     "Options never affect whether answers are right, only the time that preparing takes and the size of OUT.";
 
 const SERVING: &str =
-    "q S T asks for a shortest path, d S T for its length, b S C .. : T D .. for the shortest between several places with lengths that are added.\n\n\
-A line that begins with c gets c, and one with a fault e and the fault's name.";
+    "q S T asks for a shortest path, d S T for its length, b S C .. : T D .. for the shortest path from any start S to any end T, with the lengths C and D added.\n\n\
+A comment line gets c; an invalid line gets e and the error's name.";
 
 const INFORMING: &str =
     "The file is read to its end, and refused if route refuses it; the bound is the greatest length that a path may have.";

@@ -50,10 +50,7 @@ fn warn_of_folder<R: Files, E: Write>(rt: &R, path: &str, err: &mut E) {
 }
 
 fn warn<E: Write>(path: &str, error: &Error, err: &mut E) {
-    let _ = writeln!(
-        err,
-        "routecli: warning: nothing can be written there: {path}: {error}"
-    );
+    let _ = writeln!(err, "routecli: warning: can't write {path}: {error}");
 }
 
 /// The folder in which the file of this path is.

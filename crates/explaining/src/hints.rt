@@ -78,17 +78,17 @@ fn hint_of_kind<E: Write>(text: &Text<'_>, err: &mut E) {
     } else if is(first, "q") && !text.is_pairs {
         let _ = writeln!(
             err,
-            "  this is a line of pairs, and a graph is wanted: are the files exchanged?"
+            "  this is a line of pairs, and a graph is expected: are the two files swapped?"
         );
         return;
     } else if is(first, "a") && text.is_pairs {
         let _ = writeln!(
             err,
-            "  this is a line of a graph, and pairs are wanted: are the files exchanged?"
+            "  this is a line of a graph, and pairs are expected: are the two files swapped?"
         );
         return;
     } else if text.line.contains(&b',') || text.line.contains(&b';') {
-        let _ = writeln!(err, "  fields are parted by blanks");
+        let _ = writeln!(err, "  fields are separated by spaces or tabs");
     } else if is_number(first) {
         let _ = writeln!(
             err,
@@ -98,7 +98,7 @@ fn hint_of_kind<E: Write>(text: &Text<'_>, err: &mut E) {
     let (form, item) = (text.form(), text.item());
     let _ = writeln!(
         err,
-        "  wanted are a line \"{form}\", lines \"{item}\", and comments, which begin with c"
+        "  expected: one line \"{form}\", then lines \"{item}\"; comment lines begin with c"
     );
 }
 
@@ -233,13 +233,13 @@ fn hint_of_limit<E: Write>(fault: &[u8], text: &Text<'_>, err: &mut E) {
     } else if is(fault, "FieldCount") {
         let _ = writeln!(
             err,
-            "  wanted are the fields of \"{form}\" or \"{item}\", and no more"
+            "  expected: the fields of \"{form}\" or \"{item}\", and no more"
         );
     } else if is(fault, "WeightTooBig") {
         let _ = writeln!(err, "  a weight is at most 4294967295: scale all weights");
     } else if is(fault, "TooManyNodes") {
-        let _ = writeln!(err, "  there may be 33554432 nodes");
+        let _ = writeln!(err, "  the limit is 33554432 nodes");
     } else if is(fault, "TooManyArcs") {
-        let _ = writeln!(err, "  there may be 134217728 lines \"{item}\"");
+        let _ = writeln!(err, "  the limit is 134217728 lines \"{item}\"");
     }
 }

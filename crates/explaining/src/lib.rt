@@ -12,7 +12,7 @@
 //! ```rust
 //! explain(rt, &job, b"routecli: graph: NodeRange line 2\n", &trouble, &mut err);
 //! // net.gr:2: a 1 3 7
-//! // node 3 is out of range: nodes are 1 to 2, by the line "p sp 2 1"
+//! //   node 3 isn't there: nodes are 1 to 2
 //! ```
 #![tactic(auto)]
 

@@ -282,7 +282,7 @@ fn refuse_words<E: io::Write>(error: &io::Error, err: &mut E) -> u8
     if error.kind() == ErrorKind::OutOfMemory {
         return end(6, "memory", err);
     }
-    end(2, "a word of the command line isn't text in UTF-8", err)
+    end(2, "an argument isn't text in UTF-8", err)
 }
 
 // The status where a file can't be opened.
