@@ -1,5 +1,5 @@
-ghost use Rattle.std.specs.Prelude.{◌≡◌, ◌<◌, ◌+◌, ◌↔◌, ℕ, ◌∷◌, length, replicate, slice_set, All, Contains, IfOk, OnOk, IfSome, IfNone, IsTrue, OnSome};
-ghost use Rattle.std.specs.BinaryHeap.{heap_items, heap_len, IsHeap, IsUpperBound};
+ghost use Rattle.std.specs.Prelude.{◌≡◌, ◌<◌, ◌≤◌, ◌+◌, ◌^◌, ◌↔◌, ℕ, [], ◌∷◌, length, replicate, slice_set, vec_capacity, All, Contains, IfOk, OnOk, IfSome, IfNone, IsTrue, OnSome};
+ghost use Rattle.std.specs.BinaryHeap.{heap_items, heap_len, heap_capacity, IsHeap, IsUpperBound};
 ghost use Rattle.std.specs.List.Sorted.{IsPermutation};
 ghost use Rattle.std.specs.Ordering.{nat_cmp};
 ghost use Rattle.ch_graph.specs.declared.mark.Mark.TheVariants.{Unseen, Open, Settled};
@@ -89,8 +89,7 @@ impl Frontier {
             return;
         }
         self.clear();
-        self.queue.shrink_to_fit();
-        self.touched.shrink_to_fit();
+        free(&mut self.queue, &mut self.touched);
     }
 
     /// The mark of the node of a rank.
@@ -194,4 +193,17 @@ fn pop_up_to(
         return None;
     }
     queue.pop()
+}
+
+// Takes all entries out of a queue and of a list, and frees their memory.
+fn free(queue: &mut BinaryHeap<Reverse<(u64, u32)>>, touched: &mut Vec<u32>)
+    ensures queue { heap_items queue.new ≡ [] }
+    ensures order { IsHeap (entry_cmp nat_cmp) (heap_items queue.new) }
+    ensures touched { touched.new.items ≡ [] }
+    ensures room { (heap_capacity queue.new ≤ 2 ^ 16) × (vec_capacity touched.new ≤ 2 ^ 16) }
+{
+    queue.clear();
+    touched.clear();
+    queue.shrink_to_fit();
+    touched.shrink_to_fit();
 }
