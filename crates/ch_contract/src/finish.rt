@@ -7,7 +7,7 @@ ghost use Rattle.ch_contract.specs.Finish.{AreLinks, AreRanks, HasNodesLeft};
 use crate::contraction::Contraction;
 use crate::error::FinishError;
 use crate::ledger::Ledger;
-use crate::parts::{Parts, links_of, parts_by_two, ranks_of};
+use crate::parts::{RanksAndLinks, links_of, parts_by_two, ranks_of};
 use ch_graph::Hierarchy;
 use ch_laws::{reached_hierarchy_is_right, reached_hierarchy_is_well_made};
 use ch_overlay::Overlay;
@@ -63,7 +63,7 @@ pub fn plain_hierarchy_of(ledger: &Ledger) -> Result<Hierarchy, FinishError>
     let Ok(links) = links_of(ledger.allocator(), overlay) else {
         return Err(FinishError::OutOfMemory);
     };
-    Ok(hierarchy_from(ledger, Parts { ranks, links }))
+    Ok(hierarchy_from(ledger, RanksAndLinks { ranks, links }))
 }
 
 /// The same as [`plain_hierarchy_of`] by two threads, of which one makes the ranks.
@@ -83,7 +83,7 @@ pub fn plain_hierarchy_by_two<R: Threads>(rt: &R, ledger: &Ledger) -> Result<Hie
 }
 
 /// The hierarchy of the ranks and the links of a ledger's rows, whose nodes are all contracted.
-fn hierarchy_from(ledger: &Ledger, parts: Parts) -> Hierarchy
+fn hierarchy_from(ledger: &Ledger, parts: RanksAndLinks) -> Hierarchy
     requires over { IsOver (state_of ledger.now.overlay) }
     requires ranks { AreRanks ledger.now.overlay parts.ranks.items }
     requires links { AreLinks ledger.now.overlay parts.links.items }

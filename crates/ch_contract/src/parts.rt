@@ -43,7 +43,7 @@ pub fn links_of(alloc: Global, overlay: &Overlay) -> Result<Vec<Link>, AllocErro
 
 /// The ranks of all nodes and the links of all rows.
 #[derive(Drop)]
-pub struct Parts {
+pub struct RanksAndLinks {
     pub ranks: Vec<u32>,
     pub links: Vec<Link>,
 }
@@ -60,7 +60,7 @@ pub fn parts_by_two<R: Threads>(
     rt: &R,
     alloc: Global,
     overlay: &Overlay,
-) -> Result<Parts, AllocError>
+) -> Result<RanksAndLinks, AllocError>
     requires { IsOver (state_of overlay.now) }
     ensures ranks { IfOk result (λ parts. AreRanks overlay.now parts.ranks.items) }
     ensures links { IfOk result (λ parts. AreLinks overlay.now parts.links.items) }
@@ -74,7 +74,7 @@ pub fn parts_by_two<R: Threads>(
     let chains = chains?;
     let room = out.saturating_add(chains.len());
     let links = merge_rows(alloc, overlay, &chains, room)?;
-    Ok(Parts { ranks, links })
+    Ok(RanksAndLinks { ranks, links })
 }
 
 fn ranks_and_count(alloc: Global, overlay: &Overlay) -> Result<Ranked, AllocError>
