@@ -15,7 +15,7 @@ use Rattle.ch_laws.specs.Verdicts.{ListsThrough}
 use Rattle.ch_overlay.specs.Source.{row_of}
 use Rattle.ch_contract.specs.Proposal.{Proposal, IsProposal, ShortcutBefore}
 use Rattle.ch_contract.proofs.Judging.{same_row}
-use Rattle.ch_contract.proofs.Ranges.{AllPairs-head, AllPairs-tail, pairs-map, rising-short}
+use Rattle.ch_contract.proofs.Ranges.{AllPairs-head, pairs-map, rising-short}
 
 -- a rising list of numbers from a on and below n that leaves one of these out
 rising-missing : (xs : List ℕ) (a n x : ℕ) → a ≤ x → x < n → AllPairs (λ y z. y < z) xs → All (λ y. (a ≤ y) × (y < n) × (y ≢ x)) xs → length xs + a < n
@@ -26,12 +26,12 @@ rising-missing (y ∷ ys) a n x low high rises within =
     elim (cases_lt y x) [
       | inl less ↦
           let rest : All (λ z. (a + 1 ≤ z) × (z < n) × (z ≢ x)) ys = λ k d h. let t = All-tail (λ z. (a ≤ z) × (z < n) × (z ≢ x)) y ys within k d h in (omega (arith, above k d h, head.0), t.1, t.2) in
-          let short = rising-missing ys (a + 1) n x (omega (arith, less, head.0)) high (AllPairs-tail (λ z t. z < t) y ys rises) rest in
+          let short = rising-missing ys (a + 1) n x (omega (arith, less, head.0)) high (pairs_later (λ z t. z < t) y ys rises) rest in
           omega (arith, short)
       | inr past ↦
           let over : x < y = omega (arith, past, head.2) in
           let rest : All (λ z. (y + 1 ≤ z) × (z < n)) ys = λ k d h. let t = All-tail (λ z. (a ≤ z) × (z < n) × (z ≢ x)) y ys within k d h in (omega (arith, above k d h), t.1) in
-          let short = rising-short ys (y + 1) n (omega (arith, head.1)) (AllPairs-tail (λ z t. z < t) y ys rises) rest in
+          let short = rising-short ys (y + 1) n (omega (arith, head.1)) (pairs_later (λ z t. z < t) y ys rises) rest in
           omega (arith, short, low, over)
     ]
 

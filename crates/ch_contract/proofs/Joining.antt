@@ -25,15 +25,13 @@ use Rattle.ch_witness.specs.Ways.{AreWays, IsFound, IsStartRead, IsWay, way_at}
 use Rattle.ch_contract.specs.declared.draft.Draft.{Draft}
 use Rattle.ch_contract.specs.Listed.{HasInner, IsInnerOf, IsNamedBy, LeadsOn, NeedsWay, InParts, ends}
 use Rattle.ch_contract.specs.Drafts.{AgreesWithKept, AreJudged, ArePairs, IsDraftedFrom, IsInner, IsJoined, IsJudgedBy, IsPairOf, IsPairPart, Lengthens, over}
+use Rattle.ch_contract.proofs.Options.{some-same}
 use Rattle.ch_contract.proofs.Drafting.{inner_leaves, inner_moved}
 use Rattle.ch_contract.proofs.PartByPart.{parts_at, parts_compose, parts_first, parts_from, parts_map, parts_none}
 use Rattle.ch_overlay.specs.Finding.{row_among}
 
 empty : (p : Shortcut) → Contains [] p → ⊥
 empty p among = omega (arith, among.1)
-
-same-some : (a b : Seen) → Some a ≡ Some b → a ≡ b
-same-some a b e = cc
 
 -- a list that rises has one entry for a node
 pub one_entry : (es : List Entry) → Rises es → (a b : Entry) → Contains es a → Contains es b → a.other ≡ b.other → a ≡ b
@@ -260,7 +258,7 @@ module _ (bound : Cost) (v : ℕ) (row : Row) (into : Entry) (pairs : List Short
           let apart : slice_index (map (λ (q : Shortcut). q.to) pairs) was.0 ≢ into.other = λ e. through.0.apart (through.2 ∙ sym e ∙ at.1) in
           let start = direct was.0 at.0 apart in
           let s = start.0 in
-          let it : s ≡ first = same-some s first (sym start.1 ∙ ap (λ (x : ℕ). kept x) start.2.node ∙ first_kept) in
+          let it : s ≡ first = some-same s first (sym start.1 ∙ ap (λ (x : ℕ). kept x) start.2.node ∙ first_kept) in
           let row_is : row_in s ≡ row_in first = ap (λ (t : Seen). row_in t) it in
           let here : Lists (row_in s).out (slice_index (map (λ (q : Shortcut). q.to) pairs) was.0) c = subst (λ (t : ℕ). Lists (row_in s).out t c) (sym at.1) (subst (λ (r : Row). Lists r.out p.to c) (sym row_is) listed) in
           absurd (was.3 (found_more (way_at ways was.0) c p.cost (start.2.direct (ap (λ (r : Row). r.rank) row_is ∙ unranked) was.0 c at.0 here (at_most_trans low (most p (is_pair p h)))) low))

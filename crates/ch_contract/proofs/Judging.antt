@@ -11,10 +11,8 @@ use Rattle.ch_laws.specs.Verdicts.{ListsThrough}
 use Rattle.ch_overlay.specs.Source.{row_of}
 use Rattle.ch_contract.specs.Proposal.{Proposal, IsProposal, IsVerdict, HasShortcut, Joins}
 use Rattle.ch_contract.specs.declared.verdict.Verdict.TheVariants as verdicts
+use Rattle.ch_contract.proofs.Options.{some-same}
 use Rattle.ch_contract.proofs.Joining.{one_entry}
-
-same-some : {A : Type 0} (a b : A) → Some a ≡ Some b → a ≡ b
-same-some a b e = cc
 
 -- a sum that there is is within the bound
 pub sum_within : (sum : Option Cost) (P : Type 0) (c : Cost) → SomeIff sum P c → is_some sum ≡ true → P
@@ -37,7 +35,7 @@ one_sum row inn out u w a b first second =
 module _ (p : Proposal) (holds : IsProposal p) (row : Row) (read : row_of p.rests_on p.node ≡ Some row) where
   -- the row that was read is the one that the verdicts are by
   pub same_row : (other : Row) → row_of p.rests_on p.node ≡ Some other → other ≡ row
-  same_row other is = same-some other row (sym is ∙ read)
+  same_row other is = some-same other row (sym is ∙ read)
 
   -- without an arc in, or one out, a pair isn't joined
   pub no_arc_in : (u w : ℕ) → ((c : Cost) → Lists row.inn u c → ⊥) → (sum : Cost) → Joins p u w sum → ⊥

@@ -23,3 +23,4 @@ pub mod Current
 pub mod ShownRows
 pub mod Lawful
 pub mod InBook
+pub mod Options

@@ -17,10 +17,10 @@ use Rattle.ch_graph.specs.Hierarchy.{ComesBefore}
 use Rattle.ch_laws.specs.declared.entry.Entry.{Entry}
 use Rattle.ch_laws.specs.Contraction.{Before, IsOver, IsMade}
 use Rattle.ch_laws.specs.Orders.{before_not_both}
-use Rattle.ch_laws.specs.Members.{contains_first, contains_later, contains_cases, place_of, contains-map, contains-mapped}
+use Rattle.ch_laws.specs.Members.{contains_first, contains_later, contains_cases, place_of, contains-map, contains-mapped, pairs_later}
 use Rattle.ch_overlay.specs.Overlay.{Overlay, IsOverlay, row_at, state_of}
 use Rattle.ch_contract.specs.Finish.{AreRanks, AreLinks, link_out, link_in, row_links, links_below}
-use Rattle.ch_contract.proofs.Ranges.{AllPairs-append, AllPairs-head, AllPairs-tail, contains-range, pairs-map, range-contains, range_with_len-rises}
+use Rattle.ch_contract.proofs.Ranges.{AllPairs-append, AllPairs-head, contains-range, pairs-map, range-contains, range_with_len-rises}
 
 -- Lists
 
@@ -50,7 +50,7 @@ pub pairs-flat_map : {Y : Type 0} (R : Y → Y → Type 0) (f : ℕ → List Y) 
 pairs-flat_map R f [] rises within across = λ i j d low high. absurd (omega (arith, high))
 pairs-flat_map R f (x ∷ xs) rises within across =
     AllPairs-append R (f x) (flat_map f xs) (within x (contains_first x xs))
-    (pairs-flat_map R f xs (AllPairs-tail (λ y z. y < z) x xs rises) (λ y among. within y (contains_later x xs y among)) (λ y z a b less first second. across y z a b less (contains_later x xs y first) (contains_later x xs z second)))
+    (pairs-flat_map R f xs (pairs_later (λ y z. y < z) x xs rises) (λ y among. within y (contains_later x xs y among)) (λ y z a b less first second. across y z a b less (contains_later x xs y first) (contains_later x xs z second)))
     (λ a b here later.
     let rest = flat_contains-mapped f xs b later in
     across x rest.of a b (All-contains (λ y. x < y) xs rest.of (AllPairs-head (λ y z. y < z) x xs rises) rest.among) (contains_first x xs) (contains_later x xs rest.of rest.among) here rest.part)
@@ -103,7 +103,7 @@ unfolding IsDistinct
 distinct-from_pairs [] apart = tt
 distinct-from_pairs (l ∷ ls) apart = (
   recursion_from_All (λ (k : Link). same l k ≡ false) ls (λ i d h. same-false l (get_or ls i d) (AllPairs-head (λ a b. Same a b → ⊥) l ls apart i d h)),
-  distinct-from_pairs ls (AllPairs-tail (λ a b. Same a b → ⊥) l ls apart),
+  distinct-from_pairs ls (pairs_later (λ a b. Same a b → ⊥) l ls apart),
 )
 
 pairs-from_distinct : (ls : List Link) → IsDistinct same ls → AllPairs (λ a b. Same a b → ⊥) ls

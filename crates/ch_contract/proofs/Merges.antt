@@ -11,7 +11,8 @@ use Rattle.ch_laws.specs.declared.entry.Entry.{Entry}
 use Rattle.ch_laws.specs.Rows.{Rises}
 use Rattle.ch_contract.specs.Chains.{comes_before, dropped_while, merged_by_other}
 use Rattle.ch_contract.proofs.Chaining.{taken-first, taken-none, dropped-first, dropped-none}
-use Rattle.ch_contract.proofs.Ranges.{AllPairs-append, AllPairs-head, AllPairs-left, AllPairs-tail}
+use Rattle.ch_laws.specs.Members.{pairs_later}
+use Rattle.ch_contract.proofs.Ranges.{AllPairs-append, AllPairs-head, AllPairs-left}
 
 -- two parts change places in front of a third
 pub exchanged : {X : Type 0} (xs ys zs : List X) → IsPermutation (xs ++ (ys ++ zs)) (ys ++ (xs ++ zs))
@@ -43,7 +44,7 @@ taken-below end (e ∷ es) = elim (cases_lt e.other end) [
 dropped-above : (end : ℕ) (es : List Entry) → AllPairs (λ a b. a.other ≤ b.other) es → All (λ f. end ≤ f.other) (dropped_while (comes_before end) es)
 dropped-above end [] rises = All-nil (λ (f : Entry). end ≤ f.other)
 dropped-above end (e ∷ es) rises = elim (cases_lt e.other end) [
-  | inl less ↦ subst (All (λ (f : Entry). end ≤ f.other)) (sym (dropped-first end e es less)) (dropped-above end es (AllPairs-tail (λ (a b : Entry). a.other ≤ b.other) e es rises))
+  | inl less ↦ subst (All (λ (f : Entry). end ≤ f.other)) (sym (dropped-first end e es less)) (dropped-above end es (pairs_later (λ (a b : Entry). a.other ≤ b.other) e es rises))
   | inr least ↦
       let later : All (λ (f : Entry). end ≤ f.other) es = All-weaker (λ (f : Entry). e.other ≤ f.other) (λ (f : Entry). end ≤ f.other) (λ f h. omega (arith, least, h)) es (AllPairs-head (λ (a b : Entry). a.other ≤ b.other) e es rises) in
       subst (All (λ (f : Entry). end ≤ f.other)) (sym (dropped-none end e es least)) (All-cons (λ (f : Entry). end ≤ f.other) e es least later)
@@ -52,7 +53,7 @@ dropped-above end (e ∷ es) rises = elim (cases_lt e.other end) [
 dropped-rises : (end : ℕ) (es : List Entry) → AllPairs (λ a b. a.other ≤ b.other) es → AllPairs (λ a b. a.other ≤ b.other) (dropped_while (comes_before end) es)
 dropped-rises end [] rises = rises
 dropped-rises end (e ∷ es) rises = elim (cases_lt e.other end) [
-  | inl less ↦ subst (AllPairs (λ (a b : Entry). a.other ≤ b.other)) (sym (dropped-first end e es less)) (dropped-rises end es (AllPairs-tail (λ (a b : Entry). a.other ≤ b.other) e es rises))
+  | inl less ↦ subst (AllPairs (λ (a b : Entry). a.other ≤ b.other)) (sym (dropped-first end e es less)) (dropped-rises end es (pairs_later (λ (a b : Entry). a.other ≤ b.other) e es rises))
   | inr least ↦ subst (AllPairs (λ (a b : Entry). a.other ≤ b.other)) (sym (dropped-none end e es least)) rises
 ]
 
@@ -77,7 +78,7 @@ merged-rises (e ∷ es) fs first second =
     let ms = merged_by_other es ds in
     let above : All (R e) es = All-weaker (λ (f : Entry). e.other < f.other) (R e) (λ f h. omega (arith, h)) es (AllPairs-head (λ (a b : Entry). a.other < b.other) e es first) in
     let later : All (R e) ms = All-permutation (R e) (es ++ ds) ms (merged-all es ds) (All-append (R e) es ds above (dropped-above e.other fs second)) in
-    let rest : AllPairs R (e ∷ ms) = AllPairs-cons R e ms later (merged-rises es ds (AllPairs-tail (λ (a b : Entry). a.other < b.other) e es first) (dropped-rises e.other fs second)) in
+    let rest : AllPairs R (e ∷ ms) = AllPairs-cons R e ms later (merged-rises es ds (pairs_later (λ (a b : Entry). a.other < b.other) e es first) (dropped-rises e.other fs second)) in
     AllPairs-append R ts (e ∷ ms) (AllPairs-left R ts ds (subst (AllPairs R) (sym (parts e.other fs)) second)) rest
     (λ a b among among_too.
     let low : a.other < e.other = All-contains (λ (f : Entry). f.other < e.other) ts a (taken-below e.other fs) among in

@@ -12,6 +12,7 @@ use Rattle.ch_laws.specs.declared.shortcut.Shortcut.{Shortcut}
 use Rattle.ch_laws.specs.Rows.{Rises}
 use Rattle.ch_witness.specs.declared.way.Way.{Way}
 use Rattle.ch_witness.specs.Ways.{IsFound, way_at}
+use Rattle.ch_contract.proofs.Options.{some-same}
 use Rattle.ch_contract.proofs.Ranges.{AllPairs-take}
 use Rattle.ch_contract.specs.declared.draft.Draft.{Draft}
 use Rattle.ch_contract.specs.Listed.{InParts, ends}
@@ -20,9 +21,6 @@ use Rattle.ch_contract.proofs.PartByPart.{parts_map, parts_push}
 
 empty : {A : Type 0} (x : A) → Contains [] x → ⊥
 empty x among = omega (arith, among.1)
-
-same-some : (a b : Shortcut) → Some a ≡ Some b → a ≡ b
-same-some a b e = cc
 
 -- Pairs
 

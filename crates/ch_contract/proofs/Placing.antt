@@ -11,13 +11,13 @@ use Rattle.std.proofs.lemmas.List.Sorted.{IsPermutation-append, IsPermutation-co
 use Rattle.ch_graph.specs.declared.link.Link.{Link}
 use Rattle.ch_laws.specs.declared.entry.Entry.{Entry}
 use Rattle.ch_laws.specs.Rows.{Row}
-use Rattle.ch_laws.specs.Members.{contains_first, contains_later, contains_cases, contains_none, contains-mapped}
+use Rattle.ch_laws.specs.Members.{contains_first, contains_later, contains_cases, contains_none, contains-mapped, pairs_later}
 use Rattle.ch_overlay.specs.Overlay.{Overlay, IsOverlay, row_at}
 use Rattle.ch_contract.specs.Chains.{AreChainsOf, AreChainsOfRows, chain_links, links_in, merged_below, merged_by_other}
 use Rattle.ch_contract.specs.Finish.{AreLinks, link_out, link_in, links_below}
 use Rattle.ch_contract.proofs.Links.{pairs-flat_map}
 use Rattle.ch_contract.proofs.Merges.{behind, exchanged, merged-all, merged-rises}
-use Rattle.ch_contract.proofs.Ranges.{AllPairs-head, AllPairs-tail, pairs-map, range-contains, contains-range, range_with_len-more, range_with_len-rises}
+use Rattle.ch_contract.proofs.Ranges.{AllPairs-head, pairs-map, range-contains, contains-range, range_with_len-more, range_with_len-rises}
 
 -- Lists that are put together of parts
 
@@ -53,7 +53,7 @@ module _ {Y : Type 0} (F G : ℕ → List Y) where
         subst (λ (l : List Y). IsPermutation (y ∷ (F z ++ flat_map F zs)) l) (sym (ap (λ (l : List Y). l ++ flat_map G zs) first ∙ ap (λ (l : List Y). (y ∷ F z) ++ l) rest)) (IsPermutation-refl (y ∷ (F z ++ flat_map F zs)))
     | inr other ↦
         let later : Contains zs x = elim (contains_cases z zs x among) [ inl is ↦ absurd (other is) | inr there ↦ there ] in
-        let rest = one_more y x zs (AllPairs-tail (λ a b. a < b) z zs rises) later here others in
+        let rest = one_more y x zs (pairs_later (λ a b. a < b) z zs rises) later here others in
         subst (λ (l : List Y). IsPermutation (y ∷ (F z ++ flat_map F zs)) (l ++ flat_map G zs)) (sym (others z other))
         (IsPermutation-trans (y ∷ (F z ++ flat_map F zs)) (F z ++ y ∷ flat_map F zs) (F z ++ flat_map G zs) (behind y (F z) (flat_map F zs)) (IsPermutation-append (F z) (F z) (y ∷ flat_map F zs) (flat_map G zs) (IsPermutation-refl (F z)) rest))
   ]

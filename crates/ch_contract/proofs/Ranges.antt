@@ -5,6 +5,7 @@ use Rattle.std.proofs.lemmas.List.{get_or_append_left, take-append-drop}
 use Rattle.std.proofs.lemmas.List.Elements.{All-append, All-head, All-map, All-tail, Contains-get_or}
 use Rattle.std.proofs.lemmas.List.Kept.{AllPairs-cons}
 use Rattle.std.proofs.lemmas.List.FromFn.{get_or-range_with_len, length-range_with_len}
+use Rattle.ch_laws.specs.Members.{pairs_later}
 
 pub range_with_len-suc : (a n : ℕ) → range_with_len a (suc n) ≡ range_with_len a n ++ (a + n) ∷ []
 range_with_len-suc a zero =
@@ -40,9 +41,6 @@ range_with_len-rises a n i j d low high =
 pub AllPairs-head : {X : Type 0} (R : X → X → Type 0) (x : X) (xs : List X) → AllPairs R (x ∷ xs) → All (R x) xs
 AllPairs-head R x xs pairs k d h = pairs 0 (suc k) d (omega arith) (omega (arith, h))
 
-pub AllPairs-tail : {X : Type 0} (R : X → X → Type 0) (x : X) (xs : List X) → AllPairs R (x ∷ xs) → AllPairs R xs
-AllPairs-tail R x xs pairs i j d low high = pairs (suc i) (suc j) d (omega (arith, low)) (omega (arith, high))
-
 -- and of the elements of a first part alone
 pub AllPairs-left : {X : Type 0} (R : X → X → Type 0) (xs ys : List X) → AllPairs R (xs ++ ys) → AllPairs R xs
 AllPairs-left R xs ys pairs i j d low high =
@@ -59,7 +57,7 @@ AllPairs-append R [] ys first second across = second
 AllPairs-append R (x ∷ xs) ys first second across =
     AllPairs-cons R x (xs ++ ys)
     (All-append (R x) xs ys (AllPairs-head R x xs first) (λ k d h. across x (get_or ys k d) (0, omega arith, refl) (Contains-get_or ys k d h)))
-    (AllPairs-append R xs ys (AllPairs-tail R x xs first) second (λ y z among later. across y z (suc among.0, omega (arith, among.1), among.2) later))
+    (AllPairs-append R xs ys (pairs_later R x xs first) second (λ y z among later. across y z (suc among.0, omega (arith, among.1), among.2) later))
 
 -- a rising list of numbers from a on and below n has n - a of them at most
 pub rising-short : (xs : List ℕ) (a n : ℕ) → a ≤ n → AllPairs (λ x y. x < y) xs → All (λ x. (a ≤ x) × (x < n)) xs → length xs + a ≤ n
@@ -68,12 +66,12 @@ rising-short (x ∷ xs) a n few rises within =
     let head : (a ≤ x) × (x < n) = All-head (λ y. (a ≤ y) × (y < n)) x xs within in
     let above : All (λ y. x < y) xs = AllPairs-head (λ y z. y < z) x xs rises in
     let rest : All (λ y. (a + 1 ≤ y) × (y < n)) xs = λ k d h. (omega (arith, above k d h, head.0), (All-tail (λ y. (a ≤ y) × (y < n)) x xs within k d h).1) in
-    omega (arith, rising-short xs (a + 1) n (omega (arith, head)) (AllPairs-tail (λ y z. y < z) x xs rises) rest)
+    omega (arith, rising-short xs (a + 1) n (omega (arith, head)) (pairs_later (λ y z. y < z) x xs rises) rest)
 
 -- of the images of elements it holds where it holds of the elements through the map
 pub pairs-map : {X Y : Type 0} (R : Y → Y → Type 0) (f : X → Y) (xs : List X) → AllPairs (λ a b. R (f a) (f b)) xs → AllPairs R (map f xs)
 pairs-map R f [] pairs = λ i j d low high. absurd (omega (arith, high))
-pairs-map R f (x ∷ xs) pairs = AllPairs-cons R (f x) (map f xs) (All-map (R (f x)) f xs (AllPairs-head (λ a b. R (f a) (f b)) x xs pairs)) (pairs-map R f xs (AllPairs-tail (λ a b. R (f a) (f b)) x xs pairs))
+pairs-map R f (x ∷ xs) pairs = AllPairs-cons R (f x) (map f xs) (All-map (R (f x)) f xs (AllPairs-head (λ a b. R (f a) (f b)) x xs pairs)) (pairs-map R f xs (pairs_later (λ a b. R (f a) (f b)) x xs pairs))
 
 -- the numbers of a range are those below its end
 pub range-contains : (n x : ℕ) → Contains (range_with_len 0 n) x → x < n

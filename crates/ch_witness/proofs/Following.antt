@@ -1,6 +1,6 @@
 -- The arcs out of a step, as they are followed one after the other.
 use Rattle.std.proofs.Common.{ℕ, Bool, ◌≡◌, ◌≢◌, ◌+◌, ◌<◌, ◌≤◌, ◌⊎◌, false, true, List, length, Option, Some, None, refl, ap, sym, subst, ◌∙◌, arith, inl, inr, slice_index_or}
-use Rattle.std.proofs.lemmas.Bool.{cases_eq, cases_lt}
+use Rattle.std.proofs.lemmas.Bool.{cases_eq, cases_lt, true≢false}
 use Rattle.std.proofs.lemmas.List.{get_or_read}
 use Rattle.ch_cost.specs.declared.cost.Cost.{Cost}
 use Rattle.ch_cost.specs.Cost.{◌⊕◌, ◌≼◌}
@@ -10,6 +10,7 @@ use Rattle.ch_witness.specs.declared.label.Label.{Label}
 use Rattle.ch_witness.specs.declared.rule.Rule.{Rule}
 use Rattle.ch_witness.specs.Tree.{Labels, IsSettled, IsAtMost}
 use Rattle.ch_witness.specs.Frontier.{IsOffered, IsFollowed, IsOpened}
+use Rattle.ch_witness.proofs.Options.{some-same}
 
 -- the first arcs were offered
 pub record AreFollowedSoFar (r : Rule) (entries : List Entry) (c : Cost) (step : Option ℕ) (n : ℕ) (old new : Labels) : Type 0 where
@@ -40,9 +41,6 @@ followed_past r entries c step n old new e within here out h = record {
       let at : k ≡ n = omega (arith, below, least) in
       subst (λ (g : Entry). g.other ≢ r.avoid → c ⊕ g.cost ≼ r.cutoff → ⊥) (sym (same_entry entries k n e f within here is at)) out apart most
 
-some-same : (a b : Label) → Some a ≡ Some b → a ≡ b
-some-same a b e = cc
-
 -- what is known at most this
 known_at_most : (o : Option Label) (d : Cost) → IsAtMost o d → (l : Label) × (o ≡ Some l) × (l.cost ≼ d)
 known_at_most None d h = absurd h
@@ -51,9 +49,6 @@ known_at_most (Some l) d h = (l, refl, h)
 known_settled : (o : Option Label) → IsSettled o → (l : Label) × (o ≡ Some l) × (l.settled ≡ true)
 known_settled None h = absurd h
 known_settled (Some l) h = (l, refl, h)
-
-true-false : (b : Bool) → b ≡ true → b ≡ false → ⊥
-true-false b t f = cc
 
 -- an offer makes no label worse
 offer_kept : (new next : Labels) (v : ℕ) (c : Cost) (step : Option ℕ) → IsOffered new v c step next → (u : ℕ) (d : Cost) → IsAtMost (new u) d → IsAtMost (next u) d
@@ -81,7 +76,7 @@ offer_settled new next v c step offered u h = elim (cases_eq u v) [
   not_open : ((l : Label) → new v ≡ Some l → (l.settled ≡ false) × (c ≼ l.cost)) → IsSettled (new v) → ⊥
   not_open was settled =
       let k = known_settled (new v) settled in
-      true-false k.0.settled k.2 (was k.0 k.1).0
+      true≢false (sym k.2 ∙ (was k.0 k.1).0)
 
 -- the arc at the next place is offered
 pub followed_offer : (r : Rule) (entries : List Entry) (c : Cost) (step : Option ℕ) (n : ℕ) (old new next : Labels) (e : Entry) → n < length entries
@@ -126,7 +121,7 @@ followed_offer r entries c step n old new next e within here apart most offered 
       let k = known_settled (new e.other) s in
       elim (h.opened e.other k.0 k.1) [
         | inl before ↦ subst IsSettled (sym before) k.2
-        | inr o ↦ absurd (true-false k.0.settled k.2 o.open_yet)
+        | inr o ↦ absurd (true≢false (sym k.2 ∙ o.open_yet))
       ]
 
   this : IsSettled (old e.other) ⊎ IsAtMost (next e.other) (c ⊕ e.cost)

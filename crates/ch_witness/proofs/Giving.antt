@@ -15,9 +15,7 @@ use Rattle.ch_witness.specs.declared.way.Way.{Way}
 use Rattle.ch_witness.specs.Tree.{Labels, AreSteps, IsTree, IsAtMost, IsStartSeen, AllSeen}
 use Rattle.ch_witness.specs.Ways.{IsWay, IsWayOf, AreWays, AreUnrankedRows, IsFound, IsStartRead, way_at}
 use Rattle.ch_witness.specs.Tree.{seen_of}
-
-some-same : {A : Type 0} (a b : A) → Some a ≡ Some b → a ≡ b
-some-same a b e = cc
+use Rattle.ch_witness.proofs.Options.{some-same}
 
 -- a row that was seen is that of a step
 step_of : (steps : List TreeNode) (k : ℕ) (a : Seen) → slice_get (seen_of steps) k ≡ Some a → (s : TreeNode) × (slice_get steps k ≡ Some s) × (s.seen.value ≡ a)

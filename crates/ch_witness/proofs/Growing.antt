@@ -16,13 +16,8 @@ use Rattle.ch_witness.specs.declared.rule.Rule.{Rule}
 use Rattle.ch_witness.specs.declared.step.TreeNode.{TreeNode}
 use Rattle.ch_witness.specs.Frontier.{IsStartAlone, IsSettledNow, IsOpened, AreFollowed}
 use Rattle.ch_witness.specs.Tree.{Labels, node_of, step_row, IsReachedBy, IsTreeStep, IsLabel, IsSettled, IsAtMost, IsTree, IsNew, IsGoneOn, IsLater, AllAre, AllSeen, IsStartSeen}
+use Rattle.ch_witness.proofs.Options.{some-same}
 use Rattle.ch_witness.proofs.Tracing.{reached_more}
-
-some-same : {A : Type 0} (a b : A) → Some a ≡ Some b → a ≡ b
-some-same a b e = cc
-
-true-false : (b : Bool) → b ≡ true → b ≡ false → ⊥
-true-false b t f = cc
 
 -- One more step
 

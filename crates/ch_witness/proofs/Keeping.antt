@@ -10,10 +10,8 @@ use Rattle.ch_overlay.specs.Source.{IsBound, IsSeenRow}
 use Rattle.ch_witness.specs.Kept.{Kept, joined, kept_of, AreKept, IsAnswer, IsKept, IsMore}
 use Rattle.ch_witness.specs.Places.{IsFirstAt}
 use Rattle.ch_witness.specs.declared.rows.Rows.{Rows}
+use Rattle.ch_witness.proofs.Options.{some-same}
 use Rattle.ch_witness.proofs.Valued.{value_found}
-
-some-same : (a b : Seen) → Some a ≡ Some b → a ≡ b
-some-same a b e = cc
 
 module _ (Bears Shows Now : Seen → Type 0) (bound now : Cost) (kept : Kept) (same : now ≡ bound) (still : (s : Seen) → Shows s → Now s) (are : AreKept Bears Shows bound kept) where
   -- the source moves
@@ -58,6 +56,6 @@ pub some_there : (o : Option Seen) → true ≡ is_some o → (s : Seen) × (o �
 some_there None e = absurd (cc)
 some_there (Some s) e = (s, refl)
 
-pub none_there : (o : Option Seen) → false ≡ is_some o → o ≡ None
+pub none_there : {A : Type 0} (o : Option A) → false ≡ is_some o → o ≡ None
 none_there None e = refl
 none_there (Some s) e = absurd (cc)

@@ -10,3 +10,4 @@ pub mod Offering
 pub mod Placed
 pub mod Tracing
 pub mod Valued
+pub mod Options

@@ -7,10 +7,8 @@ use Rattle.std.proofs.lemmas.List.Quantifiers.{all_pairs_push}
 use Rattle.ch_overlay.specs.declared.source.Seen.{Seen}
 use Rattle.ch_witness.specs.FirstPlaces.{first_places}
 use Rattle.ch_witness.specs.Kept.{HasAll, Kept, AreListed, IsListedFrom, OfTheirNodes}
+use Rattle.ch_witness.proofs.Options.{some-same}
 use Rattle.ch_witness.proofs.FirstPlaces.{first_places-new, first_places-old}
-
-some-same : (a b : Seen) → Some a ≡ Some b → a ≡ b
-some-same a b e = cc
 
 some-none : (a : Seen) (o : Option Seen) → o ≡ Some a → o ≡ None → ⊥
 some-none a o e f = cc

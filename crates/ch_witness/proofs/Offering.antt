@@ -7,6 +7,7 @@ use Rattle.ch_cost.specs.Cost.Laws.{cases_cost, at_most-from_below}
 use Rattle.ch_witness.specs.declared.label.Label.{Label}
 use Rattle.ch_witness.specs.Tree.{Labels, IsSettled, IsAtMost}
 use Rattle.ch_witness.specs.Frontier.{Improves, IsOffered}
+use Rattle.ch_witness.proofs.Options.{some-same}
 
 pub differ : (k q : ℕ) → q ≢ k → nat_eq k q ≡ false
 differ k q apart = grind (arith, nat_tests, apart)
@@ -23,9 +24,6 @@ not_better (Some l) c no_better = elim (open_or_settled l) [
     | inr most ↦ inr most
   ]
 ]
-
-some-same : (a b : Label) → Some a ≡ Some b → a ≡ b
-some-same a b e = cc
 
 better : (o : Option Label) (c : Cost) → Improves c o → (l : Label) → o ≡ Some l → (l.settled ≡ false) × (c ≼ l.cost)
 better None c h l e = absurd (cc)

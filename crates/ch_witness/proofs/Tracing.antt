@@ -14,6 +14,7 @@ use Rattle.ch_overlay.specs.Source.{row_of}
 use Rattle.ch_witness.specs.declared.rule.Rule.{Rule}
 use Rattle.ch_witness.specs.declared.step.TreeNode.{TreeNode}
 use Rattle.ch_witness.specs.Tree.{node_of, step_row, seen_of, LeadsTo, IsReachedBy, IsTreeStep, AreSteps}
+use Rattle.ch_witness.proofs.Options.{some-same}
 
 -- how many steps a way may still go back over
 abbrev pub places_to : Option ℕ → ℕ
@@ -43,9 +44,6 @@ equal x y e = grind (arith, nat_tests, e)
 
 unlike : (x y : ℕ) → x ≢ y → nat_eq x y ≡ false
 unlike x y apart = grind (arith, nat_tests, apart)
-
-some-same : (s t : TreeNode) → Some s ≡ Some t → s ≡ t
-some-same s t e = cc
 
 -- the first step of a node has its row
 row_at_place : (steps : List TreeNode) (k : ℕ) (s : TreeNode) → slice_get steps k ≡ Some s → ((j : ℕ) (t : TreeNode) → j < k → slice_get steps j ≡ Some t → node_of t ≢ node_of s) → row_of (seen_of steps) (node_of s) ≡ Some (step_row s)

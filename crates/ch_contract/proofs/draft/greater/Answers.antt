@@ -1,9 +1,7 @@
-use Rattle.std.proofs.Common.{Bool, ◌≡◌, true, false, inl, inr}
+use Rattle.std.proofs.Common.{sym, ◌∙◌, inl, inr}
+use Rattle.std.proofs.lemmas.Bool.{true≢false}
 use Rattle.ch_cost.specs.Cost.Laws.{at_most_refl, at_most-from_below, cases_cost}
 use Rattle.ch_contract.proofs.draft.greater.Goals as goal
-
-true-false : (b : Bool) → b ≡ true → b ≡ false → ⊥
-true-false b t f = cc
 
 pub returns-then-is_at_most-clause-first : goal.returns-then-is_at_most-clause-first
 returns-then-is_at_most-clause-first c = c.is_at_most.ensures.0 c.if-is_at_most.true
@@ -17,5 +15,5 @@ returns-else-is_at_most-clause-first c = at_most_refl c.args.a
 pub returns-else-is_at_most-clause-second : goal.returns-else-is_at_most-clause-second
 returns-else-is_at_most-clause-second c = elim (cases_cost c.args.b c.args.a) [
   | inl below ↦ at_most-from_below below
-  | inr most ↦ absurd (true-false _ (c.is_at_most.ensures.1 most) c.if-is_at_most.false)
+  | inr most ↦ absurd (true≢false (sym (c.is_at_most.ensures.1 most) ∙ c.if-is_at_most.false))
 ]

@@ -11,14 +11,11 @@ use Rattle.ch_witness.specs.declared.step.TreeNode.{TreeNode}
 use Rattle.ch_witness.specs.Frontier.{AreFollowed}
 use Rattle.ch_witness.specs.Kept.{kept_of, read_there, IsAnswer, IsKept}
 use Rattle.ch_witness.specs.Tree.{labels_of, IsTree, IsLater}
+use Rattle.ch_witness.proofs.Keeping.{none_there}
 use Rattle.ch_witness.proofs.Growing.{tree_grown, step_later, names_kept}
 use Rattle.ch_witness.proofs.Limits.{reached_fits, entries_fit, entries_light}
 use Rattle.ch_witness.proofs.tree.Tree.go_on_from.Given as given
 use Rattle.ch_witness.proofs.tree.Tree.go_on_from.Goals as goal
-
-nothing : (o : Option ℕ) → false ≡ is_some o → o ≡ None
-nothing None e = refl
-nothing (Some k) e = absurd (cc)
 
 pub follow-requires-clause-fits : goal.follow-requires-clause-fits
 follow-requires-clause-fits g c =
@@ -36,7 +33,7 @@ there : (g : given.Over) (c : goal.In_ok-push g) → IsKept (kept_of c.read.new.
 there g c = read_there g.S.RowSource.bears (g.S.RowSource.shows c.read.new.source) (g.S.RowSource.bound_of c.args.source.now) c.args.reached.node c.read.new.self c.in_ok-kept_at.kept_at c.at-seen.result.now c.in_ok-kept_at.ensures.here c.at-seen.ensures
 
 unranked : (g : given.Over) (c : goal.In_ok-push g) → (row_in c.at-seen.result.now).rank ≡ None
-unranked g c = ap (λ (r : Row). r.rank) (sym (c.behind-seen.view_is ∙ c.deref.ensures)) ∙ nothing c.behind-seen.inside.rank c.if-is_some.ensures
+unranked g c = ap (λ (r : Row). r.rank) (sym (c.behind-seen.view_is ∙ c.deref.ensures)) ∙ none_there c.behind-seen.inside.rank c.if-is_some.ensures
 
 followed : (g : given.Over) (c : goal.In_ok-push g) → AreFollowed c.args.rule (row_in c.at-seen.result.now).out c.args.reached.cost (Some (length c.args.self.now.steps.items)) (labels_of c.args.self.now.frontier) (labels_of c.follow.new.frontier)
 followed g c =
