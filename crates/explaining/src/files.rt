@@ -1,12 +1,21 @@
+use jobs::Job;
 use std::fs::{self, Metadata, OpenOptions};
 use std::io::{Error, ErrorKind, Write};
 use std::os::unix::fs::MetadataExt;
 use std::path::Path;
 use std::rt::Files;
 
-/// Warns of what keeps a file from being made, before the work that it is made by: its folder isn't there or can't be
-/// written, or it is a folder itself, or a file that can't be written. Nothing is made or changed.
-pub fn warn_of<R: Files, E: Write>(rt: &R, path: &str, err: &mut E) {
+/// Warns of what keeps the file of a job from being made, before the work that it is made by: its folder isn't there or can't
+/// be written, or it is a folder itself, or a file that can't be written. Nothing is made or changed. Of a job that makes no
+/// file nothing is printed.
+pub fn warn_of<R: Files, E: Write>(rt: &R, job: &Job<'_>, err: &mut E) {
+    if let Job::Prepare(preparation) = job {
+        warn_of_path(rt, preparation.out, err);
+    }
+}
+
+// Warns of what keeps a file of this path from being made.
+fn warn_of_path<R: Files, E: Write>(rt: &R, path: &str, err: &mut E) {
     match fs::metadata(rt, path) {
         Ok(found) if found.is_dir() => {
             let _ = writeln!(

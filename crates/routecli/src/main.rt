@@ -39,8 +39,8 @@ fn main(rt: HostRuntime) -> ExitCode {
         Err(why) => return ExitCode::from(show_stop(&why, &mut out, &mut err)),
     };
     let explains = call.explain || err.is_terminal();
-    if let (true, Job::Prepare(preparation)) = (explains, &call.job) {
-        warn_of(&rt, preparation.out, &mut err);
+    if explains {
+        warn_of(&rt, &call.job, &mut err);
     }
     let mut input = Kept::new(rt.stdin());
     let mut out = Kept::new(out);
