@@ -1,14 +1,18 @@
 -- The faults of what follows a head.
-use Rattle.std.proofs.Common.{ℕ, ◌≡◌, ◌*◌, ◌^◌, ◌<◌, List, ◌++◌, length, drop, Option, Some, All, sym, refl, ap, ◌∙◌, arith, append_assoc, append-nil}
+use Rattle.std.proofs.Common.{ℕ, ◌≡◌, ◌*◌, ◌^◌, ◌<◌, List, [], ◌++◌, length, drop, Option, None, Some, All, inl, inr, subst, sym, refl, ap, ◌∙◌, arith, append_assoc, append-nil}
+use Rattle.std.specs.Prelude.{nat_lt}
 use Rattle.std.specs.List.{flat_map}
+use Rattle.std.proofs.lemmas.List.{length-drop}
 use Rattle.std.proofs.Math.Seq.{drop-append_seam}
 use Rattle.ch_graph.specs.declared.link.Link.{Link}
 use Rattle.ch_graph.specs.declared.version.Version.{Version}
 use Rattle.hierfile.specs.declared.error.HierError.{HierError}
+use Rattle.hierfile.specs.declared.error.HierError.TheVariants.{Trailing}
 use Rattle.hierfile.specs.Spelling.{word, link_bytes, link_size, bound_in, words_in, links_in}
-use Rattle.hierfile.specs.Fault.{◌otherwise◌, rank_fault, ranks_fault, link_fault_at, links_fault, half_fault, first_along, end_fault, body_fault}
-use Rattle.hierfile.specs.Bytes.{NoneBelow, IsWritable}
+use Rattle.hierfile.specs.Fault.{◌otherwise◌, fault_if, rank_fault, ranks_fault, link_fault_at, links_fault, half_fault, first_along, end_fault, body_fault}
+use Rattle.hierfile.specs.Bytes.{HasNoneButHalves, IsCutOrWhole, NoneBelow, IsWritable}
 use Rattle.hierfile.proofs.Faults.{earlier}
+use Rattle.hierfile.proofs.Halves.{IsOfHalves, along_halves, but_halves, either_of_halves}
 use Rattle.hierfile.proofs.Spelled.{words_in-front, links_in-front, length-words, length-links}
 use Rattle.hierfile.proofs.RankFaults.{ranks_none, all_small}
 use Rattle.hierfile.proofs.LinkFaults.{links_none}
@@ -55,3 +59,28 @@ body_after_links v n k b ranks links rest fits len none count writable links_ok 
     let bytes : List ℕ = flat_map (link_bytes v) links ++ rest in
     ap (body_fault v n k b) (append_assoc (flat_map word ranks) (flat_map (link_bytes v) links) rest) ∙ body_after_ranks v n k b ranks bytes fits len none
     ∙ rw (links_none v ranks (bound_in v n b) k links rest writable count links_ok, drop-links v k links rest count, links-all v k links rest count writable) refl
+
+-- the ranks and the links have no fault, and nothing follows them
+pub body_so_far : (v : Version) (n k b : ℕ) (ranks : List ℕ) (links : List Link) → n < 2 ^ 32 → length ranks ≡ n → NoneBelow n (rank_fault n ranks)
+    → length links ≡ k → All (IsWritable v) links → NoneBelow k (link_fault_at v ranks (bound_in v n b) links)
+    → HasNoneButHalves (body_fault v n k b) (flat_map word ranks ++ flat_map (link_bytes v) links)
+body_so_far v n k b ranks links fits len none count writable links_ok =
+    let bytes : List ℕ = flat_map word ranks ++ flat_map (link_bytes v) links in
+    let is = ap (body_fault v n k b) (sym (append-nil bytes)) ∙ body_after_links v n k b ranks links [] fits len none count writable links_ok in
+    but_halves (body_fault v n k b) bytes (subst IsOfHalves (sym is) (either_of_halves (first_along (half_fault links) links) (end_fault []) (along_halves links links) (inl refl)))
+
+-- the same by the fault of the links
+body_whole : (v : Version) (n k b : ℕ) (ranks rest : List ℕ) → n < 2 ^ 32 → length ranks ≡ n → NoneBelow n (rank_fault n ranks) → length rest ≡ link_size v * k → links_fault v ranks (bound_in v n b) k rest ≡ None
+    → IsOfHalves (body_fault v n k b (flat_map word ranks ++ rest))
+unfolding after_ranks
+body_whole v n k b ranks rest fits len none size links_ok =
+    let links : List Link = links_in v k rest in
+    let left : length (drop (link_size v * k) rest) ≡ 0 = omega (arith, length-drop (link_size v * k) rest, size) in
+    let end : end_fault (drop (link_size v * k) rest) ≡ None = ap (λ m. fault_if (nat_lt 0 m) Trailing) left in
+    subst IsOfHalves (sym (body_after_ranks v n k b ranks rest fits len none))
+    (either_of_halves _ (end_fault (drop (link_size v * k) rest)) (either_of_halves (links_fault v ranks (bound_in v n b) k rest) (first_along (half_fault links) links) (inl links_ok) (along_halves links links)) (inl end))
+
+pub body_tested : (v : Version) (n k b : ℕ) (ranks rest : List ℕ) → n < 2 ^ 32 → length ranks ≡ n → NoneBelow n (rank_fault n ranks) → IsCutOrWhole (link_size v * k) (links_fault v ranks (bound_in v n b) k) rest
+    → HasNoneButHalves (body_fault v n k b) (flat_map word ranks ++ rest)
+body_tested v n k b ranks rest fits len none (inl cut) = inl (inl (body_links v n k b ranks rest fits len none cut))
+body_tested v n k b ranks rest fits len none (inr whole) = but_halves (body_fault v n k b) (flat_map word ranks ++ rest) (body_whole v n k b ranks rest fits len none whole.0 whole.1)

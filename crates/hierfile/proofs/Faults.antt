@@ -1,5 +1,5 @@
 -- How faults of parts are faults of the whole.
-use Rattle.std.proofs.Common.{ℕ, zero, suc, ◌≡◌, ◌+◌, ◌<◌, ◌≤◌, Bool, true, false, List, ◌++◌, length, Option, None, Some, Result, Ok, Err, sym, refl, subst, arith, inl, inr, length-append}
+use Rattle.std.proofs.Common.{ℕ, zero, suc, ◌≡◌, ◌≢◌, ◌+◌, ◌<◌, ◌≤◌, Bool, true, false, List, ◌++◌, length, Option, None, Some, Result, Ok, Err, sym, refl, subst, arith, inl, inr, length-append}
 use Rattle.std.specs.Prelude.{IfErr, IfSome, IsErrAnd, OnErr}
 use Rattle.std.specs.Io.KnownBytes.{Consumes}
 use Rattle.std.proofs.lemmas.Bool.{cases_lt}
@@ -134,6 +134,24 @@ where_err (Err e) h = h
 
 pub memory_is_no_read : OutOfMemory ≡ Read → ⊥
 memory_is_no_read is = cc
+
+-- no test finds out of memory
+pub finds_no_memory : (b : Bool) (e : HierError) → e ≢ OutOfMemory → fault_if b e ≢ Some OutOfMemory
+finds_no_memory true e other is = other (cc)
+finds_no_memory false e other is = cc
+
+pub neither_memory : (f g : Option HierError) → f ≢ Some OutOfMemory → g ≢ Some OutOfMemory → f otherwise g ≢ Some OutOfMemory
+neither_memory None g h k = k
+neither_memory (Some e) g h k = h
+
+pub read_is_no_memory : Read ≡ OutOfMemory → ⊥
+read_is_no_memory is = cc
+
+pub truncated_is_no_memory : Truncated ≡ OutOfMemory → ⊥
+truncated_is_no_memory is = cc
+
+pub magic_is_no_memory : BadMagic ≡ OutOfMemory → ⊥
+magic_is_no_memory is = cc
 
 pub truncated_is_no_read : Truncated ≡ Read → ⊥
 truncated_is_no_read is = cc

@@ -1,13 +1,15 @@
 -- Links by their ends, and the halves of a link.
-use Rattle.std.proofs.Common.{ℕ, zero, suc, ◌≡◌, Bool, true, false, cond, not, List, [], ◌∷◌, get_or, Option, None, Some, AllPairs, inl, inr, sym, refl, ap, ◌∙◌, subst, arith}
+use Rattle.std.proofs.Common.{ℕ, zero, suc, ◌≡◌, Bool, true, false, cond, not, List, [], ◌∷◌, get_or, Option, None, Some, AllPairs, ◌⊎◌, inl, inr, sym, refl, ap, ◌∙◌, subst, arith}
 use Rattle.std.specs.List.{find}
 use Rattle.std.proofs.lemmas.Bool.Decides.{nat_tests}
+use Rattle.ch_cost.specs.declared.cost.Cost.{Cost}
 use Rattle.ch_cost.specs.Cost.{◌⊕◌, same}
 use Rattle.ch_graph.specs.declared.link.Link.{Link}
 use Rattle.ch_graph.specs.Hierarchy.{ComesBefore, IsLinkAt}
 use Rattle.hierfile.specs.declared.error.HierError.TheVariants.{HalfMissing, HalfSum}
 use Rattle.hierfile.specs.declared.error.HierError.{HierError}
-use Rattle.hierfile.specs.Fault.{leads, sum_fault, halves_fault, half_fault, fault_if}
+use Rattle.hierfile.specs.Fault.{◌otherwise◌, leads, sum_fault, halves_fault, half_fault, first_along, fault_if}
+use Rattle.hierfile.specs.Bytes.{HasNoneButHalves}
 
 pub leads-from : (x y : ℕ) (l : Link) → l.from ≡ x → l.to ≡ y → leads x y l ≡ true
 leads-from x y l e f = grind (arith, nat_tests)
@@ -70,3 +72,37 @@ module _ (links : List Link) (l : Link) (m : ℕ) (by_way : l.middle ≡ Some m)
       (ap (λ (o : Option Link). sum_fault o (find (leads m l.to) links) l.cost) (find-at l.from m links first d sorted at_first)
       ∙ ap (λ (o : Option Link). sum_fault (Some a) o l.cost) (find-at m l.to links second d sorted at_second)
       ∙ ap (λ (e : Bool). fault_if (not e) HalfSum) (sym is))
+
+-- What the tests of halves find: nothing, or one of their two faults.
+abbrev pub IsOfHalves : Option HierError → Type 0
+IsOfHalves o = (o ≡ None) ⊎ (o ≡ Some HalfMissing) ⊎ (o ≡ Some HalfSum)
+
+pub either_of_halves : (f g : Option HierError) → IsOfHalves f → IsOfHalves g → IsOfHalves (f otherwise g)
+either_of_halves None g h k = k
+either_of_halves (Some e) g h k = h
+
+sum_of_halves : (a b : Option Link) (cost : Cost) → IsOfHalves (sum_fault a b cost)
+sum_of_halves None b cost = inr (inl refl)
+sum_of_halves (Some a) None cost = inr (inl refl)
+sum_of_halves (Some a) (Some b) cost = if_sum (not (same cost (a.cost ⊕ b.cost)))
+  where
+    if_sum : (found : Bool) → IsOfHalves (fault_if found HalfSum)
+    if_sum true = inr (inr refl)
+    if_sum false = inl refl
+
+by_halves : (links : List Link) (x y : ℕ) (cost : Cost) (m : Option ℕ) → IsOfHalves (halves_fault links x y cost m)
+by_halves links x y cost None = inl refl
+by_halves links x y cost (Some m) = sum_of_halves (find (leads x m) links) (find (leads m y) links) cost
+
+half_of_halves : (links : List Link) (l : Link) → IsOfHalves (half_fault links l)
+unfolding half_fault
+half_of_halves links l = by_halves links l.from l.to l.cost l.middle
+
+pub along_halves : (links ls : List Link) → IsOfHalves (first_along (half_fault links) ls)
+along_halves links [] = inl refl
+along_halves links (l ∷ ls) = either_of_halves (half_fault links l) (first_along (half_fault links) ls) (half_of_halves links l) (along_halves links ls)
+
+-- bytes whose fault is such
+pub but_halves : (fault_of : List ℕ → Option HierError) (bytes : List ℕ) → IsOfHalves (fault_of bytes) → HasNoneButHalves fault_of bytes
+but_halves fault_of bytes (inl none) = inl (inr none)
+but_halves fault_of bytes (inr half) = inr half

@@ -1,10 +1,11 @@
 -- What the bytes of a head say.
-use Rattle.std.proofs.Common.{ℕ, ◌≡◌, ◌+◌, ◌^◌, ◌<◌, ◌≤◌, List, ◌++◌, length, drop, Option, None, Some, sym, refl, subst, arith, length-append}
+use Rattle.std.proofs.Common.{ℕ, ◌≡◌, ◌≢◌, ◌+◌, ◌^◌, ◌<◌, ◌≤◌, List, ◌++◌, length, drop, Option, None, Some, sym, refl, subst, arith, length-append}
 use Rattle.std.proofs.lemmas.Nat.{from_be_bytes-to_be_bytes_4, from_be_bytes-to_be_bytes_8}
 use Rattle.hierfile.specs.declared.error.HierError.{HierError}
+use Rattle.hierfile.specs.declared.error.HierError.TheVariants.{OutOfMemory, TooBig, BoundTooBig}
 use Rattle.hierfile.specs.Spelling.{word, long, word_in, long_in}
 use Rattle.hierfile.specs.Fault.{◌otherwise◌, cut, size_fault, head_fault}
-use Rattle.hierfile.proofs.Faults.{earlier, cut_behind, cut_none}
+use Rattle.hierfile.proofs.Faults.{earlier, cut_behind, cut_none, finds_no_memory, neither_memory}
 
 -- the numbers of a head
 abbrev pub sizes : ℕ → ℕ → ℕ → List ℕ
@@ -42,3 +43,7 @@ head_fault-sizes n k b rest fits_n fits_k fits_b =
 -- a head that ends too early
 pub head_cut : (n : ℕ) (front rest : List ℕ) {e : HierError} → length front + n ≤ 20 → cut n rest ≡ Some e → head_fault (front ++ rest) ≡ Some e
 head_cut n front rest h is = earlier _ (cut_behind 20 n front rest h is)
+
+-- no test of the numbers finds out of memory
+pub size_no_memory : (n k b : ℕ) → size_fault n k b ≢ Some OutOfMemory
+size_no_memory n k b = neither_memory _ _ (finds_no_memory _ TooBig (λ is. cc)) (finds_no_memory _ BoundTooBig (λ is. cc))

@@ -1,5 +1,5 @@
 -- Faults among links that were read.
-use Rattle.std.proofs.Common.{ℕ, zero, suc, ◌≡◌, ◌+◌, ◌-◌, ◌*◌, ◌<◌, ◌≤◌, List, [], ◌∷◌, ◌++◌, length, take, Option, None, Some, All, inl, inr, sym, refl, ap, ◌∙◌, subst, arith, length-append}
+use Rattle.std.proofs.Common.{ℕ, zero, suc, ◌≡◌, ◌≢◌, ◌+◌, ◌-◌, ◌*◌, ◌<◌, ◌≤◌, List, [], ◌∷◌, ◌++◌, length, take, Option, None, Some, All, inl, inr, sym, refl, ap, ◌∙◌, subst, arith, append-nil, length-append}
 use Rattle.std.specs.List.{flat_map, slice_get}
 use Rattle.std.specs.Option.{option_and_then}
 use Rattle.std.proofs.lemmas.Bool.{cases_lt}
@@ -10,10 +10,11 @@ use Rattle.ch_cost.specs.declared.cost.Cost.{Cost}
 use Rattle.ch_graph.specs.declared.link.Link.{Link}
 use Rattle.ch_graph.specs.declared.version.Version.{Version}
 use Rattle.hierfile.specs.declared.error.HierError.{HierError}
+use Rattle.hierfile.specs.declared.error.HierError.TheVariants.{OutOfMemory, Truncated, LinkEnds, LinkOrder, LinkWeight, MiddleRange, MiddleRank}
 use Rattle.hierfile.specs.Spelling.{link_bytes, link_size, links_in}
-use Rattle.hierfile.specs.Fault.{◌otherwise◌, cut, link_fault, link_fault_at, links_fault}
-use Rattle.hierfile.specs.Bytes.{NoneBelow, IsWritable}
-use Rattle.hierfile.proofs.Faults.{earlier, first_at, none_below, cut_behind, cut_none}
+use Rattle.hierfile.specs.Fault.{◌otherwise◌, cut, middle_fault, link_fault, link_fault_at, links_fault}
+use Rattle.hierfile.specs.Bytes.{IsCutOrWhole, NoneBelow, IsWritable}
+use Rattle.hierfile.proofs.Faults.{earlier, first_at, none_below, cut_behind, cut_none, cut_short, finds_no_memory, neither_memory}
 use Rattle.hierfile.proofs.Spelled.{links_in-front, length-links, one_more, at_most}
 
 slice_get-front : (ls more : List Link) (k : ℕ) → k < length ls → slice_get (ls ++ more) k ≡ slice_get ls k
@@ -84,3 +85,26 @@ links_stop v ranks bound n l ls rest e fits small h none is =
 pub links_none : (v : Version) (ranks : List ℕ) (bound : Cost) (n : ℕ) (ls : List Link) (rest : List ℕ) → All (IsWritable v) ls → length ls ≡ n → NoneBelow n (link_fault_at v ranks bound ls) → links_fault v ranks bound n (flat_map (link_bytes v) ls ++ rest) ≡ None
 links_none v ranks bound n ls rest fits len none =
     none_below n (at_link v ranks bound n (flat_map (link_bytes v) ls ++ rest)) (none_spelled v ranks bound n n ls rest (omega arith) (omega arith) fits none)
+
+-- they end behind a link
+pub links_so_far : (v : Version) (ranks : List ℕ) (bound : Cost) (n i : ℕ) (ls : List Link) → All (IsWritable v) ls → length ls ≡ i → i ≤ n → NoneBelow i (link_fault_at v ranks bound ls) → IsCutOrWhole (link_size v * n) (links_fault v ranks bound n) (flat_map (link_bytes v) ls)
+links_so_far v ranks bound n i ls fits len most none =
+    let bytes : List ℕ = flat_map (link_bytes v) ls in
+    let whole : links_fault v ranks bound n bytes ≡ links_fault v ranks bound n (bytes ++ []) = ap (links_fault v ranks bound n) (sym (append-nil bytes)) in
+    elim (cases_lt i n) [
+      | inl less ↦ inl (whole ∙ links_cut v ranks bound n ls [] Truncated fits (omega (arith, len, less)) (subst (λ m. NoneBelow m (link_fault_at v ranks bound ls)) (sym len) none) (cut_short (link_size v) [] (omega arith)))
+      | inr more ↦ let all : length ls ≡ n = omega (arith, len, more, most) in
+          let none : NoneBelow n (link_fault_at v ranks bound ls) = subst (λ m. NoneBelow m (link_fault_at v ranks bound ls)) (sym len ∙ all) none in
+          inr (length-links v ls ∙ ap (λ m. link_size v * m) all, whole ∙ links_none v ranks bound n ls [] fits all none)
+    ]
+
+-- no test of a link finds out of memory
+middle_no_memory : (ranks : List ℕ) (x y : ℕ) (m : Option ℕ) → middle_fault ranks x y m ≢ Some OutOfMemory
+middle_no_memory ranks x y None = λ is. cc
+middle_no_memory ranks x y (Some m) = neither_memory _ _ (finds_no_memory _ MiddleRange (λ is. cc)) (finds_no_memory _ MiddleRank (λ is. cc))
+
+pub link_no_memory : (v : Version) (ranks : List ℕ) (bound : Cost) (earlier : Option Link) (l : Link) → link_fault v ranks bound earlier l ≢ Some OutOfMemory
+unfolding link_fault
+link_no_memory v ranks bound earlier l =
+    neither_memory _ _ (neither_memory _ _ (neither_memory _ _ (finds_no_memory _ LinkEnds (λ is. cc)) (finds_no_memory _ LinkOrder (λ is. cc))) (finds_no_memory _ LinkWeight (λ is. cc)))
+    (middle_no_memory ranks l.from l.to l.middle)

@@ -1,5 +1,5 @@
 -- Faults among ranks that were read.
-use Rattle.std.proofs.Common.{ℕ, ◌≡◌, ◌+◌, ◌-◌, ◌*◌, ◌^◌, ◌<◌, ◌≤◌, List, [], ◌∷◌, ◌++◌, length, get_or, take, Bool, ◌==◌, Option, None, Some, All, inl, inr, sym, ap, ◌∙◌, subst, arith, length-append}
+use Rattle.std.proofs.Common.{ℕ, ◌≡◌, ◌+◌, ◌-◌, ◌*◌, ◌^◌, ◌<◌, ◌≤◌, List, [], ◌∷◌, ◌++◌, length, get_or, take, Bool, ◌==◌, Option, None, Some, All, inl, inr, sym, refl, ap, ◌∙◌, subst, arith, append-nil, length-append}
 use Rattle.std.specs.List.{flat_map, list_any}
 use Rattle.std.proofs.lemmas.Bool.{cases_lt, le-leb}
 use Rattle.std.proofs.lemmas.Grind.{get_or_default_zero}
@@ -7,7 +7,7 @@ use Rattle.std.proofs.lemmas.List.{take-append-le, get_or_append_left}
 use Rattle.std.proofs.lemmas.List.Elements.{All-push}
 use Rattle.std.proofs.Math.Seq.{get_or-append_seam, take-append_seam}
 use Rattle.hierfile.specs.declared.error.HierError.{HierError}
-use Rattle.hierfile.specs.declared.error.HierError.TheVariants.{RankRange, RankTwice}
+use Rattle.hierfile.specs.declared.error.HierError.TheVariants.{RankRange, RankTwice, Truncated}
 use Rattle.hierfile.specs.Spelling.{word, words_in}
 use Rattle.hierfile.specs.Fault.{◌otherwise◌, fault_if, cut, rank_test, rank_fault, ranks_fault}
 use Rattle.hierfile.specs.Bytes.{NoneBelow}
@@ -77,6 +77,10 @@ ranks_cut n ranks rest e fits h none is =
     let short : length (flat_map word ranks) + 4 ≤ 4 * (length ranks + 1) = omega (arith, length-words ranks) in
     first_at n (length ranks) (at_rank n (flat_map word ranks ++ rest)) h (none_spelled n (length ranks) ranks rest (omega arith) (omega arith) small none)
     (earlier _ (cut_behind (4 * (length ranks + 1)) 4 (flat_map word ranks) rest short is))
+
+-- they end behind a rank, and more are wanted
+pub ranks_so_far : (n : ℕ) (ranks : List ℕ) → n < 2 ^ 32 → length ranks < n → NoneBelow (length ranks) (rank_fault n ranks) → ranks_fault n (flat_map word ranks) ≡ Some Truncated
+ranks_so_far n ranks fits h none = ap (ranks_fault n) (sym (append-nil (flat_map word ranks))) ∙ ranks_cut n ranks [] Truncated fits h none refl
 
 -- the next rank has a fault
 pub ranks_stop : (n rank : ℕ) (ranks rest : List ℕ) (e : HierError) → n < 2 ^ 32 → rank < 2 ^ 32 → length ranks < n → NoneBelow (length ranks) (rank_fault n ranks) → rank_test n ranks rank ≡ Some e

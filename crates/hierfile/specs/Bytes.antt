@@ -1,5 +1,5 @@
 -- What is known of the bytes of a reader and of a writer on the way.
-use Rattle.std.specs.Prelude.{ℕ, ◌≡◌, ◌≢◌, ◌+◌, ◌-◌, take, ◌^◌, ◌<◌, List, ◌++◌, length, Option, Some, None, IfSome, MatchOption, ◌⊎◌, IfOk, IfErr, Result, Ok, Err}
+use Rattle.std.specs.Prelude.{ℕ, ◌≡◌, ◌≢◌, ◌+◌, ◌-◌, take, ◌^◌, ◌<◌, ◌≤◌, List, ◌++◌, length, Option, Some, None, IfSome, MatchOption, ◌⊎◌, IfOk, IfErr, Result, Ok, Err}
 use Rattle.std.specs.Io.KnownBytes.{Appends, prepend_known}
 use Rattle.std.specs.declared.io.Error.{Error}
 use Rattle.counted_io.specs.Handing.{HandsOn}
@@ -11,7 +11,7 @@ use Rattle.ch_graph.specs.declared.version.Version.TheVariants.{One, Two}
 use Rattle.ch_graph.specs.Hierarchy.{Hierarchy, IsWellMade}
 use Rattle.hierfile.specs.Spelling.{bytes_of}
 use Rattle.hierfile.specs.declared.error.HierError.{HierError}
-use Rattle.hierfile.specs.declared.error.HierError.TheVariants.{OutOfMemory, Read, Truncated}
+use Rattle.hierfile.specs.declared.error.HierError.TheVariants.{OutOfMemory, Read, Truncated, HalfMissing, HalfSum}
 
 -- the bytes that are still to come: those that wait in the buffer, and then the reader's
 abbrev pub coming : List ℕ → Option (List ℕ) → Option (List ℕ)
@@ -43,9 +43,21 @@ IsCut fault_of bytes = fault_of bytes ≡ Some Truncated
 abbrev pub HasNoneSoFar : (List ℕ → Option HierError) → List ℕ → Type 0
 HasNoneSoFar fault_of bytes = IsCut fault_of bytes ⊎ (fault_of bytes ≡ None)
 
+-- or they have one of the halves of a link, which are tested when all links have come
+abbrev pub HasNoneButHalves : (List ℕ → Option HierError) → List ℕ → Type 0
+HasNoneButHalves fault_of bytes = HasNoneSoFar fault_of bytes ⊎ (fault_of bytes ≡ Some HalfMissing) ⊎ (fault_of bytes ≡ Some HalfSum)
+
+-- they end too early, or they are this many, which is all that was wanted, and have no fault
+abbrev pub IsCutOrWhole : ℕ → (List ℕ → Option HierError) → List ℕ → Type 0
+IsCutOrWhole count fault_of bytes = IsCut fault_of bytes ⊎ (length bytes ≡ count) × (fault_of bytes ≡ None)
+
 -- The bytes that came are such: of those that were to come, where they are known, all that the reader has not left.
 abbrev pub StopsWhere : (List ℕ → Type 0) → Option (List ℕ) → Option (List ℕ) → Type 0
 StopsWhere came had left = IfSome had (λ bytes. MatchOption left ⊥ (λ rest. (front : List ℕ) × (front ++ rest ≡ bytes) × came front))
+
+-- The first of these bytes are such. The others were read ahead, and are no more than the buffer holds.
+abbrev pub ButReadAhead : (List ℕ → Type 0) → List ℕ → Type 0
+ButReadAhead tested bytes = (front : List ℕ) × (ahead : List ℕ) × (front ++ ahead ≡ bytes) × (length ahead ≤ 2 ^ 16) × tested front
 
 -- a test returns this fault, or none; it reads nothing, so Read is no fault of a test
 abbrev pub Tells : {X : Type 0} → Result X HierError → Option HierError → Type 0
@@ -80,6 +92,10 @@ pub record IsBodyOf (h : Hierarchy) (v : Version) (nodes count longest : ℕ) : 
 pub record Buffered : Type 0 where
   pub waiting : List ℕ
   pub left : ℕ
+
+-- no more bytes wait than the buffer holds
+abbrev pub Fits : Buffered → Type 0
+Fits input = length input.waiting ≤ 2 ^ 16
 
 -- bytes that are gathered for a writer, how many it has taken before, and how often it may still be called
 pub record Gathered : Type 0 where

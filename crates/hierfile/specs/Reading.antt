@@ -5,8 +5,8 @@ use Rattle.std.specs.Io.KnownBytes.{Consumes}
 use Rattle.std.specs.declared.io.Error.{Error}
 use Rattle.counted_io.specs.Limits.{IsRead, ReadsWithin}
 use Rattle.hierfile.specs.declared.error.HierError.{HierError}
-use Rattle.hierfile.specs.declared.error.HierError.TheVariants.{Read}
-use Rattle.hierfile.specs.Bytes.{Buffered, coming, IsCut, IsFaultOf, StopsWhere}
+use Rattle.hierfile.specs.declared.error.HierError.TheVariants.{OutOfMemory, Read}
+use Rattle.hierfile.specs.Bytes.{Buffered, Fits, ButReadAhead, coming, IsCut, IsFaultOf, StopsWhere}
 
 -- The call succeeded.
 pub record HasRead {S : Type 0} (step : S → S → Result ℕ Error → Type 0) (remaining : S → Option (List ℕ)) (was now : Buffered) (old new : S) (says : Option (List ℕ) → Option (List ℕ) → Type 0) : Type 0 where
@@ -14,29 +14,35 @@ pub record HasRead {S : Type 0} (step : S → S → Result ℕ Error → Type 0)
   pub bytes : says (coming was.waiting (remaining old)) (coming now.waiting (remaining new))
   -- as many calls of the reader were made as are gone of those that were left, and none of them failed
   pub calls : IsRead step was.left now.left old new
+  -- what waits is still no more than the buffer holds
+  pub fits : Fits was → Fits now
 
 -- The call was refused.
-pub record IsRefused {S : Type 0} (step : S → S → Result ℕ Error → Type 0) (remaining : S → Option (List ℕ)) (was : Buffered) (old new : S) (says : Option (List ℕ) → Option (List ℕ) → HierError → Type 0) (e : HierError) : Type 0 where
-  -- what is said of the bytes that were to come before it, of those that the reader has left, and of the refusal
-  pub fault : says (coming was.waiting (remaining old)) (remaining new) e
+pub record IsRefused {S : Type 0} (step : S → S → Result ℕ Error → Type 0) (remaining : S → Option (List ℕ)) (was : Buffered) (old new : S) (says : Buffered → Option (List ℕ) → Option (List ℕ) → HierError → Type 0) (e : HierError) : Type 0 where
+  -- what is said of the buffer before it, of the bytes that the reader had left then and has left now, and of the refusal
+  pub fault : says was (remaining old) (remaining new) e
   -- no more calls of the reader were made than were left: it gave out where the refusal is Read, and else none failed
   pub calls : ReadsWithin step was.left (e ≡ Read) old new
 
 -- The call succeeded, and this is said of its result and of the bytes; or it was refused, and that is said of the refusal.
-abbrev pub Reads : {S X : Type 0} → (S → S → Result ℕ Error → Type 0) → (S → Option (List ℕ)) → Buffered → Buffered → S → S → (X → Option (List ℕ) → Option (List ℕ) → Type 0) → (Option (List ℕ) → Option (List ℕ) → HierError → Type 0) → Result X HierError → Type 0
+abbrev pub Reads : {S X : Type 0} → (S → S → Result ℕ Error → Type 0) → (S → Option (List ℕ)) → Buffered → Buffered → S → S → (X → Option (List ℕ) → Option (List ℕ) → Type 0) → (Buffered → Option (List ℕ) → Option (List ℕ) → HierError → Type 0) → Result X HierError → Type 0
 Reads step remaining was now old new says refuses result = MatchResult result (λ x. HasRead step remaining was now old new (says x)) (IsRefused step remaining was old new refuses)
 
--- A refusal is the fault of the bytes that were to come. Where it is a failed read, those that came before are such.
-pub record Refuses (fault_of : List ℕ → Option HierError) (came : List ℕ → Type 0) (had left : Option (List ℕ)) (e : HierError) : Type 0 where
-  pub told : IsFaultOf fault_of had e
-  pub read : e ≡ Read → StopsWhere came had left
+-- A refusal is the fault of the bytes that were to come. Where it is a failed read, those that came before are such. Where
+-- memory ran out, those that were tested are such: all that came but what was read ahead, if before the call no more waited
+-- than the buffer holds.
+pub record Refuses (fault_of : List ℕ → Option HierError) (came tested : List ℕ → Type 0) (was : Buffered) (had left : Option (List ℕ)) (e : HierError) : Type 0 where
+  pub told : IsFaultOf fault_of (coming was.waiting had) e
+  pub read : e ≡ Read → StopsWhere came (coming was.waiting had) left
+  pub memory : e ≡ OutOfMemory → Fits was → StopsWhere (ButReadAhead tested) (coming was.waiting had) left
 
 -- The reader failed when fewer than this many bytes had come.
-pub record FailsBefore (count : ℕ) (had left : Option (List ℕ)) (e : HierError) : Type 0 where
+pub record FailsBefore (count : ℕ) (was : Buffered) (had left : Option (List ℕ)) (e : HierError) : Type 0 where
   pub read : e ≡ Read
-  pub came : StopsWhere (λ came. length came < count) had left
+  pub came : StopsWhere (λ came. length came < count) (coming was.waiting had) left
 
 -- The call took the bytes that spell its result; or it was refused, and the bytes to come have this fault. Where a read
--- failed, those that came had no other fault than that more of them were wanted.
+-- failed, those that came had no other fault than that more of them were wanted, and where memory ran out, those that were
+-- tested.
 abbrev pub ReadsValue : {S X : Type 0} → (S → S → Result ℕ Error → Type 0) → (S → Option (List ℕ)) → Buffered → Buffered → S → S → (X → List ℕ) → (List ℕ → Option HierError) → Result X HierError → Type 0
-ReadsValue step remaining was now old new spelled fault_of result = Reads step remaining was now old new (λ x before after. Consumes before after (spelled x)) (Refuses fault_of (IsCut fault_of)) result
+ReadsValue step remaining was now old new spelled fault_of result = Reads step remaining was now old new (λ x before after. Consumes before after (spelled x)) (Refuses fault_of (IsCut fault_of) (IsCut fault_of)) result

@@ -1,4 +1,4 @@
-ghost use Rattle.std.specs.Prelude.{◌≡◌, ◌+◌, ◌<◌, ◌≤◌, [], ◌∷◌, length, min, take, IfOk, OnErr, OnOk, MatchBool, MatchOption};
+ghost use Rattle.std.specs.Prelude.{◌≡◌, ◌+◌, ◌^◌, ◌<◌, ◌≤◌, [], ◌∷◌, length, min, take, IfOk, OnErr, OnOk, MatchBool, MatchOption};
 ghost use Rattle.std.specs.Io.KnownBytes.{Consumes, Keeps, IsAtEnd};
 ghost use Rattle.counted_io.specs.Limits.{GivesOut, IsRead};
 ghost use Rattle.counted_io.specs.declared.TheConstants.{MOST_CALLS};
@@ -67,6 +67,7 @@ impl Input {
     /// Returns the next number of four bytes.
     pub fn word<R: StepRead>(&mut self, reader: &mut R) -> Result<u32, HierError>
         ensures reads { ReadsValue R.step R.remaining self.old self.new reader.old reader.new word (cut 4) result }
+        ensures room { OnOk result (length self.new.waiting + 4 ≤ 2 ^ 16) }
     {
         self.need(reader, 4)?;
         let number = first_word(&self.buffer[self.at..self.end]);
@@ -87,7 +88,7 @@ impl Input {
     // Makes sure that this many bytes wait.
     fn need<R: StepRead>(&mut self, reader: &mut R, count: usize) -> Result<(), HierError>
         requires { count ≤ 8 }
-        ensures reads { Reads R.step R.remaining self.old self.new reader.old reader.new (λ _. Keeps) (Refuses (cut count) (IsCut (cut count))) result }
+        ensures reads { Reads R.step R.remaining self.old self.new reader.old reader.new (λ _. Keeps) (Refuses (cut count) (IsCut (cut count)) (IsCut (cut count))) result }
         ensures enough { OnOk result (count ≤ length self.new.waiting) }
     {
         if !self.has(reader, count)? {

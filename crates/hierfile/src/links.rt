@@ -1,5 +1,6 @@
-ghost use Rattle.std.specs.Prelude.{◌≡◌, ◌≢◌, ◌-◌, ◌^◌, ◌<◌, length, None, Some, All, AllPairs, IfSome, IfOk, IfErr, OnOk};
+ghost use Rattle.std.specs.Prelude.{◌≡◌, ◌≢◌, ◌-◌, ◌*◌, ◌^◌, ◌<◌, length, None, Some, All, AllPairs, IfSome, IfOk, IfErr, OnOk};
 ghost use Rattle.std.specs.List.{flat_map};
+ghost use Rattle.std.specs.Io.KnownBytes.{Consumes};
 ghost use Rattle.ch_cost.specs.Cost.{◌⊕◌, same};
 ghost use Rattle.ch_graph.specs.Hierarchy.{ComesBefore};
 ghost use Rattle.ch_graph.specs.declared.link.Link.{Link};
@@ -7,8 +8,8 @@ ghost use Rattle.ch_graph.specs.LinkIndex.{IsIndexOf};
 ghost use Rattle.ch_graph.specs.LinkHalves.{AreHalvesOf, ArePartsOf};
 ghost use Rattle.hierfile.specs.Spelling.{arcs_bytes, arcs_size, link_bytes, link_size, middle_number};
 ghost use Rattle.hierfile.specs.Fault.{cut, does_count, has_weight, is_in_order, link_fault, link_fault_at, links_fault, middle_fault, half_fault, first_along};
-ghost use Rattle.hierfile.specs.Bytes.{OfBytes, Tells, NoneBelow, AreTold, IsWritable};
-ghost use Rattle.hierfile.specs.Reading.{ReadsValue};
+ghost use Rattle.hierfile.specs.Bytes.{IsCut, IsCutOrWhole, OfBytes, Tells, NoneBelow, AreTold, IsWritable};
+ghost use Rattle.hierfile.specs.Reading.{Reads, ReadsValue, Refuses};
 
 use crate::error::HierError;
 use crate::input::Input;
@@ -32,13 +33,15 @@ pub fn read_links<R: StepRead>(
 ) -> Result<Vec<Link>, HierError>
     ensures count { IfOk result (λ links. length links.items ≡ count) }
     ensures faultless { IfOk result (λ links. NoneBelow count (link_fault_at version ranks.now bound links.items)) }
-    ensures reads { ReadsValue R.step R.remaining input.old input.new reader.old reader.new (λ links. flat_map (link_bytes version) links.items) (links_fault version ranks.now bound count) result }
+    ensures reads { Reads R.step R.remaining input.old input.new reader.old reader.new (λ links before after. Consumes before after (flat_map (link_bytes version) links.items))
+        (Refuses (links_fault version ranks.now bound count) (IsCut (links_fault version ranks.now bound count)) (IsCutOrWhole (link_size version * count) (links_fault version ranks.now bound count))) result }
     ensures writable { IfOk result (λ links. All (IsWritable version) links.items) }
 {
     let mut links = Vec::new(alloc);
     'links: for _ in 0..count {
         let link = read_link(input, reader, version)?;
-        test_link(version, ranks, bound, links.last().copied(), link)?;
+        let earlier = links.last().copied();
+        test_link(version, ranks, bound, earlier, link)?;
         links.push(link)?;
     }
     Ok(links)

@@ -6,7 +6,7 @@ ghost use Rattle.counted_io.specs.declared.TheConstants.{MOST_CALLS};
 ghost use Rattle.ch_graph.specs.Hierarchy.{IsWellMade, bound_arcs};
 ghost use Rattle.hierfile.specs.Spelling.{bytes_of, magic_of, stem, word, long, link_bytes, bound_in};
 ghost use Rattle.hierfile.specs.Fault.{first_fault, magic_fault, head_fault, size_fault, body_fault, end_fault};
-ghost use Rattle.hierfile.specs.Bytes.{HasNoneSoFar, IsFaultOf, ReadsSpellings, StopsWhere, Tells, IsBodyOf};
+ghost use Rattle.hierfile.specs.Bytes.{ButReadAhead, HasNoneButHalves, HasNoneSoFar, IsFaultOf, ReadsSpellings, StopsWhere, Tells, IsBodyOf};
 ghost use Rattle.hierfile.specs.Reading.{Reads, ReadsValue, Refuses};
 
 use crate::error::HierError;
@@ -41,10 +41,12 @@ struct Head {
 /// how faults are ordered is described in `docs/FORMATS.md`. A spelling has no fault, so only `Read` and `OutOfMemory`
 /// refuse one. The hierarchy is of the version that the file begins with; costs of version 1 count no arcs. `Read` is
 /// returned where the reader fails, also after 2^40 calls, and only where the bytes before have no fault but that they may
-/// end too early; an interrupted call is tried again. `OutOfMemory` is returned where memory runs out. Memory
-/// is taken as bytes come in, beside a buffer of 64 KiB: 4 bytes for each rank, and one for each node when a sixteenth of
-/// the ranks has come, about 40 for each link, and then, when all links have come, 8 bytes for each node and
-/// for each link. What the file announces takes none. Linear in the bytes, but for two binary searches for each link
+/// end too early; an interrupted call is tried again. `OutOfMemory` is returned where memory runs out, and only where the
+/// bytes that were tested so far have no fault but that they may end too early, the halves of links aside, which are tested
+/// when all links have come and there is room for them. All bytes that came were tested, but for at most 64 KiB that were
+/// read ahead. Memory is taken as bytes come in, beside a buffer of 64 KiB: 4 bytes for each rank, and one for each node
+/// when a sixteenth of the ranks has come, about 40 for each link, and then, when all links have come, 8 bytes for each node
+/// and for each link. What the file announces takes none. Linear in the bytes, but for two binary searches for each link
 /// with a middle, among the links that leave one node, and one for each of the first ranks, among those before it.
 pub fn read<R: StepRead>(alloc: Global, reader: &mut R) -> Result<Hierarchy, HierError>
     ensures ok { IfOk result (λ hierarchy. IfSome (R.remaining reader.old) (λ bytes. bytes ≡ bytes_of hierarchy)) }
@@ -52,6 +54,7 @@ pub fn read<R: StepRead>(alloc: Global, reader: &mut R) -> Result<Hierarchy, Hie
     ensures spelling { IfSome (R.remaining reader.old) (λ bytes. ReadsSpellings bytes result) }
     ensures err { IfErr result (IsFaultOf first_fault (R.remaining reader.old)) }
     ensures so_far { IfErr result (λ e. e ≡ HierError.Read → StopsWhere (HasNoneSoFar first_fault) (R.remaining reader.old) (R.remaining reader.new)) }
+    ensures memory { IfErr result (λ e. e ≡ HierError.OutOfMemory → StopsWhere (ButReadAhead (HasNoneButHalves first_fault)) (R.remaining reader.old) (R.remaining reader.new)) }
     ensures calls { OnOk result (IsReadWithin R.step MOST_CALLS reader.old reader.new) }
     ensures stopped { IfErr result (λ e. ReadsWithin R.step MOST_CALLS (e ≡ HierError.Read) reader.old reader.new) }
 {
@@ -70,6 +73,7 @@ pub fn read_within<R: StepRead>(
     ensures spelling { IfSome (R.remaining reader.old) (λ bytes. ReadsSpellings bytes result) }
     ensures err { IfErr result (IsFaultOf first_fault (R.remaining reader.old)) }
     ensures so_far { IfErr result (λ e. e ≡ HierError.Read → StopsWhere (HasNoneSoFar first_fault) (R.remaining reader.old) (R.remaining reader.new)) }
+    ensures memory { IfErr result (λ e. e ≡ HierError.OutOfMemory → StopsWhere (ButReadAhead (HasNoneButHalves first_fault)) (R.remaining reader.old) (R.remaining reader.new)) }
     ensures calls { OnOk result (IsReadWithin R.step (min calls MOST_CALLS) reader.old reader.new) }
     ensures stopped { IfErr result (λ e. ReadsWithin R.step (min calls MOST_CALLS) (e ≡ HierError.Read) reader.old reader.new) }
 {
@@ -151,7 +155,7 @@ fn read_body<R: StepRead>(
     ensures made { IfOk result IsWellMade }
     ensures sizes { IfOk result (λ hierarchy. IsBodyOf hierarchy version head.nodes head.links head.bound) }
     ensures reads { Reads R.step R.remaining input.old input.new reader.old reader.new (λ hierarchy before _. IfSome before (λ bytes. bytes ≡ flat_map word hierarchy.ranks ++ flat_map (link_bytes version) hierarchy.links))
-        (Refuses (body_fault version head.nodes head.links head.bound) (HasNoneSoFar (body_fault version head.nodes head.links head.bound))) result }
+        (Refuses (body_fault version head.nodes head.links head.bound) (HasNoneSoFar (body_fault version head.nodes head.links head.bound)) (HasNoneButHalves (body_fault version head.nodes head.links head.bound))) result }
 {
     let bound = bound_of(version, head);
     let ranks = read_ranks(alloc, input, reader, head.nodes)?;
@@ -191,7 +195,7 @@ fn bound_arcs(version: Version, nodes: u32) -> u32
 
 // Sees that nothing follows.
 fn read_end<R: StepRead>(input: &mut Input, reader: &mut R) -> Result<(), HierError>
-    ensures reads { Reads R.step R.remaining input.old input.new reader.old reader.new (λ _ before _. IsAtEnd before) (Refuses end_fault (λ came. end_fault came ≡ None)) result }
+    ensures reads { Reads R.step R.remaining input.old input.new reader.old reader.new (λ _ before _. IsAtEnd before) (Refuses end_fault (λ came. end_fault came ≡ None) (λ came. end_fault came ≡ None)) result }
 {
     match input.byte(reader)? {
         None => Ok(()),

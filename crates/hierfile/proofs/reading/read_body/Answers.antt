@@ -1,4 +1,4 @@
-use Rattle.std.proofs.Common.{ℕ, ◌^◌, ◌<◌, List, length, refl, sym, ◌∙◌, ap, subst, arith, inr, AllPairs}
+use Rattle.std.proofs.Common.{ℕ, ◌*◌, ◌^◌, ◌<◌, List, length, refl, sym, ◌∙◌, ap, subst, arith, inl, inr, AllPairs}
 use Rattle.ch_cost.specs.declared.cost.Cost.{Cost}
 use Rattle.ch_cost.specs.Cost.{length_of}
 use Rattle.ch_cost.specs.Cost.Numbers.{length_of-of_walk}
@@ -6,12 +6,12 @@ use Rattle.ch_graph.specs.declared.link.Link.{Link}
 use Rattle.ch_graph.specs.Hierarchy.{IsWellMade, ComesBefore, bound_arcs}
 use Rattle.ch_graph.specs.LinkIndex.{IsIndexOf}
 use Rattle.ch_graph.specs.LinkHalves.{AreHalvesOf}
-use Rattle.hierfile.specs.Spelling.{bound_in}
+use Rattle.hierfile.specs.Spelling.{bound_in, link_size}
 use Rattle.hierfile.specs.Fault.{link_fault_at, links_fault, ranks_fault, half_fault, first_along, end_fault, body_fault}
-use Rattle.hierfile.specs.Bytes.{NoneBelow}
+use Rattle.hierfile.specs.Bytes.{HasNoneButHalves, IsCutOrWhole, NoneBelow}
 use Rattle.hierfile.proofs.Faults.{earlier, later, neither}
-use Rattle.hierfile.proofs.ReadParts.{all_taken, fault_found, fault_so_far, hands_back, no_memory, refused_behind, takes_none, takes_then}
-use Rattle.hierfile.proofs.Bodies.{body_ranks, body_links, body_after_links}
+use Rattle.hierfile.proofs.ReadParts.{all_taken, fault_found, fault_so_far, hands_back, no_memory, refused_behind, runs_out, takes_none, takes_then}
+use Rattle.hierfile.proofs.Bodies.{body_ranks, body_links, body_after_links, body_so_far, body_tested}
 use Rattle.hierfile.proofs.WellMade.{links_sorted, few_nodes, well_made_of}
 use Rattle.counted_io.specs.Limits.Laws.{read_then}
 use Rattle.hierfile.specs.declared.error.HierError.TheVariants.{OutOfMemory}
@@ -23,7 +23,8 @@ returns-in_err-ranks-clause-reads g c =
     let remaining = g.R.Read.remaining in
     let head = c.args.head in
     hands_back c.from_residual.result _ _ _ c.from_residual.ensures.1
-    (fault_so_far step remaining (ranks_fault head.nodes) (body_fault c.args.version head.nodes head.links head.bound) (takes_none step remaining c.args.input.now c.args.reader.now) (λ d rest is. body_ranks c.args.version head.nodes head.links head.bound rest is) c.in_err-ranks.ensures.reads)
+    (fault_so_far step remaining (ranks_fault head.nodes) (body_fault c.args.version head.nodes head.links head.bound) (takes_none step remaining c.args.input.now c.args.reader.now) (λ d rest is. body_ranks c.args.version head.nodes head.links head.bound rest is)
+    (λ came is. inl (inl (body_ranks c.args.version head.nodes head.links head.bound came is))) c.in_err-ranks.ensures.reads)
 
 pub returns-in_err-links-clause-reads : goal.returns-in_err-links-clause-reads
 returns-in_err-links-clause-reads g c =
@@ -36,6 +37,9 @@ returns-in_err-links-clause-reads g c =
     (fault_so_far step remaining (links_fault c.args.version c.as_slice.result.now c.bound_of-bound.result head.links) (body_fault c.args.version head.nodes head.links head.bound) c.in_ok-ranks.ensures.reads
     (λ d rest is. body_links c.args.version head.nodes head.links head.bound ranks rest small c.in_ok-ranks.ensures.count c.in_ok-ranks.ensures.faultless
     (ap (λ (r : List ℕ). links_fault c.args.version r (bound_in c.args.version head.nodes head.bound) head.links rest) (sym c.as_slice.ensures.value) ∙ ap (λ (b : Cost). links_fault c.args.version c.as_slice.result.now b head.links rest) (sym c.bound_of-bound.ensures) ∙ is))
+    (λ came is. body_tested c.args.version head.nodes head.links head.bound ranks came small c.in_ok-ranks.ensures.count c.in_ok-ranks.ensures.faultless
+    (subst (λ (r : List ℕ). IsCutOrWhole (link_size c.args.version * head.links) (links_fault c.args.version r (bound_in c.args.version head.nodes head.bound) head.links) came) c.as_slice.ensures.value
+    (subst (λ (b : Cost). IsCutOrWhole (link_size c.args.version * head.links) (links_fault c.args.version c.as_slice.result.now b head.links) came) c.bound_of-bound.ensures is)))
     c.in_err-links.ensures.reads)
 
 -- the links are in order, and the index is theirs
@@ -75,7 +79,9 @@ returns-in_err-halves-clause-reads g c =
     (fault_found step remaining (body_fault c.args.version head.nodes head.links head.bound) so_far
     (λ is rest. body_after_links c.args.version head.nodes head.links head.bound ranks links rest small c.in_ok-ranks.ensures.count c.in_ok-ranks.ensures.faultless c.in_ok-links.ensures.count c.in_ok-links.ensures.writable links_ok
     ∙ earlier _ (ap (λ (l : List Link). first_along (half_fault l) l) (sym c.as_slice-all.ensures.value) ∙ is))
-    c.in_err-halves.ensures.err c.in_err-halves.ensures.no_read)
+    c.in_err-halves.ensures.err c.in_err-halves.ensures.no_read
+    (λ _. runs_out step remaining (HasNoneButHalves (body_fault c.args.version head.nodes head.links head.bound)) so_far
+    (body_so_far c.args.version head.nodes head.links head.bound ranks links small c.in_ok-ranks.ensures.count c.in_ok-ranks.ensures.faultless c.in_ok-links.ensures.count c.in_ok-links.ensures.writable links_ok)))
 
 pub returns-in_err-read_end-clause-reads : goal.returns-in_err-read_end-clause-reads
 returns-in_err-read_end-clause-reads g c =
@@ -96,6 +102,7 @@ returns-in_err-read_end-clause-reads g c =
     (refused_behind step remaining end_fault (body_fault c.args.version head.nodes head.links head.bound) so_far
     (λ d rest is. after rest ∙ later halves_ok is)
     (λ came none. inr (after came ∙ neither halves_ok none))
+    (λ came none. inl (inr (after came ∙ neither halves_ok none)))
     c.in_err-read_end.ensures.reads)
 
 pub with_index-requires : goal.with_index-requires
@@ -119,12 +126,23 @@ returns-clause-made g c =
 pub returns-in_err-index-clause-reads : goal.returns-in_err-index-clause-reads
 returns-in_err-index-clause-reads g c =
     let step = g.R.StepRead.step in
+    let remaining = g.R.Read.remaining in
     let head = c.args.head in
-    let calls = read_then step c.in_ok-ranks.ensures.reads.calls c.in_ok-links.ensures.reads.calls in
-    hands_back c.from_residual-in_err-index.result _ _ OutOfMemory c.from_residual-in_err-index.ensures.1 (no_memory step g.R.Read.remaining (body_fault c.args.version head.nodes head.links head.bound) calls)
+    let ranks = c.in_ok-ranks.ranks.items in
+    let links = c.in_ok-links.links.items in
+    let small : head.nodes < 2 ^ 32 = omega (arith, few_nodes head.nodes head.links head.bound c.requires) in
+    let so_far = takes_then step remaining c.in_ok-ranks.ensures.reads c.in_ok-links.ensures.reads in
+    let body = body_fault c.args.version head.nodes head.links head.bound in
+    let links_ok : NoneBelow head.links (link_fault_at c.args.version ranks (bound_in c.args.version head.nodes head.bound) links) = λ i less. ap
+    (λ (r : List ℕ). link_fault_at c.args.version r (bound_in c.args.version head.nodes head.bound) links i) (sym c.as_slice.ensures.value)
+    ∙ ap (λ (b : Cost). link_fault_at c.args.version c.as_slice.result.now b links i) (sym c.bound_of-bound.ensures)
+    ∙ c.in_ok-links.ensures.faultless i less in
+    hands_back c.from_residual-in_err-index.result _ _ OutOfMemory c.from_residual-in_err-index.ensures.1
+    (no_memory step remaining body so_far.calls (runs_out step remaining (HasNoneButHalves body) so_far
+    (body_so_far c.args.version head.nodes head.links head.bound ranks links small c.in_ok-ranks.ensures.count c.in_ok-ranks.ensures.faultless c.in_ok-links.ensures.count c.in_ok-links.ensures.writable links_ok)))
 
 pub returns-clause-reads : goal.returns-clause-reads
 returns-clause-reads g c =
     let step = g.R.StepRead.step in
     let so_far = takes_then step g.R.Read.remaining c.in_ok-ranks.ensures.reads c.in_ok-links.ensures.reads in
-    record { bytes = rw c.with_index.ensures (all_taken _ _ _ so_far.bytes c.in_ok-read_end.ensures.reads.bytes); calls = read_then step so_far.calls c.in_ok-read_end.ensures.reads.calls }
+    record { bytes = rw c.with_index.ensures (all_taken _ _ _ so_far.bytes c.in_ok-read_end.ensures.reads.bytes); calls = read_then step so_far.calls c.in_ok-read_end.ensures.reads.calls; fits = λ fits. c.in_ok-read_end.ensures.reads.fits (so_far.fits fits) }

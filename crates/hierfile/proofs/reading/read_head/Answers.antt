@@ -1,10 +1,11 @@
-use Rattle.std.proofs.Common.{[], ◌+◌, ◌++◌, ◌≤◌, ◌∙◌, length, arith, length-append}
+use Rattle.std.proofs.Common.{[], ◌≡◌, ◌+◌, ◌++◌, ◌≤◌, ◌∙◌, length, Some, subst, arith, length-append}
 use Rattle.hierfile.proofs.Faults.{of_bytes}
 use Rattle.hierfile.proofs.ReadParts.{fault_behind, fault_found, hands_back, takes_none, takes_then}
 use Rattle.hierfile.proofs.Spelled.{length-word, length-long}
-use Rattle.hierfile.proofs.Heads.{head_cut, head_fault-sizes}
+use Rattle.hierfile.proofs.Heads.{head_cut, head_fault-sizes, size_no_memory}
 use Rattle.hierfile.specs.Spelling.{word, long}
-use Rattle.hierfile.specs.Fault.{cut, head_fault}
+use Rattle.hierfile.specs.Fault.{cut, head_fault, size_fault}
+use Rattle.hierfile.specs.declared.error.HierError.{HierError}
 use Rattle.hierfile.proofs.reading.read_head.Goals as goal
 
 pub returns-in_err-word-clause-reads : goal.returns-in_err-word-clause-reads
@@ -41,7 +42,8 @@ returns-in_err-test_sizes-clause-reads g c =
     let b = c.in_ok-long-2.field-0 in
     let so_far = takes_then step remaining (takes_then step remaining c.in_ok-word.ensures.reads c.in_ok-long.ensures.reads) c.in_ok-long-2.ensures.reads in
     hands_back c.from_residual-in_err-test_sizes.result _ _ _ c.from_residual-in_err-test_sizes.ensures.1
-    (fault_found step remaining head_fault so_far (λ is rest. head_fault-sizes n k b rest (omega arith) (omega arith) (omega arith) ∙ is) (of_bytes _ c.in_err-test_sizes.ensures.told.0) c.in_err-test_sizes.ensures.told.1)
+    (fault_found step remaining head_fault so_far (λ is rest. head_fault-sizes n k b rest (omega arith) (omega arith) (omega arith) ∙ is) (of_bytes _ c.in_err-test_sizes.ensures.told.0) c.in_err-test_sizes.ensures.told.1
+    (λ memory. absurd (size_no_memory n k b (subst (λ (e : HierError). size_fault n k b ≡ Some e) memory c.in_err-test_sizes.ensures.told.0))))
 
 pub returns-clause-reads : goal.returns-clause-reads
 returns-clause-reads g c =

@@ -6,7 +6,7 @@ use Rattle.ch_graph.specs.declared.version.Version.TheVariants.{One, Two}
 use Rattle.hierfile.specs.Spelling.{magic_of, stem}
 use Rattle.hierfile.specs.declared.error.HierError.TheVariants.{Truncated}
 use Rattle.hierfile.specs.Fault.{magic_fault}
-use Rattle.hierfile.proofs.Faults.{magic_is_no_read, truncated_is_no_read}
+use Rattle.hierfile.proofs.Faults.{magic_is_no_memory, magic_is_no_read, truncated_is_no_memory, truncated_is_no_read}
 use Rattle.hierfile.proofs.ReadParts.{Takes, fault_behind, hands_back, read_failed_after, takes_none, takes_then}
 use Rattle.hierfile.proofs.reading.read_magic.Goals as goal
 
@@ -30,7 +30,7 @@ bytes-init g c = record {
 pub bytes-preserved : goal.bytes-preserved
 bytes-preserved g c = record {
   wanted = c.bytes.invariant.wanted;
-  taken = record { bytes = search rules; calls = read_then g.R.StepRead.step c.bytes.invariant.taken.calls c.in_ok-byte.ensures.reads.calls };
+  taken = record { bytes = search rules; calls = read_then g.R.StepRead.step c.bytes.invariant.taken.calls c.in_ok-byte.ensures.reads.calls; fits = λ fits. c.in_ok-byte.ensures.reads.fits (c.bytes.invariant.taken.fits fits) };
 }
 
 pub returns-in_err-byte : goal.returns-in_err-byte
@@ -43,12 +43,12 @@ returns-in_err-byte g c = record {
 pub returns-in_default : goal.returns-in_default
 returns-in_default g c =
     let step = g.R.StepRead.step in
-    record { reads = record { fault = record { told = search rules; read = λ is. absurd (truncated_is_no_read is) }; calls = refused_after step (read_then step c.bytes.invariant.taken.calls c.in_ok-byte.ensures.reads.calls) truncated_is_no_read } }
+    record { reads = record { fault = record { told = search rules; read = λ is. absurd (truncated_is_no_read is); memory = λ is. absurd (truncated_is_no_memory is) }; calls = refused_after step (read_then step c.bytes.invariant.taken.calls c.in_ok-byte.ensures.reads.calls) truncated_is_no_read } }
 
 pub returns-then-byte-wanted : goal.returns-then-byte-wanted
 returns-then-byte-wanted g c =
     let step = g.R.StepRead.step in
-    record { reads = record { fault = record { told = search rules; read = λ is. absurd (magic_is_no_read is) }; calls = refused_after step (read_then step c.bytes.invariant.taken.calls c.in_ok-byte.ensures.reads.calls) magic_is_no_read } }
+    record { reads = record { fault = record { told = search rules; read = λ is. absurd (magic_is_no_read is); memory = λ is. absurd (magic_is_no_memory is) }; calls = refused_after step (read_then step c.bytes.invariant.taken.calls c.in_ok-byte.ensures.reads.calls) magic_is_no_read } }
 
 pub bounds-wanted-items-wanted-index : goal.bounds-wanted-items-wanted-index
 bounds-wanted-items-wanted-index c = grind (arith, common_steps) steps 200000

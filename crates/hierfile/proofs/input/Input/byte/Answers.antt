@@ -10,10 +10,10 @@ pub invariant_of-self : goal.invariant_of-self
 invariant_of-self c = grind (arith, common_steps) steps 600000
 
 pub returns : goal.returns
-returns g c = record { reads = record { bytes = grind (arith, common_steps); calls = grind (arith, common_steps) steps 200000 } }
+returns g c = record { reads = record { bytes = grind (arith, common_steps); calls = grind (arith, common_steps) steps 200000; fits = λ fits. grind (arith, common_steps) steps 200000 } }
 
 pub returns-then-not-branch : goal.returns-then-not-branch
-returns-then-not-branch g c = record { reads = record { bytes = grind (arith, common_steps) steps 200000; calls = grind (arith, common_steps) steps 200000 } }
+returns-then-not-branch g c = record { reads = record { bytes = grind (arith, common_steps) steps 200000; calls = grind (arith, common_steps) steps 200000; fits = λ fits. grind (arith, common_steps) steps 200000 } }
 
 pub returns-in_err-has : goal.returns-in_err-has
 returns-in_err-has g c = record { reads = hands_back c.from_residual.result _ _ _ c.from_residual.ensures.1 c.in_err-has.ensures.reads }

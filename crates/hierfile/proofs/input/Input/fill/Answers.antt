@@ -37,7 +37,7 @@ returns-in_err-more-clause-reads g c = hands_back c.from_residual.result _ _ Rea
 })
 
 pub returns-then-more-eq0-clause-reads : goal.returns-then-more-eq0-clause-reads
-returns-then-more-eq0-clause-reads g c = record { bytes = grind (arith, common_steps) steps 600000; calls = read_then g.R.StepRead.step c.loop-self.invariant.calls c.in_ok-more.ensures.calls }
+returns-then-more-eq0-clause-reads g c = record { bytes = grind (arith, common_steps) steps 600000; calls = read_then g.R.StepRead.step c.loop-self.invariant.calls c.in_ok-more.ensures.calls; fits = λ fits. grind (arith, common_steps) steps 600000 }
 
 pub loop-self-preserved : goal.loop-self-preserved
 loop-self-preserved g c =
@@ -69,7 +69,7 @@ pub overflow_add-self : goal.overflow_add-self
 overflow_add-self c = grind (arith, common_steps) steps 200000
 
 pub returns-clause-reads : goal.returns-clause-reads
-returns-clause-reads g c = record { bytes = grind (arith, common_steps) steps 200000; calls = grind (arith, common_steps) steps 200000 }
+returns-clause-reads g c = record { bytes = grind (arith, common_steps) steps 200000; calls = grind (arith, common_steps) steps 200000; fits = λ fits. grind (arith, common_steps) steps 200000 }
 
 pub returns-clause-ok : goal.returns-clause-ok
 returns-clause-ok c = grind (arith, common_steps) steps 200000

@@ -18,6 +18,7 @@ returns g c =
       reads = record {
         bytes = took waiting _ _ 8 _ known keeps (sym c.first_long-number.ensures ∙ ap (take 8) (between _ input.at input.end c.self.invariant.0 ∙ ap (λ l. drop input.at (take input.end l)) c.deref.ensures.value)) (sym (drop-drop 8 input.at (take input.end input.buffer.items)));
         calls = subst (λ (b : Buffered). IsRead g.R.StepRead.step c.args.self.now.left b.left c.args.reader.now c.need.new.reader) (sym c.self.view_is) needed.calls;
+        fits = λ fits. grind (arith, common_steps) steps 200000;
       };
     }
 
