@@ -1,5 +1,6 @@
 """Tests of the service by numbers of nodes: lengths against a search of their own, batches, faults of requests, limits, and
 workers that die, lie or are silent."""
+import http.client
 import json
 import os
 import pathlib
@@ -150,19 +151,22 @@ class WorkerTests(ServiceCase):
         self.assertEqual(self.ask("/nodes/length?from=1&to=1")[1]["length"], 0)
 
     def test_killed_under_a_load(self):
-        """Workers are killed while clients ask: no answer is lost or wrong."""
+        """Workers are killed while clients ask: no answer is lost or wrong, and an exception is a lost one."""
         process = self.serve("--workers", "2")
         wanted = {stop: self.ask(f"/nodes/length?from=1&to={stop}") for stop in range(1, 20)}
-        wrong, end = [], time.monotonic() + 2
+        wrong, right, end = [], [0] * 4, time.monotonic() + 2
 
-        def client():
-            while time.monotonic() < end:
-                for stop, answer in wanted.items():
-                    found = self.ask(f"/nodes/length?from=1&to={stop}")
-                    if found != answer:
-                        wrong.append(found)
+        def client(number):
+            try:
+                while time.monotonic() < end:
+                    for stop, answer in wanted.items():
+                        found = self.ask(f"/nodes/length?from=1&to={stop}")
+                        wrong.extend([found] if found != answer else [])
+                        right[number] += 1
+            except (OSError, http.client.HTTPException, ValueError) as error:
+                wrong.append(repr(error))
 
-        clients = [threading.Thread(target=client) for _ in range(4)]
+        clients = [threading.Thread(target=client, args=[number]) for number in range(len(right))]
         for each in clients:
             each.start()
         for _ in range(4):
@@ -172,6 +176,7 @@ class WorkerTests(ServiceCase):
         for each in clients:
             each.join()
         self.assertEqual(wrong, [])
+        self.assertGreaterEqual(min(right), len(wanted), "each client got answers")
         self.assertGreaterEqual(self.value("worker_restarts_total"), 2)
 
     def test_what_can_not_start(self):

@@ -4,6 +4,7 @@ import itertools
 import json
 import math
 import random
+import time
 import urllib.parse
 
 from service_case import ServiceCase, lengths_from
@@ -155,6 +156,54 @@ class TurnTests(OsrmCase):
                 self.assertEqual(round(route["duration"] * 1000), steps * CROSSING_STEP)
 
 
+def drawn_map(seed, side=4):
+    """A map of jittered streets: a third one-way, some twice between the same crossings, some that end a centimetre away."""
+    chance, ways, points = random.Random(seed), [], {}
+
+    def point(x, y):
+        points[len(points) + 1] = x, y
+        return len(points)
+
+    def way(nodes, oneway=None):
+        tags = {"highway": "residential", "maxspeed": chance.choice("248") + "0", **({"oneway": oneway} if oneway else {})}
+        refs = "".join(f"<nd ref='{node}'/>" for node in nodes)
+        told = "".join(f"<tag k='{key}' v='{value}'/>" for key, value in tags.items())
+        ways.append(f"<way id='{len(ways) + 1}'>{refs}{told}</way>")
+
+    def street(start, end):
+        x, y = ((points[start][axis] + points[end][axis]) / 2 + chance.uniform(-0.0002, 0.0002) for axis in (0, 1))
+        way([start, point(x, y), end], chance.choice([None, None, None, None, "yes", "-1"]))
+
+    crossings = {
+        (x, y): point(*(each / 1000 + chance.uniform(-0.0002, 0.0002) for each in (x, y))) for x in range(side) for y in range(side)
+    }
+    for (x, y), start in crossings.items():
+        for end in (crossings.get(next_to) for next_to in ((x + 1, y), (x, y + 1)) if next_to in crossings):
+            if chance.random() < 0.4:  # (a way of a centimetre leads on to the crossing)
+                twin = point(points[end][0] + 1e-7, points[end][1])
+                way([twin, end])
+                end = twin
+            for _ in range(chance.choice([1, 1, 2])):
+                street(start, end)
+    nodes = [f"<node id='{node}' lon='{x:.7f}' lat='{y:.7f}'/>" for node, (x, y) in points.items()]
+    return "\n".join(["<osm version='0.6'>", *nodes, *ways, "</osm>\n"])
+
+
+class DrawnTests(OsrmCase):
+    """The same on a drawn network with one-way streets, several arcs between two nodes, and weights of 1."""
+
+    def map_file(self):
+        return self.write("map.osm", drawn_map(5))
+
+    def test_cut_graph(self):
+        ends = list(zip(self.graph.starts, self.graph.ends))
+        self.assertIn(1, self.graph.weights)
+        self.assertLess(len(set(ends)), len(ends), "no two arcs lead from one node to another")
+        self.assertTrue(any((end, start) not in ends for start, end in ends), "no street is one-way")
+        for seed in range(3):
+            self.assertGreater(self.compare(seed, 16)[2], 100)
+
+
 class ClientTests(OsrmCase):
     def test_route_by_places(self):
         """By High Street, 50 km/h, from 0.3 to 7.7 steps; the bypass and others are longer."""
@@ -239,5 +288,23 @@ class ClientTests(OsrmCase):
                 self.assertEqual((status, found["code"]), (400, code), found)
 
     def test_log_without_places(self):
-        self.good(f"/route/v1/car/{HIGH}")
-        self.assertNotIn("0.0003", json.dumps(self.said))
+        """A line for each request, which names no place and no caller unless that is asked for."""
+        for words, are_named in ([], None), (["--access-log"], False), (["--log-places"], True):
+            with self.subTest(words=words):
+                self.serve("--network", self.folder / "v", *words)
+                self.good(f"/route/v1/car/{HIGH}")
+                self.good(f"/nearest/v1/car/{HIGH.partition(';')[0]}")
+                wanted = [] if are_named is None else ["/route", "/nearest"]
+                lines = self.logged(len(wanted))
+                self.assertEqual([line["endpoint"] for line in lines], wanted)
+                said = json.dumps(self.said)
+                self.assertEqual(["0.0003" in said, "127.0.0.1" in said.replace(f"http://127.0.0.1:{self.port}", "")], [bool(are_named)] * 2)
+
+    def logged(self, count):
+        """The lines of the access log, once there are so many."""
+        end = time.monotonic() + 10
+        while True:
+            lines = [json.loads(line) for line in self.said if line.startswith("{")]
+            if len(lines) >= count or time.monotonic() > end:
+                return lines
+            time.sleep(0.05)

@@ -102,11 +102,14 @@ class SignalTests(ServiceCase):
 
     def test_the_end(self):
         process = self.serve()
+        right = self.ask(PATH)[1]["length"]
         clients = self.clients()
         time.sleep(0.5)
         process.send_signal(signal.SIGTERM)
         self.assertEqual(process.wait(20), 0)
-        self.assertTrue(all(len(lengths) > 1 for lengths in self.finish(clients)))
+        for lengths in self.finish(clients):
+            self.assertGreater(len(lengths), 1)
+            self.assertEqual(set(lengths), {right})
 
     def test_an_idle_connection_does_not_hold_up_the_end(self):
         process = self.serve()
