@@ -2,13 +2,14 @@
 """Runs `routecli route`, `answer`, `serve` and `info` on changed hierarchy files, texts and requests, and compares
 every status, line and refusal with slow and plain readers (plain.py).
 
-    tests/fuzz.py [--seconds SECONDS] [--jobs JOBS] [--seed SEED]       by default an hour, 2 jobs and seed 1
+    tests/fuzz.py [--seconds SECONDS] [--jobs JOBS] [--seed SEED] [--services]      by default an hour, 2 jobs and seed 1
 
 Files and texts are drawn, from small networks that `prepare` made hierarchies of, and from well made hierarchies of both
 versions that stand for no graph; then bytes, numbers, links and lines of most are changed, exchanged, repeated, cut off or
 left out. Many weights are 0, and many walks as long as others with more arcs: each route has to have the least length and,
 of the walks of this length, the fewest arcs, by a file of version 1 any number. By a file that stands for no graph these are
-the walks that its links rise and fall by. The output has the number of runs, how they ended, crashes, hangs (no end within 30 seconds), answers that differ, and the
+the walks that its links rise and fall by. With --services each run is a service that is asked by 40 such texts. The output has
+the number of lines of requests, of runs, how they ended, crashes, hangs (no end within 30 seconds), answers that differ, and the
 greatest resident size, also for each byte of the longest input. Each finding is kept in out/fuzz, and the exit status is 1.
 A graph of more than 2,000 nodes with pairs to answer is left out, since its memory is by its nodes.
 
@@ -39,6 +40,7 @@ from common.program import PROGRAM, ROOT, need_compiled, need_program
 KEPT = ROOT / "out/fuzz"
 SECONDS = 30
 MOST_NODES = 2000
+TEXTS = 40
 NUMBERS = [0, 1, 2, 3, 7, 37, 38, 255, 256, 1 << 25, (1 << 25) + 1, (1 << 31) - 1, 1 << 31, (1 << 32) - 2, (1 << 32) - 1]
 DIGITS = [b"0", b"00", b"1", b"2", b"3", b"4294967295", b"4294967296", b"33554432", b"33554433", b"134217728"]
 DIGITS += [b"134217729", b"18446744073709551616", b"9" * 5000, b"-1", b"x", b"1.0", b"p", b"q", b"a", b"sp", b"p2p", b"c"]
@@ -427,16 +429,23 @@ def is_right(command, inputs, ended):
     return is_right_answer(asked, *ended())
 
 
+def drawn_service(draw, corpus):
+    """A service, asked by many changed texts one behind the other."""
+    data = draw.choice(corpus) if draw.random() < 0.4 else drawn_hierarchy(draw)
+    nodes = int.from_bytes(data[4:8], "big")
+    return "serve", [data, b"\n".join(changed_text(draw, drawn_requests(draw, nodes)) for _ in range(TEXTS))]
+
+
 def work(task):
     """Runs drawn cases for some seconds, and counts."""
-    folder, seconds, seed, corpus = task
+    folder, seconds, seed, corpus, drawn = task
     folder.mkdir()
     sys.set_int_max_str_digits(0)
     draw, runner, counts = random.Random(seed), Runner(folder), collections.Counter()
     greatest = each = 0
     end = time.monotonic() + seconds
     while time.monotonic() < end:
-        command, inputs = drawn_case(draw, corpus)
+        command, inputs = drawn(draw, corpus)
         seen = []
 
         def ended():
@@ -449,6 +458,7 @@ def work(task):
             continue
         status, _, told, size = seen[-1]
         counts["runs"] += 1
+        counts["lines"] += seen[-1][1].count(b"\n") - 1 if command == "serve" and status == 0 else 0
         counts[f"{command} {told.decode(errors='replace').split(' line')[0].strip() or status}"] += 1
         if size > greatest:
             greatest, each = size, max(map(len, inputs))
@@ -486,19 +496,22 @@ def main():
     words.add_argument("--seconds", type=float, default=3600)
     words.add_argument("--jobs", type=counted.positive, default=2)
     words.add_argument("--seed", type=int, default=1)
+    words.add_argument("--services", action="store_true", help="services alone, each asked by many texts")
     options = words.parse_args()
     need_program()
+    drawn = drawn_service if options.services else drawn_case
     with tempfile.TemporaryDirectory() as name:
         folder = pathlib.Path(name)
         need_compiled(folder, "resident")
         corpus = corpus_in(folder)
-        tasks = [(folder / str(job), options.seconds, options.seed + job, corpus) for job in range(options.jobs)]
+        tasks = [(folder / str(job), options.seconds, options.seed + job, corpus, drawn) for job in range(options.jobs)]
         with multiprocessing.Pool(options.jobs) as pool:
             done = pool.map(work, tasks)
     counts = sum((counts for counts, _, _ in done), collections.Counter())
     greatest, longest = max((greatest, each) for _, greatest, each in done)
-    for name in sorted(set(counts) - {"runs", "crash", "hang", "differs", "left out"}):
+    for name in sorted(set(counts) - {"runs", "lines", "crash", "hang", "differs", "left out"}):
         print(f"{counts[name]:9,} {name}")
+    print(f"{counts['lines']:,} lines of requests got their replies")
     print(f"{counts['runs']:,} runs, {counts['left out']:,} left out: {counts['crash']} crashes, {counts['hang']} hangs,", end=" ")
     print(f"{counts['differs']} answers that differ; at most {greatest:,} kB, for an input of {longest:,} bytes")
     sys.exit(1 if counts["crash"] + counts["hang"] + counts["differs"] or not counts["runs"] else 0)

@@ -190,7 +190,8 @@ def many(folder: pathlib.Path, count: int) -> int:
     pairs = [(draw.randrange(1, 901), draw.randrange(1, 901)) for _ in range(min(count, 20000))]
     wanted = routed(folder, hierarchy, pairs)
     service = Service(hierarchy)
-    need(at_once(service, [f"q {s} {t}" for s, t in pairs]) == wanted, "a reply differs from route's line")
+    times = -(-100000 // len(pairs))  # (100,000 at once)
+    need(at_once(service, [f"q {s} {t}" for s, t in pairs * times]) == wanted * times, "a reply differs from route's line")
     lengths = at_once(service, [f"d {s} {t}" for s, t in pairs])
     need([line.split()[3] for line in lengths] == [line.split()[3] for line in wanted], "a length differs from route's")
     before = service.kilobytes()
