@@ -11,11 +11,13 @@ PACKAGING = ROOT / "packaging"
 JEMALLOC, MIMALLOC = "libjemalloc.so.2", "libmimalloc.so.2.0"
 # A library of the C library that has next to nothing in it.
 LIBRARY = "/usr/lib/x86_64-linux-gnu/libutil.so.1"
-PRINTS = '#!/bin/sh\nprintf "%s|" "${LD_PRELOAD-nothing}" "$@"\nexit 7\n'
+PRINTS = '#!/bin/sh\nprintf "%s|" "${LD_PRELOAD-${GLIBC_TUNABLES-nothing}}" "$@"\nexit 7\n'
+TUNED = "glibc.malloc.mmap_threshold=1048576"
+COMPACT = f"{TUNED}:glibc.malloc.arena_max=1"
 
 
 class CommandTests(ToolCase):
-    """The command with a program in the place of the proved one, which prints LD_PRELOAD and its arguments."""
+    """The command with a program in the place of the proved one, which prints LD_PRELOAD or GLIBC_TUNABLES, and its arguments."""
 
     def setUp(self):
         super().setUp()
@@ -40,7 +42,7 @@ class CommandTests(ToolCase):
     def ran(self, *words, status=7, limit=None, **environment):
         """What the command prints on both streams; `limit` are words of prlimit."""
         ended = self.run_program(
-            [*(limit or ()), "/usr/bin/env", "-u", "LD_PRELOAD", "-u", "ROUTECLI_ALLOCATOR",
+            [*(limit or ()), "/usr/bin/env", "-u", "LD_PRELOAD", "-u", "GLIBC_TUNABLES", "-u", "ROUTECLI_ALLOCATOR",
              *(f"{name}={value}" for name, value in environment.items()), self.folder / "command", *words],
             status,
         )
@@ -63,8 +65,10 @@ class CommandTests(ToolCase):
             path = self.libraries / library
             said = f"routecli: ROUTECLI_ALLOCATOR: {path}\n"
             self.assertEqual(self.ran("prepare", ROUTECLI_ALLOCATOR=word), (f"{path}|prepare|", said))
-        said = "routecli: ROUTECLI_ALLOCATOR: the allocator of the C library\n"
-        self.assertEqual(self.ran("prepare", ROUTECLI_ALLOCATOR="none"), ("nothing|prepare|", said))
+        said = "routecli: ROUTECLI_ALLOCATOR: the allocator of the C library"
+        self.assertEqual(self.ran("prepare", ROUTECLI_ALLOCATOR="none"), ("nothing|prepare|", f"{said}\n"))
+        for word, tunables in (("tuned", TUNED), ("compact", COMPACT)):
+            self.assertEqual(self.ran("prepare", ROUTECLI_ALLOCATOR=word), (f"{tunables}|prepare|", f"{said}, {tunables}\n"))
 
     def test_where_memory_is_limited_only_who_asks_gets_jemalloc(self):
         self.installed(JEMALLOC)
@@ -72,21 +76,21 @@ class CommandTests(ToolCase):
         for limit in (["/usr/bin/prlimit", "--as=1000000000"], None):
             if limit is None:
                 self.write("accounting", "2\n")
-            self.assertEqual(self.ran("prepare", limit=limit), ("nothing|prepare|", ""))
-            said = "routecli: ROUTECLI_ALLOCATOR: the allocator of the C library\n"
-            self.assertEqual(self.ran("prepare", limit=limit, ROUTECLI_ALLOCATOR="auto"), ("nothing|prepare|", said))
+            self.assertEqual(self.ran("prepare", limit=limit), (f"{TUNED}|prepare|", ""))
+            said = f"routecli: ROUTECLI_ALLOCATOR: the allocator of the C library, {TUNED}\n"
+            self.assertEqual(self.ran("prepare", limit=limit, ROUTECLI_ALLOCATOR="auto"), (f"{TUNED}|prepare|", said))
             self.assertEqual(self.ran("prepare", limit=limit, ROUTECLI_ALLOCATOR="jemalloc")[0], f"{path}|prepare|")
 
     def test_none_is_installed(self):
-        self.assertEqual(self.ran("prepare"), ("nothing|prepare|", ""))
-        said = "routecli: ROUTECLI_ALLOCATOR: the allocator of the C library\n"
-        self.assertEqual(self.ran("prepare", ROUTECLI_ALLOCATOR="auto"), ("nothing|prepare|", said))
+        self.assertEqual(self.ran("prepare"), (f"{TUNED}|prepare|", ""))
+        said = f"routecli: ROUTECLI_ALLOCATOR: the allocator of the C library, {TUNED}\n"
+        self.assertEqual(self.ran("prepare", ROUTECLI_ALLOCATOR="auto"), (f"{TUNED}|prepare|", said))
         for word, library in (("jemalloc", JEMALLOC), ("mimalloc", MIMALLOC)):
             said = f"routecli: ROUTECLI_ALLOCATOR: {self.libraries / library} isn't installed\n"
             self.assertEqual(self.ran("prepare", status=2, ROUTECLI_ALLOCATOR=word), ("", said))
 
     def test_other_words_are_refused(self):
-        said = "routecli: ROUTECLI_ALLOCATOR: 'tcmalloc' isn't one of auto, jemalloc, mimalloc and none\n"
+        said = "routecli: ROUTECLI_ALLOCATOR: 'tcmalloc' isn't one of auto, jemalloc, mimalloc, tuned, compact and none\n"
         self.assertEqual(self.ran("prepare", status=2, ROUTECLI_ALLOCATOR="tcmalloc"), ("", said))
 
     def test_what_is_loaded_already_stays(self):
@@ -94,6 +98,11 @@ class CommandTests(ToolCase):
         self.installed(JEMALLOC)
         self.assertEqual(self.ran("prepare", LD_PRELOAD="/none.so")[0], "/none.so|prepare|")
         self.assertIn("stays as it is", self.ran("prepare", LD_PRELOAD="/none.so", ROUTECLI_ALLOCATOR="auto")[1])
+        own = "glibc.malloc.arena_max=2"
+        said = "routecli: ROUTECLI_ALLOCATOR: GLIBC_TUNABLES is set, and stays as it is\n"
+        for word in ("auto", "compact"):
+            found = self.ran("prepare", GLIBC_TUNABLES=own, ROUTECLI_ALLOCATOR=word)
+            self.assertEqual(found, (f"{own}|prepare|", said))
 
 
 class CopyrightTests(ToolCase):
