@@ -3,7 +3,7 @@
 HIERARCHY is the file that `routecli prepare` wrote. The service answers http://127.0.0.1:PORT/ until it is ended. SIGHUP
 reads the file of that name anew, while requests go on; SIGTERM and an interrupt answer what was asked, and then end it.
 
-Exit status: 0; 1 where it can't start, with one line on standard error; 2 for words.
+Exit status: 0; 1 if it can't start, with one line on standard error; 2 for invalid arguments.
 """
 import argparse
 import asyncio

@@ -76,7 +76,7 @@ async def route(pool: Pool, roads: Roads, request: Request) -> dict[str, Any]:
     legs = await asyncio.gather(*(one_leg(pool, roads, *pair) for pair in pairs))
     found_legs = [leg for leg in legs if leg is not None]
     if len(found_legs) < len(legs):
-        raise Refused(400, "NoRoute", "there is no way between two of the places")
+        raise Refused(400, "NoRoute", "there is no route between two of the places")
     courses = [course_of(roads, leg) for leg in found_legs]
     told = [leg_told(roads, request, *each, names) for each in zip(spots, spots[1:], found_legs, courses)]
     found: dict[str, Any] = {

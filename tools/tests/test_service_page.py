@@ -188,7 +188,7 @@ class PointerTests(BrowserCase):
 
     def test_roads_are_drawn_and_refusals_are_said(self):
         self.open("#0,0;0.02,0.005")
-        self.browser.until("document.getElementById('fault').textContent.includes('no way between')")
+        self.browser.until("document.getElementById('fault').textContent.includes('no route between')")
         colours = """new Set(new Uint32Array(document.getElementById('roads').getContext('2d')
             .getImageData(0, 0, document.getElementById('roads').width, document.getElementById('roads').height).data.buffer)).size"""
         self.browser.until(f"{colours} > 3")

@@ -44,7 +44,7 @@ export function fault(error) {
     const number = Number(/place (\d+)/.exec(error.message)?.[1] ?? NaN);
     return { number, text: (name) => `There is no road near ${name ?? "a place"}. Move it nearer to a road.` };
   }
-  if (error.code === "NoRoute") return { text: () => "There is no way between these places. Move one of them." };
+  if (error.code === "NoRoute") return { text: () => "There is no route between these places. Move one of them." };
   if (error.code === "InvalidService") return { text: () => "This service has no map: it was started without a network." };
   if (error.code === "TooBig") return { text: () => "These are too many places. Remove some of them." };
   if (error.code === "Overloaded") return { text: () => "The service is busy. Try again in a moment." };
