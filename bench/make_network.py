@@ -1,5 +1,5 @@
 #!/usr/bin/env python3
-"""Writes a road-like network and a text of pairs, the same for the same arguments.
+"""Writes a road-like network and a query file, the same for the same arguments.
 
     make_network.py SIDE PAIRS SEED NETWORK.gr NETWORK.pairs [--roads] [--nodes N] [--near STEPS COUNT NEAR.pairs]
 
@@ -13,8 +13,8 @@ column is an arterial, a half of the length in time, and every 32nd a motorway, 
 and motorways alone: so long ways lead over few roads, as in real networks. By `--order depth` a query settles 148 nodes at
 65,536 and 250 at 264,346, where it settles 388 without.
 
-With `--nodes` there are the first N places alone, row by row. Both ends of a pair are drawn from all places; with `--near`
-another text has so many pairs whose ends are at most so many rows and columns apart.
+With `--nodes` there are only the first N places, row by row. Both ends of a pair are drawn from all places; `--near` also writes
+NEAR.pairs, COUNT pairs whose ends are at most STEPS rows and columns apart.
 """
 import math
 import pathlib

@@ -19,10 +19,10 @@ each round each job of each network has its turn once, so that a machine that is
   answer     100 pairs, up to 10,000 nodes
 
 A job that takes less than a second has three turns in a row, of which the shortest counts. NetworkX and pgRouting have their
-turn in the first round alone. Each run is a line of runs.csv in the folder, and is kept: what was measured isn't measured again, so a run that was cut off is
-gone on with by the same words, and further rounds may be added. Figures of another program, another machine or other networks
-are refused; `--anew` drops them. With `--only` those jobs alone whose names have the word, as `route depth`. Seconds are of the
-wall clock and of the processors; memory is the greatest resident size.
+turn in the first round alone. Each run is a line of runs.csv in the folder, and what was measured isn't measured again. Rerun the
+same command to resume an interrupted run, or with more rounds to add them. Figures of another program, another machine or other
+networks are refused; `--anew` drops them. With `--only` those jobs alone whose names have the word, as `route depth`. Seconds are
+of the wall clock and of the processors; memory is the greatest resident size.
 
 All answers are compared: lengths and numbers of arcs with route.cpp, which searches by itself, nodes along the arcs of the
 network, and the first 20 of each text with every search. Each hierarchy that is prepared answers 100 pairs, as that of one
@@ -30,7 +30,8 @@ worker does. At the end the tables of docs/SPEED.md are printed, of all that was
 the pictures.
 
 It needs g++ and the proved program, which is crates/routecli/out/routecli (README.md says how to build it) or the path in the
-environment variable ROUTECLI. What of Debian's packages is missing (bench/packages.txt) is left out, and told.
+environment variable ROUTECLI. Comparisons whose Debian packages (bench/packages.txt) are missing are left out, and a line says
+which.
 """
 import csv
 import datetime
