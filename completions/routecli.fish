@@ -79,7 +79,7 @@ complete -c routecli -n __routecli_takes_input -a - -d 'With - for both files, s
 complete -c routecli -n '__routecli_lacks workers prepare' -l workers -x -d 'Number of threads that contract nodes, 0 to 64'
 complete -c routecli -n '__routecli_lacks seed prepare' -l seed -x -d 'Seed of the random choices of the threads, 0 to 18446744073709551615'
 complete -c routecli -n '__routecli_lacks order prepare' -l order -x -d 'Which nodes are contracted first' \
-    -a 'edges\t"those that leave the fewest arcs" neighbours\t"that and few contracted neighbours" depth\t"that and little depth"'
+    -a 'edges\t"those that leave the fewest arcs" neighbours\t"also counts contracted neighbours" depth\t"the depth of a node"'
 complete -c routecli -n '__routecli_lacks stint prepare' -l stint -x -d 'Number of contractions after which a thread uses the next order'
 complete -c routecli -n '__routecli_lacks progress prepare' -l progress -d 'Show on standard error how many nodes are contracted'
 complete -c routecli -n '__routecli_lacks explain answer prepare route serve info' -l explain -d 'Explain a refusal in more lines on standard error'
