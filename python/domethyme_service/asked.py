@@ -65,9 +65,9 @@ def request_of(path: str, query: Mapping[str, str], within: float) -> Request:
     words = path.split("/", 4)
     if words[1] not in SERVICES:
         raise Refused(400, "InvalidService", f"the service {words[1]} isn't there")
-    if len(words) != 5 or words[2] != "v1":
+    if words[2] != "v1":
         raise Refused(400, "InvalidVersion", "the path is /SERVICE/v1/PROFILE/PLACES")
-    if not PROFILE.fullmatch(words[3]):
+    if len(words) != 5 or not PROFILE.fullmatch(words[3]):
         raise Refused(400, "InvalidUrl", "the path is /SERVICE/v1/PROFILE/PLACES")
     places = places_of(words[4], words[1])
     request = Request(words[1], places, limits_of(query.get("radiuses", ""), len(places), within), query)
@@ -82,7 +82,7 @@ def places_of(text: str, service: str) -> list[Point]:
         if found := re.fullmatch(r"polyline(6?)\((.*)\)", plain, re.DOTALL):
             places = decoded(found[2], 6 if found[1] else 5)
         else:
-            places = [place_of(word) for word in plain.split(";", MOST_PLACES + 1)]
+            places = [place_of(word) for word in plain.split(";")[: MOST_PLACES + 1]]
     except ValueError:
         raise invalid_query("places are LON,LAT;LON,LAT;.. or polyline(..)") from None
     if any(abs(lon) > 180 or abs(lat) > 90 for lon, lat in places):
