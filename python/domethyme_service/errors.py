@@ -4,13 +4,15 @@
 class Refused(Exception):
     """An answer `{"code": .., "message": ..}`.
 
-    status  of HTTP, 400 to 505
-    code    OSRM's word, as InvalidQuery, or one of this service
+    status   of HTTP, 400 to 505
+    code     OSRM's word, as InvalidQuery, or one of this service
+    is_last  whether it ends the connection, since it isn't known where the next request begins, or the client is slow
     """
 
-    def __init__(self, status: int, code: str, message: str) -> None:
+    def __init__(self, status: int, code: str, message: str, is_last: bool = False) -> None:
         super().__init__(message)
         self.status, self.code, self.message = status, code, message
+        self.is_last = is_last or status in (408, 413, 504, 505)
 
 
 class WorkerFault(Exception):

@@ -1,5 +1,5 @@
-"""Connections, with what aiohttp's server leaves open: how many there may be, the time in which a head has to come, how many
-requests one may send ahead, errors as JSON, and an end without a lost request. A connection that asks for pairs of nodes alone
+"""Connections, with what aiohttp's server leaves open: how many there may be, the time in which a head has to come, that a client
+takes its answers, how many requests one may send ahead, errors as JSON, and an end without a lost request. A connection that asks for pairs of nodes alone
 doesn't come to aiohttp at all (direct)."""
 import asyncio
 import json
@@ -7,7 +7,9 @@ from collections.abc import Awaitable, Callable
 from typing import Any, NamedTuple, cast
 
 from aiohttp import web
+from aiohttp.streams import EMPTY_PAYLOAD, StreamReader
 
+from . import direct
 from .direct import Asked, Pairs
 
 MOST_AHEAD = 64
@@ -15,6 +17,9 @@ MOST_HELD = 1 << 13
 NONE_MORE = b'{"code":"Overloaded","message":"too many connections"}'
 TOO_SLOW = b'{"code":"Timeout","message":"the request\'s head has not come whole"}'
 NO_HTTP = b'{"code":"InvalidUrl","message":"the request cannot be read"}'
+
+
+Handler = Callable[[web.BaseRequest], Awaitable[web.StreamResponse]]
 
 
 class Bounds(NamedTuple):
@@ -34,11 +39,15 @@ def plain(status: str, body: bytes, more: str = "") -> bytes:
 
 
 class Gathering:
-    """A transport that writes once a turn of the event loop what is written in it: else a head and its body are two packets."""
+    """A transport that writes once a turn of the event loop what is written in it: else a head and its body are two packets. It
+    breaks the connection off where answers wait for a client that takes nothing of them for direct.SECONDS."""
 
     def __init__(self, stream: asyncio.Transport) -> None:
         self._stream, self._parts = stream, list[bytes]()
-        self._soon = asyncio.get_running_loop().call_soon
+        self._loop = asyncio.get_running_loop()
+        self._soon = self._loop.call_soon
+        self._written = 0
+        self._timer: asyncio.TimerHandle | None = None
 
     def __getattr__(self, name: str) -> Any:
         return getattr(self._stream, name)
@@ -51,13 +60,38 @@ class Gathering:
     def write_now(self, data: bytes) -> bool:
         """Writes what is whole, where nothing is held; whether the system has taken all of it."""
         self._stream.write(data)
-        return not self._stream.get_write_buffer_size()
+        self._written += len(data)
+        is_taken = not self._stream.get_write_buffer_size()
+        if not is_taken and self._timer is None:
+            self._look_later()
+        return is_taken
 
     def flush(self) -> None:
         """Writes what is held."""
         if self._parts and not self._stream.is_closing():
-            self._stream.write(b"".join(self._parts))
+            self.write_now(b"".join(self._parts))
         self._parts.clear()
+
+    def _look_later(self) -> None:
+        self._timer = self._loop.call_later(direct.SECONDS, self._look, self._taken)
+
+    @property
+    def _taken(self) -> int:
+        return self._written - self._stream.get_write_buffer_size()
+
+    def _look(self, before: int) -> None:
+        self._timer = None
+        if not self._stream.get_write_buffer_size():
+            return
+        if self._taken == before:
+            self.abort()
+        else:
+            self._look_later()
+
+    def end(self) -> None:
+        """The connection is gone."""
+        if self._timer is not None:
+            self._timer.cancel()
 
     def close(self) -> None:
         self.flush()
@@ -69,17 +103,20 @@ class Gathering:
 
 
 class Connection(web.RequestHandler):
-    """One connection. `finished` counts its requests that were answered; aiohttp counts those whose heads have come. As long as
-    there are `pairs`, all that was asked were pairs of nodes, and aiohttp has had nothing of it."""
+    """One connection. `finished` counts its requests that were answered; aiohttp counts those whose heads have come. `cut` is
+    the body that isn't whole when the client sends no more. As long as there are `pairs`, all that was asked were pairs of nodes, and
+    aiohttp has had nothing of it."""
 
-    __slots__ = ("bounds", "finished", "_timer", "_has_ended", "_pairs", "_asked", "_held", "_answered")
+    __slots__ = ("bounds", "finished", "cut", "_timer", "_has_begun", "_has_ended", "_body", "_pairs", "_asked", "_held", "_answered")
 
     def __init__(self, server: "Server", bounds: Bounds, pairs: Pairs | None, **more: Any) -> None:
         super().__init__(server, **more)
         self.bounds = bounds
         self.finished = 0
         self._timer: asyncio.TimerHandle | None = None
-        self._has_ended = False
+        self._has_begun = self._has_ended = False
+        self._body: StreamReader = EMPTY_PAYLOAD
+        self.cut: StreamReader | None = None
         self._pairs, self._held, self._answered = pairs, b"", 0.0
         self._asked: Asked | None = None
 
@@ -100,6 +137,8 @@ class Connection(web.RequestHandler):
 
     def connection_lost(self, exc: BaseException | None) -> None:
         self._stop_timer()
+        if isinstance(self.transport, Gathering):
+            self.transport.end()
         if self._asked is not None:
             self._asked.reply.cancel()
         super().connection_lost(exc)
@@ -157,25 +196,44 @@ class Connection(web.RequestHandler):
 
     def _parse(self, data: bytes) -> None:
         """Parses what has come. What can't be parsed at all is answered, and ends the connection."""
+        count, was_whole = self._request_count, self._body.is_eof()
         try:
             super().data_received(data)
         except Exception:
             self._break(plain("400 Bad Request", NO_HTTP))
             return
+        if self._request_count > count:
+            self._body = self._messages[-1][1]
+            self._has_begun = self._body is EMPTY_PAYLOAD and not data.endswith((b"\r\n\r\n", b"\n\n"))
+        elif was_whole:
+            self._has_begun = True
         if not self.is_idle:
             self._stop_timer()
-        elif self._timer is None:
+        elif self._timer is None and self._body.is_eof():  # (else it is of a body that nobody wants)
             self._wait_for_head()
         if len(self._messages) > MOST_AHEAD:
             self.pause_reading()
 
     def eof_received(self) -> bool | None:  # type: ignore[override]
-        """The client sends no more: what it asked is answered before the connection ends."""
+        """The client sends no more: what it asked is answered before the connection ends. A body of which more would have to
+        come is at its end."""
         self._has_ended = True
+        if not self._body.is_eof():
+            self.cut = self._body
+            self.cut.feed_eof()
         return not self.is_idle
 
+    async def _handle_request(
+        self, request: web.BaseRequest, start_time: float, request_handler: Handler
+    ) -> tuple[web.StreamResponse, bool]:
+        """Answers a request, where the connection wasn't lost before this began."""
+        if self._request_handler is None:
+            raise ConnectionResetError("the connection is lost")
+        return await super()._handle_request(request, start_time, request_handler)
+
     async def finish_response(self, request: web.BaseRequest, resp: web.StreamResponse, start_time: float) -> bool:
-        """Writes the answer; then reading goes on where it was paused, and a client that sends no more is let go."""
+        """Writes the answer; then reading goes on where it was paused, a client that sends no more is let go, and the head that has
+        begun meanwhile has to come whole."""
         try:
             return await super().finish_response(request, resp, start_time)
         finally:
@@ -184,6 +242,8 @@ class Connection(web.RequestHandler):
                 self.resume_reading()
             if self._has_ended and self.is_idle:
                 self.close()
+            elif self._has_begun and self.is_idle:
+                self._wait_for_head()
 
     def handle_error(
         self, request: web.BaseRequest, status: int = 500, exc: BaseException | None = None, message: str | None = None
@@ -223,7 +283,7 @@ class Server(web.Server):
     """Makes the connections of one listening socket."""
 
     def __init__(
-        self, handler: Callable[[web.BaseRequest], Awaitable[web.StreamResponse]], bounds: Bounds, pairs: Pairs | None = None
+        self, handler: Handler, bounds: Bounds, pairs: Pairs | None = None
     ) -> None:
         super().__init__(handler)
         self.bounds, self.pairs = bounds, pairs

@@ -4,6 +4,7 @@ import contextlib
 import http
 import json
 import logging
+import re
 import time
 import urllib.parse
 from collections.abc import AsyncGenerator, Callable, Mapping
@@ -17,7 +18,7 @@ from .asked import request_of, service_of
 from .direct import SECONDS
 from .errors import Refused, invalid_query
 from .generation import Generation
-from .guard import plain
+from .guard import Connection, plain
 from .metrics import Metrics
 from .page import FILES, HEADERS, asked_by_page, endpoint_of_page, without_network
 from .roads import Roads
@@ -26,6 +27,7 @@ from .workers import Counts
 MOST_BODY = 4 << 20
 BATCHES = 16
 MOST_FIELDS = 50
+FIELD = re.compile(rb"[0-9A-Za-z!#$%&'*+.^_`|~-]+")
 JSON = "application/json; charset=utf-8"
 LINES = "application/x-ndjson; charset=utf-8"
 METRICS = "text/plain; version=0.0.4; charset=utf-8"
@@ -157,7 +159,7 @@ class Service:
         answer = self._json(refused.status, {"code": refused.code, "message": refused.message})
         if refused.status == 503:
             answer.headers["Retry-After"] = "1"
-        if refused.status in (408, 413, 504, 505):
+        if refused.is_last:
             answer.force_close()
         return answer
 
@@ -203,9 +205,12 @@ class Service:
 
 
 def asked_by(request: web.BaseRequest) -> Asked:
-    """What a request asks. Raises Refused for what isn't HTTP/1.0 or 1.1, and for parameters that come twice."""
+    """What a request asks. Raises Refused for what isn't HTTP/1.0 or 1.1, for names of fields that are none, which the parser lets
+    pass as `Content-Length : 5`, and for parameters that come twice."""
     if request.version not in (HttpVersion10, HttpVersion11):
         raise Refused(505, "HttpVersion", "the service speaks HTTP/1.0 and HTTP/1.1")
+    if not all(FIELD.fullmatch(name) for name, _ in request.raw_headers):
+        raise Refused(400, "InvalidUrl", "the request cannot be read", True)
     whole = request.raw_path
     if not whole.startswith("/"):
         whole = "/" + whole.partition("://")[2].partition("/")[2]
@@ -246,7 +251,7 @@ def roads_of(generation: Generation) -> Roads:
 
 
 async def body_of(request: web.BaseRequest) -> bytes:
-    """The whole body. Raises Refused where it is longer than MOST_BODY, or compressed."""
+    """The whole body. Raises Refused where it is longer than MOST_BODY, compressed, or ends before it is whole."""
     if request.headers.get("Content-Encoding", "identity").lower() != "identity":
         raise Refused(415, "InvalidQuery", "the body may not be compressed")
     if (request.content_length or 0) > MOST_BODY:
@@ -260,6 +265,8 @@ async def body_of(request: web.BaseRequest) -> bytes:
         size += len(part)
         if size > MOST_BODY:
             raise Refused(413, "TooBig", f"the body may have {MOST_BODY} bytes")
+    if isinstance(request.protocol, Connection) and request.protocol.cut is request.content:
+        raise Refused(400, "InvalidQuery", "the body has not come whole", True)
     return b"".join(parts)
 
 
