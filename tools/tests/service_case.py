@@ -3,11 +3,13 @@ import heapq
 import http.client
 import json
 import os
+import pathlib
 import re
 import socket
 import subprocess
 import sys
 import threading
+from typing import BinaryIO, NamedTuple
 
 from tool_case import TOOLS, VILLAGE, ToolCase, serving_program
 
@@ -18,8 +20,18 @@ SECONDS = 20
 sys.path.insert(0, str(TOOLS.parent / "python"))  # (for domethyme_service)
 
 
+class Answer(NamedTuple):
+    """An answer as it came: its fields by their names in small letters, and its body without the marks of its parts."""
+
+    status: int
+    fields: dict[str, str]
+    body: bytes
+
+
 class ServiceCase(ToolCase):
-    """A test with the hierarchy of the village, v.rch, and its network v."""
+    """A test with the hierarchy of the village, v.rch, and its network v. `command` starts the service."""
+
+    command = (TOOLS / "domethyme-serve",)
 
     def map_file(self):
         return VILLAGE
@@ -36,7 +48,7 @@ class ServiceCase(ToolCase):
         environment = {**os.environ, "ROUTECLI": str(program)}
         if faults:
             environment["SERVE_FAULTS"] = str(self.write("faults", "".join(f"{fault}\n" for fault in faults)))
-        given = [TOOLS / "domethyme-serve", self.folder / "v.rch", "--port", "0", *words]
+        given = [*self.command, self.folder / "v.rch", "--port", "0", *words]
         process = subprocess.Popen(list(map(str, given)), stderr=subprocess.PIPE, text=True, env=environment)
         self.addCleanup(end, process)
         self.said = []
@@ -77,6 +89,50 @@ class ServiceCase(ToolCase):
         status, text = self.ask("/metrics")
         self.assertEqual(status, 200)
         return float(re.search(rf"(?m)^domethyme_{re.escape(name)} (.*)$", text)[1])
+
+
+def read_answer(file: BinaryIO, method: str = "GET") -> Answer:
+    """The next answer of a connection that is read as a file. Raises EOFError where the connection ends before it is whole."""
+    status = line_of(file).split(b" ", 2)
+    fields = dict(iter(lambda: field_of(line_of(file)), ("", "")))
+    if method == "HEAD":
+        body = b""
+    elif fields.get("transfer-encoding") == "chunked":
+        body = b"".join(iter(lambda: part_of(file), b""))
+    else:
+        body = whole(file, int(fields["content-length"]))
+    return Answer(int(status[1]), fields, body)
+
+
+def line_of(file: BinaryIO) -> bytes:
+    line = file.readline()
+    if not line.endswith(b"\r\n"):
+        raise EOFError(f"an answer isn't whole: {line!r}")
+    return line.removesuffix(b"\r\n")
+
+
+def field_of(line: bytes) -> tuple[str, str]:
+    name, _, value = line.decode("ascii").partition(": ")
+    return name.lower(), value
+
+
+def part_of(file: BinaryIO) -> bytes:
+    """The next part of a body that comes in parts; none is its end."""
+    part = whole(file, int(line_of(file), 16))
+    line_of(file)
+    return part
+
+
+def whole(file: BinaryIO, count: int) -> bytes:
+    found = file.read(count)
+    if len(found) != count:
+        raise EOFError("a body isn't whole")
+    return found
+
+
+def resident(number: int) -> int:
+    """The KiB of memory that a process has resident."""
+    return int(re.search(r"VmRSS:\s+(\d+) kB", pathlib.Path(f"/proc/{number}/status").read_text())[1])
 
 
 def end(process):

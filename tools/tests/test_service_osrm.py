@@ -1,5 +1,5 @@
-"""Tests of OSRM's API in the service: weights against a search in the graph that is cut at the points, requests in the
-shapes of clients, and requests that are refused."""
+"""Tests of OSRM's API in the service: weights against a search in the graph that is cut at the points, requests in many
+shapes, and requests that are refused."""
 import itertools
 import json
 import math
@@ -204,7 +204,7 @@ class DrawnTests(OsrmCase):
             self.assertGreater(self.compare(seed, 16)[2], 100)
 
 
-class ClientTests(OsrmCase):
+class RequestTests(OsrmCase):
     def test_route_by_places(self):
         """By High Street, 50 km/h, from 0.3 to 7.7 steps; the bypass and others are longer."""
         found = self.good(f"/route/v1/driving/{HIGH}")
@@ -216,8 +216,8 @@ class ClientTests(OsrmCase):
         self.assertEqual(found["waypoints"][0]["location"], [0.0003, 0])
         self.assertAlmostEqual(found["waypoints"][0]["distance"], 1.11195, places=3)
 
-    def test_shapes_of_clients(self):
-        """As Leaflet Routing Machine, Viking, Marble, r-osrm, routingpy and VROOM ask."""
+    def test_shapes_of_requests(self):
+        """Further ones than those of the eight clients of test_service_clients.py."""
         line = self.good(f"/route/v1/car/{HIGH}?geometries=geojson&overview=full")["routes"][0]["geometry"]
         self.assertEqual((line["coordinates"][0], line["coordinates"][-1]), ([0.0003, 0], [0.0077, 0]))
         for path in (
