@@ -1,12 +1,15 @@
 """Tests of the service's tables: those that are computed from the links of the file, beside those that the program is asked for."""
 import random
+import signal
+import time
 
 import numpy as np
-from service_case import ServiceCase
-from tool_case import TOOLS
+from service_case import SECONDS, ServiceCase
+from tool_case import STAND_IN, TOOLS, serving_program
 
 import domethyme
 from domethyme.binary import UNITS, arrays_of
+from domethyme_service.generation import SAMPLES
 
 
 class TableTests(ServiceCase):
@@ -63,3 +66,26 @@ class TableTests(ServiceCase):
         status, more = self.ask(f"/table/v1/car/{words};0.0005,0.00005")
         self.assertEqual((status, self.value("lines_total") - before), (200, 0))
         self.assertEqual([row[:10] for row in more["durations"][:10]], few["durations"])
+
+    def test_a_program_whose_lengths_are_others(self):
+        """A reply that isn't least fits the network, whose weights sum to its length, and differs from the tables. Then the service
+        doesn't start, which one whose tables are the program's does; and at a reload it keeps what it has."""
+        says, network = "tables differ from the program's lengths: start with --tables proved", self.folder / "v"
+        serving_program()
+        environment = {"ROUTECLI": str(STAND_IN), "SERVE_FAULTS": str(self.write("faults", f"detour {SAMPLES}\n"))}
+        words = [TOOLS / "domethyme-serve", self.folder / "v.rch", "--network", network, "--port", "0"]
+        ended = self.run_program(words, status=1, environment=environment)
+        self.assertEqual((ended.stdout, ended.stderr), ("", f"domethyme-serve: {says}\n"))
+        self.serve("--network", network, "--tables", "proved", faults=["detour 1"], program=STAND_IN)
+        self.assertEqual(self.ask("/health")[0], 200)
+        process = self.serve("--network", network, faults=["well", "detour 1", "well"], program=STAND_IN)
+        table = "/table/v1/car/" + ";".join(f"{0.0005 * number},0.00005" for number in range(12))
+        before = self.ask(table)
+        self.assertEqual(before[0], 200)
+        for reloads, said in ((0, f"reload refused: {says}"), (1, "reloaded, 38 nodes")):
+            process.send_signal(signal.SIGHUP)
+            end = time.monotonic() + SECONDS
+            while not any(said in line for line in self.said):
+                self.assertLess(time.monotonic(), end, self.said)
+                time.sleep(0.05)
+            self.assertEqual((self.ask(table), self.value("reloads_total")), (before, reloads))
