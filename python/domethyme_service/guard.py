@@ -1,6 +1,6 @@
 """Connections, with what aiohttp's server leaves open: how many there may be, the time in which a head has to come, that a client
-takes its answers, how many requests one may send ahead, errors as JSON, and an end without a lost request. A connection that asks for pairs of nodes alone
-doesn't come to aiohttp at all (direct)."""
+takes its answers, how many requests one may send ahead, errors as JSON, and an end without a lost request. A connection that asks
+for pairs of nodes alone doesn't come to aiohttp at all (direct)."""
 import asyncio
 import json
 from collections.abc import Awaitable, Callable
@@ -17,8 +17,6 @@ MOST_HELD = 1 << 13
 NONE_MORE = b'{"code":"Overloaded","message":"too many connections"}'
 TOO_SLOW = b'{"code":"Timeout","message":"the request\'s head has not come whole"}'
 NO_HTTP = b'{"code":"InvalidUrl","message":"the request cannot be read"}'
-
-
 Handler = Callable[[web.BaseRequest], Awaitable[web.StreamResponse]]
 
 
@@ -221,6 +219,8 @@ class Connection(web.RequestHandler):
         if not self._body.is_eof():
             self.cut = self._body
             self.cut.feed_eof()
+        if isinstance(self.transport, Gathering):  # (the last answer may be held there, and this connection is closed below it)
+            self.transport.flush()
         return not self.is_idle
 
     async def _handle_request(
@@ -282,9 +282,7 @@ class Connection(web.RequestHandler):
 class Server(web.Server):
     """Makes the connections of one listening socket."""
 
-    def __init__(
-        self, handler: Handler, bounds: Bounds, pairs: Pairs | None = None
-    ) -> None:
+    def __init__(self, handler: Handler, bounds: Bounds, pairs: Pairs | None = None) -> None:
         super().__init__(handler)
         self.bounds, self.pairs = bounds, pairs
         self._kwargs = {

@@ -7,7 +7,9 @@ import socket
 import struct
 import time
 from types import SimpleNamespace
+from unittest import mock
 
+from aiohttp import web
 from service_case import ServiceCase
 from tool_case import STAND_IN
 
@@ -95,6 +97,26 @@ class DirectTests(ServiceCase):
         process.terminate()
         self.assertEqual(process.wait(15), 0)
         self.assertFalse([line for line in self.said if "Traceback" in line], self.said)
+
+    def test_an_end_that_comes_as_the_answer_is_written(self):
+        """Before the answer is given to the system, which waits for the loop's next turn: it isn't lost."""
+        asyncio.run(self.end_beside_answer())
+
+    async def end_beside_answer(self):
+        async def handler(request):
+            return web.Response(text="one")
+
+        connection, written = Server(handler, Bounds())(), []
+        stream = mock.Mock(asyncio.Transport)
+        stream.write, stream.is_closing.return_value, stream.get_write_buffer_size.return_value = written.append, False, 0
+        connection.connection_made(stream)
+        connection.data_received(b"GET / HTTP/1.1\r\nHost: x\r\n\r\n")
+        while not connection.is_idle:
+            await asyncio.sleep(0)
+        self.assertEqual(written, [])
+        self.assertFalse(connection.eof_received(), "it may be closed")
+        self.assertRegex(b"".join(written), rb"(?s)^HTTP/1.1 200 OK.*one$")
+        connection.connection_lost(None)
 
     def test_a_connection_that_is_idle(self):
         """After a pair it is closed by `idle`, and before one by `head`, with an answer."""
