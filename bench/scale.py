@@ -1,17 +1,18 @@
 #!/usr/bin/env python3
 """Measures what large networks cost: nodes, links, bytes, and time and memory of `prepare` and `route`, as docs/SCALE.md has it.
 
-    bench/scale.py [--order ORDER] [--workers K] [--pairs PAIRS] [--compared PAIRS] [--allocators] [--lists] [--batches]
-                   [--folder FOLDER] [--usa] [NODES ..]        by default 264346 1000000, with --usa none
+    bench/scale.py [--order ORDER] [--workers K] [--pairs PAIRS] [--compared PAIRS] [--allocator NAME] [--allocators] [--lists]
+                   [--batches] [--folder FOLDER] [--usa] [NODES ..]        by default 264346 1000000, with --usa none
 
 The networks are those of make_sparse.cpp, with the figures of the challenge's: 2.43 arcs a node, most nodes on chains. Each is
 prepared once, by default by four workers and `--order depth`, and random pairs, by default 10,000, are answered once. The
-first answers, by default 20, are compared with the plain search in C++. The tables have seconds of the wall clock, of the
+first answers, by default 20, are compared with the plain search in C++, which runs four at a time. The tables have seconds of the wall clock, of the
 processors in parentheses, and greatest resident sizes. What a pair takes is what the run takes beyond one with no pairs.
 
 --usa          also a network with the numbers of the challenge's largest, the whole of the USA: 23,947,347 nodes and
                58,333,344 arcs, 1.3 GB of text. `prepare` takes some 20 GB for it
 --folder       where the networks and hierarchies lie, in place of a folder that is removed at the end
+--allocator    `prepare` gets this one of Debian's allocators, by LD_PRELOAD: jemalloc, tcmalloc or mimalloc
 
 --allocators   prepares each network once more with each of Debian's allocators that is here (libjemalloc2,
                libtcmalloc-minimal4, libmimalloc2.0), by LD_PRELOAD, and compares the answers' costs
@@ -23,6 +24,7 @@ processors in parentheses, and greatest resident sizes. What a pair takes is wha
 It needs g++ and the proved program, which is crates/routecli/out/routecli (README.md says how to build it) or the path in
 the environment variable ROUTECLI.
 """
+import concurrent.futures
 import contextlib
 import itertools
 import os
@@ -96,15 +98,25 @@ def text_of(folder, name, count, pairs):
     return path
 
 
+def searched(network, plain, part, pairs):
+    """What the plain search prints for pairs, whose files get the number of their part."""
+    few = text_of(network.folder, f"few-{part}.pairs", len(pairs), pairs)
+    return subprocess.run([plain, network.graph, few], check=True, stdout=subprocess.PIPE, stderr=subprocess.DEVNULL, text=True).stdout
+
+
 def compare(network, plain, count, answers):
-    """Compares the first answers with those of the plain search, but for their nodes."""
-    with open(network.pairs) as pairs:
-        next(pairs)
-        few = text_of(network.folder, "few.pairs", count, pairs)
-    network.runs.taken([plain, network.graph, few], network.folder / "few.answers")
-    with open(network.folder / "few.answers") as wanted, open(answers) as found:
-        for line, ours in zip(wanted, found):
-            if line.split() != ours.split()[: len(line.split())]:
+    """Compares the first answers with those of the plain search, but for their nodes. It runs four at a time."""
+    with open(network.pairs) as lines:
+        next(lines)
+        pairs = list(itertools.islice(lines, count))
+    parts = [pairs[at :: 4] for at in range(4)]
+    with concurrent.futures.ThreadPoolExecutor(4) as pool:
+        texts = list(pool.map(lambda part: searched(network, plain, *part), enumerate(parts)))
+    wanted = [iter(text.splitlines()) for text in texts]
+    with open(answers) as found:
+        for at, ours in enumerate(itertools.islice(found, count)):
+            line = next(wanted[at % 4]).split()
+            if line != ours.split()[: len(line)]:
                 sys.exit(f"{answers} differs from the plain search: {ours[:80]}")
 
 
@@ -126,7 +138,7 @@ def sizes(networks, options, plain, folder):
     show([*heads, "`route`, no pairs", f"{options.pairs:,} random pairs", "memory", "a pair", "answers"])
     nothing = text_of(folder, "no.pairs", 0, [])
     for network in networks:
-        prepared = network.prepared(options)
+        prepared = network.prepared(options, options.allocator and LIBRARIES / ALLOCATORS[options.allocator])
         empty, answers = network.routed(os.devnull, nothing), folder / "answers"
         routed = network.routed(answers)
         compare(network, plain, min(options.compared, options.pairs), answers)
@@ -222,6 +234,7 @@ def main():
     parser.add_argument("--workers", type=int, default=4)
     parser.add_argument("--pairs", type=counted.positive, default=10_000)
     parser.add_argument("--compared", type=counted.positive, default=20, metavar="PAIRS")
+    parser.add_argument("--allocator", choices=list(ALLOCATORS))
     for more in ["--allocators", "--lists", "--batches", "--usa"]:
         parser.add_argument(more, action="store_true")
     parser.add_argument("--folder", type=pathlib.Path)
