@@ -22,7 +22,7 @@ import os
 class DomethymeError(Exception):
     """What went wrong, as one line.
 
-    status  the exit status that stands for it: 3 to 8 where `routecli` refused, else 1
+    status  the exit status: 3 to 8 as `routecli` ended, else 1
     """
 
     def __init__(self, message: str, status: int = 1) -> None:

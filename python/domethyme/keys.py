@@ -140,7 +140,7 @@ def plain(key: Any) -> Hashable:
 
 
 def is_missing(key: Any) -> bool:
-    """Whether a value stands for a missing key: None, NaN, or pandas' NaT and NA, none of which equals itself."""
+    """Whether a key is missing: None, NaN, or pandas' NaT or NA. But for None, none of these equals itself."""
     try:
         return key is None or bool(key != key)
     except (TypeError, ValueError):

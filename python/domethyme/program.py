@@ -33,7 +33,7 @@ def find_program(named: StrPath | None = None) -> str:
 
 
 def run_program(program: str, words: list[str]) -> None:
-    """Runs the program to its end; raises the error that its status stands for. Its standard input is empty."""
+    """Runs the program to its end, with empty standard input; raises the error of its exit status if that isn't 0."""
     try:
         nothing = subprocess.DEVNULL
         ended = subprocess.run([program, *words], stdin=nothing, stdout=nothing, stderr=subprocess.PIPE)
