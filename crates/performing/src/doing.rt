@@ -23,7 +23,8 @@ use std::thread::Threads;
 /// gives it and `second` isn't read. To prepare, `first` gives the graph's text, `second` isn't read, and `out` gets
 /// the hierarchy. To route, `first` gives the hierarchy and `second` the query file; to serve, `second` gives the
 /// requests; to print what a hierarchy file has, `first` gives it and `second` isn't read. Answers go to `out`. Of a refusal
-/// one line goes to `err`. Only to prepare by workers are threads started.
+/// one line goes to `err`. Threads are started only to prepare and to answer: the workers, and those that make the opening
+/// rows and the parts of the hierarchy at the end.
 pub fn perform<A: Read, B: Read, W: Write, E: Write, R: Threads + Wait + Sync>(
     rt: &R,
     alloc: Global,
