@@ -95,8 +95,12 @@ class SlowClientTests(ServiceCase):
         self.assertFalse([line for line in self.said if "Traceback" in line], self.said)
 
     def files(self) -> int:
-        """How many files and connections the service has open."""
-        return len(os.listdir(f"/proc/{self.process.pid}/fd"))
+        """How many files and connections the service has open, at the least in half a second: the last one may still be ending."""
+        counts = []
+        for _ in range(10):
+            time.sleep(0.05)
+            counts.append(len(os.listdir(f"/proc/{self.process.pid}/fd")))
+        return min(counts)
 
     async def one_round(self) -> None:
         """Batches are counted, so that there are no more at once than may be, but where more are wanted."""
