@@ -116,7 +116,8 @@ returns-in_err-version-clause-so_far g c =
     let input = c.in_ok-input.input in
     let known = g.R.Read.remaining c.args.reader.now in
     hands_on c.from_residual-in_err-version.result _ _ c.from_residual-in_err-version.ensures.1
-    (λ read. stops_from_start (HasNoneSoFar first_fault) input.waiting known _ (ap (λ (b : Buffered). b.waiting) c.in_ok-input.ensures) (stops_where (IsCut magic_fault) (HasNoneSoFar first_fault) (coming input.waiting known) _ (λ came is. inl (first_magic came is)) (c.in_err-version.ensures.reads.fault.read read)))
+    (λ read. stops_from_start (HasNoneSoFar first_fault) input.waiting known _ (ap (λ (b : Buffered). b.waiting) c.in_ok-input.ensures)
+    (stops_where (IsCut magic_fault) (HasNoneSoFar first_fault) (coming input.waiting known) _ (λ came is. inl (first_magic came is)) (c.in_err-version.ensures.reads.fault.read read)))
 
 pub returns-in_err-head-clause-so_far : goal.returns-in_err-head-clause-so_far
 returns-in_err-head-clause-so_far g c =
