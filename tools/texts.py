@@ -101,7 +101,7 @@ def write_pairs(file: IO[str], pairs: Collection[tuple[int, int]]) -> None:
 
 
 class Answer(NamedTuple):
-    """A pair's answer: the route's length and nodes, or None and no nodes where there is no way."""
+    """A pair's answer: the route's length and nodes, or None and no nodes where there is no route."""
 
     source: int
     target: int

@@ -43,7 +43,7 @@ class CutGraph:
         return best[0], best[1] / before if before else 0
 
     def length(self, start, end):
-        """The least length from a place to another: None where there is no way, NaN where the nearest road isn't plain."""
+        """The least length from a place to another: None where there is no route, NaN where the nearest road isn't plain."""
         arcs = [(arc.start, arc.end, arc.weight) for arc in self.arcs]
         ends = [self.cuts(place) for place in (start, end)]
         if None in ends:

@@ -30,7 +30,7 @@ def crossing(*restrictions):
 
 class CrossingTests(ToolCase):
     def lengths(self, *restrictions, options=()):
-        """The steps from each of the places to each, by nearest and the program; None where there is no way."""
+        """The steps from each of the places to each, by nearest and the program; None where there is no route."""
         self.write("map.osm", crossing(*restrictions))
         self.said = self.run_tool("osm_to_gr", "map.osm", "map", *options).stderr
         rows = [f"{x / 1000},{y / 1000}" for x, y in PLACES.values()]
