@@ -1,5 +1,5 @@
-"""Tests of clients of the service that are slow, that stop, that take no answer, and that send no more: two hundred, twice. Each
-gets its answer or its error by the time limit, or is let go, and nothing is left of them."""
+"""Tests of clients of the service that are slow, that stop, that take no answer, and that send no more: two hundred, in rounds.
+Each gets its answer or its error by the time limit, or is let go, and nothing is left of them."""
 import asyncio
 import collections
 import contextlib
@@ -25,8 +25,10 @@ command.main()
 """
 # How much later than its time something may happen, on a machine that has much to do.
 LATE = 20.0
-# KiB that the front or its worker may grow by in the second round. It was some 100; 230 connections that are kept take more.
-MOST_GROWN = 2048
+# KiB that the front and its worker may each grow by in a round that leaves nothing. It was some 100 in the second round; 230
+# connections that are kept take more in each. On a machine that has much to do more of them are open at once, so that a later
+# round may still take more: one of this many has to leave memory as it was.
+MOST_GROWN, ROUNDS = 2048, 5
 # How many batches there may be at once, and in which time a body that nobody wants is read on.
 BATCHES, LINGERING = 16, 2.0
 
@@ -78,21 +80,30 @@ class SlowClientTests(ServiceCase):
         super().setUp()
         self.process = self.serve("--network", self.folder / "v", "--head-seconds", str(HEAD))
 
-    def test_two_hundred_twice(self):
+    def test_two_hundred_in_rounds(self):
         self.assertEqual(self.ask("/map/main.js")[0], 200)
-        files, sizes = self.files(), []
-        for _ in range(2):
-            asyncio.run(self.one_round())
-            begun = time.monotonic()
-            self.assertEqual(self.ask("/nodes/length?from=1&to=1")[1]["length"], 0)
-            self.assertLess(time.monotonic() - begun, LATE)
-            self.assertEqual(self.files(), files)
-            sizes.append([resident(number) for number in (self.process.pid, *children_of(self.process.pid))])
-        self.assertEqual(len(sizes[0]), 2, "the front and its worker")
-        for before, after in zip(*sizes, strict=True):
-            self.assertLessEqual(after, before + MOST_GROWN, "KiB after the first round and after the second")
+        files = self.files()
+        before = self.sizes_after_a_round(files)
+        for _ in range(1, ROUNDS):
+            after = self.sizes_after_a_round(files)
+            if all(new <= old + MOST_GROWN for old, new in zip(before, after, strict=True)):
+                break
+            before = after
+        else:
+            self.fail(f"memory grows in each round: {after} KiB")
         self.assertEqual(self.value("worker_restarts_total"), 0)
         self.assertFalse([line for line in self.said if "Traceback" in line], self.said)
+
+    def sizes_after_a_round(self, files: int) -> list[int]:
+        """The KiB of the front and of its worker after a round, which leaves as many files open."""
+        asyncio.run(self.one_round())
+        begun = time.monotonic()
+        self.assertEqual(self.ask("/nodes/length?from=1&to=1")[1]["length"], 0)
+        self.assertLess(time.monotonic() - begun, LATE)
+        self.assertEqual(self.files(), files)
+        sizes = [resident(number) for number in (self.process.pid, *children_of(self.process.pid))]
+        self.assertEqual(len(sizes), 2, "the front and its worker")
+        return sizes
 
     def files(self) -> int:
         """How many files and connections the service has open, at the least in half a second: the last one may still be ending."""
