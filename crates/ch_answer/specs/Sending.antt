@@ -1,31 +1,62 @@
--- Which calls of a writer were made, where it is also flushed. A step of a flush is one call: it leads from what the writer
--- was to what it is, with the call's answer.
-use Rattle.std.specs.Prelude.{ℕ, suc, ⊤, ◌≡◌, ◌+◌, ◌≤◌, Result}
+-- Which calls of a writer were made, where it is also flushed, and what they returned.
+use Rattle.std.specs.Prelude.{ℕ, ⊤, ◌≡◌, ◌+◌, Result, Ok}
 use Rattle.std.specs.declared.io.Error.{Error}
+use Rattle.counted_io.specs.Calls.{EndsBy, FailsBy, StopsBy, Takings}
+use Rattle.counted_io.specs.declared.writing.WriteFault.{WriteFault}
 use Rattle.ch_answer.specs.declared.output.Lines.{Lines}
 pub mod Laws
 
--- This many calls offered the writer bytes, and this many flushed it, one after the other, whatever they answered.
-pub data Sends {S : Type 0} (step : S → S → Result ℕ Error → Type 0) (flush : S → S → Result ⊤ Error → Type 0) : ℕ → ℕ → S → S → Type 0 where
-  no_call : {a : S} → Sends step flush 0 0 a a
-  one_write : {writes flushes : ℕ} {a b c : S} {answer : Result ℕ Error} → Sends step flush writes flushes a b → step b c answer → Sends step flush (suc writes) flushes a c
-  one_flush : {writes flushes : ℕ} {a b c : S} {answer : Result ⊤ Error} → Sends step flush writes flushes a b → flush b c answer → Sends step flush writes (suc flushes) a c
+-- This many calls offered the writer bytes, of which it took this many, and this many calls flushed it, one after the other.
+-- None failed: each write took bytes or was interrupted, and each flush that was interrupted was made again until one
+-- returned `Ok`.
+pub data Sends {S : Type 0} (step : S → S → Result ℕ Error → Type 0) (flush : S → S → Result ⊤ Error → Type 0) : ℕ → ℕ → ℕ → S → S → Type 0 where
+  writes : {calls taken : ℕ} {a b : S} → Takings step calls taken a b → Sends step flush calls taken 0 a b
+  flushes : {calls : ℕ} {a b : S} → EndsBy flush calls a b (Ok tt) → Sends step flush 0 0 calls a b
+  one_then_other : {m n t u k l : ℕ} {a b c : S} → Sends step flush m t k a b → Sends step flush n u l b c → Sends step flush (m + n) (t + u) (k + l) a c
 
--- As many flushes were made as are gone of those that were left, and nothing was written.
-abbrev pub IsFlushed : {S : Type 0} → (S → S → Result ℕ Error → Type 0) → (S → S → Result ⊤ Error → Type 0) → ℕ → ℕ → S → S → Type 0
-IsFlushed step flush before after old new = (flushes : ℕ) × (before ≡ after + flushes) × Sends step flush 0 flushes old new
-
--- As many of either were made as are gone of those that were left.
-pub record IsSendingBy {S : Type 0} (step : S → S → Result ℕ Error → Type 0) (flush : S → S → Result ⊤ Error → Type 0) (left after left_flushes after_flushes : ℕ) (old new : S) : Type 0 where
+-- The same: as many of either as are gone of those that were left, and the count of written bytes grew by what was taken.
+pub record IsSendingBy {S : Type 0} (step : S → S → Result ℕ Error → Type 0) (flush : S → S → Result ⊤ Error → Type 0) (left after left_flushes after_flushes from to : ℕ) (old new : S) : Type 0 where
   pub writes : ℕ
+  pub taken : ℕ
   pub flushes : ℕ
   pub written : left ≡ after + writes
   pub flushed : left_flushes ≡ after_flushes + flushes
-  pub calls : Sends step flush writes flushes old new
+  pub counted : to ≡ from + taken
+  pub calls : Sends step flush writes taken flushes old new
 
 abbrev pub IsSending : {S : Type 0} → (S → S → Result ℕ Error → Type 0) → (S → S → Result ⊤ Error → Type 0) → Lines → Lines → S → S → Type 0
-IsSending step flush before after old new = IsSendingBy step flush before.calls.left after.calls.left before.flushes.left after.flushes.left old new
+IsSending step flush before after old new = IsSendingBy step flush before.calls.left after.calls.left before.flushes.left after.flushes.left before.calls.written after.calls.written old new
 
--- At most this many of either were made.
+-- At most this many of either were made, and none failed.
 abbrev pub IsSentWithin : {S : Type 0} → (S → S → Result ℕ Error → Type 0) → (S → S → Result ⊤ Error → Type 0) → ℕ → S → S → Type 0
-IsSentWithin step flush most old new = (writes : ℕ) × (flushes : ℕ) × (writes ≤ most) × (flushes ≤ most) × Sends step flush writes flushes old new
+IsSentWithin step flush most old new = (after : ℕ) × (after_flushes : ℕ) × (taken : ℕ) × IsSendingBy step flush most after most after_flushes 0 taken old new
+
+-- After calls that didn't fail a write stopped: its last call failed or took no byte, or no call was left.
+pub record StopsAtWrite {S : Type 0} (step : S → S → Result ℕ Error → Type 0) (flush : S → S → Result ⊤ Error → Type 0) (left left_flushes from to : ℕ) (old new : S) : Type 0 where
+  pub mid : ℕ
+  pub mid_flushes : ℕ
+  pub at : ℕ
+  pub before : S
+  pub sends : IsSendingBy step flush left mid left_flushes mid_flushes from at old before
+  pub calls : ℕ
+  pub after : ℕ
+  pub taken : ℕ
+  pub written : mid ≡ after + calls
+  pub counted : to ≡ at + taken
+  pub stops : StopsBy step calls after taken before new
+
+-- After calls that didn't fail a flush did: its last call failed, or no call was left.
+pub record StopsAtFlush {S : Type 0} (step : S → S → Result ℕ Error → Type 0) (flush : S → S → Result ⊤ Error → Type 0) (left left_flushes from : ℕ) (old new : S) : Type 0 where
+  pub mid : ℕ
+  pub mid_flushes : ℕ
+  pub at : ℕ
+  pub before : S
+  pub sends : IsSendingBy step flush left mid left_flushes mid_flushes from at old before
+  pub calls : ℕ
+  pub after : ℕ
+  pub flushed : mid_flushes ≡ after + calls
+  pub fails : FailsBy flush calls after before new
+
+-- Lines were passed to the writer until a write stopped, by which it had taken as many bytes as the fault says.
+abbrev pub IsStopped : {S : Type 0} → (S → S → Result ℕ Error → Type 0) → (S → S → Result ⊤ Error → Type 0) → Lines → S → S → WriteFault → Type 0
+IsStopped step flush before old new fault = StopsAtWrite step flush before.calls.left before.flushes.left before.calls.written fault.written old new

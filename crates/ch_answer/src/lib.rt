@@ -2,9 +2,9 @@
 //!
 //! Uses `ch_route` for routes, `counted_io` for the calls of writers, and `itoa` for decimals. What it is for is that a
 //! file of pairs and a service have the same words for a route: [`push_line`] appends the line of a pair and its route,
-//! and [`Lines`] gathers lines, for a writer that may be flushed by [`FlushCalls`]. `specs/Line.antt` says what a line is,
-//! `specs/File.antt` which bytes are the file of a hierarchy that was prepared from a graph's text, `specs/Written.antt` what
-//! it means that a writer took a text, and `specs/Sending.antt` which calls of it were made.
+//! and [`Lines`] gathers lines, for a writer that may be flushed. `specs/Line.antt` says what a line is, `specs/File.antt`
+//! which bytes are the file of a hierarchy that was prepared from a graph's text, `specs/Written.antt` what it means that a
+//! writer took a text, and `specs/Sending.antt` which calls of it were made and what they returned.
 //!
 //! Nodes are numbered from 0 inside, and from 1 in every text:
 //!
@@ -15,10 +15,8 @@
 //! ```
 #![tactic(auto)]
 
-mod flushing;
 mod line;
 mod output;
 
-pub use flushing::{FlushCalls, FlushFault, StepFlush};
 pub use line::{push_along, push_line, push_nodes, push_number};
 pub use output::Lines;

@@ -1,10 +1,9 @@
 ghost use Rattle.std.specs.Prelude.{◌≡◌, ◌<◌, ◌≤◌, ◌^◌, [], OnOk, IfErr, length, vec_capacity};
 ghost use Rattle.counted_io.specs.Handing.{HandsOn, HandsOnPart};
 ghost use Rattle.counted_io.specs.declared.TheConstants.{MOST_CALLS};
-ghost use Rattle.ch_answer.specs.Sending.{IsSending};
+ghost use Rattle.ch_answer.specs.Sending.{IsSending, IsStopped};
 
-use crate::flushing::{FlushCalls, StepFlush};
-use counted_io::{MOST_CALLS, WriteCalls, WriteFault};
+use counted_io::{FlushCalls, MOST_CALLS, StepFlush, WriteCalls, WriteFault};
 use std::alloc::Global;
 
 /// How many bytes are gathered before they are passed to the writer.
@@ -44,7 +43,8 @@ impl Lines {
         ensures ok { OnOk result (HandsOn (W.contents out.old) (W.contents out.new) self.old.lines.items self.new.lines.items self.old.calls.written self.new.calls.written) }
         ensures few { OnOk result (length self.new.lines.items < 2 ^ 16) }
         ensures err { IfErr result (λ fault. HandsOnPart (W.contents out.old) (W.contents out.new) self.old.lines.items self.old.calls.written fault.written) }
-        ensures sends { IsSending W.step W.flush_step self.old self.new out.old out.new }
+        ensures sends { OnOk result (IsSending W.step W.flush_step self.old self.new out.old out.new) }
+        ensures stopped { IfErr result (IsStopped W.step W.flush_step self.old out.old out.new) }
     {
         if self.lines.len() < PIECE {
             return Ok(());
@@ -58,7 +58,8 @@ impl Lines {
         ensures all { OnOk result (self.new.lines.items ≡ []) }
         ensures kept { OnOk result (vec_capacity self.new.lines ≤ 2 ^ 20) }
         ensures err { IfErr result (λ fault. HandsOnPart (W.contents out.old) (W.contents out.new) self.old.lines.items self.old.calls.written fault.written) }
-        ensures sends { IsSending W.step W.flush_step self.old self.new out.old out.new }
+        ensures sends { OnOk result (IsSending W.step W.flush_step self.old self.new out.old out.new) }
+        ensures stopped { IfErr result (IsStopped W.step W.flush_step self.old out.old out.new) }
     {
         self.calls.write(out, self.lines.as_slice())?;
         empty(&mut self.lines);

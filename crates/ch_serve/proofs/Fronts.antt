@@ -63,7 +63,7 @@ stops_by_file : (bytes : List ℕ) (had left old new : Option (List ℕ)) (h : H
 stops_by_file bytes had left old new h (stops.Hierarchy e) spells s = s
 stops_by_file bytes had left old new h stops.OutOfMemory spells s = s
 stops_by_file bytes had left old new h stops.Read spells s = (s.0, s.1, (s.2.0, record { hierarchy = h; spells = spells; served = s.2.1 }, s.2.2))
-stops_by_file bytes had left old new h (stops.Write fault) spells s = (s.0, s.1, (s.2.0, (s.2.1.0, record { hierarchy = h; spells = spells; served = s.2.1.1 }, s.2.1.2, s.2.1.3)))
+stops_by_file bytes had left old new h (stops.Write fault) spells s = (s.0, s.1, (s.2.0, s.2.1, (s.2.2.0, record { hierarchy = h; spells = spells; served = s.2.2.1 }, s.2.2.2, s.2.2.3)))
 stops_by_file bytes had left old new h stops.Flush spells s = (s.0, s.1, (s.2.0, s.2.1, (s.2.2.0, record { hierarchy = h; spells = spells; served = s.2.2.1 }, s.2.2.2)))
 
 pub stops_told : (r : Result ⊤ ServeError) (hier had left old new : Option (List ℕ)) (h : Hierarchy) → IfSome hier (λ bytes. Spells bytes h)

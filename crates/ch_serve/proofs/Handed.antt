@@ -1,5 +1,5 @@
 -- Requests that were replied to one after the other, while the replies go to the writer.
-use Rattle.std.proofs.Common.{ℕ, ◌≡◌, ◌+◌, cond, true, false, eqb, List, [], ◌∷◌, ◌++◌, take, codes, Option, Some, None, Result, Ok, Err, inr, arith, refl, ap, sym, subst, ◌∙◌, append_assoc, append-nil, length-append}
+use Rattle.std.proofs.Common.{ℕ, ◌≡◌, ◌≤◌, ◌+◌, cond, true, false, eqb, List, [], ◌∷◌, ◌++◌, take, codes, Option, Some, None, Result, Ok, Err, inr, arith, refl, ap, sym, subst, ◌∙◌, append_assoc, append-nil, length-append}
 use Rattle.std.specs.Prelude.{⊤, OnOk, IfErr}
 use Rattle.std.specs.Option.{option_to_list}
 use Rattle.std.specs.Io.KnownBytes.{Appends, Consumes, Keeps}
@@ -80,10 +80,11 @@ module _ (told : Told) where
     handed = once.handed;
   }
 
-  pub breaks_one : {request : Request} {old new : Option (List ℕ)} {lines : List ℕ} {from to : ℕ} (before after : List ℕ → List Request) → ((more : List ℕ) → before more ≡ request ∷ after more) → BreaksAt told request old new lines from to → Breaks told before old new lines from to
+  pub breaks_one : {request : Request} {old new : Option (List ℕ)} {lines : List ℕ} {from to : ℕ} (before after : List ℕ → List Request) → ((more : List ℕ) → before more ≡ request ∷ after more) → BreaksAt told request old new lines from to → Breaks told 1 before old new lines from to
   breaks_one {request} before after cuts at = record {
     asked = request ∷ [];
     cuts = λ more. (after more, cuts more);
+    many = omega arith;
     text = at.reply;
     replied = subst (AreReplies told (request ∷ [])) (append-nil at.reply) (one_more at.is nothing);
     handed = at.handed;
@@ -102,10 +103,11 @@ module _ (told : Told) where
     handed = subst (λ (l : List ℕ). HandsOn old new l last from to) (append_assoc lines h.text k.text) (hands_join (hands_more k.text h.handed) k.handed);
   }
 
-  pub breaks_then : {ended : ℕ} {before mid_asks : List ℕ → List Request} {old mid new : Option (List ℕ)} {lines rest : List ℕ} {from at to : ℕ} → Replies told ended before mid_asks old mid lines rest from at → Breaks told mid_asks mid new rest at to → Breaks told before old new lines from to
-  breaks_then {before = before} {old = old} {new = new} {lines = lines} {from = from} {to = to} h k = record {
+  pub breaks_then : {ended more_ended : ℕ} {before mid_asks : List ℕ → List Request} {old mid new : Option (List ℕ)} {lines rest : List ℕ} {from at to : ℕ} → Replies told ended before mid_asks old mid lines rest from at → Breaks told more_ended mid_asks mid new rest at to → Breaks told (ended + more_ended) before old new lines from to
+  breaks_then {ended} {more_ended} {before = before} {old = old} {new = new} {lines = lines} {from = from} {to = to} h k = record {
     asked = h.asked ++ k.asked;
     cuts = λ more. ((k.cuts more).0, h.cuts more ∙ ap (λ (l : List Request). h.asked ++ l) (k.cuts more).1 ∙ sym (append_assoc h.asked k.asked (k.cuts more).0));
+    many = omega (arith, h.many, k.many, length-append h.asked k.asked);
     text = h.text ++ k.text;
     replied = replies_append h.replied k.replied;
     handed = subst (λ (l : List ℕ). HandsOnPart old new l from to) (append_assoc lines h.text k.text) (part_join (hands_more k.text h.handed) k.handed);
@@ -117,8 +119,8 @@ module _ (told : Told) where
       → Replies told ended before after old new lines last from to
   replies_hand h k = record { asked = h.asked; cuts = h.cuts; many = h.many; text = h.text; replied = h.replied; handed = hands_join h.handed k }
 
-  pub breaks_hand : {ended : ℕ} {before after : List ℕ → List Request} {old mid new : Option (List ℕ)} {lines rest : List ℕ} {from at to : ℕ} → Replies told ended before after old mid lines rest from at → HandsOnPart mid new rest at to → Breaks told before old new lines from to
-  breaks_hand {after = after} h k = record { asked = h.asked; cuts = λ more. (after more, h.cuts more); text = h.text; replied = h.replied; handed = part_join h.handed k }
+  pub breaks_hand : {ended : ℕ} {before after : List ℕ → List Request} {old mid new : Option (List ℕ)} {lines rest : List ℕ} {from at to : ℕ} → Replies told ended before after old mid lines rest from at → HandsOnPart mid new rest at to → Breaks told ended before old new lines from to
+  breaks_hand {after = after} h k = record { asked = h.asked; cuts = λ more. (after more, h.cuts more); many = omega (arith, h.many); text = h.text; replied = h.replied; handed = part_join h.handed k }
 
   -- the same of requests that are given in another way
   pub replies_as : {ended : ℕ} {asks before after : List ℕ → List Request} {old new : Option (List ℕ)} {lines rest : List ℕ} {from to : ℕ} (count : ℕ)
@@ -133,10 +135,11 @@ module _ (told : Told) where
     handed = h.handed;
   }
 
-  pub breaks_as : {asks before : List ℕ → List Request} {old new : Option (List ℕ)} {lines : List ℕ} {from to : ℕ} → ((more : List ℕ) → before more ≡ asks more) → Breaks told asks old new lines from to → Breaks told before old new lines from to
-  breaks_as first h = record {
+  pub breaks_as : {ended : ℕ} {asks before : List ℕ → List Request} {old new : Option (List ℕ)} {lines : List ℕ} {from to : ℕ} (count : ℕ) → ended ≤ count → ((more : List ℕ) → before more ≡ asks more) → Breaks told ended asks old new lines from to → Breaks told count before old new lines from to
+  breaks_as {ended} count within first h = record {
     asked = h.asked;
     cuts = λ more. ((h.cuts more).0, first more ∙ (h.cuts more).1);
+    many = omega (arith, within, h.many);
     text = h.text;
     replied = h.replied;
     handed = h.handed;
@@ -163,6 +166,9 @@ feeds_both (b ∷ text) more =
       | true ↦ omega (arith, rest)
       | false ↦ omega (arith, rest)
     ]
+
+feeds_within : (text more : List ℕ) → line_feeds text + line_feeds more ≤ line_feeds (text ++ more)
+feeds_within text more = omega (arith, feeds_both text more)
 
 module _ (told : Told) where
   pub to_none : (had left : Option (List ℕ)) (asks : List ℕ → List Request) (old : Option (List ℕ)) (lines : List ℕ) (from : ℕ) → Keeps had left → RepliesTo told had left asks asks old old lines lines from from
@@ -192,7 +198,7 @@ module _ (told : Told) where
   breaks_in_then {had} {mid_left} {left} {before} {mid_asks} h k = record {
     bytes = h.bytes ++ k.bytes;
     consumed = consumes_then had mid_left left h.bytes k.bytes h.consumed k.consumed;
-    breaks = breaks_as told (λ more. ap before (append_assoc h.bytes k.bytes more)) (breaks_then told (shifted k.bytes h.replies) k.breaks);
+    breaks = breaks_as told (line_feeds (h.bytes ++ k.bytes)) (feeds_within h.bytes k.bytes) (λ more. ap before (append_assoc h.bytes k.bytes more)) (breaks_then told (shifted k.bytes h.replies) k.breaks);
   }
 
   pub read_then : {had mid_left left : Option (List ℕ)} {before mid_asks : List ℕ → List Request} {old mid new : Option (List ℕ)}
@@ -254,10 +260,11 @@ line_step {h} {now} {request = request} {here = here} next {mid = mid} {new = ne
 pub line_breaks : {h now : Hierarchy} {ended : ℕ} {request : Request} {before here : List ℕ → List Request} (next : List ℕ → List Request)
     {old mid new : Option (List ℕ)} {lines rest : List ℕ} {from at to : ℕ} → now ≡ h
     → Replies (by_hierarchy h) ended before here old mid lines rest from at → ((more : List ℕ) → here more ≡ request ∷ next more)
-    → BreaksAt (by_hierarchy now) request mid new rest at to → Breaks (by_hierarchy h) before old new lines from to
-line_breaks {h} {now} {request = request} {here = here} next {mid = mid} {new = new} {rest = rest} {at = at} {to = to} same so_far cuts breaks =
+    → BreaksAt (by_hierarchy now) request mid new rest at to → (count : ℕ) → ended + 1 ≤ count
+    → Breaks (by_hierarchy h) count before old new lines from to
+line_breaks {h} {now} {request = request} {here = here} next {mid = mid} {new = new} {rest = rest} {at = at} {to = to} same so_far cuts breaks count within =
     let known : BreaksAt (by_hierarchy h) request mid new rest at to = subst (λ (k : Hierarchy). BreaksAt (by_hierarchy k) request mid new rest at to) same breaks in
-    breaks_then (by_hierarchy h) so_far (breaks_one (by_hierarchy h) here next cuts known)
+    breaks_as (by_hierarchy h) count within (λ more. refl) (breaks_then (by_hierarchy h) so_far (breaks_one (by_hierarchy h) here next cuts known))
 
 -- A piece of a text
 
@@ -293,7 +300,7 @@ module _ (told : Told) where
   piece_breaks had left asks after bytes old mid new lines rest from at to none consumed replies part = record {
     bytes = bytes;
     consumed = consumed;
-    breaks = subst (λ (l : List ℕ). Breaks told (λ more. asks (bytes ++ more)) old new l from to) none (breaks_hand told replies part);
+    breaks = subst (λ (l : List ℕ). Breaks told (line_feeds bytes) (λ more. asks (bytes ++ more)) old new l from to) none (breaks_hand told replies part);
   }
 
   pub piece_unsent : (had left : Option (List ℕ)) (asks after : List ℕ → List Request) (bytes : List ℕ) (old mid new : Option (List ℕ))

@@ -1,5 +1,5 @@
 -- A whole service: the first line, the replies to all pieces, and the reply to a last line without its end.
-use Rattle.std.proofs.Common.{ℕ, ◌≡◌, ◌<◌, List, [], ◌++◌, length, take, Option, Some, None, Result, Ok, Err, arith, refl, ap, sym, subst, ◌∙◌, append-nil, length-append}
+use Rattle.std.proofs.Common.{ℕ, ◌≡◌, ◌<◌, List, [], ◌++◌, length, take, Option, Some, None, Result, Ok, Err, inl, inr, arith, refl, ap, sym, subst, ◌∙◌, append-nil, length-append}
 use Rattle.std.specs.Prelude.{⊤, IfErr, IfSome, OnOk}
 use Rattle.std.specs.Io.KnownBytes.{Appends, Consumes, IsAtEnd, Keeps}
 use Rattle.std.proofs.Math.Seq.{take-append_seam}
@@ -42,11 +42,11 @@ module _ (told : Told) (lines : List ℕ) where
     written asked text to same are h = (lines ++ text, record { replies = text; are = subst (λ (rs : List Request). AreReplies told rs text) (sym same) are; whole = refl }, all_given old new (lines ++ text) 0 to h)
 
     -- and where the writer failed at the first of them
-    written_first : (asked left : List Request) (text : List ℕ) (to : ℕ) → all ≡ asked ++ left → AreReplies told asked text → HandsOnPart old new (lines ++ text) 0 to → (count : ℕ) × WritesFirst (AreServed lines told (take count all)) old new to
+    written_first : (asked left : List Request) (text : List ℕ) (to : ℕ) → all ≡ asked ++ left → AreReplies told asked text → HandsOnPart old new (lines ++ text) 0 to → WritesFirst (AreServed lines told (take (length asked) all)) old new to
     written_first asked left text to same are part =
         let first : take (length asked) all ≡ asked = ap (take (length asked)) same ∙ take-append_seam asked left in
         let given = first_given old new (lines ++ text) to part in
-        (length asked, (lines ++ text, record { replies = text; are = subst (λ (rs : List Request). AreReplies told rs text) (sym first) are; whole = refl }, given.0, given.1))
+        (lines ++ text, record { replies = text; are = subst (λ (rs : List Request). AreReplies told rs text) (sym first) are; whole = refl }, given.0, given.1)
 
   -- the requests of a text from its beginning on
   module _ (n : ℕ) (asks : List ℕ → List Request) (begins : (text : List ℕ) → asks text ≡ requests_of n text) (had left : Option (List ℕ)) (old mid : Option (List ℕ)) (at : ℕ) (first : HandsOn old mid lines [] 0 at) where
@@ -72,30 +72,30 @@ module _ (told : Told) (lines : List ℕ) where
         )
 
     -- the writer failed at the last line
-    pub served_break : {after : List ℕ → List Request} {last new : Option (List ℕ)} {text : List ℕ} {mid_at : ℕ} (fault : WriteFault) → RepliesTo told had left asks after mid last [] [] at mid_at → AreReplies told (after []) text → HandsOnPart last new text mid_at fault.written
+    pub served_break : {after : List ℕ → List Request} {last new : Option (List ℕ)} {text : List ℕ} {mid_at : ℕ} (fault : WriteFault) → RepliesTo told had left asks after mid last [] [] at mid_at → AreReplies told (after []) text → HandsOnPart last new text mid_at fault.written → IsAtEnd left
         → StopsServing (λ count read. AreServed lines told (take count (requests_of n read))) had left old new (stops.Write fault)
-    served_break {after} {new = new} {text = text} fault h are part =
+    served_break {after} {new = new} {text = text} fault h are part ended =
         let r = h.replies in (
           h.bytes,
           h.consumed,
-          written_first (requests_of n h.bytes) old new (r.asked ++ after []) [] (r.text ++ text) fault.written (asked_of h.bytes ∙ r.cuts [] ∙ sym (append-nil (r.asked ++ after []))) (replies_append r.replied are) (behind_part (part_join (hands_more text r.handed) part)),
+          (length (r.asked ++ after []), inr ended, written_first (requests_of n h.bytes) old new (r.asked ++ after []) [] (r.text ++ text) fault.written (asked_of h.bytes ∙ r.cuts [] ∙ sym (append-nil (r.asked ++ after []))) (replies_append r.replied are) (behind_part (part_join (hands_more text r.handed) part))),
         )
 
     -- or it was to be sent and couldn't be
-    pub served_unsent : {after : List ℕ → List Request} {last : Option (List ℕ)} (new : Option (List ℕ)) {text : List ℕ} {mid_at : ℕ} (e : ServeError) → RepliesTo told had left asks after mid last [] [] at mid_at → AreReplies told (after []) text → IsUnsent last new text mid_at e
+    pub served_unsent : {after : List ℕ → List Request} {last : Option (List ℕ)} (new : Option (List ℕ)) {text : List ℕ} {mid_at : ℕ} (e : ServeError) → RepliesTo told had left asks after mid last [] [] at mid_at → AreReplies told (after []) text → IsUnsent last new text mid_at e → IsAtEnd left
         → StopsServing (λ count read. AreServed lines told (take count (requests_of n read))) had left old new e
-    served_unsent new (stops.Hierarchy e) h are k = absurd k
-    served_unsent new stops.OutOfMemory h are k = absurd k
-    served_unsent new stops.Read h are k = absurd k
-    served_unsent new (stops.Write fault) h are k = served_break fault h are k
-    served_unsent {after} new {text = text} stops.Flush h are k =
+    served_unsent new (stops.Hierarchy e) h are k ended = absurd k
+    served_unsent new stops.OutOfMemory h are k ended = absurd k
+    served_unsent new stops.Read h are k ended = absurd k
+    served_unsent new (stops.Write fault) h are k ended = served_break fault h are k ended
+    served_unsent {after} new {text = text} stops.Flush h are k ended =
         let r = h.replies in
         let all = r.asked ++ after [] in
         let same : requests_of n h.bytes ≡ all = asked_of h.bytes ∙ r.cuts [] in
         let first : take (length all) (requests_of n h.bytes) ≡ all = ap (take (length all)) (same ∙ sym (append-nil all)) ∙ take-append_seam all [] in (
           h.bytes,
           h.consumed,
-          (length all, omega (arith, r.many, length-append r.asked (after [])), written (take (length all) (requests_of n h.bytes)) old new all (r.text ++ text) k.0 first (replies_append r.replied are) (behind (hands_join (hands_more text r.handed) k.1))),
+          (length all, inr (ended, omega (arith, r.many, length-append r.asked (after []))), written (take (length all) (requests_of n h.bytes)) old new all (r.text ++ text) k.0 first (replies_append r.replied are) (behind (hands_join (hands_more text r.handed) k.1))),
         )
 
     -- the same of the call that replies to the last line
@@ -104,10 +104,10 @@ module _ (told : Told) (lines : List ℕ) where
     last_all (Err e) new to h k ended = tt
     last_all (Ok x) new to h k ended = served_all h k.1 k.2 ended
 
-    pub last_stop : (r : Result ⊤ ServeError) {after : List ℕ → List Request} {last : Option (List ℕ)} (new : Option (List ℕ)) {mid_at : ℕ} → RepliesTo told had left asks after mid last [] [] at mid_at → LastUnsent r told (after []) last new mid_at
+    pub last_stop : (r : Result ⊤ ServeError) {after : List ℕ → List Request} {last : Option (List ℕ)} (new : Option (List ℕ)) {mid_at : ℕ} → IsAtEnd left → RepliesTo told had left asks after mid last [] [] at mid_at → LastUnsent r told (after []) last new mid_at
         → IfErr r (StopsServing (λ count read. AreServed lines told (take count (requests_of n read))) had left old new)
-    last_stop (Ok x) new h k = tt
-    last_stop (Err e) new h k = served_unsent new e h k.1 k.2
+    last_stop (Ok x) new ended h k = tt
+    last_stop (Err e) new ended h k = served_unsent new e h k.1 k.2 ended
 
     -- it stopped among the pieces
     pub served_stop : (new : Option (List ℕ)) (e : ServeError) → StopsReplying told had left asks mid new [] at e → StopsServing (λ count read. AreServed lines told (take count (requests_of n read))) had left old new e
@@ -124,15 +124,15 @@ module _ (told : Told) (lines : List ℕ) where
         let r = s.replies in
         let same : requests_of n s.bytes ≡ r.asked ++ h.after [] = asked_of s.bytes ∙ r.cuts [] in
         let first : take (line_feeds s.bytes) (requests_of n s.bytes) ≡ r.asked = ap (λ (k : ℕ). take k (requests_of n s.bytes)) (sym r.many) ∙ ap (take (length r.asked)) same ∙ take-append_seam r.asked (h.after []) in
-        (s.bytes, s.consumed, (line_feeds s.bytes, omega arith, written (take (line_feeds s.bytes) (requests_of n s.bytes)) old new r.asked r.text h.to first r.replied (behind r.handed)))
+        (s.bytes, s.consumed, (line_feeds s.bytes, inl refl, written (take (line_feeds s.bytes) (requests_of n s.bytes)) old new r.asked r.text h.to first r.replied (behind r.handed)))
     served_stop new (stops.Write fault) h =
         let b = h.breaks in
-        (h.bytes, h.consumed, written_first (requests_of n h.bytes) old new b.asked (b.cuts []).0 b.text fault.written (asked_of h.bytes ∙ (b.cuts []).1) b.replied (behind_part b.handed))
+        (h.bytes, h.consumed, (length b.asked, inl b.many, written_first (requests_of n h.bytes) old new b.asked (b.cuts []).0 b.text fault.written (asked_of h.bytes ∙ (b.cuts []).1) b.replied (behind_part b.handed)))
 
   -- the writer failed at the first line
   pub first_break : (n : ℕ) (had left : Option (List ℕ)) (old new : Option (List ℕ)) (fault : WriteFault) → Keeps had left → HandsOnPart old new lines 0 fault.written → StopsServing (λ count read. AreServed lines told (take count (requests_of n read))) had left old new (stops.Write fault)
   first_break n had left old new fault keeps part =
-      ([], consumes_none had left keeps, written_first (requests_of n []) old new [] (requests_of n []) [] fault.written refl nothing (subst (λ (l : List ℕ). HandsOnPart old new l 0 fault.written) (sym (append-nil lines)) part))
+      ([], consumes_none had left keeps, (0, inl (omega arith), written_first (requests_of n []) old new [] (requests_of n []) [] fault.written refl nothing (subst (λ (l : List ℕ). HandsOnPart old new l 0 fault.written) (sym (append-nil lines)) part)))
 
   -- or it was to be sent and couldn't be
   pub first_unsent : (n : ℕ) (had left : Option (List ℕ)) (old new : Option (List ℕ)) (e : ServeError) → Keeps had left → IsUnsent old new lines 0 e → StopsServing (λ count read. AreServed lines told (take count (requests_of n read))) had left old new e
@@ -141,7 +141,7 @@ module _ (told : Told) (lines : List ℕ) where
   first_unsent n had left old new stops.Read keeps k = absurd k
   first_unsent n had left old new (stops.Write fault) keeps k = first_break n had left old new fault keeps k
   first_unsent n had left old new stops.Flush keeps k =
-      ([], consumes_none had left keeps, (0, omega arith, written (take 0 (requests_of n [])) old new [] [] k.0 refl nothing (subst (λ (l : List ℕ). HandsOn old new l [] 0 k.0) (sym (append-nil lines)) k.1)))
+      ([], consumes_none had left keeps, (0, inl refl, written (take 0 (requests_of n [])) old new [] [] k.0 refl nothing (subst (λ (l : List ℕ). HandsOn old new l [] 0 k.0) (sym (append-nil lines)) k.1)))
 
 -- all that the reader had was read
 pub read_whole : (P : List ℕ → Type 0) (had left : Option (List ℕ)) (read : List ℕ) → Consumes had left read → IsAtEnd left → P read → IfSome had P

@@ -1,6 +1,6 @@
 -- How far requests are replied to, while replies are gathered for the writer. `from` and `to` are how many bytes it had taken
 -- before and has taken after.
-use Rattle.std.specs.Prelude.{ℕ, ◌≡◌, List, [], ◌++◌, length, Option}
+use Rattle.std.specs.Prelude.{ℕ, ◌≡◌, ◌≤◌, List, [], ◌++◌, length, Option}
 use Rattle.std.specs.Io.KnownBytes.{Consumes}
 use Rattle.counted_io.specs.Handing.{HandsOn, HandsOnPart}
 use Rattle.grfile.specs.Taken.{line_feeds}
@@ -30,10 +30,11 @@ pub record Replies (told : Told) (ended : ℕ) (before after : List ℕ → List
   pub replied : AreReplies told asked text
   pub handed : HandsOn old new (lines ++ text) rest from to
 
--- the writer failed while the first of them were replied to
-pub record Breaks (told : Told) (before : List ℕ → List Request) (old new : Option (List ℕ)) (lines : List ℕ) (from to : ℕ) : Type 0 where
+-- the writer failed while the first of them were replied to, of lines that have ended
+pub record Breaks (told : Told) (ended : ℕ) (before : List ℕ → List Request) (old new : Option (List ℕ)) (lines : List ℕ) (from to : ℕ) : Type 0 where
   pub asked : List Request
   pub cuts : (more : List ℕ) → (left : List Request) × (before more ≡ asked ++ left)
+  pub many : length asked ≤ ended
   pub text : List ℕ
   pub replied : AreReplies told asked text
   pub handed : HandsOnPart old new (lines ++ text) from to
@@ -48,7 +49,7 @@ pub record RepliesTo (told : Told) (had left : Option (List ℕ)) (before after 
 pub record BreaksIn (told : Told) (had left : Option (List ℕ)) (before : List ℕ → List Request) (old new : Option (List ℕ)) (lines : List ℕ) (from to : ℕ) : Type 0 where
   pub bytes : List ℕ
   pub consumed : Consumes had left bytes
-  pub breaks : Breaks told (λ more. before (bytes ++ more)) old new lines from to
+  pub breaks : Breaks told (line_feeds bytes) (λ more. before (bytes ++ more)) old new lines from to
 
 -- nothing is left to pass on of the replies to the lines that end in what the reader gave
 pub record StopsAtRead (told : Told) (had left : Option (List ℕ)) (before : List ℕ → List Request) (old new : Option (List ℕ)) (lines : List ℕ) (from : ℕ) : Type 0 where

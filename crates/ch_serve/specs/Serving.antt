@@ -1,12 +1,14 @@
 -- Replies to all requests of a text, by the file of a hierarchy.
-use Rattle.std.specs.Prelude.{ℕ, ◌≡◌, ◌≤◌, ⊤, List, ◌++◌, length, take, codes, Option, Some, Ok}
-use Rattle.std.specs.Io.KnownBytes.{Consumes, Keeps}
+use Rattle.std.specs.Prelude.{ℕ, ◌≡◌, ◌≤◌, ◌⊎◌, ⊤, List, ◌++◌, length, take, codes, Option, Some, Result, Ok}
+use Rattle.std.specs.Io.KnownBytes.{Consumes, IsAtEnd, Keeps}
+use Rattle.std.specs.declared.io.Error.{Error}
 use Rattle.ch_graph.specs.Graph.{Graph}
 use Rattle.ch_graph.specs.Hierarchy.{Hierarchy}
 use Rattle.ch_graph.specs.declared.version.Version.{Version}
 use Rattle.ch_graph.specs.declared.version.Version.TheVariants.{One, Two}
 use Rattle.ch_route.specs.Routes.{Route, IsFewestWalk, IsLeastWalk}
 use Rattle.ch_answer.specs.File.{PreparesIn, Spells}
+use Rattle.ch_answer.specs.Sending.{IsSendingBy, StopsAtFlush, StopsAtWrite}
 use Rattle.ch_answer.specs.Written.{Writes, WritesFirst}
 use Rattle.grfile.specs.Reading.{graph_of}
 use Rattle.grfile.specs.Requests.{requests_of}
@@ -48,14 +50,27 @@ pub record ServesOver (IsRoute : Graph → ℕ → ℕ → Option Route → Type
 
 -- What a service has done that ended before its requests did: nothing, where the hierarchy or memory for it was refused.
 -- Where the requests couldn't be read, it has replied to all lines that end in the bytes that were read; where the replies
--- couldn't be written, the writer has taken the first part of replies to first requests of those bytes; and where it couldn't
--- be flushed, it has taken the replies to all lines that end in them, and at the reader's end perhaps to the last line too.
+-- couldn't be written, the writer has taken the first part of replies to first lines that end in them; and where it couldn't be
+-- flushed, it has taken the replies to all of these lines. A reply to a line that hasn't ended is among them only at the
+-- reader's end.
 abbrev pub StopsServing : (ℕ → List ℕ → List ℕ → Type 0) → Option (List ℕ) → Option (List ℕ) → Option (List ℕ) → Option (List ℕ) → ServeError → Type 0
 StopsServing P had left old new (stops.Hierarchy e) = Keeps old new
 StopsServing P had left old new stops.OutOfMemory = Keeps old new
 StopsServing P had left old new stops.Read = (read : List ℕ) × Consumes had left read × Writes (P (line_feeds read) read) old new
-StopsServing P had left old new (stops.Write fault) = (read : List ℕ) × Consumes had left read × ((count : ℕ) × WritesFirst (P count read) old new fault.written)
-StopsServing P had left old new stops.Flush = (read : List ℕ) × Consumes had left read × ((count : ℕ) × (line_feeds read ≤ count) × Writes (P count read) old new)
+StopsServing P had left old new (stops.Write fault) = (read : List ℕ) × Consumes had left read × ((count : ℕ) × ((count ≤ line_feeds read) ⊎ IsAtEnd left) × WritesFirst (P count read) old new fault.written)
+StopsServing P had left old new stops.Flush = (read : List ℕ) × Consumes had left read × ((count : ℕ) × ((count ≡ line_feeds read) ⊎ (IsAtEnd left × (line_feeds read ≤ count))) × Writes (P count read) old new)
+
+-- Which calls of the writer were made by a service that ended before its requests did: `Write` says that a write failed, and
+-- `Flush` that a flush did, each by its last call, or since no call was left. Else no call failed.
+abbrev pub IsSent : {S : Type 0} → (S → S → Result ℕ Error → Type 0) → (S → S → Result ⊤ Error → Type 0) → ℕ → ℕ → ℕ → S → S → Type 0
+IsSent step flush left left_flushes from old new = (after : ℕ) × (after_flushes : ℕ) × (to : ℕ) × IsSendingBy step flush left after left_flushes after_flushes from to old new
+
+abbrev pub StopsSending : {S : Type 0} → (S → S → Result ℕ Error → Type 0) → (S → S → Result ⊤ Error → Type 0) → ℕ → ℕ → ℕ → S → S → ServeError → Type 0
+StopsSending step flush left left_flushes from old new (stops.Hierarchy e) = IsSent step flush left left_flushes from old new
+StopsSending step flush left left_flushes from old new stops.OutOfMemory = IsSent step flush left left_flushes from old new
+StopsSending step flush left left_flushes from old new stops.Read = IsSent step flush left left_flushes from old new
+StopsSending step flush left left_flushes from old new (stops.Write fault) = StopsAtWrite step flush left left_flushes from fault.written old new
+StopsSending step flush left left_flushes from old new stops.Flush = StopsAtFlush step flush left left_flushes from old new
 
 -- by a hierarchy in memory, replies to the first requests
 abbrev pub ServedFirst : Hierarchy → ℕ → List ℕ → List ℕ → Type 0

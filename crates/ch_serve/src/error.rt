@@ -2,8 +2,7 @@ ghost use Rattle.std.specs.Prelude.{◌≡◌, Some};
 ghost use Rattle.ch_serve.specs.Serving.{shown};
 ghost use Rattle.ch_serve.specs.declared.error.ServeError.TheVariants.{Flush, Hierarchy, OutOfMemory, Read, Write};
 
-use ch_answer::FlushFault;
-use counted_io::{ReadFault, WriteFault};
+use counted_io::{FlushFault, ReadFault, WriteFault};
 use hierfile::HierError;
 use std::alloc::{AllocError, AllocFailed};
 use std::error::Error;

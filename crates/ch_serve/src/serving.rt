@@ -1,4 +1,4 @@
-ghost use Rattle.std.specs.Prelude.{◌≡◌, ◌<◌, ◌++◌, ℕ, List, [], false, take, length, OnOk, IfOk, IfErr, IfSome};
+ghost use Rattle.std.specs.Prelude.{◌≡◌, ◌<◌, ◌^◌, ◌++◌, ℕ, List, [], false, take, length, OnOk, IfOk, IfErr, IfSome};
 ghost use Rattle.std.specs.Io.KnownBytes.{Consumes, IsAtEnd};
 ghost use Rattle.counted_io.specs.Handing.{HandsOn};
 ghost use Rattle.counted_io.specs.Limits.{IsRead, IsReadWithin, ReadsWithin};
@@ -6,7 +6,7 @@ ghost use Rattle.counted_io.specs.declared.TheConstants.{MOST_CALLS};
 ghost use Rattle.ch_route.specs.Routes.{IsFewestWalk, IsLeastWalk};
 ghost use Rattle.ch_graph.specs.declared.version.Version.TheVariants.{One, Two};
 ghost use Rattle.ch_answer.specs.File.{PreparesIn};
-ghost use Rattle.ch_answer.specs.Sending.{IsSending, IsSentWithin};
+ghost use Rattle.ch_answer.specs.Sending.{IsSending, IsSentWithin, IsStopped};
 ghost use Rattle.ch_answer.specs.Written.{IfTold, Writes};
 ghost use Rattle.grfile.specs.Requests.{IsInRange, requests_of, requests_with};
 ghost use Rattle.grfile.specs.Taken.{line_feeds};
@@ -14,17 +14,17 @@ ghost use Rattle.hierfile.specs.declared.error.HierError.TheVariants as faults;
 ghost use Rattle.ch_serve.specs.declared.error.ServeError.TheVariants as stop;
 ghost use Rattle.ch_serve.specs.Progress.{Breaks, BreaksAt, IsUnsent, Replies, RepliesOnce, RepliesTo, StopsReplying};
 ghost use Rattle.ch_serve.specs.Reply.{AreReplies, by_hierarchy, ready};
-ghost use Rattle.ch_serve.specs.Serving.{AreServed, IsFileFault, IsOwn, KeepsBefore, ServedFirst, Serves, ServesFirst, ServesOver, StopsServing};
+ghost use Rattle.ch_serve.specs.Serving.{AreServed, IsFileFault, IsOwn, KeepsBefore, ServedFirst, Serves, ServesFirst, ServesOver, StopsSending, StopsServing};
 
 use crate::error::ServeError;
 use crate::laws::services_are_exact;
 use crate::line::push_ready;
 use crate::replying::push_reply;
 use crate::sending::send;
-use ch_answer::{Lines, StepFlush};
+use ch_answer::Lines;
 use ch_graph::Hierarchy;
 use ch_route::Router;
-use counted_io::{MOST_CALLS, ReadCalls, StepRead, WriteFault};
+use counted_io::{MOST_CALLS, ReadCalls, StepFlush, StepRead, WriteFault};
 use grfile::{Request, RequestReader};
 use std::alloc::Global;
 
@@ -69,10 +69,12 @@ pub fn serve<H: StepRead, Q: StepRead, W: StepFlush>(
     ensures file_stopped { IfErr result (λ e. ReadsWithin H.step MOST_CALLS (e ≡ stop.Hierarchy faults.Read) hier.old hier.new) }
     ensures calls { OnOk result (IsReadWithin Q.step MOST_CALLS requests.old requests.new) }
     ensures stopped { IfErr result (λ e. ReadsWithin Q.step MOST_CALLS (e ≡ stop.Read) requests.old requests.new) }
-    ensures sends { IsSentWithin W.step W.flush_step MOST_CALLS out.old out.new }
+    ensures sends { OnOk result (IsSentWithin W.step W.flush_step MOST_CALLS out.old out.new) }
+    ensures unsent { IfErr result (StopsSending W.step W.flush_step MOST_CALLS MOST_CALLS 0 out.old out.new) }
 {
     services_are_exact();
     let hierarchy = hierfile::read(alloc, hier)?;
+    let _well_made = hierarchy.nodes();
     serve_by(alloc, &hierarchy, requests, out)
 }
 
@@ -89,7 +91,8 @@ pub fn serve_by<Q: StepRead, W: StepFlush>(
     ensures own { IfErr result IsOwn }
     ensures calls { OnOk result (IsReadWithin Q.step MOST_CALLS requests.old requests.new) }
     ensures stopped { IfErr result (λ e. ReadsWithin Q.step MOST_CALLS (e ≡ stop.Read) requests.old requests.new) }
-    ensures sends { IsSentWithin W.step W.flush_step MOST_CALLS out.old out.new }
+    ensures sends { OnOk result (IsSentWithin W.step W.flush_step MOST_CALLS out.old out.new) }
+    ensures unsent { IfErr result (StopsSending W.step W.flush_step MOST_CALLS MOST_CALLS 0 out.old out.new) }
 {
     let mut router = Router::new(alloc, hierarchy)?;
     let mut output = Lines::new(alloc);
@@ -112,7 +115,8 @@ fn serve_all<Q: StepRead, W: StepFlush>(
     ensures own { IfErr result IsOwn }
     ensures calls { OnOk result (IsReadWithin Q.step MOST_CALLS requests.old requests.new) }
     ensures stopped { IfErr result (λ e. ReadsWithin Q.step MOST_CALLS (e ≡ stop.Read) requests.old requests.new) }
-    ensures sends { IsSending W.step W.flush_step output.old output.new out.old out.new }
+    ensures sends { OnOk result (IsSending W.step W.flush_step output.old output.new out.old out.new) }
+    ensures unsent { IfErr result (StopsSending W.step W.flush_step output.old.calls.left output.old.flushes.left output.old.calls.written out.old out.new) }
 {
     send(output, out)?;
     let mut reader = RequestReader::new(router.nodes());
@@ -133,7 +137,8 @@ fn reply_to_last<W: StepFlush>(
         × HandsOn (W.contents out.old) (W.contents out.new) text [] output.old.calls.written output.new.calls.written) }
     ensures err { IfErr result (λ e. (text : List ℕ) × AreReplies (by_hierarchy router.old) (requests_with reader.now []) text
         × IsUnsent (W.contents out.old) (W.contents out.new) text output.old.calls.written e) }
-    ensures sends { IsSending W.step W.flush_step output.old output.new out.old out.new }
+    ensures sends { OnOk result (IsSending W.step W.flush_step output.old output.new out.old out.new) }
+    ensures unsent { IfErr result (StopsSending W.step W.flush_step output.old.calls.left output.old.flushes.left output.old.calls.written out.old out.new) }
 {
     let Some(request) = reader.last() else {
         return Ok(());
@@ -142,7 +147,8 @@ fn reply_to_last<W: StepFlush>(
     send(output, out)
 }
 
-// Replies to one request. Where memory for the reply runs out, that is reported in its place.
+// Replies to one request. Where memory for the reply runs out, that is reported in its place. Fewer than 64 KiB of replies are
+// kept back.
 fn reply<W: StepFlush>(
     router: &mut Router<'_>,
     request: &Request,
@@ -153,7 +159,9 @@ fn reply<W: StepFlush>(
     ensures ok { OnOk result (RepliesOnce (by_hierarchy router.old) request.now (W.contents out.old) (W.contents out.new) output.old.lines.items output.new.lines.items output.old.calls.written output.new.calls.written) }
     ensures err { IfErr result (λ fault. BreaksAt (by_hierarchy router.old) request.now (W.contents out.old) (W.contents out.new) output.old.lines.items output.old.calls.written fault.written) }
     ensures kept { router.new ≡ router.old }
-    ensures sends { IsSending W.step W.flush_step output.old output.new out.old out.new }
+    ensures few { OnOk result (length output.new.lines.items < 2 ^ 16) }
+    ensures sends { OnOk result (IsSending W.step W.flush_step output.old output.new out.old out.new) }
+    ensures stopped { IfErr result (IsStopped W.step W.flush_step output.old out.old out.new) }
 {
     let Err(_) = push_reply(router, request, &mut output.lines) else {
         return output.hand_over_if_many(out);
@@ -171,13 +179,16 @@ fn reply_to_lines<W: StepFlush>(
     out: &mut W,
 ) -> Result<(), WriteFault>
     requires nodes { reader.old.nodes ≡ length router.old.ranks }
+    requires few { length output.old.lines.items < 2 ^ 16 }
     ensures ok { OnOk result (Replies (by_hierarchy router.old) (line_feeds piece.now) (λ more. requests_with reader.old (piece.now ++ more)) (requests_with reader.new)
         (W.contents out.old) (W.contents out.new) output.old.lines.items output.new.lines.items output.old.calls.written output.new.calls.written) }
-    ensures err { IfErr result (λ fault. Breaks (by_hierarchy router.old) (λ more. requests_with reader.old (piece.now ++ more))
+    ensures err { IfErr result (λ fault. Breaks (by_hierarchy router.old) (line_feeds piece.now) (λ more. requests_with reader.old (piece.now ++ more))
         (W.contents out.old) (W.contents out.new) output.old.lines.items output.old.calls.written fault.written) }
     ensures nodes { reader.new.nodes ≡ reader.old.nodes }
     ensures kept { router.new ≡ router.old }
-    ensures sends { IsSending W.step W.flush_step output.old output.new out.old out.new }
+    ensures few { OnOk result (length output.new.lines.items < 2 ^ 16) }
+    ensures sends { OnOk result (IsSending W.step W.flush_step output.old output.new out.old out.new) }
+    ensures stopped { IfErr result (IsStopped W.step W.flush_step output.old out.old out.new) }
 {
     let mut rest = piece;
     'lines: while let Some(asked) = reader.next(rest) {
@@ -213,7 +224,8 @@ fn serve_piece<Q: StepRead, W: StepFlush>(
     ensures kept { router.new ≡ router.old }
     ensures calls { OnOk result (IsRead Q.step calls.old.left calls.new.left requests.old requests.new) }
     ensures stopped { IfErr result (λ e. ReadsWithin Q.step calls.old.left (e ≡ stop.Read) requests.old requests.new) }
-    ensures sends { IsSending W.step W.flush_step output.old output.new out.old out.new }
+    ensures sends { OnOk result (IsSending W.step W.flush_step output.old output.new out.old out.new) }
+    ensures unsent { IfErr result (StopsSending W.step W.flush_step output.old.calls.left output.old.flushes.left output.old.calls.written out.old out.new) }
 {
     let count = calls.read(requests, piece)?;
     if count == 0 {
@@ -244,7 +256,8 @@ fn serve_pieces<Q: StepRead, W: StepFlush>(
     ensures kept { router.new ≡ router.old }
     ensures calls { OnOk result (IsReadWithin Q.step MOST_CALLS requests.old requests.new) }
     ensures stopped { IfErr result (λ e. ReadsWithin Q.step MOST_CALLS (e ≡ stop.Read) requests.old requests.new) }
-    ensures sends { IsSending W.step W.flush_step output.old output.new out.old out.new }
+    ensures sends { OnOk result (IsSending W.step W.flush_step output.old output.new out.old out.new) }
+    ensures unsent { IfErr result (StopsSending W.step W.flush_step output.old.calls.left output.old.flushes.left output.old.calls.written out.old out.new) }
 {
     let mut calls = ReadCalls::new(MOST_CALLS);
     let mut piece = [0u8; PIECE];

@@ -1,4 +1,4 @@
-use Rattle.std.proofs.Common.{◌≡◌, ◌+◌, ◌++◌, List, ℕ, length}
+use Rattle.std.proofs.Common.{◌≡◌, ◌+◌, ◌++◌, ◌<◌, ◌^◌, List, ℕ, length}
 use Rattle.grfile.specs.Requests.{requests_with}
 use Rattle.grfile.specs.Taken.{line_feeds}
 use Rattle.ch_serve.specs.Progress.{Replies}
@@ -16,6 +16,7 @@ invariant-lines g l =
           × Replies (by_hierarchy l.fn.router) ended (λ (more : List ℕ). requests_with l.fn.reader (l.fn.piece ++ more))
           (λ (more : List ℕ). requests_with l.reader (l.rest ++ more)) (contents l.fn.out)
           (contents l.out) l.fn.output.lines.items l.output.lines.items l.fn.output.calls.written l.output.calls.written);
+      few : length l.output.lines.items < 2 ^ 16;
       sends : IsSending g.W.StepWrite.step g.W.StepFlush.flush_step l.fn.output l.output l.fn.out l.out;
     }
 

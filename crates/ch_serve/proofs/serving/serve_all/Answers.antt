@@ -10,6 +10,7 @@ use Rattle.ch_serve.proofs.Served.{LastReplied, LastUnsent, first_unsent, last_a
 use Rattle.counted_io.specs.declared.TheConstants.{MOST_CALLS}
 use Rattle.ch_answer.specs.Sending.Laws.{sending_then}
 use Rattle.ch_serve.proofs.Called.{always_ok, last_read, unread, unsent_no_read}
+use Rattle.ch_serve.proofs.Called.{sends_after, stops_after, stops_then_after}
 use Rattle.ch_serve.proofs.serving.serve_all.Goals as goal
 
 pub returns-in_err-send-clause-err : goal.returns-in_err-send-clause-err
@@ -60,7 +61,7 @@ returns-clause-err g c =
     let new = g.W.Write.contents c.reply_to_last.new.out in
     let from = c.serve_pieces.new.output.calls.written in
     let unsent = subst (λ (h : Hierarchy). LastUnsent c.reply_to_last.result (by_hierarchy h) asks last new from) c.in_ok-serve_pieces.ensures.kept c.reply_to_last.ensures.err in
-    last_stop (by_hierarchy c.args.router.now) lines _ (requests_with c.new-reader.result) (λ text. c.new-reader.ensures.told text ∙ ap (λ (n : ℕ). requests_of n text) c.nodes.ensures.count) _ _ old mid at first c.reply_to_last.result new c.in_ok-serve_pieces.ensures.ok
+    last_stop (by_hierarchy c.args.router.now) lines _ (requests_with c.new-reader.result) (λ text. c.new-reader.ensures.told text ∙ ap (λ (n : ℕ). requests_of n text) c.nodes.ensures.count) _ _ old mid at first c.reply_to_last.result new c.in_ok-serve_pieces.ensures.ended c.in_ok-serve_pieces.ensures.ok
     unsent
 
 pub returns-in_err-send-clause-stopped : goal.returns-in_err-send-clause-stopped
@@ -73,14 +74,24 @@ returns-in_err-serve_pieces-clause-stopped g c =
     let exit = err_from_is_err_and c.from_residual-in_err-serve_pieces.result c.from_residual-in_err-serve_pieces.ensures.1 in
     rw (exit.1, exit.2) c.in_err-serve_pieces.ensures.stopped
 
-pub returns-in_err-serve_pieces-clause-sends : goal.returns-in_err-serve_pieces-clause-sends
-returns-in_err-serve_pieces-clause-sends g c = sending_then g.W.StepWrite.step g.W.StepFlush.flush_step c.send.ensures.sends c.serve_pieces.ensures.sends
-
 pub returns-clause-calls : goal.returns-clause-calls
 returns-clause-calls g c = always_ok c.reply_to_last.result c.in_ok-serve_pieces.ensures.calls
 
 pub returns-clause-stopped : goal.returns-clause-stopped
 returns-clause-stopped g c = last_read g.Q.StepRead.step MOST_CALLS c.reply_to_last.result _ _ _ _ _ c.in_ok-serve_pieces.ensures.calls c.reply_to_last.ensures.err
 
+pub returns-in_err-send-clause-unsent : goal.returns-in_err-send-clause-unsent
+returns-in_err-send-clause-unsent g c =
+    let exit = err_from_is_err_and c.from_residual.result c.from_residual.ensures.1 in
+    rw (exit.1, exit.2) (c.in_err-send.ensures.unsent)
+
+pub returns-in_err-serve_pieces-clause-unsent : goal.returns-in_err-serve_pieces-clause-unsent
+returns-in_err-serve_pieces-clause-unsent g c =
+    let exit = err_from_is_err_and c.from_residual-in_err-serve_pieces.result c.from_residual-in_err-serve_pieces.ensures.1 in
+    rw (exit.1, exit.2) (stops_then_after g.W.StepWrite.step g.W.StepFlush.flush_step _ _ c.in_ok-send.ensures.sends c.in_err-serve_pieces.ensures.unsent)
+
 pub returns-clause-sends : goal.returns-clause-sends
-returns-clause-sends g c = sending_then g.W.StepWrite.step g.W.StepFlush.flush_step c.send.ensures.sends (sending_then g.W.StepWrite.step g.W.StepFlush.flush_step c.serve_pieces.ensures.sends c.reply_to_last.ensures.sends)
+returns-clause-sends g c = sends_after g.W.StepWrite.step g.W.StepFlush.flush_step c.reply_to_last.result _ _ _ _ (sending_then g.W.StepWrite.step g.W.StepFlush.flush_step c.in_ok-send.ensures.sends c.in_ok-serve_pieces.ensures.sends) c.reply_to_last.ensures.sends
+
+pub returns-clause-unsent : goal.returns-clause-unsent
+returns-clause-unsent g c = stops_after g.W.StepWrite.step g.W.StepFlush.flush_step c.reply_to_last.result _ (sending_then g.W.StepWrite.step g.W.StepFlush.flush_step c.in_ok-send.ensures.sends c.in_ok-serve_pieces.ensures.sends) c.reply_to_last.ensures.unsent

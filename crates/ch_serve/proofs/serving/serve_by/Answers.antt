@@ -4,8 +4,8 @@ use Rattle.ch_serve.specs.Reply.{ready}
 use Rattle.ch_serve.proofs.Fronts.{by_front}
 use Rattle.ch_serve.proofs.Handed.{keeps_all}
 use Rattle.counted_io.specs.declared.TheConstants.{MOST_CALLS}
-use Rattle.ch_answer.specs.Sending.Laws.{sent_within}
-use Rattle.ch_serve.proofs.Called.{memory_no_read, unread, unsent}
+use Rattle.ch_serve.proofs.Called.{memory_no_read, unread}
+use Rattle.ch_serve.proofs.Called.{all_sent, nothing_sent, stops_from}
 use Rattle.ch_serve.proofs.serving.serve_by.Goals as goal
 
 pub returns-in_err-push_ready-clause-stops : goal.returns-in_err-push_ready-clause-stops
@@ -22,16 +22,23 @@ returns-in_err-router-clause-stopped g c =
     let exit = err_from_is_err_and c.from_residual.result c.from_residual.ensures.1 in
     rw (exit.1, exit.2) (unread g.Q.StepRead.step MOST_CALLS _ _ memory_no_read)
 
-pub returns-in_err-router-clause-sends : goal.returns-in_err-router-clause-sends
-returns-in_err-router-clause-sends g c = unsent g.W.StepWrite.step g.W.StepFlush.flush_step MOST_CALLS _
-
 pub returns-in_err-push_ready-clause-stopped : goal.returns-in_err-push_ready-clause-stopped
 returns-in_err-push_ready-clause-stopped g c =
     let exit = err_from_is_err_and c.from_residual-in_err-push_ready.result c.from_residual-in_err-push_ready.ensures.1 in
     rw (exit.1, exit.2) (unread g.Q.StepRead.step MOST_CALLS _ _ memory_no_read)
 
-pub returns-in_err-push_ready-clause-sends : goal.returns-in_err-push_ready-clause-sends
-returns-in_err-push_ready-clause-sends g c = unsent g.W.StepWrite.step g.W.StepFlush.flush_step MOST_CALLS _
+pub returns-in_err-router-clause-unsent : goal.returns-in_err-router-clause-unsent
+returns-in_err-router-clause-unsent g c =
+    let exit = err_from_is_err_and c.from_residual.result c.from_residual.ensures.1 in
+    rw (exit.1, exit.2) (nothing_sent g.W.StepWrite.step g.W.StepFlush.flush_step MOST_CALLS _)
+
+pub returns-in_err-push_ready-clause-unsent : goal.returns-in_err-push_ready-clause-unsent
+returns-in_err-push_ready-clause-unsent g c =
+    let exit = err_from_is_err_and c.from_residual-in_err-push_ready.result c.from_residual-in_err-push_ready.ensures.1 in
+    rw (exit.1, exit.2) (nothing_sent g.W.StepWrite.step g.W.StepFlush.flush_step MOST_CALLS _)
 
 pub returns-clause-sends : goal.returns-clause-sends
-returns-clause-sends g c = sent_within g.W.StepWrite.step g.W.StepFlush.flush_step MOST_CALLS c.new-output.ensures.left c.new-output.ensures.flushes c.serve_all.ensures.sends
+returns-clause-sends g c = all_sent g.W.StepWrite.step g.W.StepFlush.flush_step MOST_CALLS c.serve_all.result _ _ _ _ _ c.new-output.ensures.left c.new-output.ensures.flushes c.new-output.ensures.written c.serve_all.ensures.sends
+
+pub returns-clause-unsent : goal.returns-clause-unsent
+returns-clause-unsent g c = stops_from g.W.StepWrite.step g.W.StepFlush.flush_step MOST_CALLS c.serve_all.result _ _ c.new-output.ensures.left c.new-output.ensures.flushes c.new-output.ensures.written c.serve_all.ensures.unsent

@@ -5,8 +5,9 @@ use Rattle.ch_serve.specs.Reply.{by_hierarchy}
 use Rattle.ch_serve.proofs.Handed.{piece_served, piece_unsent, read_stop, to_nothing}
 use Rattle.counted_io.specs.Limits.{gives_out}
 use Rattle.counted_io.specs.Limits.Laws.{gave_out, read_by, refused_after}
-use Rattle.ch_answer.specs.Sending.Laws.{sending_none, sending_then}
 use Rattle.ch_serve.proofs.Called.{unsent_no_read, write_no_read}
+use Rattle.ch_serve.proofs.Called.{stops_then_after}
+use Rattle.ch_answer.specs.Sending.Laws.{sending_none, sending_then}
 use Rattle.ch_serve.proofs.serving.serve_piece.Goals as goal
 
 pub returns-in_err-count-clause-err : goal.returns-in_err-count-clause-err
@@ -34,14 +35,8 @@ returns-in_err-count-clause-stopped g c =
     let exit = err_from_is_err_and c.from_residual.result c.from_residual.ensures.1 in
     rw (exit.1, exit.2) (gives_out refl (gave_out g.Q.StepRead.step _ _ c.in_err-count.ensures.failed))
 
-pub returns-in_err-count-clause-sends : goal.returns-in_err-count-clause-sends
-returns-in_err-count-clause-sends g c = sending_none g.W.StepWrite.step g.W.StepFlush.flush_step _ _ _
-
 pub returns-then-count-eq0-clause-calls : goal.returns-then-count-eq0-clause-calls
 returns-then-count-eq0-clause-calls g c = read_by g.Q.StepRead.step _ _ _ c.in_ok-count.ensures.given
-
-pub returns-then-count-eq0-clause-sends : goal.returns-then-count-eq0-clause-sends
-returns-then-count-eq0-clause-sends g c = sending_none g.W.StepWrite.step g.W.StepFlush.flush_step _ _ _
 
 pub returns-in_err-reply_to_lines-clause-stopped : goal.returns-in_err-reply_to_lines-clause-stopped
 returns-in_err-reply_to_lines-clause-stopped g c =
@@ -53,11 +48,26 @@ returns-in_err-send-clause-stopped g c =
     let exit = err_from_is_err_and c.from_residual-in_err-send.result c.from_residual-in_err-send.ensures.1 in
     rw (exit.1, exit.2) (refused_after g.Q.StepRead.step (read_by g.Q.StepRead.step _ _ _ c.in_ok-count.ensures.given) (unsent_no_read _ _ _ _ _ c.in_err-send.ensures.err))
 
-pub returns-in_err-send-clause-sends : goal.returns-in_err-send-clause-sends
-returns-in_err-send-clause-sends g c = sending_then g.W.StepWrite.step g.W.StepFlush.flush_step c.reply_to_lines.ensures.sends c.send.ensures.sends
-
 pub returns-clause-calls : goal.returns-clause-calls
 returns-clause-calls g c = read_by g.Q.StepRead.step _ _ _ c.in_ok-count.ensures.given
 
+pub returns-in_err-count-clause-unsent : goal.returns-in_err-count-clause-unsent
+returns-in_err-count-clause-unsent g c =
+    let exit = err_from_is_err_and c.from_residual.result c.from_residual.ensures.1 in
+    rw (exit.1, exit.2) (_, _, _, sending_none g.W.StepWrite.step g.W.StepFlush.flush_step _ _ _ _)
+
+pub returns-then-count-eq0-clause-sends : goal.returns-then-count-eq0-clause-sends
+returns-then-count-eq0-clause-sends g c = sending_none g.W.StepWrite.step g.W.StepFlush.flush_step _ _ _ _
+
+pub returns-in_err-reply_to_lines-clause-unsent : goal.returns-in_err-reply_to_lines-clause-unsent
+returns-in_err-reply_to_lines-clause-unsent g c =
+    let exit = err_from_is_err_and c.from_residual-in_err-reply_to_lines.result c.from_residual-in_err-reply_to_lines.ensures.1 in
+    rw (exit.1, exit.2) (c.in_err-reply_to_lines.ensures.stopped)
+
+pub returns-in_err-send-clause-unsent : goal.returns-in_err-send-clause-unsent
+returns-in_err-send-clause-unsent g c =
+    let exit = err_from_is_err_and c.from_residual-in_err-send.result c.from_residual-in_err-send.ensures.1 in
+    rw (exit.1, exit.2) (stops_then_after g.W.StepWrite.step g.W.StepFlush.flush_step _ _ c.in_ok-reply_to_lines.ensures.sends c.in_err-send.ensures.unsent)
+
 pub returns-clause-sends : goal.returns-clause-sends
-returns-clause-sends g c = sending_then g.W.StepWrite.step g.W.StepFlush.flush_step c.reply_to_lines.ensures.sends c.send.ensures.sends
+returns-clause-sends g c = sending_then g.W.StepWrite.step g.W.StepFlush.flush_step c.in_ok-reply_to_lines.ensures.sends c.in_ok-send.ensures.sends

@@ -7,6 +7,7 @@ use Rattle.counted_io.specs.Limits.{IsRead}
 use Rattle.counted_io.specs.declared.TheConstants.{MOST_CALLS}
 use Rattle.counted_io.specs.Limits.Laws.{read_none, read_then, reads_then}
 use Rattle.ch_answer.specs.Sending.Laws.{sending_none, sending_then}
+use Rattle.ch_serve.proofs.Called.{stops_then_after}
 use Rattle.ch_serve.proofs.serving.serve_pieces.Goals as goal
 
 pub pieces-init : goal.pieces-init
@@ -16,7 +17,7 @@ pieces-init g c = record {
   empty = c.requires.empty;
   replies = to_none (by_hierarchy c.args.router.now) _ _ (requests_with c.args.reader.now) _ [] _ (keeps_all (g.Q.Read.remaining c.args.requests.now));
   reads = subst (λ (n : ℕ). IsRead g.Q.StepRead.step MOST_CALLS n c.args.requests.now c.args.requests.now) (sym c.new-calls.ensures) (read_none g.Q.StepRead.step MOST_CALLS c.args.requests.now);
-  sends = sending_none g.W.StepWrite.step g.W.StepFlush.flush_step _ _ _;
+  sends = sending_none g.W.StepWrite.step g.W.StepFlush.flush_step _ _ _ _;
 }
 
 pub returns-in_err-serve_piece-clause-err : goal.returns-in_err-serve_piece-clause-err
@@ -34,7 +35,7 @@ pieces-preserved g c =
       empty = c.in_ok-serve_piece.ensures.all;
       replies = to_step kept.same kept.replies c.in_ok-serve_piece.ensures.ok;
       reads = read_then g.Q.StepRead.step kept.reads c.in_ok-serve_piece.ensures.calls;
-      sends = sending_then g.W.StepWrite.step g.W.StepFlush.flush_step kept.sends c.serve_piece.ensures.sends;
+      sends = sending_then g.W.StepWrite.step g.W.StepFlush.flush_step kept.sends c.in_ok-serve_piece.ensures.sends;
     }
 
 pub returns-clause-ok : goal.returns-clause-ok
@@ -47,11 +48,13 @@ returns-in_err-serve_piece-clause-stopped g c =
     let exit = err_from_is_err_and c.from_residual.result c.from_residual.ensures.1 in
     rw (exit.1, exit.2) (reads_then g.Q.StepRead.step c.pieces.invariant.reads c.in_err-serve_piece.ensures.stopped)
 
-pub returns-in_err-serve_piece-clause-sends : goal.returns-in_err-serve_piece-clause-sends
-returns-in_err-serve_piece-clause-sends g c = sending_then g.W.StepWrite.step g.W.StepFlush.flush_step c.pieces.invariant.sends c.serve_piece.ensures.sends
-
 pub returns-clause-calls : goal.returns-clause-calls
 returns-clause-calls g c = (_, read_then g.Q.StepRead.step c.pieces.invariant.reads c.in_ok-serve_piece.ensures.calls)
 
+pub returns-in_err-serve_piece-clause-unsent : goal.returns-in_err-serve_piece-clause-unsent
+returns-in_err-serve_piece-clause-unsent g c =
+    let exit = err_from_is_err_and c.from_residual.result c.from_residual.ensures.1 in
+    rw (exit.1, exit.2) (stops_then_after g.W.StepWrite.step g.W.StepFlush.flush_step _ _ c.pieces.invariant.sends c.in_err-serve_piece.ensures.unsent)
+
 pub returns-clause-sends : goal.returns-clause-sends
-returns-clause-sends g c = sending_then g.W.StepWrite.step g.W.StepFlush.flush_step c.pieces.invariant.sends c.serve_piece.ensures.sends
+returns-clause-sends g c = sending_then g.W.StepWrite.step g.W.StepFlush.flush_step c.pieces.invariant.sends c.in_ok-serve_piece.ensures.sends

@@ -1,12 +1,13 @@
-ghost use Rattle.std.specs.Prelude.{◌≡◌, Some, codes};
+ghost use Rattle.std.specs.Prelude.{◌≡◌, ◌+◌, ℕ, Some, Ok, OnOk, OnErr, codes};
 ghost use Rattle.std.specs.Io.KnownBytes.{Keeps};
+ghost use Rattle.counted_io.specs.Calls.{EndsBy, FailsBy, IsCalled};
 ghost use Rattle.counted_io.specs.declared.TheConstants.{MOST_CALLS};
-ghost use Rattle.ch_answer.specs.Sending.{IsFlushed};
 
-use counted_io::{MOST_CALLS, StepWrite};
+use crate::writing::StepWrite;
+use crate::{MOST_CALLS, is_interrupted};
 use std::error::Error;
 use std::fmt;
-use std::io::{self, ErrorKind, Write};
+use std::io::{self, Write};
 
 /// A writer whose flushes are steps of their own, as its writes are. Every writer is one.
 pub trait StepFlush: StepWrite {
@@ -14,8 +15,8 @@ pub trait StepFlush: StepWrite {
     ghost use Rattle.std.specs.Io.KnownBytes.{Keeps};
     ghost use Rattle.std.specs.declared.io.Error.{Error};
 
-    /// How one flush leads from what the writer was to what it is, by the call's answer. What it is for a writer is open,
-    /// so only who has flushed it has such a step.
+    /// How one flush leads from what the writer was to what it is, by the call's result. What it is for a writer is open, so
+    /// only a flush yields a step.
     ghost flush_step: { Self → Self → Result ⊤ Error → Type 0 };
 
     /// One flush of the writer.
@@ -53,13 +54,17 @@ impl FlushCalls {
     /// more flushes may be made. Takes no memory.
     pub fn flush<W: StepFlush>(&mut self, writer: &mut W) -> Result<(), FlushFault>
         ensures bytes { Keeps (W.contents writer.old) (W.contents writer.new) }
-        ensures calls { IsFlushed W.step W.flush_step self.old.left self.new.left writer.old writer.new }
+
+        // Which calls were made.
+        ensures calls { IsCalled W.flush_step self.old.left self.new.left writer.old writer.new }
+        ensures flushed { OnOk result ((calls : ℕ) × (self.old.left ≡ self.new.left + calls) × EndsBy W.flush_step calls writer.old writer.new (Ok tt)) }
+        ensures failed { OnErr result ((calls : ℕ) × (self.old.left ≡ self.new.left + calls) × FailsBy W.flush_step calls self.new.left writer.old writer.new) }
     {
         'calls: while self.left > 0 {
             self.left -= 1;
             match writer.flush_once() {
                 Ok(()) => return Ok(()),
-                Err(error) if error.kind() == ErrorKind::Interrupted => {}
+                Err(error) if is_interrupted(&error) => {}
                 Err(_) => break,
             }
         }
