@@ -1,7 +1,10 @@
 -- What a board keeps: a ledger, and a book of its rows.
-use Rattle.std.specs.Prelude.{◌≡◌, length}
+use Rattle.std.specs.Prelude.{ℕ, ◌≡◌, ◌<◌, List, length}
 use Rattle.ch_graph.specs.Graph.{Graph}
+use Rattle.ch_laws.specs.declared.shortcut.Shortcut.{Shortcut}
+use Rattle.ch_overlay.specs.Change.{Change, IsChange}
 use Rattle.ch_rowbook.specs.Books.{BookName, PenView}
+use Rattle.ch_rowbook.specs.Showing.{GetsNoVersion, laid_row}
 use Rattle.ch_contract.specs.Ledger.{Ledger, versions_now}
 
 -- The ledger is of this graph, and the current rows and versions of the book are its own.
@@ -11,3 +14,14 @@ pub record IsInBook (graph : Graph) (book : BookName) (l : Ledger) (pen : PenVie
   pub bound : book.bound ≡ l.overlay.bound
   pub rows : pen.rows ≡ l.overlay.rows
   pub versions : pen.versions ≡ versions_now l
+
+-- The book had a record of one of the new rows of this contraction, and that at a place that is no version, when each row
+-- before it had one.
+pub record IsRefusedAPlace (book : BookName) (l : Ledger) (node : ℕ) (put : List Shortcut) : Type 0 where
+  pub change : Change
+  pub planned : IsChange l.overlay put change
+  pub of_node : change.node ≡ node
+  pub next : ℕ
+  pub place : ℕ
+  pub among : place < length change.rows
+  pub refused : GetsNoVersion book.list next (laid_row change.rows) place

@@ -8,6 +8,8 @@ ghost use Rattle.ch_rowbook.specs.Books.{IsOfBook};
 ghost use Rattle.ch_rowbook.specs.Words.{IsBelow};
 ghost use Rattle.ch_contract.specs.declared.error.CommitError.TheVariants as commits;
 ghost use Rattle.ch_contract.specs.Ledger.{IsLedger, IsLog, IsNode, AreLawful, IsContracted, version_now, versions_now};
+ghost use Rattle.ch_rowbook.specs.declared.error.BookError.TheVariants as books;
+ghost use Rattle.ch_contract.specs.Board.{IsRefusedAPlace};
 ghost use Rattle.ch_contract.specs.Commit.{IsContractedYet, NoneIsOld, Agrees, IsStale};
 ghost use Rattle.ch_contract.specs.Finish.{HasNodesLeft};
 ghost use Rattle.ch_contract.specs.Sweep.{IsSwept, IsPartlySwept, IsVisited};
@@ -160,9 +162,9 @@ impl<S: Site> Board<S> {
     ///
     /// The proposal was made by the board itself or by a reader of its book. Refused, in this order, where the node is
     /// contracted already, where a row that the proposal rests on has another version now, where memory runs out, and where
-    /// the book gives a place that isn't above the earlier ones (`Slot`): all memory, for the new rows, for lists and for
-    /// the records, is taken before the first row has its place. The board is then as it was. No row is compared: an
-    /// answer of the book whose version is current has the current row.
+    /// the book gives one of the new rows a place that isn't above the earlier ones (`Slot`): all memory, for the new rows,
+    /// for lists and for the records, is taken before the first row has its place. The board is then as it was. No row is
+    /// compared: an answer of the book whose version is current has the current row.
     ///
     /// The new rows are all laid, first the node's and then those of its neighbours by rising number, before the first is
     /// shown. They are shown in that order too, by this code and by no clause: they are of different nodes, so nothing rests
@@ -174,6 +176,7 @@ impl<S: Site> Board<S> {
         ensures err { OnErr result (self.new ≡ self.old) }
         ensures contracted { (result ≡ Err commits.Contracted) ↔ IsContractedYet self.old proposal }
         ensures stale { (node seen now front : ℕ) → (result ≡ Err (commits.Stale node seen now front)) ↔ IsStale self.old proposal node seen now front }
+        ensures slot { result ≡ Err commits.Slot → IsRefusedAPlace S.book self.old proposal.node proposal.shortcuts }
     {
         self.accept(rt, &proposal)
     }
@@ -196,6 +199,7 @@ impl<S: Site> Board<S> {
         ensures risen { IsBelow reader.old reader.new }
         ensures contracted { (result ≡ Err commits.Contracted) ↔ IsContractedYet self.old proposal.now }
         ensures stale { (node seen now front : ℕ) → (result ≡ Err (commits.Stale node seen now front)) ↔ IsStale self.old proposal.now node seen now front }
+        ensures slot { result ≡ Err commits.Slot → IsRefusedAPlace S.book self.old proposal.now.node proposal.now.shortcuts }
     {
         match self.accept(rt, proposal) {
             Ok(receipt) => {
@@ -214,6 +218,7 @@ impl<S: Site> Board<S> {
         ensures err { OnErr result (self.new ≡ self.old) }
         ensures contracted { (result ≡ Err commits.Contracted) ↔ IsContractedYet self.old proposal.now }
         ensures stale { (node seen now front : ℕ) → (result ≡ Err (commits.Stale node seen now front)) ↔ IsStale self.old proposal.now node seen now front }
+        ensures slot { result ≡ Err commits.Slot → IsRefusedAPlace S.book self.old proposal.now.node proposal.now.shortcuts }
     {
         agreement_is_lawful();
         if let Some(refused) = refusal(&self.ledger, proposal) {
@@ -253,6 +258,7 @@ impl<S: Site> Board<S> {
         requires { AreLawful self.old node shortcuts.now }
         ensures ok { IfOk result (λ receipt. IsContracted self.old node shortcuts.now receipt self.new) }
         ensures err { OnErr result (self.new ≡ self.old) }
+        ensures slot { result ≡ Err books.Slot → IsRefusedAPlace S.book self.old node shortcuts.now }
     {
         self.ledger.holds();
         changes_are_sound();
@@ -278,7 +284,6 @@ impl<S: Site> Board<S> {
         requires high { settle ≤ 65536 }
         ensures swept { IfOk result (λ receipts. IsSwept self.old receipts.items self.new) }
         ensures refused { OnErr result (IsPartlySwept self.old self.new) }
-        ensures graph { self.new.graph ≡ self.old.graph }
     {
         let nodes = self.overlay().nodes();
         let alloc = self.ledger.allocator();
@@ -294,7 +299,8 @@ impl<S: Site> Board<S> {
     /// contracted before it, and the links are the arcs that the rows have, by their ends. It is right for the graph.
     ///
     /// Refused while a node isn't contracted, which is tested first, or where memory runs out; the board is returned as
-    /// it was. Takes memory for the ranks and the links, and for chains of the links while it works.
+    /// it was. Takes memory for the ranks, the links, their index and the places of their halves, and for chains of the links
+    /// while it works.
     pub fn into_hierarchy(self) -> Result<Hierarchy, (Board<S>, FinishError)>
         ensures made { IfOk result (λ h. IsMade self.graph (state_of self.overlay) h) }
         ensures right { IfOk result (λ h. IsRight S.graph h) }

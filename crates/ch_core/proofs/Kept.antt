@@ -8,21 +8,13 @@ use Rattle.ch_graph.specs.Limits.{bound_of}
 use Rattle.ch_laws.specs.declared.shortcut.Shortcut.{Shortcut}
 use Rattle.ch_laws.specs.Rows.{Row}
 use Rattle.ch_overlay.specs.Source.{IsBound}
-use Rattle.ch_overlay.specs.Overlay.{Overlay, IsOverlay, row_at}
+use Rattle.ch_overlay.specs.Overlay.{Overlay, IsOverlay, IsSound, row_at}
+use Rattle.ch_overlay.specs.Soundness.{sound_row}
 use Rattle.ch_overlay.specs.Change.{Change, IsChange, puts, WritesItsRows, ChangesWriteTheirRows}
 use Rattle.ch_contract.specs.Ledger.{Ledger, IsLedger}
 use Rattle.ch_core.specs.World.{World, RowVersion, View, Standing, IsIn, has, version_of}
-use Rattle.ch_core.specs.Keeping.{IsWorld, IsSound, IsSoundVersion}
+use Rattle.ch_core.specs.Keeping.{IsWorld, IsSoundVersion}
 use Rattle.ch_core.proofs.Growing.{still_in, puts_in}
-
--- the row of a node is sound
-pub row_sound : (o : Overlay) → IsOverlay o → (x : ℕ) → x < length o.rows → IsSound (length o.rows) o.bound x (row_at o.rows x)
-row_sound o is x inside = record {
-  in_range = inside;
-  out_rises = (is.rows x inside).out_rises;
-  inn_rises = (is.rows x inside).inn_rises;
-  entries = is.entries x inside;
-}
 
 module _ (old : Overlay) (c : Change) (writes : WritesItsRows old c) (new : Overlay) (goes : IsOverlay new) (rows_are : new.rows ≡ puts old.rows c.rows) (bound_is : new.bound ≡ old.bound) where
   many : length new.rows ≡ length old.rows
@@ -33,7 +25,7 @@ module _ (old : Overlay) (c : Change) (writes : WritesItsRows old c) (new : Over
   new_sound a among =
       let inside : a.0 < length old.rows = All-contains (λ (b : ℕ × Row). b.0 < length old.rows) c.rows a writes.in_range among in
       let here : row_at new.rows a.0 ≡ a.1 = ap (λ (rows : List Row). row_at rows a.0) rows_are ∙ writes.written a among in
-      subst (λ (r : Row). IsSound (length new.rows) new.bound a.0 r) here (row_sound new goes a.0 (omega (arith, many, inside)))
+      subst (λ (r : Row). IsSound (length new.rows) new.bound a.0 r) here (sound_row new goes a.0 (omega (arith, many, inside)))
 
   pub all_new_sound : All (IsSoundVersion new) (map version_of c.rows)
   all_new_sound = All-map (IsSoundVersion new) version_of c.rows (λ k d h. new_sound (get_or c.rows k d) (Contains-get_or c.rows k d h))

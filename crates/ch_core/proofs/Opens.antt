@@ -10,7 +10,7 @@ use Rattle.ch_overlay.specs.Overlay.{row_at, no_arcs}
 use Rattle.ch_contract.specs.Ledger.{IsLedger}
 use Rattle.ch_core.specs.World.{World, RowVersion, View, Standing, IsIn, has, stands_at}
 use Rattle.ch_core.specs.Keeping.{IsWorld, IsSoundVersion}
-use Rattle.ch_core.proofs.Kept.{row_sound}
+use Rattle.ch_overlay.specs.Soundness.{sound_row}
 
 abbrev no_rows : View
 no_rows = []
@@ -40,7 +40,7 @@ module _ (bounds_fit : BoundsFit) (w : World) (workers : ℕ) (ledger : IsLedger
     sound = λ k d h.
         let inside : k < length w.ledger.overlay.rows = omega (arith, h, many) in
         let here = get_or_default w.book k d (record { node = 0; row = no_arcs }) h ∙ (book k inside).here in
-        subst (λ (v : RowVersion). IsSoundVersion w.ledger.overlay v) (sym here) (row_sound w.ledger.overlay ledger.overlay k inside);
+        subst (λ (v : RowVersion). IsSoundVersion w.ledger.overlay v) (sym here) (sound_row w.ledger.overlay ledger.overlay k inside);
   }
     where
       none_some : (s : Standing) → None ≡ Some s → ⊥

@@ -1,19 +1,13 @@
 -- What holds of every world.
 use Rattle.std.specs.Prelude.{ℕ, ◌≡◌, ◌^◌, ◌<◌, Some, length, All}
 use Rattle.ch_cost.specs.declared.cost.Cost.{Cost}
-use Rattle.ch_laws.specs.Rows.{Row, Rises}
+use Rattle.ch_laws.specs.Rows.{Row}
 use Rattle.ch_overlay.specs.Source.{IsBound}
-use Rattle.ch_overlay.specs.Overlay.{Overlay, AreEntries}
+use Rattle.ch_overlay.specs.Overlay.{Overlay, IsSound}
 use Rattle.ch_contract.specs.Ledger.{IsLedger, IsNode, row_now, version_now}
 use Rattle.ch_core.specs.World.{World, RowVersion, View, Standing, stands_at, has, IsIn}
 
--- a row that can be relied on, of a node among this many
-pub record IsSound (nodes : ℕ) (bound : Cost) (x : ℕ) (r : Row) : Type 0 where
-  pub in_range : x < nodes
-  pub out_rises : Rises r.out
-  pub inn_rises : Rises r.inn
-  pub entries : AreEntries nodes bound x r
-
+-- the row can be relied on, of one of the nodes
 abbrev pub IsSoundVersion : Overlay → RowVersion → Type 0
 IsSoundVersion o v = IsSound (length o.rows) o.bound v.node v.row
 

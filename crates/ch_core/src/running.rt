@@ -1,4 +1,4 @@
-ghost use Rattle.std.specs.Prelude.{◌≡◌, IfOk};
+ghost use Rattle.std.specs.Prelude.{IfOk};
 ghost use Rattle.ch_laws.specs.Contraction.{IsReached};
 ghost use Rattle.ch_overlay.specs.Overlay.{state_of};
 ghost use Rattle.ch_core.specs.Steps.{IsRun};
@@ -20,7 +20,6 @@ pub fn run(
     events: Vec<Event>,
 ) -> Result<(World, Vec<Outcome>), AllocError>
     ensures run { IfOk result (λ r. IsRun graph workers events.items r.1.items r.0) }
-    ensures graph { IfOk result (λ r. r.0.ledger.graph ≡ graph) }
     ensures reached { IfOk result (λ r. IsReached graph r.0.ledger.log (state_of r.0.ledger.overlay)) }
 {
     let mut world = World::new(alloc, graph, workers)?;

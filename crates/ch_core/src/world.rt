@@ -129,7 +129,6 @@ impl World {
     pub fn step(&mut self, event: Event) -> Result<Outcome, AllocError>
         ensures step { IfOk result (λ outcome. IsStep self.old event outcome self.new) }
         ensures lawful { IfOk result (λ outcome. IsLawful self.old event outcome self.new) }
-        ensures graph { self.new.ledger.graph ≡ self.old.ledger.graph }
         ensures err { OnErr result (self.new ≡ self.old) }
     {
         match event {
@@ -146,7 +145,6 @@ impl World {
     /// A worker reads a version of a node.
     fn read(&mut self, worker: u32, node: u32, version: u64) -> Result<Outcome, AllocError>
         ensures step { IfOk result (λ outcome. IsStep self.old (events.Read worker node version) outcome self.new) }
-        ensures graph { self.new.ledger.graph ≡ self.old.ledger.graph }
         ensures err { OnErr result (self.new ≡ self.old) }
     {
         if worker as usize >= self.views.len() {
@@ -164,7 +162,6 @@ impl World {
     /// A worker forgets what it read.
     fn forget(&mut self, worker: u32) -> Outcome
         ensures step { IsStep self.old (events.Forget worker) result self.new }
-        ensures graph { self.new.ledger.graph ≡ self.old.ledger.graph }
     {
         if worker as usize >= self.views.len() {
             return Outcome::NoSuch;
@@ -178,7 +175,6 @@ impl World {
     fn offer(&mut self, worker: u32, proposal: &Proposal) -> Result<Outcome, AllocError>
         ensures step { IfOk result (λ outcome. IsStep self.old (events.Offer worker proposal.now) outcome self.new) }
         ensures lawful { IfOk result (λ outcome. IsLawful self.old (events.Offer worker proposal.now) outcome self.new) }
-        ensures graph { self.new.ledger.graph ≡ self.old.ledger.graph }
         ensures err { OnErr result (self.new ≡ self.old) }
     {
         if !self.may_offer(worker, proposal) {
@@ -221,7 +217,6 @@ impl World {
         requires holds { IsProposal proposal.now }
         ensures accepted { IfOk result (λ receipt. IsAccepted self.old worker proposal.now receipt self.new) }
         ensures lawful { IfOk result (λ receipt. IsContracted self.old.ledger proposal.now.node proposal.now.shortcuts receipt self.new.ledger) }
-        ensures graph { self.new.ledger.graph ≡ self.old.ledger.graph }
         ensures err { OnErr result (self.new ≡ self.old) }
     {
         agreement_is_lawful();

@@ -1,26 +1,16 @@
 -- The rows of an overlay, and of its changes, can be relied on.
-use Rattle.std.proofs.Common.{ℕ, ◌≡◌, ◌<◌, ◌^◌, List, All, length, get_or, arith, refl, subst}
+use Rattle.std.proofs.Common.{◌≡◌, ◌<◌, ◌^◌, length, get_or, arith, refl, subst}
 use Rattle.std.proofs.lemmas.List.Elements.{Contains-get_or}
-use Rattle.ch_laws.specs.declared.entry.Entry.{Entry}
 use Rattle.ch_laws.specs.Rows.{Row}
 use Rattle.ch_laws.specs.Theorems.{RowsGoOn, RowsAreState}
-use Rattle.ch_overlay.specs.Overlay.{Overlay, IsOverlay, IsEntry, row_at}
+use Rattle.ch_overlay.specs.Overlay.{Overlay, IsOverlay, row_at}
 use Rattle.ch_overlay.specs.Change.{puts}
+use Rattle.ch_overlay.specs.Soundness.{sound_row, still_sound}
 use Rattle.ch_overlay.specs.Records.{AreSoundRows, IsSoundRow, ChangesAreSound}
 use Rattle.ch_overlay.proofs.Applied.{overlay-applied, changes_write}
 
-wide : (o : Overlay) → IsOverlay o → (x : ℕ) (es : List Entry) → All (IsEntry (length o.rows) o.bound x) es → All (IsEntry (2 ^ 25) o.bound x) es
-wide o is x es all k d h =
-    let e = all k d h in
-    let few = is.few_nodes in
-    record { in_range = omega (arith, e.in_range, few); apart = e.apart; above = e.above; within = e.within }
-
 pub sound_rows : (o : Overlay) → IsOverlay o → AreSoundRows o.bound o.rows
-sound_rows o is x h =
-    let row = is.rows x h in
-    let entries = is.entries x h in
-    let few = is.few_nodes in
-    record { in_range = omega (arith, few, h); out_rises = row.out_rises; inn_rises = row.inn_rises; entries = record { out = wide o is x (row_at o.rows x).out entries.out; inn = wide o is x (row_at o.rows x).inn entries.inn } }
+sound_rows o is x h = still_sound (length o.rows) (2 ^ 25) o.bound x (row_at o.rows x) is.few_nodes (sound_row o is x h)
 
 pub sound_changes : RowsGoOn → RowsAreState → ChangesAreSound
 sound_changes go are o c holds of k d h =

@@ -6,3 +6,4 @@ pub mod Change
 pub mod Source
 pub mod Finding
 pub mod Records
+pub mod Soundness

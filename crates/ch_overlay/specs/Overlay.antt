@@ -4,7 +4,7 @@ use Rattle.ch_cost.specs.declared.cost.Cost.{Cost}
 use Rattle.ch_cost.specs.Cost.{zero_cost, ◌≺◌, IsWithin}
 use Rattle.ch_laws.specs.declared.entry.Entry.{Entry}
 use Rattle.ch_laws.specs.Contraction.{State}
-use Rattle.ch_laws.specs.Rows.{Row, IsPlain, IsRow, state_by}
+use Rattle.ch_laws.specs.Rows.{Row, IsPlain, IsRow, Rises, state_by}
 pub use Rattle.ch_laws.specs.Rows.{no_arcs, row_at}
 
 -- the row and the version of each node, and the contracted nodes, first to last
@@ -29,6 +29,14 @@ pub record IsEntry (nodes : ℕ) (bound : Cost) (x : ℕ) (e : Entry) : Type 0 w
 pub record AreEntries (nodes : ℕ) (bound : Cost) (x : ℕ) (r : Row) : Type 0 where
   pub out : All (IsEntry nodes bound x) r.out
   pub inn : All (IsEntry nodes bound x) r.inn
+
+-- A row of x, one of this many nodes, that can be relied on: each list rises, and each entry is of another node, not free
+-- and not heavy.
+pub record IsSound (nodes : ℕ) (bound : Cost) (x : ℕ) (r : Row) : Type 0 where
+  pub in_range : x < nodes
+  pub out_rises : Rises r.out
+  pub inn_rises : Rises r.inn
+  pub entries : AreEntries nodes bound x r
 
 -- each row is that of its node in the state that all of them show, whose arcs are plain, and each contracted node is
 -- in the order once

@@ -4,20 +4,16 @@ use Rattle.std.specs.Arc.{arc_value}
 use Rattle.boxcar.specs.Table.{Shelves, Where, Shows}
 use Rattle.ch_cost.specs.declared.cost.Cost.{Cost}
 use Rattle.ch_cost.specs.Cost.{zero_cost, length_of, arcs_of, of_walk}
-use Rattle.ch_laws.specs.Rows.{Row, Rises}
-use Rattle.ch_overlay.specs.Overlay.{Overlay, IsOverlay, AreEntries, row_at}
+use Rattle.ch_laws.specs.Rows.{Row}
+use Rattle.ch_overlay.specs.Overlay.{Overlay, IsOverlay, IsSound, row_at}
 use Rattle.ch_overlay.specs.Change.{Change, IsOf}
 use Rattle.ch_overlay.specs.Source.{row_in}
 use Rattle.ch_overlay.specs.declared.record.Record.{Record}
 use Rattle.ch_overlay.specs.declared.source.Seen.{Seen}
 
--- A row of a node that can be relied on: the numbers of nodes are small, each list rises, and each entry is of another
--- node, not free and not heavy.
-pub record IsSoundRow (bound : Cost) (node : ℕ) (row : Row) : Type 0 where
-  pub in_range : node < 2 ^ 25
-  pub out_rises : Rises row.out
-  pub inn_rises : Rises row.inn
-  pub entries : AreEntries (2 ^ 25) bound node row
+-- a row of a node that can be relied on, in a graph of as many nodes as there can be
+abbrev pub IsSoundRow : Cost → ℕ → Row → Type 0
+IsSoundRow bound node row = IsSound (2 ^ 25) bound node row
 
 -- each row can be relied on, as that of the node of its place
 abbrev pub AreSoundRows : Cost → List Row → Type 0

@@ -1,14 +1,14 @@
 -- Rows as a source answers them.
-use Rattle.std.specs.Prelude.{ℕ, ◌-◌, ◌^◌, ◌<◌, cond, nat_eq, List, [], ◌∷◌, Option, Some, None, All, codes}
+use Rattle.std.specs.Prelude.{ℕ, ◌-◌, ◌^◌, cond, nat_eq, List, [], ◌∷◌, Option, Some, None, All, codes}
 use Rattle.std.specs.Arc.{arc_value}
 use Rattle.ch_cost.specs.declared.cost.Cost.{Cost}
 use Rattle.ch_cost.specs.Cost.{cost_of_arcs, IsWithin}
 use Rattle.ch_laws.specs.declared.entry.Entry.{Entry}
-use Rattle.ch_laws.specs.Rows.{Row, Rises}
+use Rattle.ch_laws.specs.Rows.{Row}
 use Rattle.ch_overlay.specs.declared.source.Seen.{Seen}
 use Rattle.ch_overlay.specs.declared.source.SeeError.{SeeError}
 use Rattle.ch_overlay.specs.declared.source.SeeError.TheVariants.{OutOfMemory, Unseen}
-use Rattle.ch_overlay.specs.Overlay.{AreEntries}
+use Rattle.ch_overlay.specs.Overlay.{IsSound}
 
 -- the row that was answered
 abbrev pub row_in : Seen → Row
@@ -23,13 +23,9 @@ row_of (s ∷ seen) x = cond (nat_eq s.node x) (Some (row_in s)) (row_of seen x)
 abbrev pub IsBound : Cost → Type 0
 IsBound bound = IsWithin bound (cost_of_arcs (2 ^ 25 - 1) (2 ^ 32 - 1))
 
--- An answer that can be relied on: the numbers of nodes are small, each list rises, and each entry is of another
--- node, not free and not heavy.
-pub record IsSeenRow (bound : Cost) (s : Seen) : Type 0 where
-  pub in_range : s.node < 2 ^ 25
-  pub out_rises : Rises (row_in s).out
-  pub inn_rises : Rises (row_in s).inn
-  pub entries : AreEntries (2 ^ 25) bound s.node (row_in s)
+-- an answer that can be relied on, in a graph of as many nodes as there can be
+abbrev pub IsSeenRow : Cost → Seen → Type 0
+IsSeenRow bound s = IsSound (2 ^ 25) bound s.node (row_in s)
 
 -- each node that the row names is of this kind
 pub record NamesAlone (IsKind : ℕ → Type 0) (r : Row) : Type 0 where

@@ -1,10 +1,14 @@
 -- Versions that rise.
-use Rattle.std.specs.Prelude.{ℕ, ◌≡◌, ◌+◌, ◌<◌, ◌≤◌, List, [], ◌∷◌, ◌++◌, All, length, slice_index, slice_index_or}
-use Rattle.std.proofs.Common.{suc, ◌∙◌, sym, ap, arith, set, drop, inl, inr}
-use Rattle.std.proofs.lemmas.Bool.{cases_eq}
-use Rattle.std.proofs.lemmas.List.{get_or-set_same, get_or-set_other, length-set}
-use Rattle.std.proofs.Math.Seq.{drop-cons}
-use Rattle.ch_rowbook.specs.Showing.{IsRising, IsShowable}
+use Rattle.std.specs.Prelude.{ℕ, ◌≡◌, ◌+◌, ◌<◌, ◌≤◌, List, [], ◌∷◌, ◌++◌, All, length, slice_index, slice_index_or, refl}
+use Rattle.std.proofs.Common.{suc, ◌∙◌, sym, subst, ap, arith, set, drop, inl, inr}
+use Rattle.std.proofs.lemmas.Bool.{cases_eq, cases_lt}
+use Rattle.std.proofs.lemmas.List.{get_or-set_same, get_or-set_other, get_or_append_left, length-set, map-append}
+use Rattle.std.proofs.Math.Seq.{drop-cons, get_or-append_seam}
+use Rattle.boxcar.specs.Table.{Shelves, Where}
+use Rattle.ch_laws.specs.Rows.{Row}
+use Rattle.ch_overlay.specs.declared.record.Record.{Record}
+use Rattle.ch_rowbook.specs.Books.{versions_of}
+use Rattle.ch_rowbook.specs.Showing.{IsRecordOf, IsRising, IsShowable, next_behind}
 
 -- one version more
 pub rising_more : (low : ℕ) (vs : List ℕ) (mid v : ℕ) → IsRising low vs mid → mid ≤ v → IsRising low (vs ++ v ∷ []) (v + 1)
@@ -47,3 +51,25 @@ pub dropped : {X : Type 0} (xs : List X) (at : ℕ) (x : X) → at < length xs �
 dropped xs at x less is =
     let next : suc at ≡ at + 1 = omega arith in
     drop-cons xs at x less ∙ ap (λ y. y ∷ drop (suc at) xs) (sym is) ∙ ap (λ (n : ℕ). x ∷ drop n xs) next
+
+-- the next version behind one more
+pub next_more : (next : ℕ) (vs : List ℕ) (v : ℕ) → next_behind next (vs ++ v ∷ []) ≡ v + 1
+next_more next [] v = refl
+next_more next (w ∷ vs) v = next_more (w + 1) vs v
+
+pub next_laid : (next : ℕ) (laid : List (Where Record)) (t : Where Record) → next_behind next (versions_of (laid ++ t ∷ [])) ≡ t.index + 1
+next_laid next laid t = ap (λ (vs : List ℕ). next_behind next vs) (map-append (λ (u : Where Record). u.index) laid (t ∷ [])) ∙ next_more next (versions_of laid) t.index
+
+-- one record more
+pub laid_more : (list : Shelves) (row : ℕ → ℕ × Row) (k : ℕ) (laid : List (Where Record)) (t : Where Record) → length laid ≡ k
+    → ((j : ℕ) (d : Where Record) → j < k → IsRecordOf list (row j) (slice_index_or laid j d)) → IsRecordOf list (row k) t
+    → (j : ℕ) (d : Where Record) → j < k + 1 → IsRecordOf list (row j) (slice_index_or (laid ++ t ∷ []) j d)
+laid_more list row k laid t count earlier of j d less = elim (cases_lt j k) [
+  | inl before ↦
+      let here : j < length laid = omega (arith, count, before) in
+      subst (λ (u : Where Record). IsRecordOf list (row j) u) (sym (get_or_append_left laid (t ∷ []) d j here)) (earlier j d before)
+  | inr past ↦
+      let is : j ≡ length laid = omega (arith, count, past, less) in
+      let at : j ≡ k = omega (arith, past, less) in
+      subst (λ (u : Where Record). IsRecordOf list (row j) u) (sym (ap (λ (i : ℕ). slice_index_or (laid ++ t ∷ []) i d) is ∙ get_or-append_seam laid t [] d)) (subst (λ (i : ℕ). IsRecordOf list (row i) t) (sym at) of)
+]

@@ -1,9 +1,10 @@
 //! Several rows at once: all are laid before the first is shown.
-ghost use Rattle.std.specs.Prelude.{◌≡◌, ◌<◌, ◌≤◌, All, IfOk, length, map};
+ghost use Rattle.std.specs.Prelude.{◌≡◌, ◌<◌, ◌≤◌, ℕ, All, IfOk, length, map};
 ghost use Rattle.std.specs.Arc.{arc_value};
 ghost use Rattle.ch_overlay.specs.Change.{puts};
 ghost use Rattle.ch_overlay.specs.Records.{IsSoundRow, recorded_row};
-ghost use Rattle.ch_rowbook.specs.Showing.{IsNextOf, IsShowable, of_node};
+ghost use Rattle.ch_rowbook.specs.Showing.{GetsNoVersion, IsNextOf, IsShowable, laid_row, of_node};
+ghost use Rattle.ch_rowbook.specs.declared.error.BookError.TheVariants.{Slot};
 
 use crate::book::Book;
 use crate::error::BookError;
@@ -25,8 +26,9 @@ impl<B: Book> Pen<B> {
     /// Lays rows, each of a node in range, first to last. No current row changes, on a refusal neither, and the next
     /// version is what it was or the one behind a record of the book, so the pen can be used again.
     ///
-    /// Takes memory for the list and for the records, all of it before the first is laid, and waits while another thread
-    /// makes room for records.
+    /// `Slot` where the list gives one of the records a place below the next version, which is the one behind the record
+    /// laid before it, or the last place that there is. Takes memory for the list and for the records, all of it before
+    /// the first is laid, and waits while another thread makes room for records.
     pub fn lay_all<R: Wait>(
         &mut self,
         rt: &R,
@@ -40,6 +42,7 @@ impl<B: Book> Pen<B> {
         ensures later { self.old.next ≤ self.new.next }
         ensures next { IsNextOf B.book.list self.old.next self.new.next }
         ensures laid { IfOk result (λ all. map (λ l. of_node l.node (recorded_row l.token.value)) all.items ≡ map (λ a. of_node a.0 (arc_value a.1)) rows.now) }
+        ensures slot { result ≡ Err Slot → (k : ℕ) × (k < length rows.now) × GetsNoVersion B.book.list self.old.next (laid_row (map (λ a. of_node a.0 (arc_value a.1)) rows.now)) k }
         ensures showable { IfOk result (λ all. IsShowable self.new.versions self.new.next (map (λ l. l.token.index) all.items)) }
     {
         self.known();

@@ -1,11 +1,14 @@
 //! How a book opens: a record for each node, shown before there is a reader.
 ghost use Rattle.std.specs.Prelude.{◌≡◌, ◌^◌, ◌<◌, ℕ, IfOk, length, map, slice_index};
 ghost use Rattle.std.specs.Arc.{arc_value};
+ghost use Rattle.ch_laws.specs.Rows.{row_at};
 ghost use Rattle.ch_overlay.specs.Source.{IsBound};
 ghost use Rattle.ch_rowbook.specs.Blanks.{name_of};
 ghost use Rattle.ch_rowbook.specs.Books.{AreOf, IsPenSeat, pen_of, rows_of, versions_of};
 ghost use Rattle.ch_overlay.specs.Records.{AreSoundRows};
+ghost use Rattle.ch_rowbook.specs.Showing.{GetsNoVersion, next_behind, of_node};
 ghost use Rattle.ch_rowbook.specs.Words.{no_versions, width};
+ghost use Rattle.ch_rowbook.specs.declared.error.BookError.TheVariants.{Slot};
 
 use crate::blank::Blank;
 use crate::book::Book;
@@ -39,6 +42,8 @@ fn lay_rows<B: Book, R: Wait>(
     ensures count { IfOk result (λ o. length o.current.items ≡ length rows.now) }
     ensures tokens { IfOk result (λ o. AreOf B.book.list o.next (length rows.now) o.current.items) }
     ensures rows { IfOk result (λ o. rows_of o.current.items ≡ map arc_value rows.now) }
+    ensures next { IfOk result (λ o. o.next ≡ next_behind 0 (versions_of o.current.items)) }
+    ensures slot { result ≡ Err Slot → (k : ℕ) × (k < length rows.now) × GetsNoVersion B.book.list 0 (λ x. of_node x (row_at (map arc_value rows.now) x)) k }
 {
     let mut current = Vec::with_capacity(alloc, rows.len())?;
     let mut next = 0;
@@ -67,8 +72,9 @@ fn show_rows<B: Book>(shelf: &Shelf<B>, seat: &mut Seat<(), KnownWords>, current
 /// Opens a blank: each row becomes the current one of the node of its place. The pen and the reader are of the book
 /// that `B` names.
 ///
-/// Takes memory for a record and a token for each node, and waits while another thread makes room for records.
-/// On a refusal the blank is dropped.
+/// The next version is the one behind the last row's, or 0 where there is no node. `Slot` where the list gives one of the
+/// records a place that isn't above the one before it, or the last place that there is. Takes memory for a record and a
+/// token for each node, and waits while another thread makes room for records. On a refusal the blank is dropped.
 pub fn open<B: Book, R: Wait>(
     rt: &R,
     alloc: Global,
@@ -81,6 +87,8 @@ pub fn open<B: Book, R: Wait>(
     requires limit { IsBound blank.bound }
     ensures rows { IfOk result (λ r. r.0.rows ≡ map arc_value rows.now) }
     ensures count { IfOk result (λ r. length r.0.versions ≡ B.book.nodes) }
+    ensures next { IfOk result (λ r. r.0.next ≡ next_behind 0 r.0.versions) }
+    ensures slot { result ≡ Err Slot → (k : ℕ) × (k < length rows.now) × GetsNoVersion B.book.list 0 (λ x. of_node x (row_at (map arc_value rows.now) x)) k }
     ensures front { IfOk result (λ r. (x : ℕ) → x < B.book.nodes → slice_index r.1 x ≡ slice_index r.0.versions x) }
 {
     let Blank {

@@ -4,7 +4,9 @@ ghost use Rattle.std.specs.Arc.{arc_value};
 ghost use Rattle.ch_laws.specs.Rows.{row_at};
 ghost use Rattle.ch_overlay.specs.Source.{IsSeenRow, row_in};
 ghost use Rattle.ch_rowbook.specs.Books.{IsOfBook, PenKeeps, pen_of, versions_of};
+ghost use Rattle.ch_rowbook.specs.Showing.{HasNoVersion, of_node};
 ghost use Rattle.ch_rowbook.specs.Words.{IsBelow};
+ghost use Rattle.ch_rowbook.specs.declared.error.BookError.TheVariants.{Slot};
 ghost use Rattle.ch_overlay.specs.Records.{IsSoundRow, recorded_row};
 
 use crate::book::Book;
@@ -61,8 +63,8 @@ impl<B: Book> Pen<B> {
 
     /// Lays a row of a node, which is in range: it has a version from now on, and no reader knows of it.
     ///
-    /// `Slot` where the list gives a place that isn't above the earlier ones. On a refusal nothing changes. Takes
-    /// memory for the record, and waits while another thread makes room for it.
+    /// `Slot` where the list gives the record a place below the next version, or the last that there is. On a refusal
+    /// nothing changes. Takes memory for the record, and waits while another thread makes room for it.
     pub fn lay<R: Wait>(&mut self, rt: &R, node: u32, row: Arc<Row>) -> Result<Laid<B>, BookError>
         requires within { node < B.book.nodes }
         requires row { IsSoundRow B.book.bound node (arc_value row) }
@@ -72,6 +74,7 @@ impl<B: Book> Pen<B> {
         ensures later { IfOk result (λ l. self.old.next ≤ l.token.index) }
         ensures next { IfOk result (λ l. self.new ≡ record self.old { next = l.token.index + 1 }) }
         ensures err { OnErr result (self.new ≡ self.old) }
+        ensures slot { result ≡ Err Slot → HasNoVersion B.book.list self.old.next (of_node node (arc_value row)) }
     {
         let token = self.shelf.append(rt, node, row, self.next)?;
         self.next = token.index() as u64 + 1;
@@ -106,7 +109,8 @@ impl<B: Book> Pen<B> {
         self.current[laid.node as usize] = laid.token.again();
     }
 
-    /// Lays a row and shows it, and returns its version. On a refusal nothing changes. The next version is above it.
+    /// Lays a row and shows it, and returns its version. Refused as [`Pen::lay`] is, and then nothing changes. The next
+    /// version is above it.
     pub fn write<R: Wait>(&mut self, rt: &R, node: u32, row: Arc<Row>) -> Result<u64, BookError>
         requires within { node < B.book.nodes }
         requires row { IsSoundRow B.book.bound node (arc_value row) }
@@ -116,6 +120,7 @@ impl<B: Book> Pen<B> {
         ensures later { IfOk result (λ v. self.old.next ≤ v) }
         ensures next { IfOk result (λ v. self.new.next ≡ v + 1) }
         ensures err { OnErr result (self.new ≡ self.old) }
+        ensures slot { result ≡ Err Slot → HasNoVersion B.book.list self.old.next (of_node node (arc_value row)) }
     {
         let laid = self.lay(rt, node, row)?;
         let version = laid.version();

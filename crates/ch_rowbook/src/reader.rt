@@ -2,6 +2,7 @@
 ghost use Rattle.std.specs.Prelude.{◌≡◌, ◌<◌, ◌≤◌, ℕ, IfOk, OnErr, max, slice_index, slice_set};
 ghost use Rattle.ch_overlay.specs.Source.{IsSeenRow, row_in};
 ghost use Rattle.ch_overlay.specs.Records.{Bears};
+ghost use Rattle.ch_overlay.specs.declared.source.SeeError.TheVariants.{Unseen};
 ghost use Rattle.ch_rowbook.specs.Books.{IsOfBook, IsReaderSeat};
 
 use crate::book::Book;
@@ -56,6 +57,7 @@ impl<B: Book> Reader<B> {
         ensures front { IfOk result (λ s. self.new ≡ slice_set self.old node s.version) }
         ensures here { IfOk result (λ s. slice_index self.new node ≡ s.version) }
         ensures err { OnErr result (self.new ≡ self.old) }
+        ensures out { B.book.nodes ≤ node → result ≡ Err Unseen }
     {
         if node >= self.shelf.nodes {
             return Err(SeeError::Unseen);

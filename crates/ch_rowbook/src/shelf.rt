@@ -1,11 +1,14 @@
 //! What the pen and the readers of a book share.
-ghost use Rattle.std.specs.Prelude.{◌≡◌, ◌+◌, ◌^◌, ◌<◌, ◌≤◌, IfOk, Some, length, slice_index, slice_set, [], ◌∷◌};
+ghost use Rattle.std.specs.Prelude.{◌≡◌, ◌≢◌, ◌↔◌, ◌+◌, ◌^◌, ◌<◌, ◌≤◌, IfOk, Some, length, slice_index, slice_set, [], ◌∷◌};
 ghost use Rattle.std.specs.Arc.{arc_value};
 ghost use Rattle.boxcar.specs.Table.{Shows};
 ghost use Rattle.ch_overlay.specs.Source.{IsSeenRow};
+ghost use Rattle.ch_overlay.specs.declared.source.SeeError.TheVariants.{Unseen};
 ghost use Rattle.ch_overlay.specs.Records.{Bears, IsSoundRow, mark_of, recorded_row};
 ghost use Rattle.ch_rowbook.specs.Books.{IsPenSeat, IsReaderSeat};
+ghost use Rattle.ch_rowbook.specs.Showing.{HasNoVersion, of_node};
 ghost use Rattle.ch_rowbook.specs.Words.{IsBelow, greater, width};
+ghost use Rattle.ch_rowbook.specs.declared.error.BookError.TheVariants.{Slot};
 
 use crate::blank::{Records, Words};
 use crate::book::Book;
@@ -108,7 +111,8 @@ impl<B: Book> Shelf<B> {
         self.list.reserve(records)
     }
 
-    /// Appends a record, whose place isn't below `next`, and returns its token.
+    /// Appends a record, whose place isn't below `next`, and returns its token. `Slot` where the list gives a place below
+    /// it, or the last that there is.
     pub(crate) fn append<R: Wait>(
         &self,
         rt: &R,
@@ -119,6 +123,7 @@ impl<B: Book> Shelf<B> {
         requires { IsSoundRow B.book.bound node (arc_value row) }
         ensures record { IfOk result (λ t. Shows B.book.list t × (t.value.node ≡ node) × (recorded_row t.value ≡ arc_value row)) }
         ensures place { IfOk result (λ t. (next ≤ t.index) × (t.index + 1 < 2 ^ 64)) }
+        ensures slot { result ≡ Err Slot → HasNoVersion B.book.list next (of_node node (arc_value row)) }
     {
         let Ok(token) = self.list.push_shown(rt, Record { node, row }) else {
             return Err(BookError::OutOfMemory);
@@ -155,16 +160,29 @@ impl<B: Book> Shelf<B> {
         })
     }
 
-    /// The record at a version, if it is of this node.
+    /// The record at a version, if it is of this node. `Unseen` where the list has none there that is shown, or where it
+    /// is of another node.
     pub(crate) fn record_at(&self, node: u32, version: u64) -> Result<Seen, SeeError>
         ensures node { IfOk result (λ s. s.node ≡ node) }
         ensures version { IfOk result (λ s. s.version ≡ version) }
         ensures bears { IfOk result (λ s. Bears B.book.list s) }
         ensures row { IfOk result (λ s. IsSeenRow B.book.bound s) }
     {
-        let Some(token) = self.list.witness(version as usize) else {
-            return Err(SeeError::Unseen);
-        };
+        match self.list.witness(version as usize) {
+            Some(token) => self.seen_of(node, token),
+            None => Err(SeeError::Unseen),
+        }
+    }
+
+    /// The row of a token's record, if it is of this node.
+    fn seen_of(&self, node: u32, token: Token) -> Result<Seen, SeeError>
+        requires { Shows B.book.list token }
+        ensures node { IfOk result (λ s. s.node ≡ node) }
+        ensures version { IfOk result (λ s. s.version ≡ token.index) }
+        ensures bears { IfOk result (λ s. Bears B.book.list s) }
+        ensures row { IfOk result (λ s. IsSeenRow B.book.bound s) }
+        ensures unseen { (result ≡ Err Unseen) ↔ (token.value.node ≢ node) }
+    {
         if self.list.value(&token).node != node {
             return Err(SeeError::Unseen);
         }

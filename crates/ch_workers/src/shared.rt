@@ -1,4 +1,4 @@
-ghost use Rattle.std.specs.Prelude.{◌≡◌, ◌+◌, ◌≤◌, ◌<◌, ◌^◌, All, AllPairs, IfOk, IsTrue};
+ghost use Rattle.std.specs.Prelude.{◌≡◌, ◌+◌, ◌*◌, ◌/◌, ◌≤◌, ◌<◌, ◌^◌, All, AllPairs, IfOk, IsTrue, max, min};
 ghost use Rattle.ch_rowbook.specs.Books.{IsOfBook};
 
 use crate::good_options::CrewOptions;
@@ -68,7 +68,8 @@ impl<S: Site> Shared<S> {
         queue: MultiQueue,
         crew: CrewOptions,
     ) -> Shared<S>
-        ensures { result.queue ≡ queue }
+        ensures queue { result.queue ≡ queue }
+        ensures room { result.room ≡ max 16 (12 * S.graph.nodes) }
     {
         let nodes = board.graph().nodes();
         let room = FEWEST.max(ROOM * u64::from(nodes));
@@ -144,7 +145,9 @@ impl<S: Site> Shared<S> {
     }
 
     /// Adds what the rows weigh that a commit replaced. Returns whether the shift is over with them.
-    pub(crate) fn is_over_with(&self, weight: u64) -> bool {
+    pub(crate) fn is_over_with(&self, weight: u64) -> bool
+        ensures { self.now.room ≤ weight → IsTrue result }
+    {
         let before = self.replaced.fetch_add(weight, Ordering::Relaxed);
         before.saturating_add(weight) >= self.room
     }
@@ -223,7 +226,9 @@ fn widest(log: &[Contraction]) -> usize {
 
 /// What the rows weigh, in entries or so, that are replaced where a node is contracted: for each of its arcs a row that has
 /// about as many, and what a row takes besides. A sixteenth of the room is the most.
-pub(crate) fn weight(facts: Facts, room: u64) -> u64 {
+pub(crate) fn weight(facts: Facts, room: u64) -> u64
+    ensures { result ≡ min ((facts.ins + facts.outs) * (facts.ins + facts.outs + 6)) (room / 16) }
+{
     let arcs = u64::from(facts.ins) + u64::from(facts.outs);
     arcs.saturating_mul(arcs + 6).min(room / FEWEST)
 }

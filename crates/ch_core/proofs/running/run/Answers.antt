@@ -6,7 +6,7 @@ use Rattle.ch_overlay.specs.Overlay.{state_of}
 use Rattle.ch_core.specs.declared.event.Event.{Event}
 use Rattle.ch_core.specs.declared.event.Outcome.{Outcome}
 use Rattle.ch_core.specs.Steps.{Runs, ends}
-use Rattle.ch_core.proofs.Ran.{runs_on}
+use Rattle.ch_core.proofs.Ran.{graph_stays, runs_on}
 use Rattle.ch_core.proofs.running.run.Goals as goal
 
 pub events-init : goal.events-init
@@ -21,7 +21,7 @@ pub events-preserved : goal.events-preserved
 events-preserved c = record {
   opens = c.events.invariant.opens;
   runs = subst (λ (outcomes : List Outcome). Runs c.in_ok-world.world (c.events.yielded ++ c.in-Some.event ∷ []) outcomes c.step.new.self) (sym c.in_ok-push.ensures.items) (runs_on c.in-Some.event c.in_ok-outcome.outcome c.events.invariant.runs c.in_ok-outcome.ensures.step);
-  graph = c.in_ok-outcome.ensures.graph ∙ c.events.invariant.graph;
+  graph = graph_stays c.events.world c.in-Some.event c.in_ok-outcome.outcome c.step.new.self c.in_ok-outcome.ensures.step ∙ c.events.invariant.graph;
   rest =
       append_assoc c.events.yielded (c.in-Some.event ∷ []) c.next.new.self.rest.items
       ∙ ap (λ (events : List Event). c.events.yielded ++ events) (sym c.in-Some.ensures.steps.0)
@@ -43,9 +43,6 @@ returns-clause-run c = record {
   opens = c.events.invariant.opens;
   runs = subst (λ (events : List Event). Runs c.in_ok-world.world events c.events.outcomes.items c.events.world) (all_events c) c.events.invariant.runs;
 }
-
-pub returns-clause-graph : goal.returns-clause-graph
-returns-clause-graph c = c.events.invariant.graph
 
 pub returns-clause-reached : goal.returns-clause-reached
 returns-clause-reached c = subst (λ (g : Graph). IsReached g c.events.world.ledger.log (state_of c.events.world.ledger.overlay)) c.events.invariant.graph c.holds.ensures.ledger.reached

@@ -95,9 +95,6 @@ invariant_of-self-2 c = after_world c c.holds.ensures
 pub returns-clause-accepted : goal.returns-clause-accepted
 returns-clause-accepted c = after_accepted c c.holds.ensures
 
-pub returns-clause-graph : goal.returns-clause-graph
-returns-clause-graph c = (contracts c).contracts.graph ∙ ap (λ (v : World). v.ledger.graph) c.self.view_is
-
 pub append-requires : goal.append-requires
 append-requires c = grind (arith, common_steps) steps 600000
 
