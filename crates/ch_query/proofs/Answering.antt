@@ -1,5 +1,5 @@
 -- Two sides that have stopped give the value, and walks of that cost.
-use Rattle.std.proofs.Common.{ℕ, ◌≡◌, List, [], ◌∷◌, ◌++◌, reverse, Option, Some, None, All, slice_get, ap, refl, ◌∙◌}
+use Rattle.std.proofs.Common.{ℕ, ◌≡◌, List, [], ◌∷◌, ◌++◌, reverse, Option, Some, None, All, IfSome, slice_get, ap, refl, ◌∙◌}
 use Rattle.std.proofs.lemmas.List.{map-append}
 use Rattle.std.proofs.lemmas.List.Elements.{All-append, All-head, All-tail}
 use Rattle.std.proofs.lemmas.Option.{slice_get-get_or}
@@ -18,8 +18,8 @@ use Rattle.ch_query.specs.Places.{link_at, IsRiseFallAt}
 use Rattle.ch_query.specs.Seeds.{AreSeeds, IsValueBetween, IsWalkBetween}
 use Rattle.ch_query.specs.Climb.{Descends}
 use Rattle.ch_query.specs.Marks.{costs_of, IsStopped}
-use Rattle.ch_query.specs.Searching.{IsClimbing}
-use Rattle.ch_query.specs.Meeting.{IsBestMeeting, cost_of}
+use Rattle.ch_query.specs.Searching.{IsClimbing, IsSearching}
+use Rattle.ch_query.specs.Meeting.{IsBestMeeting, IsMeetingOf, cost_of}
 use Rattle.ch_query.proofs.LeastSum.{stop_right, both_parts}
 use Rattle.ch_query.proofs.Descents.{IsPlace, links_at, IsRiseOf, IsFallOf, rise-chain, fall-chain, descends-places, all-reverse}
 
@@ -33,6 +33,12 @@ answered h made starts ends begins stops bound up down best rises falls up_stopp
     best_sum : (best : Option Meeting) → IsBestMeeting bound (costs_of up) (costs_of down) best → IsBest bound (costs_of up) (costs_of down) (cost_of best)
     best_sum None is = λ c meets. is meets.0 c meets.1
     best_sum (Some m) is = ((m.rank, is.meets), λ d meets. is.least meets.0 d meets.1)
+
+-- where two halves meet, as a walk over the meeting's node takes it
+pub meeting_of : (h : Hierarchy) (starts ends : List Seed) (bound : Cost) (up down : List (Mark Label)) → IsSearching h Rise starts bound up → IsSearching h Fall ends bound down
+    → (best : Option Meeting) → IsBestMeeting bound (costs_of up) (costs_of down) best → IfSome best (IsMeetingOf h starts ends bound up down)
+meeting_of h starts ends bound up down rises falls None is = tt
+meeting_of h starts ends bound up down rises falls (Some m) is = record { rises = rises; falls = falls; meets = is.meets }
 
 -- at places of links are the links that are read there
 are_at-places : (h : Hierarchy) (ids : List LinkId) → All (IsPlace h) ids → AreAt h ids (links_at h ids)

@@ -12,14 +12,12 @@ use Rattle.ch_graph.specs.Hierarchy.{Hierarchy, rank_of}
 use Rattle.ch_graph.specs.Marks.{mark, HasLabel, IsAtMost, settled_count}
 use Rattle.ch_graph.specs.Marks.Laws.{cases_put, put-set, mark-replicate, label_open, one_label, unseen-label, unseen-settled, open-settled, at_most-from_label, improves-below}
 use Rattle.ch_graph.specs.Searching.Laws.{search-begin}
-use Rattle.ch_query.specs.declared.layout.Layout.{Layout}
 use Rattle.ch_query.specs.declared.seed.Seed.{Seed}
 use Rattle.ch_query.specs.declared.side.Side.{Side}
 use Rattle.ch_query.specs.declared.label.Label.{Label}
 use Rattle.ch_query.specs.Seeds.{AreSeeds, IsSeedAt}
 use Rattle.ch_query.specs.Labels.{CountsBelow}
 use Rattle.ch_query.specs.Marks.{label_cost, IsStopped}
-use Rattle.ch_query.specs.Ready.{IsReady}
 use Rattle.ch_query.specs.Searching.{IsOfSeed, IsClimbing, IsSearching, IsTurned}
 use Rattle.ch_query.specs.Beginning.{NoneSettled, IsPlanted, IsBegun}
 use Rattle.ch_query.specs.Meeting.{IsBestSoFar}
@@ -151,11 +149,6 @@ module _ (h : Hierarchy) (side : Side) (seeds : List Seed) (are : AreSeeds h see
   -- the sides haven't met yet
   pub best-begun : (down : List (Mark Label)) → IsBestSoFar bound marks down None
   best-begun down = best-none bound marks down begun.none
-
--- a search stays ready while its marks are written
-pub ready-more : {h : Hierarchy} {layout : Layout} {up down : List (Mark Label)} (now_up now_down : List (Mark Label)) → IsReady h layout up down
-    → length now_up ≡ length up → length now_down ≡ length down → IsReady h layout now_up now_down
-ready-more now_up now_down ready ups downs = record { made = ready.made; rising = ready.rising; falling = ready.falling; ups = ups ∙ ready.ups; downs = downs ∙ ready.downs }
 
 -- Turns
 

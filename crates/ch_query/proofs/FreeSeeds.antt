@@ -74,24 +74,20 @@ module _ (h : Hierarchy) (s t : ℕ) where
         subst (λ (p : Seed). Joined h p.node places) start walk.joined,
       )
 
--- the same where the hierarchy, the seeds and the bound are given by equations
-pub value-here : (h k : Hierarchy) → h ≡ k → (s t : ℕ) (a b : Seed) → a ≡ free s → b ≡ free t → (bound : Cost) → bound ≡ h.bound → (v : Option Cost) → IsValueBetween h (a ∷ []) (b ∷ []) bound v → IsValue k s t v
-value-here h k same s t a b start stop bound is_bound v value =
+-- the same where the seeds and the bound are given by equations
+pub value-of : (h : Hierarchy) (s t : ℕ) (a b : Seed) → a ≡ free s → b ≡ free t → (bound : Cost) → bound ≡ h.bound → (v : Option Cost) → IsValueBetween h (a ∷ []) (b ∷ []) bound v → IsValue h s t v
+value-of h s t a b start stop bound is_bound v value =
     let first = subst (λ (p : Seed). IsValueBetween h (p ∷ []) (b ∷ []) bound v) start value in
     let both = subst (λ (q : Seed). IsValueBetween h (only s) (q ∷ []) bound v) stop first in
-    let whole = subst (λ (d : Cost). IsValueBetween h (only s) (only t) d v) is_bound both in
-    subst (λ (g : Hierarchy). IsValue g s t v) same (value-one h s t v whole)
+    value-one h s t v (subst (λ (d : Cost). IsValueBetween h (only s) (only t) d v) is_bound both)
 
-pub walk-here : (h k : Hierarchy) → h ≡ k → (s t : ℕ) (a b : Seed) → a ≡ free s → b ≡ free t → (from to : ℕ) (places : List LinkId) (c : Cost) → IsWalkBetween h (a ∷ []) (b ∷ []) from to places c → IsRiseFallAt k places s t c × Joined k s places
-walk-here h k same s t a b start stop from to places c walk =
+pub walk-of : (h : Hierarchy) (s t : ℕ) (a b : Seed) → a ≡ free s → b ≡ free t → (from to : ℕ) (places : List LinkId) (c : Cost) → IsWalkBetween h (a ∷ []) (b ∷ []) from to places c → IsRiseFallAt h places s t c × Joined h s places
+walk-of h s t a b start stop from to places c walk =
     let first = subst (λ (p : Seed). IsWalkBetween h (p ∷ []) (b ∷ []) from to places c) start walk in
-    let both = subst (λ (q : Seed). IsWalkBetween h (only s) (q ∷ []) from to places c) stop first in
-    subst (λ (g : Hierarchy). IsRiseFallAt g places s t c × Joined g s places) same (walk-one h s t from to places c both)
+    walk-one h s t from to places c (subst (λ (q : Seed). IsWalkBetween h (only s) (q ∷ []) from to places c) stop first)
 
-pub seeds-here : (h k : Hierarchy) → h ≡ k → (s : ℕ) (a : Seed) → a ≡ free s → s < length k.ranks → AreSeeds h (a ∷ [])
-seeds-here h k same s a start low =
-    let here : s < length h.ranks = subst (λ (g : Hierarchy). s < length g.ranks) (sym same) low in
-    subst (λ (p : Seed). AreSeeds h (p ∷ [])) (sym start) (free-seeds h s here)
+pub seeds-of : (h : Hierarchy) (s : ℕ) (a : Seed) → a ≡ free s → s < length h.ranks → AreSeeds h (a ∷ [])
+seeds-of h s a start low = subst (λ (p : Seed). AreSeeds h (p ∷ [])) (sym start) (free-seeds h s low)
 
-pub bound-here : (h : Hierarchy) → IsWellMade h → (bound : Cost) → bound ≡ h.bound → IsSummable bound
-bound-here h made bound is = subst IsSummable (sym is) (summable-from_in_limit (bound_in_limit h made))
+pub bound-of : (h : Hierarchy) → IsWellMade h → (bound : Cost) → bound ≡ h.bound → IsSummable bound
+bound-of h made bound is = subst IsSummable (sym is) (summable-from_in_limit (bound_in_limit h made))

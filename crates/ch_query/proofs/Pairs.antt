@@ -131,17 +131,15 @@ IsLeastFound h starts ends found = IfSome found (λ (f : FoundBetween). IsLeastW
 abbrev pub IsExact : Hierarchy → List Seed → List Seed → Option Cost → Type 0
 IsExact h starts ends v = (g : Graph) → IsRight g h → IsDistanceBetween g starts ends v
 
--- The same where the hierarchy and the bound are given by equations
+-- The same where the bound is given by an equation
 
-module _ (h k : Hierarchy) (same : h ≡ k) (made : IsWellMade h) (starts ends : List Seed) (begins : AreSeeds k starts) (stops : AreSeeds k ends) (bound : Cost) (is_bound : bound ≡ longest) where
-  value_here : (v : Option Cost) → IsValueBetween h starts ends bound v → IsValueBetween k starts ends longest v
-  value_here v value = subst (λ (g : Hierarchy). IsValueBetween g starts ends longest v) same (subst (λ (d : Cost). IsValueBetween h starts ends d v) is_bound value)
+module _ (h : Hierarchy) (made : IsWellMade h) (starts ends : List Seed) (begins : AreSeeds h starts) (stops : AreSeeds h ends) (bound : Cost) (is_bound : bound ≡ longest) where
+  value_here : (v : Option Cost) → IsValueBetween h starts ends bound v → IsValueBetween h starts ends longest v
+  value_here v value = subst (λ (d : Cost). IsValueBetween h starts ends d v) is_bound value
 
-  pub exact_here : (v : Option Cost) → IsValueBetween h starts ends bound v → IsExact k starts ends v
-  exact_here v value g right = least_pair g k right (subst IsWellMade same made) starts ends begins stops v (value_here v value)
+  pub exact_here : (v : Option Cost) → IsValueBetween h starts ends bound v → IsExact h starts ends v
+  exact_here v value g right = least_pair g h right made starts ends begins stops v (value_here v value)
 
-  pub least_here : (found : Option FoundBetween) → IsValueBetween h starts ends bound (cost_found found) → IsWalkFound h starts ends found → IsLeastFound k starts ends found
+  pub least_here : (found : Option FoundBetween) → IsValueBetween h starts ends bound (cost_found found) → IsWalkFound h starts ends found → IsLeastFound h starts ends found
   least_here None value walk = tt
-  least_here (Some f) value walk =
-      least_walk k (subst IsWellMade same made) starts ends begins stops f.start f.end f.links.items f.cost (value_here (Some f.cost) value)
-      (subst (λ (g : Hierarchy). IsWalkBetween g starts ends f.start f.end f.links.items f.cost) same walk)
+  least_here (Some f) value walk = least_walk h made starts ends begins stops f.start f.end f.links.items f.cost (value_here (Some f.cost) value) walk

@@ -5,8 +5,12 @@ use Rattle.ch_cost.specs.Cost.{◌≼◌, IsNoLonger}
 use Rattle.ch_graph.specs.declared.mark.Mark.{Mark}
 use Rattle.ch_query.specs.declared.meeting.Meeting.{Meeting}
 use Rattle.ch_query.specs.declared.label.Label.{Label}
+use Rattle.ch_graph.specs.Hierarchy.{Hierarchy}
+use Rattle.ch_query.specs.declared.seed.Seed.{Seed}
+use Rattle.ch_query.specs.declared.side.Side.TheVariants.{Rise, Fall}
 use Rattle.ch_query.specs.Labels.{AreShort, Meets}
 use Rattle.ch_query.specs.Marks.{costs_of, settled_costs, HasLimit, IsNoMore}
+use Rattle.ch_query.specs.Searching.{IsSearching}
 
 -- two labels have a short sum, or there is none
 abbrev pub IsShortSum : Cost → Option Cost → Option Cost → Option Cost → Type 0
@@ -45,3 +49,9 @@ pub record IsLooked (bound : Cost) (r : ℕ) (c : Cost) (other : Option Cost) (b
   pub less : IsNoMore (cost_of found) (cost_of best)
   pub seen : (d : Cost) → AreShort bound (Some c) other d → HasLimit (cost_of found) d
   pub from : (m : Meeting) → found ≡ Some m → (best ≡ Some m) ⊎ ((m.rank ≡ r) × AreShort bound (Some c) other m.cost)
+
+-- Where the halves of a query meet: what either knows of the nodes, and that both have labels of the meeting's node.
+pub record IsMeetingOf (h : Hierarchy) (starts ends : List Seed) (bound : Cost) (up down : List (Mark Label)) (m : Meeting) : Type 0 where
+  pub rises : IsSearching h Rise starts bound up
+  pub falls : IsSearching h Fall ends bound down
+  pub meets : Meets bound (costs_of up) (costs_of down) m.rank m.cost

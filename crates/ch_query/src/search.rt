@@ -1,25 +1,17 @@
 ghost use Rattle.std.specs.Prelude.{◌≡◌, ◌<◌, length, option_map, Some, IfOk, IfSome};
 ghost use Rattle.ch_cost.specs.Cost.{zero_cost, IsSummable};
 ghost use Rattle.ch_graph.specs.Graph as graphs;
-ghost use Rattle.ch_graph.specs.Hierarchy.{IsRight, IsValue};
+ghost use Rattle.ch_graph.specs.Hierarchy.{IsRight, IsValue, IsWellMade};
 ghost use Rattle.ch_graph.specs.Unfolding.{Joined};
-ghost use Rattle.ch_query.specs.declared.side.Side.TheVariants.{Rise, Fall};
-ghost use Rattle.ch_query.specs.Labels.{Meets};
-ghost use Rattle.ch_query.specs.Marks.{costs_of};
-ghost use Rattle.ch_query.specs.Searching.{IsSearching};
 ghost use Rattle.ch_query.specs.Places.{IsRiseFallAt};
-ghost use Rattle.ch_query.specs.Ready.{IsReady};
 ghost use Rattle.ch_query.specs.Seeds.{AreSeeds, IsValueBetween, IsWalkBetween, IsLeastWalkBetween, IsDistanceBetween, longest};
 
-use crate::descent::{WayBack, descent};
 use crate::frontier::Frontier;
 use crate::layout::Layout;
-use crate::meet::meet;
-use crate::meeting::{Meeting, cost_of};
+use crate::query::Query;
 use crate::seed::Seed;
-use crate::side::Side;
 use ch_cost::Cost;
-use ch_graph::{Hierarchy, LinkId, rise_fall_joins};
+use ch_graph::{Hierarchy, LinkId};
 use std::alloc::{AllocError, Global};
 use std::marker::Model;
 use std::ops::Deref;
@@ -149,15 +141,7 @@ impl<'a> Search<'a> {
         let start = [free(source)];
         let end = [free(target)];
         let bound = self.hierarchy.bound();
-        let found = least_walk(
-            self.hierarchy,
-            &start,
-            &end,
-            bound,
-            self.layout.deref(),
-            &mut self.up,
-            &mut self.down,
-        )?;
+        let found = self.least_walk(&start, &end, bound)?;
         let Some(FoundBetween { cost, links, .. }) = found else {
             return Ok(None);
         };
@@ -176,15 +160,7 @@ impl<'a> Search<'a> {
         let start = [free(source)];
         let end = [free(target)];
         let bound = self.hierarchy.bound();
-        least_cost(
-            self.hierarchy,
-            &start,
-            &end,
-            bound,
-            self.layout.deref(),
-            &mut self.up,
-            &mut self.down,
-        )
+        self.least_cost(&start, &end, bound)
     }
 
     /// Returns the least rise-fall walk from one of the starts to one of the ends, by what start, walk and end cost
@@ -213,15 +189,7 @@ impl<'a> Search<'a> {
         ensures kept { self.new ≡ self.old }
     {
         let limit = Cost::of_walk(LONGEST, 0);
-        least_walk(
-            self.hierarchy,
-            starts,
-            ends,
-            limit,
-            self.layout.deref(),
-            &mut self.up,
-            &mut self.down,
-        )
+        self.least_walk(starts, ends, limit)
     }
 
     /// Returns what start, walk and end of [`Search::between`] cost together, without the walk: `None` where there is
@@ -238,15 +206,63 @@ impl<'a> Search<'a> {
         ensures kept { self.new ≡ self.old }
     {
         let most = Cost::of_walk(LONGEST, 0);
-        least_cost(
-            self.hierarchy,
+        self.least_cost(starts, ends, most)
+    }
+
+    /// The least walk from a start to an end, if one is no longer than the bound with both. Frees the memory of a far
+    /// search.
+    fn least_walk(
+        &mut self,
+        starts: &[Seed],
+        ends: &[Seed],
+        bound: Cost,
+    ) -> Result<Option<FoundBetween>, AllocError>
+        requires starts { AreSeeds self.old starts.now }
+        requires ends { AreSeeds self.old ends.now }
+        requires bound { IsSummable bound }
+        ensures made { IsWellMade self.old }
+        ensures value { IfOk result (λ found. IsValueBetween self.old starts.now ends.now bound (option_map (λ f. f.cost) found)) }
+        ensures walk { IfOk result (λ found. IfSome found (λ f. IsWalkBetween self.old starts.now ends.now f.start f.end f.links.items f.cost)) }
+        ensures kept { self.new ≡ self.old }
+    {
+        let query = Query {
+            hierarchy: self.hierarchy,
+            layout: self.layout.deref(),
             starts,
             ends,
-            most,
-            self.layout.deref(),
-            &mut self.up,
-            &mut self.down,
-        )
+            bound,
+        };
+        let found = query.found(&mut self.up, &mut self.down);
+        self.up.give_back();
+        self.down.give_back();
+        found
+    }
+
+    /// What that walk costs with its start and its end. Frees the memory of a far search.
+    fn least_cost(
+        &mut self,
+        starts: &[Seed],
+        ends: &[Seed],
+        bound: Cost,
+    ) -> Result<Option<Cost>, AllocError>
+        requires starts { AreSeeds self.old starts.now }
+        requires ends { AreSeeds self.old ends.now }
+        requires bound { IsSummable bound }
+        ensures made { IsWellMade self.old }
+        ensures value { IfOk result (IsValueBetween self.old starts.now ends.now bound) }
+        ensures kept { self.new ≡ self.old }
+    {
+        let query = Query {
+            hierarchy: self.hierarchy,
+            layout: self.layout.deref(),
+            starts,
+            ends,
+            bound,
+        };
+        let found = query.cost(&mut self.up, &mut self.down);
+        self.up.give_back();
+        self.down.give_back();
+        found
     }
 }
 
@@ -261,155 +277,4 @@ fn free(node: u32) -> Seed
         node,
         cost: Cost::ZERO,
     }
-}
-
-/// What the least walk from a start to an end costs with both, if one is no longer than the bound. Gives
-/// back the memory of a far search.
-fn least_cost(
-    hierarchy: &Hierarchy,
-    starts: &[Seed],
-    ends: &[Seed],
-    bound: Cost,
-    layout: &Layout,
-    up: &mut Frontier,
-    down: &mut Frontier,
-) -> Result<Option<Cost>, AllocError>
-    requires ready { IsReady hierarchy.now layout.now up.old down.old }
-    requires starts { AreSeeds hierarchy.now starts.now }
-    requires ends { AreSeeds hierarchy.now ends.now }
-    requires bound { IsSummable bound }
-    ensures ready { IsReady hierarchy.now layout.now up.new down.new }
-    ensures value { IfOk result (IsValueBetween hierarchy.now starts.now ends.now bound) }
-{
-    let found = find_cost(hierarchy, starts, ends, bound, layout, up, down);
-    up.give_back();
-    down.give_back();
-    found
-}
-
-/// What it costs, by a search whose memory is kept.
-fn find_cost(
-    hierarchy: &Hierarchy,
-    starts: &[Seed],
-    ends: &[Seed],
-    bound: Cost,
-    layout: &Layout,
-    up: &mut Frontier,
-    down: &mut Frontier,
-) -> Result<Option<Cost>, AllocError>
-    requires ready { IsReady hierarchy.now layout.now up.old down.old }
-    requires starts { AreSeeds hierarchy.now starts.now }
-    requires ends { AreSeeds hierarchy.now ends.now }
-    requires bound { IsSummable bound }
-    ensures ready { IsReady hierarchy.now layout.now up.new down.new }
-    ensures value { IfOk result (IsValueBetween hierarchy.now starts.now ends.now bound) }
-{
-    let best = meet(hierarchy, starts, ends, bound, layout, up, down)?;
-    Ok(cost_of(best))
-}
-
-/// The least walk from a start to an end, if one is no longer than the bound with both. Frees the memory of a
-/// far search.
-fn least_walk(
-    hierarchy: &Hierarchy,
-    starts: &[Seed],
-    ends: &[Seed],
-    bound: Cost,
-    layout: &Layout,
-    up: &mut Frontier,
-    down: &mut Frontier,
-) -> Result<Option<FoundBetween>, AllocError>
-    requires ready { IsReady hierarchy.now layout.now up.old down.old }
-    requires starts { AreSeeds hierarchy.now starts.now }
-    requires ends { AreSeeds hierarchy.now ends.now }
-    requires bound { IsSummable bound }
-    ensures ready { IsReady hierarchy.now layout.now up.new down.new }
-    ensures value { IfOk result (λ found. IsValueBetween hierarchy.now starts.now ends.now bound (option_map (λ f. f.cost) found)) }
-    ensures walk { IfOk result (λ found. IfSome found (λ f. IsWalkBetween hierarchy.now starts.now ends.now f.start f.end f.links.items f.cost)) }
-{
-    let found = find_walk(hierarchy, starts, ends, bound, layout, up, down);
-    up.give_back();
-    down.give_back();
-    found
-}
-
-/// That walk, by a search whose memory is kept.
-fn find_walk(
-    hierarchy: &Hierarchy,
-    starts: &[Seed],
-    ends: &[Seed],
-    bound: Cost,
-    layout: &Layout,
-    up: &mut Frontier,
-    down: &mut Frontier,
-) -> Result<Option<FoundBetween>, AllocError>
-    requires ready { IsReady hierarchy.now layout.now up.old down.old }
-    requires starts { AreSeeds hierarchy.now starts.now }
-    requires ends { AreSeeds hierarchy.now ends.now }
-    requires bound { IsSummable bound }
-    ensures ready { IsReady hierarchy.now layout.now up.new down.new }
-    ensures value { IfOk result (λ found. IsValueBetween hierarchy.now starts.now ends.now bound (option_map (λ f. f.cost) found)) }
-    ensures walk { IfOk result (λ found. IfSome found (λ f. IsWalkBetween hierarchy.now starts.now ends.now f.start f.end f.links.items f.cost)) }
-{
-    let best = meet(hierarchy, starts, ends, bound, layout, up, down)?;
-    let Some(meeting) = best else {
-        return Ok(None);
-    };
-    let found = walk_over(hierarchy, starts, ends, bound, layout, up, down, meeting)?;
-    Ok(Some(found))
-}
-
-/// The walk up to a node where the sides meet, and down from it.
-fn walk_over(
-    hierarchy: &Hierarchy,
-    starts: &[Seed],
-    ends: &[Seed],
-    bound: Cost,
-    layout: &Layout,
-    up: &Frontier,
-    down: &Frontier,
-    meeting: Meeting,
-) -> Result<FoundBetween, AllocError>
-    requires ready { IsReady hierarchy.now layout.now up.now down.now }
-    requires starts { AreSeeds hierarchy.now starts.now }
-    requires ends { AreSeeds hierarchy.now ends.now }
-    requires rises { IsSearching hierarchy.now Rise starts.now bound up.now }
-    requires falls { IsSearching hierarchy.now Fall ends.now bound down.now }
-    requires meets { Meets bound (costs_of up.now) (costs_of down.now) meeting.rank meeting.cost }
-    ensures cost { IfOk result (λ f. f.cost ≡ meeting.cost) }
-    ensures walk { IfOk result (λ f. IsWalkBetween hierarchy.now starts.now ends.now f.start f.end f.links.items meeting.cost) }
-{
-    rise_fall_joins();
-    let alloc = *layout.rising.steps.allocator();
-    let WayBack {
-        mut links,
-        seed: start,
-    } = descent(
-        alloc,
-        hierarchy,
-        &layout.rising,
-        Side::Rise,
-        starts,
-        bound,
-        up,
-        meeting.rank,
-    )?;
-    links.reverse();
-    let fallen = descent(
-        alloc,
-        hierarchy,
-        &layout.falling,
-        Side::Fall,
-        ends,
-        bound,
-        down,
-        meeting.rank,
-    )?;
-    links.extend_from_slice(&fallen.links)?;
-    Ok(FoundBetween {
-        cost: meeting.cost,
-        start,
-        end: fallen.seed,
-        links,
-    })
 }

@@ -105,3 +105,9 @@ pub record HasTooLongBetween (h : Hierarchy) (starts ends : List Seed) : Type 0 
   pub arcs : List Link
   pub way : IsUnfoldedWay h start stop cost arcs
   pub many : length h.ranks - 1 < length arcs
+
+-- the length of that least cost over all pairs, or none where there is none
+pub record IsLengthBetweenBy (h : Hierarchy) (starts ends : List Seed) (n : Option ℕ) : Type 0 where
+  pub value : Option Cost
+  pub least : IsValueBetween h starts ends longest value
+  pub long : n ≡ option_map length_of value

@@ -3,9 +3,10 @@ use Rattle.std.specs.Prelude.{ℕ, ◌≡◌, ◌-◌, ◌<◌, ◌≤◌, List,
 use Rattle.ch_cost.specs.declared.cost.Cost.{Cost}
 use Rattle.ch_cost.specs.Cost.{length_of}
 use Rattle.ch_graph.specs.declared.link.Link.{Link}
-use Rattle.ch_graph.specs.Walk.{Walk, visited, Along}
+use Rattle.ch_graph.specs.Walk.{Walk, visited}
 use Rattle.ch_graph.specs.Graph.{Graph, ArcOf, IsLeastLength}
 use Rattle.ch_graph.specs.Hierarchy.{Hierarchy, IsValue}
+use Rattle.ch_laws.specs.ByWeight.{IsShortest}
 use Rattle.ch_laws.specs.Theorems.{IsLeastRoute}
 
 -- what a way from one node to another costs, and the nodes along it, both ends among them
@@ -18,7 +19,7 @@ pub record Route : Type 0 where
 -- the length is the least over all walks of the graph, and some walk of exactly that length goes along the nodes; or
 -- there is no walk
 abbrev pub IsLeastWalk : Graph → ℕ → ℕ → Option Route → Type 0
-IsLeastWalk g s t (Some r) = IsLeastLength g s t (Some (length_of r.cost)) × ((c : Cost) × Along (ArcOf g) r.nodes s t c × (length_of c ≡ length_of r.cost))
+IsLeastWalk g s t (Some r) = IsShortest g r.nodes s t r.cost
 IsLeastWalk g s t None = IsLeastLength g s t None
 
 -- no walk of the same length has fewer arcs than there are from node to node

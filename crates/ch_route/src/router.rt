@@ -6,7 +6,7 @@ ghost use Rattle.ch_graph.specs.Hierarchy.{IsRight, IsWellMade};
 ghost use Rattle.ch_graph.specs.Limits.{IsGraph};
 ghost use Rattle.ch_laws.specs.ByWeight.{IsRightByWeight};
 ghost use Rattle.ch_query.specs.Seeds.{AreSeeds};
-ghost use Rattle.ch_route.specs.Between.{HasTooLongBetween, IsLeastBetween, IsLeastLengthBetween, IsLengthBetween, IsRouteBetweenBy, IsShortestBetween};
+ghost use Rattle.ch_route.specs.Between.{HasTooLongBetween, IsLeastBetween, IsLeastLengthBetween, IsLengthBetween, IsLengthBetweenBy, IsRouteBetweenBy, IsShortestBetween};
 ghost use Rattle.ch_route.specs.Routes.{HasTooLong, IsFewestWalk, IsLeastWalk, IsLengthBy, IsRouteBy};
 ghost use Rattle.ch_unpack.specs.declared.error.UnpackError.TheVariants.{TooLong};
 
@@ -169,6 +169,7 @@ impl<'a> Router<'a> {
     ) -> Result<Option<u64>, AllocError>
         requires starts { AreSeeds self.old starts.now }
         requires ends { AreSeeds self.old ends.now }
+        ensures found { IfOk result (IsLengthBetweenBy self.old starts.now ends.now) }
         ensures exact { IfOk result (λ length. (g : Graph) → IsRight g self.old → IsLengthBetween g starts.now ends.now length) }
         ensures by_weight { IfOk result (λ length. (g : Graph) → IsRightByWeight g self.old → IsLeastLengthBetween g starts.now ends.now length) }
         ensures kept { self.new ≡ self.old }

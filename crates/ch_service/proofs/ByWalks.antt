@@ -14,6 +14,7 @@ use Rattle.grfile.specs.Reading.{IsPair, graph_of, pairs_of}
 use Rattle.ch_service.specs.Answer.{Route, IsAnswer, AreAnswers, nothing, one_more, IsLeastWalk, AnswersBy, AnswersFirst}
 use Rattle.ch_service.specs.Outcome.{IfTold, IfTextFault, Writes, IsFaultOf, IsRoutingFault, StopsShort, ComesOfTexts, ComesOfRouting, ComesOfAnswering}
 use Rattle.ch_service.specs.Route.{Spells, IsRightIn, IsRouteBy, HasTooLong, Routed, StopsAtTooLong, Routes, RoutesFirst, RoutesToTooLong}
+use Rattle.ch_unpack.specs.declared.error.UnpackError.TheVariants as unpacking
 use Rattle.ch_workers.specs.declared.error.BuildError.{BuildError}
 use Rattle.ch_service.specs.declared.error.ServiceError.{ServiceError}
 use Rattle.ch_service.specs.declared.error.ServiceError.TheVariants.{Graph as GraphFault, Queries, Hierarchy as HierarchyFault, Build, Unpack, Write, OutOfMemory}
@@ -61,7 +62,8 @@ stops-weaker P P' Q Q' old new (GraphFault fault) f g s = tt
 stops-weaker P P' Q Q' old new (Queries fault) f g s = tt
 stops-weaker P P' Q Q' old new (HierarchyFault fault) f g s = tt
 stops-weaker P P' Q Q' old new (Build e) f g s = s
-stops-weaker P P' Q Q' old new (Unpack e) f g s = (s.0, g s.0 s.1, s.2)
+stops-weaker P P' Q Q' old new (Unpack unpacking.OutOfMemory) f g s = (s.0, f s.0 s.1, s.2)
+stops-weaker P P' Q Q' old new (Unpack unpacking.TooLong) f g s = (s.0, g s.0 s.1, s.2)
 stops-weaker P P' Q Q' old new (Write fault) f g s = (s.0, f s.0 s.1, s.2, s.3)
 stops-weaker P P' Q Q' old new OutOfMemory f g s = elim s [ inl kept ↦ inl kept | inr w ↦ inr (w.0, f w.0 w.1, w.2) ]
 
@@ -150,7 +152,7 @@ routing-kind (GraphFault fault) f = f
 routing-kind (Queries fault) f = tt
 routing-kind (HierarchyFault e) f = tt
 routing-kind (Build e) f = f
-routing-kind (Unpack e) f = f
+routing-kind (Unpack e) f = tt
 routing-kind (Write fault) f = tt
 routing-kind OutOfMemory f = tt
 
@@ -208,7 +210,8 @@ fault-over g pairs old new graph_text pairs_text P (GraphFault fault) reads read
 fault-over g pairs old new graph_text pairs_text P (Queries fault) reads read f s = absurd f
 fault-over g pairs old new graph_text pairs_text P (HierarchyFault e) reads read f s = f
 fault-over g pairs old new graph_text pairs_text P (Build e) reads read f s = absurd f
-fault-over g pairs old new graph_text pairs_text P (Unpack e) reads read f s = absurd s.1
+fault-over g pairs old new graph_text pairs_text P (Unpack unpacking.OutOfMemory) reads read f s = (refl, (g, reads, (pairs, read)))
+fault-over g pairs old new graph_text pairs_text P (Unpack unpacking.TooLong) reads read f s = absurd s.1
 fault-over g pairs old new graph_text pairs_text P (Write fault) reads read f s = (g, reads, (pairs, read))
 fault-over g pairs old new graph_text pairs_text P OutOfMemory reads read f s = (g, reads, (pairs, read))
 
@@ -218,7 +221,8 @@ texts-kind g h pairs old new P (GraphFault fault) never graph right within f s =
 texts-kind g h pairs old new P (Queries fault) never graph right within f s = tt
 texts-kind g h pairs old new P (HierarchyFault e) never graph right within f s = f
 texts-kind g h pairs old new P (Build e) never graph right within f s = tt
-texts-kind g h pairs old new P (Unpack e) never graph right within f s = none_too_long g h pairs s.0 right.nodes (λ s t. never g h s t graph right) within s.1
+texts-kind g h pairs old new P (Unpack unpacking.OutOfMemory) never graph right within f s = refl
+texts-kind g h pairs old new P (Unpack unpacking.TooLong) never graph right within f s = absurd (none_too_long g h pairs s.0 right.nodes (λ s t. never g h s t graph right) within s.1)
 texts-kind g h pairs old new P (Write fault) never graph right within f s = tt
 texts-kind g h pairs old new P OutOfMemory never graph right within f s = tt
 

@@ -1,5 +1,5 @@
 -- What is refused where a hierarchy is prepared and pairs are answered by its file, both in memory.
-use Rattle.std.proofs.Common.{ℕ, ◌≡◌, List, length, sym, ◌∙◌, ap, subst}
+use Rattle.std.proofs.Common.{ℕ, ◌≡◌, List, length, refl, sym, ◌∙◌, ap, subst}
 use Rattle.std.specs.Prelude.{Option, None, Some, Ok, Err}
 use Rattle.grfile.specs.Outcome.{FromText}
 use Rattle.grfile.specs.Reading.{graph_of, pairs_of, SpelledGraphsAreInRange}
@@ -13,6 +13,7 @@ use Rattle.ch_service.specs.Outcome.{AreTexts, ComesOfPreparing, ComesOfRouting,
 use Rattle.ch_service.specs.Route.{Prepares}
 use Rattle.ch_service.specs.declared.error.ServiceError.{ServiceError}
 use Rattle.ch_service.specs.declared.error.ServiceError.TheVariants.{Graph, Queries, Hierarchy, Build, Unpack, Write, OutOfMemory}
+use Rattle.ch_unpack.specs.declared.error.UnpackError.TheVariants as unpacking
 use Rattle.ch_unpack.specs.declared.error.UnpackError.TheVariants.{TooLong}
 use Rattle.ch_service.proofs.ByWalks.{right-nodes}
 use Rattle.ch_service.proofs.Exact.{all_of, is_prepared}
@@ -64,7 +65,10 @@ module _ (one : HierarchiesHaveOneSpelling) (clean : SpellingsHaveNoFault) (grap
       (q.graph, q.reads, subst (λ (n : ℕ). FromText fault.kind (pairs_of n pairs_text ≡ Err fault)) (right-nodes Two q.graph h.0 q.right) h.2)
   refused-routing (Hierarchy e) kind h short = (prepared, faultless e (no_fault e) h)
   refused-routing (Build e) kind h short = absurd kind
-  refused-routing (Unpack e) kind h short = absurd (short (ap Unpack kind))
+  refused-routing (Unpack unpacking.OutOfMemory) kind h short =
+      let q = is_prepared Two one graphs graph_text bytes h.0 p h.1 in
+      (refl, (q.graph, q.reads, (h.2.0, subst (λ (n : ℕ). pairs_of n pairs_text ≡ Ok h.2.0) (right-nodes Two q.graph h.0 q.right) h.2.1)))
+  refused-routing (Unpack unpacking.TooLong) kind h short = absurd (short refl)
   refused-routing (Write fault) kind h short = prepared
   refused-routing OutOfMemory kind h short =
       let q = is_prepared Two one graphs graph_text bytes h.0 p h.1 in

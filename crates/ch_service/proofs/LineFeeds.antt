@@ -14,7 +14,7 @@ use Rattle.grfile.specs.declared.error.GrErrorKind.TheVariants.{Read, UnknownLin
 use Rattle.ch_service.specs.declared.error.ServiceError.{ServiceError}
 use Rattle.ch_service.specs.declared.error.ServiceError.TheVariants.{Graph, Queries, Hierarchy, Build, Unpack, Write, OutOfMemory}
 use Rattle.ch_service.specs.Joined.{graph_part, pairs_part}
-use Rattle.ch_service.specs.Outcome.{IfTextFault, StopsInJoined, StopsWithin, of_fault, of_whole}
+use Rattle.ch_service.specs.Outcome.{ComesOfReading, IfTextFault, StopsInJoined, StopsWithin, of_fault, of_whole}
 
 one_more : (b : Bool) (n : ℕ) → (if b then n + 1 else n) ≡ cond b (1 + n) n
 one_more true n = omega arith
@@ -88,10 +88,20 @@ module _ (had left first second : Option (List ℕ)) (input graph pairs : List �
   within_pairs (Some bytes) is fault h = (second, subst (λ l. StopsAtReached (Some l) second fault) (pairs_are ∙ ap pairs_part (sym is)) h)
 
   pub stops_in_joined : (e : ServiceError) → IfTextFault (StopsAtReached (Some graph) first) (StopsAtReached (Some pairs) second) e → StopsInJoined had left (of_whole input e)
-  stops_in_joined (Graph fault) h = at_kind (StopsInJoined had left) input fault.kind (Graph fault) failed (λ other. (λ read. absurd (other read), λ _. within_graph had (whole had left taken ended) fault h))
-  stops_in_joined (Queries fault) h = at_kind (StopsInJoined had left) input fault.kind (Queries fault) failed (λ other. (other, within_pairs had (whole had left taken ended) fault h))
+  stops_in_joined (Graph fault) h = at_kind (StopsInJoined had left) input fault.kind (Graph fault) failed (λ other. (λ read. absurd (other read), λ _. (ended, within_graph had (whole had left taken ended) fault h)))
+  stops_in_joined (Queries fault) h = at_kind (StopsInJoined had left) input fault.kind (Queries fault) failed (λ other. (other, ended, within_pairs had (whole had left taken ended) fault h))
   stops_in_joined (Hierarchy fault) h = tt
   stops_in_joined (Build fault) h = tt
   stops_in_joined (Unpack fault) h = tt
   stops_in_joined (Write fault) h = tt
   stops_in_joined OutOfMemory h = tt
+
+-- where the whole input wasn't read
+pub stops_in_reading : (had left : Option (List ℕ)) (e : ServiceError) → ComesOfReading e → IfTextFault (StopsAtReached had left) (λ _. ⊥) e → StopsInJoined had left e
+stops_in_reading had left (Graph fault) kind h = (λ read. h, λ other. absurd (other kind))
+stops_in_reading had left (Queries fault) kind h = absurd kind
+stops_in_reading had left (Hierarchy fault) kind h = absurd kind
+stops_in_reading had left (Build fault) kind h = absurd kind
+stops_in_reading had left (Unpack fault) kind h = absurd kind
+stops_in_reading had left (Write fault) kind h = absurd kind
+stops_in_reading had left OutOfMemory kind h = tt

@@ -14,7 +14,10 @@ use Rattle.ch_service.specs.declared.error.ServiceError.{ServiceError}
 use Rattle.ch_service.specs.declared.error.ServiceError.TheVariants.{Graph, Queries, Hierarchy as HierarchyFault, Build, Unpack, Write, OutOfMemory}
 use Rattle.std.specs.Prelude.{⊤, Result, Ok, Err, IfErr, IsErrAnd}
 use Rattle.std.proofs.lemmas.List.{take_more, take_all, take-append-drop}
-use Rattle.std.proofs.Common.{get_or, ◌<◌}
+use Rattle.std.proofs.Common.{get_or, ◌<◌, refl}
+use Rattle.ch_unpack.specs.declared.error.UnpackError.{UnpackError}
+use Rattle.ch_unpack.specs.declared.error.UnpackError.TheVariants as unpacking
+use Rattle.ch_route.specs.Routes.{HasTooLong}
 
 -- what is said of two nodes
 abbrev pub Told : Type 1
@@ -110,7 +113,8 @@ stops-at_next h pairs i old new (Graph fault) within f w = tt
 stops-at_next h pairs i old new (Queries fault) within f w = tt
 stops-at_next h pairs i old new (HierarchyFault fault) within f w = tt
 stops-at_next h pairs i old new (Build e) within f w = absurd f
-stops-at_next h pairs i old new (Unpack e) within f w = (
+stops-at_next h pairs i old new (Unpack unpacking.OutOfMemory) within f w = (w.0, (i, w.1), w.2)
+stops-at_next h pairs i old new (Unpack unpacking.TooLong) within f w = (
   w.0,
   record {
     first = take i pairs;
@@ -118,7 +122,7 @@ stops-at_next h pairs i old new (Unpack e) within f w = (
     rest = drop (i + 1) pairs;
     parts = parted_at pairs i within;
     routed = w.1;
-    too_long = f.1;
+    too_long = f;
   },
   w.2,
 )
@@ -130,9 +134,20 @@ comes_of_answering h pair (Graph fault) f = f
 comes_of_answering h pair (Queries fault) f = f
 comes_of_answering h pair (HierarchyFault fault) f = f
 comes_of_answering h pair (Build e) f = f
-comes_of_answering h pair (Unpack e) f = f.0
+comes_of_answering h pair (Unpack e) f = tt
 comes_of_answering h pair (Write fault) f = tt
 comes_of_answering h pair OutOfMemory f = tt
+
+-- what a router refused
+
+pair_fault : (h : Hierarchy) (pair : ℕ × ℕ) (u : UnpackError) → (u ≡ unpacking.TooLong → HasTooLong h pair.0 pair.1) → IsPairFault h pair (Unpack u)
+pair_fault h pair unpacking.OutOfMemory long = tt
+pair_fault h pair unpacking.TooLong long = long refl
+
+pub refused_pair : {T : Type 0} (h : Hierarchy) (pair : ℕ × ℕ) (found : Result T UnpackError) (u : UnpackError) (r : Result ⊤ ServiceError) (lines : List ℕ) → found ≡ Err u → (found ≡ Err unpacking.TooLong → HasTooLong h pair.0 pair.1)
+    → IsErrAnd r (λ e. e ≡ Unpack u) → IfErr r (λ e. IsPairFault h pair e × (lines ≡ lines))
+refused_pair h pair found u (Ok x) lines was long is = tt
+refused_pair h pair found u (Err e) lines was long is = (subst (IsPairFault h pair) (sym is) (pair_fault h pair u (λ t. long (was ∙ ap Err t))), refl)
 
 -- what a router of the same hierarchy returned, or refused
 

@@ -84,7 +84,8 @@ answers graph pairs old new (Hierarchy fault) good c f k s = absurd c
 answers graph pairs old new (Build building.OutOfMemory) good c f k s = of_all graph pairs _ (λ g p. inl k)
 answers graph pairs old new (Build building.BadOptions) good c f k s = absurd (good refl)
 answers graph pairs old new (Build building.Mixed) good c f k s = (f, k)
-answers graph pairs old new (Unpack e) good c f k s = absurd c
+answers graph pairs old new (Unpack unpacking.OutOfMemory) good c f k s = of_told graph pairs _ _ (λ g p w. inr w) s
+answers graph pairs old new (Unpack unpacking.TooLong) good c f k s = absurd (cc)
 answers graph pairs old new (Write fault) good c f k s = s
 answers graph pairs old new OutOfMemory good c f k s = s
 
@@ -99,7 +100,7 @@ joined text old new (Graph fault) good c f k s = answers (Some (graph_part text)
 joined text old new (Queries fault) good c f k s = answers (Some (graph_part text)) (Some (pairs_part text)) old new (Queries fault) good c f k s
 joined text old new (Hierarchy fault) good c f k s = absurd c
 joined text old new (Build e) good c f k s = answers (Some (graph_part text)) (Some (pairs_part text)) old new (Build e) good c f k s
-joined text old new (Unpack e) good c f k s = absurd c
+joined text old new (Unpack e) good c f k s = answers (Some (graph_part text)) (Some (pairs_part text)) old new (Unpack e) good c f k s
 joined text old new (Write fault) good c f k s = s
 joined text old new OutOfMemory good c f k s = s
 
@@ -135,7 +136,7 @@ routes file pairs old new (Queries fault) c f k s =
 routes file pairs old new (Hierarchy fault) c f k s =
     file_case fault (RefusesRoutes file pairs old new) (of_all file pairs _ (λ b p. inl k)) k (λ own. (of_told file pairs _ _ (λ b p. own (first_fault b ≡ Some fault)) f, k))
 routes file pairs old new (Build e) c f k s = absurd c
-routes file pairs old new (Unpack unpacking.OutOfMemory) c f k s = absurd (cc)
+routes file pairs old new (Unpack unpacking.OutOfMemory) c f k s = of_told file pairs _ _ (λ b p w. inr w) s
 routes file pairs old new (Unpack unpacking.TooLong) c f k s = s
 routes file pairs old new (Write fault) c f k s = s
 routes file pairs old new OutOfMemory c f k s = s

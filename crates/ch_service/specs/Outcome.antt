@@ -1,6 +1,6 @@
 -- What an answering call has done where it refuses.
 use Rattle.std.specs.Prelude.{ℕ, ◌≡◌, ◌≢◌, ◌⊎◌, ⊤, List, length, Option, Some, IfSome, Ok, Err}
-use Rattle.std.specs.Io.KnownBytes.{Keeps}
+use Rattle.std.specs.Io.KnownBytes.{IsAtEnd, Keeps}
 pub use Rattle.ch_answer.specs.Written.{IfTold, Writes, WritesFirst}
 use Rattle.ch_graph.specs.Graph.{Graph}
 use Rattle.ch_graph.specs.Hierarchy.{Hierarchy}
@@ -14,9 +14,7 @@ use Rattle.hierfile.specs.Bytes.{OfBytes, SaysNothing}
 use Rattle.hierfile.specs.Fault.{first_fault}
 use Rattle.ch_service.specs.declared.error.ServiceError.{ServiceError}
 use Rattle.ch_service.specs.declared.error.ServiceError.TheVariants.{Graph as GraphFault, Queries, Hierarchy as HierarchyFault, Build, Unpack, Write, OutOfMemory}
-use Rattle.ch_unpack.specs.declared.error.UnpackError.{UnpackError}
 use Rattle.ch_unpack.specs.declared.error.UnpackError.TheVariants as unpacking
-use Rattle.ch_unpack.specs.declared.error.UnpackError.TheVariants.{TooLong}
 use Rattle.ch_service.specs.Joined.{graph_part, pairs_part}
 use Rattle.ch_service.specs.Route.{Spells, HasTooLong}
 
@@ -39,7 +37,7 @@ IsFaultOf graph_text pairs_text (GraphFault fault) = FromText fault.kind (graph_
 IsFaultOf graph_text pairs_text (Queries fault) = (g : Graph) × (graph_of graph_text ≡ Ok g) × FromText fault.kind (pairs_of g.nodes pairs_text ≡ Err fault)
 IsFaultOf graph_text pairs_text (HierarchyFault e) = ⊥
 IsFaultOf graph_text pairs_text (Build e) = AreTexts graph_text pairs_text
-IsFaultOf graph_text pairs_text (Unpack e) = ⊥
+IsFaultOf graph_text pairs_text (Unpack e) = (e ≡ unpacking.OutOfMemory) × AreTexts graph_text pairs_text
 IsFaultOf graph_text pairs_text (Write fault) = AreTexts graph_text pairs_text
 IsFaultOf graph_text pairs_text OutOfMemory = AreTexts graph_text pairs_text
 
@@ -76,14 +74,14 @@ IsFaultInMemory graph_text pairs_text (GraphFault fault) = FromText fault.kind (
 IsFaultInMemory graph_text pairs_text (Queries fault) = (g : Graph) × (graph_of graph_text ≡ Ok g) × FromText fault.kind (pairs_of g.nodes pairs_text ≡ Err fault)
 IsFaultInMemory graph_text pairs_text (HierarchyFault e) = IsGraphText graph_text × SaysNothing e
 IsFaultInMemory graph_text pairs_text (Build e) = IsGraphText graph_text
-IsFaultInMemory graph_text pairs_text (Unpack e) = ⊥
+IsFaultInMemory graph_text pairs_text (Unpack e) = (e ≡ unpacking.OutOfMemory) × AreTexts graph_text pairs_text
 IsFaultInMemory graph_text pairs_text (Write fault) = IsGraphText graph_text
 IsFaultInMemory graph_text pairs_text OutOfMemory = AreTexts graph_text pairs_text
 
 -- The refusals of a call that answers from the texts of a graph and of pairs, whatever is known of its readers.
 abbrev pub ComesOfTexts : ServiceError → Type 0
 ComesOfTexts (HierarchyFault e) = ⊥
-ComesOfTexts (Unpack e) = ⊥
+ComesOfTexts (Unpack e) = e ≡ unpacking.OutOfMemory
 ComesOfTexts e = ⊤
 
 -- those of one that prepares a hierarchy
@@ -97,7 +95,6 @@ ComesOfPreparing e = ⊥
 abbrev pub ComesOfRouting : ServiceError → Type 0
 ComesOfRouting (GraphFault fault) = ⊥
 ComesOfRouting (Build e) = ⊥
-ComesOfRouting (Unpack e) = e ≡ TooLong
 ComesOfRouting e = ⊤
 
 -- This is said where a refusal comes behind the build of a hierarchy: a write failed, or a pair wasn't answered.
@@ -122,10 +119,11 @@ abbrev pub StopsWithin : List ℕ → GrError → Type 0
 StopsWithin text fault = (left : Option (List ℕ)) × StopsAtReached (Some text) left fault
 
 -- The same where both texts are in one input, which is read first. A read that fails is a fault of the graph's text,
--- whatever text it fails in, at the line of the input that was reached. Memory runs out at a line of the text's own.
+-- whatever text it fails in, at the line of the input that was reached. Each other fault of a text comes behind the input's
+-- end, and memory runs out at a line of the text's own.
 abbrev pub StopsInJoined : Option (List ℕ) → Option (List ℕ) → ServiceError → Type 0
-StopsInJoined had left = IfTextFault (λ fault. (fault.kind ≡ Read → StopsAtReached had left fault) × (fault.kind ≢ Read → IfSome had (λ input. StopsWithin (graph_part input) fault)))
-    (λ fault. (fault.kind ≢ Read) × IfSome had (λ input. StopsWithin (pairs_part input) fault))
+StopsInJoined had left = IfTextFault (λ fault. (fault.kind ≡ Read → StopsAtReached had left fault) × (fault.kind ≢ Read → IsAtEnd left × IfSome had (λ input. StopsWithin (graph_part input) fault)))
+    (λ fault. (fault.kind ≢ Read) × IsAtEnd left × IfSome had (λ input. StopsWithin (pairs_part input) fault))
 
 -- the read that failed behind these bytes, or the refusal itself, by the kind of its fault
 abbrev pub of_fault : List ℕ → GrErrorKind → ServiceError → ServiceError
@@ -165,7 +163,8 @@ StopsShort P Q old new (GraphFault fault) = ⊤
 StopsShort P Q old new (Queries fault) = ⊤
 StopsShort P Q old new (HierarchyFault e) = ⊤
 StopsShort P Q old new (Build e) = Keeps old new
-StopsShort P Q old new (Unpack e) = Writes Q old new
+StopsShort P Q old new (Unpack unpacking.OutOfMemory) = Writes P old new
+StopsShort P Q old new (Unpack unpacking.TooLong) = Writes Q old new
 StopsShort P Q old new (Write fault) = WritesFirst P old new fault.written
 StopsShort P Q old new OutOfMemory = Keeps old new ⊎ Writes P old new
 
@@ -175,18 +174,14 @@ ComesOfAnswering (GraphFault fault) = ⊥
 ComesOfAnswering (Queries fault) = ⊥
 ComesOfAnswering (HierarchyFault e) = ⊥
 ComesOfAnswering (Build e) = ⊥
-ComesOfAnswering (Unpack e) = e ≡ TooLong
+ComesOfAnswering (Unpack e) = ⊤
 ComesOfAnswering (Write fault) = ⊤
 ComesOfAnswering OutOfMemory = ⊤
 
--- what the refusal of a pair is reported as: out of memory for a pair as out of memory beside the pairs
-abbrev pub of_pair : UnpackError → ServiceError
-of_pair unpacking.OutOfMemory = OutOfMemory
-of_pair TooLong = Unpack TooLong
-
 -- the refusals that come while a pair is answered: a route is too long only where it is that pair's
 abbrev pub IsPairFault : Hierarchy → ℕ × ℕ → ServiceError → Type 0
-IsPairFault h pair (Unpack e) = (e ≡ TooLong) × HasTooLong h pair.0 pair.1
+IsPairFault h pair (Unpack unpacking.OutOfMemory) = ⊤
+IsPairFault h pair (Unpack unpacking.TooLong) = HasTooLong h pair.0 pair.1
 IsPairFault h pair OutOfMemory = ⊤
 IsPairFault h pair e = ⊥
 

@@ -52,6 +52,19 @@ impl fmt::Display for Cause {
     }
 }
 
+impl Cause {
+    /// Returns what a refusal to read a hierarchy file comes of: out of memory and a failed read are no faults of the file.
+    pub fn of_file(fault: HierError) -> Cause
+        ensures { result ≡ of_file fault }
+    {
+        match fault {
+            HierError::OutOfMemory => Cause::Memory,
+            HierError::Read => Cause::Read,
+            _ => Cause::Hierarchy(fault),
+        }
+    }
+}
+
 impl ServiceError {
     /// Returns what it comes of.
     pub fn cause(&self) -> Cause
@@ -60,7 +73,7 @@ impl ServiceError {
         match self {
             ServiceError::Graph(fault) => of_text(fault.kind, Cause::Graph(*fault)),
             ServiceError::Queries(fault) => of_text(fault.kind, Cause::Queries(*fault)),
-            ServiceError::Hierarchy(fault) => of_file(*fault),
+            ServiceError::Hierarchy(fault) => Cause::of_file(*fault),
             ServiceError::Build(fault) => match fault {
                 BuildError::OutOfMemory => Cause::Memory,
                 BuildError::BadOptions => Cause::Options,
@@ -84,16 +97,5 @@ fn of_text(kind: GrErrorKind, own: Cause) -> Cause
         GrErrorKind::OutOfMemory => Cause::Memory,
         GrErrorKind::Read => Cause::Read,
         _ => own,
-    }
-}
-
-// What a fault of a hierarchy's file comes of, likewise.
-fn of_file(fault: HierError) -> Cause
-    ensures { result ≡ of_file fault }
-{
-    match fault {
-        HierError::OutOfMemory => Cause::Memory,
-        HierError::Read => Cause::Read,
-        _ => Cause::Hierarchy(fault),
     }
 }

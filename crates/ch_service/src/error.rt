@@ -1,7 +1,6 @@
 ghost use Rattle.std.specs.Prelude.{◌≡◌, Some};
 ghost use Rattle.ch_service.specs.Cause.{cause_of, shown};
-ghost use Rattle.ch_service.specs.declared.error.ServiceError.TheVariants.{Build, OutOfMemory, Write};
-ghost use Rattle.ch_service.specs.Outcome.{of_pair};
+ghost use Rattle.ch_service.specs.declared.error.ServiceError.TheVariants.{Build, OutOfMemory, Unpack, Write};
 
 use ch_route::UnpackError;
 use ch_workers::BuildError;
@@ -25,12 +24,12 @@ pub enum ServiceError {
     Hierarchy(HierError),
     /// No hierarchy was built: memory ran out, the options are bad, or what the workers reported doesn't agree.
     Build(BuildError),
-    /// A route is too long: it would repeat a node, so the hierarchy isn't right for any graph. No call of this crate
-    /// fails with `Unpack(OutOfMemory)`: where a pair runs out of memory it is `OutOfMemory`.
+    /// The route of a pair wasn't found: memory ran out, or the route is too long. It would repeat a node then, so the
+    /// hierarchy isn't right for any graph.
     Unpack(UnpackError),
     /// The answers, or the file of the hierarchy, couldn't be written.
     Write(WriteFault),
-    /// Memory ran out beside the reading and the build.
+    /// Memory ran out beside the reading, the build and the search for a route.
     OutOfMemory,
 }
 
@@ -70,12 +69,9 @@ impl From<WriteFault> for ServiceError {
 }
 
 impl From<UnpackError> for ServiceError {
-    ghost from_gives = { λ fault e. e ≡ of_pair fault };
+    ghost from_gives = { λ fault e. e ≡ Unpack fault };
 
     fn from(fault: UnpackError) -> ServiceError {
-        match fault {
-            UnpackError::OutOfMemory => ServiceError::OutOfMemory,
-            UnpackError::TooLong => ServiceError::Unpack(UnpackError::TooLong),
-        }
+        ServiceError::Unpack(fault)
     }
 }

@@ -1,4 +1,4 @@
-ghost use Rattle.std.specs.Prelude.{◌≡◌, ◌++◌, ℕ, List, All, OnOk, IfErr, length, take};
+ghost use Rattle.std.specs.Prelude.{◌≡◌, ◌<◌, ◌^◌, ◌++◌, ℕ, List, All, OnOk, IfErr, length, take};
 ghost use Rattle.grfile.specs.Reading.{IsPair};
 ghost use Rattle.ch_service.specs.Answer.{IsAnswer};
 ghost use Rattle.ch_service.specs.Outcome.{Writes, StopsShort, IsPairFault, ComesOfAnswering};
@@ -37,13 +37,14 @@ pub fn answer_pairs<W: Write>(
     Ok(())
 }
 
-// Appends the line that answers the pair. Where it is refused the lines stay as they were.
+// Appends the line that answers the pair to fewer than 64 KiB of lines. Where it is refused they stay as they were.
 fn answer_pair(
     router: &mut Router<'_>,
     pair: (u32, u32),
     lines: &mut Vec<u8>,
 ) -> Result<(), ServiceError>
     requires in_range { IsPair (length router.old.ranks) pair }
+    requires few { length lines.old.items < 2 ^ 16 }
     ensures ok { OnOk result ((line : List ℕ) × IsAnswer (IsRouteBy router.old) pair line × (lines.new.items ≡ lines.old.items ++ line)) }
     ensures err { IfErr result (λ e. IsPairFault router.old pair e × (lines.new.items ≡ lines.old.items)) }
     ensures kept { router.new ≡ router.old }

@@ -1,10 +1,16 @@
 use Rattle.std.proofs.Common.{rules, List, ℕ, ap, sym, subst, ◌∙◌}
 use Rattle.std.specs.Prelude.{Some, Err, IfSome}
+use Rattle.std.proofs.lemmas.Result.{err_from_is_err_and}
 use Rattle.ch_service.specs.declared.error.ServiceError.{ServiceError}
 use Rattle.ch_service.specs.Outcome.{ComesOfTexts, IsFaultOfJoined, KeepsAtFault, StopsInJoined, of_whole}
 use Rattle.ch_service.proofs.JoinedFaults.{any_text, fault_in_joined}
-use Rattle.ch_service.proofs.LineFeeds.{of_whole_too, stops_in_joined}
+use Rattle.ch_service.proofs.LineFeeds.{of_whole_too, stops_in_joined, stops_in_reading}
 use Rattle.ch_service.proofs.answering.answer_joined.Goals as goal
+
+pub returns-in_err-text-clause-reached : goal.returns-in_err-text-clause-reached
+returns-in_err-text-clause-reached g c =
+    let exit = err_from_is_err_and c.from_residual.result c.from_residual.ensures.1 in
+    rw (exit.1, exit.2) (stops_in_reading (g.I.Read.remaining c.args.input.now) (g.I.Read.remaining c.read_whole.new.input) _ c.in_err-text.ensures.kinds c.in_err-text.ensures.reached)
 
 pub returns-clause-reached : goal.returns-clause-reached
 returns-clause-reached g c =

@@ -1,15 +1,16 @@
-use Rattle.std.proofs.Common.{◌≤◌, ◌∙◌, length, arith}
+use Rattle.std.proofs.Common.{◌≤◌, ◌∙◌, ap, length, arith}
 use Rattle.ch_service.proofs.Progress.{gathered-start, gathered-next, gathered-hand_on, gathered-same, gathered-whole, gathered-all, stops-from_gathered, stops-at_next, comes_of_answering, in_range-by, answer-by, fault-by}
 use Rattle.ch_service.proofs.pairs.answer_pairs.Goals as goal
 
 pub pairs-init : goal.pairs-init
 pairs-init g c = record {
   same = c.in_ok-router.ensures;
+  few = omega (arith, ap length c.new-output.ensures.lines);
   gathered = gathered-start _ _ _ _ c.new-output.ensures.lines c.new-output.ensures.written;
 }
 
 pub answer_pair-requires : goal.answer_pair-requires
-answer_pair-requires g c = record { in_range = in_range-by _ c.pairs.invariant.same (c.requires c.pairs.pair-index (0, 0) c.pairs-test.true) }
+answer_pair-requires g c = record { in_range = in_range-by _ c.pairs.invariant.same (c.requires c.pairs.pair-index (0, 0) c.pairs-test.true); few = c.pairs.invariant.few }
 
 pub returns-in_err-hand_over-clause-stops : goal.returns-in_err-hand_over-clause-stops
 returns-in_err-hand_over-clause-stops g c =
@@ -36,6 +37,7 @@ pairs-preserved g c =
     let pushed = answer-by _ _ _ c.pairs.invariant.same c.in_default.ensures.ok in
     record {
       same = c.in_default.ensures.kept ∙ c.pairs.invariant.same;
+      few = c.in_ok-hand_over_if_many.ensures.few;
       gathered = gathered-hand_on (gathered-next c.args.pairs.now c.pairs.pair-index c.pairs-test.true c.pairs.invariant.gathered pushed) c.in_ok-hand_over_if_many.ensures.ok;
     }
 

@@ -11,23 +11,23 @@ least_walk-requires-clause-bound c = longest_summable c.of_walk-limit.result c.o
 
 pub returns-clause-exact : goal.returns-clause-exact
 returns-clause-exact c =
-    let h = c.self.inside.hierarchy.now in
+    let h = c.args.self.now in
     let starts = c.args.starts.now in
     let ends = c.args.ends.now in
     IfOk-weaker c.least_walk.result
     (λ (found : Option FoundBetween). IsValueBetween h starts ends c.of_walk-limit.result (cost_found found))
-    (λ (found : Option FoundBetween). IsExact c.args.self.now starts ends (cost_found found))
-    (λ found. exact_here h c.args.self.now c.self.view_is c.self.invariant.made starts ends c.requires.starts c.requires.ends c.of_walk-limit.result c.of_walk-limit.ensures (cost_found found))
+    (λ (found : Option FoundBetween). IsExact h starts ends (cost_found found))
+    (λ found. exact_here h c.least_walk.ensures.made starts ends c.requires.starts c.requires.ends c.of_walk-limit.result c.of_walk-limit.ensures (cost_found found))
     c.least_walk.ensures.value
 
 pub returns-clause-walk : goal.returns-clause-walk
 returns-clause-walk c =
-    let h = c.self.inside.hierarchy.now in
+    let h = c.args.self.now in
     let starts = c.args.starts.now in
     let ends = c.args.ends.now in
     if_ok-both c.least_walk.result
     (λ (found : Option FoundBetween). IsValueBetween h starts ends c.of_walk-limit.result (cost_found found))
     (IsWalkFound h starts ends)
-    (IsLeastFound c.args.self.now starts ends)
-    (least_here h c.args.self.now c.self.view_is c.self.invariant.made starts ends c.requires.starts c.requires.ends c.of_walk-limit.result c.of_walk-limit.ensures)
+    (IsLeastFound h starts ends)
+    (least_here h c.least_walk.ensures.made starts ends c.requires.starts c.requires.ends c.of_walk-limit.result c.of_walk-limit.ensures)
     c.least_walk.ensures.value c.least_walk.ensures.walk

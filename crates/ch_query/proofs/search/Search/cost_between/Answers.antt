@@ -8,11 +8,11 @@ least_cost-requires-clause-bound c = longest_summable c.of_walk-most.result c.of
 
 pub returns-clause-exact : goal.returns-clause-exact
 returns-clause-exact c =
-    let h = c.self.inside.hierarchy.now in
+    let h = c.args.self.now in
     let starts = c.args.starts.now in
     let ends = c.args.ends.now in
     IfOk-weaker c.least_cost.result
     (IsValueBetween h starts ends c.of_walk-most.result)
-    (IsExact c.args.self.now starts ends)
-    (exact_here h c.args.self.now c.self.view_is c.self.invariant.made starts ends c.requires.starts c.requires.ends c.of_walk-most.result c.of_walk-most.ensures)
+    (IsExact h starts ends)
+    (exact_here h c.least_cost.ensures.made starts ends c.requires.starts c.requires.ends c.of_walk-most.result c.of_walk-most.ensures)
     c.least_cost.ensures.value

@@ -1,41 +1,42 @@
-use Rattle.std.proofs.Common.{◌∷◌, [], Option, Some, None, IfSome, option_map, subst}
+use Rattle.std.proofs.Common.{◌∷◌, [], Option, Some, None, IfSome, option_map, subst, ap, ◌∙◌}
 use Rattle.ch_query.specs.declared.search.FoundBetween.{FoundBetween}
+use Rattle.ch_graph.specs.Hierarchy.{Hierarchy}
 use Rattle.ch_query.specs.Seeds.{IsValueBetween, IsWalkBetween}
-use Rattle.ch_query.proofs.FreeSeeds.{seeds-here, bound-here, value-here, walk-here}
+use Rattle.ch_query.proofs.FreeSeeds.{seeds-of, bound-of, value-of, walk-of}
 use Rattle.ch_query.proofs.search.Search.distance.Goals as goal
 
 pub least_walk-requires-clause-starts : goal.least_walk-requires-clause-starts
-least_walk-requires-clause-starts c = seeds-here c.self.inside.hierarchy.now c.args.self.now c.self.view_is c.args.source c.free.result c.free.ensures c.requires.source_in
+least_walk-requires-clause-starts c = seeds-of c.args.self.now c.args.source c.free.result c.free.ensures c.requires.source_in
 
 pub least_walk-requires-clause-ends : goal.least_walk-requires-clause-ends
-least_walk-requires-clause-ends c = seeds-here c.self.inside.hierarchy.now c.args.self.now c.self.view_is c.args.target c.free-2.result c.free-2.ensures c.requires.target_in
+least_walk-requires-clause-ends c = seeds-of c.args.self.now c.args.target c.free-2.result c.free-2.ensures c.requires.target_in
 
 pub least_walk-requires-clause-bound : goal.least_walk-requires-clause-bound
-least_walk-requires-clause-bound c = bound-here c.self.inside.hierarchy.now c.self.invariant.made c.bound-bound.result c.bound-bound.ensures
+least_walk-requires-clause-bound c = bound-of c.self.inside.hierarchy.now c.self.invariant.made c.bound-bound.result c.bound-bound.ensures
 
 pub returns-in_default-clause-value : goal.returns-in_default-clause-value
 returns-in_default-clause-value c =
-    value-here c.self.inside.hierarchy.now c.args.self.now c.self.view_is c.args.source c.args.target c.free.result c.free-2.result c.free.ensures
-    c.free-2.ensures c.bound-bound.result c.bound-bound.ensures None
-    (subst (λ (o : Option FoundBetween). IsValueBetween c.self.inside.hierarchy.now (c.free.result ∷ []) (c.free-2.result ∷ []) c.bound-bound.result
+    value-of c.args.self.now c.args.source c.args.target c.free.result c.free-2.result c.free.ensures
+    c.free-2.ensures c.bound-bound.result (c.bound-bound.ensures ∙ ap (λ (h : Hierarchy). h.bound) c.self.view_is) None
+    (subst (λ (o : Option FoundBetween). IsValueBetween c.args.self.now (c.free.result ∷ []) (c.free-2.result ∷ []) c.bound-bound.result
     (option_map (λ (f : FoundBetween). f.cost) o)) c.in_default.is c.in_ok-found.ensures.value)
 
 pub returns-clause-value : goal.returns-clause-value
 returns-clause-value c =
-    value-here c.self.inside.hierarchy.now c.args.self.now c.self.view_is c.args.source c.args.target c.free.result c.free-2.result c.free.ensures
-    c.free-2.ensures c.bound-bound.result c.bound-bound.ensures (Some c.in-Some.field-0.cost)
-    (subst (λ (o : Option FoundBetween). IsValueBetween c.self.inside.hierarchy.now (c.free.result ∷ []) (c.free-2.result ∷ []) c.bound-bound.result
+    value-of c.args.self.now c.args.source c.args.target c.free.result c.free-2.result c.free.ensures
+    c.free-2.ensures c.bound-bound.result (c.bound-bound.ensures ∙ ap (λ (h : Hierarchy). h.bound) c.self.view_is) (Some c.in-Some.field-0.cost)
+    (subst (λ (o : Option FoundBetween). IsValueBetween c.args.self.now (c.free.result ∷ []) (c.free-2.result ∷ []) c.bound-bound.result
     (option_map (λ (f : FoundBetween). f.cost) o)) c.in-Some.is c.in_ok-found.ensures.value)
 
-walk : (c : goal.In-Some) → IsWalkBetween c.self.inside.hierarchy.now (c.free.result ∷ []) (c.free-2.result ∷ []) c.in-Some.field-0.start c.in-Some.field-0.end c.in-Some.field-0.links.items c.in-Some.field-0.cost
-walk c = subst (λ (o : Option FoundBetween). IfSome o (λ (f : FoundBetween). IsWalkBetween c.self.inside.hierarchy.now (c.free.result ∷ []) (c.free-2.result ∷ []) f.start f.end f.links.items f.cost)) c.in-Some.is c.in_ok-found.ensures.walk
+walk : (c : goal.In-Some) → IsWalkBetween c.args.self.now (c.free.result ∷ []) (c.free-2.result ∷ []) c.in-Some.field-0.start c.in-Some.field-0.end c.in-Some.field-0.links.items c.in-Some.field-0.cost
+walk c = subst (λ (o : Option FoundBetween). IfSome o (λ (f : FoundBetween). IsWalkBetween c.args.self.now (c.free.result ∷ []) (c.free-2.result ∷ []) f.start f.end f.links.items f.cost)) c.in-Some.is c.in_ok-found.ensures.walk
 
 pub returns-clause-walk : goal.returns-clause-walk
 returns-clause-walk c =
     let found = c.in-Some.field-0 in
-    (walk-here c.self.inside.hierarchy.now c.args.self.now c.self.view_is c.args.source c.args.target c.free.result c.free-2.result c.free.ensures c.free-2.ensures found.start found.end found.links.items found.cost (walk c)).0
+    (walk-of c.args.self.now c.args.source c.args.target c.free.result c.free-2.result c.free.ensures c.free-2.ensures found.start found.end found.links.items found.cost (walk c)).0
 
 pub returns-clause-joined : goal.returns-clause-joined
 returns-clause-joined c =
     let found = c.in-Some.field-0 in
-    (walk-here c.self.inside.hierarchy.now c.args.self.now c.self.view_is c.args.source c.args.target c.free.result c.free-2.result c.free.ensures c.free-2.ensures found.start found.end found.links.items found.cost (walk c)).1
+    (walk-of c.args.self.now c.args.source c.args.target c.free.result c.free-2.result c.free.ensures c.free-2.ensures found.start found.end found.links.items found.cost (walk c)).1

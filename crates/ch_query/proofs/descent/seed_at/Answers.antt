@@ -1,5 +1,0 @@
-use Rattle.ch_query.proofs.SeedPlaces.{seed_ahead-first}
-use Rattle.ch_query.proofs.descent.seed_at.Goals as goal
-
-pub seeds-init : goal.seeds-init
-seeds-init c = seed_ahead-first c.args.hierarchy.now c.args.seeds.now c.args.rank c.requires.one.0 c.args.cost c.requires.one.1 c.requires.one.2
