@@ -97,6 +97,12 @@ placed nodes count i whole old new places place h is step =
     let one : count - i ≡ suc (count - (i + 1)) = omega arith in
     is ∙ ap (λ (r : Result (List Place) GrError). r >>= (λ more. Ok (places ++ more))) (ap (λ (k : ℕ). places_of nodes k old) one ∙ step) ∙ onto_places places place (places_of nodes (count - (i + 1)) new)
 
+pub placed_not : (nodes count i : ℕ) (whole : Result (List Place) GrError) (old : List (List ℕ)) (places : List Place) (e : GrError) → i < count
+    → whole ≡ (places_of nodes (count - i) old >>= (λ more. Ok (places ++ more))) → places_of nodes (suc (count - (i + 1))) old ≡ Err e → whole ≡ Err e
+placed_not nodes count i whole old places e h is step =
+    let one : count - i ≡ suc (count - (i + 1)) = omega arith in
+    is ∙ ap (λ (r : Result (List Place) GrError). r >>= (λ more. Ok (places ++ more))) (ap (λ (k : ℕ). places_of nodes k old) one ∙ step)
+
 -- What a line asks for by its letter
 
 pub between_entry : (nodes : ℕ) (fields : List (List ℕ)) → kind_of letter_b fields ≡ Entry → between_by nodes fields ≡ of_ends (ends_of nodes (drop 1 fields))

@@ -1,7 +1,8 @@
-ghost use Rattle.std.specs.Prelude.{◌≡◌, ◌≢◌, ◌<◌, List, ℕ, MatchOption, [], ◌∷◌, length, drop, slice_index, true, false};
-ghost use Rattle.grfile.specs.Lines.{fields_of, is_blank};
+ghost use Rattle.std.specs.Prelude.{◌≡◌, ◌≢◌, List, ℕ, MatchOption, [], ◌∷◌, length};
+ghost use Rattle.grfile.specs.Lines.{fields_of};
 ghost use Rattle.grfile.specs.Grammar.{kind_of};
 
+use bstr::{ByteSlice, Split};
 use std::marker::Model;
 
 /// What a line is, by its first field.
@@ -17,56 +18,32 @@ pub(crate) enum LineKind {
     Unknown,
 }
 
-/// The fields of a line that are still to come.
+/// The fields of a line that are still to come. The line is cut at its spaces, and each piece at its tabs.
 #[derive(Drop)]
 pub(crate) struct Fields<'a> {
-    rest: &'a [u8],
+    words: Split<'a, 'static>,
+    parts: Split<'a, 'static>,
 }
 
 impl<'a> Model for Fields<'a> {
-    ghost use Rattle.std.specs.Prelude.{List, ℕ};
-    ghost use Rattle.grfile.specs.Lines.{fields_of};
+    ghost use Rattle.std.specs.Prelude.{List, ℕ, ◌++◌, filter, ◌==◌};
+    ghost use Rattle.std.specs.List.{slice_split, flat_map};
+    ghost use Rattle.grfile.specs.Lines.{is_field};
 
     ghost Value = { List (List ℕ) };
 
-    ghost view = { λ f. fields_of f.rest.now };
+    ghost view = { λ f. filter is_field (f.parts ++ flat_map (λ word. slice_split (λ b. b == 9) word) f.words) };
 }
 
 /// The fields of a line: its longest runs of bytes that aren't blanks.
 pub(crate) fn fields_of(line: &[u8]) -> Fields<'_>
     ensures { result ≡ fields_of line.now }
 {
-    Fields { rest: line }
-}
-
-fn is_blank(byte: u8) -> bool
-    ensures { result ≡ is_blank byte }
-{
-    byte == b' ' || byte == b'\t'
-}
-
-/// Where the first field begins.
-fn first_start(line: &[u8]) -> Option<usize>
-    ensures { MatchOption result (fields_of line.now ≡ []) (λ start. (start < length line.now) × (is_blank (slice_index line.now start) ≡ false) × (fields_of line.now ≡ fields_of (drop start line.now))) }
-{
-    for i in 0..line.len() {
-        if !is_blank(line[i]) {
-            return Some(i);
-        }
+    let nothing: &[u8] = b"";
+    Fields {
+        words: line.split_str(b" "),
+        parts: nothing.split_str(b"\t"),
     }
-    None
-}
-
-/// Where the first blank is.
-fn first_blank(line: &[u8]) -> Option<usize>
-    ensures { MatchOption result ((j : ℕ) → j < length line.now → is_blank (slice_index line.now j) ≡ false) (λ end. (end < length line.now) × (is_blank (slice_index line.now end) ≡ true) × ((j : ℕ) → j < end → is_blank (slice_index line.now j) ≡ false)) }
-{
-    for i in 0..line.len() {
-        if is_blank(line[i]) {
-            return Some(i);
-        }
-    }
-    None
 }
 
 impl<'a> Fields<'a> {
@@ -74,16 +51,17 @@ impl<'a> Fields<'a> {
     pub(crate) fn next_field(&mut self) -> Option<&'a [u8]>
         ensures { MatchOption result (self.old ≡ []) (λ field. self.old ≡ field.now ∷ self.new) }
     {
-        let start = first_start(self.rest)?;
-        let from = &self.rest[start..];
-        match first_blank(from) {
-            Some(end) => {
-                self.rest = &from[end + 1..];
-                Some(&from[..end])
-            }
-            None => {
-                self.rest = &[];
-                Some(from)
+        loop {
+            match self.parts.next() {
+                Some(part) => {
+                    if !part.is_empty() {
+                        return Some(part);
+                    }
+                }
+                None => match self.words.next() {
+                    Some(word) => self.parts = word.split_str(b"\t"),
+                    None => return None,
+                },
             }
         }
     }

@@ -17,6 +17,5 @@ pub mod WriteParts
 pub mod OneSpelling
 pub mod FewLinks
 pub mod NoFault
-pub mod ReadBack
 pub mod Respelled
 pub mod Faultless

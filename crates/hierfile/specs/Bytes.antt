@@ -27,10 +27,6 @@ OfBytes e P = P
 abbrev pub SaysNothing : HierError → Type 0
 SaysNothing e = OfBytes e ⊥
 
--- the spelling of a well made hierarchy is read as that hierarchy, and no refusal finds a fault in it
-abbrev pub ReadsSpellings : List ℕ → Result Hierarchy HierError → Type 0
-ReadsSpellings bytes result = (h : Hierarchy) → IsWellMade h → bytes ≡ bytes_of h → IfOk result (λ read. read ≡ h) × IfErr result SaysNothing
-
 -- a refusal is the fault that the coming bytes have, where they are known
 abbrev pub IsFaultOf : (List ℕ → Option HierError) → Option (List ℕ) → HierError → Type 0
 IsFaultOf fault_of bytes e = OfBytes e (IfSome bytes (λ known. fault_of known ≡ Some e))

@@ -3,10 +3,10 @@ ghost use Rattle.std.specs.List.{flat_map};
 ghost use Rattle.std.specs.Io.KnownBytes.{IsAtEnd};
 ghost use Rattle.counted_io.specs.Limits.{IsReadWithin, ReadsWithin};
 ghost use Rattle.counted_io.specs.declared.TheConstants.{MOST_CALLS};
-ghost use Rattle.ch_graph.specs.Hierarchy.{IsWellMade, bound_arcs};
+ghost use Rattle.ch_graph.specs.Hierarchy.{bound_arcs};
 ghost use Rattle.hierfile.specs.Spelling.{bytes_of, magic_of, stem, word, long, link_bytes, bound_in};
 ghost use Rattle.hierfile.specs.Fault.{first_fault, magic_fault, head_fault, size_fault, body_fault, end_fault};
-ghost use Rattle.hierfile.specs.Bytes.{ButReadAhead, HasNoneButHalves, HasNoneSoFar, IsFaultOf, ReadsSpellings, StopsWhere, Tells, IsBodyOf};
+ghost use Rattle.hierfile.specs.Bytes.{ButReadAhead, HasNoneButHalves, HasNoneSoFar, IsFaultOf, StopsWhere, Tells, IsBodyOf};
 ghost use Rattle.hierfile.specs.Reading.{Reads, ReadsValue, Refuses};
 
 use crate::error::HierError;
@@ -50,8 +50,6 @@ struct Head {
 /// with a middle, among the links that leave one node, and one for each of the first ranks, among those before it.
 pub fn read<R: StepRead>(alloc: Global, reader: &mut R) -> Result<Hierarchy, HierError>
     ensures ok { IfOk result (λ hierarchy. IfSome (R.remaining reader.old) (λ bytes. bytes ≡ bytes_of hierarchy)) }
-    ensures made { IfOk result IsWellMade }
-    ensures spelling { IfSome (R.remaining reader.old) (λ bytes. ReadsSpellings bytes result) }
     ensures err { IfErr result (IsFaultOf first_fault (R.remaining reader.old)) }
     ensures so_far { IfErr result (λ e. e ≡ HierError.Read → StopsWhere (HasNoneSoFar first_fault) (R.remaining reader.old) (R.remaining reader.new)) }
     ensures memory { IfErr result (λ e. e ≡ HierError.OutOfMemory → StopsWhere (ButReadAhead (HasNoneButHalves first_fault)) (R.remaining reader.old) (R.remaining reader.new)) }
@@ -69,8 +67,6 @@ pub fn read_within<R: StepRead>(
     calls: u64,
 ) -> Result<Hierarchy, HierError>
     ensures ok { IfOk result (λ hierarchy. IfSome (R.remaining reader.old) (λ bytes. bytes ≡ bytes_of hierarchy)) }
-    ensures made { IfOk result IsWellMade }
-    ensures spelling { IfSome (R.remaining reader.old) (λ bytes. ReadsSpellings bytes result) }
     ensures err { IfErr result (IsFaultOf first_fault (R.remaining reader.old)) }
     ensures so_far { IfErr result (λ e. e ≡ HierError.Read → StopsWhere (HasNoneSoFar first_fault) (R.remaining reader.old) (R.remaining reader.new)) }
     ensures memory { IfErr result (λ e. e ≡ HierError.OutOfMemory → StopsWhere (ButReadAhead (HasNoneButHalves first_fault)) (R.remaining reader.old) (R.remaining reader.new)) }
@@ -152,7 +148,6 @@ fn read_body<R: StepRead>(
     head: Head,
 ) -> Result<Hierarchy, HierError>
     requires { size_fault head.nodes head.links head.bound ≡ None }
-    ensures made { IfOk result IsWellMade }
     ensures sizes { IfOk result (λ hierarchy. IsBodyOf hierarchy version head.nodes head.links head.bound) }
     ensures reads { Reads R.step R.remaining input.old input.new reader.old reader.new (λ hierarchy before _. IfSome before (λ bytes. bytes ≡ flat_map word hierarchy.ranks ++ flat_map (link_bytes version) hierarchy.links))
         (Refuses (body_fault version head.nodes head.links head.bound) (HasNoneSoFar (body_fault version head.nodes head.links head.bound)) (HasNoneButHalves (body_fault version head.nodes head.links head.bound))) result }

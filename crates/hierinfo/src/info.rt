@@ -30,6 +30,7 @@ pub fn write_info<H: Read, W: Write>(
     ensures refused { IfErr result (RefusesInfo (H.remaining hier.old) (W.contents out.old) (W.contents out.new)) }
 {
     let hierarchy = hierfile::read(alloc, hier)?;
+    let _well_made = hierarchy.nodes();
     let mut text = Vec::new(alloc);
     push_info(&hierarchy, &mut text)?;
     WriteCalls::new(MOST_CALLS).write(out, text.as_slice())?;

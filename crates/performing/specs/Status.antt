@@ -4,14 +4,13 @@ use Rattle.ch_service.specs.declared.cause.Cause.{Cause}
 use Rattle.ch_service.specs.declared.cause.Cause.TheVariants as causes
 use Rattle.ch_service.specs.declared.error.ServiceError.{ServiceError}
 use Rattle.ch_service.specs.Answer.{AnswersByFewest}
-use Rattle.ch_service.specs.Cause.{cause_of}
+use Rattle.ch_service.specs.Cause.{cause_of, of_file}
 use Rattle.ch_service.specs.Outcome.{IfTold, Writes}
 use Rattle.ch_service.specs.Refusals.{RefusesAnswers, RefusesPreparing, RefusesRoutes}
 use Rattle.ch_service.specs.Route.{Prepares, Routes}
 use Rattle.ch_serve.specs.Serving.{IsFileFault, KeepsBefore, Serves, ServesFirst, StopsServing}
 use Rattle.ch_serve.specs.declared.error.ServeError.{ServeError}
 use Rattle.ch_serve.specs.declared.error.ServeError.TheVariants as stops
-use Rattle.hierfile.specs.declared.error.HierError.TheVariants as faults
 use Rattle.hierinfo.specs.Info.{Informs, RefusesInfo}
 use Rattle.hierinfo.specs.declared.error.InfoError.{InfoError}
 use Rattle.hierinfo.specs.declared.error.InfoError.TheVariants as infos
@@ -55,9 +54,7 @@ TellsRouted status file pairs old new = Ends status (IfTold file pairs (λ bytes
 
 -- the status of a service that ended before its requests did
 abbrev pub status_stopped : ServeError → ℕ
-status_stopped (stops.Hierarchy faults.OutOfMemory) = 6
-status_stopped (stops.Hierarchy faults.Read) = 7
-status_stopped (stops.Hierarchy fault) = 4
+status_stopped (stops.Hierarchy fault) = status_of (of_file fault)
 status_stopped stops.OutOfMemory = 6
 status_stopped stops.Read = 7
 status_stopped (stops.Write fault) = 7
@@ -70,9 +67,7 @@ pub record TellsServed (status : ℕ) (file had left old new : Option (List ℕ)
 
 -- the status where what a hierarchy file has isn't printed, or not all
 abbrev pub status_uninformed : InfoError → ℕ
-status_uninformed (infos.Hierarchy faults.OutOfMemory) = 6
-status_uninformed (infos.Hierarchy faults.Read) = 7
-status_uninformed (infos.Hierarchy fault) = 4
+status_uninformed (infos.Hierarchy fault) = status_of (of_file fault)
 status_uninformed infos.OutOfMemory = 6
 status_uninformed (infos.Write fault) = 7
 

@@ -17,7 +17,8 @@ use std::thread::Threads;
 /// Answers the pairs of one text over the graph of another, and returns the program's exit status.
 ///
 /// `graph` gives the graph's text and `queries` that of the pairs. Answers go to `out`, and of a refusal one line to
-/// `err`. The calling thread builds the hierarchy alone. Takes the time and memory of [`answer`].
+/// `err`. No worker contracts nodes but the calling thread; other threads help with the parts of the hierarchy, and drop what
+/// isn't needed any more. Takes the time and memory of [`answer`].
 pub fn perform_answer<A: Read, B: Read, W: Write, E: Write, R: Threads + Wait + Sync>(
     rt: &R,
     alloc: Global,
@@ -52,7 +53,7 @@ pub fn perform_joined<I: Read, W: Write, E: Write, R: Threads + Wait + Sync>(
     status_after(answer_joined(rt, alloc, input, out), err)
 }
 
-// Answers the pairs by a hierarchy that the calling thread builds alone.
+// Answers the pairs by a hierarchy whose nodes the calling thread contracts.
 fn answer_alone<A: Read, B: Read, W: Write, R: Threads + Wait + Sync>(
     rt: &R,
     alloc: Global,

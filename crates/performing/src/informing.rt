@@ -1,7 +1,8 @@
 ghost use Rattle.std.specs.Prelude.{◌≡◌};
 ghost use Rattle.performing.specs.Status.{IsServingStatus, TellsInfo, status_uninformed};
 
-use hierfile::HierError;
+use crate::status::status;
+use ch_service::Cause;
 use hierinfo::{InfoError, write_info};
 use std::alloc::Global;
 use std::io::{Read, Write};
@@ -39,8 +40,8 @@ fn status_uninformed(error: InfoError) -> u8
     ensures { result ≡ status_uninformed error }
 {
     match error {
-        InfoError::Hierarchy(HierError::OutOfMemory) | InfoError::OutOfMemory => 6,
-        InfoError::Hierarchy(HierError::Read) | InfoError::Write(_) => 7,
-        InfoError::Hierarchy(_) => 4,
+        InfoError::Hierarchy(fault) => status(Cause::of_file(fault)),
+        InfoError::OutOfMemory => 6,
+        InfoError::Write(_) => 7,
     }
 }

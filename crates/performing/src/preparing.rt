@@ -1,6 +1,7 @@
 ghost use Rattle.std.specs.Prelude.{◌≡◌, [], IfOk};
 ghost use Rattle.std.specs.Io.KnownBytes.{Keeps};
 ghost use Rattle.ch_workers.specs.Options.{AreGood};
+ghost use Rattle.ch_workers.specs.declared.options.TheConstants.Options.{PLAIN};
 ghost use Rattle.jobs.specs.Orders.{stint_of};
 ghost use Rattle.performing.specs.Status.{IsPreparingStatus, TellsPrepared, status_after};
 
@@ -15,13 +16,11 @@ use std::io::{Read, Write};
 use std::sync::Wait;
 use std::thread::Threads;
 
-/// How `workers` workers contract the nodes of a graph. All but their number, the seed and the stint is the same for every
-/// job.
+/// How `workers` workers contract the nodes of a graph. All but their number, the seed and the stint is that of
+/// [`Options::PLAIN`].
 pub fn options(workers: Workers, seed: u64, stint: Stint) -> Options
     ensures good { AreGood result workers.count }
-    ensures workers { result.workers ≡ workers.count }
-    ensures seed { result.seed ≡ seed }
-    ensures stint { result.stint ≡ stint.commits }
+    ensures all { result ≡ record PLAIN { workers = workers.count; seed = seed; stint = stint.commits } }
 {
     Options {
         workers: workers.count(),

@@ -1,8 +1,9 @@
 ghost use Rattle.std.specs.Prelude.{◌≡◌};
 ghost use Rattle.performing.specs.Status.{IsServingStatus, TellsServed, status_stopped};
 
+use crate::status::status;
 use ch_serve::{ServeError, serve};
-use hierfile::HierError;
+use ch_service::Cause;
 use std::alloc::Global;
 use std::io::{Read, Write};
 
@@ -40,11 +41,8 @@ fn status_stopped(error: ServeError) -> u8
     ensures { result ≡ status_stopped error }
 {
     match error {
-        ServeError::Hierarchy(HierError::OutOfMemory) | ServeError::OutOfMemory => 6,
-        ServeError::Hierarchy(HierError::Read)
-        | ServeError::Read
-        | ServeError::Write(_)
-        | ServeError::Flush => 7,
-        ServeError::Hierarchy(_) => 4,
+        ServeError::Hierarchy(fault) => status(Cause::of_file(fault)),
+        ServeError::OutOfMemory => 6,
+        ServeError::Read | ServeError::Write(_) | ServeError::Flush => 7,
     }
 }

@@ -25,8 +25,8 @@ pub fn report<E: Write>(error: &ServiceError, err: &mut E) -> u8
     status(error.cause())
 }
 
-// The status of a refusal that comes of this.
-fn status(cause: Cause) -> u8
+/// The status of a refusal that comes of this.
+pub fn status(cause: Cause) -> u8
     ensures { result ≡ status_of cause }
 {
     match cause {

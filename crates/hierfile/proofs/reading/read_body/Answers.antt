@@ -117,12 +117,6 @@ pub returns-clause-sizes : goal.returns-clause-sizes
 returns-clause-sizes g c =
     rw c.with_index.ensures (record { version = refl; ranks = c.in_ok-ranks.ensures.count; links = c.in_ok-links.ensures.count; bound = ap length_of c.bound_of-bound.ensures ∙ length_of-of_walk c.args.head.bound (bound_arcs c.args.version c.args.head.nodes) })
 
-pub returns-clause-made : goal.returns-clause-made
-returns-clause-made g c =
-    subst IsWellMade (sym c.with_index.ensures)
-    (well_made_of c.args.version c.args.head.nodes c.args.head.links c.args.head.bound c.in_ok-ranks.ranks.items c.as_slice.result.now c.in_ok-links.links.items c.as_slice-all.result.now
-    c.bound_of-bound.result c.requires c.in_ok-ranks.ensures.count c.in_ok-ranks.ensures.faultless c.in_ok-links.ensures.count c.in_ok-links.ensures.faultless c.in_ok-halves.ensures.faultless c.as_slice.ensures.value c.as_slice-all.ensures.value c.bound_of-bound.ensures)
-
 pub returns-in_err-index-clause-reads : goal.returns-in_err-index-clause-reads
 returns-in_err-index-clause-reads g c =
     let step = g.R.StepRead.step in

@@ -10,7 +10,6 @@ use Rattle.hierfile.proofs.Came.{ahead_behind, stops_behind, stops_where}
 use Rattle.hierfile.proofs.Faults.{hands_on, behind}
 use Rattle.hierfile.proofs.Heads.{sizes}
 use Rattle.hierfile.proofs.Whole.{from_start, stops_from_start, stops_at_start, first_but_halves, first_so_far, first_magic, first_head, first_body, nothing_waits, spelled_whole}
-use Rattle.hierfile.proofs.ReadBack.{refused, read_back}
 use Rattle.hierfile.specs.declared.error.HierError.TheVariants.{Read}
 use Rattle.counted_io.specs.Limits.{IsRead, ReadsWithin}
 use Rattle.counted_io.specs.Limits.Laws.{read_none, read_then, reads_then, refused_after}
@@ -62,18 +61,6 @@ returns-clause-ok g c =
     let start = nothing_waits c.in_ok-input.input.waiting (g.R.Read.remaining c.args.reader.now) (ap (λ (b : Buffered). b.waiting) c.in_ok-input.ensures) in
     let so_far = Consumes-trans _ _ _ _ _ c.in_ok-version.ensures.reads.bytes c.in_ok-head.ensures.reads.bytes in
     subst (λ o. IfSome o (λ bytes. bytes ≡ bytes_of hierarchy)) start (spelled_whole c.in_ok-version.version head.nodes head.links head.bound hierarchy _ _ so_far c.in_ok-hierarchy.ensures.sizes c.in_ok-hierarchy.ensures.reads.bytes)
-
-pub returns-in_err-version-clause-spelling : goal.returns-in_err-version-clause-spelling
-returns-in_err-version-clause-spelling g c = refused (g.R.Read.remaining c.args.reader.now) c.from_residual-in_err-version.result _ c.from_residual-in_err-version.ensures.1 (returns-in_err-version-clause-err g c)
-
-pub returns-in_err-head-clause-spelling : goal.returns-in_err-head-clause-spelling
-returns-in_err-head-clause-spelling g c = refused (g.R.Read.remaining c.args.reader.now) c.from_residual-in_err-head.result _ c.from_residual-in_err-head.ensures.1 (returns-in_err-head-clause-err g c)
-
-pub returns-in_err-hierarchy-clause-spelling : goal.returns-in_err-hierarchy-clause-spelling
-returns-in_err-hierarchy-clause-spelling g c = refused (g.R.Read.remaining c.args.reader.now) c.from_residual-in_err-hierarchy.result _ c.from_residual-in_err-hierarchy.ensures.1 (returns-in_err-hierarchy-clause-err g c)
-
-pub returns-clause-spelling : goal.returns-clause-spelling
-returns-clause-spelling g c = read_back (g.R.Read.remaining c.args.reader.now) c.in_ok-hierarchy.hierarchy c.in_ok-hierarchy.ensures.made (returns-clause-ok g c)
 
 pub returns-in_err-version-clause-stopped : goal.returns-in_err-version-clause-stopped
 returns-in_err-version-clause-stopped g c =
@@ -191,9 +178,6 @@ returns-clause-so_far c = grind (arith, common_steps) steps 200000
 
 pub returns-clause-err : goal.returns-clause-err
 returns-clause-err c = grind (arith, common_steps) steps 200000
-
-pub returns-clause-made : goal.returns-clause-made
-returns-clause-made c = grind (arith, common_steps) steps 200000
 
 pub returns-clause-stopped : goal.returns-clause-stopped
 returns-clause-stopped c = grind (arith, common_steps) steps 200000

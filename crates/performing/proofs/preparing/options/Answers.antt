@@ -1,4 +1,4 @@
-use Rattle.std.proofs.Common.{sym, arith}
+use Rattle.std.proofs.Common.{refl, sym, arith}
 use Rattle.performing.proofs.preparing.options.Goals as goal
 
 pub returns-clause-good : goal.returns-clause-good
@@ -13,8 +13,5 @@ returns-clause-good c =
       a_list_each = sym c.count.ensures.count;
     }
 
-pub returns-clause-workers : goal.returns-clause-workers
-returns-clause-workers c = c.count.ensures.count
-
-pub returns-clause-stint : goal.returns-clause-stint
-returns-clause-stint c = c.commits.ensures.commits
+pub returns-clause-all : goal.returns-clause-all
+returns-clause-all c = rw (c.count.ensures.count, c.commits.ensures.commits) refl

@@ -1,17 +1,23 @@
-use Rattle.std.proofs.Common.{◌∙◌, ◌+◌, ◌-◌, length, take, drop, sym}
-use Rattle.std.proofs.lemmas.List.{take_rest}
-use Rattle.grfile.proofs.Blanks.{next_at, next_last}
+use Rattle.std.proofs.Common.{◌∙◌, length, ap, arith}
+use Rattle.std.specs.List.{filter}
+use Rattle.grfile.specs.Lines.{is_field}
+use Rattle.grfile.proofs.Blanks.{next_word}
 use Rattle.grfile.proofs.fields.Fields.next_field.Goals as goal
 
-pub returns-in-Some : goal.returns-in-Some
-returns-in-Some c =
-    let line = c.self.inside.rest.now in
-    let start = c.in_ok-start.start in
-    let from = take (length line - start) (drop start line) in
-    sym c.self.view_is ∙ next_at line from _ start c.in-Some.end c.in_ok-start.ensures (take_rest line start) c.in-Some.ensures (take_rest from (c.in-Some.end + 1))
+pub loop-part-smaller-in-Some-next : goal.loop-part-smaller-in-Some-next
+loop-part-smaller-in-Some-next c =
+    let same = next_word _ _ _ _ _ c.in-None.ensures.steps.0 c.in-Some-next.ensures.steps c.split_str.ensures.value in
+    omega (arith, ap length same, ap length c.in-Some-next.ensures.steps)
 
-pub returns-in-None : goal.returns-in-None
-returns-in-None c =
-    let line = c.self.inside.rest.now in
-    let start = c.in_ok-start.start in
-    sym c.self.view_is ∙ next_last line _ start c.in_ok-start.ensures (take_rest line start) c.in-None.ensures
+pub loop-part-preserved-in-Some-next : goal.loop-part-preserved-in-Some-next
+loop-part-preserved-in-Some-next c =
+    ap (filter is_field) (next_word _ _ _ _ _ c.in-None.ensures.steps.0 c.in-Some-next.ensures.steps c.split_str.ensures.value) ∙ c.loop-part.invariant
+
+pub loop-part-smaller : goal.loop-part-smaller
+loop-part-smaller c =
+    let same = next_word _ _ _ _ _ c.in-None.ensures.steps.0 c.in-Some-next.ensures.steps c.split_str.ensures.value in
+    omega (arith, ap length same, ap length c.in-Some-next.ensures.steps)
+
+pub loop-part-preserved : goal.loop-part-preserved
+loop-part-preserved c =
+    ap (filter is_field) (next_word _ _ _ _ _ c.in-None.ensures.steps.0 c.in-Some-next.ensures.steps c.split_str.ensures.value) ∙ c.loop-part.invariant
