@@ -1,0 +1,13 @@
+mod Entries
+mod Numbers
+mod Ranges
+mod Ranking
+mod Replaying
+mod Sorting
+mod Around
+mod Cutoffs
+mod Joining
+mod Making
+mod Outcomes
+mod Reading
+mod Tests

@@ -1,0 +1,6 @@
+use Rattle.std.proofs.Common.{take}
+use Rattle.ch_check.specs.Pairs.{AreSorted}
+use Rattle.ch_check.proofs.pairs.sort_pairs.Given as goal
+
+abbrev pub invariant-outs : goal.invariant-outs
+invariant-outs l = AreSorted l.bound l.first l.into (take l.out-index l.outs) l.pairs.put.items l.pairs.owed.items
