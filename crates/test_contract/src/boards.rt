@@ -8,7 +8,7 @@ use crate::networks::{
 use crate::proposals::{are_of, are_shortcuts};
 use crate::shelf::{Lead, Numbers, cost_of};
 use ch_contract::{
-    Board, CommitError, Contraction, FinishError, Finished, Ledger, Proposal, ProposeError,
+    Board, CommitError, Contraction, Facts, FinishError, Finished, Ledger, Proposal, ProposeError,
     Receipt, Site, SweepError, Verdict, propose,
 };
 use ch_graph::{Graph, Hierarchy, Link, Road};
@@ -22,10 +22,13 @@ use std::thread::Threads;
 /// How many nodes each search settles at most.
 const SETTLE: u32 = 64;
 
+/// A node, and how many arcs lead into it and out of it, from and to nodes that aren't contracted.
+type Degrees = (u32, u32, u32);
+
 /// A proposal, and what the board returns for it: its node, the nodes of the rows that it rests on, its verdicts, and its
 /// shortcuts.
 type Offer = (
-    u32,
+    Degrees,
     &'static [u32],
     &'static [Judged],
     &'static [Lead],
@@ -107,14 +110,14 @@ const HEAVIEST_WEIGHTS: Case = Case {
 const ROW_BY_COMMITS: Case = Case {
     turns: &[&[
         (
-            0,
+            (0, 1, 1),
             &[0, 1],
             &[(1, 2, Some(Verdict::Shortcut)), (2, 1, None)],
             &[(1, 2, (5, 2))],
             Ok(Receipt { node: 0, rank: 0 }),
         ),
         (
-            0,
+            (0, 1, 1),
             &[0, 1],
             &[(1, 2, Some(Verdict::Shortcut))],
             &[(1, 2, (5, 2))],
@@ -130,14 +133,14 @@ const TIE_BY_COMMITS: Case = Case {
     turns: &[
         &[
             (
-                0,
+                (0, 1, 1),
                 &[0, 2, 1],
                 &[(2, 3, Some(Verdict::Witness))],
                 &[],
                 Ok(Receipt { node: 0, rank: 0 }),
             ),
             (
-                1,
+                (1, 1, 1),
                 &[1, 2, 0],
                 &[(2, 3, Some(Verdict::Witness))],
                 &[],
@@ -150,7 +153,7 @@ const TIE_BY_COMMITS: Case = Case {
             ),
         ],
         &[(
-            1,
+            (1, 1, 1),
             &[1, 2],
             &[(2, 3, Some(Verdict::Shortcut))],
             &[(2, 3, (2, 2))],
@@ -164,7 +167,7 @@ const TIE_BY_COMMITS: Case = Case {
 const HEAVY_BY_COMMITS: Case = Case {
     turns: &[
         &[(
-            0,
+            (0, 2, 2),
             &[0, 1, 2],
             &[
                 (1, 3, Some(Verdict::Shortcut)),
@@ -175,7 +178,7 @@ const HEAVY_BY_COMMITS: Case = Case {
             Ok(Receipt { node: 0, rank: 0 }),
         )],
         &[(
-            1,
+            (1, 1, 1),
             &[1, 2],
             &[(2, 3, Some(Verdict::Heavy))],
             &[],
@@ -369,18 +372,31 @@ fn answers<S: Site, R: Wait>(
     let Some((offer, before)) = offers.split_last() else {
         return true;
     };
-    let Ok(proposal) = propose(alloc, board, offer.0, SETTLE) else {
+    let (node, _, _) = offer.0;
+    let Ok(proposal) = propose(alloc, board, node, SETTLE) else {
         return false;
     };
     let holds = answers(rt, alloc, board, before) & is_offer(&proposal, offer);
     holds & (board.commit(rt, proposal) == offer.4)
 }
 
-/// Whether a proposal rests on the rows of the offer, and has its verdicts and shortcuts.
-fn is_offer(proposal: &Proposal, (_, rows, verdicts, shortcuts, _): &Offer) -> bool {
-    are_of(proposal.rests_on(), rows)
+/// Whether a proposal rests on the rows of the offer, and has its facts, verdicts and shortcuts.
+fn is_offer(proposal: &Proposal, (degrees, rows, verdicts, shortcuts, _): &Offer) -> bool {
+    has_facts(proposal, *degrees, shortcuts.len())
+        & are_of(proposal.rests_on(), rows)
         & has_verdicts(proposal, verdicts)
         & are_shortcuts(proposal.shortcuts(), shortcuts)
+}
+
+/// Whether the facts of a proposal are a node's degrees and this many shortcuts.
+fn has_facts(proposal: &Proposal, (node, ins, outs): Degrees, shortcuts: usize) -> bool {
+    let facts = Facts {
+        node,
+        ins,
+        outs,
+        shortcuts: shortcuts as u64,
+    };
+    proposal.facts() == facts
 }
 
 /// Whether a proposal has these verdicts.

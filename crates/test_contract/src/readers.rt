@@ -15,7 +15,7 @@ use std::sync::Wait;
 use std::test::Fail;
 
 /// Entries of a row: the other node, the cost and the middle of each.
-type Entries = &'static [(u32, Numbers, Option<u32>)];
+pub type Entries = &'static [(u32, Numbers, Option<u32>)];
 
 /// A row of the book: its version, its arcs out of the node and into it, and the node's rank.
 type Version = (u64, Entries, Entries, Option<u32>);
@@ -41,7 +41,8 @@ const ANEW: &[Version] = &[
     (2, &[], &[(1, (5, 2), Some(0))], None),
 ];
 
-fn are(entries: &[Entry], expected: Entries) -> bool {
+/// Whether entries are these.
+pub fn are(entries: &[Entry], expected: Entries) -> bool {
     entries.len() == expected.len()
         && entries.iter().zip(expected).all(|(entry, (other, numbers, middle))| {
             (entry.other == *other)

@@ -9,8 +9,9 @@ ghost use Rattle.ch_graph.specs.Limits.{bound_of};
 ghost use Rattle.ch_rowbook.specs.Blanks.{name_of};
 
 use crate::boards::{Linked, are_links, finished};
-use crate::networks::{ROW, TIE, graph_of, with_blank, with_book};
+use crate::networks::{Line, ROW, TIE, graph_of, with_blank, with_book};
 use crate::proposals::are_of;
+use crate::readers::are;
 use crate::searches::is_one_way;
 use crate::shelf::{Lead, Shelf};
 use ch_contract::{
@@ -40,25 +41,36 @@ fn started(alloc: Global, graph: &Graph) -> Result<Overlay, AllocError>
     }
 }
 
-/// Whether the contraction of node 0 of three nodes changes the rows of all three.
-fn changes_all(overlay: &Overlay) -> Result<bool, AllocError>
+/// Whether the contraction of node 0 without a shortcut changes the rows of these nodes.
+fn changes(overlay: &Overlay, nodes: &[u32]) -> Result<bool, AllocError>
     requires { overlay.now.order ≡ [] }
 {
-    if overlay.nodes() != 3 {
+    if overlay.nodes() == 0 {
         return Ok(false);
     }
     let change = match overlay.plan(0, &[]) {
         Ok(change) => change,
         Err(AllocError) => overlay.plan(0, &[])?,
     };
-    Ok(change.rows().iter().map(|(node, _)| *node).eq([0, 1, 2]))
+    Ok(
+        change
+            .rows()
+            .iter()
+            .map(|(node, _)| *node)
+            .eq(nodes.iter().copied()),
+    )
 }
+
+/// A number of nodes, arcs, and the nodes whose rows change with the contraction of node 0.
+const CHANGES: [(u32, &[Line], &[u32]); 2] = [(3, &ROW, &[0, 1, 2]), (4, &TIE, &[0, 2, 3])];
 
 #[test]
 fn start_and_plan(rt: HostRuntime) -> Result<(), Fail> {
     let alloc = rt.alloc();
-    let graph = graph_of(alloc, 3, &[(1, 0, 2), (0, 2, 3), (1, 2, 4)])?;
-    assert!(rt; changes_all(&started(alloc, &graph)?)?);
+    for (nodes, lines, changed) in CHANGES {
+        let graph = graph_of(alloc, nodes, lines)?;
+        assert!(rt; changes(&started(alloc, &graph)?, changed)?);
+    }
     Ok(())
 }
 
@@ -305,17 +317,37 @@ fn has_shortcut<S: RowSource>(
     Ok(proposal.shortcuts().len() == 1)
 }
 
-/// Whether both middle nodes are contracted, the first by what the reader finds.
+/// Whether a proposal is refused since the row of node 2 has changed with the first contraction. Its version is later where
+/// rows were laid in vain.
+fn is_stale(answer: Result<Receipt, CommitError>) -> bool {
+    let Err(
+        CommitError::Stale {
+            node,
+            seen,
+            now,
+            front,
+        },
+    ) = answer
+    else {
+        return false;
+    };
+    ((node, seen, front) == (2, 2, 1)) & (now >= 5)
+}
+
+/// Whether both middle nodes are contracted, the first by what the reader finds, and an earlier proposal of the second is
+/// stale, which takes no memory.
 fn are_contracted<S: Site, R: Wait>(
     rt: &R,
     alloc: Global,
     board: &mut Board<S>,
     reader: &mut Reader<S>,
 ) -> Result<bool, Fail> {
+    let early = propose(alloc, reader, 1, SETTLE)?;
     let first = committed_and_seen(rt, alloc, board, reader, 0)?;
+    let is_stale = is_stale(board.commit_and_see(rt, &early, reader));
     let has_shortcut = has_shortcut(alloc, reader, 1)?;
     let second = committed(rt, alloc, board, 1)?;
-    Ok(has_shortcut & ((first.rank, second.rank) == (0, 1)))
+    Ok(is_stale & has_shortcut & ((first.rank, second.rank) == (0, 1)))
 }
 
 /// Whether both middle nodes of the tie are contracted, the first by what a reader of the board's book finds.
@@ -339,5 +371,52 @@ fn board_and_reader(rt: HostRuntime) -> Result<(), Fail> {
     let alloc = rt.alloc();
     let (blank, graph) = with_blank(alloc, graph_of(alloc, 4, &TIE)?)?;
     assert!(rt; is_seen::<Brand, HostRuntime>(&rt, alloc, blank, graph)?);
+    Ok(())
+}
+
+/// Whether a reader finds the later row of node 1, which leads to node 2 by way of node 0.
+fn finds_later_row<S: Site>(reader: &mut Reader<S>) -> Result<bool, SeeError> {
+    let seen = row_of(reader, 1)?;
+    let is_later = are(&seen.row.out, &[(2, (5, 2), Some(0))]) & are(&seen.row.inn, &[]);
+    Ok((seen.version > 1) & is_later)
+}
+
+/// Whether a reader of the row of three nodes and one that was split off before both find what a commit of node 0 changes.
+fn both_find_later_row<S: Site, R: Wait>(
+    rt: &R,
+    alloc: Global,
+    board: &mut Board<S>,
+    reader: &mut Reader<S>,
+) -> Result<bool, Fail> {
+    let mut early = match reader.split() {
+        Ok(early) => early,
+        Err(AllocError) => reader.split()?,
+    };
+    let receipt = committed_and_seen(rt, alloc, board, reader, 0)?;
+    let holds = finds_later_row(reader)? & finds_later_row(&mut early)?;
+    Ok(holds & (receipt == Receipt { node: 0, rank: 0 }))
+}
+
+/// The same, of a board of this graph, which has to be the row of three nodes.
+fn are_found<S: Site, R: Wait>(
+    rt: &R,
+    alloc: Global,
+    blank: Blank,
+    graph: Graph,
+) -> Result<bool, Fail>
+    requires of_graph { S.graph ≡ graph }
+    requires of_book { S.book ≡ name_of blank }
+    requires nodes { blank.nodes ≡ graph.nodes }
+    requires bound { blank.bound ≡ bound_of graph }
+{
+    let (mut board, mut reader): (Board<S>, Reader<S>) = Board::new(rt, alloc, blank, graph)?;
+    both_find_later_row(rt, alloc, &mut board, &mut reader)
+}
+
+#[test]
+fn commit_and_readers(rt: HostRuntime) -> Result<(), Fail> {
+    let alloc = rt.alloc();
+    let (blank, graph) = with_blank(alloc, graph_of(alloc, 3, &ROW)?)?;
+    assert!(rt; are_found::<Brand, HostRuntime>(&rt, alloc, blank, graph)?);
     Ok(())
 }

@@ -1,11 +1,21 @@
+ghost use Rattle.std.specs.Prelude.{◌≡◌};
+ghost use Rattle.ch_graph.specs.Limits.{bound_of};
+ghost use Rattle.ch_rowbook.specs.Blanks.{name_of};
 ghost use Rattle.ch_witness.specs.Kept.{AreKept, OfTheirNodes, kept_of};
 
+use crate::networks::{self, graph_of, with_blank};
 use crate::proposals::are_of;
 use crate::shelf::{Lead, Numbers, Shelf, cost_of};
+use ch_contract::{Board, Site};
 use ch_cost::Cost;
+use ch_graph::Graph;
+use ch_overlay::RowSource;
+use ch_rowbook::{Blank, Reader};
 use ch_witness::{Aim, Rule, SearchError, Searcher, Traced, Way, search};
 use std::alloc::{AllocError, Global};
+use std::marker::Brand;
 use std::mem;
+use std::sync::Wait;
 use std::test::Fail;
 
 /// Node 3 is reached from node 2 by way of 0 or of 1, at the same cost.
@@ -109,17 +119,22 @@ pub fn is_one_way(ways: &[Option<Way>], expected: Option<(&[u32], Numbers)>) -> 
 }
 
 /// Whether a search that avoids a node finds the way within the cutoff, or none where none is given.
-fn finds_round(
+fn finds_round<S: RowSource>(
     alloc: Global,
-    shelf: &mut Shelf,
+    source: &mut S,
     (avoid, cutoff, settle): (u32, Numbers, u32),
     way: Option<Wanted>,
 ) -> Result<bool, SearchError> {
     let cutoff = cost_of(cutoff);
-    if avoid == 2 || avoid == 3 || settle == 0 || settle > 64 || !shelf.allows(cutoff) {
+    if avoid == 2
+        || avoid == 3
+        || settle == 0
+        || settle > 64
+        || !cutoff.is_at_most(source.bound())
+    {
         return Ok(false);
     }
-    let found = search(alloc, shelf, 2, avoid, cutoff, &[3], settle)?;
+    let found = search(alloc, source, 2, avoid, cutoff, &[3], settle)?;
     Ok(is_one_way(&found.ways, way))
 }
 
@@ -135,6 +150,40 @@ fn one_search(rt: HostRuntime) -> Result<(), Fail> {
     for case in &CASES {
         assert!(rt; comes_true(rt.alloc(), case)?);
     }
+    Ok(())
+}
+
+/// Whether the first four cases, which are those of the tie without ranks, come true by these rows.
+fn finds_by_opening_rows<S: RowSource>(alloc: Global, source: &mut S) -> Result<bool, SearchError> {
+    let mut holds = true;
+    for (_, _, rule, way, _) in CASES.iter().take(4) {
+        holds &= finds_round(alloc, source, *rule, *way)?;
+    }
+    Ok(holds)
+}
+
+/// Whether they come true by a board of this graph, and by its reader.
+fn both_find<S: Site, R: Wait>(
+    rt: &R,
+    alloc: Global,
+    blank: Blank,
+    graph: Graph,
+) -> Result<bool, Fail>
+    requires of_graph { S.graph ≡ graph }
+    requires of_book { S.book ≡ name_of blank }
+    requires nodes { blank.nodes ≡ graph.nodes }
+    requires bound { blank.bound ≡ bound_of graph }
+{
+    let (mut board, mut reader): (Board<S>, Reader<S>) = Board::new(rt, alloc, blank, graph)?;
+    let by_board = finds_by_opening_rows(alloc, &mut board)?;
+    Ok(by_board & finds_by_opening_rows(alloc, &mut reader)?)
+}
+
+#[test]
+fn searches_by_a_board_and_its_reader(rt: HostRuntime) -> Result<(), Fail> {
+    let alloc = rt.alloc();
+    let (blank, graph) = with_blank(alloc, graph_of(alloc, 4, &networks::TIE)?)?;
+    assert!(rt; both_find::<Brand, HostRuntime>(&rt, alloc, blank, graph)?);
     Ok(())
 }
 

@@ -507,6 +507,7 @@ fn faults_come_before_a_failed_read(rt: HostRuntime) -> Result<(), AllocError> {
 fn reads_in_pieces(rt: HostRuntime) -> Result<(), AllocError> {
     let row = bytes(rt.alloc(), &ROW)?;
     assert!(rt; is_read_in_pieces(rt.alloc(), row.as_slice()));
+    assert!(rt; refusal_before(rt.alloc(), row.as_slice(), 1) == Some(HierError::Read));
     Ok(())
 }
 

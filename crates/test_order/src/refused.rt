@@ -3,7 +3,7 @@
 //!
 //! A call that runs out of memory leaves its value as it was, is made again, and has to give what it gives with ample
 //! memory. A growth of what a test sets up ends the test with that error.
-ghost use Rattle.std.specs.Prelude.{◌≡◌, [], ◌∷◌, length, IfOk};
+ghost use Rattle.std.specs.Prelude.{◌≡◌, ◌<◌, ◌^◌, ◌++◌, [], ◌∷◌, length, AllPairs, IfOk, IsTrue};
 
 use ch_contract::Contraction;
 use ch_estimate::{Depth, EdgeDifference, Estimator, Lease, Leases, Neighbours, Note};
@@ -23,6 +23,20 @@ fn first_entry(alloc: Global) -> Result<Contraction, AllocError>
         rank: 0,
         neighbours,
         shortcuts: 1,
+    })
+}
+
+/// The contraction of node 1 behind it, whose neighbour is 2.
+fn second_entry(alloc: Global) -> Result<Contraction, AllocError>
+    ensures rank { IfOk result (λ entry. entry.rank ≡ 1) }
+    ensures neighbours { IfOk result (λ entry. entry.neighbours ≡ 2 ∷ []) }
+{
+    let neighbours = vec![in alloc; 2]?;
+    Ok(Contraction {
+        node: 1,
+        rank: 1,
+        neighbours,
+        shortcuts: 0,
     })
 }
 
@@ -56,42 +70,81 @@ fn notes<E: Estimator>(estimator: &E) -> [Note; 3] {
 
 const NONE: [Note; 3] = [Note { depth: 0, gone: 0 }; 3];
 
-const AFTER: [Note; 3] = [
+const AFTER_ONE: [Note; 3] = [
     Note { depth: 0, gone: 0 },
     Note { depth: 1, gone: 1 },
     Note { depth: 1, gone: 1 },
 ];
 
-/// Whether an estimator that receives the entry has the notes that follow from it; while it is refused, the first ones.
-fn hears<E: Estimator>(mut estimator: E, entry: &Contraction) -> bool
-    requires fresh { E.heard estimator ≡ [] }
-    requires rank { entry.now.rank ≡ 0 }
-    requires neighbours { entry.now.neighbours ≡ 1 ∷ 2 ∷ [] }
+const AFTER_BOTH: [Note; 3] = [
+    Note { depth: 0, gone: 0 },
+    Note { depth: 1, gone: 1 },
+    Note { depth: 2, gone: 2 },
+];
+
+/// Whether an estimator receives an entry and has the notes that follow then; while it is refused, those from before.
+fn is_told<E: Estimator>(
+    estimator: &mut E,
+    entry: &Contraction,
+    before: [Note; 3],
+    after: [Note; 3],
+) -> bool
+    requires rank { entry.now.rank ≡ length (E.heard estimator.old) }
+    requires few { entry.now.rank < 2 ^ 25 }
+    requires rising { AllPairs (λ x y. x < y) entry.now.neighbours }
+    ensures told { IsTrue result → E.heard estimator.new ≡ E.heard estimator.old ++ entry.now ∷ [] }
 {
-    if let Err(AllocError) = estimator.told(entry) {
-        if notes(&estimator) != NONE || estimator.told(entry).is_err() {
-            return false;
+    match estimator.told(entry) {
+        Ok(()) => notes(estimator) == after,
+        Err(AllocError) => {
+            if notes(estimator) != before {
+                return false;
+            }
+            match estimator.told(entry) {
+                Ok(()) => notes(estimator) == after,
+                Err(AllocError) => false,
+            }
         }
     }
-    notes(&estimator) == AFTER
 }
 
-/// Whether one estimator of each kind receives the entry.
-fn all_hear(alloc: Global, leases: &mut Leases, entry: &Contraction) -> Result<bool, AllocError>
-    requires rank { entry.now.rank ≡ 0 }
-    requires neighbours { entry.now.neighbours ≡ 1 ∷ 2 ∷ [] }
+/// Whether a new estimator receives both entries.
+fn hears<E: Estimator>(mut estimator: E, first: &Contraction, second: &Contraction) -> bool
+    requires fresh { E.heard estimator ≡ [] }
+    requires first_rank { first.now.rank ≡ 0 }
+    requires first_neighbours { first.now.neighbours ≡ 1 ∷ 2 ∷ [] }
+    requires second_rank { second.now.rank ≡ 1 }
+    requires second_neighbours { second.now.neighbours ≡ 2 ∷ [] }
 {
-    let by_edges = hears(EdgeDifference::new(alloc, leases.lease()?), entry);
-    let by_neighbours = hears(Neighbours::new(alloc, leases.lease()?), entry);
-    let by_depth = hears(Depth::new(alloc, leases.lease()?), entry);
+    if !is_told(&mut estimator, first, NONE, AFTER_ONE) {
+        return false;
+    }
+    is_told(&mut estimator, second, AFTER_ONE, AFTER_BOTH)
+}
+
+/// Whether one estimator of each kind receives the entries.
+fn all_hear(
+    alloc: Global,
+    leases: &mut Leases,
+    first: &Contraction,
+    second: &Contraction,
+) -> Result<bool, AllocError>
+    requires first_rank { first.now.rank ≡ 0 }
+    requires first_neighbours { first.now.neighbours ≡ 1 ∷ 2 ∷ [] }
+    requires second_rank { second.now.rank ≡ 1 }
+    requires second_neighbours { second.now.neighbours ≡ 2 ∷ [] }
+{
+    let by_edges = hears(EdgeDifference::new(alloc, leases.lease()?), first, second);
+    let by_neighbours = hears(Neighbours::new(alloc, leases.lease()?), first, second);
+    let by_depth = hears(Depth::new(alloc, leases.lease()?), first, second);
     Ok(by_edges & by_neighbours & by_depth)
 }
 
 #[test]
 fn told(rt: HostRuntime) -> Result<(), Fail> {
     let mut leases = Leases::new(rt.alloc())?;
-    let entry = first_entry(rt.alloc())?;
-    assert!(rt; all_hear(rt.alloc(), &mut leases, &entry)?);
+    let (first, second) = (first_entry(rt.alloc())?, second_entry(rt.alloc())?);
+    assert!(rt; all_hear(rt.alloc(), &mut leases, &first, &second)?);
     Ok(())
 }
 

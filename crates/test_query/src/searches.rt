@@ -40,17 +40,17 @@ const TIED: [Given; 6] = [
     (4, 1, (0, 1), None),
 ];
 
-/// Makes a search of a hierarchy and lets it go.
-fn make_search(alloc: Global, hierarchy: &Hierarchy) -> Result<(), Fail> {
-    let _search = Search::new(alloc, hierarchy)?;
-    Ok(())
+/// Whether a new search of a hierarchy finds no walk from nowhere to nowhere.
+fn finds_nothing(alloc: Global, hierarchy: &Hierarchy) -> Result<bool, AllocError> {
+    let mut search = Search::new(alloc, hierarchy)?;
+    Ok(search.between(&[], &[])?.is_none())
 }
 
 #[test]
 fn no_node(rt: HostRuntime) -> Result<(), Fail> {
     let hierarchy = hierarchy_of(rt.alloc(), &[], &[], (0, 0))?;
-    make_search(rt.alloc(), &hierarchy)?;
     assert!(rt; hierarchy.nodes() == 0);
+    assert!(rt; finds_nothing(rt.alloc(), &hierarchy)?);
     Ok(())
 }
 

@@ -42,7 +42,7 @@ fn is_kept<B: Book, R: Wait>(
     Ok(holds & is_read_back(rt, alloc, pen, reader, &mut other)?)
 }
 
-/// Whether the later row can be relied on, and is read back where it was written.
+/// Whether the later row can be relied on and is read back once it is shown, and the first one once it is written anew.
 fn is_read_back<B: Book, R: Wait>(
     rt: &R,
     alloc: Global,
@@ -59,7 +59,27 @@ fn is_read_back<B: Book, R: Wait>(
     if !is_sound(1, &later, limit) {
         return Ok(false);
     }
-    is_shown(rt, pen, reader, other, opening, later)
+    let first = row(alloc, ROWS[1].0, &[])?;
+    if !is_sound(1, &first, limit) {
+        return Ok(false);
+    }
+    let shown = is_shown(rt, pen, reader, other, opening, later)?;
+    Ok(shown & is_written(rt, pen, reader, first)?)
+}
+
+/// Whether the first row of node 1, written anew, is read back with a later version.
+fn is_written<B: Book, R: Wait>(
+    rt: &R,
+    pen: &mut Pen<B>,
+    reader: &mut Reader<B>,
+    first: Arc<Row>,
+) -> Result<bool, Fail>
+    requires nodes { B.book.nodes ≡ 3 }
+    requires row { IsSoundRow B.book.bound 1 (arc_value first) }
+{
+    let before = pen.version(1);
+    let version = pen.write(rt, 1, first)?;
+    Ok((before < version) & is_current(reader, version, ROWS[1].0)?)
 }
 
 /// Whether two readers and the pen find a row of node 1 in place of the opening one, and only once it is shown.

@@ -99,7 +99,8 @@ fn worked_examples(rt: HostRuntime) -> Result<(), Fail> {
     Ok(())
 }
 
-const NO_PAIRS: ServiceError = ServiceError::Queries(GrError {
+/// What comes of a joined input without a second part.
+pub(crate) const NO_PAIRS: ServiceError = ServiceError::Queries(GrError {
     kind: GrErrorKind::NoProblemLine,
     line: 0,
 });

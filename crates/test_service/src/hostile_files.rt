@@ -9,29 +9,62 @@ use std::thread::Threads;
 
 const PAIRS: &[u8] = b"p aux sp p2p 1\nq 2 3\n";
 
-/// A byte of the row's file in version 2, by its place, what it is changed to, and what is then reported.
-type Change = (usize, u8, &'static [u8]);
+/// Bytes of a file by their places, what they are changed to, and what is then reported.
+type Change = (&'static [(usize, u8)], &'static [u8]);
 
-/// Changes of the head and of the ranks.
+/// Changes of the head and of the ranks, which both versions have at the same places.
 const HEADS: [Change; 6] = [
-    (0, b'S', b"routecli: hierarchy: BadMagic\n"),
-    (4, 2, b"routecli: hierarchy: TooBig\n"),
-    (15, 7, b"routecli: hierarchy: TooBig\n"),
-    (19, 3, b"routecli: hierarchy: BoundTooBig\n"),
-    (27, 3, b"routecli: hierarchy: RankRange\n"),
-    (31, 0, b"routecli: hierarchy: RankTwice\n"),
+    (&[(0, b'S')], b"routecli: hierarchy: BadMagic\n"),
+    (&[(4, 2), (7, 1)], b"routecli: hierarchy: TooBig\n"),
+    (&[(15, 7)], b"routecli: hierarchy: TooBig\n"),
+    (
+        &[(19, 1), (20, 255), (21, 255), (22, 255), (23, 255)],
+        b"routecli: hierarchy: BoundTooBig\n",
+    ),
+    (&[(27, 3)], b"routecli: hierarchy: RankRange\n"),
+    (&[(31, 0)], b"routecli: hierarchy: RankTwice\n"),
 ];
 
-/// Changes of the links.
-const LINKS: [Change; 8] = [
-    (43, 1, b"routecli: hierarchy: HalfMissing\n"),
-    (91, 1, b"routecli: hierarchy: LinkEnds\n"),
-    (91, 0, b"routecli: hierarchy: LinkOrder\n"),
-    (99, 7, b"routecli: hierarchy: LinkWeight\n"),
-    (103, 0, b"routecli: hierarchy: LinkWeight\n"),
-    (107, 3, b"routecli: hierarchy: MiddleRange\n"),
-    (107, 2, b"routecli: hierarchy: MiddleRank\n"),
-    (99, 4, b"routecli: hierarchy: HalfSum\n"),
+/// Changes of the links in version 2: of the third one but for the arcs of the first.
+const LINKS: [Change; 11] = [
+    (&[(91, 1)], b"routecli: hierarchy: LinkEnds\n"),
+    (&[(91, 0)], b"routecli: hierarchy: LinkOrder\n"),
+    (&[(99, 7)], b"routecli: hierarchy: LinkWeight\n"),
+    (&[(103, 0)], b"routecli: hierarchy: LinkWeight\n"),
+    (&[(103, 3)], b"routecli: hierarchy: LinkWeight\n"),
+    (&[(55, 2)], b"routecli: hierarchy: LinkWeight\n"),
+    (&[(107, 3)], b"routecli: hierarchy: MiddleRange\n"),
+    (&[(107, 2)], b"routecli: hierarchy: MiddleRank\n"),
+    (&[(99, 4)], b"routecli: hierarchy: HalfSum\n"),
+    (&[(99, 0)], b"routecli: hierarchy: HalfSum\n"),
+    (&[(103, 1)], b"routecli: hierarchy: HalfSum\n"),
+];
+
+/// Changes of the third link in version 1.
+const LINKS_V1: [Change; 6] = [
+    (&[(83, 1)], b"routecli: hierarchy: LinkEnds\n"),
+    (&[(91, 0)], b"routecli: hierarchy: LinkWeight\n"),
+    (&[(91, 7)], b"routecli: hierarchy: LinkWeight\n"),
+    (&[(95, 3)], b"routecli: hierarchy: MiddleRange\n"),
+    (&[(95, 2)], b"routecli: hierarchy: MiddleRank\n"),
+    (&[(91, 4)], b"routecli: hierarchy: HalfSum\n"),
+];
+
+/// Parts of a file, each from a place up to another, that make a file whose links are in another order or are fewer.
+type Parts = &'static [(usize, usize)];
+
+/// A file, its parts with the first two links exchanged, and those without the first link.
+const ORDERS: [(&[u8], Parts, Parts); 2] = [
+    (
+        ROW,
+        &[(0, 36), (60, 84), (36, 60), (84, 108)],
+        &[(0, 36), (60, 108)],
+    ),
+    (
+        ROW_V1,
+        &[(0, 36), (56, 76), (36, 56), (76, 96)],
+        &[(0, 36), (56, 96)],
+    ),
 ];
 
 /// Whether a route by this file ends with status 4 and this line, without an answer.
@@ -45,17 +78,45 @@ fn is_refused<R: Threads + Wait + Sync>(
     is_ended(rt, alloc, &ROUTE, &mut file, &mut pairs, 4, b"", line)
 }
 
-/// Whether the row's file with this change is refused so.
+/// Whether a file with this change is refused so.
 fn is_refused_changed<R: Threads + Wait + Sync>(
     rt: &R,
     alloc: Global,
-    (place, changed, line): Change,
+    file: &[u8],
+    (changes, line): Change,
 ) -> Result<bool, AllocError> {
-    let mut file = Vec::from_slice(alloc, ROW)?;
-    if let Some(byte) = file.get_mut(place) {
-        *byte = changed;
+    let mut changed = Vec::from_slice(alloc, file)?;
+    for (place, value) in changes {
+        if let Some(byte) = changed.get_mut(*place) {
+            *byte = *value;
+        }
     }
-    Ok(is_refused(rt, alloc, file.as_slice(), line))
+    Ok(is_refused(rt, alloc, changed.as_slice(), line))
+}
+
+/// The parts of a file, one after the other.
+fn joined(alloc: Global, file: &[u8], parts: Parts) -> Result<Vec<u8>, AllocError> {
+    let mut made = Vec::new(alloc);
+    for (from, to) in parts {
+        made.extend_from_slice(file.get(*from..*to).unwrap_or(b""))?;
+    }
+    Ok(made)
+}
+
+/// Whether a file is refused with its first two links exchanged, and without the first of three.
+fn is_refused_in_order<R: Threads + Wait + Sync>(
+    rt: &R,
+    alloc: Global,
+    (file, exchanged, fewer): (&[u8], Parts, Parts),
+) -> Result<bool, AllocError> {
+    let exchanged = joined(alloc, file, exchanged)?;
+    let fewer = joined(alloc, file, fewer)?;
+    let order: Change = (&[], b"routecli: hierarchy: LinkOrder\n");
+    let missing: Change = (&[(15, 2)], b"routecli: hierarchy: HalfMissing\n");
+    Ok(
+        is_refused_changed(rt, alloc, &exchanged, order)?
+            & is_refused_changed(rt, alloc, &fewer, missing)?,
+    )
 }
 
 /// Whether each front of a file is refused as cut, and the file with a byte more for that byte.
@@ -77,12 +138,24 @@ fn is_refused_cut<R: Threads + Wait + Sync>(
 }
 
 #[test]
-fn changed_files(rt: HostRuntime) -> Result<(), AllocError> {
+fn changed_heads(rt: HostRuntime) -> Result<(), AllocError> {
     for change in HEADS {
-        assert!(rt; is_refused_changed(&rt, rt.alloc(), change)?);
+        assert!(rt; is_refused_changed(&rt, rt.alloc(), ROW, change)?);
+        assert!(rt; is_refused_changed(&rt, rt.alloc(), ROW_V1, change)?);
     }
+    Ok(())
+}
+
+#[test]
+fn changed_links(rt: HostRuntime) -> Result<(), AllocError> {
     for change in LINKS {
-        assert!(rt; is_refused_changed(&rt, rt.alloc(), change)?);
+        assert!(rt; is_refused_changed(&rt, rt.alloc(), ROW, change)?);
+    }
+    for change in LINKS_V1 {
+        assert!(rt; is_refused_changed(&rt, rt.alloc(), ROW_V1, change)?);
+    }
+    for case in ORDERS {
+        assert!(rt; is_refused_in_order(&rt, rt.alloc(), case)?);
     }
     Ok(())
 }

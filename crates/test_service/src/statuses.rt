@@ -7,6 +7,7 @@ use std::io::{self, ErrorKind, Read, Write};
 use std::sync::Wait;
 use std::test::Fail;
 use std::thread::Threads;
+use test_kit::Uneven;
 
 /// A reader and writer that fails.
 #[derive(Drop)]
@@ -239,6 +240,28 @@ fn failed_reads(rt: HostRuntime) {
     }
     for (job, mut first) in [(TWO, ONE_ARC_TEXT), (ROUTE, ONE_ARC)] {
         assert!(rt; is_ended(&rt, alloc, &job, &mut first, &mut Broken, 7, b"", line));
+    }
+}
+
+/// Jobs and what their first reader has.
+const FIRST: [(Job, &[u8]); 4] = [
+    (TWO, ONE_ARC_TEXT),
+    (JOINED, ONE_ARC_TEXT),
+    (ROUTE, ONE_ARC),
+    (INFO, ONE_ARC),
+];
+
+#[test]
+fn failed_second_reads(rt: HostRuntime) {
+    let alloc = rt.alloc();
+    let line = b"routecli: read\n";
+    for (job, first) in FIRST {
+        let (mut failing, mut pairs) = (Uneven::new(first, 0, 2), PAIRS);
+        assert!(rt; is_ended(&rt, alloc, &job, &mut failing, &mut pairs, 7, b"", line));
+    }
+    for (job, mut first) in [(TWO, ONE_ARC_TEXT), (ROUTE, ONE_ARC)] {
+        let mut failing = Uneven::new(PAIRS, 0, 2);
+        assert!(rt; is_ended(&rt, alloc, &job, &mut first, &mut failing, 7, b"", line));
     }
 }
 

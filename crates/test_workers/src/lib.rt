@@ -22,6 +22,8 @@ mod gates;
 #[cfg(test)]
 mod keeping;
 #[cfg(test)]
+mod keys;
+#[cfg(test)]
 mod kit;
 #[cfg(test)]
 mod leases;

@@ -128,3 +128,17 @@ fn numbers_have_limits(rt: HostRuntime) {
             .all(|(options, lists, want)| options.are_bad(*lists) == *want)
     );
 }
+
+#[test]
+fn plain_options(rt: HostRuntime) {
+    let plain = Options {
+        workers: 0,
+        heaps: 2,
+        seed: 1,
+        settle: 64,
+        defer: 16,
+        turns: 4_294_967_296,
+        stint: 1_099_511_627_776,
+    };
+    assert!(rt; Options::PLAIN == plain);
+}

@@ -162,8 +162,13 @@ fn a_worker_without_estimators(rt: HostRuntime) -> Result<(), Fail> {
 /// By hand, with the words of `Pcg32::new(seed, 0)` by their remainder of 2. Seed 1: nodes 0 to 3 are put into the heaps
 /// 1, 1, 1, 0, and the draws for the items are 0 0, 0 0, 1 0, 0 0. So node 3 comes first, and then the others by number,
 /// the second and the fourth as the heaps are gone through. Seed 7: they are put into the heaps 1, 0, 1, 1, and the draws
-/// are 0 0, 1 1, 1 1, 1 0.
-const DRAWN: [(u64, [u32; 4]); 2] = [(1, [3, 0, 1, 2]), (7, [1, 0, 2, 3])];
+/// are 0 0, 1 1, 1 1, 1 0. Seed 2^32 + 1: into the heaps 1, 0, 1, 1, and the draws are 0 0, 0 0, 0 1, 0 1. It has the
+/// lower 32 bits of seed 1.
+const DRAWN: [(u64, [u32; 4]); 3] = [
+    (1, [3, 0, 1, 2]),
+    (7, [1, 0, 2, 3]),
+    (4_294_967_297, [1, 0, 2, 3]),
+];
 
 /// Whether the worker contracted these nodes in this order.
 fn is_in_order(built: &Built, nodes: &[u32]) -> bool {

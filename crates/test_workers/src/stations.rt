@@ -54,27 +54,18 @@ impl Gate for Trail {
     }
 }
 
-/// Eight words that are 0.
-fn zeros() -> [AtomicU64; 8] {
-    [
-        AtomicU64::new(0),
-        AtomicU64::new(0),
-        AtomicU64::new(0),
-        AtomicU64::new(0),
-        AtomicU64::new(0),
-        AtomicU64::new(0),
-        AtomicU64::new(0),
-        AtomicU64::new(0),
-    ]
+/// A word that is 0 for each of 64 workers.
+fn zeros() -> [AtomicU64; 64] {
+    [0u8; 64].map(|_| AtomicU64::new(0))
 }
 
 /// Counts the items, the commits, the refusals and the ends of each worker.
 #[derive(Drop)]
 pub(crate) struct Tally {
-    took: [AtomicU64; 8],
-    committed: [AtomicU64; 8],
-    refused: [AtomicU64; 8],
-    done: [AtomicU64; 8],
+    took: [AtomicU64; 64],
+    committed: [AtomicU64; 64],
+    refused: [AtomicU64; 64],
+    done: [AtomicU64; 64],
 }
 
 /// The number that a worker has in a list.
@@ -206,7 +197,7 @@ impl Gate for OneAtATime {
 #[derive(Drop)]
 pub(crate) struct Together {
     workers: u64,
-    first: [AtomicU64; 8],
+    first: [AtomicU64; 64],
     come: AtomicU64,
     late: AtomicU64,
 }

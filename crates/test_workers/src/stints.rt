@@ -66,6 +66,7 @@ fn a_stint_of_one_commit(rt: HostRuntime) -> Result<(), Fail> {
         },
     };
     let options = Options {
+        turns: Options::PLAIN.turns,
         defer: 0,
         stint: 1,
         ..ONE
@@ -156,5 +157,13 @@ fn the_grid_and_the_tie_by_stints(rt: HostRuntime) -> Result<(), Fail> {
             assert!(rt; do_all(&rt, alloc, tie(alloc)?, &tie(alloc)?, workers, keys)?);
         }
     }
+    Ok(())
+}
+
+// Each of 64 workers has three estimators, so 192 leases are out.
+#[test]
+fn the_grid_by_64_workers(rt: HostRuntime) -> Result<(), Fail> {
+    let alloc = rt.alloc();
+    assert!(rt; do_all(&rt, alloc, grid(alloc)?, &grid(alloc)?, 64, Keys::Drawn(7))?);
     Ok(())
 }

@@ -13,9 +13,8 @@ use std::test::Fail;
 /// How many nodes each search settles at most.
 const SETTLE: u32 = 64;
 
-/// Shows a worker the opening row of a node.
-fn show(world: &mut World, worker: u32, node: u32) -> Result<Outcome, AllocError> {
-    let version = u64::from(node);
+/// Shows a worker a version of a node's row.
+fn show(world: &mut World, worker: u32, node: u32, version: u64) -> Result<Outcome, AllocError> {
     let read = || Event::Read {
         worker,
         node,
@@ -32,7 +31,7 @@ fn shown(world: &mut World) -> Result<bool, AllocError> {
     let mut all = true;
     for worker in 0..2 {
         for node in 0..4u32 {
-            all &= show(world, worker, node)? == Outcome::Shown;
+            all &= show(world, worker, node, u64::from(node))? == Outcome::Shown;
         }
     }
     Ok(all)
@@ -81,6 +80,7 @@ fn world(rt: HostRuntime) -> Result<(), Fail> {
     let alloc = rt.alloc();
     let mut world = World::new(alloc, graph_of(alloc, 4, &TIE)?, 2)?;
     assert!(rt; shown(&mut world)?);
+    let late = proposal(alloc, &world, 1, 1)?;
     let first = offered(alloc, &mut world, 0, 0)?;
     let second = offered(alloc, &mut world, 1, 1)?;
     let stale = CommitError::Stale {
@@ -91,7 +91,23 @@ fn world(rt: HostRuntime) -> Result<(), Fail> {
     };
     let receipt = Receipt { node: 0, rank: 0 };
     assert!(rt; (first, second) == (Outcome::Committed(receipt), Outcome::Refused(stale)));
+    let old = (show(&mut world, 1, 2, 2)?, show(&mut world, 1, 2, 9)?);
+    assert!(rt; old == (Outcome::Shown, Outcome::NoSuch));
+    assert!(rt; is_forgotten(&mut world, late)?);
     Ok(())
+}
+
+/// Whether worker 1 forgets what it read, and its proposal is none then.
+fn is_forgotten(world: &mut World, proposal: Proposal) -> Result<bool, AllocError> {
+    let forgotten = match world.step(Event::Forget { worker: 1 }) {
+        Ok(outcome) => outcome,
+        Err(AllocError) => world.step(Event::Forget { worker: 1 })?,
+    };
+    let offered = world.step(Event::Offer {
+        worker: 1,
+        proposal,
+    })?;
+    Ok((forgotten, offered) == (Outcome::Forgotten, Outcome::NoSuch))
 }
 
 #[test]

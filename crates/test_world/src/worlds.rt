@@ -12,8 +12,8 @@ mod walk;
 enum Act {
     /// It reads a node's row of a version.
     Read(u32, u32, u64),
-    /// It works out the contraction of a node by what it read.
-    Propose(u32, u32),
+    /// It works out the contraction of a node by what it read, which rests on the rows of these nodes.
+    Propose(u32, u32, &'static [u32]),
     /// It offers the proposal that was worked out last, by whomever.
     Offer(u32),
     /// It forgets what it read.
@@ -74,6 +74,15 @@ fn proposal(alloc: Global, world: &World, worker: u32, node: u32) -> Result<Prop
     Ok(proposal)
 }
 
+/// Whether a proposal rests on the rows of these nodes, in this order.
+fn rests_on(proposal: &Proposal, nodes: &[u32]) -> bool {
+    proposal
+        .rests_on()
+        .iter()
+        .map(|seen| seen.node)
+        .eq(nodes.iter().copied())
+}
+
 fn read(worker: u32, node: u32, version: u64) -> Event {
     Event::Read {
         worker,
@@ -102,8 +111,12 @@ fn answer(
     waiting: &mut Vec<Proposal>,
     act: Act,
 ) -> Result<Option<Outcome>, Fail> {
-    if let Act::Propose(worker, node) = act {
-        waiting.push(proposal(alloc, world, worker, node)?)?;
+    if let Act::Propose(worker, node, rows) = act {
+        let proposal = proposal(alloc, world, worker, node)?;
+        if !rests_on(&proposal, rows) {
+            return Err(Fail::from("a proposal rests on other rows"));
+        }
+        waiting.push(proposal)?;
     }
     let Some(event) = event(act, waiting) else {
         return Ok(None);
@@ -180,9 +193,9 @@ const PLAYS: [Play; 5] = [
         4,
         &TIE,
         &[
-            (Act::Propose(1, 1), None),
-            (Act::Propose(1, 1), None),
-            (Act::Propose(0, 0), None),
+            (Act::Propose(1, 1, &[1, 2, 0]), None),
+            (Act::Propose(1, 1, &[1, 2, 0]), None),
+            (Act::Propose(0, 0, &[0, 2, 1]), None),
             (Act::Offer(0), FIRST),
             (Act::Offer(1), Some(Outcome::Refused(STALE))),
             (Act::Read(1, 2, 2), SHOWN),
@@ -197,7 +210,7 @@ const PLAYS: [Play; 5] = [
         4,
         &TIE,
         &[
-            (Act::Propose(0, 0), None),
+            (Act::Propose(0, 0, &[0, 2, 1]), None),
             (Act::Offer(0), FIRST),
             (Act::Read(1, 2, 2), SHOWN),
             (Act::Read(1, 2, 5), SHOWN),
@@ -210,7 +223,7 @@ const PLAYS: [Play; 5] = [
         4,
         &TIE,
         &[
-            (Act::Propose(1, 1), None),
+            (Act::Propose(1, 1, &[1, 2, 0]), None),
             (Act::Forget(1), FORGOTTEN),
             (Act::Offer(1), NO_SUCH),
         ],
@@ -221,7 +234,7 @@ const PLAYS: [Play; 5] = [
         4,
         &TIE,
         &[
-            (Act::Propose(0, 0), None),
+            (Act::Propose(0, 0, &[0, 2, 1]), None),
             (Act::Forget(1), FORGOTTEN),
             (Act::Offer(1), NO_SUCH),
         ],
@@ -232,8 +245,8 @@ const PLAYS: [Play; 5] = [
         6,
         &ROWS,
         &[
-            (Act::Propose(1, 4), None),
-            (Act::Propose(0, 1), None),
+            (Act::Propose(1, 4, &[4, 3]), None),
+            (Act::Propose(0, 1, &[1, 0]), None),
             (
                 Act::Offer(0),
                 Some(Outcome::Committed(Receipt { node: 1, rank: 0 })),
