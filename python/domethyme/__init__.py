@@ -38,10 +38,11 @@ from .errors import (
 from .graphs import Graph, prepare, unscaled, write_graph
 from .hierarchy import Hierarchy, Route
 from .keys import Keys
+from .lines import NO_WAY
 from .program import find_program
 
 if TYPE_CHECKING:
-    from .network import Network
+    from .network.network import Network
     from .routes import Routes
 
 __all__ = [
@@ -71,8 +72,6 @@ __all__ = [
     "write_graph",
 ]
 
-NO_WAY = -1
-
 # The name of DomethymeError in scripts that are older than this package.
 Fault = DomethymeError
 
@@ -80,7 +79,7 @@ Fault = DomethymeError
 def __getattr__(name: str) -> Any:
     """What needs numpy is loaded when it is first asked for."""
     if name == "Network":
-        from .network import Network
+        from .network.network import Network
 
         return Network
     if name == "Routes":

@@ -8,7 +8,8 @@
     ├── GraphError           the text of a graph is refused
     ├── HierarchyError       a file of a hierarchy is refused
     │   └── HierarchyNotFound  there is no such file (also a FileNotFoundError)
-    ├── NetworkError         a file of a network (nodes, arcs) is refused
+    ├── FileError            a file is refused by this package and not by the program
+    │   └── NetworkError     a file of a network (nodes, arcs), or of places or pairs in one
     ├── NoSuchNode           a node or key that the hierarchy doesn't have (also a ValueError and a LookupError)
     ├── OutOfMemory          the program ran out of memory (also a MemoryError)
     └── ReadWriteError       a read or write failed (also an OSError)
@@ -61,8 +62,18 @@ class HierarchyNotFound(HierarchyError, FileNotFoundError):
     """There is no file of a hierarchy at this path."""
 
 
-class NetworkError(DomethymeError):
-    """A file of a network is refused; the message has the file and the row."""
+class FileError(DomethymeError):
+    """A file is refused: `FILE, row ROW: MESSAGE`, where rows are lines from 1, and the file `-` is standard input."""
+
+    def __init__(self, message: str, file: "str | os.PathLike[str] | None" = None, row: int | None = None, status: int = 1) -> None:
+        place = "" if file is None else "standard input" if str(file) == "-" else str(file)
+        if row is not None:
+            place += f", row {row}"
+        super().__init__(f"{place}: {message}" if place else message, status)
+
+
+class NetworkError(FileError):
+    """A file of a network is refused, or a table or text of places, pairs or answers in one."""
 
 
 class NoSuchNode(DomethymeError, ValueError, LookupError):
@@ -101,16 +112,6 @@ def error_of(status: int, said: bytes, file: str = "") -> DomethymeError:
     if file and line and KINDS.get(status) is HierarchyError:
         line = f"{file}: {line}"
     return KINDS.get(status, ProgramError)(line or f"routecli ended with status {status}", status)
-
-
-def error_of_reply(fields: list[bytes]) -> DomethymeError:
-    """The error that the fields of a reply `e KIND` mean."""
-    kind = fields[-1].decode("ascii", "replace")
-    if kind == "OutOfMemory":
-        return OutOfMemory("routecli ran out of memory at a question", 6)
-    if kind == "TooLong":
-        return HierarchyError("the file is of no graph: a route by it would repeat a node (TooLong)", 4)
-    return ProgramError(f"routecli refused a question: {kind}")
 
 
 def os_reason(error: OSError) -> str:

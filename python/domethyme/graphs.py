@@ -1,23 +1,23 @@
 """Graphs: written from arrays, tables of one's own keys, and prepared."""
-import contextlib
 import math
 import os
 import tempfile
-from collections.abc import Iterator
-from typing import IO, TYPE_CHECKING, Any
+from typing import TYPE_CHECKING, Any, Literal
 
+from . import texts
 from .errors import ReadWriteError, os_reason
+from .files import writing
 from .hierarchy import Hierarchy
 from .keys import Keys
 from .program import StrPath, find_program, run_program
+from .texts import HEAVIEST, MOST_NODES
 
 if TYPE_CHECKING:
     import numpy as np
     from numpy.typing import ArrayLike, NDArray
 
-MOST_NODES = 1 << 25
-MOST_ARCS = 1 << 27
-HEAVIEST = (1 << 32) - 1
+MOST_ARCS = texts.MOST_LINES
+Order = Literal["edges", "neighbours", "depth"]
 
 
 class Graph:
@@ -94,9 +94,8 @@ class Graph:
         import numpy as np
 
         arcs = np.column_stack([self.from_nodes + 1, self.to_nodes + 1, self.weights])
-        with whole_file(path) as file:
-            file.write(f"p sp {self.nodes} {len(arcs)}\n")
-            file.writelines(f"a {start} {end} {weight}\n" for start, end, weight in arcs.tolist())
+        with writing(path) as file:
+            texts.write_graph(file, self.nodes, arcs.tolist())
 
     def prepare(self, hierarchy: StrPath, **options: Any) -> Hierarchy:
         """Prepares the graph as `prepare` does, and gives the Hierarchy with the graph's keys."""
@@ -144,7 +143,7 @@ def write_graph(
 def prepare(
     graph: "Graph | StrPath",
     hierarchy: StrPath,
-    order: str = "depth",
+    order: Order = "depth",
     workers: int | None = None,
     seed: int | None = None,
     program: StrPath | None = None,
@@ -183,35 +182,3 @@ def need_readable(path: StrPath) -> None:
             pass
     except OSError as error:
         raise ReadWriteError(f"{os.fspath(path)}: {os_reason(error)}", 7) from error
-
-
-@contextlib.contextmanager
-def whole_file(path: StrPath) -> Iterator[IO[str]]:
-    """A file of text that takes the path's place when the block has ended well."""
-    target = os.path.realpath(path)
-    if os.path.exists(target) and not os.path.isfile(target):
-        with open(target, "w", encoding="ascii") as file:
-            yield file
-        return
-    folder, name = os.path.split(target)
-    handle, beside = tempfile.mkstemp(prefix=f"{name}.", suffix=".new", dir=folder)
-    try:
-        with open(handle, "w", encoding="ascii") as file:
-            yield file
-            file.flush()
-            os.fsync(file.fileno())
-        os.chmod(beside, permissions_at(target))
-        os.replace(beside, target)
-    except BaseException:
-        with contextlib.suppress(FileNotFoundError):
-            os.unlink(beside)
-        raise
-
-
-def permissions_at(path: str) -> int:
-    """The permissions of a file, or those that a new one would get."""
-    with contextlib.suppress(FileNotFoundError):
-        return os.stat(path).st_mode & 0o7777
-    mask = os.umask(0)
-    os.umask(mask)
-    return 0o666 & ~mask

@@ -3,16 +3,20 @@ import functools
 import os
 import stat
 import threading
-from collections.abc import Hashable, Iterable, Mapping
-from typing import TYPE_CHECKING, Any, NamedTuple, Union
+from collections.abc import Hashable, Iterable, Mapping, Sequence
+from typing import TYPE_CHECKING, Any, Literal, NamedTuple, Union, overload
 
-from .errors import HierarchyError, HierarchyNotFound, NoSuchNode, ProgramError, error_of_reply, os_reason
+from .errors import HierarchyError, HierarchyNotFound, NoSuchNode, ProgramError, os_reason
 from .keys import Keys
+from .lines import Answer, answer_to
+from .process import Process
 from .program import StrPath, find_program
-from .service import Service
 
 if TYPE_CHECKING:
-    from .network import Network
+    import numpy as np
+    from numpy.typing import NDArray
+
+    from .network.network import Network
     from .routes import Routes
     from .sweeps import Sweeps
 
@@ -25,6 +29,8 @@ LINK_BYTES = {b"RCH1": 20, b"RCH2": 24}
 FEW_LENGTHS = 2_000
 
 Ends = Union[Mapping[Any, int], Iterable[Any]]
+Rows = Union["NDArray[Any]", Sequence[Any]]
+By = Literal["serve", "sweeps"]
 
 
 class Route(NamedTuple):
@@ -99,7 +105,7 @@ class Hierarchy:
         except BaseException:
             self._file.close()
             raise
-        self._service = Service(self.program, self._file, self._name, timeout)
+        self._process = Process(self.program, self._file, self._name, timeout)
         self._sweeps: "Sweeps | None" = None
         self._sweeps_lock = threading.Lock()
         self._closed = False
@@ -124,7 +130,7 @@ class Hierarchy:
     def close(self) -> None:
         """Ends the process and closes the file. Questions then raise ValueError, as those of a closed file do."""
         self._closed = True
-        self._service.close()
+        self._process.close()
         self._file.close()
 
     # One question
@@ -132,14 +138,13 @@ class Hierarchy:
     def length(self, source: Hashable, target: Hashable) -> int | None:
         """The least length from one node to another, None where there is no way. Raises NoSuchNode."""
         start, end = self._node(source), self._node(target)
-        fields = self._reply(b"d %d %d\n" % (start + 1, end + 1), {start}, {end})
-        return None if fields is None else int(fields[3])
+        answer = self._answer(b"d %d %d" % (start + 1, end + 1))
+        return None if answer is None else answer.length
 
     def route(self, source: Hashable, target: Hashable) -> Route | None:
         """A shortest path from one node to another, None where there is no way. Raises NoSuchNode."""
         start, end = self._node(source), self._node(target)
-        fields = self._reply(b"q %d %d\n" % (start + 1, end + 1), {start}, {end})
-        return None if fields is None else self._route(fields)
+        return self._route(self._answer(b"q %d %d" % (start + 1, end + 1)))
 
     def between(self, starts: Ends, ends: Ends) -> Route | None:
         """A route of the least whole length from one of several nodes to one of several, None where there is no way.
@@ -148,15 +153,16 @@ class Hierarchy:
         added length), or nodes alone with 0 added. Added lengths are whole numbers from 0 to 4294967295. The route's source
         and target are those that were taken, and its length has what was added. Raises NoSuchNode and ValueError.
         """
-        sides = [self._ends(name, side) for name, side in (("starts", starts), ("ends", ends))]
-        words = [b"%d %d" % (node + 1, added) for node, added in sides[0]]
-        words += [b":"] + [b"%d %d" % (node + 1, added) for node, added in sides[1]]
-        ends_allowed = [{node for node, _ in side} for side in sides]
-        fields = self._reply(b"b " + b" ".join(words) + b"\n", *ends_allowed)
-        return None if fields is None else self._route(fields)
+        sides = self._ends("starts", starts), self._ends("ends", ends)
+        words = [b" ".join(b"%d %d" % (node + 1, added) for node, added in side) for side in sides]
+        return self._route(self._answer(b"b " + b" : ".join(words)))
 
     # Many questions
 
+    @overload
+    def lengths(self, pairs: Rows) -> "NDArray[np.int64]": ...
+    @overload
+    def lengths(self, pairs: Any) -> Any: ...
     def lengths(self, pairs: Any) -> Any:
         """The least lengths of many pairs, an array of int64 of shape (n,), -1 where there is no way.
 
@@ -180,7 +186,11 @@ class Hierarchy:
         offsets = np.concatenate([[0], np.cumsum(replies.counts)])
         return routes.Routes(replies.lengths, replies.nodes, offsets, found, self.keys, routes.index_of(pairs))
 
-    def matrix(self, sources: Any, targets: Any = None, by: str | None = None) -> Any:
+    @overload
+    def matrix(self, sources: Rows, targets: "Rows | None" = None, by: By | None = None) -> "NDArray[np.int64]": ...
+    @overload
+    def matrix(self, sources: Any, targets: Any = None, by: By | None = None) -> Any: ...
+    def matrix(self, sources: Any, targets: Any = None, by: By | None = None) -> Any:
         """The least lengths from each source to each target, an array of int64 of shape (sources, targets), -1 where there
         is no way. Without targets they are the sources. Where one of the two is a Series or Index of pandas the table is a
         DataFrame whose axes are the sources and the targets.
@@ -206,6 +216,10 @@ class Hierarchy:
             table = self._swept().lengths(starts, ends)
         return arrays.like_axes(table, sources, targets)
 
+    @overload
+    def nearest(self, lon: float, lat: float, end: bool = False) -> tuple[Any, float]: ...
+    @overload
+    def nearest(self, lon: Rows, lat: Rows, end: bool = False) -> "tuple[NDArray[Any], NDArray[np.float64]]": ...
     def nearest(self, lon: Any, lat: Any, end: bool = False) -> tuple[Any, Any]:
         """The node nearest to each place in degrees, or its key, and how many metres away it is along the great circle: one
         where routes begin, or with `end` one where they end, which differ at junctions with turn restrictions. Two numbers
@@ -241,30 +255,28 @@ class Hierarchy:
             raise ValueError(f"the lengths added at {name} have to be from 0 to {MOST_ADDED}")
         return found
 
-    def _reply(self, line: bytes, starts: set[int], ends: set[int]) -> list[bytes] | None:
-        """The fields of the reply to a line, None for `n`; its pair has to be of these starts and ends."""
+    def _answer(self, request: bytes) -> Answer | None:
+        """The answer to a request, None where there is no way."""
         self._need_open()
-        fields = self._service.one(line).split()
-        if fields[0] == b"e":
-            raise error_of_reply(fields)
-        if len(fields) > 1 and not (int(fields[1]) - 1 in starts and int(fields[2]) - 1 in ends):
-            self._service.close()
-            raise ProgramError("routecli replied to another pair than it was asked")
-        return None if fields[0] == b"n" else fields
+        try:
+            return answer_to(request, self._process.one(request + b"\n").rstrip(b"\n"))
+        except ProgramError:
+            self._process.close()
+            raise
 
-    def _route(self, fields: list[bytes]) -> Route:
-        numbers = [int(field) - 1 for field in fields[5:]]
-        nodes: list[Any] = list(numbers)
-        if self.keys is not None:
-            nodes = [self.keys.key(number) for number in numbers]
-        return Route(nodes[0], nodes[-1], int(fields[3]), nodes, numbers)
+    def _route(self, answer: Answer | None) -> Route | None:
+        if answer is None:
+            return None
+        numbers = [node - 1 for node in answer.nodes]
+        nodes: list[Any] = list(numbers) if self.keys is None else [self.keys.key(number) for number in numbers]
+        return Route(nodes[0], nodes[-1], answer.length, nodes, numbers)
 
     def _replies(self, kind: bytes, pairs: Any) -> Any:
         """The Replies to a line of this kind for each pair."""
         from . import replies
 
         self._need_open()
-        return replies.asked(self._service, kind, pairs)
+        return replies.asked(self._process, kind, pairs)
 
     def _swept(self) -> "Sweeps":
         """The Sweeps of the file, which is read for them once."""
@@ -273,7 +285,7 @@ class Hierarchy:
         self._need_open()
         with self._sweeps_lock:
             if self._sweeps is None:
-                self._service.start()
+                self._process.start()
                 self._sweeps = Sweeps.read(self._file.fileno(), self._name)
             return self._sweeps
 
@@ -310,7 +322,7 @@ def looked_at(file: int, name: str) -> tuple[int, int]:
 def network_of(network: "Network | StrPath | None") -> "Network | None":
     if network is None or not isinstance(network, (str, os.PathLike)):
         return network
-    from .network import Network
+    from .network.network import Network
 
     return Network(network)
 

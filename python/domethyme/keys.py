@@ -1,10 +1,10 @@
 """Keys of nodes: the names that a user has for them, of any hashable kind."""
-import csv
-import os
 from collections.abc import Hashable, Iterable, Mapping, Sequence
 from typing import TYPE_CHECKING, Any
 
-from .errors import NetworkError, NoSuchNode, os_reason
+from .errors import NoSuchNode
+from .program import StrPath
+from .texts import table
 
 if TYPE_CHECKING:
     import numpy as np
@@ -37,24 +37,16 @@ class Keys:
             self._names = self._names + [None] * (nodes - len(self._names))
 
     @classmethod
-    def read(cls, path: "str | os.PathLike[str]", column: str = "osm") -> "Keys":
+    def read(cls, path: StrPath, column: str = "osm") -> "Keys":
         """The keys in a column of a CSV file with a row for each node, in order, as NETWORK.nodes.csv: whole numbers as
         int, other texts as str, an empty one for no key. A key of several nodes can't be asked for, but that of a junction with
         turn restrictions, which is the node where routes begin (the column ends is `from`). Raises NetworkError."""
         keys = cls(())
-        try:
-            with open(path, encoding="utf-8-sig", newline="") as file:
-                rows = csv.DictReader(file, strict=True)
-                if column not in (rows.fieldnames or ()):
-                    raise NetworkError(f"{os.fspath(path)}: has no column {column}")
-                table = [(key_of(row[column]), row.get("ends")) for row in rows]
-                keys._names = [key for key, _ in table]
-        except OSError as error:
-            raise NetworkError(f"{os.fspath(path)}: {os_reason(error)}") from error
-        except (csv.Error, UnicodeDecodeError) as error:
-            raise NetworkError(f"{os.fspath(path)}: isn't CSV in UTF-8: {error}") from error
+        with table(path, [column]) as rows:
+            listed = [(key_of(fields[column]), fields.get("ends")) for _, fields in rows]
+        keys._names = [key for key, _ in listed]
         keys._nodes, keys._shared = numbers_of(keys._names)
-        begins = {key: node for node, (key, ends) in enumerate(table) if ends == "from" and key in keys._shared}
+        begins = {key: node for node, (key, ends) in enumerate(listed) if ends == "from" and key in keys._shared}
         keys._nodes |= begins
         keys._shared -= begins.keys()
         return keys

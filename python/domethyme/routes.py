@@ -9,7 +9,7 @@ from numpy.typing import NDArray
 from .keys import Keys
 
 if TYPE_CHECKING:
-    from .network import Network
+    from .network.network import Network
 
 
 class Routes:

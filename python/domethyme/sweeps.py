@@ -17,13 +17,13 @@ import numpy as np
 from numpy.typing import NDArray
 
 from .errors import HierarchyError
+from .lines import NO_WAY as NO_WAY
 
 Numbers = NDArray[np.int64]
 Nodes = NDArray[np.int32]
 
 # No length is as great: there are at most 2^25 nodes, and an arc weighs less than 2^32. It may be added to without a wrap.
 FAR = np.int64(1 << 60)
-NO_WAY = -1
 HEAD_BYTES = 24
 FIELDS = [("start", ">u4"), ("end", ">u4"), ("weight", ">i8"), ("arcs", ">u4"), ("middle", ">u4")]
 LINKS = {b"RCH1": np.dtype(FIELDS[:3] + FIELDS[4:]), b"RCH2": np.dtype(FIELDS)}

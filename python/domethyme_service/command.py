@@ -15,11 +15,10 @@ import sys
 
 from domethyme import DomethymeError, find_program
 
-from .direct import Pairs
 from .errors import WorkerFault
-from .fronts import Fronts
-from .generation import Files, Generation, opened
-from .guard import Bounds, Server
+from .supervisor import Fronts
+from .snapshot import Files, Generation, opened
+from .connection import Bounds, Server
 from .server import Service, Ways
 from .workers import Counts, Limits
 
@@ -82,7 +81,7 @@ class Front:
         signal.signal(signal.SIGHUP, lambda number, _: self._wanted.append(number))
         listening = listener(words.host, words.port, words.one_of_many)
         self.service = Service(await self.generation(), self.counts, Ways(words.cors, words.log_places, words.within))
-        server = Server(self.service.handle, Bounds(words.connections, words.head_seconds), Pairs(self.service))
+        server = Server(self.service.handle, Bounds(words.connections, words.head_seconds))
         self.service.connections = lambda: len(server.connections)
         loop = asyncio.get_running_loop()
         for name in (signal.SIGTERM, signal.SIGINT):

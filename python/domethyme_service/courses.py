@@ -4,16 +4,17 @@ import functools
 import itertools
 import math
 from collections.abc import Sequence
-from typing import Any
 
 import numpy as np
 from numpy.typing import NDArray
 
-from domethyme.binary import UNITS
-from domethyme.network import Floats, Point
+from domethyme.network.binary import UNITS
+from domethyme.network.network import Floats
+from domethyme.network.tables import Point
 
 from .legs import Leg
 from .lines import bearing, encoded, simplified
+from .osrm_answer import Figures, Geometry
 from .roads import Roads
 
 SHOWN = 1_000_000
@@ -98,13 +99,13 @@ class Course:
         sums = [np.concatenate(([0.0], np.cumsum(values))).tolist() for values in (seconds, metres)]
         return weights, sums[0], sums[1]
 
-    def figures(self, first: int, last: int) -> dict[str, float]:
+    def figures(self, first: int, last: int) -> Figures:
         """The weight, seconds and metres of the arcs from one to before another."""
         weights, seconds, metres = self.sums
         return figures_of(self.roads, weights[last] - weights[first], seconds[last] - seconds[first], metres[last] - metres[first])
 
 
-def figures_of(roads: Roads, weight: int, seconds: float, metres: float) -> dict[str, float]:
+def figures_of(roads: Roads, weight: int, seconds: float, metres: float) -> Figures:
     """A weight in the unit that answers have, seconds and metres; those that weights are follow from them."""
     unit = UNITS_OF_ANSWERS.get(roads.unit, 1)
     return {
@@ -119,7 +120,7 @@ def course_of(roads: Roads, leg: Leg) -> Course | None:
     return Course(roads, leg) if leg.arcs else None
 
 
-def leg_figures(roads: Roads, leg: Leg, course: Course | None) -> dict[str, float]:
+def leg_figures(roads: Roads, leg: Leg, course: Course | None) -> Figures:
     return figures_of(roads, leg.weight, 0.0, 0.0) if course is None else course.figures(0, len(leg.arcs))
 
 
@@ -132,7 +133,7 @@ def line_of(courses: "Sequence[Course | None]", ends: list[Point]) -> list[list[
     return line if len(line) > 1 else line * 2
 
 
-def shaped(line: list[list[float]], shape: str) -> Any:
+def shaped(line: list[list[float]], shape: str) -> Geometry:
     """A line as a polyline, or as GeoJSON."""
     if shape == "geojson":
         return {"type": "LineString", "coordinates": line}

@@ -6,8 +6,10 @@ the program replies. So the least of all these is least in the graph that is cut
 """
 from typing import NamedTuple
 
+from domethyme.lines import Answer
+
 from .errors import Refused
-from .replies import Route, length_of, route_of
+from .replies import length_of, route_of
 from .roads import NONE, Roads, Spot
 
 SIDES = 8
@@ -82,7 +84,7 @@ def along_one_arc(roads: Roads, start: Spot, end: Spot) -> Leg | None:
     return min(found, key=lambda leg: leg.weight) if found else None
 
 
-def driven(roads: Roads, start: Spot, end: Spot, route: Route) -> Leg:
+def driven(roads: Roads, start: Spot, end: Spot, route: Answer) -> Leg:
     """The leg of a route between the points' nodes. Raises Refused where the network isn't that of the hierarchy."""
     first, last = start.exits[route.source], end.entries[route.target]
     arcs = roads.lightest(route.nodes)

@@ -2,7 +2,7 @@
 import itertools
 import math
 
-from domethyme.network import Point
+from domethyme.network.tables import Point
 
 
 def encoded(points: list[Point], digits: int) -> str:

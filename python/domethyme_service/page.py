@@ -3,10 +3,8 @@ in a list, so no path leads elsewhere. Their policy lets the page load nothing b
 import asyncio
 import json
 import pathlib
-import re
-from collections.abc import Mapping
 
-from .errors import Refused, invalid_query, invalid_value
+from .errors import Refused, invalid_value
 from .roads import Roads
 from .tiles import DEEPEST
 
@@ -24,7 +22,6 @@ POLICY = (
 HEADERS = {"Content-Security-Policy": POLICY, "Referrer-Policy": "no-referrer", "Cache-Control": "no-cache"}
 FOR_A_DAY = {"Cache-Control": "public, max-age=86400"}
 ALWAYS_ANEW = {"Cache-Control": "no-cache"}
-TILE = re.compile(r"/map/roads/([0-9]{1,2})/([0-9]{1,6})/([0-9]{1,6})")
 
 
 def page_files() -> dict[str, tuple[str, bytes]]:
@@ -37,27 +34,18 @@ def page_files() -> dict[str, tuple[str, bytes]]:
 FILES = page_files()
 
 
-def endpoint_of_page(path: str) -> str | None:
-    """The endpoint of a path of the page, None for other paths."""
-    if path == "/" or path == "/map/about":
-        return path
-    if path in FILES:
-        return "/map/files"
-    return "/map/roads" if TILE.fullmatch(path) else None
+async def about(roads: Roads) -> bytes:
+    """What the page asks first, as JSON. It is made in a thread, so others are answered."""
+    found = await asyncio.to_thread(lambda: roads.tiles.about)
+    return json.dumps({**found, "unit": roads.unit}, ensure_ascii=False).encode("utf-8", "replace")
 
 
-async def asked_by_page(roads: Roads, path: str, query: Mapping[str, str]) -> tuple[bytes, dict[str, str]]:
-    """The JSON that the page asks for at a path, and how long it may be kept. It is made in a thread, so others are answered."""
-    tile = TILE.fullmatch(path)
-    if set(query) - ({"v"} if tile else set()):
-        raise invalid_query("there is no such parameter")
-    if tile is None:
-        about = await asyncio.to_thread(lambda: roads.tiles.about)
-        return json.dumps({**about, "unit": roads.unit}, ensure_ascii=False).encode("utf-8", "replace"), ALWAYS_ANEW
-    zoom, x, y = map(int, tile.groups())
+async def tile(roads: Roads, path: str) -> bytes:
+    """The roads of the tile `/map/roads/ZOOM/X/Y`, as JSON. Raises Refused."""
+    zoom, x, y = map(int, path.split("/")[3:])
     if zoom > DEEPEST or max(x, y) >= 1 << zoom:
         raise invalid_value(f"a tile is ZOOM/X/Y, with a zoom from 0 to {DEEPEST}")
-    return await asyncio.to_thread(roads.tiles.tile, zoom, x, y), FOR_A_DAY
+    return await asyncio.to_thread(roads.tiles.tile, zoom, x, y)
 
 
 def without_network() -> Refused:

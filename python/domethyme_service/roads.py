@@ -14,8 +14,9 @@ import numpy as np
 from numpy.typing import NDArray
 
 from domethyme import NetworkError
-from domethyme.binary import ENDS, NO_OSM, TEXTS, UNITS, Arrays, arrays_of, ordered
-from domethyme.network import EARTH_RADIUS, Floats, Point, on_sphere
+from domethyme.network.binary import NO_OSM, TEXTS, UNITS, Arrays, arrays_of, ordered
+from domethyme.network.network import Floats, on_sphere
+from domethyme.network.tables import EARTH_RADIUS, ENDS, Point
 
 from .tiles import Tiles
 

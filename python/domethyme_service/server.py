@@ -1,26 +1,25 @@
 """The endpoints: what is asked by which path, limits, and the access log."""
 import asyncio
 import contextlib
-import http
 import json
 import logging
 import re
 import time
 import urllib.parse
-from collections.abc import AsyncGenerator, Callable, Mapping
-from typing import Any, NamedTuple
+from collections.abc import AsyncGenerator, Awaitable, Callable, Mapping
+from typing import NamedTuple
 
 from aiohttp import HttpVersion10, HttpVersion11, web
-from aiohttp.helpers import rfc822_formatted_time
 
-from . import nodes, osrm
-from .asked import request_of, service_of
-from .direct import SECONDS
+from . import connection, nodes, osrm
+from .osrm_request import request_of
+from .endpoints import FROM, OSRM, TO, Endpoint, endpoint_of
 from .errors import Refused, invalid_query
-from .generation import Generation
-from .guard import Connection, plain
+from .snapshot import Generation
+from .connection import Connection
 from .metrics import Metrics
-from .page import FILES, HEADERS, asked_by_page, endpoint_of_page, without_network
+from .page import ALWAYS_ANEW, FILES, FOR_A_DAY, HEADERS, about, tile, without_network
+from .parameters import Context, Values
 from .roads import Roads
 from .workers import Counts
 
@@ -31,8 +30,8 @@ FIELD = re.compile(rb"[0-9A-Za-z!#$%&'*+.^_`|~-]+")
 JSON = "application/json; charset=utf-8"
 LINES = "application/x-ndjson; charset=utf-8"
 METRICS = "text/plain; version=0.0.4; charset=utf-8"
-KINDS = {"/nodes/route": b"q", "/nodes/length": b"d"}
-BATCH_KINDS = {"/nodes/routes": b"q", "/nodes/lengths": b"d"}
+# What the program is asked for: routes, or lengths alone.
+KINDS = {"/nodes/route": b"q", "/nodes/length": b"d", "/nodes/routes": b"q", "/nodes/lengths": b"d"}
 ENCODER = json.JSONEncoder(separators=(",", ":"), allow_nan=False, ensure_ascii=False)
 access_log = logging.getLogger("domethyme_service.access")
 
@@ -54,6 +53,19 @@ class Asked(NamedTuple):
     query: Mapping[str, str]
 
 
+class Call(NamedTuple):
+    """A request that is being answered: its endpoint, what it asks, the generation that it uses, and aiohttp's request."""
+
+    endpoint: Endpoint
+    asked: Asked
+    generation: Generation
+    request: web.BaseRequest
+
+    def values(self, context: Context = Context()) -> Values:
+        """The values of its parameters. Raises Refused."""
+        return self.endpoint.values(self.asked.query, context)
+
+
 class Service:
     """Answers requests by its generation, which a reload replaces: a request keeps the one that it began with."""
 
@@ -64,15 +76,15 @@ class Service:
         self.reloads = self.batches = 0
         self.connections: Callable[[], int] = lambda: 0
         self.is_logging = access_log.isEnabledFor(logging.INFO)
-        self._fields = "".join(f"{name}: {value}\r\n" for name, value in self._headers(JSON).items()).encode()
 
     async def handle(self, request: web.BaseRequest) -> web.StreamResponse:
         """Answers one request: the handler of the server."""
-        begun, endpoint, status = time.monotonic(), "other", 500
+        begun, name, status = time.monotonic(), "other", 500
         try:
             try:
                 asked = asked_by(request)
                 endpoint = endpoint_of(asked.path)
+                name = endpoint.name
                 answer = await self._answer(endpoint, asked, request)
             except Refused as refused:
                 answer = self._refusal(refused)
@@ -82,61 +94,72 @@ class Service:
             return answer
         finally:
             seconds = time.monotonic() - begun
-            self.metrics.count(endpoint, status, seconds)
-            self._log(request, endpoint, status, seconds)
+            self.metrics.count(name, status, seconds)
+            self._log(request, name, status, seconds)
 
-    async def _answer(self, endpoint: str, asked: Asked, request: web.BaseRequest) -> web.StreamResponse:
-        method = "POST" if endpoint in BATCH_KINDS else "GET"
+    async def _answer(self, endpoint: Endpoint, asked: Asked, request: web.BaseRequest) -> web.StreamResponse:
+        method = endpoint.method
         if asked.method != method and not (asked.method == "HEAD" and method == "GET"):
             raise Refused(405, "MethodNotAllowed", f"the method of this path is {method}")
         if method == "GET" and (request.body_exists or "Content-Encoding" in request.headers):
             raise invalid_query("a GET has no body")
-        if endpoint == "/metrics":
-            return self._whole(200, self._metrics(), METRICS)
-        if endpoint == "/health":
-            return self._health()
-        if asked.path in FILES:
-            kind, text = FILES[asked.path]
-            return self._whole(200, text, kind, HEADERS)
         with self.generation.used() as generation:
-            if endpoint in BATCH_KINDS:
-                return await self._batch(generation, BATCH_KINDS[endpoint], asked, request)
-            async with asyncio.timeout(SECONDS):
-                if endpoint.startswith("/map/"):
-                    text, kept = await asked_by_page(roads_of(generation), asked.path, asked.query)
-                    return self._whole(200, text, JSON, kept)
-                if endpoint in KINDS:
-                    return self._whole(200, await nodes.pair(generation.pool, KINDS[endpoint], asked.query), JSON)
-                wanted = request_of(asked.path, asked.query, self.ways.within)
-                return self._json(200, await osrm.answer(generation.pool, roads_of(generation), generation.tables, wanted))
+            async with asyncio.timeout(connection.SECONDS if method == "GET" else None):
+                return await ANSWERS[endpoint.name](self, Call(endpoint, asked, generation, request))
 
-    async def _batch(
-        self, generation: Generation, kind: bytes, asked: Asked, request: web.BaseRequest
-    ) -> web.StreamResponse:
+    async def file(self, call: Call) -> web.StreamResponse:
+        """A file of the page."""
+        kind, text = FILES[call.asked.path]
+        return self._whole(200, text, kind, HEADERS)
+
+    async def map_about(self, call: Call) -> web.StreamResponse:
+        roads = roads_of(call.generation)
+        call.values()
+        return self._whole(200, await about(roads), JSON, ALWAYS_ANEW)
+
+    async def map_roads(self, call: Call) -> web.StreamResponse:
+        roads = roads_of(call.generation)
+        call.values()
+        return self._whole(200, await tile(roads, call.asked.path), JSON, FOR_A_DAY)
+
+    async def osrm(self, call: Call) -> web.StreamResponse:
+        """An answer of OSRM's API."""
+        wanted, generation = request_of(call.asked.path, call.asked.query, self.ways.within), call.generation
+        return self._json(200, await osrm.answer(generation.pool, roads_of(generation), generation.tables, wanted))
+
+    async def pair(self, call: Call) -> web.StreamResponse:
+        """The answer for a pair of nodes."""
+        pool = call.generation.pool
+        values = call.values(Context(nodes=pool.nodes))
+        return self._whole(200, await nodes.pair(pool, KINDS[call.endpoint.name], values[FROM], values[TO]), JSON)
+
+    async def batch(self, call: Call) -> web.StreamResponse:
         """Reads the body whole, and then streams the answer: a client may write all before it reads."""
-        if asked.query:
-            raise invalid_query("this path has no parameters")
+        call.values()
+        request = call.request
         if self.batches >= BATCHES:
             raise Refused(503, "Overloaded", "too many batches at once")
         self.batches += 1
         try:
-            async with asyncio.timeout(SECONDS):
+            async with asyncio.timeout(connection.SECONDS):
                 body = await body_of(request)
             answer = web.StreamResponse(headers=self._headers(LINES))
             self._end_if_draining(answer)
             await answer.prepare(request)
-            await streamed(answer, request, nodes.batch(generation.pool, kind, body))
+            await streamed(answer, request, nodes.batch(call.generation.pool, KINDS[call.endpoint.name], body))
             return answer
         finally:
             self.batches -= 1
 
-    def _health(self) -> web.Response:
+    async def health(self, _call: Call) -> web.StreamResponse:
+        """Whether requests are answered."""
         pool = self.generation.pool
         is_well = pool.ready > 0 and not self.is_draining
         says = {"status": "ok" if is_well else "draining" if self.is_draining else "no workers"}
         return self._json(200 if is_well else 503, {**says, "nodes": pool.nodes, "links": pool.links, "workers": pool.ready})
 
-    def _metrics(self) -> str:
+    async def counts_and_times(self, _call: Call) -> web.StreamResponse:
+        """The page of metrics."""
         pool, counts = self.generation.pool, self.counts
         gauges = {
             "workers_ready": pool.ready,
@@ -153,7 +176,7 @@ class Service:
             "worker_silences_total": counts.silent,
             "reloads_total": self.reloads,
         }
-        return self.metrics.text(dict(gauges), dict(counters))
+        return self._whole(200, self.metrics.text(dict(gauges), dict(counters)), METRICS)
 
     def _refusal(self, refused: Refused) -> web.Response:
         answer = self._json(refused.status, {"code": refused.code, "message": refused.message})
@@ -163,7 +186,7 @@ class Service:
             answer.force_close()
         return answer
 
-    def _json(self, status: int, found: dict[str, Any]) -> web.Response:
+    def _json(self, status: int, found: Mapping[str, object]) -> web.Response:
         return self._whole(status, ENCODER.encode(found), JSON)
 
     def _whole(self, status: int, text: str | bytes, kind: str, more: Mapping[str, str] | None = None) -> web.Response:
@@ -171,17 +194,6 @@ class Service:
         answer = web.Response(status=status, body=body, headers={**self._headers(kind), **(more or {})})
         self._end_if_draining(answer)
         return answer
-
-    def plain_answer(self, body: bytes) -> bytes:
-        """An answer of JSON with its head, as that of a Response of aiohttp."""
-        date = rfc822_formatted_time().encode()
-        return b"HTTP/1.1 200 OK\r\n%bContent-Length: %d\r\nDate: %b\r\n\r\n%b" % (self._fields, len(body), date, body)
-
-    def plain_refusal(self, refused: Refused) -> bytes:
-        """An error with its head; it is the last answer of its connection."""
-        body = ENCODER.encode({"code": refused.code, "message": refused.message}).encode()
-        again = "Retry-After: 1\r\n" if refused.status == 503 else ""
-        return plain(f"{refused.status} {http.HTTPStatus(refused.status).phrase}", body, f"{self._fields.decode()}{again}")
 
     def _headers(self, kind: str) -> dict[str, str]:
         headers = {"Content-Type": kind, "X-Content-Type-Options": "nosniff", "Server": "domethyme"}
@@ -232,17 +244,6 @@ def pairs_of(query: str) -> list[tuple[str, str]]:
     return [(name, value) for name, _, value in (field.partition("=") for field in query.split("&") if field)]
 
 
-def endpoint_of(path: str) -> str:
-    """The endpoint of a path, by which it is counted. Raises Refused where there is none."""
-    if path in KINDS or path in BATCH_KINDS or path in ("/health", "/metrics"):
-        return path
-    if page := endpoint_of_page(path):
-        return page
-    if service := service_of(path):
-        return f"/{service}"
-    raise Refused(404, "InvalidUrl", "there is no such path")
-
-
 def roads_of(generation: Generation) -> Roads:
     """The network of a generation. Raises Refused where the service has none."""
     if generation.roads is None:
@@ -276,10 +277,26 @@ async def streamed(answer: web.StreamResponse, request: web.BaseRequest, blocks:
     try:
         async with contextlib.aclosing(blocks):
             async for block in blocks:
-                async with asyncio.timeout(SECONDS):
+                async with asyncio.timeout(connection.SECONDS):
                     await answer.write(block)
-        async with asyncio.timeout(SECONDS):
+        async with asyncio.timeout(connection.SECONDS):
             await answer.write_eof()
     except (Refused, TimeoutError):
         if request.transport is not None:
             request.transport.abort()
+
+
+# By the name of an endpoint, what answers it.
+ANSWERS: dict[str, Callable[[Service, Call], Awaitable[web.StreamResponse]]] = {
+    "/": Service.file,
+    "/map/files": Service.file,
+    "/map/about": Service.map_about,
+    "/map/roads": Service.map_roads,
+    **{f"/{service}": Service.osrm for service in OSRM},
+    "/nodes/route": Service.pair,
+    "/nodes/length": Service.pair,
+    "/nodes/routes": Service.batch,
+    "/nodes/lengths": Service.batch,
+    "/health": Service.health,
+    "/metrics": Service.counts_and_times,
+}

@@ -13,7 +13,7 @@ from typing import Any, NamedTuple
 import numpy as np
 from numpy.typing import NDArray
 
-from domethyme.binary import TEXTS, UNITS, Arrays
+from domethyme.network.binary import TEXTS, UNITS, Arrays
 
 KINDS: tuple[tuple[str, ...], ...] = (
     ("motorway", "trunk"), ("primary",), ("secondary",), ("tertiary",), ("unclassified", "residential", "living_street"), ()

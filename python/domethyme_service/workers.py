@@ -1,8 +1,8 @@
 """Workers: processes of `routecli serve` over one file, and the queues before them.
 
-A Job is up to 16 request lines with one future. It goes whole to the worker with the fewest open lines; a worker holds up to
-a window of them, of which jobs of tables and batches take half at most, and the others wait in two queues. Each reply is
-compared with its request. A worker that ends, is silent, or replies to something else is killed and started anew, and its
+A Job is some request lines with one future: up to 16 of a table, 64 of a batch. It goes whole to the worker with the fewest open
+lines; a worker holds up to a window of them, of which jobs of tables and batches take half at most, and the others wait in two
+queues. Each reply is compared with its request. A worker that ends, is silent, or replies to something else is killed and started anew, and its
 jobs go to others: asking twice is safe, since requests change nothing.
 """
 import asyncio
@@ -11,10 +11,11 @@ import contextlib
 from collections.abc import AsyncGenerator, Iterable, Sequence
 from typing import IO, NamedTuple, cast
 
-from .errors import Refused, WorkerFault
-from .replies import is_reply_to
+from domethyme.lines import is_reply_to, ready_of
 
-LINES_OF_JOB = 16
+from .errors import Refused, WorkerFault
+
+LINES_OF_JOB, LINES_OF_BATCH = 16, 64
 JOBS_AT_ONCE = 4
 ATTEMPTS = 3
 SHORTEST_PAUSE, LONGEST_PAUSE = 0.1, 5.0
@@ -27,7 +28,7 @@ class Limits(NamedTuple):
     """window: lines that a worker holds; waiting: lines in the queue of single requests; silence: seconds without a byte
     after which a worker with open lines is killed."""
 
-    window: int = 64
+    window: int = 256
     waiting: int = 20_000
     silence: float = 30.0
 
@@ -99,38 +100,45 @@ class Worker(asyncio.SubprocessProtocol):
             return
         self.heard = asyncio.get_running_loop().time()
         *lines, self._begun = (self._begun + part).split(b"\n")
-        for line in lines:
-            if not self._reply(line):
-                self.pool.counts.wrong += 1
-                self.kill()
-                return
+        if not self._take_lines(lines):
+            self.pool.counts.wrong += 1
+            self.kill()
+            return
         if len(self._begun) > self.pool.longest_reply:
             self.pool.counts.wrong += 1
             self.kill()
         self.pool.pump_soon()
 
-    def _reply(self, line: bytes) -> bool:
-        """Takes one line; False where it isn't what was asked for."""
-        if not self.ready.done():
-            words = line.split()
-            if len(words) < 3 or words[0] != b"ready" or not (words[1] + words[2]).isdigit():
+    def _take_lines(self, lines: list[bytes]) -> bool:
+        """Takes whole lines, as many at once as the open job wants; False where one isn't what was asked for."""
+        place = 0
+        if lines and not self.ready.done():
+            if (sizes := ready_of(lines[0])) is None:
                 return False
-            self.ready.set_result((int(words[1]), int(words[2])))
-            return True
-        if not self.open:
-            return False
-        job = self.open[0]
-        if not is_reply_to(job.lines[len(job.replies)], line):
-            return False
-        job.replies.append(line)
-        self.lines_open -= 1
-        self.bulk_open -= job.is_bulk
-        self.pool.counts.lines += 1
+            self.ready.set_result(sizes)
+            place = 1
+        while place < len(lines):
+            if not self.open:
+                return False
+            job = self.open[0]
+            done = len(job.replies)
+            part = lines[place : place + len(job.lines) - done]
+            if not all(map(is_reply_to, job.lines[done : done + len(part)], part)):
+                return False
+            self._reply(job, part)
+            place += len(part)
+        return True
+
+    def _reply(self, job: Job, part: list[bytes]) -> None:
+        """Takes replies to the first open job."""
+        job.replies += part
+        self.lines_open -= len(part)
+        self.bulk_open -= len(part) * job.is_bulk
+        self.pool.counts.lines += len(part)
         if len(job.replies) == len(job.lines):
             self.open.popleft()
             if not job.done.done():
                 job.done.set_result(job.replies)
-        return True
 
     def process_exited(self) -> None:
         """A process that was never ready has said why: that is read first."""
@@ -220,6 +228,11 @@ class Pool:
             for job in jobs:
                 job.cancel()
             await asyncio.gather(*jobs, return_exceptions=True)
+
+    async def ask_all(self, lines: Sequence[bytes]) -> list[bytes]:
+        """The replies to the lines of a block of a batch, in order. Raises Refused as `ask` does."""
+        parts = [self.put(lines[place : place + LINES_OF_BATCH], True) for place in range(0, len(lines), LINES_OF_BATCH)]
+        return [reply for part in await asyncio.gather(*parts) for reply in part]
 
     @property
     def ready(self) -> int:

@@ -1,1 +1,0 @@
-"""What the scripts of bench/ and tests/ share."""

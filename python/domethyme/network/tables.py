@@ -1,0 +1,316 @@
+"""A network: the files of its nodes and arcs, and where they lie on the earth.
+
+A network is files with one beginning of their names, NETWORK:
+
+    NETWORK.gr          the graph, in the format of docs/FORMATS.md
+    NETWORK.nodes.csv   node, osm, lon, lat, ends: where node 1, 2, .. is, in degrees; `osm` is empty for a point
+                        between; `ends` is empty, or says that routes begin there alone (from), end there alone (to) or
+                        neither (no), as turns.py has it
+    NETWORK.arcs.csv    from, to, weight, seconds, metres, osm, highway, name, ref, junction, destination, structure, WKT:
+                        a row for each arc of the graph, in the graph's order; structure is tunnel, bridge or empty, WKT
+                        its line, longitude first
+
+    NETWORK.npz         both tables in binary, which is read in their place where it is no older
+
+Beside each table lie NAME.csvt and NAME.prj, by which GDAL and QGIS know the kinds of its columns and that it has degrees of
+WGS 84; no tool here reads them. The columns ends, ref, junction, destination and structure may be missing, and are empty then.
+
+    Files(prefix)                `.graph`, `.nodes`, `.arcs`, `.binary`: the paths; `.forms`: those for GDAL and their texts
+    read_nodes(path)             Nodes(osm, lon, lat, ends): lists, node n at n - 1; of a .nodes.csv or a DIMACS .co file
+    nodes_file(word)             the path that a tool's word NETWORK means to read_nodes: NETWORK.nodes.csv, or a .co file
+    write_nodes(file, nodes)     the rows of .nodes.csv
+    read_arcs(path)              yields Arcs; rows_of_arcs yields their rows in the file too
+    arcs_of(word)                the arcs that a tool's word NETWORK means: of .arcs.csv, or of X.gr for a DIMACS file X.co
+    write_arcs(file, arcs)       the rows of .arcs.csv
+    lightest(arcs)               {(start, end): the first arc of the least weight between them}
+    points_of(wkt, path, row), wkt_of(points)       [(lon, lat), ..] and back
+    attribution_of(network)      what the data asks to be said wherever it is shown, "" for nothing: the comment of the
+                                 graph that `osm_to_gr --attribution` wrote. OSM_ATTRIBUTION is that of OpenStreetMap.
+    metres_between(lon, lat, lon, lat)              along the great circle, on a sphere of EARTH_RADIUS metres
+"""
+import csv
+import math
+import os
+from collections.abc import Iterable, Iterator
+from typing import IO, TYPE_CHECKING, Literal, NamedTuple
+
+from ..errors import NetworkError
+from ..program import StrPath
+from ..texts import MOST_NODES, dimacs_lines, number, problem_number, read_graph, reading, shown, table, whole_number
+
+if TYPE_CHECKING:
+    from . import binary
+
+EARTH_RADIUS = 6_371_008.8
+OSM_ATTRIBUTION = "© OpenStreetMap contributors (ODbL 1.0)"
+ATTRIBUTION_COMMENT = "c attribution: "
+NODE_COLUMNS = ("node", "osm", "lon", "lat")
+ARC_COLUMNS = ("from", "to", "weight", "seconds", "metres", "osm", "highway", "name", "WKT")
+ALL_NODE_COLUMNS = (*NODE_COLUMNS, "ends")
+ALL_ARC_COLUMNS = (*ARC_COLUMNS[:-1], "ref", "junction", "destination", "structure", "WKT")
+# For GDAL: the kinds of the columns, and the system of coordinates.
+NODE_KINDS = ("Integer", "Integer64", "CoordX", "CoordY", "String")
+ARC_KINDS = ("Integer", "Integer", "Integer64", "Real", "Real", "Integer64", *["String"] * 6, "WKT")
+WGS_84 = (
+    'GEOGCS["WGS 84",DATUM["WGS_1984",SPHEROID["WGS 84",6378137,298.257223563]],PRIMEM["Greenwich",0],'
+    'UNIT["degree",0.0174532925199433],AUTHORITY["EPSG","4326"]]'
+)
+WRONG_ENDINGS = {
+    ".co.gz": "is compressed: gunzip it, and name {0}.co",
+    ".gr": "is a graph: name the network by the beginning of its files' names, {0}, or a file of coordinates, {0}.co",
+    ".rch": "is a hierarchy: name the network by the beginning of its files' names",
+    ".nodes.csv": "name the network by the beginning of its files' names, {0}",
+    ".arcs.csv": "name the network by the beginning of its files' names, {0}",
+}
+ENDS = ("", "from", "to", "no")
+Side = Literal["from", "to"]
+Point = tuple[float, float]
+
+
+class Files:
+    """The paths of a network's files."""
+
+    def __init__(self, prefix: StrPath) -> None:
+        name = os.fspath(prefix)
+        self.graph, self.nodes, self.arcs = f"{name}.gr", f"{name}.nodes.csv", f"{name}.arcs.csv"
+        self.binary = f"{name}.npz"
+        self.forms = {
+            f"{name}.{table}.{ending}": text
+            for table, kinds in (("nodes", NODE_KINDS), ("arcs", ARC_KINDS))
+            for ending, text in (("csvt", ",".join(f'"{kind}"' for kind in kinds)), ("prj", WGS_84))
+        }
+
+
+class Nodes(NamedTuple):
+    """Node n has its values at n - 1: the id in OpenStreetMap or None, degrees, and which ends of routes it has (ENDS)."""
+
+    osm: list[int | None]
+    lon: list[float]
+    lat: list[float]
+    ends: list[str]
+
+
+class Arc(NamedTuple):
+    """An arc of the graph and its piece of road."""
+
+    start: int
+    end: int
+    weight: int
+    seconds: float
+    metres: float
+    osm: int
+    highway: str
+    name: str
+    wkt: str
+    ref: str = ""
+    junction: str = ""
+    destination: str = ""
+    structure: str = ""
+
+
+def refuse_wrong_endings(word: StrPath) -> None:
+    """Raises NetworkError where a tool's word NETWORK is one of the files of a network, or another file."""
+    for ending, says in WRONG_ENDINGS.items():
+        if os.fspath(word).endswith(ending):
+            raise NetworkError(says.format(os.fspath(word).removesuffix(ending)), word)
+
+
+def nodes_file(word: StrPath) -> str:
+    """The path of the nodes that a tool's word NETWORK names: a DIMACS .co file, or else the network's .nodes.csv."""
+    refuse_wrong_endings(word)
+    return os.fspath(word) if str(word).endswith(".co") else Files(word).nodes
+
+
+def read_nodes(path: StrPath) -> Nodes:
+    """The nodes of a .nodes.csv file, by the binary form beside it where that is current, or of a DIMACS .co file by its
+    ending."""
+    if str(path).endswith(".co"):
+        return read_coordinates(path)
+    arrays = arrays_at(os.fspath(path).removesuffix(".nodes.csv")) if str(path).endswith(".nodes.csv") else None
+    return read_node_table(path) if arrays is None else nodes_of(arrays)
+
+
+def arrays_at(prefix: str) -> "binary.Arrays | None":
+    """A network's binary form, where it is current and there is numpy."""
+    try:
+        from . import binary
+    except ModuleNotFoundError:
+        return None
+    return binary.read(f"{prefix}.npz") if binary.is_current(prefix) else None
+
+
+def nodes_of(arrays: "binary.Arrays") -> Nodes:
+    from .binary import NO_OSM, UNITS
+
+    osm = [None if number == NO_OSM else number for number in arrays.node_osm.tolist()]
+    lon, lat = (arrays.node_lon / UNITS).tolist(), (arrays.node_lat / UNITS).tolist()
+    return Nodes(osm, lon, lat, [ENDS[place] for place in arrays.node_ends.tolist()])
+
+
+def arcs_in(arrays: "binary.Arrays") -> Iterator[Arc]:
+    """The arcs of a binary form, as those of the table."""
+    from .binary import line_of
+
+    texts = arrays.texts()
+    ends = arrays.arc_from.tolist(), arrays.arc_to.tolist()
+    figures = arrays.arc_weight.tolist(), arrays.arc_seconds.tolist(), arrays.arc_metres.tolist(), arrays.arc_osm.tolist()
+    for place, ((start, end, weight, seconds, metres, osm), row) in enumerate(zip(zip(*ends, *figures), arrays.arc_texts)):
+        highway, name, ref, junction, destination, structure = (texts[text] for text in row)
+        line = wkt_of(line_of(arrays, place))
+        yield Arc(start, end, weight, seconds, metres, osm, highway, name, line, ref, junction, destination, structure)
+
+
+def read_node_table(path: StrPath) -> Nodes:
+    nodes = Nodes([], [], [], [])
+    with table(path, NODE_COLUMNS) as rows:
+        for row, fields in rows:
+            expected = len(nodes.lon) + 1
+            if fields["node"] != str(expected):
+                raise NetworkError(f"has node {shown(fields['node'])} where node {expected} comes next", path, row)
+            osm = fields["osm"]
+            nodes.osm.append(whole_number(osm, "osm", path, row, -(1 << 63), (1 << 63) - 1) if osm else None)
+            nodes.lon.append(number(fields["lon"], "lon", path, row, -180, 180))
+            nodes.lat.append(number(fields["lat"], "lat", path, row, -90, 90))
+            nodes.ends.append(fields.get("ends", ""))
+            if nodes.ends[-1] not in ENDS:
+                raise NetworkError(f"ends {shown(nodes.ends[-1])} is none of from, to, no", path, row)
+    return nodes
+
+
+def read_coordinates(path: StrPath) -> Nodes:
+    """The nodes of a DIMACS .co file: `p aux sp co N`, and `v NODE X Y` in millionths of a degree, in any order."""
+    lon: list[float | None] | None = None
+    lat: list[float | None] = []
+    with reading(path) as stream:
+        for row, fields in dimacs_lines(path, stream):
+            if fields[0] == b"p" and lon is None:
+                count = problem_number(fields, (b"aux", b"sp", b"co"), path, row, MOST_NODES)
+                lon, lat = [None] * count, [None] * count
+            elif fields[0] == b"v" and lon is not None and len(fields) == 4:
+                place = whole_number(fields[1], "node", path, row, 1, len(lon)) - 1
+                lon[place] = whole_number(fields[2], "x", path, row, -180_000_000, 180_000_000) / 1e6
+                lat[place] = whole_number(fields[3], "y", path, row, -90_000_000, 90_000_000) / 1e6
+            else:
+                missing = " before the line `p aux sp co N`" if lon is None else ""
+                raise NetworkError(f"is no line of coordinates{missing}", path, row)
+    if lon is None:
+        raise NetworkError("has no line `p aux sp co N`", path)
+    if None in lon:
+        raise NetworkError(f"has no coordinates of node {lon.index(None) + 1}", path)
+    places = [(east, north) for east, north in zip(lon, lat) if east is not None and north is not None]
+    lons, lats = [east for east, _ in places], [north for _, north in places]
+    return Nodes([None] * len(lon), lons, lats, [""] * len(lon))
+
+
+def write_nodes(file: IO[str], nodes: Nodes) -> None:
+    """Writes a .nodes.csv file: degrees to the seventh place, as OpenStreetMap has them."""
+    rows = csv.writer(file, lineterminator="\n")
+    rows.writerow(ALL_NODE_COLUMNS)
+    for node, (osm, lon, lat, ends) in enumerate(zip(*nodes), 1):
+        rows.writerow((node, "" if osm is None else osm, f"{lon:.7f}", f"{lat:.7f}", ends))
+
+
+def read_arcs(path: StrPath) -> Iterator[Arc]:
+    """The arcs of a .arcs.csv file, one after the other."""
+    return (arc for _, arc in rows_of_arcs(path))
+
+
+def rows_of_arcs(path: StrPath, nodes: int = MOST_NODES) -> Iterator[tuple[int, Arc]]:
+    """The arcs of a .arcs.csv file between nodes from 1 to `nodes`, with their rows."""
+    with table(path, ARC_COLUMNS) as rows:
+        for row, fields in rows:
+            yield row, Arc(
+                whole_number(fields["from"], "from", path, row, 1, nodes),
+                whole_number(fields["to"], "to", path, row, 1, nodes),
+                whole_number(fields["weight"], "weight", path, row),
+                number(fields["seconds"], "seconds", path, row, 0),
+                number(fields["metres"], "metres", path, row, 0),
+                whole_number(fields["osm"], "osm", path, row, -(1 << 63), (1 << 63) - 1),
+                fields["highway"],
+                fields["name"],
+                fields["WKT"],
+                *(fields.get(name, "") for name in ("ref", "junction", "destination", "structure")),
+            )
+
+
+def arcs_of(word: StrPath) -> Iterator[Arc]:
+    """The arcs of a tool's word NETWORK: those of its table, or for a DIMACS file X.co those of the graph X.gr as straight
+    lines, without a way, a name and seconds."""
+    if not os.fspath(word).endswith(".co"):
+        path = arcs_file(word)
+        arrays = arrays_at(os.fspath(word))
+        yield from read_arcs(path) if arrays is None else arcs_in(arrays)
+        return
+    nodes, graph = read_nodes(word), read_graph(Files(os.fspath(word).removesuffix(".co")).graph)
+    if len(nodes.lon) != graph.nodes:
+        raise NetworkError(f"has {len(nodes.lon)} nodes, and the graph beside it has {graph.nodes}", word)
+    places = list(zip(nodes.lon, nodes.lat))
+    for start, end, weight in zip(graph.starts, graph.ends, graph.weights):
+        line = [places[start - 1], places[end - 1]]
+        yield Arc(start, end, weight, 0.0, metres_between(*line[0], *line[1]), 0, "", "", wkt_of(line))
+
+
+def arcs_file(word: StrPath) -> str:
+    """The file that the arcs of a tool's word NETWORK are read from."""
+    refuse_wrong_endings(word)
+    is_dimacs = os.fspath(word).endswith(".co")
+    return Files(os.fspath(word).removesuffix(".co")).graph if is_dimacs else Files(word).arcs
+
+
+def write_arcs(file: IO[str], arcs: Iterable[Arc]) -> None:
+    """Writes a .arcs.csv file: seconds to the thousandth, metres to the hundredth."""
+    rows = csv.writer(file, lineterminator="\n")
+    rows.writerow(ALL_ARC_COLUMNS)
+    for arc in arcs:
+        figures = f"{arc.seconds:.3f}", f"{arc.metres:.2f}"
+        rows.writerow((*arc[:3], *figures, *arc[5:8], *arc[9:], arc.wkt))
+
+
+def lightest(arcs: Iterable[Arc]) -> dict[tuple[int, int], Arc]:
+    """The arc that a route takes from a node to the next: of several between them the first of the least weight."""
+    best: dict[tuple[int, int], Arc] = {}
+    for arc in arcs:
+        known = best.get((arc.start, arc.end))
+        if known is None or arc.weight < known.weight:
+            best[arc.start, arc.end] = arc
+    return best
+
+
+def points_of(wkt: str, path: StrPath | None = None, row: int | None = None) -> list[Point]:
+    """The points of a text `LINESTRING (LON LAT, LON LAT, ..)`: two or more pairs of degrees."""
+    head, _, rest = wkt.partition("(")
+    body, closed, tail = rest.partition(")")
+    try:
+        points = [(float(lon), float(lat)) for lon, lat in (point.split() for point in body.split(","))]
+    except ValueError:
+        points = []
+    if head.strip().upper() != "LINESTRING" or not closed or tail.strip() or len(points) < 2:
+        raise NetworkError(f"WKT {shown(wkt)} is no line", path, row)
+    return points
+
+
+def wkt_of(points: Iterable[Point]) -> str:
+    """The text of a line through two or more points (lon, lat), to the seventh place."""
+    return "LINESTRING (" + ", ".join(f"{lon:.7f} {lat:.7f}" for lon, lat in points) + ")"
+
+
+def attribution_of(network: StrPath) -> str:
+    """What the comment at the beginning of the network's graph asks to be said; "" where it asks for nothing."""
+    try:
+        with open(Files(os.fspath(network).removesuffix(".co")).graph, encoding="utf-8", errors="replace") as file:
+            for line in file:
+                if not line.startswith("c"):
+                    break
+                if line.startswith(ATTRIBUTION_COMMENT):
+                    return line[len(ATTRIBUTION_COMMENT) :].strip()
+    except FileNotFoundError:
+        pass
+    return ""
+
+
+def metres_between(lon_1: float, lat_1: float, lon_2: float, lat_2: float) -> float:
+    """The length of the great circle's arc between two places in degrees."""
+    phi_1, phi_2 = math.radians(lat_1), math.radians(lat_2)
+    half_lat, half_lon = (phi_2 - phi_1) / 2, math.radians(lon_2 - lon_1) / 2
+    square = math.sin(half_lat) ** 2 + math.cos(phi_1) * math.cos(phi_2) * math.sin(half_lon) ** 2
+    return 2 * EARTH_RADIUS * math.asin(math.sqrt(min(1.0, square)))

@@ -1,0 +1,219 @@
+"""Texts that are read line by line: tables in CSV, and graphs and pairs in the formats of docs/FORMATS.md.
+
+    table(path, needed)          with-block: a Table of a CSV file; iterate for (row, {column: text}); `.columns` are the
+                                 names in order, those of `needed` are there
+    read_graph(path)             Graph(nodes, starts, ends, weights): a number and three lists, in the file's order
+    write_graph(file, nodes, arcs, comments=())     arcs are (start, end, weight)
+    write_pairs(file, pairs)     the query file
+    read_answers(path)           yields the lines.Answer of each line that `routecli route` prints
+    dimacs_lines, problem_number what lines of graphs, pairs and coordinates have in common
+    reading(path)                with-block: a stream of bytes
+    whole_number(text, what, path, row, low, high)  the int
+    number(text, what, path, row, low, high)        the float
+
+Nodes are numbered from 1, as in the texts. The word `-` is standard input. What is wrong is a NetworkError with file and row.
+Needs nothing but Python's own library.
+"""
+import contextlib
+import csv
+import math
+import re
+import sys
+from collections.abc import Collection, Iterable, Iterator
+from typing import IO, NamedTuple
+
+from .errors import NetworkError, os_reason
+from .lines import NO_WAY, WRONG, Answer, answer_of
+from .program import StrPath
+
+MOST_NODES = 1 << 25
+MOST_LINES = 1 << 27
+HEAVIEST = (1 << 32) - 1
+MOST_COLUMNS = 12
+DIGITS, BYTES_OF_DIGITS = re.compile("[-+]?[0-9]{1,4000}"), re.compile(b"[-+]?[0-9]{1,4000}")
+
+
+@contextlib.contextmanager
+def reading(path: StrPath) -> Iterator[IO[bytes]]:
+    """A stream of the file's bytes; `-` is standard input."""
+    if str(path) == "-":
+        yield sys.stdin.buffer
+        return
+    try:
+        stream = open(path, "rb")
+    except OSError as error:
+        raise NetworkError(os_reason(error), path) from error
+    with stream:
+        yield stream
+
+
+# Tables
+
+
+class Table:
+    """The rows of a CSV file, by the names of its first row: iterate for (row, {column: text})."""
+
+    def __init__(self, path: StrPath, stream: IO[bytes], needed: Iterable[str]) -> None:
+        self.path = path
+        self.reader = csv.reader(text_lines(path, stream), strict=True)
+        self.columns = self.next_record() or []
+        for name in needed:
+            if self.columns.count(name) != 1:
+                raise NetworkError(wrong_column(name, self.columns), path, 1)
+
+    def __iter__(self) -> Iterator[tuple[int, dict[str, str]]]:
+        while (record := self.next_record()) is not None:
+            if not record:
+                continue
+            row = self.reader.line_num
+            if len(record) != len(self.columns):
+                raise NetworkError(f"has {len(record)} fields in place of {len(self.columns)}", self.path, row)
+            yield row, dict(zip(self.columns, record))
+
+    def next_record(self) -> list[str] | None:
+        """The fields of the next record, or None at the end."""
+        try:
+            return next(self.reader, None)
+        except csv.Error as error:
+            raise NetworkError(f"isn't CSV: {error}", self.path, self.reader.line_num) from error
+
+
+def wrong_column(name: str, columns: list[str]) -> str:
+    """What is wrong where a column isn't there once."""
+    if name in columns:
+        return f"has two columns {name}"
+    found = ", ".join(columns[:MOST_COLUMNS]) + ", ..." * (len(columns) > MOST_COLUMNS)
+    doubt = ""
+    if len(columns) == 1 and (";" in columns[0] or "\t" in columns[0]):
+        doubt = ": fields have to be parted by commas"
+    elif name in map(str.strip, columns):
+        doubt = f": there is a blank beside {name}"
+    return f"has no column {name}; its columns are {found}{doubt}" if columns else f"has no column {name}"
+
+
+@contextlib.contextmanager
+def table(path: StrPath, needed: Iterable[str]) -> Iterator[Table]:
+    """The Table of a file (`-` is standard input) that has each of the columns `needed` once."""
+    with reading(path) as stream:
+        yield Table(path, stream, needed)
+
+
+def text_lines(path: StrPath, stream: IO[bytes]) -> Iterator[str]:
+    """The lines of a UTF-8 text; a mark of the byte order at its beginning is dropped."""
+    for row, line in enumerate(stream, 1):
+        try:
+            text = line.decode("utf-8-sig" if row == 1 else "utf-8")
+        except UnicodeDecodeError as error:
+            raise NetworkError("isn't UTF-8", path, row) from error
+        yield text
+
+
+def whole_number(
+    text: str | bytes, what: str, path: StrPath, row: int | None, low: int = 0, high: int = HEAVIEST
+) -> int:
+    """The value of a text (or bytes) of decimal digits, maybe with a sign, from low to high."""
+    if not (DIGITS.fullmatch(text) if isinstance(text, str) else BYTES_OF_DIGITS.fullmatch(text)):
+        raise NetworkError(f"{what} {shown(text)} is no whole number", path, row)
+    value = int(text)
+    if not low <= value <= high:
+        raise NetworkError(f"{what} {value} isn't from {low} to {high}", path, row)
+    return value
+
+
+def number(
+    text: str, what: str, path: StrPath, row: int | None, low: float = -math.inf, high: float = math.inf
+) -> float:
+    """The value of a decimal number, from low to high."""
+    try:
+        value = float(text)
+    except ValueError as error:
+        raise NetworkError(f"{what} {shown(text)} is no number", path, row) from error
+    if not math.isfinite(value):
+        raise NetworkError(f"{what} {shown(text)} is no finite number", path, row)
+    if not low <= value <= high:
+        raise NetworkError(f"{what} {shown(text)} isn't from {low:g} to {high:g}", path, row)
+    return value
+
+
+def shown(text: str | bytes) -> str:
+    """A text of an input as messages show it: quoted, and not longer than a message should be."""
+    text = text.decode("utf-8", "replace") if isinstance(text, bytes) else text
+    return repr(text if len(text) <= 40 else text[:40] + "..")
+
+
+# Graphs, pairs and answers
+
+
+class Graph(NamedTuple):
+    """A graph: the number of its nodes, which count from 1, and its arcs in the file's order."""
+
+    nodes: int
+    starts: list[int]
+    ends: list[int]
+    weights: list[int]
+
+
+def dimacs_lines(path: StrPath, stream: IO[bytes]) -> Iterator[tuple[int, list[bytes]]]:
+    """The row and the fields of each line that is neither a comment nor blank."""
+    for row, line in enumerate(stream, 1):
+        fields = line.split()
+        if fields and not fields[0].startswith(b"c"):
+            yield row, fields
+
+
+def problem_number(fields: list[bytes], names: tuple[bytes, ...], path: StrPath, row: int, most: int) -> int:
+    """The number at the end of a problem line `p NAMES NUMBER`."""
+    if tuple(fields[1:-1]) != names:
+        raise NetworkError(f"is no problem line `p {b' '.join(names).decode()} NUMBER`", path, row)
+    return whole_number(fields[-1], "the number", path, row, 0, most)
+
+
+def read_graph(path: StrPath) -> Graph:
+    """The graph of a .gr file (`-` is standard input)."""
+    graph: Graph | None = None
+    announced = 0
+    with reading(path) as stream:
+        for row, fields in dimacs_lines(path, stream):
+            if fields[0] == b"a" and graph is not None and len(fields) == 4:
+                graph.starts.append(whole_number(fields[1], "node", path, row, 1, graph.nodes))
+                graph.ends.append(whole_number(fields[2], "node", path, row, 1, graph.nodes))
+                graph.weights.append(whole_number(fields[3], "weight", path, row))
+            elif fields[:2] == [b"p", b"sp"] and graph is None and len(fields) == 4:
+                graph = Graph(whole_number(fields[2], "the number of nodes", path, row, 0, MOST_NODES), [], [], [])
+                announced = whole_number(fields[3], "the number of arcs", path, row, 0, MOST_LINES)
+            else:
+                raise NetworkError("is no line of a graph", path, row)
+    if graph is None:
+        raise NetworkError("has no line `p sp NODES ARCS`", path)
+    if len(graph.starts) != announced:
+        raise NetworkError(f"has {len(graph.starts)} arcs and announces {announced}", path)
+    return graph
+
+
+def write_graph(
+    file: IO[str], nodes: int, arcs: Collection[Iterable[int]], comments: Iterable[str] = ()
+) -> None:
+    """Writes a .gr file: the comments, a line each, the problem line, and an arc line for each (start, end, weight)."""
+    for comment in comments:
+        file.write(f"c {comment}\n")
+    file.write(f"p sp {nodes} {len(arcs)}\n")
+    file.writelines(f"a {start} {end} {weight}\n" for start, end, weight in arcs)
+
+
+def write_pairs(file: IO[str], pairs: Collection[tuple[int, int]]) -> None:
+    """Writes a query file."""
+    file.write(f"p aux sp p2p {len(pairs)}\n")
+    file.writelines(f"q {source} {target}\n" for source, target in pairs)
+
+
+def read_answers(path: StrPath) -> Iterator[Answer]:
+    """The answers that `routecli route` prints, one after the other (`-` is standard input)."""
+    with reading(path) as stream:
+        for row, line in enumerate(stream, 1):
+            try:
+                answer = answer_of(line)
+            except ValueError as error:
+                raise NetworkError(str(error), path, row) from error
+            if answer.length != NO_WAY and not answer.nodes:
+                raise NetworkError(WRONG, path, row)
+            yield answer

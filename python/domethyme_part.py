@@ -1,0 +1,211 @@
+"""What a worker of `route_many` does: it answers one part of a query file by `routecli route`.
+
+A worker is a thread of `route_many`, or a thread of a Dask worker on another machine, to which `route_many --dask` sends
+this file. So the module needs nothing but Python's own library, and what it takes and gives are plain values.
+
+    task(program, hierarchy, drafts)   what all parts of a run have in common, a dict:
+        program, hierarchy             the paths of both files
+        digests                        {path: sha256} of both, as the machine that began the run has them
+        drafts                         the folder of this run for files that aren't whole yet
+    trouble_here(task)                 why this machine can't take part in the run, as one line, or None
+    answer(task, text, size, answers)  answers a part: (status, line, bytes), as it says there
+    stop_all()                         ends the programs that run in this process, and lets none begin
+"""
+import asyncio
+import contextlib
+import functools
+import hashlib
+import os
+import subprocess
+import threading
+import time
+import uuid
+from collections.abc import Callable, Iterator
+from typing import Any, Union
+
+Task = dict[str, Any]
+Result = tuple[int, Union[str, None], int]
+
+ATTEMPTS = 3
+PATIENCE = 120
+
+
+def task(program: str, hierarchy: str, drafts: str) -> Task:
+    """The task of a run, with the digests of its files as they are on this machine; an OSError where one can't be read."""
+    digests = {path: digest(path) for path in (program, hierarchy)}
+    return {"program": program, "hierarchy": hierarchy, "digests": digests, "drafts": drafts}
+
+
+def digest(path: str) -> str:
+    """The sha256 of a file, which is read again only if the file system says that it has changed."""
+    found = os.stat(path)
+    return digest_of(path, (found.st_dev, found.st_ino, found.st_size, found.st_mtime_ns))
+
+
+@functools.lru_cache(maxsize=64)
+def digest_of(path: str, _signature: object) -> str:
+    with open(path, "rb") as file:
+        return hashlib.file_digest(file, "sha256").hexdigest()
+
+
+# What has to be so on a worker's machine
+
+
+def trouble_here(task: Task) -> str | None:
+    """Why this machine can't take part in the run, as one line, or None."""
+    if not comes_true(lambda: os.path.isdir(task["drafts"])):
+        return f"{task['drafts']} isn't there: the folder of OUT has to be one that all machines share"
+    return wrong_file(task)
+
+
+async def trouble_apart(task: Task) -> str | None:
+    """As `trouble_here`, for a Dask worker, whose loop goes on meanwhile."""
+    return await asyncio.to_thread(trouble_here, task)
+
+
+def wrong_file(task: Task) -> str | None:
+    """Which of the task's files is missing here, or another one, as one line, or None."""
+    for path, wanted in task["digests"].items():
+        try:
+            if digest(path) != wanted:
+                return f"{path} isn't the file that the run began with"
+        except OSError as error:
+            return f"{path}: {error.strerror}"
+    if not os.access(task["program"], os.X_OK):
+        return f"{task['program']} is no program that can be run"
+    return None
+
+
+def missing_text(path: str, size: int) -> str | None:
+    """Why no file of this number of bytes comes to the path, as one line, or None."""
+    if comes_true(lambda: has_size(path, size)):
+        return None
+    return f"{path} isn't there with its {size} bytes"
+
+
+def comes_true(is_so: Callable[[], bool]) -> bool:
+    """Whether it is so now or soon: what another machine wrote may be seen only a minute later."""
+    end, pause = time.monotonic() + PATIENCE, 0.01
+    while not is_so():
+        if time.monotonic() > end or stopping.is_set():
+            return False
+        time.sleep(pause)
+        pause = min(2 * pause, 1)
+    return True
+
+
+def has_size(path: str, size: int) -> bool:
+    """Whether there is a file of this number of bytes at the path."""
+    try:
+        return os.stat(path).st_size == size
+    except FileNotFoundError:
+        return False
+
+
+# Answers
+
+
+def answer(task: Task, text: str, size: int, answers: str) -> Result:
+    """Answers the part whose pairs are the file `text`, of `size` bytes, into the file `answers`. Gives
+
+    (0, None, BYTES)       done: the file of answers is there, whole, of that size
+    (3 to 8, LINE, 0)      the program refused with this status and line
+    (1, LINE, 0)           something else failed
+
+    and but for the first leaves what is at `answers`. A program that is killed is begun again, ATTEMPTS times in all.
+    """
+    try:
+        trouble = wrong_file(task) or missing_text(text, size)
+        if trouble is not None:
+            return 1, trouble, 0
+        for _ in range(ATTEMPTS):
+            with draft_in(task["drafts"]) as draft:
+                status, said = run_program(task, text, draft)
+                if status == 0:
+                    return finish(task, draft, answers)
+            if status > 0 or stopping.is_set():
+                break
+        return refusal(task["program"], status, said)
+    except OSError as error:
+        return 1, f"{error.filename}: {error.strerror}" if error.filename else str(error), 0
+
+
+def answer_apart(task: Task, text: str, size: int, answers: str) -> Result:
+    """As `answer`, by a Dask worker, whose name is then put before a line that isn't the program's."""
+    from distributed import get_worker
+
+    status, line, count = answer(task, text, size, answers)
+    return status, f"worker {get_worker().name}: {line}" if status == 1 else line, count
+
+
+@contextlib.contextmanager
+def draft_in(folder: str) -> Iterator[str]:
+    """A path for a file of this one attempt: a program that lost its worker may still write to its own."""
+    path = os.path.join(folder, uuid.uuid4().hex)
+    try:
+        yield path
+    finally:
+        with contextlib.suppress(FileNotFoundError):
+            os.unlink(path)
+
+
+def run_program(task: Task, text: str, draft: str) -> tuple[int, str]:
+    """Runs the program, its output into a new file: the status, negative for a signal, and what it said."""
+    words = [task["program"], "route", task["hierarchy"], text]
+    with open(draft, "xb") as output:
+        with child_of(words, stdin=subprocess.DEVNULL, stdout=output, stderr=subprocess.PIPE) as child:
+            said = child.communicate()[1].decode("utf-8", "replace")
+        os.fsync(output.fileno())
+    return child.returncode, " ".join(said.split())
+
+
+def finish(task: Task, draft: str, answers: str) -> Result:
+    """Gives the draft its name, unless the files of the task have changed meanwhile; what `answer` gives then."""
+    trouble = wrong_file(task)
+    if trouble is not None:
+        return 1, trouble, 0
+    count = os.stat(draft).st_size
+    os.replace(draft, answers)
+    return 0, None, count
+
+
+def refusal(program: str, status: int, said: str) -> Result:
+    """What `answer` gives for a program that ended with a status other than 0."""
+    if status < 0:
+        return 1, f"{program} was ended by signal {-status}", 0
+    if 3 <= status <= 8:
+        return status, said, 0
+    return 1, f"{program} ended with status {status}: {said}", 0
+
+
+# The programs that run in this process
+
+stopping = threading.Event()
+children = set()
+children_lock = threading.Lock()
+
+
+@contextlib.contextmanager
+def child_of(words: list[str], **streams: Any) -> Iterator["subprocess.Popen[bytes]"]:
+    """A program that runs while the block does, and that `stop_all` ends. It isn't in the group of the terminal, so an
+    interrupt comes to this process alone."""
+    with children_lock:
+        child = subprocess.Popen(words, process_group=0, **streams)
+        children.add(child)
+        if stopping.is_set():
+            child.kill()
+    try:
+        yield child
+    finally:
+        with children_lock:
+            children.discard(child)
+            child.kill()
+        child.wait()
+
+
+def stop_all() -> None:
+    """Ends the programs that run in this process; those that would begin are ended too."""
+    with children_lock:
+        stopping.set()
+        for child in children:
+            child.kill()

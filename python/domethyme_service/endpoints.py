@@ -1,0 +1,117 @@
+"""The table of endpoints: the method, the path and the parameters of each. Requests are parsed by it, and docs/SERVICE.md has it:
+`python3 -m domethyme_service.endpoints` prints its tables. A parameter is added here alone, with a kind of `parameters`."""
+import re
+from collections.abc import Mapping
+from typing import Any, NamedTuple
+
+from .errors import Refused
+from .page import FILES
+from .parameters import (
+    Absent, Alternatives, Annotations, Chosen, Context, Flag, Node, Number, Parameter, Radiuses, Straight, Unused, Values, Word, values_of
+)
+
+NOT_SAID = "snapping=any and flatbuffers aren't there"
+RADIUSES = Radiuses("radiuses")
+GENERATE_HINTS, SKIP_WAYPOINTS = Flag("generate_hints", True), Flag("skip_waypoints", False)
+OVERVIEW = Word("overview", "simplified", "full", "false")
+GEOMETRIES = Word("geometries", "polyline", "polyline6", "geojson")
+STEPS = Flag("steps", False)
+ANNOTATIONS = Annotations("annotations", ("duration", "weight", "distance", "datasources", "speed"), "false", absent=("nodes",))
+FIGURES = Annotations("annotations", ("duration", "distance"), "duration", is_plain=True)
+NUMBER = Number("number", 1, 100)
+SOURCES, DESTINATIONS = Chosen("sources"), Chosen("destinations")
+FROM, TO = Node("from"), Node("to")
+
+# Of all of OSRM's services.
+COMMON: tuple[Parameter[Any], ...] = (
+    RADIUSES, Unused("hints"), GENERATE_HINTS, SKIP_WAYPOINTS, Absent("bearings", ""), Absent("approaches", "unrestricted"),
+    Absent("exclude"), Word("snapping", "default", absent=["any"], says=NOT_SAID),
+    Word("format", "json", absent=["flatbuffers"], says=NOT_SAID),
+)
+
+
+class Endpoint(NamedTuple):
+    """name: by which requests are counted, and answered by a method of Service; path: as the documents have it, "" where it isn't
+    there; answer: what it answers; parameters: those that it has, None where all are ignored; unknown: the message for others."""
+
+    name: str
+    path: str
+    answer: str
+    parameters: tuple[Parameter[Any], ...] | None = ()
+    unknown: str = "there is no parameter {!r}"
+    method: str = "GET"
+
+    def values(self, query: Mapping[str, str], context: Context = Context()) -> Values:
+        """The values of its parameters. Raises Refused."""
+        return Values({}) if self.parameters is None else values_of(self.parameters, query, context, self.unknown)
+
+
+def osrm(service: str, path: str, answer: str, *parameters: Parameter[Any]) -> Endpoint:
+    return Endpoint(f"/{service}", path, answer, (*COMMON, *parameters), f"{service} has no parameter {{!r}}")
+
+
+ENDPOINTS = (
+    Endpoint("/", "/", "the page", None),
+    Endpoint("/map/files", "/map/FILE", "its files", None),
+    Endpoint("/map/about", "/map/about", "the box of the roads, the attribution, and a number that changes with the network",
+             unknown="there is no such parameter"),
+    Endpoint("/map/roads", "/map/roads/ZOOM/X/Y", "the roads in a square tile, as maps of the web number them, to zoom 16",
+             (Unused("v"),), "there is no such parameter"),
+    osrm("route", "/route/v1/PROFILE/PLACES", "a route by two places or more, to 500, a leg for each two",
+         Alternatives("alternatives"), Straight("continue_straight"), Absent("waypoints"), ANNOTATIONS, OVERVIEW, GEOMETRIES, STEPS),
+    osrm("nearest", "/nearest/v1/PROFILE/PLACE", "the nearest points of roads", NUMBER),
+    osrm("table", "/table/v1/PROFILE/PLACES", "durations and distances, to 10,000 cells",
+         Absent("fallback_speed"), Absent("fallback_coordinate"), Absent("scale_factor"), FIGURES, SOURCES, DESTINATIONS),
+    *(osrm(service, "", "") for service in ("match", "trip", "tile")),
+    Endpoint("/nodes/route", "/nodes/route", "a route between nodes by their numbers, from 1", (FROM, TO)),
+    Endpoint("/nodes/length", "/nodes/length", "its length alone; null if there is no path", (FROM, TO)),
+    Endpoint("/nodes/routes", "/nodes/routes", "a route for each line of the body, as a line of JSON", (),
+             "this path has no parameters", "POST"),
+    Endpoint("/nodes/lengths", "/nodes/lengths", "a length for each line of the body, as a line of JSON", (),
+             "this path has no parameters", "POST"),
+    Endpoint("/health", "/health", "200, or 503 without workers or while it ends", None),
+    Endpoint("/metrics", "/metrics", "the text format 0.0.4 of Prometheus", None),
+)
+BY_NAME = {endpoint.name: endpoint for endpoint in ENDPOINTS}
+OSRM = {endpoint.name[1:] for endpoint in ENDPOINTS if endpoint.parameters and endpoint.parameters[0] is RADIUSES}
+BY_PATH = {
+    **{path: BY_NAME["/map/files"] for path in FILES},
+    **{endpoint.path: endpoint for endpoint in ENDPOINTS if endpoint.path and not re.search("[A-Z]", endpoint.path)},
+}
+TILE = re.compile(r"/map/roads/([0-9]{1,2})/([0-9]{1,6})/([0-9]{1,6})")
+
+
+def endpoint_of(path: str) -> Endpoint:
+    """The endpoint of a path. Raises Refused where there is none."""
+    if found := BY_PATH.get(path):
+        return found
+    words = path.split("/", 2)
+    if len(words) == 3 and words[1] in OSRM:
+        return BY_NAME[f"/{words[1]}"]
+    if TILE.fullmatch(path):
+        return BY_NAME["/map/roads"]
+    raise Refused(404, "InvalidUrl", "there is no such path")
+
+
+def table_of_endpoints() -> list[str]:
+    """The lines of the table of endpoints in docs/SERVICE.md."""
+    shown = [endpoint for endpoint in ENDPOINTS if endpoint.path]
+    rows = [f"| `{endpoint.method} {endpoint.path}{query_of(endpoint)}` | {endpoint.answer} |" for endpoint in shown]
+    return ["| Request | Answer |", "|---|---|", *rows]
+
+
+def query_of(endpoint: Endpoint) -> str:
+    """What has to stand behind a path."""
+    needed = [parameter.name for parameter in endpoint.parameters or () if isinstance(parameter, Node)]
+    return "?" * bool(needed) + "&".join(f"{name}=NODE" for name in needed)
+
+
+def table_of_parameters() -> list[str]:
+    """The lines of the table of the parameters of OSRM's API in docs/SERVICE.md."""
+    of = [("all", COMMON), *((name, (BY_NAME[f"/{name}"].parameters or ())[len(COMMON) :]) for name in ("route", "nearest", "table"))]
+    rows = [f"| {name} | `{each.name}` | {each.taken} | {each.refused} |" for name, some in of for each in some]
+    return ["| Of | Parameter | Taken | Refused as `NotImplemented` |", "|---|---|---|---|", *rows]
+
+
+if __name__ == "__main__":
+    print("\n".join([*table_of_endpoints(), "", *table_of_parameters()]))

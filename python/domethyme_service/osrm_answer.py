@@ -1,0 +1,107 @@
+"""The answers of OSRM's API, version 1, as they are in JSON. Coordinates are [longitude, latitude] in degrees, weights are in the
+unit of `weight_name` (seconds or metres), durations in seconds, distances in metres, bearings in degrees from north, clockwise."""
+from typing import Literal, NotRequired, TypedDict, Union
+
+Coordinates = list[float]
+
+
+class Figures(TypedDict):
+    """Of a route, a leg, a step or a cell."""
+
+    weight: float
+    duration: float
+    distance: float
+
+
+class LineString(TypedDict):
+    """A line as GeoJSON."""
+
+    type: Literal["LineString"]
+    coordinates: list[Coordinates]
+
+
+# A polyline, or GeoJSON.
+Geometry = Union[str, LineString]
+
+
+class Waypoint(TypedDict):
+    """A point of a road; `distance` is from the place to it. `nodes` are ids of OpenStreetMap, 0 where there is none."""
+
+    name: str
+    location: Coordinates
+    distance: float
+    hint: NotRequired[str]
+    nodes: NotRequired[list[int]]
+
+
+class Maneuver(TypedDict):
+    """What is done where a step begins; `exit` counts the exits of a roundabout from 1."""
+
+    type: str
+    modifier: NotRequired[str]
+    exit: NotRequired[int]
+    location: Coordinates
+    bearing_before: int
+    bearing_after: int
+
+
+class Intersection(TypedDict):
+    """The junction at which a step begins."""
+
+    location: Coordinates
+    bearings: list[int]
+    entry: list[bool]
+    out: int
+
+
+class Step(Figures):
+    """A part of a leg on one road."""
+
+    maneuver: Maneuver
+    name: str
+    ref: NotRequired[str]
+    destinations: NotRequired[str]
+    mode: str
+    driving_side: str
+    geometry: Geometry
+    intersections: list[Intersection]
+
+
+class RouteLeg(Figures):
+    """A route's part from one place to the next. `annotation` has by name a value for each step of the line."""
+
+    summary: str
+    steps: list[Step]
+    annotation: NotRequired[dict[str, list[float]]]
+
+
+class WholeRoute(Figures):
+    """A route by all places."""
+
+    legs: list[RouteLeg]
+    weight_name: str
+    geometry: NotRequired[Geometry]
+
+
+class RouteAnswer(TypedDict):
+    code: Literal["Ok"]
+    routes: list[WholeRoute]
+    waypoints: NotRequired[list[Waypoint]]
+
+
+class NearestAnswer(TypedDict):
+    code: Literal["Ok"]
+    waypoints: list[Waypoint]
+
+
+class TableAnswer(TypedDict):
+    """Rows are sources, and columns destinations; null is no way."""
+
+    code: Literal["Ok"]
+    durations: NotRequired[list[list[float | None]]]
+    distances: NotRequired[list[list[float | None]]]
+    sources: NotRequired[list[Waypoint]]
+    destinations: NotRequired[list[Waypoint]]
+
+
+Answer = Union[RouteAnswer, NearestAnswer, TableAnswer]

@@ -1,0 +1,67 @@
+"""What a request of OSRM's API asks: its places, and the values of its parameters (endpoints). A parameter that would change the
+answer and isn't there is refused, and never ignored."""
+import re
+import urllib.parse
+from collections.abc import Mapping
+from typing import NamedTuple
+
+from domethyme.network.tables import Point
+
+from .endpoints import BY_NAME
+from .errors import Refused, invalid_query, invalid_value
+from .lines import decoded
+from .parameters import Context, Values
+
+NUMBER = re.compile(r"[-+]?(?:[0-9]{1,3}(?:\.[0-9]{0,20})?|\.[0-9]{1,20})(?:[eE][-+]?[0-9]{1,2})?")
+PROFILE = re.compile("[A-Za-z0-9_.-]{1,64}")
+LINE = re.compile(r"polyline(6?)\((.*)\)", re.DOTALL)
+SERVICES = ("route", "nearest", "table")
+MOST_PLACES, MOST_CELLS = 500, 10_000
+
+
+class Request(NamedTuple):
+    """A request: the service's name, the places (lon, lat) in degrees, and the values of its parameters."""
+
+    service: str
+    places: list[Point]
+    values: Values
+
+
+def request_of(path: str, query: Mapping[str, str], within: float) -> Request:
+    """The request of a path `/SERVICE/v1/PROFILE/PLACES`, still percent-encoded. `within` are the metres to a road of a place
+    without a radius. Raises Refused."""
+    words = path.split("/", 4)
+    if words[1] not in SERVICES:
+        raise Refused(400, "InvalidService", f"the service {words[1]} isn't there")
+    if words[2] != "v1":
+        raise Refused(400, "InvalidVersion", "the path is /SERVICE/v1/PROFILE/PLACES")
+    if len(words) != 5 or not PROFILE.fullmatch(words[3]):
+        raise Refused(400, "InvalidUrl", "the path is /SERVICE/v1/PROFILE/PLACES")
+    places = places_of(words[4], words[1])
+    return Request(words[1], places, BY_NAME[f"/{words[1]}"].values(query, Context(len(places), within)))
+
+
+def places_of(text: str, service: str) -> list[Point]:
+    """The places of `LON,LAT;..`, `polyline(..)` or `polyline6(..)`. Raises Refused."""
+    try:
+        plain = urllib.parse.unquote(text, errors="strict").removesuffix(".json")
+        if found := LINE.fullmatch(plain):
+            places = decoded(found[2], 6 if found[1] else 5)
+        else:
+            places = [place_of(word) for word in plain.split(";")[: MOST_PLACES + 1]]
+    except ValueError:
+        raise invalid_query("places are LON,LAT;LON,LAT;.. or polyline(..)") from None
+    if any(abs(lon) > 180 or abs(lat) > 90 for lon, lat in places):
+        raise invalid_value("a place has to be from -180 to 180 and from -90 to 90 degrees, longitude first")
+    if len(places) > MOST_PLACES:
+        raise Refused(400, "TooBig", f"there may be {MOST_PLACES} places")
+    if service == "nearest" and len(places) != 1 or service == "route" and len(places) < 2 or not places:
+        raise invalid_query("nearest has one place, route two or more, table one or more")
+    return places
+
+
+def place_of(word: str) -> Point:
+    lon, comma, lat = word.partition(",")
+    if not comma or not NUMBER.fullmatch(lon) or not NUMBER.fullmatch(lat):
+        raise ValueError("no place")
+    return float(lon), float(lat)

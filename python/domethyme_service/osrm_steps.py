@@ -1,0 +1,154 @@
+"""The steps of a leg, in OSRM's words. A step begins where the name of the road changes, at a turn of more than 45 degrees at a
+junction, and at a roundabout, which it goes round and leaves. Types are depart, turn, new name, continue, roundabout and arrive."""
+import itertools
+from collections.abc import Callable
+from typing import NamedTuple
+
+import numpy as np
+
+from domethyme.network.binary import TEXTS
+from domethyme.network.tables import Point
+
+from .courses import Course
+from .osrm_answer import Coordinates, Figures, Geometry, Maneuver, Step
+from .roads import Roads
+
+TURN = 45
+MODIFIERS = ((20, "straight"), (45, "slight {}"), (120, "{}"), (170, "sharp {}"), (181, "uturn"))
+JUNCTION = 3
+NAME, REF, DESTINATION = (TEXTS.index(name) for name in ("name", "ref", "destination"))
+Shape = Callable[[list[list[float]]], Geometry]
+
+
+class Names(NamedTuple):
+    """The texts of the map for a step's road."""
+
+    name: str
+    ref: str = ""
+    destinations: str = ""
+
+
+class Move(NamedTuple):
+    """What is done where a step begins: its type, its modifier, and the exit of a roundabout."""
+
+    kind: str
+    modifier: str | None = None
+    exit: int | None = None
+
+    def at(self, location: Coordinates, before: int, after: int) -> Maneuver:
+        """The maneuver at a place, with the bearings before and after it."""
+        if self.modifier is None:
+            return {"type": self.kind, "location": location, "bearing_before": before, "bearing_after": after}
+        if self.exit is None:
+            return {
+                "type": self.kind, "modifier": self.modifier,
+                "location": location, "bearing_before": before, "bearing_after": after,
+            }
+        return {
+            "type": self.kind, "modifier": self.modifier, "exit": self.exit,
+            "location": location, "bearing_before": before, "bearing_after": after,
+        }
+
+
+class Guide:
+    """The steps along a course."""
+
+    def __init__(self, course: Course) -> None:
+        self.course, self.roads = course, course.roads
+        arrays = self.roads.arrays
+        self.texts = arrays.arc_texts[course.arcs]
+        self.is_round = self.roads.is_round(course.arcs)
+        self.starts = self._starts()
+
+    def _starts(self) -> list[int]:
+        """The first arc of each step, and the number of arcs."""
+        first, last = self.course.bearings
+        names = self.texts[:, NAME]
+        nodes = self.roads.arrays.arc_from[self.course.arcs]
+        turns = (np.array(first[1:]) - np.array(last[:-1]) + 180) % 360 - 180
+        is_new = (names[1:] != names[:-1]) | (self.roads.degree[nodes[1:]] >= JUNCTION) & (np.abs(turns) > TURN)
+        before, after = self.is_round[:-1], self.is_round[1:]
+        is_new[before & after] = False
+        is_new[~before & after] = True
+        leaves = before & ~after
+        if self.is_round[0]:  # (the leg begins in this one, so it leaves it as any road)
+            leaves[: int(np.argmin(self.is_round))] = False
+        is_new[leaves] = False
+        return [0, *(np.flatnonzero(is_new) + 1).tolist(), len(self.course.arcs)]
+
+    def steps(self, shape: Shape) -> list[Step]:
+        """The steps, without the arrival."""
+        first, last = self.course.bearings
+        found = []
+        for begin, end in itertools.pairwise(self.starts):
+            line = self.course.line(begin, end)
+            # (the arc that the step is named by, behind a roundabout)
+            named = begin + int(np.argmin(self.is_round[begin:end])) if begin and self.is_round[begin] else begin
+            names = Names(*(self.text(named, kind) for kind in (NAME, REF, DESTINATION)))
+            move = self.move(begin, end, named).at(line[0], last[begin - 1] if begin else 0, first[begin])
+            found.append(step(move, names, self.course.figures(begin, end), shape(line)))
+        return found
+
+    def text(self, arc: int, kind: int) -> str:
+        return self.roads.texts[int(self.texts[arc, kind])]
+
+    def move(self, begin: int, end: int, named: int) -> Move:
+        """The type and the modifier of the maneuver with which a step begins, and of a roundabout the exit that it takes."""
+        if not begin:
+            return Move("depart")
+        first, last = self.course.bearings
+        if self.is_round[begin]:
+            angle = turn(last[begin - 1], first[named])
+            is_left = named > begin or not self.is_round[end - 1]
+            return Move("roundabout", modifier(angle), self.exit(begin, named) if is_left else None)
+        angle = turn(last[begin - 1], first[begin])
+        is_same = self.texts[begin - 1, NAME] == self.texts[begin, NAME]
+        return Move("continue" if is_same else "turn" if abs(angle) > TURN else "new name", modifier(angle))
+
+    def exit(self, begin: int, named: int) -> int:
+        """The number of the exit by which arc `named` leaves a roundabout that is entered at arc `begin`."""
+        ends = self.roads.arrays.arc_to[self.course.arcs[begin:named]].tolist()
+        return 1 + sum(self.roads.exits(node) for node in ends[:-1])
+
+
+def steps_of_leg(roads: Roads, course: Course | None, start: Point, end: Point, shape: Shape) -> list[Step]:
+    """The steps from a point to another."""
+    nothing: Figures = {"weight": 0.0, "duration": 0.0, "distance": 0.0}
+    if course is None:
+        found = [step(Move("depart").at(list(start), 0, 0), Names(""), nothing, shape([list(start)] * 2))]
+        before = 0
+    else:
+        found, before = Guide(course).steps(shape), course.bearings[1][-1]
+    last = step(Move("arrive").at(list(end), before, 0), Names(found[-1]["name"]), nothing, shape([list(end)] * 2))
+    return [*found, last]
+
+
+def turn(before: int, after: int) -> int:
+    """The angle from a bearing to another, from -180 to 180; to the right it is above 0."""
+    return (after - before + 180) % 360 - 180
+
+
+def modifier(angle: int) -> str:
+    side = "right" if angle > 0 else "left"
+    return next(word for most, word in MODIFIERS if abs(angle) < most).format(side)
+
+
+def step(move: Maneuver, names: Names, figures: Figures, geometry: Geometry) -> Step:
+    """A step as OSRM has it, with the one intersection at which it begins. Of names that are lists the parts are told apart by
+    commas, and those that are empty left out, but for the first."""
+    found: Step = {
+        "maneuver": move,
+        "name": names.name,
+        "mode": "driving",
+        "driving_side": "right",
+        "weight": figures["weight"],
+        "duration": figures["duration"],
+        "distance": figures["distance"],
+        "geometry": geometry,
+        "intersections": [{"location": move["location"], "bearings": [move["bearing_after"]], "entry": [True], "out": 0}],
+    }
+    if names.ref:
+        found["ref"] = "; ".join(part.strip() for part in names.ref.split(";"))
+    if names.destinations:
+        found["destinations"] = ", ".join(part.strip() for part in names.destinations.split(";"))
+    return found

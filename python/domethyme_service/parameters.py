@@ -1,0 +1,221 @@
+"""Kinds of parameters: how the text of each becomes a value, what is refused, and how the documents describe it."""
+import re
+from collections.abc import Mapping, Sequence
+from typing import Generic, NamedTuple, TypeVar, cast
+
+from .errors import invalid_query, invalid_value, not_implemented
+
+T = TypeVar("T")
+METRES = re.compile(r"[0-9]{1,9}(?:\.[0-9]{0,20})?")
+INDEX = re.compile("[0-9]{1,4}")
+NODE = re.compile("[0-9]{1,10}")
+COUNT = re.compile("[0-9]{1,3}")
+
+
+class Context(NamedTuple):
+    """What values are compared with: the number of places of the request, the metres from a place to a road that the service
+    allows, and the number of nodes."""
+
+    places: int = 0
+    within: float = 0.0
+    nodes: int = 0
+
+
+class Parameter(Generic[T]):
+    """A parameter. `taken` and `refused` are its cells in docs/SERVICE.md; the latter are values that OSRM has and the service
+    refuses as NotImplemented."""
+
+    taken = refused = ""
+
+    def __init__(self, name: str) -> None:
+        self.name = name
+
+    def read(self, text: str | None, context: Context) -> T:
+        """The value of a text, or of no such parameter (None). Raises Refused."""
+        raise NotImplementedError
+
+
+class Values:
+    """The values of a request's parameters."""
+
+    def __init__(self, found: dict[str, object]) -> None:
+        self._found = found
+
+    def __getitem__(self, parameter: Parameter[T]) -> T:
+        return cast(T, self._found[parameter.name])
+
+
+class Word(Parameter[str]):
+    """One of some words, the first without the parameter. Those of `absent` are refused, as `says` reports."""
+
+    def __init__(self, name: str, *words: str, absent: Sequence[str] = (), says: str = "") -> None:
+        super().__init__(name)
+        self.words, self.absent, self.says = words, absent, says
+        self.taken, self.refused = (", ".join(f"`{word}`" for word in some) for some in (words, absent))
+
+    def read(self, text: str | None, context: Context) -> str:
+        value = self.words[0] if text is None else text
+        if value in self.absent:
+            raise not_implemented(self.says)
+        if value not in self.words:
+            raise invalid_value(f"{self.name} has to be one of {', '.join((*self.words, *self.absent))}")
+        return value
+
+
+class Flag(Parameter[bool]):
+    """`true` or `false`, and `default` without the parameter."""
+
+    def __init__(self, name: str, default: bool) -> None:
+        super().__init__(name)
+        self.words = ("true", "false") if default else ("false", "true")
+        self._word = Word(name, *self.words)
+        self.taken = self._word.taken
+
+    def read(self, text: str | None, context: Context) -> bool:
+        return self._word.read(text, context) == "true"
+
+
+class Unused(Parameter[None]):
+    """A text that is read and changes nothing."""
+
+    taken = "any, not used"
+
+    def read(self, text: str | None, context: Context) -> None:
+        return None
+
+
+class Absent(Parameter[None]):
+    """A parameter that isn't there: only without a value. A list that has no words but `harmless` changes nothing."""
+
+    def __init__(self, name: str, harmless: str | None = None) -> None:
+        super().__init__(name)
+        self.harmless = harmless
+        self.taken = f"`{harmless}`" if harmless else ""
+        self.refused = "all others" if harmless else "all"
+
+    def read(self, text: str | None, context: Context) -> None:
+        words = [text or ""] if self.harmless is None else (text or "").split(";")
+        if any(word not in ("", self.harmless) for word in words):
+            raise not_implemented(f"{self.name} isn't there")
+
+
+class Radiuses(Parameter[list[float]]):
+    """The greatest metres to a road, for each place."""
+
+    taken = "for each place metres, `unlimited`, or nothing for that of `--within`"
+
+    def read(self, text: str | None, context: Context) -> list[float]:
+        if not text:
+            return [context.within] * context.places
+        found = []
+        for word in text.split(";"):
+            if word and word != "unlimited" and not METRES.fullmatch(word):
+                raise invalid_value("radiuses are metres, or unlimited")
+            found.append(context.within if not word else float("inf") if word == "unlimited" else float(word))
+        if len(found) != context.places:
+            raise invalid_query("there has to be a radius for each place")
+        return found
+
+
+class Annotations(Parameter[list[str]]):
+    """Some of the figures that are known, `default` without the parameter. `true` is all, and `false` none, unless `is_plain`."""
+
+    def __init__(self, name: str, known: Sequence[str], default: str, is_plain: bool = False, absent: Sequence[str] = ()) -> None:
+        super().__init__(name)
+        self.known, self.default, self.is_plain, self.absent = known, default, is_plain, absent
+        others = "" if is_plain else "`false`, `true`, or "
+        self.taken = f"{others}some of {', '.join(f'`{word}`' for word in known)}" + (f"; `{default}` without it" if is_plain else "")
+        self.refused = ", ".join(f"`{word}`" for word in absent)
+
+    def read(self, text: str | None, context: Context) -> list[str]:
+        text = self.default if text is None else text
+        if text in ("true", "false") and not self.is_plain:
+            return list(self.known) if text == "true" else []
+        words = text.split(",")
+        for word in self.absent:
+            if word in words:
+                raise not_implemented(f"{self.name}={word} isn't there")
+        if not set(words) <= set(self.known):
+            both = "duration, distance, or both"
+            raise invalid_value(f"{self.name} are " + (both if self.is_plain else f"true, false, or some of {', '.join(self.known)}"))
+        return words
+
+
+class Alternatives(Parameter[None]):
+    """Other routes, of which there are none."""
+
+    taken = "`false`, `true` or a number; the answer has one route always"
+
+    def read(self, text: str | None, context: Context) -> None:
+        if text not in (None, "true", "false") and not COUNT.fullmatch(text or ""):
+            raise invalid_value(f"{self.name} is true, false or a number")
+
+
+class Straight(Parameter[None]):
+    """Whether a route may turn round at a place between."""
+
+    taken, refused = "`default`, `false`, and `true` for two places", "`true` for more"
+
+    def read(self, text: str | None, context: Context) -> None:
+        if text not in (None, "default", "true", "false"):
+            raise invalid_value(f"{self.name} is default, true or false")
+        if text == "true" and context.places > 2:
+            raise not_implemented(f"{self.name}=true isn't there for more than two places")
+
+
+class Number(Parameter[int]):
+    """A whole number from `low` to `high`, `low` without the parameter."""
+
+    def __init__(self, name: str, low: int, high: int) -> None:
+        super().__init__(name)
+        self.low, self.high = low, high
+        self.taken = f"{low} to {high}; {low} without it"
+
+    def read(self, text: str | None, context: Context) -> int:
+        if text is None:
+            return self.low
+        if not INDEX.fullmatch(text) or not self.low <= int(text) <= self.high:
+            raise invalid_value(f"{self.name} is from {self.low} to {self.high}")
+        return int(text)
+
+
+class Chosen(Parameter[list[int]]):
+    """The places that are chosen, by their numbers from 0."""
+
+    taken = "`all`, or numbers of places, from 0"
+
+    def read(self, text: str | None, context: Context) -> list[int]:
+        if text is None or text == "all":
+            return list(range(context.places))
+        words = text.split(";")
+        if not all(INDEX.fullmatch(word) and int(word) < context.places for word in words):
+            raise invalid_value(f"{self.name} are numbers of places, from 0")
+        return [int(word) for word in words]
+
+
+class Node(Parameter[int]):
+    """A node, which has to be there."""
+
+    taken = "a node, from 1 to the number of nodes"
+
+    def read(self, text: str | None, context: Context) -> int:
+        return node_of(text, self.name, context.nodes)
+
+
+def node_of(text: object, name: str, nodes: int) -> int:
+    """The node that a text or a number of JSON names, from 1 to `nodes`. Raises Refused."""
+    if text is None:
+        raise invalid_query(f"{name} is missing")
+    digits = str(text) if isinstance(text, (int, str)) and not isinstance(text, bool) else ""
+    if not NODE.fullmatch(digits) or not 1 <= int(digits) <= nodes:
+        raise invalid_value(f"{name} has to be a node from 1 to {nodes}")
+    return int(digits)
+
+
+def values_of(parameters: Sequence[Parameter[object]], query: Mapping[str, str], context: Context, unknown: str) -> Values:
+    """The values of all parameters. Raises Refused for a value, and by the message `unknown` for a parameter that isn't known."""
+    names = {parameter.name for parameter in parameters}
+    for name in query:
+        if name not in names:
+            raise invalid_query(unknown.format(name))
+    return Values({parameter.name: parameter.read(query.get(parameter.name), context) for parameter in parameters})

@@ -1,0 +1,1 @@
+"""The map tools, a module for each command: tools/README.md."""

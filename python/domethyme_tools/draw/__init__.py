@@ -1,0 +1,80 @@
+"""Draws routes over their network: a picture, or a page for a browser that needs no connection.
+
+NETWORK is the beginning of the names of the network's files, of which NETWORK.arcs.csv is read, and NETWORK.gr for what
+the data asks to be said wherever it is shown. ROUTES is what `to_geojson` wrote as a collection or as lines (`-` is
+standard input). OUT is a picture (SVG) where its name ends in .svg, and a page (HTML) where it ends in .html.
+
+Both show the roads in grey, around the routes or with --whole all of them; each route in a colour, from a ring to a
+dot, with arrows where there are no more than 20; a legend with kilometres and minutes; a scale; and the attribution.
+Where routes overlap, earlier ones are drawn wider, so up to four remain visible. Colours repeat after eight routes.
+
+In the picture a browser shows a route's streets where the pointer rests on it. Routes that the legend has no room for are
+counted in its last line. In the page a click on a route opens its streets with their metres, and a click on the
+legend goes there. Labels are at the ends of routes, and near by the names of their streets too, as far as there is
+room. Leaflet, from Debian's package libjs-leaflet, is a part of the page, with its notice. Without --tiles the page
+asks nothing of any network.
+
+OUT is whole or not there.
+
+Exit status: 0; 1 for bad input or a failed write, with one line on standard error that names the file and the row or
+feature; 2 for arguments that are refused.
+"""
+import argparse
+
+from domethyme.files import writing
+from domethyme.network.tables import attribution_of
+
+from ..geometry import View
+from ..tool import spoken, warn, words
+from .page import page_of
+from .picture import picture_of
+from .roads import scene_of
+from .routes import read_routes
+
+PICTURE, PAGE = ".svg", ".html"
+
+
+def read_words() -> argparse.Namespace:
+    parser = words(__doc__)
+    parser.add_argument("network", metavar="NETWORK", help="the network that the routes are in")
+    parser.add_argument("routes", metavar="ROUTES", help="the routes, as GeoJSON")
+    parser.add_argument("output", metavar="OUT.svg|OUT.html", help="the picture or page")
+    parser.add_argument("--label", metavar="COLUMN", help="the property that names a route (default: numbers)")
+    parser.add_argument("--width", metavar="PIXELS", type=pixels, help="of the picture (default: 1000)")
+    parser.add_argument("--whole", action="store_true", help="the whole network, and not only around the routes")
+    parser.add_argument("--tiles", metavar="URL", help="a background for the page, such as https://../{z}/{x}/{y}.png")
+    parser.add_argument("--attribution", metavar="TEXT", help="said beside the network's own: of the tiles, say")
+    options = parser.parse_args()
+    if not options.output.endswith((PICTURE, PAGE)):
+        parser.error(f"OUT ends neither in {PICTURE} nor in {PAGE}")
+    if options.output.endswith(PAGE) and options.width is not None:
+        parser.error("--width is for a picture")
+    if options.output.endswith(PICTURE) and options.tiles is not None:
+        parser.error("--tiles are for a page")
+    if options.tiles is not None and not all(part in options.tiles for part in ("{z}", "{x}", "{y}")):
+        parser.error("the URL of --tiles needs {z}, {x} and {y}")
+    return options
+
+
+def pixels(text: str) -> int:
+    """The value of --width."""
+    value = int(text)
+    if not 200 <= value <= 10_000:
+        raise argparse.ArgumentTypeError(f"{text} isn't from 200 to 10000")
+    return value
+
+
+def main() -> None:
+    options = read_words()
+    routes = read_routes(options.routes, options.label)
+    if not routes:
+        warn(f"{spoken(options.routes)} has no route: the roads alone are drawn")
+    is_picture = options.output.endswith(PICTURE)
+    box, roads = scene_of(options.network, routes, options.whole, is_picture)
+    attribution = ", ".join(filter(None, [attribution_of(options.network), options.attribution]))
+    if is_picture:
+        text = picture_of(routes, roads, View(box, options.width or 1000), attribution)
+    else:
+        text = page_of(routes, roads, attribution, options.tiles)
+    with writing(options.output) as file:
+        file.write(text)

@@ -1,0 +1,111 @@
+"""The page: HTML with its script and Leaflet, of page.html and page.js."""
+import itertools
+import json
+import pathlib
+import re
+import string
+from typing import Any
+
+from ..geometry import box_of, differences
+from ..tool import Fault
+from .picture import FAINT, INK, MOST_WITH_ARROWS, PAPER, escaped
+from .roads import DASHES, KINDS, Lines, all_places
+from .routes import COLOURS, Drawn
+
+LEAFLET = pathlib.Path("/usr/share/javascript/leaflet")
+LEAFLET_COPYRIGHT = pathlib.Path("/usr/share/doc/libjs-leaflet/copyright")
+# The colours of routes where the page is dark.
+LIGHT_COLOURS = ["#3aa0e0", "#f08a3c", "#2bc297", "#e38abb", "#dfae3a", "#7cc4ec", "#c08ad6", "#9dbf4e"]
+
+
+def page_of(routes: list[Drawn], roads: Lines, attribution: str, tiles: str | None) -> str:
+    """The text of the HTML file."""
+    images = "data: file: http: https:" if tiles else "data:"
+    return string.Template(file_here("page.html")).substitute(
+        policy=f"default-src 'none'; script-src 'unsafe-inline'; style-src 'unsafe-inline'; img-src {images}",
+        title=escaped(", ".join(route.label for route in routes[:3]) or "Roads"),
+        leaflet_style=of_leaflet("leaflet.css"),
+        leaflet=f"/*!\n{leaflet_notice()}\n*/\n{of_leaflet('leaflet.min.js')}",
+        data=data_of(routes, roads, attribution, tiles),
+        colours="\n".join(
+            f".colour-{number} {{ --light: {light}; --dark: {dark}; }}"
+            for number, (light, dark) in enumerate(zip(COLOURS, LIGHT_COLOURS))
+        ),
+        script=file_here("page.js").rstrip("\n"),
+        paper=PAPER,
+        ink=INK,
+        faint=FAINT,
+    )
+
+
+def file_here(name: str) -> str:
+    """The text of a file beside this one."""
+    return pathlib.Path(__file__).with_name(name).read_text(encoding="utf-8")
+
+
+def of_leaflet(name: str) -> str:
+    """The text of one of Leaflet's files, without the line that names a map of its source."""
+    return re.sub(r"(//|/\*)# sourceMappingURL=.*", "", package_text(LEAFLET / name)).strip()
+
+
+def leaflet_notice() -> str:
+    """Whose Leaflet is, and its licence, from what Debian's package says of it."""
+    paragraphs = package_text(LEAFLET_COPYRIGHT).split("\n\n")
+    notices = [text for text in paragraphs if text.startswith(("Files: *\n", "License: BSD-2-clause\n"))]
+    if len(notices) != 2:
+        raise Fault("has Leaflet's licence in another form than expected", LEAFLET_COPYRIGHT)
+    return "\n\n".join(["Leaflet", *notices])
+
+
+def package_text(path: pathlib.Path) -> str:
+    """The text of a file of Debian's package libjs-leaflet."""
+    try:
+        return path.read_text(encoding="utf-8")
+    except FileNotFoundError as error:
+        raise Fault("isn't there: pages need Debian's package libjs-leaflet", path) from error
+
+
+def data_of(routes: list[Drawn], roads: Lines, attribution: str, tiles: str | None) -> str:
+    """What the page's script draws, as JSON that may be a part of HTML."""
+    places = list(itertools.chain.from_iterable(route.line for route in routes if route.line)) or all_places(roads)
+    west, south, east, north = box_of(places)
+    data = {
+        "bounds": [[south, west], [north, east]],
+        "attribution": linked(attribution),
+        "tiles": tiles,
+        "mostWithArrows": MOST_WITH_ARROWS,
+        "roads": [
+            {
+                "width": kind.width,
+                "colour": kind.colour,
+                "dark": of_dark.colour,
+                "lines": [differences(line) for line in lines],
+                "dashes": dashes,
+            }
+            for kind, of_dark, lines, dashes in zip(
+                (*KINDS, *KINDS), (*KINDS[::-1], *KINDS[::-1]), roads, (None,) * len(KINDS) + (DASHES,) * len(KINDS)
+            )
+            if lines or dashes is None
+        ],
+        "routes": [route_data(route) for route in routes],
+    }
+    return json.dumps(data, separators=(",", ":")).replace("<", "\\u003c")
+
+
+def route_data(route: Drawn) -> dict[str, Any]:
+    """A route for the page's script; its ends are null where there is no route."""
+    return {
+        "label": route.label,
+        "figures": route.figures,
+        "steps": route.steps,
+        "colour": COLOURS.index(route.colour),
+        "names": [[name, *differences([place])] for name, place in route.names],
+        "ends": route.line and differences([route.line[0], route.line[-1]]),
+        "pieces": [(width, differences(line)) for width, line in route.pieces],
+    }
+
+
+def linked(attribution: str) -> str:
+    """The attribution as HTML, with a link where OpenStreetMap is named, as it asks for."""
+    link = '<a href="https://www.openstreetmap.org/copyright">OpenStreetMap</a>'
+    return escaped(attribution).replace("OpenStreetMap", link)

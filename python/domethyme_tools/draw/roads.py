@@ -1,0 +1,90 @@
+"""The roads that are drawn around routes, by their kinds."""
+import itertools
+import math
+import typing
+
+from domethyme.network.tables import EARTH_RADIUS, Point, arcs_file, arcs_of, points_of
+
+from ..geometry import Box, box_of, plane_of
+from ..tool import Fault
+from .routes import Drawn
+
+
+class Kind(typing.NamedTuple):
+    """How roads of some kinds are drawn, the least important first."""
+
+    highways: tuple[str, ...]
+    width: float
+    colour: str
+
+
+KINDS = [
+    Kind((), 1.2, "#918d86"),
+    Kind(("tertiary",), 1.8, "#8b877f"),
+    Kind(("secondary",), 2.4, "#847f77"),
+    Kind(("primary",), 3, "#7c776e"),
+    Kind(("motorway", "trunk"), 3.6, "#726d64"),
+]
+Lines = list[list[list[Point]]]
+TUNNEL = "tunnel"
+DASHES = "5 4"
+
+
+def kind_of(highway: str) -> int:
+    """The number in KINDS of a kind of highway; a slip road is as the road that it leads to."""
+    plain = highway.removesuffix("_link")
+    return next((number for number, kind in enumerate(KINDS) if plain in kind.highways), 0)
+
+
+def read_roads(network: str, box: Box | None) -> Lines:
+    """For each of KINDS the lines of its roads, and then for each those of its tunnels; a road of two directions comes
+    once, and with a box only those that meet it."""
+    roads: list[list[list[Point]]] = [[] for _ in (*KINDS, *KINDS)]
+    seen = set()
+    path = arcs_file(network)
+    for row, arc in enumerate(arcs_of(network), 2):
+        line = points_of(arc.wkt, path, row)
+        line = min(line, line[::-1])
+        if tuple(line) not in seen and (box is None or box_of(plane_of(line)).meets(box)):
+            seen.add(tuple(line))
+            roads[kind_of(arc.highway) + len(KINDS) * (arc.structure == TUNNEL)].append(line)
+    return roads
+
+
+def box_around(routes: list[Drawn]) -> Box | None:
+    """The box around the routes with room on each side, or None where none has a line."""
+    places = list(itertools.chain.from_iterable(route.line for route in routes if route.line))
+    return roomy_box(places) if places else None
+
+
+def roomy_box(places: list[Point]) -> Box:
+    """The box around places, with a tenth of its greater side, and at least 200 metres, on each side."""
+    box = box_of(plane_of(places))
+    metre = 1 / (2 * math.pi * EARTH_RADIUS * math.cos(math.radians(places[0][1])))
+    return box.grown(max(box.width, box.height) / 10 + 200 * metre)
+
+
+def all_places(roads: Lines) -> list[Point]:
+    """The places of all roads, which aren't none."""
+    return list(itertools.chain.from_iterable(itertools.chain.from_iterable(roads)))
+
+
+def scene_of(network: str, routes: list[Drawn], is_whole: bool, is_picture: bool) -> tuple[Box, Lines]:
+    """The box to show and its roads."""
+    around = None if is_whole else box_around(routes)
+    if around is not None:
+        box = shape_for(is_picture, around)
+        return box, read_roads(network, box)
+    roads = read_roads(network, None)
+    places = all_places(roads)
+    if not places:
+        raise Fault("has no arcs", arcs_file(network))
+    return shape_for(is_picture, roomy_box(places)), roads
+
+
+def shape_for(is_picture: bool, box: Box) -> Box:
+    """The box in a shape that suits a picture, or as wide as a window, with room to move the map, for a page."""
+    if is_picture:
+        return box.shaped(0.56, 1)
+    wide = box.shaped(0.5, 0.7)
+    return wide.grown(wide.height / 4)

@@ -1,0 +1,176 @@
+"""The routes that are drawn, of a file of GeoJSON."""
+import itertools
+import json
+import re
+import typing
+from collections.abc import Iterator
+from typing import Any
+
+from domethyme.network.tables import Point
+from domethyme.texts import reading
+
+from ..geometry import nested, share_of
+from ..tool import Fault
+
+COLOURS = ["#0072b2", "#d55e00", "#009e73", "#cc5f9c", "#b8860b", "#2b8fc7", "#7b3294", "#5b7a1f"]
+NARROWEST, STEP_OF_WIDTH, MOST_NESTED = 4.5, 4, 3
+TOO_LARGE = 1e12
+NO_WAY = "no way"
+NO_NAME = "unnamed road"
+BLANKS = re.compile(r"\s*")
+
+
+class Drawn(typing.NamedTuple):
+    """A route as it is shown: its streets with their ways, its places, or None where there is no route, the names of its
+    streets with a place in the middle of each, and the pieces of its line with their widths."""
+
+    label: str
+    figures: str
+    steps: list[tuple[str, str]]
+    line: list[Point] | None
+    names: list[tuple[str, Point]]
+    colour: str
+    pieces: list[tuple[float, list[Point]]]
+
+
+def read_routes(path: str, label: str | None) -> list[Drawn]:
+    """The routes of a file of GeoJSON."""
+    with reading(path) as stream:
+        try:
+            text = stream.read().decode("utf-8-sig")
+        except UnicodeDecodeError as error:
+            raise Fault("isn't UTF-8", path) from error
+    if not text.strip():
+        raise Fault("is empty: a step that was to write it has failed", path)
+    coloured = enumerate(zip(features_in(text, path), itertools.cycle(COLOURS)), 1)
+    routes = [route_of(feature, Place(path, number), label, colour) for number, (feature, colour) in coloured]
+    return with_pieces(routes)
+
+
+def with_pieces(routes: list[Drawn]) -> list[Drawn]:
+    """The routes with their pieces, which are the wider, the more of the later routes go along them."""
+    pieces = nested([route.line or [] for route in routes], MOST_NESTED)
+    return [
+        route._replace(pieces=[(NARROWEST + STEP_OF_WIDTH * depth, line) for depth, line in of_route])
+        for route, of_route in zip(routes, pieces)
+    ]
+
+
+def features_in(text: str, path: str) -> Iterator[Any]:
+    """The features of a text that has collections and features, one after the other."""
+    decoder, place = json.JSONDecoder(), 0
+    while (start := end_of_blanks(text, place)) < len(text):
+        row = text.count("\n", 0, start) + 1
+        try:
+            document, place = decoder.raw_decode(text, start)
+        except json.JSONDecodeError as error:
+            raise Fault(f"isn't GeoJSON: {error.msg}", path, error.lineno) from error
+        except (RecursionError, ValueError) as error:
+            raise Fault(f"isn't GeoJSON: {error}", path, row) from error
+        yield from features_of(document, path, row)
+
+
+def end_of_blanks(text: str, place: int) -> int:
+    found = BLANKS.match(text, place)
+    return place if found is None else found.end()
+
+
+def features_of(document: Any, path: str, row: int) -> Any:
+    """The features of a collection, or a feature alone."""
+    kind = document.get("type") if isinstance(document, dict) else None
+    if kind == "Feature":
+        return [document]
+    if kind != "FeatureCollection" or not isinstance(document.get("features"), list):
+        raise Fault("is neither a feature nor a collection of features", path, row)
+    return document["features"]
+
+
+class Place(typing.NamedTuple):
+    """Where a feature is: the file, and its number there."""
+
+    path: str
+    number: int
+
+    def need(self, is_so: object, problem: str) -> None:
+        """Refuses the feature where it isn't so."""
+        if not is_so:
+            raise Fault(f"feature {self.number} {problem}", self.path)
+
+
+def route_of(feature: Any, place: Place, label: str | None, colour: str) -> Drawn:
+    """A feature as a route, still without pieces."""
+    place.need(isinstance(feature, dict) and isinstance(feature.get("properties"), dict), "has no properties")
+    properties = feature["properties"]
+    place.need(label is None or label in properties, f"has no property {label}")
+    name = f"route {place.number}" if label is None else str(properties[label])
+    line = line_of(feature.get("geometry"), place)
+    if line is None:
+        return Drawn(name, NO_WAY, [], None, [], colour, [])
+    metres, seconds = (amount(properties, name, place) for name in ("metres", "seconds"))
+    figures = kilometres(metres) if metres and not seconds else f"{kilometres(metres)}, {minutes(seconds)}"
+    steps = steps_of(properties, place)
+    shown = [(street or NO_NAME, way_of(way)) for street, way in steps]
+    return Drawn(name, figures, shown, line, names_along(line, steps), colour, [])
+
+
+def line_of(geometry: Any, place: Place) -> list[Point] | None:
+    """The places of a geometry, or None where there is none."""
+    if geometry is None:
+        return None
+    is_line = isinstance(geometry, dict) and geometry.get("type") == "LineString"
+    places = geometry.get("coordinates") if is_line else None
+    place.need(isinstance(places, list) and len(places) > 1 and all(map(is_place, places)), "has no line of places")
+    return [(lon, lat) for lon, lat, *_ in places]
+
+
+def is_place(value: Any) -> bool:
+    """Whether a value of JSON is a place in degrees."""
+    is_pair = isinstance(value, list) and len(value) >= 2 and all(map(is_number, value[:2]))
+    return is_pair and abs(value[0]) <= 180 and abs(value[1]) <= 90
+
+
+def is_number(value: Any) -> bool:
+    """Whether a value of JSON is a number of a size that can be drawn."""
+    return isinstance(value, (int, float)) and not isinstance(value, bool) and abs(value) < TOO_LARGE
+
+
+def amount(properties: dict[str, Any], name: str, place: Place) -> float:
+    """A property that is a number, 0 or more."""
+    value: Any = properties.get(name)
+    place.need(is_number(value) and value >= 0, f"has no number {name}")
+    return float(value)
+
+
+def steps_of(properties: dict[str, Any], place: Place) -> list[tuple[str, float]]:
+    """The streets of a route with their metres; none where it has no steps."""
+    steps = properties.get("steps", [])
+    place.need(isinstance(steps, list) and all(isinstance(step, dict) for step in steps), "has no list of steps")
+    return [(str(step.get("name") or ""), amount(step, "metres", place)) for step in steps]
+
+
+def names_along(line: list[Point], steps: list[tuple[str, float]]) -> list[tuple[str, Point]]:
+    """Each street that has a name, with the place in the middle of it, the longest first."""
+    whole, behind, found = sum(way for _, way in steps), 0.0, []
+    for name, way in steps:
+        if name and way > 0:
+            found.append((way, name, share_of(line, (behind + way / 2) / whole)))
+        behind += way
+    return [(name, place) for _, name, place in sorted(found, key=lambda each: -each[0])]
+
+
+def way_of(metres: float) -> str:
+    """The way along a street: whole metres below a kilometre."""
+    return f"{round(metres)} m" if round(metres) < 1000 else kilometres(metres)
+
+
+def kilometres(metres: float) -> str:
+    """A distance as legends show it: two digits after the point below 10 km, and one from there on."""
+    return f"{metres / 1000:.1f} km" if metres >= 10_000 else f"{metres / 1000:.2f} km"
+
+
+def minutes(seconds: float) -> str:
+    """A time as legends show it: tenths of minutes below 10 minutes, and else minutes, or hours and minutes."""
+    if seconds < 600:
+        return f"{seconds / 60:.1f} min"
+    whole = round(seconds / 60)
+    return f"{whole} min" if whole < 60 else f"{whole // 60} h {whole % 60} min"

@@ -1,0 +1,94 @@
+"""Fetches a real extract of OpenStreetMap to try the tools with: Liechtenstein as it was on 3 August 2013.
+
+FOLDER/liechtenstein-2013-08-03.osm.pbf is written, 592,570 bytes: 65,733 nodes and 7,121 ways. It comes out of Debian's
+source package of osm2pgsql, which is fetched by apt-get with a list of sources of its own: nothing on the machine is
+changed, and no root is needed. Some 12 MB go over the network. Its SHA-256 is compared before it is written; if the
+right file is there already nothing is fetched. The data is © OpenStreetMap contributors, under the ODbL 1.0.
+
+Status 0: the extract is there. 1: it can't be had, one line says why, and nothing is written. 2: the arguments
+were refused.
+"""
+import argparse
+import hashlib
+import pathlib
+import subprocess
+import tarfile
+import tempfile
+
+from domethyme.files import writing
+
+from .tool import Fault, warn, words
+
+NAME = "liechtenstein-2013-08-03.osm.pbf"
+SHA256 = "edb2b075be057662691fc343abed4ed58f139dd7c501c243197640fcb3ea82d4"
+PACKAGE = "osm2pgsql=1.8.0+ds-1"
+KEYRING = "/usr/share/keyrings/debian-archive-keyring.gpg"
+SOURCES = f"deb-src [signed-by={KEYRING}] http://deb.debian.org/debian bookworm main\n"
+
+
+def is_extract(data: bytes) -> bool:
+    return hashlib.sha256(data).hexdigest() == SHA256
+
+
+def fetched(folder: pathlib.Path) -> bytes:
+    """The bytes of the extract, by way of an empty folder."""
+    sources = folder / "sources.list"
+    sources.write_text(SOURCES, encoding="ascii")
+    settings = {
+        "Dir::Etc::SourceList": sources,
+        "Dir::Etc::SourceParts": "/dev/null",
+        "Dir::State": folder / "state",
+        "Dir::Cache": folder / "cache",
+        "APT::Sandbox::User": "",
+        "Acquire::http::Timeout": 20,
+        "Acquire::Retries": 1,
+        "APT::Update::Error-Mode": "any",
+    }
+    for lists in ("state/lists/partial", "cache/archives/partial"):
+        (folder / lists).mkdir(parents=True)
+    options = [word for name, value in settings.items() for word in ("-o", f"{name}={value}")]
+    apt_get(folder, *options, "update")
+    apt_get(folder, *options, "source", "--download-only", "--tar-only", PACKAGE)
+    return taken_out(folder)
+
+
+def apt_get(folder: pathlib.Path, *words: str) -> None:
+    """Runs apt-get in the folder."""
+    try:
+        subprocess.run(["apt-get", "-qq", *words], cwd=folder, stdin=subprocess.DEVNULL, capture_output=True, check=True)
+    except FileNotFoundError as error:
+        raise Fault(f"{NAME} can't be had: there is no apt-get on this machine") from error
+    except subprocess.CalledProcessError as error:
+        said = error.stderr.decode("utf-8", "replace").splitlines()
+        reason = next((line.removeprefix("E: ") for line in said if line.startswith("E: ")), "nothing")
+        raise Fault(f"{NAME} can't be had: apt-get says: {reason}") from error
+
+
+def taken_out(folder: pathlib.Path) -> bytes:
+    """The bytes of the extract in the source package that lies in the folder."""
+    for package in folder.glob("osm2pgsql_*.tar.*"):
+        with tarfile.open(package) as archive:
+            for member in archive:
+                is_it = pathlib.PurePath(member.name).name == NAME and member.isfile()
+                if is_it and (found := archive.extractfile(member)) is not None:
+                    return found.read()
+    raise Fault(f"{NAME} can't be had: Debian's source package hasn't got it")
+
+
+def read_words() -> argparse.Namespace:
+    parser = words(__doc__)
+    parser.add_argument("folder", metavar="FOLDER", nargs="?", default=".", help="where the extract goes (.)")
+    return parser.parse_args()
+
+
+def main() -> None:
+    target = pathlib.Path(read_words().folder) / NAME
+    if target.is_file() and is_extract(target.read_bytes()):
+        warn(f"{target} is there already")
+        return
+    with writing(target, "wb") as file, tempfile.TemporaryDirectory(prefix="fetch-extract-") as folder:
+        data = fetched(pathlib.Path(folder))
+        if not is_extract(data):
+            raise Fault(f"{NAME} can't be had: Debian's source package has another file of that name")
+        file.write(data)
+    warn(f"{target}: {len(data)} bytes")

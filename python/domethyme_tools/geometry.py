@@ -1,0 +1,198 @@
+"""Lines of a map on a flat picture: the projection, boxes, a view of a given width, and lines as pictures want them.
+
+A place is (longitude, latitude) in degrees. Its point on the plane is (x, y) by the projection of web maps, Mercator's
+on a sphere: x goes from 0 at 180 degrees west to 1 at 180 degrees east, and y from 0 in the north to 1 in the south.
+
+    plane_of(places)             their points
+    joined(lines)                lines of places, each from where the one before ends, as one line
+    nested(lines, most)          each line in pieces, by how many of the later lines share them
+    box_of(points)               the Box around points; `.grown(margin)`, `.shaped(least, most)`, `.meets(box)`
+    View(box, width)             a picture of a box: `.height`, `.pixels(points)`, `.metres_of_a_pixel`
+    path_of(pixels)              a line as the text of an SVG path, to the tenth of a pixel
+    arrows(pixels, every)        where arrows are along a line, and which way they point
+    share_of(places, share)      the place at which a share of a line's way, from 0 to 1, is behind
+    differences(places)          a line as whole numbers, for pages: millionths of a degree, each from the one before
+    bar_for(metres)              the greatest length of a scale bar that is at most that: 1, 2 or 5 and zeros
+"""
+import collections
+import itertools
+import math
+from collections.abc import Iterable, Sequence
+from typing import NamedTuple, TypeVar
+
+from domethyme.network.tables import EARTH_RADIUS, Point
+
+Line = Sequence[Point]
+Piece = tuple[int, list[Point]]
+
+GREATEST_LATITUDE = 85.05
+MILLIONTHS = 1_000_000
+TENTHS = 10
+
+Value = TypeVar("Value")
+Edges = collections.Counter[tuple[Point, Point]]
+
+
+def plane_of(places: Iterable[Point]) -> list[Point]:
+    """The points of places on the plane. Latitudes beyond 85.05 degrees are taken as 85.05, as web maps do."""
+    return [(0.5 + lon / 360, 0.5 - height_of(lat)) for lon, lat in places]
+
+
+def height_of(latitude: float) -> float:
+    """How far north of the equator a latitude lies on the plane, in the width of the world."""
+    phi = math.radians(max(-GREATEST_LATITUDE, min(GREATEST_LATITUDE, latitude)))
+    return math.asinh(math.tan(phi)) / (2 * math.pi)
+
+
+def joined(lines: Iterable[Iterable[Point]]) -> list[Point]:
+    """One line through all places of several lines, in order, without a place that is the one before it again."""
+    return without_repeats(itertools.chain.from_iterable(lines))
+
+
+def without_repeats(values: Iterable[Value]) -> list[Value]:
+    """The values in order, but those that are equal to the one before."""
+    return [value for value, _ in itertools.groupby(values)]
+
+
+def nested(lines: Sequence[Line], most: int) -> list[list[Piece]]:
+    """For each line its pieces in order, (depth, places): along a piece go `depth` of the later lines, or `most` where
+    there are more, in either direction."""
+    later: Edges = collections.Counter()
+    found: list[list[Piece]] = []
+    for line in reversed(lines):
+        found.append(pieces_of(line, later, most))
+        later.update({undirected(edge) for edge in itertools.pairwise(line)})
+    return found[::-1]
+
+
+def pieces_of(line: Line, later: Edges, most: int) -> list[Piece]:
+    """The pieces of a line, where `later` counts the lines along each of its undirected edges."""
+    pieces: list[Piece] = []
+    by_depth = itertools.groupby(itertools.pairwise(line), key=lambda edge: min(later[undirected(edge)], most))
+    for depth, edges in by_depth:
+        starts, ends = zip(*edges)
+        pieces.append((depth, [starts[0], *ends]))
+    return pieces
+
+
+def arrows(pixels: Line, every: float) -> list[tuple[Point, Point]]:
+    """The points along a line at half of `every` pixels, and then each `every`, with the direction there, of length 1."""
+    found, due = [], every / 2
+    for (x, y), (next_x, next_y) in itertools.pairwise(pixels):
+        length = math.hypot(next_x - x, next_y - y)
+        while due < length:
+            east, south = (next_x - x) / length, (next_y - y) / length
+            found.append(((x + due * east, y + due * south), (east, south)))
+            due += every
+        due -= length
+    return found
+
+
+def share_of(places: Line, share: float) -> Point:
+    """The place at which a share of the line's way, from 0 to 1, is behind. For lines that are short beside the earth."""
+    narrow = math.cos(math.radians(places[0][1]))
+    steps = itertools.pairwise(places)
+    lengths = [math.hypot((end[0] - start[0]) * narrow, end[1] - start[1]) for start, end in steps]
+    left = share * sum(lengths)
+    for (start, end), length in zip(itertools.pairwise(places), lengths):
+        if left <= length > 0:
+            part = left / length
+            return start[0] + (end[0] - start[0]) * part, start[1] + (end[1] - start[1]) * part
+        left -= length
+    return places[-1]
+
+
+def undirected(edge: tuple[Point, Point]) -> tuple[Point, Point]:
+    return min(edge), max(edge)
+
+
+class Box(NamedTuple):
+    """A rectangle of the plane, its sides along the axes; `top` is the smaller y."""
+
+    left: float
+    top: float
+    right: float
+    bottom: float
+
+    @property
+    def width(self) -> float:
+        return self.right - self.left
+
+    @property
+    def height(self) -> float:
+        return self.bottom - self.top
+
+    def grown(self, margin: float) -> "Box":
+        """The box with a margin on each side."""
+        return Box(self.left - margin, self.top - margin, self.right + margin, self.bottom + margin)
+
+    def shaped(self, least: float, most: float) -> "Box":
+        """The box, made wider or higher about its middle until height / width is from `least` to `most`."""
+        wider = max(0, self.height / most - self.width) / 2
+        higher = max(0, self.width * least - self.height) / 2
+        return Box(self.left - wider, self.top - higher, self.right + wider, self.bottom + higher)
+
+    def meets(self, other: "Box") -> bool:
+        """Whether the boxes have a point in common."""
+        beside = self.right < other.left or other.right < self.left
+        return not (beside or self.bottom < other.top or other.bottom < self.top)
+
+
+def box_of(points: Iterable[Point]) -> Box:
+    """The least box around one or more points."""
+    across, down = zip(*points)
+    return Box(min(across), min(down), max(across), max(down))
+
+
+class View:
+    """A picture, `width` pixels wide, of a box of the plane whose width is above 0."""
+
+    def __init__(self, box: Box, width: float) -> None:
+        self.box = box
+        self.width = width
+        self.scale = width / box.width
+        self.height = round(box.height * self.scale)
+
+    def pixels(self, points: Iterable[Point]) -> list[Point]:
+        """Where points of the plane lie in the picture, from its upper left corner."""
+        return [((x - self.box.left) * self.scale, (y - self.box.top) * self.scale) for x, y in points]
+
+    @property
+    def metres_of_a_pixel(self) -> float:
+        """The length of a pixel on the ground, in the middle of the picture."""
+        north = 0.5 - (self.box.top + self.box.bottom) / 2
+        return 2 * math.pi * EARTH_RADIUS / math.cosh(2 * math.pi * north) / self.scale
+
+
+def path_of(pixels: Iterable[Point]) -> str:
+    """A line as the text of an SVG path, in steps from pixel to pixel; steps of less than a tenth are left out."""
+    rounded = without_repeats([(round(x * TENTHS), round(y * TENTHS)) for x, y in pixels])
+    (x, y), *steps = rounded
+    text = [f"M{tenths(x)} {tenths(y)}l"]
+    if not steps:
+        return text[0] + "0 0"
+    for before, after in zip(rounded, steps):
+        text.append(f"{tenths(after[0] - before[0])} {tenths(after[1] - before[1])} ")
+    return "".join(text).rstrip()
+
+
+def tenths(number: int) -> str:
+    """The decimal number of a count of tenths, without a zero behind the point."""
+    return f"{number / TENTHS:g}"
+
+
+def differences(places: Iterable[Point]) -> list[int]:
+    """A line as a flat list of whole millionths of a degree: the first place, and each other as its difference from the
+    one before, longitude first."""
+    whole = [(round(lon * MILLIONTHS), round(lat * MILLIONTHS)) for lon, lat in places]
+    numbers = [*whole[0]]
+    for before, after in zip(whole, whole[1:]):
+        numbers += (after[0] - before[0], after[1] - before[1])
+    return numbers
+
+
+def bar_for(metres: float) -> float:
+    """The greatest of .., 0.5, 1, 2, 5, 10, 20, .. that is at most a number of metres above 0."""
+    below = math.floor(math.log10(metres)) - 1
+    bars = [step * 10.0**power for power in (below, below + 1) for step in (1, 2, 5)]
+    return max(bar for bar in bars if bar <= metres)

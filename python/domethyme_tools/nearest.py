@@ -1,0 +1,268 @@
+"""Finds the node of a network nearest to each place of a table, and writes the pairs that `routecli route` answers.
+
+NETWORK is the beginning of the names of a network's files, of which NETWORK.nodes.csv is read, or a file of coordinates
+of the DIMACS challenge, whose name ends in `.co`.
+
+TRIPS is a CSV file with a row for each trip and the columns from_lon, from_lat, to_lon and to_lat, in degrees; they
+are in any order, and other columns are the user's own. With --matrix it has a row for each place and the columns lon
+and lat, and the pairs lead from each place to each, itself included: K places make K * K pairs, first those from the
+first place, in the table's order. With --matrix TRIPS may be a `.co` file too. `-` is standard input.
+
+PAIRS is a query file: `p aux sp p2p K`, and a line `q S T` for each trip, in order.
+
+--snapped FILE gets a CSV row for each pair, in order: the columns of its row of TRIPS, and from_node, from_metres,
+to_node, to_metres, which are the nodes and how far they are. With --matrix the columns of both places are there, with
+from_ and to_ before their names. FILE is whole before PAIRS begins, so `to_geojson --trips FILE` may read it further
+down the same pipe.
+
+--on-roads writes a line `b S1 C1 .. : T1 D1 ..` for each trip in place of PAIRS, which `routecli serve` replies to and
+`to_geojson --on-roads` makes routes of: each place is taken at the nearest point of a road, which is cut there.
+
+Distances are along the great circle. Which of several nodes at the same distance is taken isn't promised. A file that
+is written is whole or not there.
+
+Exit status: 0; 1 for bad input or a failed write, with one line on standard error that names file and row; 2 for
+arguments that are refused.
+"""
+import argparse
+import csv
+import itertools
+import math
+import sys
+import typing
+from collections.abc import Collection, Iterable, Iterator, Sequence
+from typing import Any
+
+import numpy
+
+from domethyme.files import writing
+from domethyme.network.network import Nearest
+from domethyme.network.tables import Point, Side, nodes_file, read_nodes
+from domethyme.texts import MOST_LINES, number, shown, table, write_pairs
+
+from .tool import Fault, words
+
+SIDES: tuple[Side, Side] = ("from", "to")
+ENDS_OF_TRIP = ("from_", "to_")
+ONE_PLACE = ("",)
+SWAPPED = "are longitude and latitude in each other's place?"
+
+
+def read_words() -> argparse.Namespace:
+    parser = words(__doc__)
+    parser.add_argument("network", metavar="NETWORK", help="the network, or a .co file")
+    parser.add_argument("trips", metavar="TRIPS", help="the table of trips, or with --matrix of places")
+    parser.add_argument("-o", dest="output", metavar="PAIRS", default="-", help="by default standard output")
+    parser.add_argument(
+        "--within",
+        metavar="METRES",
+        type=distance,
+        default=1000.0,
+        help="refuse a place that is further from each node (default: 1000)",
+    )
+    parser.add_argument("--skip-far", action="store_true", help="leave out trips with such a place, and report how many")
+    parser.add_argument("--matrix", action="store_true", help="from each place to each")
+    parser.add_argument("--snapped", metavar="FILE", help="write the table of trips with their nodes too")
+    parser.add_argument("--on-roads", action="store_true", help="write lines for routecli serve, with places on roads")
+    options = parser.parse_args()
+    if options.on_roads and (options.matrix or options.skip_far or options.snapped):
+        parser.error("--on-roads goes with neither --matrix, --skip-far nor --snapped")
+    if options.trips.endswith(".co") and not options.matrix:
+        parser.error("a .co file has places and no trips: --matrix is needed")
+    if options.snapped == options.output:
+        parser.error("PAIRS and --snapped are one file")
+    return options
+
+
+def distance(text: str) -> float:
+    """The value of --within, in metres."""
+    value = float(text)
+    if not (math.isfinite(value) and value >= 0):
+        raise argparse.ArgumentTypeError(f"{text} isn't a distance")
+    return value
+
+
+class Trips(typing.NamedTuple):
+    """A table of trips or places. `ends` has the degrees of its places, by the beginnings of their columns' names."""
+
+    path: str
+    columns: list[str]
+    rows: list[int | None]
+    fields: list[list[Any]]
+    ends: dict[str, list[Point]]
+
+
+def read_trips(path: str, beginnings: Sequence[str]) -> Trips:
+    """The trips of a CSV file."""
+    with table(path, [beginning + axis for beginning in beginnings for axis in ("lon", "lat")]) as records:
+        trips = Trips(path, records.columns, [], [], {beginning: [] for beginning in beginnings})
+        for row, fields in records:
+            for beginning in beginnings:
+                lon = degrees(fields, f"{beginning}lon", 180, path, row)
+                trips.ends[beginning].append((lon, degrees(fields, f"{beginning}lat", 90, path, row)))
+            trips.rows.append(row)
+            trips.fields.append(list(fields.values()))
+    return trips
+
+
+def degrees(fields: dict[str, str], column: str, most: float, path: str, row: int) -> float:
+    """The number in a column of a row, from -most to most."""
+    value = number(fields[column], column, path, row)
+    if abs(value) > most:
+        doubt = SWAPPED if abs(value) <= 180 else "are these degrees?"
+        raise Fault(f"{column} {shown(fields[column])} isn't from -{most} to {most}: {doubt}", path, row)
+    return value
+
+
+def places_of_coordinates(path: str) -> Trips:
+    """The places of a .co file as a table with the columns place, lon and lat."""
+    nodes = read_nodes(path)
+    places = list(zip(nodes.lon, nodes.lat))
+    numbers = range(1, len(places) + 1)
+    fields = [[place, lon, lat] for place, (lon, lat) in zip(numbers, places)]
+    return Trips(path, ["place", "lon", "lat"], [None] * len(places), fields, {"": places})
+
+
+class Places:
+    """The nodes of a network, for look-ups by place."""
+
+    def __init__(self, path: str) -> None:
+        nodes = read_nodes(path)
+        self.sides = {side: Nearest(nodes, side, path) for side in SIDES}
+        ends = numpy.array(nodes.ends)
+        begins = {nodes.osm[node]: node for node in numpy.flatnonzero(ends == "from").tolist()}
+        twins = {node + 1: begins.get(nodes.osm[node], node) + 1 for node in numpy.flatnonzero(ends == "to").tolist()}
+        self.twins = numpy.arange(len(ends) + 1)
+        self.twins[list(twins)] = list(twins.values())
+
+    def nodes_at(self, places: list[Point], side: Side = "from") -> tuple[Any, Any]:
+        """The nearest node of each (lon, lat) where routes begin (from) or end (to), and the metres to it, as arrays."""
+        nodes, metres = self.sides[side].at(*numpy.array(places, dtype=float).reshape(-1, 2).T)
+        return nodes + 1, metres
+
+    def met(self, starts: Any, ends: Any) -> Any:
+        """The nodes at the ends of routes, where one that ends at the junction where it begins stays there."""
+        return numpy.where(self.twins[ends] == starts, starts, ends)
+
+
+class Snapped(typing.NamedTuple):
+    """The trips whose places are near enough: their fields, and for each end of a route (from, to) the nodes and metres."""
+
+    fields: list[list[Any]]
+    nodes: dict[str, Any]
+    metres: dict[str, Any]
+
+
+def snap(trips: Trips, nearest: Places, within: float, skip_far: bool) -> Snapped:
+    """Snaps each trip. One with a place that is too far is left out, or refused."""
+    found = {side: nearest.nodes_at(trips.ends[f"{side}_" if f"{side}_" in trips.ends else ""], side) for side in SIDES}
+    far = numpy.logical_or.reduce([distances > within for _, distances in found.values()])
+    if far.any():
+        if not skip_far:
+            raise far_fault(trips, int(far.argmax()), found, nearest, within)
+        print(f"nearest: left out {far.sum()} of {len(far)} rows, which are too far from each node", file=sys.stderr)
+    return Snapped(
+        [fields for fields, is_far in zip(trips.fields, far) if not is_far],
+        {side: nodes[~far] for side, (nodes, _) in found.items()},
+        {side: distances[~far] for side, (_, distances) in found.items()},
+    )
+
+
+def far_fault(trips: Trips, trip: int, found: dict[Side, Any], nearest: Places, within: float) -> Fault:
+    """What to report of a trip with a place that is too far."""
+    side = next(side for side, (_, distances) in found.items() if distances[trip] > within)
+    beginning = "" if "" in trips.ends else f"{side}_"
+    lon, lat = trips.ends[beginning][trip]
+    message = f"{beginning}lon {lon}, {beginning}lat {lat} is {found[side][1][trip]:,.0f} m from the nearest node"
+    if abs(lon) <= 90 and nearest.nodes_at([(lat, lon)])[1][0] <= within:
+        message += f": {SWAPPED}"
+    else:
+        message += f", and --within is {within:g} m"
+    return Fault(message, trips.path, trips.rows[trip])
+
+
+class Matrix(Collection[tuple[int, int]]):
+    """The pairs from each place to each, in order, without room for all of them at once."""
+
+    def __init__(self, snapped: Snapped, nearest: Places) -> None:
+        self.starts, self.ends, self.nearest = snapped.nodes["from"], snapped.nodes["to"], nearest
+
+    def __len__(self) -> int:
+        return len(self.starts) ** 2
+
+    def __contains__(self, pair: object) -> bool:
+        return any(pair == each for each in self)
+
+    def __iter__(self) -> Iterator[tuple[int, int]]:
+        for start in self.starts.tolist():
+            yield from zip(itertools.repeat(start), self.nearest.met(start, self.ends).tolist())
+
+
+def pairs_of(snapped: Snapped, nearest: Places, is_matrix: bool) -> Collection[tuple[int, int]]:
+    """The pairs of nodes, in order."""
+    if is_matrix:
+        return Matrix(snapped, nearest)
+    starts, ends = snapped.nodes["from"], snapped.nodes["to"]
+    return list(zip(starts.tolist(), nearest.met(starts, ends).tolist()))
+
+
+def snapped_columns(trips: Trips, is_matrix: bool) -> list[str]:
+    """The names of the columns of --snapped, which are all different."""
+    users = trips.columns
+    if is_matrix:
+        users = [beginning + column for beginning in ENDS_OF_TRIP for column in trips.columns]
+    columns = users + [beginning + column for beginning in ENDS_OF_TRIP for column in ("node", "metres")]
+    for name in users:
+        if columns.count(name) > 1:
+            raise Fault(f"--snapped would have two columns {name}: rename one", trips.path, 1)
+    return columns
+
+
+def snapped_rows(snapped: Snapped, pairs: Iterable[tuple[int, int]], is_matrix: bool) -> Iterator[list[Any]]:
+    """The rows of --snapped, one for each pair."""
+    fields, ways = snapped.fields, [[f"{metres:.1f}" for metres in snapped.metres[side].tolist()] for side in SIDES]
+    if is_matrix:
+        rows = itertools.product(range(len(fields)), repeat=2)
+        for (source, target), (start, end) in zip(rows, pairs):
+            yield [*fields[source], *fields[target], start, ways[0][source], end, ways[1][target]]
+    else:
+        for own, (start, end), there, back in zip(fields, pairs, *ways):
+            yield [*own, start, there, end, back]
+
+
+def write_snapped(path: str, columns: list[str], rows: Iterable[list[Any]]) -> None:
+    with writing(path) as file:
+        table_writer = csv.writer(file, lineterminator="\n")
+        table_writer.writerow(columns)
+        table_writer.writerows(rows)
+
+
+def write_requests(options: argparse.Namespace) -> None:
+    """Writes a line for `routecli serve` for each trip, with its places on roads."""
+    from .on_roads import request_lines
+
+    trips = read_trips(options.trips, ENDS_OF_TRIP)
+    rows = zip(trips.rows, trips.ends["from_"], trips.ends["to_"])
+    with writing(options.output) as file:
+        file.writelines(f"{line}\n" for line in request_lines(options.network, rows, options.within, trips.path))
+
+
+def main() -> None:
+    options = read_words()
+    if options.on_roads:
+        write_requests(options)
+        return
+    nearest = Places(nodes_file(options.network))
+    if options.trips.endswith(".co"):
+        trips = places_of_coordinates(options.trips)
+    else:
+        trips = read_trips(options.trips, ONE_PLACE if options.matrix else ENDS_OF_TRIP)
+    columns = snapped_columns(trips, options.matrix) if options.snapped else []
+    snapped = snap(trips, nearest, options.within, options.skip_far)
+    pairs = pairs_of(snapped, nearest, options.matrix)
+    if len(pairs) > MOST_LINES:
+        raise Fault(f"has {len(snapped.fields)} places, which make more than {MOST_LINES} pairs", options.trips)
+    if options.snapped:
+        write_snapped(options.snapped, columns, snapped_rows(snapped, pairs, options.matrix))
+    with writing(options.output) as file:
+        write_pairs(file, pairs)

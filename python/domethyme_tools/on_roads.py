@@ -1,0 +1,119 @@
+"""Places on roads, by the service's rule (docs/SERVICE.md): the nearest point of a road, which is cut there in both directions.
+
+    request_lines(network, places, within, path)     a line `b S1 C1 .. : T1 D1 ..` of `routecli serve` for each trip
+    routes_on_roads(network, replies, path, places)  a RoadRoute for each trip, by the replies to those lines, in order
+
+Trips are (row, (lon, lat), (lon, lat)). The work is that of the package domethyme_service.
+"""
+import itertools
+from collections.abc import Iterable, Iterator
+from typing import Any, NamedTuple
+
+from domethyme.lines import is_reply_to, ready_of
+from domethyme.network.tables import Point, refuse_wrong_endings
+from domethyme.program import StrPath
+from domethyme.texts import reading
+
+from .tool import Fault, packages
+
+with packages():
+    from domethyme_service.courses import course_of, leg_figures
+    from domethyme_service.errors import Refused
+    from domethyme_service.legs import SIDES, STAYS, is_at, leg_of, requests
+    from domethyme_service.roads import Roads, Spot
+
+Trip = tuple[int | None, Point, Point]
+
+
+class RoadRoute(NamedTuple):
+    """A trip's row, its length in the graph's weights or None, how many arcs it has a part of, seconds, metres, the streets with
+    their metres and seconds, and the line."""
+
+    row: int | None
+    length: int | None
+    arcs: int | None
+    seconds: float | None
+    metres: float | None
+    steps: list[dict[str, Any]] | None
+    line: list[list[float]] | None
+
+
+def roads_of(network: StrPath) -> Roads:
+    """The network's roads. Those of a DIMACS file have no lines."""
+    refuse_wrong_endings(network)
+    if str(network).endswith(".co"):
+        raise Fault("has no roads but nodes: --on-roads is for networks of osm_to_gr", network)
+    return Roads(str(network))
+
+
+def spots_of(roads: Roads, trip: Trip, within: float, path: str) -> tuple[Spot, Spot]:
+    """The points of roads that are nearest to a trip's places. Raises Fault for one that is too far."""
+    row, *places = trip
+    found = []
+    for side, place in zip(("from", "to"), places):
+        spot = roads.nearest(place)[0]
+        if spot.metres > within:
+            where = f"{side}_lon {place[0]}, {side}_lat {place[1]}"
+            raise Fault(f"{where} is {spot.metres:,.0f} m from the nearest road, and --within is {within:g} m", path, row)
+        found.append(spot)
+    return found[0], found[1]
+
+
+def request_of(start: Spot, end: Spot, path: str, row: int | None) -> bytes:
+    """The one line that asks for a trip; where nothing has to be asked, one that any reply will do for."""
+    if is_at(start, end):
+        node = start.copies[0]
+        return b"b %d 0 : %d 0" % (node, node)
+    lines = requests(start, end)
+    if len(lines) != 1:
+        raise Fault(f"begins or ends at a junction with more than {SIDES} nodes, which one line can't ask for", path, row)
+    return lines[0]
+
+
+def request_lines(network: StrPath, trips: Iterable[Trip], within: float, path: str) -> Iterator[str]:
+    roads = roads_of(network)
+    for trip in trips:
+        yield request_of(*spots_of(roads, trip, within, path), path, trip[0]).decode()
+
+
+def routes_on_roads(network: StrPath, replies: str, path: str, trips: Iterable[Trip]) -> Iterator[RoadRoute]:
+    """The routes by the replies in a file, of which the first line is `ready NODES LINKS 2`."""
+    roads, others = roads_of(network), iter(trips)
+    with reading(replies) as stream:
+        lines = enumerate(stream, 1)
+        _, first = next(lines, (1, b""))
+        ready = ready_of(first)
+        if ready is None or ready[0] != roads.nodes:
+            raise Fault(f"is no reply of routecli serve with {roads.nodes} nodes", replies, 1)
+        for row, line in lines:
+            trip = next(others, None)
+            if trip is None:
+                raise Fault(f"is a reply more than {path} has rows", replies, row)
+            yield route_of(roads, trip, line.rstrip(b"\n"), path, replies, row)
+        if (more := next(others, None)) is not None:
+            raise Fault("is a row more than there are replies", path, more[0])
+
+
+def route_of(roads: Roads, trip: Trip, reply: bytes, path: str, replies: str, row: int) -> RoadRoute:
+    """A trip's route by its reply, whose weights have to sum to its length."""
+    start, end = spots_of(roads, trip, float("inf"), path)
+    if not is_reply_to(request_of(start, end, path, trip[0]), reply):
+        raise Fault(f"is no reply to the request of row {trip[0]}", replies, row)
+    try:
+        leg = STAYS if is_at(start, end) else leg_of(roads, start, end, [reply])
+    except (Refused, ValueError) as error:
+        raise Fault(f"{error}: is it of another network?", replies, row) from error
+    if leg is None:
+        return RoadRoute(trip[0], None, None, None, None, None, None)
+    course = course_of(roads, leg)
+    figures = leg_figures(roads, leg, course)
+    if course is None:
+        return RoadRoute(trip[0], 0, 0, 0.0, 0.0, [], [[start.lon, start.lat], [end.lon, end.lat]])
+    names = [roads.arc(arc).name for arc in leg.arcs]
+    begins = [place for place, name in enumerate(names) if not place or names[place - 1] != name]
+    steps = []
+    for low, high in itertools.pairwise([*begins, len(names)]):
+        part = course.figures(low, high)
+        steps.append({"name": names[low], "metres": part["distance"], "seconds": part["duration"]})
+    line = course.line(0, len(names))
+    return RoadRoute(trip[0], leg.weight, len(names), figures["duration"], figures["distance"], steps, line)

@@ -1,0 +1,283 @@
+"""The parts of a query file: how it is cut, what is kept of a run between two calls, and how the answers are joined.
+
+Beside OUT is the folder OUT.parts while a run isn't done:
+
+    lock               what a run holds while it works here
+    plan.json          of what the parts are, and how many pairs and bytes each has; there once the cut is whole
+    whole.pairs        the query file, as it came
+    000000.pairs ..    the parts: a problem line, and the lines of their pairs
+    000000.answers ..  what `routecli route` prints for each, whole or not there
+    drafts-*/          the files of one run that aren't whole yet. Each run has a folder of its own, so what a worker that
+                       was left alone still writes for an earlier run never comes among the parts of a later one.
+
+Other files in it are left alone, and with them the folder.
+
+    opened(out, anew)   with-block: the Folder of OUT, which no other run has meanwhile
+    spool(path, to)     the Survey of a query file, which it copies
+"""
+import contextlib
+import errno
+import fcntl
+import hashlib
+import itertools
+import json
+import os
+import re
+import shutil
+import socket
+import typing
+import uuid
+from collections.abc import Callable, Iterable, Iterator
+from typing import IO, Any
+
+from domethyme.files import remove_if_there, writing
+from domethyme.texts import MOST_LINES, reading
+
+from .tool import Fault
+
+BLOCK = 1 << 20
+PROBLEM_WORDS = [b"p", b"aux", b"sp", b"p2p"]
+BLANKS = re.compile(b"[ \t]+")
+NAMES = re.compile(r"plan\.json(\..+\.new)?|whole\.pairs|\d{6,}\.(pairs|answers|new)|(drafts|gone)-[0-9a-f]{32}")
+
+
+# The query file
+
+
+class Survey(typing.NamedTuple):
+    """What a look at a query file finds: its digest, and how many pairs it has; None where it is refused for certain,
+    since its lines are of other kinds, in another order or of another number than it announces. The program then reports
+    the fault. What the lines of pairs hold is left to the program in any case."""
+
+    sha256: str
+    pairs: int | None
+
+
+def spool(path: str, to: str) -> Survey:
+    """Copies the query file (`-` is standard input) to the new file `to`, and gives its Survey."""
+    digest, kinds = hashlib.sha256(), KindsOfLines()
+    with reading(path) as text, open(to, "xb") as copy:
+        for line in text:
+            digest.update(line)
+            copy.write(line)
+            kinds.take(line)
+    return Survey(digest.hexdigest(), kinds.pairs())
+
+
+class KindsOfLines:
+    """Counts the lines of a query file by their kinds."""
+
+    def __init__(self) -> None:
+        self.announced: int | None = None
+        self.found, self.is_sound = 0, True
+
+    def take(self, line: bytes) -> None:
+        """Counts the next line."""
+        if is_pair(line):
+            self.found += 1
+            self.is_sound = self.is_sound and self.announced is not None
+            return
+        fields = fields_of(line)
+        if fields and not fields[0].startswith(b"c"):
+            is_first = self.announced is None
+            self.announced = number_announced(fields)
+            self.is_sound = self.is_sound and is_first and self.announced is not None
+
+    def pairs(self) -> int | None:
+        """The number of pairs where all lines are in order, and else None."""
+        return self.found if self.is_sound and self.found == self.announced else None
+
+
+def is_pair(line: bytes) -> bool:
+    """Whether the line has the kind of a pair: its first field is `q`."""
+    return line.startswith(b"q ") or fields_of(line)[:1] == [b"q"]
+
+
+def number_announced(fields: list[bytes]) -> int | None:
+    """The number of a problem line's fields; None where they are no problem line, or one that is refused."""
+    digits = re.fullmatch(b"0*([0-9]{1,9})", fields[-1])
+    if fields[:-1] != PROBLEM_WORDS or digits is None or int(digits[1]) > MOST_LINES:
+        return None
+    return int(digits[1])
+
+
+def fields_of(line: bytes) -> list[bytes]:
+    """The fields of a line by docs/FORMATS.md: one carriage return at its end is dropped, spaces and tabs part them."""
+    line = line.removesuffix(b"\n").removesuffix(b"\r")
+    return [field for field in BLANKS.split(line) if field]
+
+
+def texts_of_parts(lines: Iterable[bytes], size: int) -> Iterator[tuple[int, bytes]]:
+    """Of a query file that is in order: the number of pairs and the text of each part."""
+    pairs = filter(is_pair, lines)
+    part = list(itertools.islice(pairs, size))
+    while True:
+        yield len(part), b"p aux sp p2p %d\n" % len(part) + b"".join(part)
+        part = list(itertools.islice(pairs, size))
+        if not part:
+            return
+
+
+# What is kept between two calls
+
+
+class Plan(typing.NamedTuple):
+    """Of what the parts are: digests, pairs in a part, and for each part its number of pairs and the bytes of its text."""
+
+    hierarchy: str
+    program: str
+    pairs: str
+    part: int
+    parts: list[tuple[int, int]]
+
+    def difference(self, other: "Plan") -> str | None:
+        """In words, the first thing that the plans don't have in common; None where they are of the same parts."""
+        words = ["HIERARCHY", "program", "PAIRS", "--part"]
+        return next((word for word, one, two in zip(words, self, other) if one != two), None)
+
+
+class Folder:
+    """The folder OUT.parts: paths, and what is done to the folder as a whole."""
+
+    def __init__(self, out: str) -> None:
+        self.path = os.path.realpath(out) + ".parts"
+        self.lock, self.plan_file, self.whole = self.at("lock"), self.at("plan.json"), self.at("whole.pairs")
+        self.drafts = self.at(f"drafts-{uuid.uuid4().hex}")
+
+    def at(self, name: str) -> str:
+        return os.path.join(self.path, name)
+
+    def text(self, part: int) -> str:
+        return self.at(f"{part:06}.pairs")
+
+    def answers(self, part: int) -> str:
+        return self.at(f"{part:06}.answers")
+
+    def is_answered(self, part: int) -> bool:
+        return os.path.exists(self.answers(part))
+
+    def clear(self) -> None:
+        """Removes what a run has made but the lock; drafts first, so that nothing comes out of them any more."""
+        names = [name for name in os.listdir(self.path) if NAMES.fullmatch(name)]
+        for name in sorted(names, key=lambda name: (not name.startswith("drafts-"), name != "plan.json")):
+            self.remove(name)
+
+    def remove(self, name: str) -> None:
+        """Removes a file or folder of drafts; a folder by another name, since a worker may still have to do with it."""
+        path = self.at(name)
+        if os.path.isdir(path):
+            gone = self.at(f"gone-{uuid.uuid4().hex}")
+            os.rename(path, gone)
+            shutil.rmtree(gone, ignore_errors=True)
+        else:
+            remove_if_there(path)
+
+    def begin(self, anew: bool) -> None:
+        """Removes the drafts of older runs, and all if there is no plan or it starts over; makes a folder of drafts."""
+        if anew or not os.path.exists(self.plan_file):
+            self.clear()
+        for name in os.listdir(self.path):
+            if NAMES.fullmatch(name) and name.startswith(("drafts-", "gone-")):
+                self.remove(name)
+        os.mkdir(self.drafts)
+
+    def forget(self) -> None:
+        """Drops the plan, and with it all that `end` then finds here."""
+        remove_if_there(self.plan_file)
+
+    def end(self) -> None:
+        """Removes this run's drafts, and the whole folder where there is no plan: without one nothing is worth keeping."""
+        if os.path.exists(self.drafts):
+            self.remove(os.path.basename(self.drafts))
+        if not os.path.exists(self.plan_file):
+            self.clear()
+            os.unlink(self.lock)
+            with contextlib.suppress(OSError):
+                os.rmdir(self.path)
+
+    def kept_plan(self) -> Plan | None:
+        """The plan of an earlier call, or None."""
+        try:
+            with open(self.plan_file, encoding="utf-8") as file:
+                return Plan(**json.load(file))
+        except FileNotFoundError:
+            return None
+        except (ValueError, TypeError) as error:
+            raise Fault("is no plan of route_many: --anew drops it", self.plan_file) from error
+
+    def cut(self, plan: Plan, spooled: str) -> Plan:
+        """Cuts the spooled text by the plan; gives the plan with its parts, which is then kept."""
+        os.replace(spooled, self.whole)
+        parts = []
+        with open(self.whole, "rb") as lines:
+            for number, (pairs, text) in enumerate(texts_of_parts(lines, plan.part)):
+                with open(self.text(number), "wb") as file:
+                    file.write(text)
+                parts.append((pairs, len(text)))
+        plan = plan._replace(parts=parts)
+        with writing(self.plan_file) as file:
+            json.dump(plan._asdict(), file)
+        return plan
+
+    def join(self, plan: Plan, file: IO[Any], progress: Callable[[int], object]) -> None:
+        """Writes the answers of all parts, in order; `progress` is called with each number of bytes."""
+        for number, (pairs, _) in enumerate(plan.parts):
+            lines = 0
+            with open(self.answers(number), "rb") as answers:
+                while block := answers.read(BLOCK):
+                    file.write(block)
+                    lines += block.count(b"\n")
+                    progress(len(block))
+            if lines != pairs:
+                problem = f"has {lines} lines for {pairs} pairs: remove it and give the same call again"
+                raise Fault(problem, self.answers(number))
+
+
+@contextlib.contextmanager
+def opened(out: str, anew: bool) -> Iterator[Folder]:
+    """The Folder of OUT, locked; a Fault where another run has it. If it starts over, nothing is left in it."""
+    folder = Folder(out)
+    with locked(folder, out):
+        folder.begin(anew)
+        try:
+            yield folder
+        finally:
+            folder.end()
+
+
+@contextlib.contextmanager
+def locked(folder: Folder, out: str) -> Iterator[None]:
+    """Holds the folder's lock, which says who has it, and makes the folder where it isn't there."""
+    while True:
+        with contextlib.suppress(FileExistsError):
+            os.mkdir(folder.path)
+        try:
+            lock = open(folder.lock, "a+", encoding="utf-8")
+        except FileNotFoundError:
+            continue
+        with lock:
+            take_lock(lock, out)
+            if is_at(lock, folder.lock):
+                lock.truncate(0)
+                print(f"process {os.getpid()} on {socket.gethostname()}", file=lock, flush=True)
+                yield
+                return
+
+
+def take_lock(lock: IO[str], out: str) -> None:
+    """Locks the open file, or raises a Fault that says who has it."""
+    try:
+        fcntl.flock(lock, fcntl.LOCK_EX | fcntl.LOCK_NB)
+    except OSError as error:
+        if error.errno not in (errno.EAGAIN, errno.EACCES):
+            raise
+        lock.seek(0)
+        raise Fault(f"another run works on it: {lock.read().strip()}", out) from error
+
+
+def is_at(file: IO[str], path: str) -> bool:
+    """Whether the open file is still the one at the path: a run that ends removes its lock."""
+    try:
+        return os.path.samestat(os.fstat(file.fileno()), os.stat(path))
+    except FileNotFoundError:
+        return False

@@ -1,0 +1,345 @@
+"""Answers very many pairs: OUT is byte for byte what one process of `routecli route HIERARCHY PAIRS` prints.
+
+    route_many HIERARCHY PAIRS OUT [--jobs N | --dask SCHEDULER | --cut] [--part PAIRS] [--program FILE] [--anew]
+
+The query file (`-` is standard input) is cut into parts, and each part is answered by a `routecli route` of its own, as
+many at a time as there are workers. The parts and their answers are kept in the folder OUT.parts until OUT is written:
+after an interrupt or a failed run the same call resumes with what is done. OUT is whole, or as it was before.
+
+Status 0 says that OUT is written (with --cut also that the parts are), 1 bad input or a failed run, 2 arguments that are
+refused, and 130 an interrupt; if the program refuses the input, its line and its status, 3 to 8, are those of one process.
+"""
+import argparse
+import collections
+import concurrent.futures
+import contextlib
+import logging
+import os
+import queue
+import re
+import sys
+import threading
+import uuid
+from collections.abc import Iterator
+from typing import Any, NoReturn
+
+import tqdm
+
+import domethyme_part
+from domethyme.files import named_faults, writing
+from domethyme.program import find_program
+
+from . import parts
+from .tool import Fault, packages, warn, words
+
+BAD_INPUT = (3, 4, 5)
+LOOK_AGAIN_SECONDS = 2
+SILENT_SECONDS = 3
+
+
+def read_words() -> argparse.Namespace:
+    parser = words(__doc__)
+    parser.add_argument("hierarchy", metavar="HIERARCHY", help="a file that `routecli prepare` wrote")
+    parser.add_argument("pairs", metavar="PAIRS", help="a query file; `-` is standard input")
+    parser.add_argument("out", metavar="OUT", help="the file of the answers")
+    workers = parser.add_mutually_exclusive_group()
+    workers.add_argument("--jobs", type=count, metavar="N", help="programs at a time here (one for each processor)")
+    workers.add_argument("--dask", metavar="SCHEDULER", help="the address of a Dask scheduler, or its scheduler file")
+    workers.add_argument("--cut", action="store_true", help="only cut; once all parts are answered, only join them")
+    parser.add_argument("--part", type=count, default=10_000, metavar="PAIRS", help="pairs in a part (10000)")
+    parser.add_argument("--program", metavar="FILE", help="routecli, where it isn't on PATH, in ROUTECLI or built here")
+    parser.add_argument("--anew", action="store_true", help="drop what an earlier call has left for OUT")
+    return parser.parse_args()
+
+
+def count(text: str) -> int:
+    """A number of workers or pairs among the arguments."""
+    if re.fullmatch("[1-9][0-9]{0,8}", text) is None:
+        raise argparse.ArgumentTypeError("has to be a whole number from 1 to 999999999")
+    return int(text)
+
+
+def main() -> None:
+    options = read_words()
+    check_out(options)
+    try:
+        # (a write to OUT itself names OUT)
+        with named_faults(parts.Folder(options.out).path):
+            run_all(options)
+    except KeyboardInterrupt:
+        if os.path.exists(parts.Folder(options.out).plan_file):
+            warn(f"what is done is kept in {parts.Folder(options.out).path}; the same call resumes with it")
+        raise
+
+
+def run_all(options: argparse.Namespace) -> None:
+    """Cuts the pairs, has the parts answered, and joins them, as far as the arguments say."""
+    program = find_program(options.program)
+    hierarchy = os.path.join(os.getcwd(), options.hierarchy)
+    with parts.opened(options.out, options.anew) as folder:
+        task = domethyme_part.task(program, hierarchy, folder.drafts)
+        with workers_of(options, task) as workers:
+            plan, is_new = planned(options, task, folder, workers)
+            if options.cut and is_new:
+                print(f"{len(plan.parts)} parts in {folder.path}")
+                return
+            missing = [number for number in range(len(plan.parts)) if not folder.is_answered(number)]
+            if options.cut and missing:
+                problem = f"{len(missing)} of {len(plan.parts)} parts have no answers yet, the first is"
+                raise Fault(f"{problem} {folder.text(missing[0])}")
+            answer_all(workers, task, folder, plan, missing)
+        join(folder, plan, options.out)
+
+
+def check_out(options: argparse.Namespace) -> None:
+    """A Fault where OUT can't be a file with a folder of parts beside it, or is an input too."""
+    out = options.out
+    if out == "-" or not os.path.basename(out) or os.path.exists(out) and not os.path.isfile(out):
+        raise Fault(f"OUT has to be a file, and {out!r} is none", status=2)
+    for path in (options.hierarchy, options.pairs):
+        if os.path.exists(out) and os.path.exists(path) and os.path.samefile(out, path):
+            raise Fault(f"OUT and {path} are one file", status=2)
+    if os.path.exists(out) and not os.access(out, os.W_OK):
+        raise Fault("may not be written", out)
+
+
+# The parts
+
+
+def planned(
+    options: argparse.Namespace, task: domethyme_part.Task, folder: parts.Folder, workers: Any
+) -> tuple[parts.Plan, bool]:
+    """The plan of the parts, and whether it is new: where an earlier call has kept none, the pairs are cut."""
+    spooled = os.path.join(folder.drafts, "whole.pairs")
+    survey = parts.spool(options.pairs, spooled)
+    digests = task["digests"]
+    plan = parts.Plan(digests[task["hierarchy"]], digests[task["program"]], survey.sha256, options.part, [])
+    kept = folder.kept_plan()
+    if kept is not None:
+        if (word := kept.difference(plan)) is not None:
+            raise Fault(f"is of a call with another {word}: --anew drops it", folder.path)
+        return kept, False
+    if survey.pairs is None:
+        refuse(folder, *whole_refusal(workers, task, spooled))
+    return folder.cut(plan, spooled), True
+
+
+def answer_all(workers: Any, task: domethyme_part.Task, folder: parts.Folder, plan: parts.Plan, missing: list[int]) -> None:
+    """Has the missing parts answered; where one fails, ends this program as one process of routecli would."""
+    pairs = sum(pairs for pairs, _ in plan.parts)
+    done = pairs - sum(plan.parts[number][0] for number in missing)
+    with tqdm.tqdm(total=pairs, initial=done, unit="pair", unit_scale=True, disable=None) as bar:
+        failed = answer_parts(workers, task, folder, plan, missing, bar)
+    if failed is not None and failed[0] in BAD_INPUT:
+        failed = whole_refusal(workers, task, folder.whole)
+    if failed is not None:
+        refuse(folder, *failed)
+
+
+def answer_parts(
+    workers: Any, task: domethyme_part.Task, folder: parts.Folder, plan: parts.Plan, missing: list[int], bar: Any
+) -> tuple[int, str] | None:
+    """Has these parts answered. Gives None, or status and line of the first part that failed, bad input before all else: no
+    part begins after one has failed, and those that are under way are waited for."""
+    waiting = collections.deque(missing)
+    under_way: dict[Any, int] = {}
+    failed: dict[int, tuple[int, str]] = {}
+    while under_way or waiting and not failed:
+        room = 0 if failed else workers.room() - len(under_way)
+        for _ in range(min(room, len(waiting))):
+            number = waiting.popleft()
+            words = (folder.text(number), plan.parts[number][1], folder.answers(number))
+            under_way[workers.begin(task, *words)] = number
+        for done in workers.some_done(list(under_way)):
+            number = under_way.pop(done)
+            failure = failure_of(workers.result(done), folder.answers(number))
+            if failure is not None:
+                failed[number] = failure
+            else:
+                bar.update(plan.parts[number][0])
+    return min(failed.items(), key=lambda part: (part[1][0] not in BAD_INPUT, part[0]))[1] if failed else None
+
+
+def failure_of(result: domethyme_part.Result, answers: str) -> tuple[int, str] | None:
+    """Status and line of a part that failed, by what domethyme_part.answer gave; None where its answers stand here."""
+    status, line, size = result
+    if status != 0:
+        return status, line or ""
+    if not domethyme_part.comes_true(lambda: domethyme_part.has_size(answers, size)):
+        return 1, f"{answers} isn't seen here with the {size} bytes that a worker wrote"
+    return None
+
+
+def whole_refusal(workers: Any, task: domethyme_part.Task, text: str) -> tuple[int, str]:
+    """Status and line of one process for the whole of a text that is known to be refused: its lines count from the text's
+    first one, and of several faults it reports the first. It reads all pairs before it answers any."""
+    refused = os.path.join(task["drafts"], "refused")
+    begun = workers.begin(task, text, os.stat(text).st_size, refused)
+    while not workers.some_done([begun]):
+        pass
+    status, line, _ = workers.result(begun)
+    return (status, line) if status != 0 else (1, "routecli refuses a part of the pairs, and takes them as a whole")
+
+
+def refuse(folder: parts.Folder, status: int, line: str) -> NoReturn:
+    """Ends this program with the status and the line. For bad input nothing is kept."""
+    if status == 1:
+        raise Fault(line)
+    if status in BAD_INPUT:
+        folder.forget()
+    print(line, file=sys.stderr)
+    sys.exit(status)
+
+
+def join(folder: parts.Folder, plan: parts.Plan, out: str) -> None:
+    """Writes OUT of the answers of all parts, and has the folder of parts go."""
+    size = sum(os.stat(folder.answers(number)).st_size for number in range(len(plan.parts)))
+    with writing(out, "wb") as file:
+        with tqdm.tqdm(total=size, unit="B", unit_scale=True, desc="joining", disable=None) as bar:
+            folder.join(plan, file, bar.update)
+    folder.forget()
+
+
+# Workers
+
+
+def workers_of(options: argparse.Namespace, task: domethyme_part.Task) -> Any:
+    """The workers that the arguments name, in a with-block."""
+    if options.dask is not None:
+        return cluster(options.dask, task)
+    return threads(1 if options.cut else options.jobs or len(os.sched_getaffinity(0)))
+
+
+class Threads:
+    """Workers of this process, each of which waits for one program at a time."""
+
+    def __init__(self, pool: concurrent.futures.Executor, jobs: int) -> None:
+        self.pool, self.jobs = pool, jobs
+
+    def room(self) -> int:
+        """How many parts may be under way at a time."""
+        return self.jobs
+
+    def begin(self, *words: Any) -> Any:
+        """Has a worker do domethyme_part.answer with these words: the run, of which `result` gives what it gave."""
+        return self.pool.submit(domethyme_part.answer, *words)
+
+    def some_done(self, runs: Any) -> set[Any]:
+        """The set of the runs that are done; waits until there is one, but maybe not as long."""
+        return concurrent.futures.wait(runs, return_when=concurrent.futures.FIRST_COMPLETED).done
+
+    def result(self, run: "concurrent.futures.Future[domethyme_part.Result]") -> domethyme_part.Result:
+        return run.result()
+
+
+@contextlib.contextmanager
+def threads(jobs: int) -> Iterator[Threads]:
+    """So many Threads, whose programs end with the block."""
+    pool = concurrent.futures.ThreadPoolExecutor(jobs)
+    try:
+        yield Threads(pool, jobs)
+    except BaseException:
+        domethyme_part.stop_all()
+        raise
+    finally:
+        pool.shutdown(cancel_futures=True)
+
+
+class Cluster:
+    """Workers of a Dask scheduler, as Threads are those of this process. A part whose worker died goes to another one; where
+    none is left, it waits for one that comes."""
+
+    def __init__(self, client: Any, scheduler: str) -> None:
+        self.client, self.scheduler = client, scheduler
+        self.done: queue.SimpleQueue[Any] = queue.SimpleQueue()
+
+    def room(self) -> int:
+        with scheduler_faults(self.scheduler):
+            workers = self.client.scheduler_info()["workers"].values()
+        return max(1, 2 * sum(int(worker["nthreads"]) for worker in workers))
+
+    def begin(self, *words: Any) -> Any:
+        run = self.client.submit(domethyme_part.answer_apart, *words, pure=False)
+        run.add_done_callback(self.done.put)
+        return run
+
+    def some_done(self, _runs: Any) -> set[Any]:
+        try:
+            return {self.done.get(timeout=LOOK_AGAIN_SECONDS)}
+        except queue.Empty:
+            return set()
+
+    def result(self, run: Any) -> domethyme_part.Result:
+        """As of Threads; a Fault where the scheduler went away, which cancels all runs."""
+        try:
+            with scheduler_faults(self.scheduler):
+                result: domethyme_part.Result = run.result()
+                return result
+        except Fault:
+            raise
+        except Exception as error:
+            return 1, f"Dask: {type(error).__name__}: {error}", 0
+
+
+@contextlib.contextmanager
+def cluster(scheduler: str, task: domethyme_part.Task) -> Iterator[Cluster]:
+    """The Cluster of the scheduler, whose workers have been looked at."""
+    with connected(scheduler) as client, module_sent(client, scheduler):
+        refuse_unfit(client, scheduler, task)
+        yield Cluster(client, scheduler)
+
+
+def connected(scheduler: str) -> Any:
+    """A client of the scheduler by its address or its file. Python's log, into which Dask writes what it notices, is shut:
+    what goes wrong is reported in a line of our own."""
+    logging.disable()
+    with packages():
+        import distributed
+    where = {"scheduler_file": scheduler} if os.path.isfile(scheduler) else {"address": scheduler}
+    patience = threading.Timer(SILENT_SECONDS, warn, [f"waits for the scheduler {scheduler} to answer"])
+    patience.start()
+    try:
+        return distributed.Client(**where)
+    except (OSError, ValueError, TypeError, KeyError, RuntimeError) as error:
+        raise Fault(f"no scheduler answers: {error}", scheduler) from error
+    finally:
+        patience.cancel()
+
+
+@contextlib.contextmanager
+def module_sent(client: Any, scheduler: str) -> Iterator[None]:
+    """While the block runs, the workers have the module domethyme_part, those that come late too."""
+    from distributed.diagnostics.plugin import UploadFile
+
+    name = f"route_many-{uuid.uuid4().hex}"
+    with scheduler_faults(scheduler):
+        client.register_worker_plugin(UploadFile(domethyme_part.__file__), name=name)
+    try:
+        yield
+    finally:
+        if client.status == "running":
+            with contextlib.suppress(Exception):
+                client.unregister_worker_plugin(name)
+
+
+def refuse_unfit(client: Any, scheduler: str, task: domethyme_part.Task) -> None:
+    """A Fault with the name of a worker that can't take part, and why; where there is no worker, it waits for one. One that
+    can't be asked is on its way out, and one that comes later is looked at before its first part."""
+    with scheduler_faults(scheduler):
+        if not client.scheduler_info()["workers"]:
+            print("route_many: there is no worker yet: waiting for one", file=sys.stderr)
+            client.wait_for_workers(1)
+        troubles = client.run(domethyme_part.trouble_apart, task, on_error="return")
+        workers = client.scheduler_info()["workers"]
+    for address, trouble in sorted(troubles.items()):
+        if trouble is not None and not isinstance(trouble, OSError) and address in workers:
+            raise Fault(f"worker {workers[address]['name']}: {trouble}")
+
+
+@contextlib.contextmanager
+def scheduler_faults(scheduler: str) -> Iterator[None]:
+    """A Fault where the scheduler goes away while the block runs."""
+    try:
+        yield
+    except (concurrent.futures.CancelledError, OSError) as error:
+        raise Fault("the scheduler went away; the same call resumes with the parts that are done", scheduler) from error

@@ -1,0 +1,288 @@
+"""Turns the answers of `routecli route` into routes along the real road, as GeoJSON or CSV.
+
+NETWORK is the beginning of the names of the network's files, of which NETWORK.nodes.csv and NETWORK.arcs.csv are read; or
+a DIMACS file X.co, whose graph is X.gr: then routes are straight from node to node, and take 0 seconds.
+ANSWERS is what `routecli route` or `routecli answer` printed (`-` is standard input).
+
+ROUTES has a feature for each answer, in order. Its geometry is the line of the road from the first node to the last,
+longitude first; a route of no arc is a line from its node to itself, and where there is no route there is no geometry.
+Its properties are
+
+    from_node, to_node   the pair
+    length               the answer's, in the unit of the graph's weights
+    arcs                 how many arcs the route has
+    seconds, metres      how long the way takes, and how long it is
+    steps                the streets in order, each with name, metres and seconds; pieces of one street that follow one
+                         another are one step, and a street without a name has the name ""
+
+Where there is no route, all but the pair are null. From a node to the next a route takes the lightest arc, and the weights
+of its arcs have to sum to the answer's length: an answer of another network is refused.
+
+--trips FILE is a CSV file with a row for each answer, in order, as `nearest` was given it, or as it wrote it by
+--snapped. Its columns are properties too, ahead of the others, as text. Where it has the columns from_node and to_node
+they have to be those of the answers. It is opened once the first answer has come, so a tool further up the same pipe may
+write it.
+
+--on-roads takes replies of `routecli serve` to the lines of `nearest --on-roads`, and needs the same TRIPS. Routes then lead
+from the nearest point of a road to another, and have no from_node and to_node.
+
+Without any answer it fails: an empty input is what a fault further up a pipe leaves.
+
+--as collection is a FeatureCollection with a feature on each line; --as lines has the features alone; --as csv is a
+table for GIS programs with the line in the column WKT, without steps. A file that is written is whole or not there.
+
+Exit status: 0; 1 for bad input or a failed write, with one line on standard error that names file and row; 2 for
+arguments that are refused.
+"""
+import argparse
+import contextlib
+import csv
+import itertools
+import json
+import typing
+from collections.abc import Iterable, Iterator
+from typing import IO, Any, Union
+
+from domethyme.errors import NetworkError
+from domethyme.files import writing
+from domethyme.lines import NO_WAY, Answer
+from domethyme.network.tables import (
+    Arc, Point, arcs_file, arcs_of, attribution_of, lightest, nodes_file, points_of, read_nodes, wkt_of
+)
+from domethyme.texts import Table, number, read_answers, shown, table
+
+from .geometry import joined
+from .tool import Fault, words
+
+NO_TRIP: tuple[int | None, dict[str, str] | None] = None, None
+PAIR = ("from_node", "to_node")
+FIGURES = ("length", "arcs", "seconds", "metres")
+STEPS = "steps"
+LINE = "WKT"
+FORMS = ("collection", "lines", "csv")
+
+
+def read_words() -> argparse.Namespace:
+    parser = words(__doc__)
+    parser.add_argument("network", metavar="NETWORK", help="the network that the answers are of")
+    parser.add_argument("answers", metavar="ANSWERS", help="the answers of routecli")
+    parser.add_argument("-o", dest="output", metavar="ROUTES", default="-", help="by default standard output")
+    parser.add_argument("--trips", metavar="FILE", help="a table whose columns are kept, with a row for each answer")
+    parser.add_argument("--as", dest="form", choices=FORMS, default="collection", help="default: collection")
+    parser.add_argument("--no-steps", action="store_true", help="leave out the steps")
+    parser.add_argument("--on-roads", action="store_true", help="ANSWERS are replies to lines of nearest --on-roads")
+    options = parser.parse_args()
+    if options.on_roads and (options.trips is None or options.form == "csv"):
+        parser.error("--on-roads needs --trips, and isn't there for --as csv")
+    return options
+
+
+class Roads:
+    """The arcs that routes take, and where they lie. The line of an arc is read when a route first takes it."""
+
+    def __init__(self, network: str) -> None:
+        self.path, self.network = arcs_file(network), network
+        self.arcs = lightest(arcs_of(network))
+        nodes = read_nodes(nodes_file(network))
+        self.places = list(zip(nodes.lon, nodes.lat))
+        self.lines: dict[tuple[int, int], list[Point]] = {}
+
+    def arcs_along(self, answer: Answer, path: str, row: int) -> list[Arc]:
+        """The arcs of an answer's route, whose weights sum to its length."""
+        for node in answer.nodes or (answer.source, answer.target):
+            if not 1 <= node <= len(self.places):
+                raise Fault(f"has node {node}, and the network has {len(self.places)} nodes", path, row)
+        try:
+            arcs = [self.arcs[ends] for ends in itertools.pairwise(answer.nodes)]
+        except KeyError as error:
+            start, end = error.args[0]
+            raise Fault(f"leads from node {start} to node {end}, where the network has no arc", path, row) from None
+        weight = sum(arc.weight for arc in arcs)
+        if answer.length not in (NO_WAY, weight):
+            fault = f"has the length {answer.length}, and its arcs' weights sum to {weight}"
+            raise Fault(f"{fault}: is it of another network?", path, row)
+        return arcs
+
+    def line_along(self, node: int, arcs: list[Arc]) -> list[Point]:
+        """The places along arcs that follow one another from a node, two or more."""
+        line = joined([[self.places[node - 1]], *map(self.line_of, arcs)])
+        return line if len(line) > 1 else line * 2
+
+    def line_of(self, arc: Arc) -> list[Point]:
+        """The places along an arc."""
+        ends = (arc.start, arc.end)
+        if ends not in self.lines:
+            try:
+                self.lines[ends] = points_of(arc.wkt)
+            except NetworkError:
+                points_of(arc.wkt, self.path, self.row_of(arc))
+        return self.lines[ends]
+
+    def row_of(self, arc: Arc) -> int:
+        """The row of an arc in its file, which is looked for anew, since only a fault asks for it."""
+        return next(row for row, other in enumerate(arcs_of(self.network), 2) if other == arc)
+
+
+class NoTrips:
+    """Stands where there is no table of trips: each answer has a trip without fields."""
+
+    path = ""
+    columns: tuple[str, ...] = ()
+
+    def __iter__(self) -> Iterator[tuple[int | None, dict[str, str]]]:
+        return itertools.repeat((None, {}))
+
+
+Trips = Union[Table, NoTrips]
+
+
+@contextlib.contextmanager
+def trips_at(path: str | None) -> Iterator[Trips]:
+    """The table of trips. None of its columns may have the name of a property of ours, but those of the pair."""
+    if path is None:
+        yield NoTrips()
+        return
+    with table(path, ()) as trips:
+        for name in trips.columns:
+            if name in (*FIGURES, STEPS, LINE):
+                raise Fault(f"column {name} has the name of a property of the routes: rename it", path, 1)
+            if trips.columns.count(name) > 1:
+                raise Fault(f"has two columns {name}", path, 1)
+        yield trips
+
+
+class Driven(typing.NamedTuple):
+    """An answer on the road: the user's fields, the arcs, and the places along them, None where there is no route."""
+
+    fields: dict[str, str]
+    answer: Answer
+    arcs: list[Arc]
+    line: list[Point] | None
+
+
+def routes_of(answers: Iterable[tuple[int, Answer]], answers_path: str, trips: Trips, roads: Roads) -> Iterator[Driven]:
+    """The routes of the answers, which come with their row numbers, in order."""
+    rows = iter(trips)
+    for row, answer in answers:
+        trip_row, trip = next(rows, NO_TRIP)
+        if trip is None:
+            raise Fault(f"is an answer more than {trips.path} has rows", answers_path, row)
+        arcs = roads.arcs_along(answer, answers_path, row)
+        line = None if answer.length == NO_WAY else roads.line_along(answer.source, arcs)
+        yield Driven(own_fields(trip, answer, trips, trip_row), answer, arcs, line)
+    if trips.columns:
+        for more, _ in rows:
+            raise Fault("is a row more than there are answers", trips.path, more)
+
+
+def own_fields(trip: dict[str, str], answer: Answer, trips: Trips, row: int | None) -> dict[str, str]:
+    """The fields of a trip but those of the pair, which have to be the answer's."""
+    for name, node in zip(PAIR, answer):
+        if trip.get(name, str(node)) != str(node):
+            raise Fault(f"has {name} {shown(trip[name])} where the answer has {node}", trips.path, row)
+    return {name: text for name, text in trip.items() if name not in PAIR}
+
+
+def figures_of(route: Driven) -> dict[str, Any]:
+    """The pair and the figures of a route, by their names."""
+    figures: list[float | None] = [None] * len(FIGURES)
+    if route.line is not None:
+        figures = [route.answer.length, len(route.arcs), *time_and_way(route.arcs)]
+    return dict(zip(PAIR + FIGURES, (route.answer.source, route.answer.target, *figures)))
+
+
+def time_and_way(arcs: list[Arc]) -> tuple[float, float]:
+    """Seconds to the thousandth and metres to the hundredth, as the table of arcs has them."""
+    return round(sum(arc.seconds for arc in arcs), 3), round(sum(arc.metres for arc in arcs), 2)
+
+
+def steps_of(route: Driven) -> list[dict[str, Any]] | None:
+    """The streets along a route, or None where there is no route."""
+    if route.line is None:
+        return None
+    streets = itertools.groupby(route.arcs, key=lambda arc: arc.name)
+    return [step_of(name, list(arcs)) for name, arcs in streets]
+
+
+def step_of(name: str, arcs: list[Arc]) -> dict[str, Any]:
+    """The step along arcs of one street."""
+    seconds, metres = time_and_way(arcs)
+    return {"name": name, "metres": metres, "seconds": seconds}
+
+
+def feature_of(route: Driven, with_steps: bool) -> str:
+    """The text of a route's feature, on one line."""
+    properties = route.fields | figures_of(route)
+    if with_steps:
+        properties[STEPS] = steps_of(route)
+    geometry = None if route.line is None else {"type": "LineString", "coordinates": route.line}
+    feature = {"type": "Feature", "properties": properties, "geometry": geometry}
+    return json.dumps(feature, ensure_ascii=False, separators=(",", ":"))
+
+
+def write_collection(file: IO[str], features: Iterable[str], attribution: str) -> None:
+    """Writes a FeatureCollection. What the data asks to be said is its member `attribution`."""
+    said = f'"attribution":{json.dumps(attribution, ensure_ascii=False)},' if attribution else ""
+    file.write(f'{{"type":"FeatureCollection",{said}"features":[')
+    for before, feature in zip(itertools.chain(["\n"], itertools.repeat(",\n")), features):
+        file.write(before + feature)
+    file.write("\n]}\n")
+
+
+def write_table(file: IO[str], routes: Iterable[Driven], columns: Iterable[str]) -> None:
+    """Writes the routes as CSV, the user's columns first."""
+    rows = csv.writer(file, lineterminator="\n")
+    rows.writerow([*(name for name in columns if name not in PAIR), *PAIR, *FIGURES, LINE])
+    for route in routes:
+        line = None if route.line is None else wkt_of(route.line)
+        rows.writerow([*route.fields.values(), *figures_of(route).values(), line])
+
+
+def features_on_roads(options: argparse.Namespace) -> Iterator[str]:
+    """The features of routes between places on roads."""
+    from .on_roads import routes_on_roads
+
+    with trips_at(options.trips) as trips:
+        rows = list(trips)
+        ends = []
+        for row, fields in rows:
+            lon_lat = [number(fields.get(f"{side}_{axis}", ""), f"{side}_{axis}", options.trips, row, -most, most)
+                       for side in ("from", "to") for axis, most in (("lon", 180), ("lat", 90))]
+            ends.append((row or 0, (lon_lat[0], lon_lat[1]), (lon_lat[2], lon_lat[3])))
+        routes = routes_on_roads(options.network, options.answers, options.trips, ends)
+        for (_, fields), route in zip(rows, routes, strict=True):
+            properties: dict[str, Any] = {**fields, **{name: getattr(route, name) for name in FIGURES}}
+            if not options.no_steps:
+                properties[STEPS] = route.steps
+            geometry = None if route.line is None else {"type": "LineString", "coordinates": route.line}
+            feature = {"type": "Feature", "properties": properties, "geometry": geometry}
+            yield json.dumps(feature, ensure_ascii=False, separators=(",", ":"))
+
+
+def write_on_roads(options: argparse.Namespace) -> None:
+    with writing(options.output) as file:
+        if options.form == "collection":
+            write_collection(file, features_on_roads(options), attribution_of(options.network))
+        else:
+            file.writelines(f"{feature}\n" for feature in features_on_roads(options))
+
+
+def main() -> None:
+    options = read_words()
+    if options.on_roads:
+        write_on_roads(options)
+        return
+    roads = Roads(options.network)
+    answers = enumerate(read_answers(options.answers), 1)
+    first = list(itertools.islice(answers, 1))
+    if not first:
+        raise Fault("has no answer", options.answers)
+    with trips_at(options.trips) as trips, writing(options.output) as file:
+        routes = routes_of(itertools.chain(first, answers), options.answers, trips, roads)
+        features = (feature_of(route, not options.no_steps) for route in routes)
+        if options.form == "csv":
+            write_table(file, routes, trips.columns)
+        elif options.form == "collection":
+            write_collection(file, features, attribution_of(options.network))
+        else:
+            file.writelines(f"{feature}\n" for feature in features)

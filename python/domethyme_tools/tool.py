@@ -1,0 +1,99 @@
+"""How the map tools take their arguments and end.
+
+    Fault(message, file=None, row=None, status=1)   what is wrong, as one line; rows are lines of the file, from 1
+    run(main)                    calls main() as a tool: 0, or an error's line on standard error and its status; 130 after
+                                 an interrupt, 143 after SIGTERM; a reader of standard output that went away is status 1
+                                 without a line. Arguments that argparse refuses are status 2.
+    warn(text)                   a line on standard error, with the tool's name
+    words(doc)                   an argparse parser whose `--help` begins with the docstring as it is
+    packages()                   `with packages(): import numpy` ends with one line and status 1 if one is missing
+    tool(name)                   the words that begin another tool
+"""
+import argparse
+import contextlib
+import os
+import pathlib
+import signal
+import sys
+from collections.abc import Callable, Iterator
+from types import FrameType
+from typing import NoReturn
+
+from domethyme.errors import DomethymeError, FileError
+
+
+class Fault(FileError):
+    """What is wrong, in one line: `FILE, row ROW: MESSAGE`. `status` is what the tool ends with."""
+
+
+def run(main: Callable[[], None]) -> NoReturn:
+    """Calls main() and ends the process as the module's docstring says."""
+    signal.signal(signal.SIGTERM, ended_by_signal)
+    line: str | None
+    try:
+        main()
+        sys.stdout.flush()
+        status, line = 0, None
+    except DomethymeError as fault:
+        status, line = fault.status, str(fault)
+    except KeyboardInterrupt:
+        status, line = 130, None
+    except BrokenPipeError:
+        status, line = 1, None
+    except OSError as error:
+        status, line = 1, os_fault(error)
+    except MemoryError:
+        status, line = 1, "there isn't enough memory"
+    if line is not None:
+        warn(line)
+    if status != 0:
+        drop_standard_output()
+    sys.exit(status)
+
+
+def warn(text: str) -> None:
+    """Prints a line on standard error, with the tool's name."""
+    print(f"{pathlib.Path(sys.argv[0]).name}: {' '.join(text.split())}", file=sys.stderr)
+
+
+def ended_by_signal(number: int, _frame: FrameType | None) -> NoReturn:
+    """Ends the process in order, so that with-blocks remove what they have begun."""
+    sys.exit(128 + number)
+
+
+def os_fault(error: OSError) -> str:
+    reason = error.strerror or str(error)
+    return f"{error.filename}: {reason}" if error.filename else reason
+
+
+def drop_standard_output() -> None:
+    """Sends what is still to be flushed nowhere: Python flushes again at its end, and would fail a second time."""
+    with contextlib.suppress(OSError, ValueError):
+        os.dup2(os.open(os.devnull, os.O_WRONLY), sys.stdout.fileno())
+
+
+@contextlib.contextmanager
+def packages() -> Iterator[None]:
+    """Around imports of Debian's modules, in scripts: one that is missing ends the tool with one line and status 1."""
+    try:
+        yield
+    except ModuleNotFoundError as error:
+        tool = pathlib.Path(sys.argv[0]).name
+        remedy = "run tools/check_packages, and the tool by /usr/bin/python3"
+        print(f"{tool}: Python's module {error.name} is missing: {remedy}", file=sys.stderr)
+        sys.exit(1)
+
+
+def spoken(path: str) -> str:
+    """The name by which messages call an input file."""
+    return "standard input" if path == "-" else path
+
+
+def words(doc: str | None) -> argparse.ArgumentParser:
+    """A parser of a tool's arguments, which shows the docstring line by line."""
+    return argparse.ArgumentParser(description=doc, formatter_class=argparse.RawDescriptionHelpFormatter)
+
+
+def tool(name: str) -> list[str]:
+    """The words that begin another tool, by this Python."""
+    return [sys.executable, "-P", str(pathlib.Path(__file__).with_name("__main__.py")), name]

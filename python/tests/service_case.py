@@ -1,0 +1,155 @@
+"""What the tests of the service share: the village's service, started and ended, and requests to it."""
+import heapq
+import http.client
+import json
+import os
+import pathlib
+import re
+import socket
+import subprocess
+import threading
+from typing import BinaryIO, NamedTuple
+
+from tool_case import TOOLS, VILLAGE, ToolCase, serving_program
+
+import domethyme
+from domethyme.texts import read_graph
+
+SECONDS = 20
+
+
+class Answer(NamedTuple):
+    """An answer as it came: its fields by their names in small letters, and its body without the marks of its parts."""
+
+    status: int
+    fields: dict[str, str]
+    body: bytes
+
+
+class ServiceCase(ToolCase):
+    """A test with the hierarchy of the village, v.rch, and its network v. `command` starts the service."""
+
+    command = (TOOLS / "domethyme-serve",)
+
+    def map_file(self):
+        return VILLAGE
+
+    def setUp(self):
+        super().setUp()
+        self.run_tool("osm_to_gr", self.map_file(), "v", "--islands")
+        domethyme.prepare(self.folder / "v.gr", self.folder / "v.rch", workers=1).close()
+        self.graph = read_graph(self.folder / "v.gr")
+
+    def serve(self, *words, faults=(), program=None):
+        """Starts the service, and returns its process once it listens at `self.port`."""
+        program = program or serving_program()
+        environment = {**os.environ, "ROUTECLI": str(program)}
+        if faults:
+            environment["SERVE_FAULTS"] = str(self.write("faults", "".join(f"{fault}\n" for fault in faults)))
+        given = [*self.command, self.folder / "v.rch", "--port", "0", *words]
+        process = subprocess.Popen(list(map(str, given)), stderr=subprocess.PIPE, text=True, env=environment)
+        self.addCleanup(end, process)
+        self.said = []
+        for line in process.stderr:
+            self.said.append(line)
+            if found := re.search(r"listens at http://127\.0\.0\.1:(\d+)/", line):
+                self.port = int(found[1])
+                self.reader = threading.Thread(target=lambda: self.said.extend(process.stderr), daemon=True)
+                self.reader.start()
+                return process
+        self.fail(f"the service didn't start: {self.said}")
+
+    def ask(self, path, method="GET", body=None, headers=None):
+        """The status and the body of an answer, as JSON where it is JSON."""
+        connection = http.client.HTTPConnection("127.0.0.1", self.port, timeout=SECONDS)
+        try:
+            connection.request(method, path, body, headers or {})
+            answer = connection.getresponse()
+            text = answer.read().decode()
+            self.headers = dict(answer.getheaders())
+            return answer.status, json.loads(text) if "/json" in self.headers["Content-Type"] else text
+        finally:
+            connection.close()
+
+    def raw(self, sent, half_close=False):
+        """All that the service writes, until it closes, to bytes on a connection."""
+        with socket.create_connection(("127.0.0.1", self.port), SECONDS) as stream:
+            stream.sendall(sent)
+            if half_close:
+                stream.shutdown(socket.SHUT_WR)
+            parts = []
+            while part := stream.recv(1 << 16):
+                parts.append(part)
+        return b"".join(parts)
+
+    def value(self, name):
+        """A value of /metrics."""
+        status, text = self.ask("/metrics")
+        self.assertEqual(status, 200)
+        return float(re.search(rf"(?m)^domethyme_{re.escape(name)} (.*)$", text)[1])
+
+
+def read_answer(file: BinaryIO, method: str = "GET") -> Answer:
+    """The next answer of a connection that is read as a file. Raises EOFError where the connection ends before it is whole."""
+    status = line_of(file).split(b" ", 2)
+    fields = dict(iter(lambda: field_of(line_of(file)), ("", "")))
+    if method == "HEAD":
+        body = b""
+    elif fields.get("transfer-encoding") == "chunked":
+        body = b"".join(iter(lambda: part_of(file), b""))
+    else:
+        body = whole(file, int(fields["content-length"]))
+    return Answer(int(status[1]), fields, body)
+
+
+def line_of(file: BinaryIO) -> bytes:
+    line = file.readline()
+    if not line.endswith(b"\r\n"):
+        raise EOFError(f"an answer isn't whole: {line!r}")
+    return line.removesuffix(b"\r\n")
+
+
+def field_of(line: bytes) -> tuple[str, str]:
+    name, _, value = line.decode("ascii").partition(": ")
+    return name.lower(), value
+
+
+def part_of(file: BinaryIO) -> bytes:
+    """The next part of a body that comes in parts; none is its end."""
+    part = whole(file, int(line_of(file), 16))
+    line_of(file)
+    return part
+
+
+def whole(file: BinaryIO, count: int) -> bytes:
+    found = file.read(count)
+    if len(found) != count:
+        raise EOFError("a body isn't whole")
+    return found
+
+
+def resident(number: int) -> int:
+    """The KiB of memory that a process has resident."""
+    return int(re.search(r"VmRSS:\s+(\d+) kB", pathlib.Path(f"/proc/{number}/status").read_text())[1])
+
+
+def end(process):
+    process.kill()
+    process.wait()
+    process.stderr.close()
+
+
+def lengths_from(arcs, source):
+    """The least lengths {node: length} from a node over arcs (from, to, weight): Dijkstra's search."""
+    after = {}
+    for start, stop, weight in arcs:
+        after.setdefault(start, []).append((stop, weight))
+    found, heap = {}, [(0, repr(source), source)]
+    while heap:
+        length, _, node = heapq.heappop(heap)
+        if node in found:
+            continue
+        found[node] = length
+        for stop, weight in after.get(node, []):
+            heapq.heappush(heap, (length + weight, repr(stop), stop))
+    return found

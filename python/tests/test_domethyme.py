@@ -1,0 +1,334 @@
+"""Tests of the package domethyme: what goes through arrays, files and the program, beside scipy's plain search."""
+import pickle
+import unittest.mock
+
+import numpy as np
+import pandas as pd
+from scipy.sparse import coo_array
+from scipy.sparse.csgraph import dijkstra
+from tool_case import ToolCase, serving_program
+
+import domethyme
+from domethyme import process
+from domethyme.sweeps import Seeds, Sweeps
+
+# Four nodes: two ways from 0 to 2, of 3 + 4 = 7 and of 9; back from 2 to 0 by 5; node 3 leads to 0 by 6, and nothing to it.
+SQUARE = ([0, 1, 0, 2, 3], [1, 2, 2, 0, 0], [3, 4, 9, 5, 6])
+
+
+class DomethymeTests(ToolCase):
+    def prepared(self, name, *graph, **options):
+        """The hierarchy of a graph, which ends with the test."""
+        domethyme.write_graph(self.folder / f"{name}.gr", *graph, nodes=options.pop("nodes", None))
+        words = {"program": serving_program(), **options}
+        hierarchy = domethyme.prepare(self.folder / f"{name}.gr", self.folder / f"{name}.rch", **words)
+        self.addCleanup(hierarchy.close)
+        return hierarchy
+
+    def square(self):
+        return self.prepared("square", *SQUARE)
+
+    def test_graph_text(self):
+        domethyme.write_graph(self.folder / "square.gr", *map(np.array, SQUARE))
+        wanted = "p sp 4 5\na 1 2 3\na 2 3 4\na 1 3 9\na 3 1 5\na 4 1 6\n"
+        self.assertEqual((self.folder / "square.gr").read_text(), wanted)
+        domethyme.write_graph(self.folder / "square.gr", [0, 1], [1, 0], [4294967295, 0], nodes=7)
+        self.assertEqual((self.folder / "square.gr").read_text(), "p sp 7 2\na 1 2 4294967295\na 2 1 0\n")
+        domethyme.write_graph(self.folder / "square.gr", [], [], [])
+        self.assertEqual((self.folder / "square.gr").read_text(), "p sp 0 0\n")
+
+    def test_routes_of_the_square(self):
+        routes = self.square().routes([[0, 2], [0, 3], [3, 2], [1, 1]])
+        self.assertEqual(len(routes), 4)
+        self.assertEqual(routes.lengths.tolist(), [7, -1, 13, 0])
+        self.assertEqual([routes[row].tolist() for row in range(4)], [[0, 1, 2], [], [3, 0, 1, 2], [1]])
+        self.assertEqual([route.tolist() for route in routes], [[0, 1, 2], [], [3, 0, 1, 2], [1]])
+        self.assertEqual(routes[-1].tolist(), [1])
+        self.assertEqual(routes.offsets.tolist(), [0, 3, 3, 7, 8])
+        for row in [4, -5]:
+            with self.assertRaises(IndexError):
+                routes[row]
+
+    def test_no_pairs_and_no_way_at_all(self):
+        hierarchy = self.square()
+        for none in [[], np.empty((0, 2), dtype=int)]:
+            routes = hierarchy.routes(none)
+            self.assertEqual((routes.lengths.tolist(), routes.nodes.tolist(), routes.offsets.tolist()), ([], [], [0]))
+        routes = hierarchy.routes([[0, 3], [1, 3]])
+        self.assertEqual((routes.lengths.tolist(), routes.offsets.tolist()), ([-1, -1], [0, 0, 0]))
+
+    def test_lengths_beyond_32_bits(self):
+        hierarchy = self.prepared("line", [0, 1, 2], [1, 2, 3], [4294967295] * 3)
+        routes = hierarchy.routes([[0, 3]])
+        self.assertEqual(routes.lengths.tolist(), [12884901885])
+        self.assertEqual(routes[0].tolist(), [0, 1, 2, 3])
+        for by in ("serve", "sweeps"):
+            self.assertEqual(hierarchy.matrix([0, 3], by=by).tolist(), [[0, 12884901885], [-1, 0]])
+        self.assertEqual(hierarchy.between({0: 4294967295}, {3: 4294967295}).length, 5 * 4294967295)
+
+    def test_random_networks_beside_a_plain_search(self):
+        draw = np.random.default_rng(1)
+        for nodes, arcs, heaviest in [(1, 0, 1), (40, 60, 1000), (300, 1000, 1000), (300, 400, 1000), (300, 600, 2)]:
+            with self.subTest(nodes=nodes, arcs=arcs):
+                ends, weights = draw.integers(0, nodes, (2, arcs)), draw.integers(0, heaviest + 1, arcs)
+                hierarchy = self.prepared("network", *ends, weights, nodes=nodes, seed=3, workers=2)
+                pairs = np.stack(np.meshgrid(np.arange(nodes), np.arange(nodes), indexing="ij"), axis=-1).reshape(-1, 2)
+                least = least_weights(nodes, *ends, weights)
+                self.check(hierarchy.routes(pairs[: 4 * nodes]), pairs[: 4 * nodes], least)
+                lengths = hierarchy.routes(pairs[:nodes]).lengths
+                self.assertEqual(hierarchy.lengths(pairs[:nodes]).tolist(), lengths.tolist())
+                wanted = dijkstra(least)
+                wanted = np.where(np.isinf(wanted), -1, wanted).astype(np.int64)
+                np.testing.assert_array_equal(hierarchy.matrix(np.arange(nodes), by="sweeps"), wanted)
+                some = draw.integers(0, nodes, 7)
+                np.testing.assert_array_equal(hierarchy.matrix(some, some[:3], by="serve"), wanted[some][:, some[:3]])
+                np.testing.assert_array_equal(hierarchy.matrix(some, some[:3], by="sweeps"), wanted[some][:, some[:3]])
+                self.check_between(hierarchy, draw)
+
+    def check_between(self, hierarchy, draw):
+        """Sweeps from and to places of several nodes with added lengths, beside `between` for each; a place may have no node."""
+        sides = []
+        for size in (6, 4):
+            places, nodes = draw.integers(0, size - 1, 8), draw.integers(0, hierarchy.nodes, 8)
+            sides.append(Seeds(size, places, nodes, draw.integers(0, 100, 8)))
+        with open(self.folder / "network.rch", "rb") as file:
+            table = Sweeps.read(file.fileno(), "network.rch").between(*sides)
+        self.assertEqual(table.shape, (6, 4))
+        for (start, end), length in np.ndenumerate(table):
+            some, others = ([*zip(nodes[at].tolist(), added[at].tolist())]
+                            for (_, places, nodes, added), place in zip(sides, (start, end)) for at in [places == place])
+            route = hierarchy.between(some, others) if some and others else None
+            self.assertEqual(length, -1 if route is None else route.length)
+
+    def check(self, routes, pairs, least):
+        """The lengths are those of scipy, and each route is a walk of that length between its nodes."""
+        wanted = dijkstra(least, indices=np.unique(pairs[:, 0]))[pairs[:, 0], pairs[:, 1]]
+        self.assertEqual(routes.lengths.tolist(), np.where(np.isinf(wanted), -1, wanted).tolist())
+        arcs = least.tocoo()
+        weights = {(start, end): weight for start, end, weight in zip(arcs.row, arcs.col, arcs.data)}
+        for (start, end), length, nodes in zip(pairs.tolist(), routes.lengths.tolist(), routes):
+            if length == -1:
+                self.assertEqual(len(nodes), 0)
+                continue
+            nodes = nodes.tolist()
+            self.assertEqual((nodes[0], nodes[-1]), (start, end))
+            self.assertEqual(sum(weights[step] for step in zip(nodes, nodes[1:])), length)
+
+    def test_answers_in_many_blocks(self):
+        lengths = [[0, 3, 7, -1], [9, 0, 4, -1], [5, 8, 0, -1], [6, 9, 13, 0]]
+        hierarchy, pairs = self.square(), [[row // 4 % 4, row % 4] for row in range(1000)]
+        for size in [3, 64, 1000]:
+            with self.subTest(size=size), unittest.mock.patch.object(process, "BLOCK", size):
+                routes = hierarchy.routes(pairs)
+                self.assertEqual(routes.lengths.tolist(), [lengths[start][end] for start, end in pairs])
+                for row in range(14, 1000, 16):
+                    self.assertEqual(routes[row].tolist(), [3, 0, 1, 2])
+
+    def test_all_options_of_prepare(self):
+        options = {"order": "edges", "workers": 1, "seed": 7, "stint": 2}
+        self.assertEqual(self.prepared("options", *SQUARE, **options).length(3, 2), 13)
+        with self.assertRaisesRegex(domethyme.ProgramError, "--stint"):
+            self.prepared("options", *SQUARE, stint=0)
+
+    def test_all_that_is_public_has_a_docstring(self):
+        for name in domethyme.__all__:
+            found = getattr(domethyme, name)
+            if name == "NO_WAY":
+                continue
+            self.assertTrue(found.__doc__, name)
+            for member in vars(found) if isinstance(found, type) else ():
+                if not member.startswith("_") and callable(getattr(found, member)):
+                    self.assertTrue(getattr(found, member).__doc__, f"{name}.{member}")
+
+    def test_arrays_that_cannot_be_meant(self):
+        graph = self.folder / "square.gr"
+        for wrong, says in [
+            (([0.0], [1], [1]), "from_nodes have to be whole numbers, and are float64"),
+            (([0], [1], [-1]), "weights have to be from 0 to 4294967295, and are from -1 to -1"),
+            (([0], [1], [4294967296]), "weights have to be from 0"),
+            (([0], [-1], [1]), "to_nodes have to be from 0 to 33554431, and are from -1 to -1"),
+            (([0], [2**63], [1]), "to_nodes have to be from 0"),
+            (([1 << 25], [1], [1]), "from_nodes have to be from 0"),
+            (([0], [1, 2], [1]), "as long as one another"),
+            (([[0]], [[1]], [[1]]), "of one dimension"),
+            (([0], [1], ["x"]), "weights have to be whole numbers"),
+        ]:
+            with self.subTest(says=says), self.assertRaisesRegex(ValueError, says):
+                domethyme.write_graph(graph, *wrong)
+        with self.assertRaisesRegex(ValueError, "from 6, by the arcs, to 33554432"):
+            domethyme.write_graph(graph, [0], [5], [1], nodes=5)
+        self.assertEqual(self.contents(), {})
+        hierarchy = self.square()
+        for wrong, says in [
+            ([[0, 1, 2]], "rows of two nodes"),
+            ([0, 1], "rows of two nodes"),
+            ([[0.5, 1]], "whole numbers"),
+            ([[0, -1]], "from 0"),
+            ([[0, 1], [2, 3], [3, 4]], r"row 2 of the pairs, \[3, 4\], has a node that the hierarchy lacks"),
+        ]:
+            with self.subTest(says=says), self.assertRaisesRegex(ValueError, says):
+                hierarchy.routes(wrong)
+
+    def test_refusals(self):
+        graph, file = self.write("bad.gr", "p sp 2 1\na 1 3 5\n"), self.folder / "bad.rch"
+        for kind, message, status, attempt in [
+            (domethyme.GraphError, "routecli: graph: NodeRange line 2", 3, lambda: domethyme.prepare(graph, file)),
+            (domethyme.ReadWriteError, "no.gr: No such file or directory", 7, lambda: domethyme.prepare("no.gr", file)),
+            (domethyme.HierarchyError, f"{graph}: is no file that `routecli prepare` wrote", 4,
+             lambda: domethyme.Hierarchy(graph)),
+            (domethyme.HierarchyError, f"{self.folder}: Is a directory", 7, lambda: domethyme.Hierarchy(self.folder)),
+            (domethyme.HierarchyNotFound, f"{file}: No such file or directory", 7, lambda: domethyme.Hierarchy(file)),
+            (FileNotFoundError, f"{file}: No such file or directory", 7, lambda: domethyme.Hierarchy(file)),
+            (domethyme.ProgramNotFound, "no: is no program that can be run", 1,
+             lambda: domethyme.Hierarchy(file, program="no")),
+        ]:
+            with self.subTest(message=message), self.assertRaises(kind) as caught:
+                attempt()
+            self.assertIsInstance(caught.exception, domethyme.Fault)
+            told = str(caught.exception).splitlines()[0]
+            self.assertEqual((told, caught.exception.status), (message, status))
+        self.assertEqual(list(self.contents()), [graph])
+
+    def test_a_hierarchy_that_is_cut_off_or_no_hierarchy_inside(self):
+        hierarchy = self.square()
+        whole = (self.folder / "square.rch").read_bytes()
+        cut = self.folder / "cut.rch"
+        cut.write_bytes(whole[:-1])
+        with self.assertRaisesRegex(domethyme.HierarchyError, r"cut.rch: has \d+ bytes, and its head"):
+            domethyme.Hierarchy(cut)
+        cut.write_bytes(whole[:24] + whole[28:32] * 2 + whole[32:])
+        with domethyme.Hierarchy(cut, program=serving_program()) as broken:
+            with self.assertRaises(domethyme.HierarchyError):
+                broken.matrix([0, 1], by="sweeps")
+        self.assertEqual((hierarchy.nodes, hierarchy.links), (4, (len(whole) - 24 - 16) // 24))
+
+    def test_a_hierarchy_that_the_program_refuses(self):
+        """The head is sound, and a rank stands twice: the program's own line comes with the file's name."""
+        self.square()
+        program = self.write("program", "#!/bin/sh\necho routecli: hierarchy: RankTwice >&2\nexit 4\n")
+        program.chmod(0o755)
+        with domethyme.Hierarchy(self.folder / "square.rch", program) as hierarchy:
+            with self.assertRaisesRegex(domethyme.HierarchyError, r"square.rch: routecli: hierarchy: RankTwice") as caught:
+                hierarchy.length(0, 1)
+        self.assertEqual(caught.exception.status, 4)
+
+    def test_one_question_at_a_time(self):
+        hierarchy = self.square()
+        self.assertEqual([hierarchy.length(0, end) for end in range(4)], [0, 3, 7, None])
+        route = hierarchy.route(np.int64(3), 2)
+        self.assertEqual((route.source, route.target, route.length, route.nodes, route.arcs), (3, 2, 13, [3, 0, 1, 2], 3))
+        self.assertIsNone(hierarchy.route(0, 3))
+        for node in (4, -1, np.uint64(1 << 63)):
+            with self.assertRaisesRegex(domethyme.NoSuchNode, "nodes 0 to 3"):
+                hierarchy.length(0, node)
+        for node in ("0", 0.0, None):
+            with self.assertRaisesRegex(ValueError, "is no node"):
+                hierarchy.route(node, 0)
+
+    def test_between_places_on_arcs(self):
+        hierarchy = self.square()
+        # from 3 (6 to node 0) with 1 added, or from 1 with 9: 1 + 13 = 14 to node 2, and 9 + 4 = 13
+        for starts in ({3: 1, 1: 9}, [(3, 1), (1, 9)]):
+            taken = hierarchy.between(starts, [2])
+            self.assertEqual((taken.source, taken.target, taken.length, taken.nodes), (1, 2, 13, [1, 2]))
+        self.assertEqual(hierarchy.between([3], {2: 5, 0: 20}).length, 18)
+        self.assertEqual(hierarchy.between([0, 1, 2], [2]).nodes, [2])
+        self.assertIsNone(hierarchy.between([0, 1, 2], [3]))
+        for starts, ends, says in [([], [0], "1 to 8"), ([0] * 9, [0], "1 to 8"), ({0: -1}, [0], "from 0 to 4294967295"),
+                                   ({0: 1.5}, [0], "have to be whole numbers"),
+                                   ([0], {0: 1 << 32}, "from 0 to 4294967295"), ([7], [0], "nodes 0 to 3")]:
+            with self.subTest(says=says), self.assertRaisesRegex(ValueError, says):
+                hierarchy.between(starts, ends)
+
+    def test_slices_and_equality(self):
+        hierarchy, pairs = self.square(), [[0, 2], [0, 3], [3, 2], [1, 1]]
+        routes = hierarchy.routes(pairs)
+        for rows in (slice(1, 3), slice(None, None, -1), slice(4, 9), slice(0, 4, 2)):
+            with self.subTest(rows=rows):
+                part = routes[rows]
+                self.assertEqual([nodes.tolist() for nodes in part], [nodes.tolist() for nodes in routes][rows])
+                self.assertEqual(part, hierarchy.routes(np.array(pairs)[rows].reshape(-1, 2)))
+        self.assertNotEqual(routes, routes[1:])
+        self.assertEqual(routes.arcs.tolist(), [2, -1, 3, 0])
+
+    def test_keys_of_any_kind(self):
+        graph = domethyme.Graph.of_keys(["a", "b", "a", ("c", 3)], ["b", ("c", 3), ("c", 3), "a"], [3, 4, 9, 5])
+        with graph.prepare(self.folder / "keys.rch", program=serving_program()) as hierarchy:
+            self.assertEqual(hierarchy.route("a", ("c", 3)).nodes, ["a", "b", ("c", 3)])
+            self.assertEqual(hierarchy.routes([("a", ("c", 3)), ("b", "a")])[1].tolist(), ["b", ("c", 3), "a"])
+            self.assertEqual(hierarchy.matrix(["b"], ["a", "b"]).tolist(), [[9, 0]])
+            self.assertEqual(hierarchy.between({"a": 1}, ["b"]).length, 4)
+            for attempt in (lambda: hierarchy.length("a", "z"), lambda: hierarchy.lengths([("a", "z")])):
+                with self.assertRaisesRegex(domethyme.NoSuchNode, "key 'z' names no node"):
+                    attempt()
+
+    def test_keys_given_as_numbers_arrays_or_mappings(self):
+        self.square()
+        large = [1 << 40, -5, 7, 9]
+        for keys in (large, np.array(large), dict(zip(large, range(4))), domethyme.Keys(large)):
+            with domethyme.Hierarchy(self.folder / "square.rch", serving_program(), keys=keys) as hierarchy:
+                self.assertEqual(hierarchy.routes([[1 << 40, 7]])[0].tolist(), [1 << 40, -5, 7])
+                self.assertEqual(hierarchy.length(np.int64(1 << 40), -5), 3)
+        for keys, says in [([1, 1], "key 1 names two nodes"), (range(5), "has 4"), ({"a": 0, "b": 0}, "name one node"),
+                           ({"a": -1}, "is no node")]:
+            with self.subTest(says=says), self.assertRaisesRegex(ValueError, says):
+                domethyme.Hierarchy(self.folder / "square.rch", serving_program(), keys=keys)
+
+    def test_weights_that_are_no_whole_numbers(self):
+        graph = domethyme.Graph.of_keys(["a", "b"], ["b", "c"], [0.5, 2.0004], scale=1000)
+        self.assertEqual(graph.weights.tolist(), [500, 2000])
+        for weights in ([1.0, -1.0], [1.0, 5e6], [1.0, float("nan")]):
+            with self.assertRaisesRegex(ValueError, "weights times 1000 have to be from 0"):
+                domethyme.Graph.of_keys(["a", "b"], ["b", "c"], weights, scale=1000)
+
+        graph = domethyme.Graph.of_keys(["a", "b"], ["b", "c"], [0.5, 2.0004], scale=1000)
+        with graph.prepare(self.folder / "scaled.rch", program=serving_program()) as hierarchy:
+            lengths = [hierarchy.length("a", "c"), hierarchy.length("c", "a")]
+            self.assertEqual([domethyme.unscaled(length, 1000) for length in lengths], [2.5, float("inf")])
+            for by in ("serve", "sweeps"):
+                table = domethyme.unscaled(hierarchy.matrix(["a", "c"], by=by), 1000)
+                self.assertEqual(table.tolist(), [[0, 2.5], [float("inf"), 0]])
+            frame = domethyme.unscaled(hierarchy.matrix(pd.Series(["a", "c"])), 1000)
+            self.assertEqual(frame.loc["c"].to_dict(), {"a": float("inf"), "c": 0})
+            series = domethyme.unscaled(hierarchy.lengths(pd.DataFrame({"from": ["a", "c"], "to": ["b", "b"]}, index=[4, 5])))
+            self.assertEqual(series.to_dict(), {4: 500, 5: float("inf")})
+
+    def test_ends_without_a_key(self):
+        for missing in (None, float("nan"), pd.NaT, pd.NA, np.float64("nan")):
+            with self.subTest(missing=missing), self.assertRaisesRegex(ValueError, "an arc has no key at an end"):
+                domethyme.Graph.of_keys(["a", missing], ["b", "c"], [1, 2])
+        for column in (pd.Series([1, None]), pd.Series([1, None], dtype="Int64"), pd.Series(["a", None], dtype="category")):
+            frame = pd.DataFrame({"from": column, "to": column[::-1].to_numpy(), "weight": 1})
+            with self.subTest(dtype=column.dtype), self.assertRaisesRegex(ValueError, "an arc has no key at an end"):
+                domethyme.Graph.of_frame(frame)
+
+    def test_frames_in_and_out(self):
+        frame = pd.DataFrame({"from": ["a", "b", "a"], "to": ["b", "c", "c"], "weight": [3, 4, 9]})
+        with domethyme.Graph.of_frame(frame).prepare(self.folder / "f.rch", program=serving_program()) as hierarchy:
+            asked = pd.DataFrame({"name": [1, 2], "from": ["a", "c"], "to": ["c", "a"]}, index=[7, 9])
+            self.assertEqual(hierarchy.lengths(asked).to_dict(), {7: 7, 9: -1})
+            told = hierarchy.routes(asked).to_frame()
+            self.assertEqual(told.to_dict("index"), {7: {"from": "a", "to": "c", "length": 7, "arcs": 2},
+                                                     9: {"from": "c", "to": "a", "length": -1, "arcs": -1}})
+            table = hierarchy.matrix(asked["from"], ["b", "c"])
+            self.assertEqual(table.loc["a"].to_dict(), {"b": 3, "c": 7})
+            with self.assertRaisesRegex(ValueError, "columns from and to"):
+                hierarchy.lengths(asked[["name", "from", "to"]].rename(columns={"to": "there"}))
+
+    def test_a_hierarchy_that_was_pickled_or_replaced(self):
+        hierarchy = self.square()
+        with pickle.loads(pickle.dumps(hierarchy)) as other:
+            self.assertEqual(other.length(0, 2), 7)
+        self.prepared("other", [0, 1], [1, 0], [8, 8])
+        (self.folder / "other.rch").replace(self.folder / "square.rch")
+        self.assertEqual((hierarchy.length(0, 2), hierarchy.matrix([0], [2], by="sweeps").tolist()), (7, [[7]]))
+
+
+def least_weights(nodes, starts, ends, weights):
+    """The matrix of the least weights from node to node; loops count for nothing."""
+    least = {}
+    for start, end, weight in zip(starts.tolist(), ends.tolist(), weights.tolist()):
+        if start != end:
+            least[start, end] = min(weight, least.get((start, end), weight))
+    rows, columns = ([ends[side] for ends in least] for side in (0, 1))
+    return coo_array((list(least.values()), (rows, columns)), shape=(nodes, nodes), dtype=float).tocsr()

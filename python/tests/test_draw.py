@@ -1,0 +1,453 @@
+"""Tests of draw and of geometry.py: three streets on the equator by hand, where a thousandth of a degree is 111.195 m both
+ways and the map's plane is even."""
+import html.parser
+import json
+import re
+import xml.etree.ElementTree as xml
+
+from tool_case import ToolCase
+
+from domethyme_tools import geometry
+
+# High Street has two directions, and Far Road lies two hundredths of a degree in the north.
+ARCS = """\
+from,to,weight,seconds,metres,osm,highway,name,WKT
+1,2,1,1,222.39,101,tertiary,High Street,"LINESTRING (0 0, 0.001 0, 0.002 0)"
+2,1,1,1,222.39,101,tertiary,High Street,"LINESTRING (0.002 0, 0.001 0, 0 0)"
+2,3,1,1,222.39,102,primary_link,Slip,"LINESTRING (0.002 0, 0.004 0)"
+4,5,1,1,444.78,103,residential,Far Road,"LINESTRING (0 0.02, 0.004 0.02)"
+"""
+LABEL = '</script> <b>"A" & \'B\'</b>'
+
+
+def route(label, line, metres=444.78, seconds=90, steps=()):
+    properties = {"trip": label, "metres": metres, "seconds": seconds, "steps": list(steps)}
+    return {"type": "Feature", "properties": properties, "geometry": {"type": "LineString", "coordinates": line}}
+
+
+STEPS = [{"name": "<High> Street", "metres": 222.39, "seconds": 40}, {"name": "", "metres": 222.39, "seconds": 50}]
+EAST = route(LABEL, [[0, 0], [0.001, 0], [0.002, 0], [0.004, 0]], steps=STEPS)
+WEST = route("west", [[0.002, 0], [0.001, 0], [0, 0]], metres=12345, seconds=7384)
+NO_WAY = {"type": "Feature", "properties": {"trip": "nowhere", "metres": None, "seconds": None}, "geometry": None}
+
+
+# A route from corner to corner and back along the others, so that each corner has a part of it.
+ACROSS = [[0, 0], [0.01, 0.0056], [0, 0.0056], [0.01, 0], [0, 0]]
+
+
+def luminance(colour):
+    """The relative luminance of a colour #rrggbb, by WCAG 2."""
+    parts = [int(colour[place : place + 2], 16) / 255 for place in (1, 3, 5)]
+    linear = [part / 12.92 if part <= 0.04045 else ((part + 0.055) / 1.055) ** 2.4 for part in parts]
+    return 0.2126 * linear[0] + 0.7152 * linear[1] + 0.0722 * linear[2]
+
+
+def told(legend_or_title):
+    return "".join(legend_or_title.itertext())
+
+
+class DrawCase(ToolCase):
+    def setUp(self):
+        super().setUp()
+        self.write("net.arcs.csv", ARCS)
+
+    def routes(self, *features):
+        """The path of a collection of features."""
+        return self.write("routes.json", json.dumps({"type": "FeatureCollection", "features": features}))
+
+    def picture_of(self, *features, words=("--label", "trip")):
+        """The root of a picture of the features, without the names of its space."""
+        self.run_tool("draw", "net", self.routes(*features), "out.svg", *words)
+        return xml.fromstring((self.folder / "out.svg").read_text().replace(' xmlns="http://www.w3.org/2000/svg"', ""))
+
+    def page_of(self, *features, words=("--label", "trip")):
+        """The text of a page of the features, and what its script is given."""
+        self.run_tool("draw", "net", self.routes(*features), "out.html", *words)
+        text = (self.folder / "out.html").read_text()
+        data = re.search(r'<script type="application/json" id="data">\n(.*)\n</script>', text)
+        return text, json.loads(data[1])
+
+
+def roads_in(picture):
+    """The widths and the numbers of lines of the roads of a picture."""
+    paths = picture.findall("./g[@clip-path]/path")
+    return {path.get("stroke-width"): path.get("d").count("M") for path in paths if path.get("stroke") != "#fff"}
+
+
+class Picture(DrawCase):
+    def test_places(self):
+        # The routes are 0.004 degrees wide, and 200 m are 0.0017986: with a tenth and that on each side 0.0083973 in 1000
+        # pixels. The height is 0.56 of that, and the equator in its middle.
+        picture = self.picture_of(EAST, words=[])
+        self.assertEqual((picture.get("width"), picture.get("height")), ("1000", "560"))
+        ring, dot = picture.findall("./g[@clip-path]/circle")
+        for circle, place in [(ring, 261.8), (dot, 738.2)]:
+            self.assertAlmostEqual(float(circle.get("cx")), place, delta=0.1)
+            self.assertAlmostEqual(float(circle.get("cy")), 280, delta=0.1)
+        self.assertEqual((ring.get("fill"), ring.get("stroke")), ("#fff", dot.get("fill")))
+        line = picture.find("./g[@clip-path]/g/path")
+        self.assertEqual(line.get("d"), "M261.8 280l119.1 0 119.1 0 238.2 0")
+        self.assertEqual(line.get("stroke"), dot.get("fill"))
+
+    def test_arrows(self):
+        # 476.4 pixels long: at 65, 195, 325 and 455 pixels from the ring, of which the last one lies far enough from the dot.
+        arrows = self.picture_of(EAST).findall("./g[@clip-path]/path[@fill]")
+        self.assertEqual([path.get("d").count("Z") for path in arrows], [4])
+        self.assertTrue(arrows[0].get("d").startswith("M333.8 280.0L321.8 286.0L321.8 274.0Z"), arrows[0].get("d"))
+        back = self.picture_of(route("back", [[0.004, 0], [0, 0]])).find("./g[@clip-path]/path[@fill]")
+        self.assertTrue(back.get("d").startswith("M666.2 280.0L678.2 274.0L678.2 286.0Z"), back.get("d"))
+        self.assertEqual(self.picture_of(route("stay", [[0, 0], [0, 0]])).findall("./g[@clip-path]/path[@fill]"), [])
+        self.assertEqual(len(self.picture_of(*[EAST] * 20).findall("./g[@clip-path]/path[@fill]")), 20)
+        self.assertEqual(self.picture_of(*[EAST] * 21).findall("./g[@clip-path]/path[@fill]"), [])
+
+    def test_scale(self):
+        # A pixel is 0.0083973 * 111195 / 1000 = 0.93374 m, so a fifth is 187 m, and 100 m are 107.1 pixels.
+        picture = self.picture_of(EAST)
+        self.assertEqual(told(picture.findall("text")[-1]), "100 m")
+        self.assertIn("h107.1v", picture.findall("path")[-1].get("d"))
+
+    def test_width(self):
+        picture = self.picture_of(EAST, words=["--width", "800"])
+        self.assertEqual((picture.get("width"), picture.get("height")), ("800", "448"))
+        self.assertAlmostEqual(float(picture.find("./g[@clip-path]/circle").get("cx")), 209.4, delta=0.1)
+
+    def test_a_narrow_picture(self):
+        # The legend is below the map, 280 pixels high, with a margin below: a row of 24, and 14.
+        picture = self.picture_of(EAST, words=["--width", "500"])
+        self.assertEqual((picture.get("width"), picture.get("height")), ("500", "332"))
+        self.assertAlmostEqual(float(picture.find("./g[@clip-path]/circle").get("cx")), 130.9, delta=0.1)
+
+    def test_roads(self):
+        self.assertEqual(roads_in(self.picture_of(EAST)), {"1.8": 1, "3": 1})
+        self.assertEqual(roads_in(self.picture_of(EAST, words=["--whole"])), {"1.2": 1, "1.8": 1, "3": 1})
+        self.assertEqual(roads_in(self.picture_of(NO_WAY)), {"1.2": 1, "1.8": 1, "3": 1})
+
+    def test_legend_and_titles(self):
+        picture = self.picture_of(EAST, WEST, NO_WAY)
+        texts = [told(text) for text in picture.findall("./g[@transform]/text")]
+        self.assertEqual(
+            texts, [LABEL, "0.44 km, 1.5 min", "west", "12.3 km, 2 h 3 min", "nowhere", "no way"]
+        )
+        titles = [told(title) for title in picture.findall("./g/g/title")]
+        self.assertEqual(titles[0], f"{LABEL}: 0.44 km, 1.5 min\n<High> Street, 222 m\nunnamed road, 222 m")
+        self.assertEqual(len(picture.findall("./g[@transform]/circle")), 4)
+
+    def test_numbers_for_labels(self):
+        picture = self.picture_of(EAST, WEST, words=[])
+        self.assertEqual([told(text) for text in picture.findall("./g[@transform]/text")][::2], ["route 1", "route 2"])
+
+    def test_long_legend(self):
+        # Without a line the whole network is shown, as high as it is wide. Three fifths of 1000 pixels are 25 rows of 24.
+        picture = self.picture_of(*[NO_WAY] * 40, words=[])
+        texts = [told(text) for text in picture.findall("./g[@transform]/text")]
+        self.assertEqual((len(texts), texts[-2]), (50, "and 16 more"))
+        # Below the map, where a route would be hidden, there is room for 40 rows.
+        for count, last in [(20, "route 20"), (60, "and 21 more")]:
+            picture = self.picture_of(*[route("", ACROSS)] * count, words=[])
+            texts = [told(text) for text in picture.findall("./g[@transform]/text")]
+            self.assertEqual((len(texts), texts[-2]), (2 * min(count, 40), last))
+
+    def test_the_legend_hides_no_route_and_is_in_the_picture(self):
+        for label in ("a", "a label that is rather long for any of them", LABEL):
+            for width in (200, 300, 500, 1000):
+                for line in (ACROSS, [[0, 0], [0.004, 0]], [[0, 0], [0, 0.004], [0.004, 0.004], [0.004, 0]]):
+                    with self.subTest(label=label, width=width, line=line):
+                        words = ["--label", "trip", "--width", width]
+                        self.look_at_legend(self.picture_of(route(label, line), words=words))
+
+    def look_at_legend(self, picture):
+        """The legend is in the picture, and its texts in the legend, at 7.8 and 8.8 pixels a letter; no end of a route is
+        below it."""
+        group = picture.find("./g[@transform]")
+        left, top = map(float, re.findall("[0-9.]+", group.get("transform")))
+        width, height = (float(group.find("rect").get(side)) for side in ("width", "height"))
+        self.assertTrue(left + width <= float(picture.get("width")) and top + height <= float(picture.get("height")))
+        for circle in picture.findall("./g[@clip-path]/circle"):
+            x, y = float(circle.get("cx")), float(circle.get("cy"))
+            self.assertFalse(left <= x <= left + width and top <= y <= top + height)
+        for text in group.findall("text"):
+            letter = 8.8 if text.get("font-weight") else 7.8
+            start = float(text.get("x")) - (len(told(text)) * letter if text.get("text-anchor") else 0)
+            self.assertTrue(0 <= start and start + len(told(text)) * letter <= width + 1, told(text))
+
+    def test_contrast(self):
+        colours = [kind.get("stroke") for kind in self.picture_of(EAST, words=["--whole"]).findall("./g[@clip-path]/path")]
+        colours += [dot.get("fill") for dot in self.picture_of(*[WEST] * 8).findall("./g[@clip-path]/circle")][1::2]
+        self.assertEqual(len(set(colours) - {"#fff"}), 11)
+        for colour in set(colours) - {"#fff"}:
+            with self.subTest(colour=colour):
+                self.assertGreaterEqual((luminance("#fbfaf8") + 0.05) / (luminance(colour) + 0.05), 3)
+
+    def test_tunnels_are_dashed(self):
+        rows = ARCS.replace(",WKT", ",structure,WKT").replace(',"LINE', ',,"LINE').replace("Slip,,", "Slip,tunnel,")
+        self.write("net.arcs.csv", rows)
+        dashes = {path.get("stroke-width"): path.get("stroke-dasharray") for path in
+                  self.picture_of(EAST).findall("./g[@clip-path]/path") if path.get("stroke") != "#fff"}
+        self.assertEqual(dashes, {"3": "5 4", "1.8": None})
+        _, data = self.page_of(EAST)
+        self.assertEqual([kind["dashes"] for kind in data["roads"]], [None] * 5 + ["5 4"])
+
+    def test_a_network_of_dimacs(self):
+        self.write("d.co", "p aux sp co 3\nv 1 0 0\nv 2 1000 0\nv 3 2000 1000\n")
+        self.write("d.gr", "p sp 3 3\na 1 2 7\na 2 3 9\na 2 3 8\n")
+        self.write("answers", "r 1 3 15 2 1 2 3\n")
+        self.run_tool("to_geojson", "d.co", "answers", "-o", "routes")
+        told_of = json.loads((self.folder / "routes").read_text())["features"][0]
+        self.assertEqual(told_of["geometry"]["coordinates"], [[0, 0], [0.001, 0], [0.002, 0.001]])
+        self.assertEqual((told_of["properties"]["metres"], told_of["properties"]["seconds"]), (268.45, 0))
+        self.run_tool("draw", "d.co", "routes", "out.svg")
+        picture = xml.fromstring((self.folder / "out.svg").read_text().replace(' xmlns="http://www.w3.org/2000/svg"', ""))
+        self.assertEqual(roads_in(picture), {"1.2": 2})
+        self.assertEqual([told(text) for text in picture.findall("./g[@transform]/text")], ["route 1", "0.27 km"])
+        self.assert_refused("draw", "net.co", "routes", "out.svg", says="net.co: No such file or directory")
+
+    def test_shared_road(self):
+        # Both go along High Street, so the first is wider there, and not along the slip road.
+        first, second, _ = self.picture_of(EAST, WEST, NO_WAY).findall("./g/g")
+        self.assertEqual([path.get("stroke-width") for path in first.findall("path")], ["8.5", "4.5"])
+        self.assertEqual([path.get("stroke-width") for path in second.findall("path")], ["4.5"])
+        self.assertNotEqual(first.find("path").get("stroke"), second.find("path").get("stroke"))
+
+    def test_route_of_no_arc(self):
+        picture = self.picture_of(route("stay", [[0, 0], [0, 0]], 0, 0))
+        self.assertTrue(picture.find("./g/g/path").get("d").endswith("l0 0"))
+        self.assertEqual(told(picture.findall("./g[@transform]/text")[1]), "0.00 km, 0.0 min")
+
+    def test_attribution(self):
+        self.assertEqual(len(self.picture_of(EAST).findall("text")), 1)
+        self.write("net.gr", "c attribution: \u00a9 A & B\np sp 5 0\n")
+        picture = self.picture_of(EAST, words=["--attribution", "<tiles>"])
+        self.assertEqual(told(picture.findall("text")[-1]), "\u00a9 A & B, <tiles>")
+
+    def test_what_xml_cannot_hold(self):
+        picture = self.picture_of(route("a\x00b\ud800", [[0, 0], [0.002, 0]]))
+        self.assertEqual(told(picture.find("./g[@transform]/text")), "a\ufffdb\ufffd")
+
+    def test_lines_and_collection_are_one(self):
+        self.picture_of(EAST, NO_WAY)
+        before = (self.folder / "out.svg").read_text()
+        lines = f"{json.dumps(EAST)}\n{json.dumps(NO_WAY)}\n"
+        self.run_tool("draw", "net", "-", "out.svg", "--label", "trip", given=lines)
+        self.assertEqual((self.folder / "out.svg").read_text(), before)
+
+
+class Page(DrawCase):
+    def test_routes(self):
+        _, data = self.page_of(EAST, NO_WAY)
+        east, nowhere = data["routes"]
+        self.assertEqual((east["label"], east["figures"]), (LABEL, "0.44 km, 1.5 min"))
+        self.assertEqual(east["steps"], [["<High> Street", "222 m"], ["unnamed road", "222 m"]])
+        self.assertEqual(east["pieces"], [[4.5, [0, 0, 1000, 0, 1000, 0, 2000, 0]]])
+        self.assertEqual(east["ends"], [0, 0, 4000, 0])
+        self.assertEqual(east["names"], [["<High> Street", 1000, 0]])
+        self.assertEqual((nowhere["figures"], nowhere["ends"], nowhere["pieces"]), ("no way", None, []))
+        self.assertEqual(data["bounds"], [[0, 0], [0, 0.004]])
+
+    def test_roads(self):
+        _, data = self.page_of(EAST)
+        self.assertEqual([len(kind["lines"]) for kind in data["roads"]], [0, 1, 0, 1, 0])
+        self.assertEqual(data["roads"][1]["lines"], [[0, 0, 1000, 0, 1000, 0]])
+        _, data = self.page_of(EAST, words=["--whole"])
+        self.assertEqual([len(kind["lines"]) for kind in data["roads"]], [1, 1, 0, 1, 0])
+        self.assertEqual(data["bounds"], [[0, 0], [0, 0.004]])
+
+    def test_names_of_streets_and_their_ways(self):
+        # 499.8 and 2499.6 of 3999.6 m along a line of 4000 millionths of a degree.
+        steps = [{"name": "A", "metres": 999.6}, {"name": "", "metres": 0}, {"name": "B", "metres": 3000}, {"name": "C", "metres": 0}]
+        _, data = self.page_of(route("x", [[0, 0], [0.001, 0], [0.004, 0]], metres=3999.6, steps=steps))
+        self.assertEqual(data["routes"][0]["names"], [["B", 2500, 0], ["A", 500, 0]])
+        ways = [["A", "1.00 km"], ["unnamed road", "0 m"], ["B", "3.00 km"], ["C", "0 m"]]
+        self.assertEqual(data["routes"][0]["steps"], ways)
+
+    def test_colours_for_dark_pages(self):
+        text, data = self.page_of(*[EAST] * 9)
+        self.assertEqual([each["colour"] for each in data["routes"]], [0, 1, 2, 3, 4, 5, 6, 7, 0])
+        self.assertEqual(data["roads"][0]["colour"], data["roads"][-1]["dark"])
+        found = re.findall(r"^\.colour-\d { --light: (#\w{6}); --dark: (#\w{6}); }$", text, re.M)
+        self.assertEqual(len(found), 8)
+        for colour in [dark for _, dark in found] + [road["dark"] for road in data["roads"]]:
+            self.assertGreaterEqual((luminance(colour) + 0.05) / (luminance("#1b1c1f") + 0.05), 3, colour)
+
+    def test_nothing_is_asked_of_a_network(self):
+        text, data = self.page_of(EAST)
+        page = Tags()
+        page.feed(text)
+        policy = "default-src 'none'; script-src 'unsafe-inline'; style-src 'unsafe-inline'; img-src data:"
+        self.assertEqual(page.policies, [policy])
+        self.assertEqual(page.addresses, ["data:,"])
+        self.assertNotIn("sourceMappingURL", text)
+        self.assertIsNone(data["tiles"])
+
+    def test_names_are_no_tags(self):
+        text, _ = self.page_of(EAST)
+        self.assertEqual(text.count("</script"), 3)
+        self.assertIn("<title>&lt;/script&gt; &lt;b&gt;&quot;A&quot; &amp; &#x27;B&#x27;&lt;/b&gt;</title>", text)
+
+    def test_notice_of_leaflet(self):
+        text, _ = self.page_of(EAST)
+        for part in ["Vladimir Agafonkin", "Redistributions in binary form", "EVEN IF ADVISED OF THE POSSIBILITY"]:
+            self.assertEqual(text.count(part), 1, part)
+
+    def test_tiles(self):
+        text, data = self.page_of(EAST, words=["--tiles", "https://tiles.example/{z}/{x}/{y}.png"])
+        self.assertEqual(data["tiles"], "https://tiles.example/{z}/{x}/{y}.png")
+        self.assertIn("img-src data: file: http: https:", text)
+
+    def test_attribution(self):
+        self.write("net.gr", "c attribution: \u00a9 OpenStreetMap <contributors>\np sp 5 0\n")
+        _, data = self.page_of(EAST)
+        link = '<a href="https://www.openstreetmap.org/copyright">OpenStreetMap</a>'
+        self.assertEqual(data["attribution"], f"\u00a9 {link} &lt;contributors&gt;")
+
+
+class Tags(html.parser.HTMLParser):
+    """What a page loads, by its tags: addresses and policies."""
+
+    def __init__(self):
+        super().__init__()
+        self.addresses, self.policies = [], []
+
+    def handle_starttag(self, tag, attrs):
+        self.addresses += [value for name, value in attrs if name in ("src", "href")]
+        if dict(attrs).get("http-equiv") == "Content-Security-Policy":
+            self.policies.append(dict(attrs)["content"])
+
+
+class BadInput(DrawCase):
+    def assert_routes_refused(self, text, says, *words):
+        routes = self.write("routes.json", text)
+        self.assert_refused("draw", "net", routes, "out.svg", *words, says=f"routes.json{says}")
+
+    def test_a_file_without_a_route(self):
+        self.write("empty", "\n")
+        says = "empty: is empty: a step that was to write it has failed"
+        self.assert_refused("draw", "net", "empty", "out.svg", says=says)
+        self.write("none", '{"type": "FeatureCollection", "features": []}')
+        said = self.run_tool("draw", "net", "none", "out.svg").stderr
+        self.assertEqual(said, "draw: none has no route: the roads alone are drawn\n")
+
+    def test_no_geojson(self):
+        self.assert_routes_refused('{"type": "FeatureCollection",\n"features": [,]}', ", row 2: isn't GeoJSON")
+        self.assert_routes_refused(f"{json.dumps(EAST)}\n\nroute\n", ", row 3: isn't GeoJSON")
+        self.assert_routes_refused(f"{json.dumps(EAST)}\n[]\n", ", row 2: is neither a feature nor a collection")
+        self.assert_routes_refused("[" * 100_000, ", row 1: isn't GeoJSON")
+        self.assert_routes_refused("1" * 5000, ", row 1: isn't GeoJSON")
+
+    def test_features(self):
+        point = {**EAST, "geometry": {"type": "Point", "coordinates": [0, 0]}}
+        for bad, says in [
+            (7, "has no properties"),
+            ({"type": "Feature", "geometry": None}, "has no properties"),
+            (point, "has no line of places"),
+            (route("a", [[0, 0]]), "has no line of places"),
+            (route("a", [[0, 0], [0, 91]]), "has no line of places"),
+            (route("a", [[0, 0], [0, float("nan")]]), "has no line of places"),
+            (route("a", [[0, 0], [0, 1]], metres="far"), "has no number metres"),
+            (route("a", [[0, 0], [0, 1]], metres=-1), "has no number metres"),
+            (route("a", [[0, 0], [0, 1]], seconds=10**400), "has no number seconds"),
+            (route("a", [[0, 0], [0, 1]], steps=["High Street"]), "has no list of steps"),
+        ]:
+            text = json.dumps({"type": "FeatureCollection", "features": [EAST, bad]})
+            self.assert_routes_refused(text, f": feature 2 {says}")
+
+    def test_label(self):
+        self.assert_routes_refused(json.dumps(EAST), ": feature 1 has no property name", "--label", "name")
+
+    def test_bytes(self):
+        (self.folder / "latin").write_bytes(b"\xe9")
+        self.assert_refused("draw", "net", "latin", "out.svg", says="latin: isn't UTF-8")
+
+    def test_network(self):
+        routes = self.routes(EAST)
+        self.assert_refused("draw", "nowhere", routes, "out.svg", says="nowhere.arcs.csv: No such file")
+        self.write("net.arcs.csv", ARCS.replace("LINESTRING (0.002 0, 0.004 0)", "POINT (0 0)"))
+        self.assert_refused("draw", "net", routes, "out.svg", says="net.arcs.csv, row 4: WKT 'POINT (0 0)' is no line")
+        self.write("net.arcs.csv", ARCS.splitlines()[0])
+        self.assert_refused("draw", "net", self.routes(NO_WAY), "out.svg", says="net.arcs.csv: has no arcs")
+
+    def test_old_file_stays(self):
+        self.write("out.svg", "as it was\n")
+        self.assert_routes_refused("{}", ", row 1: is neither")
+
+    def test_words(self):
+        routes = self.routes(EAST)
+        for words in [
+            [],
+            ["net", routes],
+            ["net", routes, "out.png"],
+            ["net", routes, "-"],
+            ["net", routes, "out.svg", "--width", "0"],
+            ["net", routes, "out.svg", "--width", "wide"],
+            ["net", routes, "out.html", "--width", "500"],
+            ["net", routes, "out.svg", "--tiles", "{z}/{x}/{y}"],
+            ["net", routes, "out.html", "--tiles", "https://tiles.example"],
+        ]:
+            self.assertEqual(self.run_tool("draw", *words, status=2).stdout, "")
+        self.assertIn("--tiles", self.run_tool("draw", "--help").stdout)
+
+
+class Geometry(ToolCase):
+    def test_plane(self):
+        # By the projection of web maps 45 degrees north lie at log(1 + sqrt(2)) / (2 pi) = 0.140275 above the middle.
+        (west, equator), (middle, north), (east, south) = geometry.plane_of([(-180, 0), (0, 45), (180, -90)])
+        self.assertEqual([west, equator, middle, east], [0, 0.5, 0.5, 1])
+        self.assertAlmostEqual(north, 0.359725, 6)
+        self.assertAlmostEqual(south, 1, 4)
+
+    def test_view(self):
+        view = geometry.View(geometry.Box(0.25, 0.25, 0.5, 0.75), 100)
+        self.assertEqual(view.height, 200)
+        self.assertEqual(view.pixels([(0.25, 0.25), (0.5, 0.75), (0.3125, 0.5)]), [(0, 0), (100, 200), (25, 100)])
+
+    def test_pixel_on_the_ground(self):
+        # At 60 degrees north a degree of longitude is half of 111195.08 m; the line is a tenth of a degree, in 100 pixels.
+        view = geometry.View(geometry.box_of(geometry.plane_of([(9, 60), (9.1, 60)])), 100)
+        self.assertAlmostEqual(view.metres_of_a_pixel, 55.59754, 4)
+
+    def test_box(self):
+        box = geometry.box_of([(0.5, 0.25), (0.25, 0.5)])
+        self.assertEqual(box, geometry.Box(0.25, 0.25, 0.5, 0.5))
+        self.assertEqual(box.grown(0.25), geometry.Box(0, 0, 0.75, 0.75))
+        self.assertEqual(box.shaped(2, 4), geometry.Box(0.25, 0.125, 0.5, 0.625))
+        self.assertEqual(box.shaped(0.25, 0.5), geometry.Box(0.125, 0.25, 0.625, 0.5))
+        self.assertEqual(box.shaped(0.5, 2), box)
+        self.assertTrue(box.meets(geometry.Box(0.5, 0, 1, 0.25)))
+        self.assertFalse(box.meets(geometry.Box(0.51, 0, 1, 1)))
+        self.assertFalse(box.meets(geometry.Box(0, 0.51, 1, 1)))
+
+    def test_joined(self):
+        self.assertEqual(geometry.joined([["a", "b"], ["b", "b", "c"], ["c", "a"]]), ["a", "b", "c", "a"])
+
+    def test_nested(self):
+        a, b, c, d = (0, 0), (1, 0), (2, 0), (3, 0)
+        found = geometry.nested([[a, b, c, d], [c, b, a, b], [b, c]], 9)
+        self.assertEqual(found[0], [(1, [a, b]), (2, [b, c]), (0, [c, d])])
+        self.assertEqual(found[1], [(1, [c, b]), (0, [b, a, b])])
+        self.assertEqual(found[2], [(0, [b, c])])
+        self.assertEqual(geometry.nested([[a, b], [a, b], [a, b], []], 1)[0], [(1, [a, b])])
+
+    def test_path(self):
+        self.assertEqual(geometry.path_of([(1, 2), (1.04, 2), (3.5, -2.26)]), "M1 2l2.5 -4.3")
+        self.assertEqual(geometry.path_of([(1, 2), (1, 2)]), "M1 2l0 0")
+
+    def test_arrows(self):
+        bent = [(0, 0), (10, 0), (10, 10)]
+        self.assertEqual(geometry.arrows(bent, 8), [((4, 0), (1, 0)), ((10, 2), (0, 1))])
+        self.assertEqual(geometry.arrows([(0, 0), (0, 0), (0, -3)], 2), [((0, -1), (0, -1))])
+        self.assertEqual(geometry.arrows([(0, 0), (0, 0)], 2), [])
+
+    def test_share(self):
+        bent = [(0, 0), (1, 0), (1, 0), (1, 3)]
+        for share, place in ((0, (0, 0)), (0.125, (0.5, 0)), (0.25, (1, 0)), (0.5, (1, 1)), (1, (1, 3))):
+            found = geometry.share_of(bent, share)
+            self.assertAlmostEqual(found[0], place[0])
+            self.assertAlmostEqual(found[1], place[1])
+        self.assertEqual(geometry.share_of([(5, 6), (5, 6)], 0.5), (5, 6))
+
+    def test_differences(self):
+        line = [(9.5, 47.1), (9.500001, 47.0999996), (9.4, 47.1)]
+        self.assertEqual(geometry.differences(line), [9500000, 47100000, 1, 0, -100001, 0])
+
+    def test_scale_bars(self):
+        found = [geometry.bar_for(metres) for metres in (1, 1.99, 4.9, 5, 999, 1000, 2500, 0.3)]
+        self.assertEqual(found, [1, 1, 2, 5, 500, 1000, 2000, 0.2])

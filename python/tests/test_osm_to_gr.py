@@ -1,0 +1,631 @@
+"""Tests of osm_to_gr: each rule in the village of village.osm, whose figures are reckoned from the drawing in README.md."""
+import bz2
+import collections
+import itertools
+import json
+import xml.etree.ElementTree as xml
+
+import osmium
+from tool_case import PYTHON, VILLAGE, ToolCase
+
+from domethyme.network.tables import attribution_of, lightest, read_arcs, read_nodes
+from domethyme.texts import read_answers, read_graph, write_pairs
+from domethyme import find_program
+
+# A step of the drawing is a thousandth of a degree: 6371008.8 m * pi / 180 / 1000 = 111.19508 m. At 1 km/h that takes
+# 400302.289 ms; so 1 step at 50 km/h 8006.05 ms, at 30 km/h 13343.41, at 15 km/h 26686.82, at 30 mph (48.28032 km/h)
+# 8291.21; 2 steps at 30 km/h 26686.82, at 40 km/h 20015.11, at 50 km/h 16012.09, at 60 km/h 13343.41, at 120 km/h
+# 6671.70, at 130 km/h 6158.50; and 5/3 steps at 100 km/h 6671.70.
+STEP_AT_1 = 400302.289
+CENTIMETRES = {0: 1, 1: 11120, 5 / 3: 18533, 2: 22239}
+FIRST_CUT, SECOND_CUT, RING_CUT = "(-1.667, 0.000)", "(-3.333, 0.000)", "(-5.500, 0.500)"
+
+# The pieces of road: way, from, to, steps, and the milliseconds forward and backward. Nodes are named as in the map, and
+# points that aren't nodes by their places in the drawing.
+DRAWING = [
+    ("High Street", 1, 2, 2, 16012, 16012),
+    ("High Street", 2, 3, 2, 16012, 16012),
+    ("High Street", 3, 4, 2, 16012, 16012),
+    ("High Street", 4, 5, 2, 16012, 16012),
+    ("High Street", 5, 6, 2, 16012, 16012),
+    ("High Street", 6, 7, 2, 16012, 16012),
+    ("High Street", 7, 8, 1, 8006, 8006),
+    ("Bend Lane", 1, 12, 2, 26687, 26687),
+    ("Long Road", 1, FIRST_CUT, 5 / 3, 6672, 6672),
+    ("Long Road", FIRST_CUT, SECOND_CUT, 5 / 3, 6672, 6672),
+    ("Long Road", SECOND_CUT, 13, 5 / 3, 6672, 6672),
+    ("The Ring", 13, RING_CUT, 1, 13343, 13343),
+    ("The Ring", RING_CUT, 13, 1, 13343, 13343),
+    ("Up Street", 2, 21, 1, 13343, None),
+    ("Top Street", 21, 31, 2, 13343, 20015),
+    ("Down Street", 31, 3, 1, 13343, None),
+    ("Twin Row", 31, 32, 1, 13343, 13343),
+    ("Twin Link", 32, 33, 0, 1, 1),
+    ("Twin End", 33, 34, 1, 13343, 13343),
+    ("Cut Road", 34, 35, 1, 13343, 13343),
+    ("Cut Road", 46, 45, 1, 13343, 13343),
+    ("Mill Road", 4, 41, 1, 13343, 13343),
+    ("", 41, 43, 2, 26687, None),
+    ("", 43, 41, 2, 26687, None),
+    ("Hill Road", 43, 45, 1, 13343, 13343),
+    ("Bollard Way", 5, 53, 1, 13343, 13343),
+    ("Bollard Way", 53, 54, 1, 13343, 13343),
+    ("Top Lane", 54, 56, 2, 26687, 26687),
+    ("Gate Way", 6, 56, 2, 26687, 26687),
+    ("Wicket Way", 7, 71, 1, 13343, 13343),
+    ("Wicket Way", 71, 72, 1, 13343, 13343),
+    ("Upper Row", 72, 82, 1, 13343, 13343),
+    ("Post Way", 8, 82, 2, 26687, 26687),
+    ("Imperial Road", 8, 83, 1, 8291, 8291),
+    ("M1", 83, 85, 2, 6158, None),
+    ('Exit <&" Road', 85, 82, 1, 13343, 13343),
+    ("Bypass", 7, 8, 2, 6672, 6672),
+    ("Motorcar Yard", 1, 61, 1, 26687, 26687),
+    ("Visitors' Way", 4, 64, 1, 13343, 13343),
+]
+ISLANDS = [("Trap Street", 45, 47, 1, 13343, None), ("Far Road", 91, 92, 1, 13343, 13343)]
+LEFT_OUT = """\
+osm_to_gr: ways for destinations alone that are taken as open: 1
+osm_to_gr: ways left out as closed to the vehicle: 3
+osm_to_gr: ways left out by their class: 1
+osm_to_gr: ways left out as areas: 1
+osm_to_gr: ways left out as their direction changes: 1
+osm_to_gr: maxspeeds that weren't understood (signals 1): 1
+osm_to_gr: nodes that the map lacks: 2
+osm_to_gr: barriers that part roads: 2
+osm_to_gr: ways left out with fewer than two nodes in the map: 1
+osm_to_gr: turn restrictions not looked at: a way goes on through the node: 1
+osm_to_gr: nodes left out on islands: 3
+osm_to_gr: pieces of road left out on islands: 2
+osm_to_gr: weights raised to 1: 2
+osm_to_gr: village: 35 nodes, 73 arcs, 6.1 km of road
+"""
+
+
+def arcs_by_time(pieces):
+    """How often each (way, from, to, weight) comes among the pieces of a drawing, by time."""
+    forward = [(way, start, end, there) for way, start, end, _, there, _ in pieces if there]
+    backward = [(way, end, start, back) for way, start, end, _, _, back in pieces if back]
+    return collections.Counter(forward + backward)
+
+
+def arcs_by_length(pieces):
+    """The same by length."""
+    forward = [(way, start, end, CENTIMETRES[steps]) for way, start, end, steps, there, _ in pieces if there]
+    backward = [(way, end, start, CENTIMETRES[steps]) for way, start, end, steps, _, back in pieces if back]
+    return collections.Counter(forward + backward)
+
+
+class NetworkCase(ToolCase):
+    """Tests that read the network that they have made in their folder."""
+
+    def convert(self, *words, source=VILLAGE, out="village"):
+        return self.run_tool("osm_to_gr", source, out, *words)
+
+    def nodes(self, out="village"):
+        return read_nodes(self.folder / f"{out}.nodes.csv")
+
+    def rows(self, out="village"):
+        return list(read_arcs(self.folder / f"{out}.arcs.csv"))
+
+    def graph(self, out="village"):
+        return read_graph(self.folder / f"{out}.gr")
+
+    def labels(self, out="village"):
+        """The name of each node by its number: its id in the map, or its place in the drawing."""
+        places = enumerate(zip(*self.nodes(out)), 1)
+        return {node: osm or f"({lon * 1000:.3f}, {lat * 1000:.3f})" for node, (osm, lon, lat, _) in places}
+
+    def drawn(self, out="village"):
+        """How often each (way, from, to, weight) comes among the rows."""
+        label = self.labels(out)
+        return collections.Counter((arc.name, label[arc.start], label[arc.end], arc.weight) for arc in self.rows(out))
+
+    def files(self, out="village"):
+        return [(self.folder / f"{out}{ending}").read_bytes() for ending in (".gr", ".nodes.csv", ".arcs.csv")]
+
+
+class Village(NetworkCase):
+    def test_arcs_are_those_of_the_drawing(self):
+        self.convert()
+        self.assertEqual(self.drawn(), arcs_by_time(DRAWING))
+
+    def test_weights_by_length(self):
+        self.convert("--weight", "length")
+        self.assertEqual(self.drawn(), arcs_by_length(DRAWING))
+
+    def test_islands_are_kept_where_asked_for(self):
+        self.convert("--islands")
+        self.assertEqual(self.drawn(), arcs_by_time(DRAWING + ISLANDS))
+
+    def test_what_was_left_out_is_counted(self):
+        self.assertEqual(self.convert().stderr, LEFT_OUT)
+
+    def test_graph_and_rows_have_the_same_arcs_in_the_same_order(self):
+        self.convert()
+        graph, rows = self.graph(), self.rows()
+        self.assertEqual(graph.nodes, len(self.nodes().osm))
+        self.assertEqual(
+            list(zip(graph.starts, graph.ends, graph.weights)), [(arc.start, arc.end, arc.weight) for arc in rows]
+        )
+
+    def test_nodes_lie_where_the_map_has_them(self):
+        self.convert()
+        nodes = self.nodes()
+        places = {int(node.get("id")): (float(node.get("lon")), float(node.get("lat"))) for node in map_of("node")}
+        for osm, lon, lat, _ in zip(*nodes):
+            if osm is not None:
+                self.assertEqual((lon, lat), places[osm])
+        self.assertEqual(nodes.osm.count(None), 3)
+
+    def test_a_barrier_has_a_node_for_each_end(self):
+        self.convert()
+        osm = self.nodes().osm
+        self.assertEqual([osm.count(node) for node in (53, 71, 57, 81)], [2, 2, 0, 0])
+
+    def test_seconds_metres_ways_and_classes(self):
+        self.convert()
+        rows = {(arc.name, arc.weight): (arc.seconds, arc.metres, arc.osm, arc.highway) for arc in self.rows()}
+        self.assertEqual(rows["High Street", 16012], (16.012, 222.39, 101, "tertiary"))
+        self.assertEqual(rows["Long Road", 6672], (6.672, 185.33, 103, "secondary"))
+        self.assertEqual(rows["Top Street", 20015], (20.015, 222.39, 106, "residential"))
+        self.assertEqual(rows["Twin Link", 1], (0, 0, 109, "residential"))
+        self.assertEqual(rows["M1", 6158], (6.158, 222.39, 123, "motorway"))
+
+    def test_lines_follow_the_road_in_the_direction_of_the_arc(self):
+        self.convert()
+        label = self.labels()
+        lines = {(arc.name, label[arc.start], label[arc.end]): arc.wkt for arc in self.rows()}
+        there = ["0.0000000 0.0000000", "0.0000000 0.0010000", "0.0010000 0.0010000"]
+        self.assertEqual(lines["Bend Lane", 1, 12], f"LINESTRING ({', '.join(there)})")
+        self.assertEqual(lines["Bend Lane", 12, 1], f"LINESTRING ({', '.join(reversed(there))})")
+        self.assertEqual(
+            lines["Long Road", FIRST_CUT, SECOND_CUT], "LINESTRING (-0.0016667 0.0000000, -0.0033333 0.0000000)"
+        )
+
+    def test_a_cut_at_a_point_of_the_line_repeats_no_point(self):
+        self.convert()
+        lines = {arc.wkt for arc in self.rows() if arc.name == "The Ring"}
+        first = ["-0.0050000 0.0000000", "-0.0050000 0.0005000", "-0.0055000 0.0005000"]
+        second = ["-0.0055000 0.0005000", "-0.0055000 0.0000000", "-0.0050000 0.0000000"]
+        both = [*first, ""], [*reversed(first), ""], [*second, ""], [*reversed(second), ""]
+        self.assertEqual(lines, {f"LINESTRING ({', '.join(line[:-1])})" for line in both})
+
+    def test_longer_arcs(self):
+        self.convert("--longest-arc", "600")
+        drawn = self.drawn()
+        self.assertEqual(drawn["Long Road", 1, 13, 20015], 1)
+        self.assertEqual(drawn["The Ring", 13, RING_CUT, 13343], 2)
+
+    def test_shorter_arcs(self):
+        self.convert("--longest-arc", "100", "--weight", "length")
+        drawn = self.drawn()
+        # 2 steps are three parts of 74.13 m, 1 step two of 55.60 m, and 5 steps six of 92.66 m
+        self.assertEqual(max(arc.metres for arc in self.rows()), 92.66)
+        self.assertEqual(drawn["Bypass", 7, "(12.000, -0.500)", 5560], 0)
+        self.assertEqual(drawn["High Street", 1, "(0.667, 0.000)", 7413], 1)
+        self.assertEqual(drawn["High Street", "(1.333, 0.000)", 2, 7413], 1)
+        self.assertEqual(drawn["Up Street", "(2.000, 0.500)", 21, 5560], 1)
+        self.assertEqual(drawn["Twin Link", 32, 33, 1], 1)
+
+    def test_attribution_is_a_comment_of_the_graph(self):
+        self.convert()
+        self.assertEqual(attribution_of(self.folder / "village"), "© OpenStreetMap contributors (ODbL 1.0)")
+        self.convert("--attribution", "Drawn\nby hand")
+        self.assertEqual(attribution_of(self.folder / "village"), "Drawn by hand")
+        self.convert("--attribution", "")
+        self.assertEqual(attribution_of(self.folder / "village"), "")
+        self.assertEqual(self.graph().nodes, 35)
+
+    def test_old_files_are_replaced(self):
+        for ending in ("gr", "nodes.csv", "arcs.csv"):
+            self.write(f"village.{ending}", "old")
+        self.convert()
+        self.assertEqual(self.drawn(), arcs_by_time(DRAWING))
+        self.assertEqual(len(self.contents()), 8)
+
+    def test_what_gdal_wants_to_know(self):
+        self.convert()
+        for table in ("nodes", "arcs"):
+            head = (self.folder / f"village.{table}.csv").read_text().partition("\n")[0].split(",")
+            kinds = dict(zip(head, (self.folder / f"village.{table}.csvt").read_text().strip().split(","), strict=True))
+            whole = {name for name, kind in kinds.items() if kind in ('"Integer"', '"Integer64"')}
+            self.assertEqual(whole, {"node", "osm"} if table == "nodes" else {"from", "to", "weight", "osm"})
+            self.assertEqual(kinds.get("WKT"), None if table == "nodes" else '"WKT"')
+            self.assertIn('AUTHORITY["EPSG","4326"]', (self.folder / f"village.{table}.prj").read_text())
+
+
+class Forms(NetworkCase):
+    """The village in other orders and formats gives the same files."""
+
+    def assert_the_same_network(self, source):
+        self.convert()
+        self.convert(source=source, out="other")
+        self.assertEqual(self.files("other"), self.files())
+
+    def test_bzip2(self):
+        (self.folder / "village.osm.bz2").write_bytes(bz2.compress(VILLAGE.read_bytes()))
+        self.assert_the_same_network("village.osm.bz2")
+
+    def test_pbf(self):
+        write_map(self.folder / "village.osm.pbf", VILLAGE)
+        self.assert_the_same_network("village.osm.pbf")
+
+    def test_ways_before_nodes_and_nodes_from_the_last_to_the_first(self):
+        tree = xml.parse(VILLAGE)
+        root = tree.getroot()
+        objects = list(root)
+        root[:] = [entry for entry in objects if entry.tag == "way"] + [
+            entry for entry in reversed(objects) if entry.tag != "way"
+        ]
+        tree.write(self.folder / "turned.osm")
+        self.assert_the_same_network("turned.osm")
+
+    def test_way_order_changes_the_numbers_only(self):
+        tree = xml.parse(VILLAGE)
+        tree.getroot()[:] = list(reversed(tree.getroot()))
+        tree.write(self.folder / "turned.osm")
+        self.convert("--weight", "length", source="turned.osm")
+        self.assertEqual(self.drawn(), arcs_by_length(DRAWING))
+
+    def test_negative_ids(self):
+        text = VILLAGE.read_text(encoding="utf-8")
+        for attribute in ("id", "ref"):
+            text = text.replace(f"{attribute}='", f"{attribute}='-")
+        self.write("negative.osm", text)
+        self.convert(source="negative.osm")
+        expected = collections.Counter()
+        for (way, *ends, weight), count in arcs_by_time(DRAWING).items():
+            expected[way, *(-end if isinstance(end, int) else end for end in ends), weight] = count
+        self.assertEqual(self.drawn(), expected)
+
+
+def map_of(kind):
+    """The elements of a kind of the village."""
+    return xml.parse(VILLAGE).getroot().iter(kind)
+
+
+def write_map(path, source):
+    """Writes a map in the format of the path's ending."""
+    writer = osmium.SimpleWriter(str(path))
+    Copier(writer).apply_file(str(source))
+    writer.close()
+
+
+class Copier(osmium.SimpleHandler):
+    """Gives the nodes and ways of a map to a writer."""
+
+    def __init__(self, writer):
+        super().__init__()
+        self.writer = writer
+
+    def node(self, node):
+        self.writer.add_node(node)
+
+    def way(self, way):
+        self.writer.add_way(way)
+
+
+class Tags(NetworkCase):
+    """The speed in each direction, in km/h, for the tags of a way (~ is a blank); None where it may not be taken."""
+
+    CASES = [
+        ("highway=residential", 30, 30),
+        ("highway=motorway", 110, None),
+        ("highway=motorway oneway=no", 110, 110),
+        ("highway=motorway_link", 60, 60),
+        ("highway=living_street", 10, 10),
+        ("highway=service area=no", 15, 15),
+        ("highway=service area=yes", None, None),
+        ("highway=construction construction=primary", None, None),
+        ("highway=track motorcar=yes", None, None),
+        ("highway=primary oneway=yes", 70, None),
+        ("highway=primary oneway=true", 70, None),
+        ("highway=primary oneway=1", 70, None),
+        ("highway=primary oneway=-1", None, 70),
+        ("highway=primary oneway=reverse", None, 70),
+        ("highway=primary oneway=no", 70, 70),
+        ("highway=primary oneway=alternating", 70, 70),
+        ("highway=primary oneway=reversible", None, None),
+        ("highway=primary junction=roundabout", 70, None),
+        ("highway=primary junction=circular", 70, None),
+        ("highway=primary junction=roundabout oneway=no", 70, 70),
+        ("highway=primary junction=roundabout oneway=-1", None, 70),
+        ("highway=primary junction=yes", 70, 70),
+        ("highway=primary maxspeed=80", 80, 80),
+        ("highway=primary maxspeed=57.5", 57.5, 57.5),
+        ("highway=primary maxspeed=50~km/h", 50, 50),
+        ("highway=primary maxspeed=45mph", 72.42048, 72.42048),
+        ("highway=primary maxspeed=5~mph", 8.04672, 8.04672),
+        ("highway=primary maxspeed=10~knots", 18.52, 18.52),
+        ("highway=primary maxspeed=none", 130, 130),
+        ("highway=primary maxspeed=walk", 7, 7),
+        ("highway=primary maxspeed=DE:urban", 50, 50),
+        ("highway=primary maxspeed=RO:urban", 50, 50),
+        ("highway=primary maxspeed=DE:rural", 100, 100),
+        ("highway=primary maxspeed=XY:rural", 90, 90),
+        ("highway=primary maxspeed=DE:zone:30", 30, 30),
+        ("highway=primary maxspeed=NL:zone60", 60, 60),
+        ("highway=primary maxspeed=DE:variable", 70, 70),
+        ("highway=primary maxspeed=0", 70, 70),
+        ("highway=primary maxspeed=1001", 70, 70),
+        ("highway=primary maxspeed=-50", 70, 70),
+        ("highway=primary maxspeed:forward=40", 40, 70),
+        ("highway=primary maxspeed=60 maxspeed:backward=20~mph", 60, 32.18688),
+        ("highway=primary oneway=yes maxspeed:backward=40", 70, None),
+        ("highway=primary access=no", None, None),
+        ("highway=primary access=private", None, None),
+        ("highway=primary access=permissive", 70, 70),
+        ("highway=primary access=destination", 70, 70),
+        ("highway=primary access=customers", 70, 70),
+        ("highway=primary access=no vehicle=yes", 70, 70),
+        ("highway=primary access=yes vehicle=no", None, None),
+        ("highway=primary vehicle=no motor_vehicle=yes", 70, 70),
+        ("highway=primary vehicle=yes motor_vehicle=private", None, None),
+        ("highway=primary motor_vehicle=no motorcar=yes", 70, 70),
+        ("highway=primary motor_vehicle=yes motorcar=no", None, None),
+        ("highway=primary access=yes vehicle=yes motor_vehicle=yes motorcar=private", None, None),
+        ("highway=primary access=no bicycle=yes", None, None),
+        ("highway=primary motor_vehicle=forestry", None, None),
+        ("highway=primary motor_vehicle=agricultural;forestry", None, None),
+        ("highway=primary motor_vehicle=agricultural;destination", 70, 70),
+        ("highway=primary motor_vehicle:conditional=no~@~(22:00-06:00)", 70, 70),
+    ]
+
+    def test_speeds(self):
+        # each way joins two nodes of its own, a step apart
+        lines = ["<osm version='0.6'>"]
+        for number, (text, *_) in enumerate(self.CASES, 1):
+            lines.append(f"<node id='{2 * number}' lon='0.000' lat='0.0001'/>")
+            lines.append(f"<node id='{2 * number + 1}' lon='0.001' lat='0.0001'/>")
+            tags = (word.replace("~", " ").split("=", 1) for word in text.split())
+            lines.append(f"<way id='{number}'><nd ref='{2 * number}'/><nd ref='{2 * number + 1}'/>")
+            lines.extend(f"<tag k='{key}' v='{value}'/>" for key, value in tags)
+            lines.append("</way>")
+        self.write("ways.osm", "\n".join([*lines, "</osm>"]))
+        self.convert("--islands", source="ways.osm", out="ways")
+        osm = self.nodes("ways").osm
+        found = {}
+        for arc in self.rows("ways"):
+            found[arc.osm, osm[arc.start - 1] % 2 == 0] = arc.weight
+        for number, (text, forward, backward) in enumerate(self.CASES, 1):
+            with self.subTest(text):
+                self.assertEqual(found.get((number, True)), forward and round(STEP_AT_1 / forward))
+                self.assertEqual(found.get((number, False)), backward and round(STEP_AT_1 / backward))
+
+    def test_barriers(self):
+        # a way of three nodes, the middle one with these tags: is it parted there?
+        cases = [
+            ("barrier=bollard", True),
+            ("barrier=gate", False),
+            ("barrier=toll_booth", False),
+            ("barrier=gate access=no", True),
+            ("barrier=gate access=private motor_vehicle=yes", False),
+            ("barrier=bollard access=yes motorcar=no", True),
+            ("barrier=bollard access=yes", False),
+            ("barrier=bollard bicycle=yes", True),
+            ("access=private", False),
+            ("highway=crossing", False),
+        ]
+        lines = ["<osm version='0.6'>"]
+        for number, (text, _) in enumerate(cases, 1):
+            tags = "".join(f"<tag k='{key}' v='{value}'/>" for key, value in (word.split("=") for word in text.split()))
+            for place in range(3):
+                node = f"<node id='{3 * number + place}' lon='{place / 2000}' lat='0'>"
+                lines.append(node + (tags if place == 1 else "") + "</node>")
+            ends = "".join(f"<nd ref='{3 * number + place}'/>" for place in range(3))
+            lines.append(f"<way id='{number}'>{ends}<tag k='highway' v='residential'/></way>")
+        self.write("barriers.osm", "\n".join([*lines, "</osm>"]))
+        self.convert("--islands", source="barriers.osm", out="barriers")
+        arcs = collections.Counter(arc.osm for arc in self.rows("barriers"))
+        for number, (text, parts) in enumerate(cases, 1):
+            with self.subTest(text):
+                self.assertEqual(arcs[number], 4 if parts else 2)
+
+    def test_a_profile_of_ones_own(self):
+        profile = json.loads((PYTHON / "domethyme_tools/profiles/car.json").read_text(encoding="utf-8"))
+        profile.update(speeds={"footway": 5}, access=["access", "foot"], barriers=["gate"])
+        self.write("foot.json", json.dumps(profile))
+        self.convert("--profile", "foot.json", "--islands")
+        # Footpath leads from 11 to 21, 2 steps
+        self.assertEqual(self.drawn(), {("Footpath", 11, 21, 160121): 1, ("Footpath", 21, 11, 160121): 1})
+
+
+class Routes(NetworkCase):
+    """Answers of the proved program over the village."""
+
+    def answers(self, *words):
+        """The answers for all pairs of nodes, with the names of the nodes."""
+        self.convert(*words)
+        count = len(self.nodes().osm)
+        with open(self.folder / "all.pairs", "w", encoding="utf-8") as file:
+            write_pairs(file, list(itertools.product(range(1, count + 1), repeat=2)))
+        program = find_program()
+        self.run_program([program, "prepare", "--order", "depth", "village.gr", "village.rch"])
+        told = self.run_program([program, "route", "village.rch", "all.pairs"])
+        return list(read_answers(self.write("answers", told.stdout)))
+
+    def lengths(self, answers):
+        """The length from a node to another, by their ids in the map: the least where an id has two nodes."""
+        label, least = self.labels(), {}
+        for answer in answers:
+            pair = label[answer.source], label[answer.target]
+            least[pair] = min(answer.length, least.get(pair, answer.length))
+        return least
+
+    def test_lengths_that_the_drawing_tells(self):
+        length = self.lengths(self.answers())
+        # round the bollard: 5, 6, past the gate, 56, 54
+        self.assertEqual(length[5, 54], 16012 + 26687 + 26687)
+        # Down Street leads to 3 only: 3, 2, 21, 31; and Top Street backward is slower
+        self.assertEqual(length[3, 31], 16012 + 13343 + 13343)
+        self.assertEqual(length[31, 2], 13343 + 16012)
+        # the roundabout goes one way round
+        self.assertEqual(length[4, 45], 13343 + 26687 + 13343)
+        self.assertEqual(length[45, 4], 13343 + 26687 + 13343)
+        # of the arcs from 7 to 8 the lighter one
+        self.assertEqual(length[7, 8], 6672)
+        # the motorway one way, and back past the bollard that lets cars through
+        self.assertEqual(length[83, 85], 6158)
+        self.assertEqual(length[85, 83], 13343 + 26687 + 8291)
+        # 72 is behind a private gate: 7, 8, past the bollard, 82, 72 (by the motorway it would be 1105 ms longer)
+        self.assertEqual(length[7, 72], 6672 + 26687 + 13343)
+        # the gap of Cut Road isn't crossed: 35, 34, 33, 32, 31, 3, 4, 41, 43, 45, 46
+        self.assertEqual(length[35, 46], 2 * 13343 + 1 + 2 * 13343 + 16012 + 13343 + 26687 + 2 * 13343)
+        # Long Road's three parts, half the ring
+        self.assertEqual(length[1, RING_CUT], 3 * 6672 + 13343)
+        # by the raised weight
+        self.assertEqual(length[32, 33], 1)
+
+    def test_lengths_by_length(self):
+        length = self.lengths(self.answers("--weight", "length"))
+        self.assertEqual(length[7, 8], 11120)
+        self.assertEqual(length[5, 54], 3 * 22239)
+        self.assertEqual(length[83, 85], 22239)
+
+    def test_weights_along_each_route_sum_to_its_length_which_is_the_least(self):
+        answers = self.answers()
+        rows = self.rows()
+        least = least_lengths(len(self.nodes().osm), rows)
+        weight = {pair: arc.weight for pair, arc in lightest(rows).items()}
+        self.assertEqual(len(answers), 35 * 35)
+        for answer in answers:
+            steps = itertools.pairwise(answer.nodes)
+            self.assertEqual(sum(weight[step] for step in steps), answer.length)
+            self.assertEqual(answer.length, least[answer.source, answer.target])
+
+
+def least_lengths(count, arcs):
+    """The least length from each node to each, by Floyd's algorithm."""
+    nodes = range(1, count + 1)
+    least = {pair: 0 if pair[0] == pair[1] else float("inf") for pair in itertools.product(nodes, repeat=2)}
+    for arc in arcs:
+        least[arc.start, arc.end] = min(least[arc.start, arc.end], arc.weight)
+    for middle, start, end in itertools.product(nodes, repeat=3):
+        least[start, end] = min(least[start, end], least[start, middle] + least[middle, end])
+    return least
+
+
+class BadInput(NetworkCase):
+    """Each fault is one line with status 1, and the files are as they were."""
+
+    def refused(self, source, *words, says):
+        """Wants the map refused, and that old files are as they were and new ones aren't there."""
+        self.write("out.gr", "old")
+        self.write("out.arcs.csv", "old")
+        self.assert_refused("osm_to_gr", source, "out", *words, says=says)
+
+    def test_no_map(self):
+        self.refused("none.osm", says="none.osm: No such file or directory")
+
+    def test_a_folder(self):
+        (self.folder / "map.osm").mkdir()
+        self.refused("map.osm", says="map.osm: Is a directory")
+
+    def test_a_device(self):
+        self.refused("/dev/null", says="/dev/null: is no regular file")
+
+    def test_broken_xml_tells_the_row(self):
+        self.write("broken.osm", "<osm version='0.6'>\n<node id='1' lon='0' lat='0'/>\n<way id='1'\n</osm>\n")
+        self.refused("broken.osm", says="broken.osm: XML parsing error at line 4")
+
+    def test_broken_objects(self):
+        cases = [
+            ("<node id='x' lon='0' lat='0'/>", "illegal id: 'x'"),
+            ("<node id='1' lon='x' lat='0'/>", "wrong format for coordinate: 'x'"),
+            ("<way id='1'><nd ref='x'/></way>", "illegal id: 'x'"),
+        ]
+        for text, says in cases:
+            with self.subTest(text):
+                self.write("broken.osm", f"<osm version='0.6'>{text}</osm>")
+                self.refused("broken.osm", says=f"broken.osm: {says}")
+
+    def test_a_name_that_is_not_utf_8(self):
+        way = b"w1 Thighway=residential,name=caf\xe9 Nn1,n2\n"
+        (self.folder / "map.osm.opl").write_bytes(b"n1 x0 y0\nn2 x0.001 y0\n" + way)
+        self.refused("map.osm.opl", says="map.osm.opl: 'utf-8' codec can't decode byte 0xe9")
+
+    def test_places_that_are_not_on_earth(self):
+        nodes = "<node id='1' lon='200' lat='0'/><node id='2' lon='0' lat='0'/><node id='3'/>"
+        way = "<way id='1'><nd ref='1'/><nd ref='2'/><nd ref='3'/><tag k='highway' v='road'/></way>"
+        self.write("far.osm", f"<osm version='0.6'>{nodes}{way}</osm>")
+        self.refused("far.osm", says="far.osm: has no road that the profile takes")
+
+    def test_a_truncated_map(self):
+        text = VILLAGE.read_text(encoding="utf-8")
+        self.write("half.osm", text[: len(text) // 2])
+        self.refused("half.osm", says="half.osm: XML parsing error")
+
+    def test_a_truncated_pbf(self):
+        write_map(self.folder / "village.osm.pbf", VILLAGE)
+        whole = (self.folder / "village.osm.pbf").read_bytes()
+        (self.folder / "half.osm.pbf").write_bytes(whole[: len(whole) // 2])
+        self.refused("half.osm.pbf", says="half.osm.pbf: PBF error")
+
+    def test_a_truncated_bzip2(self):
+        whole = bz2.compress(VILLAGE.read_bytes())
+        (self.folder / "half.osm.bz2").write_bytes(whole[: len(whole) // 2])
+        self.refused("half.osm.bz2", says="half.osm.bz2: bzip2 error")
+
+    def test_an_unknown_ending(self):
+        self.write("map.txt", VILLAGE.read_text(encoding="utf-8"))
+        self.refused("map.txt", says="map.txt: Could not detect file format")
+
+    def test_a_map_without_roads(self):
+        self.write("bare.osm", "<osm version='0.6'><node id='1' lon='0' lat='0'/></osm>\n")
+        self.refused("bare.osm", says="bare.osm: has no road that the profile takes")
+
+    def test_an_unknown_profile(self):
+        self.refused(VILLAGE, "--profile", "boat", says="there is no profile boat: there is car; for another vehicle")
+
+    def test_a_folder_in_place_of_out(self):
+        before = self.contents()
+        (self.folder / "there").mkdir()
+        for out in ("", "folder/", "./", ".", "there", "there/"):
+            said = self.run_tool("osm_to_gr", VILLAGE, out, status=2).stderr
+            self.assertIn("OUT is the beginning of the names of files", said)
+        self.assertEqual(self.contents(), before)
+
+    def test_a_full_disk_names_the_file(self):
+        self.run_tool("osm_to_gr", VILLAGE, "other")
+        trips = "from_lon,from_lat,to_lon,to_lat\n0,0,0,0\n"
+        told = self.run_tool("nearest", "other", "-", "-o", "/dev/full", given=trips, status=1)
+        self.assertEqual(told.stderr, "nearest: /dev/full: No space left on device\n")
+
+    def test_a_profile_that_is_no_json_tells_the_row(self):
+        self.write("own.json", '{\n"speeds": {},\n}\n')
+        self.refused(VILLAGE, "--profile", "own.json", says="own.json, row 3: isn't JSON")
+
+    def test_profiles_with_faults(self):
+        car = json.loads((PYTHON / "domethyme_tools/profiles/car.json").read_text(encoding="utf-8"))
+        cases = [
+            ([], "is no object with the members of a profile"),
+            ({key: car[key] for key in car if key != "closed"}, "has no member closed"),
+            ({**car, "colour": "red"}, "has the unknown member colour"),
+            ({**car, "speeds": {"primary": 0}}, "speeds isn't speeds from 1 to 1000 by names"),
+            ({**car, "speeds": {"primary": "70"}}, "speeds isn't speeds"),
+            ({**car, "maxspeed_words": {"none": True}}, "maxspeed_words isn't speeds"),
+            ({**car, "barriers": "bollard"}, "barriers isn't a list of words"),
+        ]
+        for members, says in cases:
+            with self.subTest(says):
+                self.write("own.json", json.dumps(members))
+                self.refused(VILLAGE, "--profile", "own.json", says=f"own.json: {says}")
+
+    def test_no_folder_for_the_files(self):
+        self.assert_refused("osm_to_gr", VILLAGE, "no/out", says="no/out.gr: No such file or directory")
+
+    def test_a_folder_in_the_place_of_a_file(self):
+        (self.folder / "out.arcs.csv").mkdir()
+        self.assert_refused("osm_to_gr", VILLAGE, "out", says="out.arcs.csv: is a folder")
+
+    def test_words(self):
+        for words in ([], [VILLAGE], [VILLAGE, "out", "--longest-arc", "0"], [VILLAGE, "out", "--weight", "days"]):
+            with self.subTest(words):
+                self.run_tool("osm_to_gr", *words, status=2)
+                self.assertEqual(self.contents(), {})
+
+    def test_help(self):
+        told = self.run_tool("osm_to_gr", "--help").stdout
+        for word in ("MAP", "OUT", "--profile", "--weight", "--longest-arc", "--islands", "turn restrictions"):
+            self.assertIn(word, told)

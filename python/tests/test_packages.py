@@ -1,0 +1,123 @@
+"""Tests of check_packages and fetch_extract where they have no network: with programs in the place of Debian's."""
+import os
+import shutil
+
+from tool_case import TOOLS, ToolCase
+
+NO_PACKAGE = "#!/bin/sh\nexit 1\n"
+
+
+class PackagesCase(ToolCase):
+    """Tests with a folder of programs that come before those of the machine, and are told in PATH."""
+
+    def setUp(self):
+        super().setUp()
+        self.programs = self.folder / "programs"
+        self.programs.mkdir()
+        self.path = {"PATH": f"{self.programs}:{os.environ['PATH']}"}
+
+    def put_program(self, name, text):
+        path = self.programs / name
+        path.write_text(text, encoding="ascii")
+        path.chmod(0o755)
+
+
+class CheckPackages(PackagesCase):
+    def setUp(self):
+        super().setUp()
+        self.write("packages", "# a comment\nfirst-package # and another\n\nsecond-package\n")
+        self.put_program("sleep", "#!/bin/sh\n")
+
+    def calls(self):
+        """How apt-get was called."""
+        return (self.folder / "calls").read_text(encoding="ascii").splitlines()
+
+    def test_all_are_there(self):
+        self.put_program("dpkg-query", "#!/bin/sh\necho -n installed\n")
+        self.put_program("apt-get", "#!/bin/sh\necho called >calls\n")
+        ended = self.run_tool("check_packages", "packages", environment=self.path)
+        self.assertEqual((ended.stdout, ended.stderr), ("", ""))
+        self.assertFalse((self.folder / "calls").exists())
+
+    def second_is_missing(self, apt_get):
+        """The machine of a root who lacks the second package, with an apt-get; one that writes `status` has it be there."""
+        self.put_program("id", "#!/bin/sh\necho 0\n")
+        self.put_program("dpkg-query", '#!/bin/sh\ncase "$4" in first-*) echo -n installed ;; *) cat status ;; esac\n')
+        self.put_program("apt-get", f'#!/bin/sh\necho "$@" >>calls\n{apt_get}\n')
+        self.write("status", "not-installed")
+
+    def test_root_installs_what_is_missing(self):
+        self.second_is_missing("echo -n installed >status")
+        ended = self.run_tool("check_packages", "packages", environment=self.path)
+        self.assertEqual((ended.stdout, ended.stderr), ("installs Debian's packages second-package\n", ""))
+        self.assertTrue(self.calls()[0].endswith(" update"))
+        self.assertTrue(self.calls()[1].endswith(" install -y --no-install-recommends second-package"))
+        self.assertEqual(len(self.calls()), 2)
+
+    def test_lists_of_another_source_that_can_not_be_had(self):
+        self.second_is_missing('case "$*" in *update) echo "E: no lists" >&2; exit 100 ;; *) echo -n installed >status ;; esac')
+        self.run_tool("check_packages", "packages", environment=self.path)
+        self.assertEqual(len(self.calls()), 2)
+
+    def test_a_mirror_that_is_busy(self):
+        self.second_is_missing("[ $(wc -l <calls) = 6 ] || exit 100\necho -n installed >status")
+        self.run_tool("check_packages", "packages", environment=self.path)
+        self.assertEqual(len(self.calls()), 6)
+
+    def test_root_can_not_install(self):
+        self.second_is_missing("echo 'E: no network' >&2\nexit 100")
+        ended = self.run_tool("check_packages", "packages", environment=self.path, status=1)
+        says = "check_packages: Debian packages of the map tools are missing (no network): "
+        self.assertEqual(ended.stderr, f"{says}as root, apt-get install second-package\n")
+        self.assertEqual(len(self.calls()), 6)
+
+    def test_an_installation_that_says_that_all_went_well(self):
+        self.second_is_missing("")
+        ended = self.run_tool("check_packages", "packages", environment=self.path, status=1)
+        self.assertEqual(ended.stderr.count("\n"), 1)
+        self.assertTrue(ended.stderr.endswith("are missing: as root, apt-get install second-package\n"))
+
+    def test_others_are_told_what_to_install(self):
+        self.put_program("id", "#!/bin/sh\necho 1000\n")
+        self.put_program("dpkg-query", NO_PACKAGE)
+        self.put_program("apt-get", "#!/bin/sh\necho called >calls\n")
+        says = "are missing: as root, apt-get install first-package second-package\n"
+        self.assert_refused("check_packages", "packages", says=says, environment=self.path)
+
+    def test_words(self):
+        self.run_tool("check_packages", "none", status=2)
+        self.run_tool("check_packages", "packages", "packages", status=2)
+        self.assertIn("packages.txt", self.run_tool("check_packages", "--help").stdout)
+
+    def test_the_list_names_what_the_tools_import(self):
+        listed = (TOOLS / "packages.txt").read_text(encoding="ascii")
+        for package in ("pyosmium", "numpy", "scipy", "tqdm"):
+            self.assertIn(f"\npython3-{package}\n", listed)
+
+
+class FetchExtract(PackagesCase):
+    def refused(self, says):
+        self.assert_refused("fetch_extract", ".", says=says, environment=self.path)
+
+    def test_no_network(self):
+        self.put_program("apt-get", "#!/bin/sh\necho 'W: slow' >&2\necho 'E: Could not connect' >&2\nexit 100\n")
+        self.refused("liechtenstein-2013-08-03.osm.pbf can't be had: apt-get says: Could not connect\n")
+
+    def test_no_apt_get(self):
+        for name in ("dirname", "readlink"):  # which the command of the tool calls
+            (self.programs / name).symlink_to(shutil.which(name))
+        self.path = {"PATH": str(self.programs)}
+        self.refused("can't be had: there is no apt-get on this machine")
+
+    def test_another_package(self):
+        self.put_program("apt-get", "#!/bin/sh\ntouch empty\ntar -cf osm2pgsql_1.tar.gz empty\n")
+        self.refused("can't be had: Debian's source package hasn't got it")
+
+    def test_another_file_of_that_name(self):
+        name = "liechtenstein-2013-08-03.osm.pbf"
+        self.put_program("apt-get", f"#!/bin/sh\necho wrong >{name}\ntar -cf osm2pgsql_1.tar.gz {name}\n")
+        self.refused("can't be had: Debian's source package has another file of that name")
+
+    def test_words(self):
+        self.run_tool("fetch_extract", ".", "..", status=2)
+        self.assertIn("ODbL", self.run_tool("fetch_extract", "--help").stdout)

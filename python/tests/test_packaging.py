@@ -1,0 +1,156 @@
+"""Tests of what goes into the Debian package: the command routecli, which may put an allocator under the program, and the list
+of libraries in packaging/copyright."""
+import pathlib
+import re
+import shutil
+
+from tool_case import ROOT, ToolCase
+
+PACKAGING = ROOT / "packaging"
+JEMALLOC, MIMALLOC = "libjemalloc.so.2", "libmimalloc.so.2.0"
+# A library of the C library that has next to nothing in it.
+LIBRARY = "/usr/lib/x86_64-linux-gnu/libutil.so.1"
+PRINTS = '#!/bin/sh\nprintf "%s|" "${LD_PRELOAD-${GLIBC_TUNABLES-nothing}}" "$@"\nexit 7\n'
+TUNED = "glibc.malloc.mmap_threshold=1048576"
+COMPACT = f"{TUNED}:glibc.malloc.arena_max=1"
+
+
+class CommandTests(ToolCase):
+    """The command with a program in the place of the proved one, which prints LD_PRELOAD or GLIBC_TUNABLES, and its arguments."""
+
+    def setUp(self):
+        super().setUp()
+        self.libraries = self.folder / "libraries"
+        self.libraries.mkdir()
+        text = (PACKAGING / "routecli").read_text(encoding="utf-8")
+        self.write("accounting", "0\n")
+        for path, instead in (
+            ("/usr/libexec/domethyme/routecli", "program"),
+            ("/usr/lib/x86_64-linux-gnu", "libraries"),
+            ("/proc/sys/vm/overcommit_memory", "accounting"),
+        ):
+            self.assertEqual(text.count(f"={path}\n"), 1)
+            text = text.replace(f"={path}\n", f"={self.folder / instead}\n")
+        self.write("command", text).chmod(0o755)
+        self.write("program", PRINTS).chmod(0o755)
+
+    def installed(self, *names):
+        for name in names:
+            shutil.copy(LIBRARY, self.libraries / name)
+
+    def ran(self, *words, status=7, limit=None, **environment):
+        """What the command prints on both streams; `limit` are words of prlimit."""
+        ended = self.run_program(
+            [*(limit or ()), "/usr/bin/env", "-u", "LD_PRELOAD", "-u", "GLIBC_TUNABLES", "-u", "ROUTECLI_ALLOCATOR",
+             *(f"{name}={value}" for name, value in environment.items()), self.folder / "command", *words],
+            status,
+        )
+        return ended.stdout, ended.stderr
+
+    def test_arguments_and_status_are_kept(self):
+        self.installed(JEMALLOC)
+        self.assertEqual(self.ran("route", "a b", "", "*"), ("nothing|route|a b||*|", ""))
+        self.assertEqual(self.ran(), ("nothing|", ""))
+        self.assertEqual(self.ran("prepare", "a b", ""), (f"{self.libraries / JEMALLOC}|prepare|a b||", ""))
+
+    def test_only_prepare_gets_an_allocator(self):
+        self.installed(JEMALLOC, MIMALLOC)
+        for command in ("route", "serve", "answer", "--version"):
+            self.assertEqual(self.ran(command, ROUTECLI_ALLOCATOR="jemalloc"), (f"nothing|{command}|", ""))
+
+    def test_each_choice_is_said_where_it_is_asked_for(self):
+        self.installed(JEMALLOC, MIMALLOC)
+        for word, library in (("auto", JEMALLOC), ("jemalloc", JEMALLOC), ("mimalloc", MIMALLOC)):
+            path = self.libraries / library
+            said = f"routecli: ROUTECLI_ALLOCATOR: {path}\n"
+            self.assertEqual(self.ran("prepare", ROUTECLI_ALLOCATOR=word), (f"{path}|prepare|", said))
+        said = "routecli: ROUTECLI_ALLOCATOR: the allocator of the C library"
+        self.assertEqual(self.ran("prepare", ROUTECLI_ALLOCATOR="none"), ("nothing|prepare|", f"{said}\n"))
+        for word, tunables in (("tuned", TUNED), ("compact", COMPACT)):
+            self.assertEqual(self.ran("prepare", ROUTECLI_ALLOCATOR=word), (f"{tunables}|prepare|", f"{said}, {tunables}\n"))
+
+    def test_where_memory_is_limited_only_who_asks_gets_jemalloc(self):
+        self.installed(JEMALLOC)
+        path = self.libraries / JEMALLOC
+        for limit in (["/usr/bin/prlimit", "--as=1000000000"], None):
+            if limit is None:
+                self.write("accounting", "2\n")
+            self.assertEqual(self.ran("prepare", limit=limit), (f"{TUNED}|prepare|", ""))
+            said = f"routecli: ROUTECLI_ALLOCATOR: the allocator of the C library, {TUNED}\n"
+            self.assertEqual(self.ran("prepare", limit=limit, ROUTECLI_ALLOCATOR="auto"), (f"{TUNED}|prepare|", said))
+            self.assertEqual(self.ran("prepare", limit=limit, ROUTECLI_ALLOCATOR="jemalloc")[0], f"{path}|prepare|")
+
+    def test_none_is_installed(self):
+        self.assertEqual(self.ran("prepare"), (f"{TUNED}|prepare|", ""))
+        said = f"routecli: ROUTECLI_ALLOCATOR: the allocator of the C library, {TUNED}\n"
+        self.assertEqual(self.ran("prepare", ROUTECLI_ALLOCATOR="auto"), (f"{TUNED}|prepare|", said))
+        for word, library in (("jemalloc", JEMALLOC), ("mimalloc", MIMALLOC)):
+            said = f"routecli: ROUTECLI_ALLOCATOR: {self.libraries / library} isn't installed\n"
+            self.assertEqual(self.ran("prepare", status=2, ROUTECLI_ALLOCATOR=word), ("", said))
+
+    def test_other_words_are_refused(self):
+        said = "routecli: ROUTECLI_ALLOCATOR: 'tcmalloc' isn't one of auto, jemalloc, mimalloc, tuned, compact and none\n"
+        self.assertEqual(self.ran("prepare", status=2, ROUTECLI_ALLOCATOR="tcmalloc"), ("", said))
+
+    def test_what_is_loaded_already_stays(self):
+        # (the loader warns on standard error, since there is no such library, and goes on)
+        self.installed(JEMALLOC)
+        self.assertEqual(self.ran("prepare", LD_PRELOAD="/none.so")[0], "/none.so|prepare|")
+        self.assertIn("stays as it is", self.ran("prepare", LD_PRELOAD="/none.so", ROUTECLI_ALLOCATOR="auto")[1])
+        own = "glibc.malloc.arena_max=2"
+        said = "routecli: ROUTECLI_ALLOCATOR: GLIBC_TUNABLES is set, and stays as it is\n"
+        for word in ("auto", "compact"):
+            found = self.ran("prepare", GLIBC_TUNABLES=own, ROUTECLI_ALLOCATOR=word)
+            self.assertEqual(found, (f"{own}|prepare|", said))
+
+
+class CopyrightTests(ToolCase):
+    """The libraries of packaging/copyright beside crates.txt, and beside the toolchain's kit where it is on this machine."""
+
+    def setUp(self):
+        super().setUp()
+        self.text = (PACKAGING / "copyright").read_text(encoding="utf-8")
+        parts = self.text.partition("\n\n")[0].split("\n .\n")
+        lists = [set(re.findall(r"^  (\w+): ", part, re.M)) for part in parts]
+        self.direct, self.indirect, self.own = (names for names in lists if names)
+
+    def test_libraries_are_those_of_crates_txt(self):
+        product, _, _ = (ROOT / "crates.txt").read_text(encoding="utf-8").partition("# Crates of tests.")
+        lines = [line.partition(":") for line in product.splitlines() if line and not line.startswith("#")]
+        ours = {words.split()[0] for words, _, _ in lines}
+        used = {name for _, _, names in lines for name in names.split()} - ours
+        self.assertEqual(self.direct | (self.own & used), used)
+        self.assertGreater(len(self.direct), 5)
+
+    def test_libraries_are_those_of_the_kit(self):
+        kit = kit_folder()
+        if kit is None:
+            return
+        todo = [*self.direct, *(self.own & {"atomic_table"})]
+        for name in todo:
+            uses = re.findall(r"^dep (\w+)$", (kit / f"rlibs/{name}.rlib/format").read_text(encoding="utf-8"), re.M)
+            todo += [each for each in uses if each not in todo]
+        self.assertEqual(self.direct | self.indirect | self.own, set(todo))
+
+    def test_notices_are_those_of_the_kit(self):
+        kit = kit_folder()
+        if kit is None:
+            return
+        flat = " ".join(self.text.split())
+        for name in self.direct | self.indirect:
+            licences = list((kit / "rattle" / name).glob("LICENSE*"))
+            self.assertTrue(licences, name)
+            holders = [holder for path in licences if path.name != "LICENSE-APACHE"
+                       for holder in re.findall(r"^Copyright (?:\(c\)|©)? ?(.*)$", path.read_text(encoding="utf-8"), re.M)]
+            for holder in holders:
+                words = re.sub(r"\b(?:19|20)\d\d(?:-(?:19|20)\d\d)?\b", "", holder).replace(",", "").split()
+                self.assertIn(" ".join(words), flat.replace(",", ""), name)
+        for name in self.own:
+            self.assertFalse(list((kit / "rattle" / name).glob("LICENSE*")), name)
+
+
+def kit_folder() -> pathlib.Path | None:
+    """The folder of the toolchain's kit, where rt is on PATH."""
+    found = shutil.which("rt")
+    folder = None if found is None else pathlib.Path(found).resolve().parent.parent
+    return folder if folder is not None and (folder / "rlibs").is_dir() else None

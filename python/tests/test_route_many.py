@@ -1,0 +1,701 @@
+"""Tests of route_many: OUT is what one process of the program prints, by threads, by an array's tasks, and by Dask's workers
+on the loopback, also where workers are killed, runs are interrupted, or the input is bad."""
+import collections
+import contextlib
+import hashlib
+import io
+import os
+import pathlib
+import random
+import re
+import shlex
+import signal
+import subprocess
+import time
+
+from tool_case import TAKES_SIGNALS, TOOLS, ToolCase
+
+from domethyme.texts import write_graph
+from domethyme import find_program
+
+from domethyme_tools import parts
+
+from kit import plain
+
+PATIENCE = 100
+WAITS = re.compile(r"^route_many: waits for the scheduler .*\n", re.M)
+PART = 50
+CONNECT = "DASK_DISTRIBUTED__COMM__TIMEOUTS__CONNECT"
+
+# What stands in place of the program where a test has to know or to choose when a part is answered. It writes a line to
+# `begun`, its process, its worker's and the part, waits while `hold-PART` or `hold-all` is there, and is then the program.
+HELD_PROGRAM = """#!/bin/sh
+part=$(basename "$3")
+echo "$$ $PPID $part" >> {folder}/begun
+while [ -e {folder}/hold-all ] || [ -e {folder}/hold-"$part" ]; do sleep 0.03; done
+{then}
+exec {program} "$@"
+"""
+
+# Then, for the part 000002.pairs alone: what a test has happen to it while `trouble` is there.
+IN_THE_MIDDLE = """[ "$part" = 000002.pairs ] && [ -e {folder}/trouble ] && {{ {trouble}; }}"""
+
+
+class RouteManyCase(ToolCase):
+    """A test with a network of 300 nodes, some of them out of reach, 1,000 pairs in a text with all that it may have
+    between them, and `wanted`, what one process of the program prints."""
+
+    def setUp(self):
+        super().setUp()
+        draw = random.Random(1)
+        arcs = [(draw.randint(1, 280), draw.randint(1, 300), draw.randint(1, 1000)) for _ in range(900)]
+        with open(self.folder / "network.gr", "w", encoding="utf-8") as file:
+            write_graph(file, 300, arcs)
+        self.program = find_program()
+        self.run_program([self.program, "prepare", "--workers", "1", "network.gr", "network.rch"])
+        pairs = [(draw.randint(1, 300), draw.randint(1, 300)) for _ in range(1000)]
+        self.write("pairs", text_of(pairs))
+        self.wanted = self.run_program([self.program, "route", "network.rch", "pairs"]).stdout
+        self.assertEqual(self.wanted.count("\n"), 1000)
+        self.before = sorted(os.listdir(self.folder))
+
+    def many(self, *words, status=0, **more):
+        """Runs route_many over the pairs into `out`, and wants the status."""
+        return self.run_tool("route_many", "network.rch", "pairs", "out", "--part", PART, *words, status=status, **more)
+
+    def assert_answered(self):
+        """`out` is as wanted, and nothing else has come to stand in the folder."""
+        self.assertEqual((self.folder / "out").read_text(), self.wanted)
+        self.assertEqual(sorted(os.listdir(self.folder)), sorted({*self.before, "out"}))
+
+    def assert_untouched(self):
+        """There is no `out`, and nothing else has come to stand in the folder."""
+        self.assertEqual(sorted(os.listdir(self.folder)), self.before)
+
+    def held_program(self, trouble=None):
+        """The path of a program that is held, and what one process of it would make of the part 000002.pairs."""
+        folder = shlex.quote(str(self.folder))
+        then = IN_THE_MIDDLE.format(folder=folder, trouble=trouble) if trouble else ""
+        text = HELD_PROGRAM.format(folder=folder, program=shlex.quote(self.program), then=then)
+        path = self.write("held_program", text)
+        path.chmod(0o755)
+        self.before = sorted({*self.before, "held_program", "begun"})
+        self.addCleanup(self.let_all_go)
+        return path
+
+    def hold(self, name):
+        self.write(f"hold-{name}", "")
+
+    def release(self, name):
+        (self.folder / f"hold-{name}").unlink()
+
+    def let_all_go(self):
+        """Releases the programs that wait, also those whose worker is gone, and sees them end."""
+        for path in self.folder.glob("hold-*"):
+            path.unlink()
+        self.until(lambda: not any(is_running(int(process)) for process, _, _ in self.begun()))
+
+    def begun(self):
+        """The process, the worker's process and the part of each program that has begun, in order."""
+        with contextlib.suppress(FileNotFoundError):
+            lines = (self.folder / "begun").read_text().splitlines(keepends=True)
+            return [tuple(line.split()) for line in lines if line.endswith("\n")]
+        return []
+
+    def parts_begun(self):
+        return [part for _, _, part in self.begun()]
+
+    def answered(self):
+        """The names of the files of answers that are kept."""
+        return sorted(path.name for path in (self.folder / "out.parts").glob("*.answers"))
+
+    def until(self, is_so):
+        """Waits until it is so, and fails where it takes too long."""
+        end = time.monotonic() + PATIENCE
+        while not is_so():
+            self.assertLess(time.monotonic(), end, f"waited for too long; begun: {self.begun()}")
+            time.sleep(0.02)
+
+    def start(self, words, log):
+        """A process that runs beside the test, its output into a file, and that is killed at the test's end."""
+        with open(self.folder / log, "wb") as file:
+            words = [*TAKES_SIGNALS, *map(str, words)]
+            process = subprocess.Popen(words, cwd=self.folder, stdin=subprocess.DEVNULL, stdout=file, stderr=file)
+        self.addCleanup(end, process)
+        self.before = sorted({*self.before, log})
+        return process
+
+    def start_many(self, *words, hierarchy="network.rch", environment=()):
+        """route_many over the pairs into `out`, as it runs beside the test; what it says goes to the file `said`."""
+        words = [TOOLS / "route_many", hierarchy, "pairs", "out", "--part", PART, *words]
+        return self.start([*environment, *words], "said")
+
+    def said(self):
+        """What route_many said, but that it waits for a scheduler, as it does on a busy machine."""
+        return WAITS.sub("", (self.folder / "said").read_text())
+
+    def kept_line(self):
+        """What an interrupted run says."""
+        folder = self.folder.resolve() / "out.parts"
+        return f"route_many: what is done is kept in {folder}; the same call resumes with it\n"
+
+    def assert_ends(self, process, status=0):
+        """The process ends, with the status."""
+        self.assertEqual(process.wait(PATIENCE), status, (self.folder / "said").read_text())
+
+
+def text_of(pairs):
+    """A text of pairs with a comment, a blank line, tabs, leading zeros, carriage returns, and no line feed at its end."""
+    lines = ["c pairs", "", f"\tp aux  sp p2p {len(pairs)} \r"]
+    for number, (source, target) in enumerate(pairs):
+        kinds = [f"q {source} {target}", f" q\t{source}\t{target}", f"q {source} {target}\r", f"q 00{source} {target} "]
+        lines.append(kinds[number % 4])
+        if number % 90 == 0:
+            lines += ["c q 1 2", " \t\r"]
+    return "\n".join(lines)
+
+
+def is_running(process):
+    """Whether there is such a process, and it hasn't ended."""
+    with contextlib.suppress(FileNotFoundError, ProcessLookupError):
+        return pathlib.Path(f"/proc/{process}/stat").read_text().rpartition(")")[2].split()[0] != "Z"
+    return False
+
+
+def end(process):
+    process.kill()
+    process.wait()
+
+
+class PartsTests(ToolCase):
+    """How texts are cut, beside the plain reader of pairs that tests/long/fuzz.py compares the program with."""
+
+    def cut(self, text, size):
+        """What the survey counts, and the texts of the parts."""
+        path, copy = self.folder / "pairs", self.folder / "copy"
+        path.write_bytes(text)
+        survey = parts.spool(path, copy)
+        self.assertEqual(copy.read_bytes(), text)
+        copy.unlink()
+        self.assertEqual(survey.sha256, hashlib.sha256(text).hexdigest())
+        return survey.pairs, [part for _, part in parts.texts_of_parts(io.BytesIO(text), size)]
+
+    def test_parts_of_a_text(self):
+        count, texts = self.cut(b"c\np aux sp p2p 3\nq 1 2\n\tq 3 4\r\n\nc q\nq 5 6", 2)
+        self.assertEqual(count, 3)
+        self.assertEqual(texts, [b"p aux sp p2p 2\nq 1 2\n\tq 3 4\r\n", b"p aux sp p2p 1\nq 5 6"])
+        self.assertEqual(self.cut(b"p aux sp p2p 0\n", 2), (0, [b"p aux sp p2p 0\n"]))
+
+    def test_random_texts_are_refused_as_a_whole_where_they_would_be_as_one(self):
+        draw, verdicts = random.Random(3), collections.Counter()
+        for _ in range(1200):
+            text = random_text(draw)
+            wanted = pairs_or_none(text)
+            count, texts = self.cut(text, draw.randint(1, 3))
+            if count is None:
+                self.assertIsNone(wanted, text)
+                verdicts["refused as a whole"] += 1
+                continue
+            found = [pairs_or_none(part) for part in texts]
+            self.assertEqual(wanted, None if None in found else [pair for pairs in found for pair in pairs], text)
+            verdicts["refused in a part" if wanted is None else "taken"] += 1
+        self.assertGreater(min(verdicts[kind] for kind in ["refused as a whole", "refused in a part", "taken"]), 100)
+
+
+def random_text(draw):
+    """A text of a few lines, many of them right and some of any other kind, with any of the ways to end and to part."""
+    pairs = draw.randint(0, 5)
+    kinds = ["q 1 2"] * 20 + ["q 3 4", "q\t5 6 ", " q 7 8", "qq 1 2", "q 1", "q 1 x", "q 0 1", "q", "Q 1 2", "x", "\r", "\v"]
+    kinds += ["", "c", "cq 1 2", "  c", " \t", "p aux sp p2p 2", "p", "q 1 2\r", "\x0bq 1 2", "q\xa01 2", "q 1 2\x0c"]
+    problems = ["p aux sp p2p {}"] * 20 + ["p\taux sp p2p  00{} ", "p aux sp p2p", "p aux sp {}", "p aux sp p2p -{}"]
+    lines = [draw.choice(kinds) for _ in range(pairs)]
+    right = sum(line.split(" ")[0].split("\t")[0] == "q" or line.startswith(" q") for line in lines)
+    problem = draw.choice(problems).format(right if draw.random() < 0.9 else draw.randint(0, 5))
+    before = [draw.choice(["c", "", " c x", "q 1 2", "x"])] if draw.random() < 0.2 else []
+    ends = [draw.choice(["\n"] * 9 + ["\r\n"]) for _ in range(pairs + 3)]
+    text = "".join(line + end for line, end in zip([*before, problem, *lines], ends))
+    return (text if draw.random() < 0.8 else text[:-1]).encode("latin-1")
+
+
+def pairs_or_none(text):
+    """The pairs of nodes up to 9 by the plain reader; None where it refuses the text."""
+    try:
+        return plain.pairs_of(text, 9)
+    except plain.Refused:
+        return None
+
+
+class OneMachineTests(RouteManyCase):
+    def test_out_is_what_one_process_prints(self):
+        ended = self.many("--jobs", 3)
+        self.assertEqual((ended.stdout, ended.stderr), ("", ""))
+        self.assert_answered()
+
+    def test_parts_of_any_size(self):
+        for size in [1000, 999, 1001, 334]:
+            with self.subTest(size=size):
+                self.many("--jobs", 1, "--part", size)
+                self.assert_answered()
+
+    def test_pairs_from_standard_input(self):
+        given = (self.folder / "pairs").read_text()
+        self.run_tool("route_many", "network.rch", "-", "out", "--part", PART, "--jobs", 2, given=given)
+        self.assert_answered()
+
+    def test_no_pairs(self):
+        self.write("pairs", "p aux sp p2p 0\n")
+        self.write("out", "of an earlier run\n")
+        self.many()
+        self.assertEqual((self.folder / "out").read_text(), "")
+
+    def test_a_linked_out_stays_a_link(self):
+        (self.folder / "elsewhere").mkdir()
+        (self.folder / "out").symlink_to("elsewhere/answers")
+        self.many("--jobs", 2)
+        self.assertTrue((self.folder / "out").is_symlink())
+        self.assertEqual((self.folder / "elsewhere/answers").read_text(), self.wanted)
+        self.assertEqual(os.listdir(self.folder / "elsewhere"), ["answers"])
+
+    def test_words(self):
+        words = ["network.rch", "pairs", "out"]
+        wrongs = [words[:2], [*words, "--jobs", "0"], [*words, "--part", "1.5"], [*words, "--jobs", "2", "--cut"]]
+        wrongs += [["network.rch", "pairs", out] for out in ["-", "/dev/null", "new/", ".", "pairs"]]
+        for wrong in wrongs:
+            with self.subTest(words=wrong):
+                self.run_tool("route_many", *wrong, status=2)
+                self.assert_untouched()
+
+    def test_files_that_are_not_there(self):
+        self.assert_refused("route_many", "no.rch", "pairs", "out", says="no.rch: No such file")
+        self.assert_refused("route_many", "network.rch", "no.pairs", "out", says="no.pairs: No such file")
+        self.assert_refused("route_many", "network.rch", "pairs", "no/out", says="no/out.parts: No such file")
+        self.assert_refused("route_many", "network.rch", "pairs", "out", "--program", "no", says="no: is no program")
+
+    def test_a_program_that_is_killed_is_begun_again(self):
+        program = self.held_program(trouble=f"rm {shlex.quote(str(self.folder))}/trouble; kill -9 $$")
+        self.write("trouble", "")
+        self.many("--jobs", 2, "--program", program)
+        self.assertEqual(self.parts_begun().count("000002.pairs"), 2)
+        self.assert_answered()
+
+    def test_a_program_that_is_killed_each_time_fails(self):
+        program = self.held_program(trouble="kill -9 $$")
+        self.write("trouble", "")
+        ended = self.many("--jobs", 1, "--program", program, status=1)
+        self.assertEqual(ended.stderr, f"route_many: {program} was ended by signal 9\n")
+        self.assertEqual(self.answered(), ["000000.answers", "000001.answers"])
+        (self.folder / "trouble").unlink()
+        self.many("--jobs", 1, "--program", program)
+        self.assertEqual(self.parts_begun().count("000001.pairs"), 1)
+        self.assertEqual(self.parts_begun().count("000002.pairs"), 4)
+        self.assert_answered()
+
+    def test_no_scheduler(self):
+        ended = self.many("--dask", "tcp://127.0.0.1:1", status=1, environment={CONNECT: "200ms"})
+        self.assertEqual(ended.stderr.count("\n"), 1)
+        self.assertIn("route_many: tcp://127.0.0.1:1: no scheduler answers", ended.stderr)
+        ended = self.many("--dask", "no.json", status=1)
+        self.assertEqual(ended.stderr.count("\n"), 1)
+        self.assertIn("route_many: no.json: no scheduler answers", ended.stderr)
+
+
+class RefusalTests(RouteManyCase):
+    """Bad input: the program's own line and status, and nothing is left."""
+
+    def assert_program_refuses(self, line, *words, status=5):
+        """Wants the line on standard error, the status, and the folder, with an older `out`, as it was."""
+        self.write("out", "of an earlier run\n")
+        before = self.contents()
+        ended = self.many("--jobs", 3, *words, status=status)
+        self.assertEqual(ended.stderr, f"{line}\n")
+        self.assertEqual(self.contents(), before)
+        self.assertEqual(sorted(os.listdir(self.folder)), sorted({*self.before, "out"}))
+
+    def test_wrong_count(self):
+        pairs = "q 1 2\n" * 200
+        self.write("pairs", f"c\np aux sp p2p 201\n{pairs}c\n\n")
+        self.assert_program_refuses("routecli: queries: ArcCount line 204")
+        self.write("pairs", f"c\np aux sp p2p 199\n{pairs}c\n\n")
+        self.assert_program_refuses("routecli: queries: ArcCount line 202")
+        self.write("pairs", f"p aux sp p2p 250\n{pairs}")
+        self.assert_program_refuses("routecli: queries: ArcCount line 201")
+        self.write("pairs", f"p aux sp p2p 0\n{pairs}")
+        self.assert_program_refuses("routecli: queries: ArcCount line 2")
+
+    def test_wrong_count_behind_another_fault(self):
+        self.write("pairs", "p aux sp p2p 201\n" + "q 1 2\n" * 150 + "q 1 301\n" + "q 1 2\n" * 51)
+        self.assert_program_refuses("routecli: queries: NodeRange line 152")
+
+    def test_problem_line(self):
+        for text, fault in [
+            ("", "NoProblemLine line 0"),
+            ("q 1 2\np aux sp p2p 1\n", "NoProblemLine line 1"),
+            ("p aux sp p2p 1\nq 1 2\np aux sp p2p 1\n", "SecondProblemLine line 3"),
+            ("p aux sp p2p 134217729\nq 1 2\n", "TooManyArcs line 1"),
+            (f"p aux sp p2p {'0' * 5000}{'9' * 5000}\nq 1 2\n", "TooManyArcs line 1"),
+            ("p aux sp p2p 1\n\rq 1 2\n", "UnknownLine line 2"),
+            ("p aux sp p2p 1\nq 1 2\r\r\n", "NotANumber line 2"),
+            ("x\np aux sp p2p 1\nq 1 2\n", "UnknownLine line 1"),
+            ("p aux sp co 1\np aux sp p2p 1\nq 1 2\n", "UnknownLine line 1"),
+        ]:
+            with self.subTest(text=text[:40]):
+                self.write("pairs", text)
+                self.assert_program_refuses(f"routecli: queries: {fault}")
+
+    def test_a_problem_line_of_many_digits(self):
+        text = (self.folder / "pairs").read_text().replace("p2p 1000", f"p2p {'0' * 5000}1000")
+        self.write("pairs", text)
+        self.many("--jobs", 2)
+        self.assert_answered()
+
+    def test_first_fault_of_several_parts(self):
+        lines = ["p aux sp p2p 1000", "c", ""] + ["q 1 2"] * 1000
+        lines[620], lines[903], lines[999] = "q 1 0", "q 1", "q 1 x"
+        self.write("pairs", "\n".join(lines))
+        self.assert_program_refuses("routecli: queries: NodeRange line 621")
+        lines[620] = "q 1 2"
+        self.write("pairs", "\n".join(lines))
+        self.assert_program_refuses("routecli: queries: FieldCount line 904")
+
+    def test_first_fault_though_a_later_part_fails_first(self):
+        lines = ["p aux sp p2p 1000"] + ["q 1 2"] * 1000
+        lines[120], lines[170] = "q 301 1", "q one 1"
+        self.write("pairs", "\n".join(lines))
+        program = self.held_program()
+        self.hold("000002.pairs")
+        run = self.start_many("--jobs", 4, "--program", program)
+        self.until(lambda: "000003.pairs" in self.parts_begun())
+        failed = next(int(process) for process, _, part in self.begun() if part == "000003.pairs")
+        self.until(lambda: not is_running(failed))
+        self.release("000002.pairs")
+        self.assert_ends(run, 5)
+        self.assertEqual(self.said(), "routecli: queries: NodeRange line 121\n")
+        self.assert_untouched()
+
+    def test_hierarchy(self):
+        whole = (self.folder / "network.rch").read_bytes()
+        (self.folder / "network.rch").write_bytes(b"RCX" + whole[3:])
+        self.assert_program_refuses("routecli: hierarchy: BadMagic", status=4)
+        (self.folder / "network.rch").write_bytes(whole[:-1])
+        self.assert_program_refuses("routecli: hierarchy: Truncated", status=4)
+
+    def test_statuses_of_the_program_that_are_no_fault_of_the_input(self):
+        program = self.held_program(trouble="echo routecli: memory >&2; exit 6")
+        self.write("trouble", "")
+        ended = self.many("--jobs", 1, "--program", program, status=6)
+        self.assertEqual(ended.stderr, "routecli: memory\n")
+        self.assertEqual(self.answered(), ["000000.answers", "000001.answers"])
+        (self.folder / "trouble").unlink()
+        self.many("--jobs", 1, "--program", program)
+        self.assertEqual(self.parts_begun().count("000000.pairs"), 1)
+        self.assert_answered()
+
+    def test_a_status_that_the_program_does_not_have(self):
+        program = self.held_program(trouble="echo something else >&2; exit 9")
+        self.write("trouble", "")
+        ended = self.many("--jobs", 2, "--program", program, status=1)
+        self.assertEqual(ended.stderr, f"route_many: {program} ended with status 9: something else\n")
+
+
+class TwoCallsTests(RouteManyCase):
+    """Two calls at a time, and a second call that goes on with what the first has done."""
+
+    def test_two_runs_into_one_out(self):
+        program = self.held_program()
+        self.hold("all")
+        first = self.start_many("--jobs", 2, "--program", program)
+        self.until(lambda: len(self.begun()) == 2)
+        (self.folder / "link").symlink_to(self.folder)
+        for out in ["out", "link/out"]:
+            for more in [[], ["--anew"], ["--cut"]]:
+                ended = self.run_tool("route_many", "network.rch", "pairs", out, *more, status=1)
+                self.assertEqual(ended.stderr.count("\n"), 1)
+                self.assertIn(f"route_many: {out}: another run works on it: process {first.pid} on ", ended.stderr)
+        (self.folder / "link").unlink()
+        self.release("all")
+        self.assert_ends(first)
+        self.assert_answered()
+
+    def interrupted(self, program, number):
+        """Interrupts a run while it is at the part 000003.pairs, the three before it done, and wants its status."""
+        self.hold("000003.pairs")
+        run = self.start_many("--jobs", 1, "--program", program)
+        self.until(lambda: "000003.pairs" in self.parts_begun())
+        run.send_signal(number)
+        self.assert_ends(run, 128 + number)
+        self.assertEqual(self.said(), self.kept_line() if number == signal.SIGINT else "")
+        self.until(lambda: not any(is_running(int(process)) for process, _, _ in self.begun()))
+        self.assertFalse((self.folder / "out").exists())
+        self.assertEqual(self.answered(), ["000000.answers", "000001.answers", "000002.answers"])
+
+    def test_interrupted_and_gone_on_with(self):
+        program = self.held_program()
+        self.interrupted(program, signal.SIGINT)
+        self.release("000003.pairs")
+        self.many("--jobs", 3, "--program", program)
+        wanted = [f"{part:06}.pairs" for part in range(20)] + ["000003.pairs"]
+        self.assertEqual(sorted(self.parts_begun()), sorted(wanted))
+        self.assert_answered()
+
+    def test_ended_by_sigterm_and_gone_on_with(self):
+        program = self.held_program()
+        self.interrupted(program, signal.SIGTERM)
+        self.release("000003.pairs")
+        self.many("--jobs", 3, "--program", program)
+        self.assert_answered()
+
+    def test_killed_and_gone_on_with(self):
+        program = self.held_program()
+        self.hold("000003.pairs")
+        run = self.start_many("--jobs", 1, "--program", program)
+        self.until(lambda: "000003.pairs" in self.parts_begun())
+        end(run)
+        self.release("000003.pairs")
+        self.many("--jobs", 3, "--program", program)
+        self.assertEqual(self.parts_begun().count("000000.pairs"), 1)
+        self.assert_answered()
+
+    def test_another_call_does_not_go_on(self):
+        program = self.held_program()
+        self.interrupted(program, signal.SIGINT)
+        self.release("000003.pairs")
+        kept = self.contents()
+        other = self.write("other.pairs", "p aux sp p2p 2\nq 1 2\n")
+        self.run_program([self.program, "prepare", "--workers", "0", "network.gr", "other.rch"])
+        for hierarchy, pairs, words, what in [
+            ("other.rch", "pairs", ["--program", program, "--part", PART], "HIERARCHY"),
+            ("network.rch", other, ["--program", program, "--part", PART], "PAIRS"),
+            ("network.rch", "pairs", ["--program", program, "--part", PART + 1], "--part"),
+            ("network.rch", "pairs", ["--part", PART], "program"),
+        ]:
+            ended = self.run_tool("route_many", hierarchy, pairs, "out", *words, status=1)
+            folder = self.folder.resolve() / "out.parts"
+            self.assertEqual(ended.stderr, f"route_many: {folder}: is of a call with another {what}: --anew drops it\n")
+        for name in ["other.pairs", "other.rch"]:
+            (self.folder / name).unlink()
+        self.assertEqual(
+            {path: text for path, text in self.contents().items() if path.name != "lock"},
+            {path: text for path, text in kept.items() if path.name != "lock"},
+        )
+        self.many("--jobs", 2, "--anew")
+        self.assert_answered()
+
+    def test_a_cut_that_was_not_finished_is_made_anew(self):
+        drafts = f"drafts-{'0' * 32}"
+        (self.folder / "out.parts" / drafts).mkdir(parents=True)
+        for name in ["000000.pairs", "000000.answers", "000077.answers", "whole.pairs", f"{drafts}/more"]:
+            self.write(f"out.parts/{name}", "r 1 1 0 0 1\n")
+        self.many("--jobs", 2)
+        self.assert_answered()
+
+    def test_files_of_others_are_left_alone(self):
+        (self.folder / "out.parts/drafts-mine").mkdir(parents=True)
+        for name in ["notes", "drafts-mine/notes", "1.answers"]:
+            self.write(f"out.parts/{name}", "of another\n")
+        others = self.contents()
+        self.many("--jobs", 2, "--anew")
+        self.assertEqual(self.contents(), {**others, self.folder / "out": self.wanted.encode()})
+
+    def test_a_full_disk_names_the_folder(self):
+        words = ["/usr/bin/prlimit", "--fsize=300", TOOLS / "route_many", "network.rch", "pairs", "out", "--part", PART]
+        ended = self.run_program(words, 1)
+        self.assertEqual(ended.stderr, f"route_many: {self.folder.resolve() / 'out.parts'}: File too large\n")
+
+    def test_a_hierarchy_that_changes_during_the_run(self):
+        self.run_program([self.program, "prepare", "--workers", "0", "network.gr", "other.rch"])
+        program = self.held_program()
+        self.hold("000003.pairs")
+        run = self.start_many("--jobs", 1, "--program", program)
+        self.until(lambda: "000003.pairs" in self.parts_begun())
+        os.replace(self.folder / "other.rch", self.folder / "network.rch")
+        self.release("000003.pairs")
+        self.assert_ends(run, 1)
+        hierarchy = self.folder / "network.rch"
+        wanted = f"route_many: {hierarchy} isn't the file that the run began with\n"
+        self.assertEqual(self.said(), wanted)
+        self.assertEqual(self.answered(), ["000000.answers", "000001.answers", "000002.answers"])
+
+
+class CutTests(RouteManyCase):
+    """`--cut`: the parts are answered by others, as the tasks of an array are."""
+
+    def answer(self, parts):
+        for part in parts:
+            answers = self.run_program([self.program, "route", "network.rch", f"out.parts/{part:06}.pairs"]).stdout
+            self.write(f"out.parts/{part:06}.answers", answers)
+
+    def cut(self):
+        ended = self.many("--cut")
+        self.assertEqual(ended.stdout, f"20 parts in {self.folder.resolve()}/out.parts\n")
+
+    def test_cut_answer_and_join(self):
+        self.cut()
+        self.answer(range(20))
+        self.many("--cut")
+        self.assert_answered()
+
+    def test_parts_without_answers(self):
+        self.cut()
+        self.answer([*range(4), *range(6, 20)])
+        ended = self.many("--cut", status=1)
+        first = self.folder.resolve() / "out.parts/000004.pairs"
+        self.assertEqual(ended.stderr, f"route_many: 2 of 20 parts have no answers yet, the first is {first}\n")
+        self.many("--jobs", 2)
+        self.assert_answered()
+
+    def test_answers_that_are_not_whole(self):
+        self.cut()
+        self.answer(range(20))
+        answers = self.folder.resolve() / "out.parts/000007.answers"
+        answers.write_bytes(answers.read_bytes()[:-1])
+        ended = self.many("--cut", status=1)
+        problem = "has 49 lines for 50 pairs: remove it and give the same call again"
+        self.assertEqual(ended.stderr, f"route_many: {answers}: {problem}\n")
+        self.assertFalse((self.folder / "out").exists())
+        answers.unlink()
+        self.many("--jobs", 1)
+        self.assert_answered()
+
+    def test_a_wrong_count_is_refused_at_the_cut(self):
+        self.write("pairs", "p aux sp p2p 3\nq 1 2\n")
+        ended = self.many("--cut", status=5)
+        self.assertEqual(ended.stderr, "routecli: queries: ArcCount line 2\n")
+        self.assert_untouched()
+
+
+class DaskTests(RouteManyCase):
+    """A scheduler and workers of Dask, all of them processes of this machine that speak over the loopback."""
+
+    def setUp(self):
+        super().setUp()
+        self.scheduler = self.start_dask("scheduler", "--port", 0, log="scheduler")
+        self.before = sorted({*self.before, "scheduler.json", "workers"})
+
+    def start_dask(self, *words, log, folder="."):
+        """A scheduler or worker that runs in a folder below the test's, and finds the others by the scheduler's file."""
+        file = ["--scheduler-file", self.folder / "scheduler.json"]
+        within = ["/usr/bin/env", "--chdir", self.folder / folder, "/usr/bin/dask"]
+        return self.start([*within, *words, *file, "--host", "127.0.0.1", "--no-dashboard"], log)
+
+    def start_worker(self, name, folder="."):
+        """A worker of one thread, which waits for the scheduler's file."""
+        words = ["--name", name, "--nthreads", 1, "--no-nanny", "--local-directory", self.folder / "workers"]
+        return self.start_dask("worker", *words, log=name, folder=folder)
+
+    def start_workers(self, *names, folder="."):
+        """Workers that are registered with the scheduler."""
+        workers = [self.start_worker(name, folder) for name in names]
+        self.until(lambda: all("Registered to" in (self.folder / name).read_text() for name in names))
+        return workers
+
+    def workers_at_work(self):
+        """The processes of the workers whose programs run now."""
+        return {int(worker) for process, worker, _ in self.begun() if is_running(int(process))}
+
+    def test_a_worker_is_killed_in_the_middle(self):
+        workers = self.start_workers("one", "two", "three")
+        program = self.held_program()
+        self.hold("all")
+        run = self.start_many("--dask", "scheduler.json", "--program", program)
+        self.until(lambda: self.workers_at_work() == {worker.pid for worker in workers})
+        lost = next(part for _, worker, part in self.begun() if int(worker) == workers[1].pid)
+        workers[1].kill()
+        self.release("all")
+        self.assert_ends(run)
+        self.assertEqual(self.parts_begun().count(lost), 2)
+        self.assert_answered()
+
+    def test_all_workers_are_killed_and_a_late_one_finishes(self):
+        first = self.start_workers("one")[0]
+        program = self.held_program()
+        self.hold("000003.pairs")
+        run = self.start_many("--dask", "scheduler.json", "--program", program)
+        self.until(lambda: "000003.pairs" in self.parts_begun())
+        first.kill()
+        self.release("000003.pairs")
+        self.start_worker("late")
+        self.assert_ends(run)
+        self.assertEqual(self.parts_begun().count("000000.pairs"), 1)
+        self.assert_answered()
+
+    def test_it_waits_for_a_first_worker(self):
+        self.until((self.folder / "scheduler.json").exists)
+        run = self.start_many("--dask", "scheduler.json")
+        self.until(lambda: "there is no worker yet" in (self.folder / "said").read_text())
+        self.start_worker("first")
+        self.assert_ends(run)
+        self.assert_answered()
+
+    def test_a_worker_with_another_hierarchy(self):
+        (self.folder / "stale").mkdir()
+        self.before.append("stale")
+        self.run_program([self.program, "prepare", "--workers", "0", "network.gr", "stale/network.rch"])
+        self.start_workers("right")
+        self.start_workers("stale-one", folder="stale")
+        hierarchy = "/proc/self/cwd/network.rch"
+        run = self.start_many("--dask", "scheduler.json", hierarchy=hierarchy)
+        self.assert_ends(run, 1)
+        wanted = f"route_many: worker stale-one: {hierarchy} isn't the file that the run began with\n"
+        self.assertEqual(self.said(), wanted)
+        self.assert_untouched()
+        os.unlink(self.folder / "stale/network.rch")
+        self.assert_ends(self.start_many("--dask", "scheduler.json", hierarchy=hierarchy), 1)
+        wanted = f"route_many: worker stale-one: {hierarchy}: No such file or directory\n"
+        self.assertEqual(self.said(), wanted)
+        self.assert_untouched()
+
+    def test_a_late_worker_with_another_hierarchy(self):
+        (self.folder / "stale").mkdir()
+        self.run_program([self.program, "prepare", "--workers", "0", "network.gr", "stale/network.rch"])
+        first = self.start_workers("right")[0]
+        program = self.held_program()
+        self.hold("000003.pairs")
+        hierarchy = "/proc/self/cwd/network.rch"
+        run = self.start_many("--dask", "scheduler.json", "--program", program, hierarchy=hierarchy)
+        self.until(lambda: "000003.pairs" in self.parts_begun())
+        self.start_workers("stale-one", folder="stale")
+        first.kill()
+        self.assert_ends(run, 1)
+        wanted = f"route_many: worker stale-one: {hierarchy} isn't the file that the run began with\n"
+        self.assertEqual(self.said(), wanted)
+        self.assertEqual(self.answered(), ["000000.answers", "000001.answers", "000002.answers"])
+
+    def test_bad_input(self):
+        self.start_workers("one", "two")
+        lines = ["p aux sp p2p 1000"] + ["q 1 2"] * 1000
+        lines[320], lines[170] = "q 301 1", "q one 1"
+        self.write("pairs", "\n".join(lines))
+        ended = self.many("--dask", "scheduler.json", status=5)
+        self.assertEqual(WAITS.sub("", ended.stderr), "routecli: queries: NotANumber line 171\n")
+        self.assertFalse((self.folder / "out.parts").exists())
+        self.assertFalse((self.folder / "out").exists())
+
+    def test_the_scheduler_goes_away(self):
+        self.start_workers("one")
+        program = self.held_program()
+        self.hold("000003.pairs")
+        run = self.start_many("--dask", "scheduler.json", "--program", program, environment=[f"{CONNECT}=2s"])
+        self.until(lambda: "000003.pairs" in self.parts_begun())
+        end(self.scheduler)
+        self.assert_ends(run, 1)
+        said = "the scheduler went away; the same call resumes with the parts that are done"
+        self.assertEqual(self.said(), f"route_many: scheduler.json: {said}\n")
+        self.release("000003.pairs")
+        self.many("--jobs", 1, "--program", program)
+        self.assertEqual(self.parts_begun().count("000000.pairs"), 1)
+        self.assert_answered()
+
+    def test_an_interrupt(self):
+        self.start_workers("one")
+        program = self.held_program()
+        self.hold("000003.pairs")
+        run = self.start_many("--dask", "scheduler.json", "--program", program)
+        self.until(lambda: "000003.pairs" in self.parts_begun())
+        run.send_signal(signal.SIGINT)
+        self.assert_ends(run, 130)
+        self.assertEqual(self.said(), self.kept_line())
+        self.assertEqual(self.answered(), ["000000.answers", "000001.answers", "000002.answers"])
+        self.release("000003.pairs")
+        self.many("--jobs", 1, "--program", program)
+        self.assertEqual(self.parts_begun().count("000000.pairs"), 1)
+        self.assert_answered()

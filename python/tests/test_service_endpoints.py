@@ -1,0 +1,50 @@
+"""Tests of the table of endpoints: docs/SERVICE.md has it, each endpoint is answered, and its parameters are those that are read."""
+import subprocess
+import sys
+import unittest
+
+from service_case import ServiceCase
+from tool_case import TOOLS
+
+from domethyme_service import endpoints, server
+
+PAGE = TOOLS.parent / "docs/SERVICE.md"
+
+
+class TableTests(unittest.TestCase):
+    def test_the_page_has_the_tables(self):
+        lines = PAGE.read_text(encoding="utf-8")
+        for table in (endpoints.table_of_endpoints(), endpoints.table_of_parameters()):
+            text = "\n".join(table)
+            self.assertIn(f"\n\n{text}\n\n", lines, f"docs/SERVICE.md has another table than this:\n{text}")
+
+    def test_the_command_prints_them(self):
+        words = [sys.executable, "-m", "domethyme_service.endpoints"]
+        printed = subprocess.run(words, cwd=TOOLS.parent / "python", capture_output=True, text=True, check=True).stdout
+        self.assertEqual(printed.splitlines(), [*endpoints.table_of_endpoints(), "", *endpoints.table_of_parameters()])
+
+    def test_each_is_answered(self):
+        self.assertEqual(server.ANSWERS.keys(), {endpoint.name for endpoint in endpoints.ENDPOINTS})
+        self.assertEqual(len(endpoints.BY_NAME), len(endpoints.ENDPOINTS))
+
+
+class EndpointTests(ServiceCase):
+    def test_parameters_that_are_not_there(self):
+        """Each endpoint that has parameters refuses others by name, and the others take any."""
+        self.serve("--network", self.folder / "v")
+        place = "0.0003,0.00001"
+        paths = {"ZOOM/X/Y": "0/0/0", "PROFILE/PLACES": f"car/{place};{place}", "PROFILE/PLACE": f"car/{place}", "FILE": "main.js"}
+        for endpoint in endpoints.ENDPOINTS:
+            path = endpoint.path
+            for word, right in paths.items():
+                path = path.replace(word, right)
+            with self.subTest(path=path):
+                if path:
+                    status, found = self.ask(f"{path}?colour=red", endpoint.method, b"" if endpoint.method == "POST" else None)
+                    self.assertEqual(status, 200 if endpoint.parameters is None else 400)
+                    if status == 400:
+                        self.assertEqual(found, {"code": "InvalidQuery", "message": endpoint.unknown.format("colour")})
+
+
+if __name__ == "__main__":
+    unittest.main()

@@ -1,0 +1,335 @@
+"""Tests of tool.py, texts.py and tables.py: files that are whole or as they were, tables, texts, and how tools end."""
+import os
+import signal
+import stat
+import subprocess
+import textwrap
+from unittest import mock
+
+from tool_case import PYTHON, TAKES_SIGNALS, ToolCase
+
+from domethyme import DomethymeError, files, find_program, texts
+from domethyme.lines import NO_WAY, Answer
+from domethyme.network import tables
+
+
+class SharedCase(ToolCase):
+    def assert_fault(self, says, call, *values):
+        with self.assertRaises(DomethymeError) as caught:
+            result = call(*values)
+            if hasattr(result, "__next__"):
+                list(result)
+        self.assertEqual(str(caught.exception), says)
+
+
+class WholeFiles(SharedCase):
+    def setUp(self):
+        super().setUp()
+        self.paths = [self.folder / name for name in ("first", "second", "third")]
+
+    def write_all(self, text):
+        with files.whole_files(*self.paths) as opened:
+            for file in opened:
+                file.write(text)
+
+    def texts(self):
+        return [path.read_text(encoding="utf-8") for path in self.paths]
+
+    def test_new_files(self):
+        self.write_all("new")
+        self.assertEqual(self.texts(), ["new"] * 3)
+        self.assertEqual(len(self.contents()), 3)
+
+    def test_nothing_is_seen_before_the_end(self):
+        self.write_all("old")
+        with files.whole_files(*self.paths) as opened:
+            for file in opened:
+                file.write("new")
+                file.flush()
+            self.assertEqual(self.texts(), ["old"] * 3)
+        self.assertEqual(self.texts(), ["new"] * 3)
+
+    def test_an_exception_leaves_the_old_files(self):
+        self.write_all("old")
+        with self.assertRaises(ZeroDivisionError), files.whole_files(*self.paths) as opened:
+            opened[0].write("new")
+            raise ZeroDivisionError
+        self.assertEqual(self.texts(), ["old"] * 3)
+        self.assertEqual(len(self.contents()), 3)
+
+    def test_where_one_can_not_take_its_name_all_are_as_they_were(self):
+        self.paths[1].write_text("old", encoding="utf-8")
+        with self.assertRaises(OSError), files.whole_files(*self.paths) as opened:
+            opened[0].write("new")
+            (self.paths[2] / "folder").mkdir(parents=True)
+        self.assertEqual(self.contents(), {self.paths[1]: b"old"})
+
+    def test_permissions_and_links_stay(self):
+        self.write_all("old")
+        self.paths[0].chmod(0o640)
+        self.paths[1].rename(self.folder / "elsewhere")
+        self.paths[1].symlink_to("elsewhere")
+        self.write_all("new")
+        self.assertEqual(stat.S_IMODE(self.paths[0].stat().st_mode), 0o640)
+        self.assertTrue(self.paths[1].is_symlink())
+        self.assertEqual((self.folder / "elsewhere").read_text(encoding="utf-8"), "new")
+
+    def test_new_files_go_by_the_mask(self):
+        old = os.umask(0o027)
+        self.addCleanup(os.umask, old)
+        self.write_all("new")
+        self.assertEqual(stat.S_IMODE(self.paths[0].stat().st_mode), 0o640)
+
+    def test_a_device_is_written_straight(self):
+        with files.writing("/dev/null") as file:
+            file.write("text")
+        self.assertTrue(stat.S_ISCHR(os.stat("/dev/null").st_mode))
+
+
+class Ends(SharedCase):
+    """How a tool ends that calls run()."""
+
+    def start(self, body, **streams):
+        text = "import sys\nsys.path.insert(0, sys.argv[1])\nfrom domethyme import files\nfrom domethyme_tools import tool\ndef main():\n"
+        script = self.write("tool", text + textwrap.indent(textwrap.dedent(body), "    ") + "\ntool.run(main)\n")
+        streams = {"stdout": subprocess.PIPE, "stderr": subprocess.PIPE, **streams}
+        return subprocess.Popen([*TAKES_SIGNALS, "/usr/bin/python3", script, PYTHON], cwd=self.folder, encoding="utf-8", **streams)
+
+    def assert_ends(self, child, status, says):
+        stdout, stderr = child.communicate(timeout=60)
+        self.assertEqual((child.returncode, stderr), (status, says))
+        return stdout
+
+    def test_done(self):
+        self.assertEqual(self.assert_ends(self.start("print('told')"), 0, ""), "told\n")
+
+    def test_a_fault(self):
+        self.assert_ends(self.start("raise tool.Fault('is wrong', 'file', 3)"), 1, "tool: file, row 3: is wrong\n")
+        told = "tool: standard input: two lines\n"
+        self.assert_ends(self.start("raise tool.Fault('two\\nlines', '-', status=5)"), 5, told)
+
+    def test_a_full_device(self):
+        with open("/dev/full", "w", encoding="ascii") as full:
+            self.assert_ends(self.start("print('told')", stdout=full), 1, "tool: No space left on device\n")
+
+    def test_a_reader_that_went_away(self):
+        reading, writing = os.pipe()
+        os.close(reading)
+        child = self.start("print('told')", stdout=writing)
+        os.close(writing)
+        self.assert_ends(child, 1, "")
+
+    def test_signals_leave_nothing(self):
+        body = """
+            with files.whole_files('first', 'second'):
+                print('ready', flush=True)
+                sys.stdin.read()
+            """
+        for number, status in ((signal.SIGTERM, 143), (signal.SIGINT, 130)):
+            child = self.start(body, stdin=subprocess.PIPE)
+            self.assertEqual(child.stdout.readline(), "ready\n")
+            self.assertEqual(len(self.contents()), 3)
+            child.send_signal(number)
+            self.assert_ends(child, status, "")
+            self.assertEqual(len(self.contents()), 1)
+
+    def test_a_missing_module(self):
+        body = "with tool.packages():\n    import no_such_module\n"
+        says = "tool: Python's module no_such_module is missing: run tools/check_packages, and the tool by /usr/bin/python3\n"
+        self.assert_ends(self.start(body), 1, says)
+
+
+class Tables(SharedCase):
+    def rows(self, text, needed=("a", "b")):
+        path = self.folder / "table.csv"
+        path.write_bytes(text)
+        with texts.table(path, needed) as rows:
+            return rows.columns, list(rows)
+
+    def assert_table_fault(self, says, text):
+        self.assert_fault(f"{self.folder / 'table.csv'}{says}", self.rows, text)
+
+    def test_columns_go_by_name(self):
+        columns, rows = self.rows('\ufeffb,c,a\r\n1,"x,\ny",2\r\n\r\n3,é,4\r\n'.encode())
+        self.assertEqual(columns, ["b", "c", "a"])
+        self.assertEqual(rows, [(3, {"b": "1", "c": "x,\ny", "a": "2"}), (5, {"b": "3", "c": "é", "a": "4"})])
+
+    def test_faults_tell_the_row(self):
+        self.assert_table_fault(", row 1: has no column a", b"")
+        self.assert_table_fault(", row 1: has no column b; its columns are a, c", b"a,c\n")
+        told = ", row 1: has no column a; its columns are a;b: fields have to be parted by commas"
+        self.assert_table_fault(told, b"a;b\n")
+        self.assert_table_fault(", row 1: has no column b; its columns are a,  b: there is a blank beside b", b"a, b\n")
+        self.assert_table_fault(", row 1: has two columns a", b"a,b,a\n")
+        self.assert_table_fault(", row 3: has 1 fields in place of 2", b"a,b\n1,2\n3\n")
+        self.assert_table_fault(", row 2: isn't UTF-8", b"a,b\n\xff,2\n")
+        self.assert_table_fault(", row 2: isn't CSV: unexpected end of data", b'a,b\n"1,2\n')
+
+    def test_numbers(self):
+        self.assertEqual(texts.whole_number("-3", "n", "f", 1, -5, 5), -3)
+        self.assertEqual(texts.whole_number(b"007", "n", "f", 1), 7)
+        self.assertEqual(texts.number("1.5e1", "n", "f", 1), 15.0)
+        for text in ("", "1_0", "1.0", "٣", "x" * 50, "9" * 5000):
+            shown = repr(text if len(text) <= 40 else text[:40] + "..")
+            self.assert_fault(f"f, row 1: n {shown} is no whole number", texts.whole_number, text, "n", "f", 1)
+        self.assert_fault("f, row 1: n 6 isn't from 0 to 5", texts.whole_number, "6", "n", "f", 1, 0, 5)
+        self.assert_fault("f, row 1: lon '181' isn't from -180 to 180", texts.number, "181", "lon", "f", 1, -180, 180)
+        self.assert_fault("f, row 1: n 'nan' is no finite number", texts.number, "nan", "n", "f", 1)
+        self.assert_fault("f, row 1: n 'x' is no number", texts.number, "x", "n", "f", 1)
+
+
+class Networks(SharedCase):
+    def write_and(self, read, name, text):
+        path = self.write(name, text)
+        result = read(path)
+        return list(result) if hasattr(result, "__next__") else result
+
+    def assert_text_fault(self, read, name, text, says):
+        self.assert_fault(f"{self.folder / name}{says}", self.write_and, read, name, text)
+
+    def test_words_that_name_no_network(self):
+        for word, says in [
+            ("li.co.gz", "li.co.gz: is compressed: gunzip it, and name li.co"),
+            ("li.gr", "li.gr: is a graph: name the network by the beginning of its files' names, li, or a file of "
+             "coordinates, li.co"),
+            ("li.rch", "li.rch: is a hierarchy: name the network by the beginning of its files' names"),
+            ("li.nodes.csv", "li.nodes.csv: name the network by the beginning of its files' names, li"),
+            ("li.arcs.csv", "li.arcs.csv: name the network by the beginning of its files' names, li"),
+        ]:
+            self.assert_fault(says, tables.nodes_file, word)
+        self.assertEqual([tables.nodes_file(word) for word in ("li", "li.co")], ["li.nodes.csv", "li.co"])
+
+    def test_nodes_there_and_back(self):
+        nodes = tables.Nodes([5, None, -7], [-180.0, 0.1234567, 180.0], [-90.0, 0.0, 90.0], ["", "from", "no"])
+        with files.writing(self.folder / "n.nodes.csv") as file:
+            tables.write_nodes(file, nodes)
+        self.assertEqual(tables.read_nodes(self.folder / "n.nodes.csv"), nodes)
+
+    def test_nodes_with_faults(self):
+        head = "node,osm,lon,lat\n"
+        cases = [
+            (head + "2,,0,0\n", ", row 2: has node '2' where node 1 comes next"),
+            (head + "1,,0,0\n2,,0,91\n", ", row 3: lat '91' isn't from -90 to 90"),
+            (head + "1,x,0,0\n", ", row 2: osm 'x' is no whole number"),
+        ]
+        for text, says in cases:
+            self.assert_text_fault(tables.read_nodes, "n.nodes.csv", text, says)
+
+    def test_coordinates_of_dimacs(self):
+        text = "c New York\np aux sp co 2\nv 2 -73530767 41085396\nv 1 -73530538 41086098\n"
+        nodes = self.write_and(tables.read_nodes, "ny.co", text)
+        self.assertEqual(nodes, tables.Nodes([None, None], [-73.530538, -73.530767], [41.086098, 41.085396], ["", ""]))
+        self.assertEqual(tables.nodes_file("ny.co"), "ny.co")
+        self.assertEqual(tables.nodes_file("ny"), "ny.nodes.csv")
+
+    def test_coordinates_with_faults(self):
+        cases = [
+            ("", ": has no line `p aux sp co N`"),
+            ("v 1 0 0\n", ", row 1: is no line of coordinates before the line `p aux sp co N`"),
+            ("p aux sp co 1\nv 2 0 0\n", ", row 2: node 2 isn't from 1 to 1"),
+            ("p aux sp co 2\nv 1 0 0\n", ": has no coordinates of node 2"),
+            ("p aux sp p2p 2\n", ", row 1: is no problem line `p aux sp co NUMBER`"),
+        ]
+        for text, says in cases:
+            self.assert_text_fault(tables.read_nodes, "n.co", text, says)
+
+    def test_arcs_there_and_back(self):
+        arcs = [
+            tables.Arc(1, 2, 16012, 16.012, 222.39, 101, "tertiary", 'High "Street", N', "LINESTRING (0 0, 1 1)"),
+            tables.Arc(2, 1, 1, 0.0, 0.0, -5, "residential", "", "LINESTRING (1 1, 0 0)"),
+        ]
+        with files.writing(self.folder / "n.arcs.csv") as file:
+            tables.write_arcs(file, arcs)
+        self.assertEqual(list(tables.read_arcs(self.folder / "n.arcs.csv")), arcs)
+
+    def test_the_lightest_of_parallel_arcs(self):
+        arcs = [
+            tables.Arc(start, end, weight, 0, 0, osm, "", "", "")
+            for start, end, weight, osm in ((1, 2, 9, 1), (1, 2, 5, 2), (1, 2, 5, 3), (2, 1, 7, 4))
+        ]
+        self.assertEqual({pair: arc.osm for pair, arc in tables.lightest(arcs).items()}, {(1, 2): 2, (2, 1): 4})
+
+    def test_lines(self):
+        points = [(-0.0016667, 0.0), (9.5, 47.1878542)]
+        self.assertEqual(tables.wkt_of(points), "LINESTRING (-0.0016667 0.0000000, 9.5000000 47.1878542)")
+        self.assertEqual(tables.points_of(tables.wkt_of(points)), points)
+        bodies = ("(1 2)", "(1 2, 3)", "(1 2, 3 4", "EMPTY", "(1 2, 3 4) 5", "(1 2, 3 x)")
+        for text in ("", "POINT (1 2, 3 4)", *(f"LINESTRING {body}" for body in bodies)):
+            self.assert_fault(f"f, row 7: WKT {text!r} is no line", tables.points_of, text, "f", 7)
+
+    def test_graph_there_and_back(self):
+        with files.writing(self.folder / "n.gr") as file:
+            texts.write_graph(file, 3, [(1, 2, 7), (1, 2, 8), (3, 3, 1)], ["a comment"])
+        text = (self.folder / "n.gr").read_text(encoding="ascii")
+        self.assertEqual(text, "c a comment\np sp 3 3\na 1 2 7\na 1 2 8\na 3 3 1\n")
+        self.assertEqual(texts.read_graph(self.folder / "n.gr"), texts.Graph(3, [1, 1, 3], [2, 2, 3], [7, 8, 1]))
+
+    def test_graph_with_faults(self):
+        cases = [
+            ("c only\n", ": has no line `p sp NODES ARCS`"),
+            ("a 1 2 3\n", ", row 1: is no line of a graph"),
+            ("p sp 2 1\n\na 1 3 3\n", ", row 3: node 3 isn't from 1 to 2"),
+            ("p sp 2 1\na 1 2 4294967296\n", ", row 2: weight 4294967296 isn't from 0 to 4294967295"),
+            ("p sp 2 2\na 1 2 3\n", ": has 1 arcs and announces 2"),
+            ("p sp 2 1\np sp 2 1\n", ", row 2: is no line of a graph"),
+        ]
+        for text, says in cases:
+            self.assert_text_fault(texts.read_graph, "n.gr", text, says)
+
+    def test_pairs(self):
+        with files.writing(self.folder / "pairs") as file:
+            texts.write_pairs(file, [(1, 2), (3, 3)])
+        self.assertEqual((self.folder / "pairs").read_text(encoding="ascii"), "p aux sp p2p 2\nq 1 2\nq 3 3\n")
+
+    def test_answers(self):
+        answers = self.write_and(texts.read_answers, "answers", "r 1 2 9 2 1 5 2\nn 2 1\nr 3 3 0 0 3\n")
+        expected = [Answer(1, 2, 9, (1, 5, 2)), Answer(2, 1, NO_WAY, ()), Answer(3, 3, 0, (3,))]
+        self.assertEqual(answers, expected)
+
+    def test_answers_with_faults(self):
+        cases = [
+            ("n 1 2\n\n", ", row 2: is no answer of routecli"),
+            ("r 1 2 9\n", ", row 1: is no answer of routecli"),
+            ("n 1 2 3\n", ", row 1: is no answer of routecli"),
+            ("r 1 2 x 1 1 2\n", ", row 1: the number 'x' is no whole number"),
+            ("r 1 2 9 2 1 2\n", ", row 1: has nodes that don't fit its pair and its number of arcs"),
+            ("r 1 2 9 1 1 3\n", ", row 1: has nodes that don't fit its pair and its number of arcs"),
+        ]
+        for text, says in cases:
+            self.assert_text_fault(texts.read_answers, "answers", text, says)
+
+
+class Program(SharedCase):
+    def put_program(self, name):
+        path = self.write(name, "#!/bin/sh\n")
+        path.chmod(0o755)
+        return path
+
+    def find(self, named=None, **environment):
+        """The program that is found under an environment."""
+        with mock.patch.dict(os.environ, {"PATH": "/nowhere", **environment}, clear=True):
+            return find_program(named)
+
+    def test_order(self):
+        named, told, on_path = (str(self.put_program(name)) for name in ("named", "told", "routecli"))
+        environment = {"ROUTECLI": told, "PATH": str(self.folder)}
+        self.assertEqual(self.find(named, **environment), named)
+        self.assertEqual(self.find(**environment), told)
+        self.assertEqual(self.find(PATH=str(self.folder)), on_path)
+
+    def test_no_program(self):
+        self.write("text", "no program")
+        path = str(self.folder / "text")
+        self.assert_fault(f"{path}: is no program that can be run", self.find, path)
+        self.assert_fault("/none: is no program that can be run", lambda: self.find(ROUTECLI="/none"))
+
+
+class Earth(SharedCase):
+    def test_distances(self):
+        # a degree of a circle of radius 6371008.8 m; at 60 degrees north half of that
+        self.assertAlmostEqual(tables.metres_between(0, 0, 1, 0), 111195.080, 3)
+        self.assertAlmostEqual(tables.metres_between(7, -3, 7, -4), 111195.080, 3)
+        self.assertAlmostEqual(tables.metres_between(0, 60, 0.001, 60), 55.59754, 4)
+        self.assertAlmostEqual(tables.metres_between(179.5, 0, -179.5, 0), 111195.080, 3)
+        self.assertAlmostEqual(tables.metres_between(0, 90, 0, -90), 20015114.4, 0)
+        self.assertEqual(tables.metres_between(5, 5, 5, 5), 0)

@@ -1,0 +1,115 @@
+"""Tests of turn restrictions: a crossing with figures by hand, relations of all kinds, and a search over turns."""
+from tool_case import VILLAGE, ToolCase
+
+from domethyme import NO_WAY, find_program
+from domethyme.network.tables import read_nodes
+from domethyme.texts import read_answers
+from domethyme_tools.turns import Member, Restriction, restrictions_of
+
+CAR = ["access", "vehicle", "motor_vehicle", "motorcar"]
+
+# A crossing at 1, and the ends of its four streets a thousandth of a degree away, 2 in the west, 3 north, 4 east, 5 south.
+# At 40 km/h such a step of 111.195 m takes 10007.6 ms.
+PLACES = {1: (0, 0), 2: (-1, 0), 3: (0, 1), 4: (1, 0), 5: (0, -1)}
+STEP = 10008
+
+
+def crossing(*restrictions):
+    """The map of the crossing with relations (from, to, tags), whose ways are named by the nodes at their ends."""
+    text = ["<osm version='0.6'>"]
+    text += [f"<node id='{node}' lon='{x / 1000}' lat='{y / 1000}'/>" for node, (x, y) in PLACES.items()]
+    for end in (2, 3, 4, 5):
+        tags = "<tag k='highway' v='residential'/><tag k='maxspeed' v='40'/>"
+        text.append(f"<way id='{end}'><nd ref='{end}'/><nd ref='1'/>{tags}</way>")
+    for number, (start, end, tags) in enumerate(restrictions, 1):
+        ways = f"<member type='way' ref='{start}' role='from'/><member type='way' ref='{end}' role='to'/>"
+        told = "".join(f"<tag k='{key}' v='{value}'/>" for key, value in {"type": "restriction", **tags}.items())
+        text.append(f"<relation id='{number}'>{ways}<member type='node' ref='1' role='via'/>{told}</relation>")
+    return "\n".join([*text, "</osm>\n"])
+
+
+class CrossingTests(ToolCase):
+    def lengths(self, *restrictions, options=()):
+        """The steps from each of the places to each, by nearest and the program; None where there is no route."""
+        self.write("map.osm", crossing(*restrictions))
+        self.said = self.run_tool("osm_to_gr", "map.osm", "map", *options).stderr
+        rows = [f"{x / 1000},{y / 1000}" for x, y in PLACES.values()]
+        self.write("places.csv", "\n".join(["lon,lat", *rows]) + "\n")
+        self.run_tool("nearest", "map", "places.csv", "--matrix", "--within", "1", "-o", "pairs")
+        self.write("answers", self.run_program([find_program(), "answer", "map.gr", "pairs"]).stdout)
+        answers = iter(read_answers(self.folder / "answers"))
+        found = {(start, end): next(answers).length for start in PLACES for end in PLACES}
+        return {pair: None if length == NO_WAY else length / STEP for pair, length in found.items()}
+
+    def free(self):
+        """The steps where each turn may be taken."""
+        away = {node: 0 if node == 1 else 1 for node in PLACES}
+        return {(start, end): 0 if start == end else away[start] + away[end] for start in PLACES for end in PLACES}
+
+    def test_no_turn(self):
+        # from the west not north: on to the east or south, back, and then north; all else is as it was
+        wanted = self.free() | {(2, 3): 4}
+        self.assertEqual(self.lengths((2, 3, {"restriction": "no_left_turn"})), wanted)
+        self.assertIn("osm_to_gr: junctions split by turn restrictions: 1\n", self.said)
+        # 4 arcs to the crossing lead to 2 nodes each; 4 lead on from where routes begin, and 3 for who came from the west
+        self.assertIn("osm_to_gr: map: 7 nodes, 15 arcs, 0.4 km of road\n", self.said)
+        self.assertEqual(sorted(read_nodes(self.folder / "map.nodes.csv").ends), ["", "", "", "", "from", "no", "to"])
+        self.assertEqual(self.lengths((2, 3, {"restriction": "no_left_turn"}), options=["--free-turns"]), self.free())
+
+    def test_only_one_turn(self):
+        wanted = self.free() | {(2, 3): 4, (2, 5): 4}
+        self.assertEqual(self.lengths((2, 4, {"restriction": "only_straight_on"})), wanted)
+
+    def test_several_at_one_junction(self):
+        # from the west only east or south, and from the east not north: so north by way of south, from the west by 4 steps
+        rules = [(2, 4, {"restriction": "only_straight_on"}), (2, 5, {"restriction": "only_right_turn"}),
+                 (4, 3, {"restriction": "no_right_turn"})]
+        self.assertEqual(self.lengths(*rules), self.free() | {(2, 3): 4, (4, 3): 4})
+
+    def test_a_street_that_can_be_left_by_turning_alone(self):
+        # whoever comes from the west has to turn round: 2 leads to itself and to 1, where routes may end
+        self.assertEqual(
+            self.lengths((2, 2, {"restriction": "only_u_turn"}), options=["--islands"]),
+            self.free() | {(2, 3): None, (2, 4): None, (2, 5): None},
+        )
+
+    def test_restrictions_that_do_not_bind(self):
+        for tags in ({"restriction": "no_left_turn", "except": "bicycle;motorcar"}, {"restriction:hgv": "no_left_turn"},
+                     {"restriction": "give_way"}, {"restriction:conditional": "no_left_turn @ (Mo-Fr 07:00-09:00)"}):
+            with self.subTest(tags=tags):
+                self.assertEqual(self.lengths((2, 3, tags)), self.free())
+
+    def test_a_network_without_the_column(self):
+        self.lengths((2, 3, {"restriction": "no_left_turn"}))
+        rows = (self.folder / "map.nodes.csv").read_text().splitlines()
+        self.write("map.nodes.csv", "\n".join(row.rpartition(",")[0] for row in rows) + "\n")
+        self.assertEqual(set(read_nodes(self.folder / "map.nodes.csv").ends), {""})
+
+
+class RelationTests(ToolCase):
+    def told(self, tags, *members):
+        return restrictions_of({"type": "restriction", **tags}, [Member(*member) for member in members], CAR)
+
+    def test_kinds(self):
+        by_node = ("w", 1, "from"), ("n", 2, "via"), ("w", 3, "to")
+        for value, only in (("no_left_turn", False), ("no_u_turn", False), ("only_straight_on", True)):
+            self.assertEqual(self.told({"restriction": value}, *by_node), ([Restriction(1, 2, 3, only)], None))
+        self.assertEqual(self.told({"restriction:motorcar": "no_entry", "restriction": "give_way"}, *by_node)[0],
+                         [Restriction(1, 2, 3, False)])
+        self.assertEqual(self.told({"restriction": "no_entry"}, *by_node, ("w", 4, "from"))[0],
+                         [Restriction(1, 2, 3, False), Restriction(4, 2, 3, False)])
+        for tags, members, reason in [
+            ({"restriction": "stop"}, by_node, "of another kind"),
+            ({"restriction:conditional": "no_u_turn @ (1-2)"}, by_node, "at times only"),
+            ({"restriction": "no_u_turn"}, (by_node[0], ("w", 2, "via"), by_node[2]), "not by one node"),
+            ({"restriction": "no_u_turn"}, (by_node[0], by_node[2]), "not by one node"),
+        ]:
+            self.assertEqual(self.told(tags, *members), ([], f"turn restrictions not looked at: {reason}"))
+        self.assertEqual(restrictions_of({"type": "route"}, [], CAR), ([], None))
+
+
+class ComparisonTests(ToolCase):
+    def test_the_village_with_many_restrictions(self):
+        for seed in (1, 2):
+            told = self.run_tool("compare_turns", VILLAGE, "--draw", "30", "--seed", seed).stdout
+            self.assertRegex(told, "^restrictions: 31; pairs: 1156, all equal; [1-9][0-9]* longer than with free turns")

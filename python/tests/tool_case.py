@@ -1,0 +1,73 @@
+"""What the tests of the tools share: a folder for each test, and runs of the tools in it."""
+import functools
+import os
+import pathlib
+import shutil
+import subprocess
+import tempfile
+import unittest
+
+HERE = pathlib.Path(__file__).resolve().parent
+ROOT = HERE.parents[1]
+PYTHON, TOOLS = ROOT / "python", ROOT / "tools"
+VILLAGE, STAND_IN = HERE / "village.osm", HERE / "serve_stand_in"
+
+from domethyme import find_program
+
+# Before the words of a program that is sent signals. What a test inherits may ignore them, as a shell's background job
+# does, and Python makes no KeyboardInterrupt of an interrupt that it was started to ignore.
+TAKES_SIGNALS = ["/usr/bin/env", "--default-signal=HUP,INT,QUIT,TERM"]
+
+
+@functools.cache
+def serving_program():
+    """The program, or where it has no `serve` yet, the stand-in that has. The environment then names what it stands for."""
+    program = find_program()
+    os.environ["STAND_IN_FOR"] = program
+    known = subprocess.run([program, "serve", "--help"], stdin=subprocess.DEVNULL, capture_output=True).returncode == 0
+    return program if known else str(STAND_IN)
+
+
+class ToolCase(unittest.TestCase):
+    """A test in an empty folder of its own, `self.folder`, in which the tools run."""
+
+    def setUp(self):
+        self.folder = pathlib.Path(tempfile.mkdtemp(prefix="map-tools-"))
+        self.addCleanup(shutil.rmtree, self.folder)
+
+    def run_tool(self, tool, *words, status=0, given=None, environment=None):
+        """Runs a tool with the words, and `given` as its standard input, and wants the status. Texts are returned."""
+        return self.run_program([TOOLS / tool, *words], status, given, environment)
+
+    def run_program(self, words, status=0, given=None, environment=None):
+        ended = subprocess.run(
+            [str(word) for word in words],
+            cwd=self.folder,
+            input=given,
+            stdin=subprocess.DEVNULL if given is None else None,
+            capture_output=True,
+            encoding="utf-8",
+            env={**os.environ, **(environment or {})},
+            timeout=120,
+        )
+        self.assertEqual(ended.returncode, status, ended.stderr)
+        return ended
+
+    def assert_refused(self, tool, *words, says, given=None, environment=None):
+        """Wants status 1, one line on standard error with the text `says`, nothing written, and the folder as it was."""
+        before = self.contents()
+        ended = self.run_tool(tool, *words, status=1, given=given, environment=environment)
+        self.assertEqual(ended.stderr.count("\n"), 1, ended.stderr)
+        self.assertTrue(ended.stderr.startswith(f"{tool}: "), ended.stderr)
+        self.assertIn(says, ended.stderr)
+        self.assertEqual(ended.stdout, "")
+        self.assertEqual(self.contents(), before)
+
+    def contents(self):
+        """The files of the folder, with their bytes."""
+        return {path: path.read_bytes() for path in self.folder.rglob("*") if path.is_file()}
+
+    def write(self, name, text):
+        path = self.folder / name
+        path.write_text(text, encoding="utf-8")
+        return path
