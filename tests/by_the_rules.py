@@ -2,32 +2,34 @@
 """Compares files of `routecli prepare`, byte for byte, with those of a plain program that is written here anew by the
 rules of docs/ALGORITHM.md and docs/FORMATS.md.
 
-    tests/by_the_rules.py [NETWORKS]        by default 200 random small networks
+    tests/by_the_rules.py [NETWORKS]        by default 30 random small networks, as in the gate
 
 With no worker, and with one, the rules and the seed determine the file. Each network is prepared by the sweep, and by
 one worker in each order, with its estimator alone and with all three, of which one takes the place of another after a
 stint. In many networks weights are 0, and walks of one length have different numbers of arcs. A cost is
-a pair (weight, arcs), which Python orders by the first number and then by the second. It needs the proved program, which is
+a pair (weight, arcs), which Python orders by the first number and then by the second. Then a grid is prepared by several
+seeds, of which some are the same in their lower 32 bits: each file is that of its seed, and no two are equal.
+
+Each file is compared, and the last line counts them; the status is 1 where one differs. It needs the proved program, which is
 crates/routecli/out/routecli (README.md says how to build it) or the path in the environment variable ROUTECLI.
 """
 import heapq
 import pathlib
 import random
 import subprocess
-import sys
 import tempfile
+import typing
 
-sys.path.insert(0, str(pathlib.Path(__file__).resolve().parent.parent))
-
-from common.counted import parser, positive
-from common.hierarchy_file import NONE, spelled
-from common.networks import WEIGHTS, drawn_arcs, text_of
-from common.program import PROGRAM, need_program
+from kit.counted import end, parser, positive
+from kit.hierarchy_file import NONE, spelled
+from kit.networks import WEIGHTS, drawn_arcs, text_of
+from kit.program import PROGRAM, need_program
 
 SETTLE, DEFER, HEAPS = 64, 16, 2
 ORDERS = ["edges", "neighbours", "depth"]
 STINTS = [1, 2, 5, 16, 40, 1 << 40]
 WORD = (1 << 64) - 1
+SEEDS = [0, 1, 2, 1 << 32, (1 << 32) + 1, 1 << 63, WORD]
 
 
 class Draws:
@@ -188,44 +190,83 @@ def work(rows, seed, order, stint):
             current, commits = Estimator(rows, later.pop(0)), 0
 
 
-def random_network(draw):
+def grid_arcs(draw: random.Random, side: int, weights: typing.Sequence[int], chance: float) -> list[tuple[int, int, int]]:
+    """The arcs of a grid in both directions, each of which is there by this chance."""
+    arcs = []
+    for node in range(side * side):
+        for other in [node + 1] * (node % side < side - 1) + [node + side] * (node < side * (side - 1)):
+            arcs += [(u, v, draw.choice(weights)) for u, v in [(node, other), (other, node)] if draw.random() < chance]
+    return arcs
+
+
+def random_network(draw: random.Random) -> tuple[int, list[tuple[int, int, int]]]:
     nodes = draw.choice([0, 1, 2, 3, 5, 8, 13, 30, 60, 120])
     if nodes == 0:
         return 0, []
     if nodes < 9 or draw.random() < 0.5:
         return nodes, drawn_arcs(draw, nodes, draw.randint(0, 4 * nodes))
-    side, weights = int(nodes**0.5), draw.choice(WEIGHTS)
-    arcs = []
-    for node in range(side * side):
-        for other in [node + 1] * (node % side < side - 1) + [node + side] * (node < side * (side - 1)):
-            arcs += [(u, v, draw.choice(weights)) for u, v in [(node, other), (other, node)] if draw.random() < 0.9]
-    return side * side, arcs
+    side = int(nodes**0.5)
+    return side * side, grid_arcs(draw, side, draw.choice(WEIGHTS), 0.9)
 
 
-def main():
-    words = parser(__doc__)
-    words.add_argument("networks", nargs="?", type=positive, default=200, metavar="NETWORKS")
+class Preparing:
+    """Preparations of one network after the other, and how many of their files were equal, and how many not."""
+
+    def __init__(self, folder: str) -> None:
+        self.graph, self.file = pathlib.Path(folder) / "network.gr", pathlib.Path(folder) / "network.rch"
+        self.nodes, self.arcs = 0, list[tuple[int, int, int]]()
+        self.passed = self.failed = 0
+
+    def network(self, nodes: int, arcs: list[tuple[int, int, int]]) -> None:
+        self.nodes, self.arcs = nodes, arcs
+        self.graph.write_text(text_of(nodes, arcs))
+
+    def count(self, well: bool, what: str) -> None:
+        self.passed, self.failed = self.passed + well, self.failed + (not well)
+        if not well:
+            print(f"FAILED: {what}", flush=True)
+
+    def compare(self, name: str, workers: int, order: str, stint: int | None, seed: int) -> bytes:
+        """Prepares the network, and compares the file with the one by the rules. Returns what the program wrote."""
+        options = ["--workers", str(workers), "--seed", str(seed), "--order", order]
+        options += ["--stint", str(stint)] if stint else []
+        subprocess.run([PROGRAM, "prepare", *options, self.graph, self.file], check=True)
+        rows = Rows(self.nodes, self.arcs)
+        sweep(rows) if workers == 0 else work(rows, seed, order, stint)
+        made = self.file.read_bytes()
+        self.count(made == rows.file(), f"{name}, {' '.join(options)}: the file isn't the one by the rules")
+        return made
+
+
+def random_networks(preparing: Preparing, networks: int) -> None:
+    """Compares the files of so many networks, by the sweep and by one worker in each order."""
+    draw = random.Random(1)
+    for network in range(networks):
+        preparing.network(*random_network(draw))
+        seed = draw.choice([0, 1, WORD, draw.getrandbits(64)])
+        preparing.compare(f"network {network}", 0, "edges", None, seed)
+        for order in ORDERS:
+            preparing.compare(f"network {network}", 1, order, None, seed)
+            preparing.compare(f"network {network}", 1, order, draw.choice(STINTS), seed)
+
+
+def seeds(preparing: Preparing) -> None:
+    """Compares the files of one network by several seeds, with those by the rules and with one another."""
+    preparing.network(100, grid_arcs(random.Random(2), 10, range(1, 100), 1.0))
+    files = {preparing.compare("the grid", 1, "depth", None, seed) for seed in SEEDS}
+    preparing.count(len(files) == len(SEEDS), f"{len(SEEDS)} seeds made {len(files)} files")
+
+
+def main() -> None:
+    words = parser(__doc__ or "")
+    words.add_argument("networks", nargs="?", type=positive, default=30, metavar="NETWORKS")
     networks = words.parse_args().networks
     need_program()
-    draw = random.Random(1)
     with tempfile.TemporaryDirectory() as folder:
-        graph, file = pathlib.Path(folder) / "network.gr", pathlib.Path(folder) / "network.rch"
-        for network in range(networks):
-            nodes, arcs = random_network(draw)
-            graph.write_text(text_of(nodes, arcs))
-            seed = draw.choice([0, 1, WORD, draw.getrandbits(64)])
-            jobs = [(0, "edges", None)]
-            for order in ORDERS:
-                jobs += [(1, order, None), (1, order, draw.choice(STINTS))]
-            for workers, order, stint in jobs:
-                options = ["--workers", str(workers), "--seed", str(seed), "--order", order]
-                options += ["--stint", str(stint)] if stint else []
-                subprocess.run([PROGRAM, "prepare", *options, graph, file], check=True)
-                rows = Rows(nodes, arcs)
-                sweep(rows) if workers == 0 else work(rows, seed, order, stint)
-                if file.read_bytes() != rows.file():
-                    sys.exit(f"network {network}, {' '.join(options)}: the files differ")
-    print(f"{networks} networks: all files are equal")
+        preparing = Preparing(folder)
+        random_networks(preparing, networks)
+        seeds(preparing)
+    end("tests/by_the_rules.py", preparing.passed, preparing.failed)
 
 
 if __name__ == "__main__":

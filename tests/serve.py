@@ -17,10 +17,8 @@ import sys
 import tempfile
 import threading
 
-sys.path.insert(0, str(pathlib.Path(__file__).resolve().parent.parent))
-
-from common import counted, hierarchy_file
-from common.program import PROGRAM, need_program
+from kit import counted, hierarchy_file
+from kit.program import PROGRAM, need_program
 
 # A row: 2 to 1 of weight 2, and 1 to 3 of weight 3.
 ROW = "p sp 3 2\na 2 1 2\na 1 3 3\n"

@@ -1,16 +1,16 @@
 #!/usr/bin/env python3
 """Runs the proved program where files, memory or time are refused, and looks at what stands in the files then.
 
-    tests/whole_files.py [WORD]        only the cases whose names have this word; it is refused where none has it
+    tests/whole_files.py [--long] [WORD]        only the cases whose names have WORD; it is refused where none has it
 
 A file tells no contract what it keeps, so this is tested and not proved: OUT of `prepare` is whole, the old one or the
 new one, whatever happens; nothing is left beside it, but where the program is killed; and the statuses are those of
-docs/FORMATS.md. Each case is a line, and the last line counts them; the exit status is 1 where one has failed, or where the
-only ones that were named couldn't be tried.
+docs/FORMATS.md. With --long the program's memory is limited too, and it is killed at many times: that takes minutes. Each case
+is a line, and the last line counts them; the exit status is 1 where one has failed.
 
 It needs the proved program, which is crates/routecli/out/routecli (README.md says how to build it) or the path in the
-environment variable ROUTECLI. With a C compiler as `cc` single calls of the system are refused too, by refuse_call.c; as
-root, the folders and files that may not be written are tried as another user.
+environment variable ROUTECLI, and gcc, for refuse_call.c, which refuses single calls of the system. As root, the folders and
+files that may not be written are tried as another user.
 """
 import os
 import pathlib
@@ -24,15 +24,16 @@ import tempfile
 import threading
 import time
 
-HERE = pathlib.Path(__file__).resolve().parent
-sys.path.insert(0, str(HERE.parent))
+from kit.counted import chosen, end, parser
+from kit.hierarchy_file import HEAD_BYTES, LINK_BYTES, NONE, links_in, spelled
+from kit.networks import made
+from kit.program import PROGRAM, need_program
 
-from common.counted import chosen, end, parser
-from common.hierarchy_file import NONE, spelled
-from common.networks import made
-from common.program import PROGRAM, need_program
+HERE = pathlib.Path(__file__).resolve().parent
 
 PREPARE = ["prepare", "--workers", "1"]
+# So many bytes are offered to a file at once, at most.
+PIECE = 8192
 # A graph of one arc, and its hierarchy's file by docs/FORMATS.md: two ranks, one link, and the bound.
 SMALL = b"p sp 2 1\na 1 2 7\n"
 SMALL_FILE = spelled([0, 1], [(0, 1, 7, 1, NONE)], 7)
@@ -52,9 +53,9 @@ def expect(holds, why):
 class Run:
     """A run of the program that has ended."""
 
-    def __init__(self, words, folder, **how):
+    def __init__(self, program, words, folder, **how):
         how.setdefault("stdout", subprocess.PIPE)
-        ended = subprocess.run([PROGRAM, *words], cwd=folder, stderr=subprocess.PIPE, timeout=300, **how)
+        ended = subprocess.run([program, *words], cwd=folder, stderr=subprocess.PIPE, timeout=300, **how)
         self.status, self.out, self.err = ended.returncode, ended.stdout, ended.stderr
 
     def ends(self, status, line=b""):
@@ -81,7 +82,7 @@ class Bench:
         return file
 
     def run(self, *words, **how):
-        return Run(words, self.folder, **how)
+        return Run(self.shared.program, words, self.folder, **how)
 
     def prepare(self, graph="x.gr", out="x.rch", **how):
         return self.run(*PREPARE, graph, out, **how)
@@ -101,37 +102,42 @@ class Bench:
 
 
 class Shared:
-    """The texts of a network, its hierarchy, an older one, and the answers of some pairs."""
+    """A copy of the program, which another user may run wherever it is built; the texts of a network, its hierarchy, an older
+    one, and the answers of some pairs."""
 
     def __init__(self, top, side):
-        self.top = top
+        self.top, self.program = top, top / "program"
+        shutil.copy(PROGRAM, self.program)
+        self.program.chmod(0o755)
         self.graph, self.pairs, self.file = top / "network.gr", top / "network.pairs", top / "network.rch"
         made(side, 400, self.graph, self.pairs)
         start = time.perf_counter()
-        Run([*PREPARE, self.graph, "/dev/stdout"], top, stdout=open(self.file, "wb")).ends(0)
+        with open(self.file, "wb") as sink:
+            Run(self.program, [*PREPARE, self.graph, "/dev/stdout"], top, stdout=sink).ends(0)
         self.seconds = time.perf_counter() - start
         self.new = self.file.read_bytes()
         self.old = SMALL_FILE
-        self.answers = Run(["route", self.file, self.pairs], top).ends(0).out
+        self.writes = -(-len(self.new) // PIECE)
+        self.answers = Run(self.program, ["route", self.file, self.pairs], top).ends(0).out
         self.refuse = refuse_library(top)
 
     def environment(self, call):
         """In which the call is refused, or all are as slow as can be seen."""
-        return {**os.environ, "LD_PRELOAD": self.refuse, "REFUSED": call} if self.refuse else None
+        return {**os.environ, "LD_PRELOAD": self.refuse, "REFUSED": call}
 
 
-CASES = []
+CASES, LONG = [], []
 
 
-def case(*values):
+def case(*values, to=CASES):
     """Adds the function to the cases: once, or once for each of the values."""
 
     def add(test):
         name = test.__name__.replace("_", " ")
         for value in values:
-            CASES.append((f"{name}: {value}", lambda bench, value=value: test(bench, value)))
+            to.append((f"{name}: {value}", lambda bench, value=value: test(bench, value)))
         if not values:
-            CASES.append((name, test))
+            to.append((name, test))
         return test
 
     return add
@@ -211,11 +217,30 @@ def files_that_others_left_are_not_taken(bench):
 def at_once_into_one_file(bench, count):
     bench.put()
     runs = []
-    words = [PROGRAM, *PREPARE, "x.gr", "x.rch"]
+    words = [bench.shared.program, *PREPARE, "x.gr", "x.rch"]
     for _ in range(count):
         runs.append(subprocess.Popen(words, cwd=bench.folder))
     expect([run.wait() for run in runs] == [0] * count, "one has failed")
     bench.holds_new()
+
+
+@case()
+def a_file_of_more_than_4_mib(bench):
+    nodes = 100_000
+    with open(bench.put("chain.gr", b""), "wb") as chain:
+        chain.write(b"p sp %d %d\n" % (nodes, 2 * nodes - 2))
+        chain.writelines(b"a %d %d 3\na %d %d 2\n" % (n, n + 1, n + 1, n) for n in range(1, nodes))
+    straight = bench.prepare("chain.gr", "/dev/stdout").ends(0).out
+    bench.prepare("chain.gr").ends(0)
+    bench.left.add("x.rch")
+    made = bench.out.read_bytes()
+    expect(len(made) > 4 << 20 and made == straight, f"{len(made)} bytes, and {len(straight)} to standard output")
+    expect(len(made) == HEAD_BYTES + 4 * nodes + LINK_BYTES[2] * links_in(bench.out), "not so many bytes as the head says")
+    expect(bench.run("info", "x.rch").ends(0).out.endswith(b"bytes %d\n" % len(made)), "info reads other bytes")
+    bench.put("pairs", b"p aux sp p2p 1\nq 1 %d\n" % nodes)
+    line = bench.run("route", "x.rch", "pairs").ends(0).out
+    route = b" ".join(b"%d" % node for node in range(1, nodes + 1))
+    expect(line == b"r 1 %d %d %d %b\n" % (nodes, 3 * nodes - 3, nodes - 1, route), "another route")
 
 
 # One file for both
@@ -349,7 +374,7 @@ def in_memory(limit):
     return within(resource.RLIMIT_AS, limit << 20)
 
 
-@case(*(f"{workers} workers, {limit} MB" for workers in (0, 1, 4) for limit in LIMITS))
+@case(*(f"{workers} workers, {limit} MB" for workers in (0, 1, 4) for limit in LIMITS), to=LONG)
 def memory_to_prepare(bench, how):
     workers, limit = int(how.split()[0]), int(how.split()[2])
     bench.put("x.rch", b"before")
@@ -373,7 +398,7 @@ def costs(answers):
     return [line.split()[:5] for line in answers.splitlines()]
 
 
-@case(*(f"{limit} MB" for limit in LIMITS))
+@case(*(f"{limit} MB" for limit in LIMITS), to=LONG)
 def memory_to_route(bench, how):
     limit = int(how.split()[0])
     run = bench.run("route", bench.shared.file, bench.shared.pairs, preexec_fn=in_memory(limit))
@@ -420,7 +445,7 @@ def size_of_the_answers(bench, limit):
 
 def killed(bench, wait, **how):
     """Kills a preparation once the wait is over. What stands in OUT is whole, and a file may be left beside it."""
-    with subprocess.Popen([PROGRAM, *PREPARE, "x.gr", "x.rch"], cwd=bench.folder, **how) as run:
+    with subprocess.Popen([bench.shared.program, *PREPARE, "x.gr", "x.rch"], cwd=bench.folder, **how) as run:
         wait(run)
         run.kill()
     found = bench.out.read_bytes()
@@ -439,13 +464,13 @@ def killed(bench, wait, **how):
     return told
 
 
-@case(*(f"{percent} percent of its time" for percent in range(5, 105, 10)))
+@case(*(f"{percent} percent of its time" for percent in range(5, 105, 10)), to=LONG)
 def killed_after(bench, how):
     bench.put()
     return killed(bench, lambda run: time.sleep(bench.shared.seconds * int(how.split()[0]) / 100))
 
 
-@case(*(f"{count} ms after its first byte" for count in range(0, 300, 30)))
+@case(*(f"{count} ms after its first byte" for count in range(0, 300, 30)), to=LONG)
 def killed_while_it_writes(bench, how):
     bench.put()
     beside, size = bench.folder / "routecli-new-0", bench.out.stat().st_size
@@ -464,52 +489,53 @@ def killed_while_it_writes(bench, how):
 @case("fsync", "rename", "fchmod", "write 1", "write 2", "write 9", "write last", "open new")
 def refused(bench, call):
     bench.put()
-    last = -(-len(bench.shared.new) // 8192)
-    bench.prepare(env=bench.shared.environment(call.replace("last", str(last)))).ends(7, WRITE)
+    bench.prepare(env=bench.shared.environment(call.replace("last", str(bench.shared.writes)))).ends(7, WRITE)
     bench.holds_old()
 
 
-@case("interrupted", "short", "chown")
+@case("interrupted", "short", "chown", "one write more")
 def borne(bench, call):
     bench.put()
+    call = call.replace("one write more", f"write {bench.shared.writes + 1}")
     bench.prepare(env=bench.shared.environment(call)).ends(0)
     bench.holds_new()
 
 
 def refuse_library(top):
-    """The library that refuses calls, if there is a compiler for it."""
+    """The library that refuses calls."""
+    compiler = next(filter(None, map(shutil.which, ["cc", "gcc", "g++"])), None)
+    if compiler is None:
+        sys.exit("tests/whole_files.py: refuse_call.c can't be compiled, which needs gcc")
     library = top / "refuse.so"
-    if shutil.which("cc") is None:
-        return None
-    subprocess.run(["cc", "-shared", "-fPIC", "-O1", "-o", library, HERE / "refuse_call.c", "-ldl"], check=True)
+    subprocess.run([compiler, "-x", "c", "-shared", "-fPIC", "-O1", "-o", library, HERE / "refuse_call.c", "-ldl"], check=True)
     return str(library)
 
 
 def main():
     words = parser(__doc__)
     words.add_argument("word", nargs="?", default="", metavar="WORD")
-    names = chosen(words, (name for name, _ in CASES), words.parse_args().word)
+    words.add_argument("--long", action="store_true", help="limits of memory, and a program that is killed, too")
+    options = words.parse_args()
+    cases = CASES + LONG if options.long else CASES
+    names = chosen(words, (name for name, _ in cases), options.word)
     need_program()
     failed = ran = 0
     with tempfile.TemporaryDirectory() as top:
         top = pathlib.Path(top)
         top.chmod(0o755)
         shared = Shared(top, 64)
-        for name, test in CASES:
+        for name, test in cases:
             if name not in names:
-                continue
-            if shared.refuse is None and name.startswith(("refused", "borne")):
-                print(f"not run, without cc: {name}")
                 continue
             bench = Bench(shared)
             ran += 1
             try:
                 told = test(bench)
                 bench.has_no_more()
-                print(f"ok: {name}" + (f": {told}" if told else ""))
+                print(f"ok: {name}" + (f": {told}" if told else ""), flush=True)
             except (Failed, OSError, subprocess.SubprocessError) as why:
                 failed += 1
-                print(f"FAILED: {name}: {why}")
+                print(f"FAILED: {name}: {why}", flush=True)
             shutil.rmtree(bench.folder)
     end("tests/whole_files.py", ran - failed, failed)
 

@@ -1,7 +1,7 @@
 #!/usr/bin/env python3
 """Tells what memory `routecli route` takes for hierarchy files that announce much and bring little.
 
-    tests/hostile.py
+    tests/long/hostile.py
 
 Each file is written, routed, and refused: the table has its bytes, the name of the refusal, which is compared, the
 greatest resident size in kB, what of it is beyond that of a file of no byte, and that for each byte of the file. Some files
@@ -17,11 +17,9 @@ import subprocess
 import sys
 import tempfile
 
-sys.path.insert(0, str(pathlib.Path(__file__).resolve().parent.parent))
-
-from common.counted import parser
-from common.hierarchy_file import NONE, head, link, ranks, spelled
-from common.program import PROGRAM, need_compiled, need_program
+from kit.counted import parser
+from kit.hierarchy_file import NONE, head, link, ranks, spelled
+from kit.program import PROGRAM, need_compiled, need_program
 
 MOST = 1 << 25
 

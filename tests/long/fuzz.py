@@ -2,7 +2,7 @@
 """Runs `routecli route`, `answer`, `serve` and `info` on changed hierarchy files, texts and requests, and compares
 every status, line and refusal with slow and plain readers (plain.py).
 
-    tests/fuzz.py [--seconds SECONDS] [--jobs JOBS] [--seed SEED] [--services]      by default an hour, 2 jobs and seed 1
+    tests/long/fuzz.py [--seconds SECONDS] [--jobs JOBS] [--seed SEED] [--services]      by default an hour, 2 jobs and seed 1
 
 Files and texts are drawn, from small networks that `prepare` made hierarchies of, and from well made hierarchies of both
 versions that stand for no graph; then bytes, numbers, links and lines of most are changed, exchanged, repeated, cut off or
@@ -28,14 +28,10 @@ import sys
 import tempfile
 import time
 
-import plain
-
-sys.path.insert(0, str(pathlib.Path(__file__).resolve().parent.parent))
-
-from common import counted, networks
-from common.answers import is_walk, least_arcs
-from common.hierarchy_file import HEAD_BYTES, LINK_BYTES, spelled
-from common.program import PROGRAM, ROOT, need_compiled, need_program
+from kit import counted, networks, plain
+from kit.answers import is_walk, least_arcs
+from kit.hierarchy_file import HEAD_BYTES, LINK_BYTES, spelled
+from kit.program import PROGRAM, ROOT, need_compiled, need_program
 
 KEPT = ROOT / "out/fuzz"
 SECONDS = 30

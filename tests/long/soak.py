@@ -2,7 +2,7 @@
 """Prepares many small random networks by many workers while the processors are busy, and compares every answer with the
 plain search in C++.
 
-    tests/soak.py [BUILDS [SEED]] [--first BUILD]        by default 1,000 builds and seed 1, from build 0 on
+    tests/long/soak.py [BUILDS [SEED]] [--first BUILD]        by default 1,000 builds and seed 1, from build 0 on
 
 Each network has up to 40 nodes and up to 200 arcs, loops and parallel arcs among them, and weights that make ties
 likely, 0 among them; one in ten has up to 400 nodes. Each is prepared with another seed by 2 to 64 workers, the orders
@@ -23,12 +23,10 @@ import sys
 import tempfile
 import time
 
-sys.path.insert(0, str(pathlib.Path(__file__).resolve().parent.parent))
-
-from common import counted
-from common.answers import are_answers, least_arcs_of
-from common.networks import drawn_arcs, pairs_text, text_of
-from common.program import PROGRAM, need_compiled, need_program
+from kit import counted
+from kit.answers import are_answers, least_arcs_of
+from kit.networks import drawn_arcs, pairs_text, text_of
+from kit.program import PROGRAM, need_compiled, need_program
 
 ORDERS = ["edges", "neighbours", "depth"]
 MOST_SECONDS = 60

@@ -1,0 +1,1 @@
+"""What the scripts of tests/, bench/ and python/tests share: `kit` beside them is this folder, or leads to it."""

@@ -1,0 +1,55 @@
+"""Makes networks: small random ones, for the scripts that compare with plain programs, and those of bench/make_network.py.
+
+Nodes are numbered from 0, as inside the program; in a text from 1.
+"""
+import random
+import subprocess
+import sys
+from collections.abc import Sequence
+from typing import Any
+
+from .answers import Path
+from .program import ROOT
+
+HEAVIEST = 4_294_967_295
+
+# What the weights of a network are drawn from. In most, many walks have the same length and different numbers of arcs.
+WEIGHTS: list[Sequence[int]] = [
+    range(1),
+    range(1, 2),
+    range(2),
+    range(1, 4),
+    range(4),
+    range(21),
+    range(1, 1001),
+    (0, HEAVIEST),
+    range(HEAVIEST + 1),
+]
+
+
+def drawn_arcs(draw: random.Random, nodes: int, count: int) -> list[tuple[int, int, int]]:
+    """So many arcs as (start, end, weight), loops and parallel arcs among them. There is at least one node."""
+    weights = draw.choice(WEIGHTS)
+    return [(draw.randrange(nodes), draw.randrange(nodes), draw.choice(weights)) for _ in range(count)]
+
+
+def text_of(nodes: int, arcs: Sequence[tuple[int, int, int]]) -> str:
+    """The graph's text."""
+    return f"p sp {nodes} {len(arcs)}\n" + "".join(f"a {start + 1} {end + 1} {weight}\n" for start, end, weight in arcs)
+
+
+def pairs_text(pairs: Sequence[tuple[int, int]]) -> str:
+    """The text of these pairs, whose nodes are numbered from 1."""
+    return f"p aux sp p2p {len(pairs)}\n" + "".join(f"q {source} {target}\n" for source, target in pairs)
+
+
+def made(side: int, pairs: int, graph: Path, queries: Path, *more: Any) -> None:
+    """A network of bench/make_network.py, and so many random pairs of it."""
+    words: list[Any] = [sys.executable, ROOT / "bench/make_network.py", str(side), str(pairs), "1", graph, queries, *map(str, more)]
+    subprocess.run(words, check=True)
+
+
+def arcs_in(graph: Path) -> int:
+    """How many arcs a graph's text announces."""
+    with open(graph) as source:
+        return int(next(line for line in source if line.startswith("p ")).split()[3])

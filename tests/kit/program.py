@@ -1,0 +1,73 @@
+"""Where the program is, how the C++ programs of bench/ are compiled, and what a run takes."""
+import os
+import pathlib
+import subprocess
+import sys
+import time
+import typing
+from collections.abc import Iterable
+
+from .answers import Path
+
+ROOT = pathlib.Path(__file__).resolve().parents[2]
+
+# The proved program: the one that is built here, or that the environment variable ROUTECLI names.
+PROGRAM = pathlib.Path(os.environ.get("ROUTECLI") or ROOT / "crates/routecli/out/routecli").resolve()
+
+
+def need_program() -> None:
+    if not PROGRAM.exists():
+        sys.exit(f"{PROGRAM} isn't built: README.md says how")
+
+
+def compiled(folder: Path, name: str) -> pathlib.Path | None:
+    """The program of bench/NAME.cpp, compiled into the folder; None where there is no g++, or what it needs isn't there."""
+    target = pathlib.Path(folder) / name
+    words: list[typing.Any] = ["g++", "-O3", "-std=c++17", "-o", target, ROOT / f"bench/{name}.cpp"]
+    try:
+        done = subprocess.run(words, stderr=subprocess.PIPE)
+    except FileNotFoundError:
+        return None
+    return target if done.returncode == 0 else None
+
+
+def need_compiled(folder: Path, name: str) -> pathlib.Path:
+    """The same, for what a script can't do without."""
+    target = compiled(folder, name)
+    if target is None:
+        sys.exit(f"bench/{name}.cpp can't be compiled, which needs g++")
+    return target
+
+
+class Taken(typing.NamedTuple):
+    """What a run took: seconds of the wall clock, seconds of the processors, the greatest resident size in MB; and what it
+    said on standard error."""
+
+    wall: float
+    processor: float
+    memory: float
+    said: str
+
+
+class Runs:
+    """Runs programs one after the other, by a small one (bench/resident.cpp), since the size of this one would count."""
+
+    def __init__(self, folder: Path) -> None:
+        self.folder = pathlib.Path(folder)
+        self.resident = need_compiled(folder, "resident")
+
+    def taken(self, words: Iterable[object], out: Path = os.devnull, wanted: int = 0, **more: typing.Any) -> Taken:
+        """Runs the words, which have to end with the status that is wanted."""
+        ended = self.folder / "ended"
+        given = [str(word) for word in [self.resident, ended, *words]]
+        start = time.perf_counter()
+        with open(out, "wb") as sink:
+            child = subprocess.Popen(given, stdout=sink, stderr=subprocess.PIPE, text=True, **more)
+            said = "" if child.stderr is None else child.stderr.read()
+            _, _, usage = os.wait4(child.pid, 0)
+        wall = time.perf_counter() - start
+        child.returncode = 0
+        status, kilobytes = map(int, ended.read_text().split())
+        if status != wanted:
+            sys.exit(f"{' '.join(given[2:])} ended with {status}: {said[-300:]}")
+        return Taken(wall, usage.ru_utime + usage.ru_stime, kilobytes / 1024, said)
