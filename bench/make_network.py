@@ -17,13 +17,9 @@ With `--nodes` there are only the first N places, row by row. Both ends of a pai
 NEAR.pairs, COUNT pairs whose ends are at most STEPS rows and columns apart.
 """
 import math
-import pathlib
 import random
-import sys
 
-sys.path.insert(0, str(pathlib.Path(__file__).resolve().parent.parent))
-
-from common.counted import parser, positive
+from kit.counted import parser, positive
 
 # How many lines lie between two of a kind, and how much faster it is, the fastest last.
 SQUARE = [(1, 1), (16, 3)]

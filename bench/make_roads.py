@@ -9,18 +9,17 @@ square of 400 metres a step around 47 N, 9 E, each joined to the next in its row
 Every 8th line is a tertiary road, every 32nd a primary one and every 128th a motorway. A road has 0 to 3 nodes on it. One in
 forty is a one-way street. Dead ends make up the rest. A line has a name for 16 of its steps. Weights are milliseconds.
 """
-import argparse
 import pathlib
-import sys
-
-sys.path.insert(0, str(pathlib.Path(__file__).resolve().parent.parent / "python"))
 
 import numpy as np
 
-from domethyme import binary
+from kit.counted import parser  # (finds domethyme too)
+
+from domethyme import texts
+from domethyme.network import binary, tables
 
 STEP, LON, LAT = 400.0, 9.0, 47.0
-METRES = 6_371_008.8 * np.pi / 180
+METRES = tables.EARTH_RADIUS * np.pi / 180
 KINDS = [(128, "motorway", 110), (32, "primary", 80), (8, "tertiary", 50), (1, "residential", 30)]
 ON_ROAD = np.array([0, 0, 0, 0, 1, 1, 2, 2, 2, 3])
 
@@ -107,34 +106,17 @@ def spread(values):
     return found
 
 
-def write_graph(path, arrays):
-    with open(path, "w") as out:
-        out.write(f"p sp {len(arrays.node_osm)} {len(arrays.arc_from)}\n")
-        rows = zip(arrays.arc_from.tolist(), arrays.arc_to.tolist(), arrays.arc_weight.tolist())
-        out.writelines(f"a {start} {end} {weight}\n" for start, end, weight in rows)
-
-
 def write_tables(prefix, arrays):
     """The tables of osm_to_gr; returns their sizes."""
-    texts, units = arrays.texts(), binary.UNITS
-    with open(f"{prefix}.nodes.csv", "w") as out:
-        out.write("node,osm,lon,lat,ends\n")
-        rows = zip(arrays.node_lon.tolist(), arrays.node_lat.tolist())
-        out.writelines(f"{node},{node},{lon / units:.7f},{lat / units:.7f},\n" for node, (lon, lat) in enumerate(rows, 1))
-    with open(f"{prefix}.arcs.csv", "w") as out:
-        out.write("from,to,weight,seconds,metres,osm,highway,name,ref,junction,destination,structure,WKT\n")
-        for row in range(len(arrays.arc_from)):
-            figures = f"{arrays.arc_from[row]},{arrays.arc_to[row]},{arrays.arc_weight[row]}"
-            figures += f",{arrays.arc_seconds[row]:.3f},{arrays.arc_metres[row]:.2f},{arrays.arc_osm[row]}"
-            line = arrays.points[2 * arrays.arc_edge[row] : 2 * arrays.arc_edge[row] + 2] / units
-            (lon, lat), (to_lon, to_lat) = line if arrays.arc_along[row] else line[::-1]
-            highway, name = texts[arrays.arc_texts[row, 0]], texts[arrays.arc_texts[row, 1]]
-            out.write(f'{figures},{highway},{name},,,,,"LINESTRING ({lon:.7f} {lat:.7f}, {to_lon:.7f} {to_lat:.7f})"\n')
-    return [pathlib.Path(f"{prefix}.{name}.csv").stat().st_size for name in ("nodes", "arcs")]
+    files = tables.Files(prefix)
+    with open(files.nodes, "w") as nodes, open(files.arcs, "w") as arcs:
+        tables.write_nodes(nodes, tables.nodes_of(arrays))
+        tables.write_arcs(arcs, tables.arcs_in(arrays))
+    return [pathlib.Path(each).stat().st_size for each in (files.nodes, files.arcs)]
 
 
 def main():
-    words = argparse.ArgumentParser(description=__doc__, formatter_class=argparse.RawDescriptionHelpFormatter)
+    words = parser(__doc__)
     words.add_argument("nodes", metavar="NODES", type=int)
     words.add_argument("seed", metavar="SEED", type=int)
     words.add_argument("network", metavar="NETWORK")
@@ -145,7 +127,9 @@ def main():
     arrays = make(given.nodes, given.seed)
     if problem := binary.wrong(arrays):
         raise AssertionError(problem)
-    write_graph(f"{given.network}.gr", arrays)
+    arcs = np.column_stack((arrays.arc_from, arrays.arc_to, arrays.arc_weight)).tolist()
+    with open(f"{given.network}.gr", "w") as file:
+        texts.write_graph(file, len(arrays.node_osm), arcs)
     if given.tables:
         arrays = arrays._replace(sizes=np.array(write_tables(given.network, arrays)))
     with open(f"{given.network}.npz", "wb") as file:

@@ -27,13 +27,13 @@ import numpy as np
 from scipy.sparse import csr_array
 from scipy.sparse.csgraph import dijkstra
 
-ROOT = pathlib.Path(__file__).resolve().parent.parent
-sys.path[:0] = [str(ROOT), str(ROOT / "python")]
+from kit.counted import parser, positive  # (finds domethyme too)
+from kit.networks import made
+from kit.program import PROGRAM, need_program
 
-import domethyme  # noqa: E402  (found by the path above)
-from common.counted import parser, positive  # noqa: E402
-from common.networks import made  # noqa: E402
-from common.program import PROGRAM, need_program  # noqa: E402
+import domethyme
+
+ROOT = pathlib.Path(__file__).resolve().parent.parent
 
 EXTRACT = "liechtenstein-2013-08-03"
 

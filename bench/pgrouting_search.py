@@ -15,9 +15,7 @@ import sys
 import tempfile
 import time
 
-sys.path.insert(0, str(pathlib.Path(__file__).resolve().parent.parent))
-
-from common.counted import parser
+from kit.counted import parser
 
 BIN = pathlib.Path("/usr/lib/postgresql/15/bin")
 # A server isn't started for root.

@@ -7,13 +7,10 @@ NetworkX's `bidirectional_dijkstra`, and igraph's `distances` from the source to
 and prints a line `r S T LENGTH` or `n S T` for each pair; on standard error the seconds to read and to search. It needs
 Debian's python3-networkx and python3-igraph.
 """
-import pathlib
 import sys
 import time
 
-sys.path.insert(0, str(pathlib.Path(__file__).resolve().parent.parent))
-
-from common.counted import parser
+from kit.counted import parser
 
 
 def arcs_of(text):

@@ -35,13 +35,11 @@ import sys
 import tempfile
 import time
 
-sys.path.insert(0, str(pathlib.Path(__file__).resolve().parent.parent))
-
-from common import counted
-from common.answers import costs_in
-from common.hierarchy_file import links_in
-from common.networks import arcs_in
-from common.program import PROGRAM, ROOT, Runs, need_compiled, need_program
+from kit import counted
+from kit.answers import costs_in
+from kit.hierarchy_file import links_in
+from kit.networks import arcs_in
+from kit.program import PROGRAM, ROOT, Runs, need_compiled, need_program
 
 NODES = [264_346, 1_000_000]
 USA = (23_947_347, 58_333_344)

@@ -28,10 +28,8 @@ import threading
 import time
 import typing
 
-sys.path.insert(0, str(pathlib.Path(__file__).resolve().parent.parent))
-
-from common import counted, networks
-from common.program import PROGRAM, need_compiled, need_program
+from kit import counted, networks
+from kit.program import PROGRAM, need_compiled, need_program
 
 PAIRS, FLIGHT, ALONE, SEED = 10_000, 1_000, 2_000, 1
 

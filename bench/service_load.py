@@ -10,7 +10,6 @@ other work on the machine makes the former smaller and not the latter. Each is t
 requests are asked one after the other, each on a connection of its own, after as many without tables. The program is that of
 ROUTECLI.
 """
-import argparse
 import concurrent.futures
 import http.client
 import json
@@ -22,14 +21,14 @@ import resource
 import signal
 import statistics
 import subprocess
-import sys
 import tempfile
 import time
 
-ROOT = pathlib.Path(__file__).resolve().parent.parent
-sys.path.insert(0, str(ROOT / "python"))
+from kit.counted import parser  # (finds domethyme too)
 
-from domethyme import binary
+from domethyme.network import binary
+
+ROOT = pathlib.Path(__file__).resolve().parent.parent
 
 NEAR = 3000
 PATHS = 4000
@@ -185,7 +184,7 @@ def timed(service, path):
 
 
 def main():
-    words = argparse.ArgumentParser(description=__doc__, formatter_class=argparse.RawDescriptionHelpFormatter)
+    words = parser(__doc__)
     words.add_argument("hierarchy", metavar="HIERARCHY")
     words.add_argument("network", metavar="NETWORK")
     words.add_argument("--fronts", type=int, default=4)

@@ -3,7 +3,7 @@
 
     bench/speed.py [--sparse N ..] [--nodes N ..] [--rounds ROUNDS] [--kept FOLDER] [--only WORD] [--no-python] [--page] [--anew]
 
-By default in 3 rounds, and kept in out/speed. The networks are sparse ones with the figures of the challenge's (make_sparse.cpp),
+By default in 5 rounds, and kept in out/speed. The networks are sparse ones with the figures of the challenge's (make_sparse.cpp),
 of 264,346 and 1,000,000 nodes, and 8,000,000 in one round by `depth` alone; those of make_network.py with --roads, of 10,000,
 65,536, 264,346 and 1,000,000 nodes; one without --roads, of 264,196 nodes, that is hard to prepare and to ask; and the map of
 tools/fetch_extract, in which a node lies at least every 20 metres (left out where neither the folder nor Debian has it). In
@@ -18,11 +18,13 @@ each round each job of each network has its turn once, so that a machine that is
   read       the graph's text alone: `answer` with a text of pairs that is refused, and read_graph.cpp
   answer     100 pairs, up to 10,000 nodes
 
-A job that takes less than a second has three turns in a row, of which the shortest counts. NetworkX and pgRouting have their
-turn in the first round alone. Each run is a line of runs.csv in the folder, and what was measured isn't measured again. Rerun the
+A job that takes less than a second has three turns in a row, of which the middle one counts. NetworkX and pgRouting have their
+turn in the first round alone. Before each round of a network it waits until other programs leave the machine alone, for
+`--wait` seconds at most; if they don't, a line says so, and the run goes on. Each run is a line of runs.csv in the folder, and what was measured isn't measured again. Rerun the
 same command to resume an interrupted run, or with more rounds to add them. Figures of another program, another machine or other
 networks are refused; `--anew` drops them. With `--only` those jobs alone whose names have the word, as `route depth`. Seconds are
-of the wall clock and of the processors; memory is the greatest resident size.
+of the wall clock and of the processors; memory is the greatest resident size; `others` is how many processors other programs kept
+busy meanwhile; the loads are those of the last minute, before and after the run.
 
 All answers are compared: lengths and numbers of arcs with route.cpp, which searches by itself, nodes along the arcs of the
 network, and the first 20 of each text with every search. Each hierarchy that is prepared answers 100 pairs, as that of one
@@ -45,14 +47,14 @@ import random
 import shutil
 import subprocess
 import sys
+import time
 
-sys.path.insert(0, str(pathlib.Path(__file__).resolve().parent.parent))
 
 import speed_page
-from common import counted, networks
-from common.answers import are_answers, costs_in, least_arcs_of
-from common.hierarchy_file import links_in
-from common.program import PROGRAM, ROOT, Runs, compiled, need_compiled, need_program
+from kit import counted, networks
+from kit.answers import are_answers, costs_in, least_arcs_of
+from kit.hierarchy_file import links_in
+from kit.program import PROGRAM, ROOT, Runs, compiled, need_compiled, need_program
 
 NODES = [10_000, 65_536, 264_346, 1_000_000]
 SPARSE = [264_346, 1_000_000, 8_000_000]
@@ -65,7 +67,8 @@ MOST_ANSWERED, MOST_SLOW, MOST_WHOLE = 10_000, 264_346, 1_000_000
 SEED = 1
 OTHERS, SLOW = ["igraph", "networkx", "pgrouting"], ["networkx", "pgrouting"]
 PYTHON = "/usr/bin/python3"
-HEADS = ["network", "job", "round", "seconds", "processor", "megabytes", "load", "when"]
+HEADS = ["network", "job", "round", "seconds", "processor", "megabytes", "others", "before", "load", "when"]
+QUIET = 0.1  # processors that others may keep busy
 EXTRACT = "liechtenstein-2013-08-03.osm.pbf"
 
 
@@ -170,12 +173,12 @@ class Bench:
     def save(self):
         self.facts.write_text(json.dumps(self.told, indent=1))
 
-    def note(self, network, job, number, seconds, taken):
+    def note(self, network, job, number, before, others, seconds, taken):
         """A run as a line of the table."""
         when = datetime.datetime.now(datetime.timezone.utc).isoformat(timespec="seconds")
         cells = [network.name, job, number, f"{seconds:.6f}", f"{taken.processor:.3f}", f"{taken.memory:.1f}"]
         with open(self.table, "a", newline="") as out:
-            csv.writer(out).writerow([*cells, f"{os.getloadavg()[0]:.2f}", when])
+            csv.writer(out).writerow([*cells, f"{others:.2f}", f"{before:.2f}", f"{os.getloadavg()[0]:.2f}", when])
         self.done.add((network.name, job, number))
 
     def jobs(self, network):
@@ -301,17 +304,55 @@ def check_walks(graph, found, wanted):
     sys.exit(0 if are_answers(found, wanted, least_arcs_of(graph)) else 1)
 
 
-def shortest(go):
-    """A run of a job, or the shortest of three where it takes less than a second."""
+def middle(go):
+    """A run of a job, or the middle one of three where it takes less than a second."""
     first = go()
-    return first if first[0] >= 1 else min(first, go(), go(), key=lambda run: run[0])
+    return first if first[0] >= 1 else sorted([first, go(), go()], key=lambda run: run[0])[1]
+
+
+def busy_seconds():
+    """Seconds that the processors have been busy, all together, since the machine was started."""
+    with open("/proc/stat") as lines:
+        user, nice, system, _, _, irq, softirq, *_ = map(int, next(lines).split()[1:])
+    return (user + nice + system + irq + softirq) / os.sysconf("SC_CLK_TCK")
+
+
+def own_seconds():
+    """Seconds that this program and those that it ran have kept processors busy."""
+    taken = os.times()
+    return taken.user + taken.system + taken.children_user + taken.children_system
+
+
+class Others:
+    """How many processors other programs keep busy, from here on."""
+
+    def __init__(self):
+        self.start, self.busy, self.own = time.monotonic(), busy_seconds(), own_seconds()
+
+    def processors(self):
+        passed = max(time.monotonic() - self.start, 0.01)
+        return max(busy_seconds() - self.busy - (own_seconds() - self.own), 0) / passed
+
+
+def wait_for_quiet(most):
+    """Waits until other programs leave the machine alone, for this many seconds at most, and says so if they don't."""
+    end = time.monotonic() + most
+    while True:
+        others = Others()
+        time.sleep(1)
+        found = others.processors()
+        if found <= QUIET:
+            return
+        if time.monotonic() >= end:
+            print(f"other programs keep {found:.1f} processors busy: figures may differ by more", file=sys.stderr)
+            return
 
 
 def is_there(name):
     """Whether a module of Python can be had, or the extension of PostgreSQL."""
     if name == "pgrouting":
         return pathlib.Path("/usr/share/postgresql/15/extension/pgrouting.control").exists()
-    return subprocess.run([PYTHON, "-c", f"import {name}"], stderr=subprocess.DEVNULL).returncode == 0
+    return subprocess.run([PYTHON, "-P", "-c", f"import {name}"], stderr=subprocess.DEVNULL).returncode == 0
 
 
 def about():
@@ -343,11 +384,18 @@ def all_networks(options, folder):
             yield network
 
 
+def is_left(bench, network, job, number):
+    """Whether a job has its turn in a round: what takes long has one in the first round alone."""
+    is_long = network.count > MOST_WHOLE or any(name in job for name in SLOW)
+    return (network.name, job, number) not in bench.done and not (number > 1 and is_long)
+
+
 def main():
     words = counted.parser(__doc__)
     words.add_argument("--sparse", type=int, nargs="*", default=SPARSE, help="sizes of the sparse networks, from 1,000 nodes")
     words.add_argument("--nodes", type=int, nargs="*", default=NODES, help="sizes of the networks of make_network.py")
-    words.add_argument("--rounds", type=counted.positive, default=3)
+    words.add_argument("--rounds", type=counted.positive, default=5)
+    words.add_argument("--wait", type=int, default=60, help="seconds to wait for a quiet machine before a round of a network")
     words.add_argument("--kept", type=pathlib.Path, default=ROOT / "out/speed")
     words.add_argument("--only", default="")
     words.add_argument("--no-python", action="store_true", help="without igraph, NetworkX and pgRouting")
@@ -366,16 +414,16 @@ def main():
         bench.enter(network)
     for number in range(1, options.rounds + 1):
         for network in made:
-            for job, go in bench.jobs(network).items():
-                if options.only not in job:
-                    continue
-                tried = True
-                if (network.name, job, number) in bench.done:
-                    continue
-                if number > 1 and (network.count > MOST_WHOLE or any(name in job for name in SLOW)):
-                    continue
+            jobs = {job: go for job, go in bench.jobs(network).items() if options.only in job}
+            tried = tried or bool(jobs)
+            left = {job: go for job, go in jobs.items() if is_left(bench, network, job, number)}
+            if left:
+                wait_for_quiet(options.wait)
+            for job, go in left.items():
                 print(f"round {number}, {network.name}: {job}", file=sys.stderr, flush=True)
-                bench.note(network, job, number, *shortest(go))
+                before, others = os.getloadavg()[0], Others()
+                seconds, taken = middle(go)
+                bench.note(network, job, number, before, others.processors(), seconds, taken)
                 bench.save()
     if not tried:
         words.error(f"no job has {options.only!r} in its name")

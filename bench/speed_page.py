@@ -5,26 +5,28 @@
 
 By default of out/speed, into docs/SPEED.md and README.md, between the lines `<!-- speed: begin -->` and `<!-- speed: end -->`, and
 three figures between `<!-- figures: begin -->` and `<!-- figures: end -->` of SPEED.md; the picture is speed.svg and the runs are
-speed.csv, beside SPEED.md. Each time is the least of its rounds, and each memory the greatest. It needs Debian's
-python3-matplotlib.
+speed.csv, beside SPEED.md. Each time is the median of its rounds, and each memory the greatest. A ratio is the median of the
+ratios of rounds, by processor time. Where there are fewer than five rounds, or their ratios differ by more than a tenth, it is
+unknown, and so is the time beside it. It needs Debian's python3-matplotlib.
 """
 import collections
 import csv
 import json
 import pathlib
 import shutil
-import sys
+import statistics
 import textwrap
 
-ROOT = pathlib.Path(__file__).resolve().parent.parent
-sys.path.insert(0, str(ROOT))
+from kit.counted import parser
 
-from common.counted import parser
+ROOT = pathlib.Path(__file__).resolve().parent.parent
 
 PICTURE = "![Times of preparing and of a pair against the number of nodes]({})\n"
 ORDERS, ROUTED, WORKERS = ["edges", "neighbours", "depth"], ["edges", "depth"], [1, 2, 4]
 COUNTS = {"random": 10_000, "near": 2_000}
 FEW = 20
+ENOUGH, CLOSE = 5, 1.1
+UNKNOWN = "unknown"
 ONE_ROUND = [["networkx"], ["pgrouting"]]
 SEARCHES = {"plain": "plain search in C++", "boost": "Boost", "igraph": "igraph", "networkx": "NetworkX", "pgrouting": "pgRouting"}
 
@@ -41,21 +43,43 @@ class Measured:
         for row in self.rows:
             self.runs[row["network"], row["job"]].append(row)
 
-    def least(self, network, job, head="seconds"):
-        found = [float(row[head]) for row in self.runs.get((network, job), [])]
-        return min(found) if found else None
+    def rounds_of(self, network, job, head):
+        """The figures of a job's rounds, by their numbers."""
+        return {int(row["round"]): float(row[head]) for row in self.runs.get((network, job), [])}
+
+    def middle(self, network, job, head="seconds"):
+        return median(self.rounds_of(network, job, head).values())
 
     def memory(self, network, job):
         return max((float(row["megabytes"]) for row in self.runs.get((network, job), [])), default=None)
 
+    def pairs_of(self, network, order, kind, program, head):
+        """The rounds of what a pair takes beyond what the file does, in millionths of a second."""
+        whole, alone = (self.rounds_of(network, f"{program} {order} {each}", head) for each in [kind, "none"])
+        return {each: (whole[each] - alone[each]) * 1e6 / COUNTS[kind] for each in whole.keys() & alone.keys()}
+
     def pair(self, network, order, kind, program="route"):
         """Millionths of a second that a pair takes beyond what the file does."""
-        whole, alone = (self.least(network, f"{program} {order} {each}") for each in [kind, "none"])
-        return None if None in (whole, alone) else max(whole - alone, 0) * 1e6 / COUNTS[kind]
+        found = median(self.pairs_of(network, order, kind, program, "seconds").values())
+        return None if found is None else max(found, 0)
+
+    def beside(self, network, job, other):
+        """The ratio of two jobs, or that it is unknown."""
+        return compared(*(self.rounds_of(network, each, "processor") for each in [job, other]))
+
+    def pair_beside(self, network, order, kind):
+        """The ratio of a pair to one in C++, or that it is unknown."""
+        return compared(*(self.pairs_of(network, order, kind, program, "processor") for program in ["route", "route.cpp"]))
 
     def searched(self, network, name, kind):
-        found = self.least(network, f"search {name} {kind}")
+        found = self.middle(network, f"search {name} {kind}")
         return None if found is None else found * 1e6 / FEW
+
+    def spread(self, network, *jobs):
+        """By how much the rounds of these jobs differ at most, as a part of their median."""
+        found = [list(self.rounds_of(network, job, "seconds").values()) for job in jobs]
+        parts = [(max(times) - min(times)) / statistics.median(times) for times in found if len(times) > 1]
+        return f"{max(parts):.0%}" if parts else "one round"
 
     def rounds(self):
         """How many rounds the jobs of each kind had, from the fewest to the most, but for the searches that have one alone."""
@@ -97,8 +121,22 @@ def megabytes(value):
     return "" if value is None else f"{value:,.0f} MB"
 
 
-def ratio(one, other):
-    return "" if not one or not other else f"{one / other:.2f}"
+def median(figures):
+    return statistics.median(figures) if figures else None
+
+
+def compared(ours, theirs):
+    """The median of the ratios of the rounds that both have: unknown of fewer than five, or where they differ by more than a
+    tenth."""
+    found = sorted(ours[each] / theirs[each] for each in ours.keys() & theirs.keys() if theirs[each] > 0)
+    if len(found) < ENOUGH or found[0] <= 0 or found[-1] > found[0] * CLOSE:
+        return UNKNOWN if found else ""
+    return f"{statistics.median(found):.2f}"
+
+
+def beside(time, ratio):
+    """A time of another program and the ratio to it, as cells."""
+    return [UNKNOWN if ratio == UNKNOWN else time, ratio]
 
 
 def table(heads, rows):
@@ -112,7 +150,11 @@ def when(measured):
     rounds = measured.rounds()
     told = f"Measured from {first} to {last} (UTC), one program at a time, on a machine of "
     told += f"{measured.about['machine']}; {measured.about['system']}. It is `{measured.about['version']}`. "
-    told += f"The load after a run was {min(loads):.1f} to {max(loads):.1f}, of which the run itself is a part. Rounds: "
+    told += f"The load after a run was {min(loads):.1f} to {max(loads):.1f}, of which the run itself is a part. "
+    others = [float(row["others"]) for row in measured.rows if row.get("others")]
+    if others:
+        told += f"Other programs kept at most {max(others):.1f} processors busy during a run. "
+    told += "Rounds: "
     told += ", ".join(f"`{kind}` {few}" + (f" to {most}" if most > few else "") for kind, (few, most) in rounds.items()) + "."
     return textwrap.fill(told, 122, break_long_words=False, break_on_hyphens=False)
 
@@ -130,12 +172,14 @@ def networks(measured):
 def preparing(measured):
     def cells(job):
         for name in measured.names():
-            found = measured.least(name, job)
-            spent = seconds(measured.least(name, job, "processor"))
+            found = measured.middle(name, job)
+            spent = seconds(measured.middle(name, job, "processor"))
             yield "" if found is None else f"{seconds(found)} ({spent}), {megabytes(measured.memory(name, job))}"
 
     rows = [[f"{workers}, `{order}`", *cells(f"prepare {order} {workers}")] for order in ORDERS for workers in WORKERS]
     rows.append(["textbook in C++", *cells("textbook")])
+    jobs = [f"prepare {order} {workers}" for order in ORDERS for workers in WORKERS]
+    rows.append(["rounds differ by", *(measured.spread(name, *jobs, "textbook") for name in measured.names())])
     return table(["Workers, order", *map(measured.title, measured.names())], rows)
 
 
@@ -144,13 +188,14 @@ def whole_runs(measured):
     for name in measured.names():
         for order in ROUTED:
             for kind in COUNTS:
-                ours, theirs = (measured.least(name, f"{program} {order} {kind}") for program in ["route", "route.cpp"])
-                alone, beside = (measured.least(name, f"{program} {order} none") for program in ["route", "route.cpp"])
-                size = megabytes(measured.memory(name, f"route {order} {kind}"))
-                cells = [seconds(ours), size, seconds(theirs), ratio(ours, theirs)]
-                cells += [seconds(alone), seconds(beside), ratio(alone, beside)]
-                rows.append([f"{measured.title(name)}, `{order}`, {COUNTS[kind]:,} {kind}", *(cells if ours else [""] * 7)])
-    heads = ["Nodes, order, pairs", "`route`", "memory", "C++", "ratio", "the file alone", "C++", "ratio"]
+                jobs = [f"{program} {order} {each}" for each in [kind, "none"] for program in ["route", "route.cpp"]]
+                ours, theirs, alone, theirs_alone = (measured.middle(name, job) for job in jobs)
+                cells = [seconds(ours), megabytes(measured.memory(name, jobs[0]))]
+                cells += beside(seconds(theirs), measured.beside(name, *jobs[:2]))
+                cells += [seconds(alone), *beside(seconds(theirs_alone), measured.beside(name, *jobs[2:]))]
+                cells.append(measured.spread(name, *jobs))
+                rows.append([f"{measured.title(name)}, `{order}`, {COUNTS[kind]:,} {kind}", *(cells if ours else [""] * 8)])
+    heads = ["Nodes, order, pairs", "`route`", "memory", "C++", "ratio", "the file alone", "C++", "ratio", "rounds differ by"]
     return table(heads, rows)
 
 
@@ -162,7 +207,8 @@ def pairs(measured):
                 ours, theirs = (measured.pair(name, order, kind, program) for program in ["route", "route.cpp"])
                 settled = measured.networks[name]["settled"].get(f"{order} {kind}")
                 told = "" if settled is None else f"{settled:,.0f}"
-                rows.append([f"{measured.title(name)}, `{order}`, {kind}", micros(ours), micros(theirs), ratio(ours, theirs), told])
+                cells = [micros(ours), *beside(micros(theirs), measured.pair_beside(name, order, kind)), told]
+                rows.append([f"{measured.title(name)}, `{order}`, {kind}", *cells])
     return table(["Nodes, order, pairs", "`route`, a pair", "C++, a pair", "ratio", "nodes settled, in C++"], rows)
 
 
@@ -179,10 +225,10 @@ def reading(measured):
     rows = []
     for name in measured.names():
         size = measured.networks[name]["text"] / 1e6
-        ours, theirs = measured.least(name, "read"), measured.least(name, "read.cpp")
-        cells = [f"{seconds(each)}, {size / each:,.0f} MB/s" if each else "" for each in [ours, theirs]]
-        answer = measured.least(name, "answer")
-        rows.append([measured.title(name), *cells, ratio(ours, theirs), seconds(answer)])
+        times = [measured.middle(name, job) for job in ["read", "read.cpp"]]
+        ours, theirs = (f"{seconds(each)}, {size / each:,.0f} MB/s" if each else "" for each in times)
+        compared_to = beside(theirs, measured.beside(name, "read", "read.cpp"))
+        rows.append([measured.title(name), ours, *compared_to, seconds(measured.middle(name, "answer"))])
     return table(["Nodes", "reading the graph", "C++ by hand", "ratio", "`answer`, 100 pairs"], rows)
 
 
@@ -207,28 +253,35 @@ def figures(measured):
     if not names:
         return ""
     name = max(names, key=measured.nodes)
-    pair, beside = (measured.pair(name, "depth", "random", program) for program in ["route", "route.cpp"])
+    pair, ratio = measured.pair(name, "depth", "random"), measured.pair_beside(name, "depth", "random")
+    boost = f"1 / {measured.searched(name, 'boost', 'random') / pair:,.0f}"
     lines = [
-        f"- **{seconds(measured.least(name, 'prepare depth 4'))}** to prepare {measured.nodes(name):,} nodes and "
+        f"- **{seconds(measured.middle(name, 'prepare depth 4'))}** to prepare {measured.nodes(name):,} nodes and "
         f"{measured.networks[name]['arcs']:,} arcs by four workers, in {megabytes(measured.memory(name, 'prepare depth 4'))}.",
         f"- **{micros(pair)}** for a random pair, {micros(measured.pair(name, 'depth', 'near'))} for a near one: the length and the whole path.",
-        f"- **{ratio(pair, beside)} times** what an optimised C++ program takes for the same answers, and 1 / "
-        f"{measured.searched(name, 'boost', 'random') / pair:,.0f} of Boost's search without a hierarchy.",
+        f"- **{boost}** of what Boost's search takes without a hierarchy."
+        if ratio == UNKNOWN
+        else f"- **{ratio} times** what an optimised C++ program takes for the same answers, and {boost} of Boost's search without "
+        "a hierarchy.",
     ]
     return "\n".join(lines) + "\n\n" + PICTURE.format("speed.svg")
 
 
 def summary(measured):
-    """What README.md shows."""
+    """What README.md shows: the ratio to the C++ program only if it is known of each network."""
+    names = measured.shown()
+    ratios = {name: measured.pair_beside(name, "depth", "random") for name in names}
+    is_compared = all(ratio not in ("", UNKNOWN) for ratio in ratios.values())
     rows = []
-    for name in measured.shown():
-        prepared = measured.least(name, "prepare depth 4")
+    for name in names:
+        prepared = measured.middle(name, "prepare depth 4")
         cells = [f"{seconds(prepared)}, {megabytes(measured.memory(name, 'prepare depth 4'))}" if prepared else ""]
-        cells.append(seconds(measured.least(name, "route depth none")))
+        cells.append(seconds(measured.middle(name, "route depth none")))
         cells += [micros(measured.pair(name, "depth", kind)) for kind in COUNTS]
-        cells += [micros(measured.pair(name, "depth", "random", "route.cpp")), micros(measured.searched(name, "boost", "random"))]
-        rows.append([f"{measured.nodes(name):,}", *cells])
-    heads = ["Nodes", "`prepare`, 4 workers", "`route`: the file", "a random pair", "a near pair", "random in C++", "Boost, no hierarchy"]
+        cells += [ratios[name]] if is_compared else []
+        rows.append([f"{measured.nodes(name):,}", *cells, micros(measured.searched(name, "boost", "random"))])
+    heads = ["Nodes", "`prepare`, 4 workers", "`route`: the file", "a random pair", "a near pair"]
+    heads += [*(["random, of C++"] if is_compared else []), "Boost, no hierarchy"]
     date = min(row["when"] for row in measured.rows)[:10]
     told = f"Measured on {date} on a machine of {measured.about['machine']}, by `--order depth`, on\nnetworks that are like real ones."
     return f"{told}\n\n{table(heads, rows)}\n\n{PICTURE.format('docs/speed.svg')}"
@@ -253,9 +306,9 @@ def draw(measured, file):
             axes.plot(*zip(*found), style, label=label, markersize=4)
 
     for workers, style in [(1, "o-"), (2, "s-"), (4, "^-")]:
-        line(left, f"{workers} worker{'s' * (workers > 1)}, depth", lambda name: measured.least(name, f"prepare depth {workers}"), style)
-    line(left, "4 workers, edges", lambda name: measured.least(name, "prepare edges 4"), "v:")
-    line(left, "textbook in C++", lambda name: measured.least(name, "textbook"), "k--")
+        line(left, f"{workers} worker{'s' * (workers > 1)}, depth", lambda name: measured.middle(name, f"prepare depth {workers}"), style)
+    line(left, "4 workers, edges", lambda name: measured.middle(name, "prepare edges 4"), "v:")
+    line(left, "textbook in C++", lambda name: measured.middle(name, "textbook"), "k--")
     line(right, "routecli route", lambda name: measured.pair(name, "depth", "random"), "o-")
     line(right, "the same in C++", lambda name: measured.pair(name, "depth", "random", "route.cpp"), "k--")
     for name, style in zip(SEARCHES, ["s-", "^-", "v-", "D-", "P-"]):
