@@ -26,6 +26,7 @@
 mod descent;
 mod frontier;
 mod half;
+mod hierarchy_ref;
 mod kept_mark;
 mod label;
 mod laws;
@@ -41,6 +42,7 @@ mod side;
 mod turn;
 mod upward;
 
+pub use hierarchy_ref::HierarchyRef;
 pub use laws::labels_are_right;
-pub use search::{Found, FoundBetween, Search};
+pub use search::{Found, FoundBetween, Search, SearchOf};
 pub use seed::Seed;

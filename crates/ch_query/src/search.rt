@@ -7,6 +7,7 @@ ghost use Rattle.ch_query.specs.Places.{IsRiseFallAt};
 ghost use Rattle.ch_query.specs.Seeds.{AreSeeds, IsValueBetween, IsWalkBetween, IsLeastWalkBetween, IsDistanceBetween, longest};
 
 use crate::frontier::Frontier;
+use crate::hierarchy_ref::HierarchyRef;
 use crate::layout::Layout;
 use crate::query::Query;
 use crate::seed::Seed;
@@ -50,36 +51,39 @@ pub struct FoundBetween {
 /// one. Either side's queue and its list of touched nodes are kept too; but where one of them has room for more than 65,536
 /// entries, both are freed when the call ends.
 #[derive(Drop)]
-pub struct Search<'a> {
-    hierarchy: &'a Hierarchy,
+pub struct SearchOf<H: HierarchyRef> {
+    hierarchy: H,
     layout: Arc<Layout>,
     up: Frontier,
     down: Frontier,
 }
 
-impl<'a> Model for Search<'a> {
+/// A search that borrows its hierarchy.
+pub type Search<'a> = SearchOf<&'a Hierarchy>;
+
+impl<H: HierarchyRef> Model for SearchOf<H> {
     ghost use Rattle.ch_graph.specs.Hierarchy as hierarchies;
     ghost use Rattle.std.specs.Arc.{arc_value};
     ghost use Rattle.ch_query.specs.Ready.{IsReady};
 
     ghost Value = { hierarchies.Hierarchy };
 
-    ghost view = { λ s. s.hierarchy.now };
+    ghost view = { λ s. H.referred s.hierarchy };
 
-    ghost invariant = { λ s. IsReady s.hierarchy.now (arc_value s.layout) s.up s.down };
+    ghost invariant = { λ s. IsReady (H.referred s.hierarchy) (arc_value s.layout) s.up s.down };
 }
 
-impl<'a> Search<'a> {
+impl<H: HierarchyRef> SearchOf<H> {
     /// Returns a search of a hierarchy. Looks at each node a fixed number of times and at each link twice.
-    pub fn new(alloc: Global, hierarchy: &'a Hierarchy) -> Result<Search<'a>, AllocError>
-        ensures { IfOk result (λ search. search ≡ hierarchy.now) }
+    pub fn new(alloc: Global, hierarchy: H) -> Result<SearchOf<H>, AllocError>
+        ensures { IfOk result (λ search. search ≡ H.referred hierarchy) }
     {
-        let nodes = hierarchy.nodes();
-        let layout = Layout::new(alloc, hierarchy)?;
+        let nodes = hierarchy.hierarchy().nodes();
+        let layout = Layout::new(alloc, hierarchy.hierarchy())?;
         let layout = Arc::new(alloc, layout)?;
         let up = Frontier::new(alloc, nodes)?;
         let down = Frontier::new(alloc, nodes)?;
-        Ok(Search {
+        Ok(SearchOf {
             hierarchy,
             layout,
             up,
@@ -91,19 +95,27 @@ impl<'a> Search<'a> {
     ///
     /// The two share the steps and the places of the links, which never change, so this one takes 48 bytes a node for its
     /// marks and what its calls keep, and nothing for a link. Either may be dropped first.
-    pub fn beside(&self, alloc: Global) -> Result<Search<'a>, AllocError>
+    pub fn beside(&self, alloc: Global) -> Result<SearchOf<H>, AllocError>
         ensures { IfOk result (λ search. search ≡ self.now) }
     {
+        let hierarchy = self.hierarchy.another()?;
         let layout = Arc::try_clone(&self.layout)?;
-        let nodes = self.hierarchy.nodes();
+        let nodes = self.hierarchy().nodes();
         let up = Frontier::new(alloc, nodes)?;
         let down = Frontier::new(alloc, nodes)?;
-        Ok(Search {
-            hierarchy: self.hierarchy,
+        Ok(SearchOf {
+            hierarchy,
             layout,
             up,
             down,
         })
+    }
+
+    /// Returns the hierarchy.
+    pub fn hierarchy(&self) -> &Hierarchy
+        ensures { result.now ≡ self.now }
+    {
+        self.hierarchy.hierarchy()
     }
 
     /// Returns the least rise-fall walk from `source` to `target`: links that first rise in rank and then fall, of a
@@ -140,7 +152,7 @@ impl<'a> Search<'a> {
     {
         let start = [free(source)];
         let end = [free(target)];
-        let bound = self.hierarchy.bound();
+        let bound = self.hierarchy.hierarchy().bound();
         let found = self.least_walk(&start, &end, bound)?;
         let Some(FoundBetween { cost, links, .. }) = found else {
             return Ok(None);
@@ -159,7 +171,7 @@ impl<'a> Search<'a> {
     {
         let start = [free(source)];
         let end = [free(target)];
-        let bound = self.hierarchy.bound();
+        let bound = self.hierarchy.hierarchy().bound();
         self.least_cost(&start, &end, bound)
     }
 
@@ -226,7 +238,7 @@ impl<'a> Search<'a> {
         ensures kept { self.new ≡ self.old }
     {
         let query = Query {
-            hierarchy: self.hierarchy,
+            hierarchy: self.hierarchy.hierarchy(),
             layout: self.layout.deref(),
             starts,
             ends,
@@ -253,7 +265,7 @@ impl<'a> Search<'a> {
         ensures kept { self.new ≡ self.old }
     {
         let query = Query {
-            hierarchy: self.hierarchy,
+            hierarchy: self.hierarchy.hierarchy(),
             layout: self.layout.deref(),
             starts,
             ends,

@@ -24,8 +24,8 @@ mod laws;
 mod route;
 mod router;
 
-pub use ch_query::Seed;
+pub use ch_query::{HierarchyRef, Seed};
 pub use ch_unpack::UnpackError;
 pub use laws::routes_are_least;
 pub use route::{Route, RouteBetween};
-pub use router::Router;
+pub use router::{Router, RouterOf};

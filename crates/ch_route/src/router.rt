@@ -14,7 +14,7 @@ use crate::laws::routes_are_least;
 use crate::route::{Route, RouteBetween};
 use ch_cost::Cost;
 use ch_graph::{Hierarchy, places_name_links};
-use ch_query::{Search, Seed};
+use ch_query::{HierarchyRef, SearchOf, Seed};
 use ch_unpack::{UnpackError, unpack};
 use std::alloc::{AllocError, Global};
 use std::marker::Model;
@@ -24,46 +24,40 @@ use std::marker::Model;
 /// It holds what [`Search`] holds: about 56 bytes a node and 16 a link, or 64 and 20 where there are 2^32 links or more,
 /// and what the largest call so far needed beside it. After a call that failed it works as a new one.
 #[derive(Drop)]
-pub struct Router<'a> {
+pub struct RouterOf<H: HierarchyRef> {
     alloc: Global,
-    hierarchy: &'a Hierarchy,
-    search: Search<'a>,
+    search: SearchOf<H>,
 }
 
-impl<'a> Model for Router<'a> {
-    ghost use Rattle.std.specs.Prelude.{◌≡◌};
+/// A router that borrows its hierarchy.
+pub type Router<'a> = RouterOf<&'a Hierarchy>;
+
+impl<H: HierarchyRef> Model for RouterOf<H> {
     ghost use Rattle.ch_graph.specs.Hierarchy as hierarchies;
 
     ghost Value = { hierarchies.Hierarchy };
 
-    ghost view = { λ r. r.hierarchy.now };
-
-    ghost invariant = { λ r. r.search ≡ r.hierarchy.now };
+    ghost view = { λ r. r.search };
 }
 
-impl<'a> Router<'a> {
+impl<H: HierarchyRef> RouterOf<H> {
     /// Returns a router of a hierarchy. Looks at each node a fixed number of times and at each link twice.
-    pub fn new(alloc: Global, hierarchy: &'a Hierarchy) -> Result<Router<'a>, AllocError>
-        ensures { IfOk result (λ router. router ≡ hierarchy.now) }
+    pub fn new(alloc: Global, hierarchy: H) -> Result<RouterOf<H>, AllocError>
+        ensures { IfOk result (λ router. router ≡ H.referred hierarchy) }
     {
-        let search = Search::new(alloc, hierarchy)?;
-        Ok(Router {
-            alloc,
-            hierarchy,
-            search,
-        })
+        let search = SearchOf::new(alloc, hierarchy)?;
+        Ok(RouterOf { alloc, search })
     }
 
     /// Another router of the same hierarchy, for another caller.
     ///
     /// The two share what never changes ([`Search::beside`]), so this one takes 48 bytes a node and nothing for a link.
-    pub fn beside(&self) -> Result<Router<'a>, AllocError>
+    pub fn beside(&self) -> Result<RouterOf<H>, AllocError>
         ensures { IfOk result (λ router. router ≡ self.now) }
     {
         let search = self.search.beside(self.alloc)?;
-        Ok(Router {
+        Ok(RouterOf {
             alloc: self.alloc,
-            hierarchy: self.hierarchy,
             search,
         })
     }
@@ -73,7 +67,7 @@ impl<'a> Router<'a> {
         ensures count { result ≡ length self.now.ranks }
         ensures made { IsWellMade self.now }
     {
-        self.hierarchy.nodes()
+        self.search.hierarchy().nodes()
     }
 
     /// Returns a shortest path from the first node of the pair to the second, or `None` where there is no way.
@@ -200,7 +194,12 @@ impl<'a> Router<'a> {
             unreachable!();
         }
         let source = starts[found.start].node;
-        let nodes = unpack(self.alloc, self.hierarchy, source, found.links.as_slice())?;
+        let nodes = unpack(
+            self.alloc,
+            self.search.hierarchy(),
+            source,
+            found.links.as_slice(),
+        )?;
         Ok(Some(RouteBetween {
             start: found.start,
             end: found.end,
@@ -221,7 +220,12 @@ impl<'a> Router<'a> {
         let Some(found) = self.search.distance(pair.0, pair.1)? else {
             return Ok(None);
         };
-        let nodes = unpack(self.alloc, self.hierarchy, pair.0, found.links.as_slice())?;
+        let nodes = unpack(
+            self.alloc,
+            self.search.hierarchy(),
+            pair.0,
+            found.links.as_slice(),
+        )?;
         Ok(Some(Route {
             cost: found.cost,
             nodes,

@@ -1,13 +1,13 @@
 use Rattle.std.proofs.lemmas.Result.{IfOk-weaker}
 use Rattle.ch_query.specs.Seeds.{IsValueBetween}
 use Rattle.ch_query.proofs.Pairs.{longest_summable, IsExact, exact_here}
-use Rattle.ch_query.proofs.search.Search.cost_between.Goals as goal
+use Rattle.ch_query.proofs.search.SearchOf.cost_between.Goals as goal
 
 pub least_cost-requires-clause-bound : goal.least_cost-requires-clause-bound
-least_cost-requires-clause-bound c = longest_summable c.of_walk-most.result c.of_walk-most.ensures
+least_cost-requires-clause-bound g c = longest_summable c.of_walk-most.result c.of_walk-most.ensures
 
 pub returns-clause-exact : goal.returns-clause-exact
-returns-clause-exact c =
+returns-clause-exact g c =
     let h = c.args.self.now in
     let starts = c.args.starts.now in
     let ends = c.args.ends.now in

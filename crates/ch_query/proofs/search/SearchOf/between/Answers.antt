@@ -4,13 +4,13 @@ use Rattle.ch_query.specs.declared.search.FoundBetween.{FoundBetween}
 use Rattle.ch_query.specs.Seeds.{IsValueBetween}
 use Rattle.ch_query.proofs.Pairs.{longest_summable, cost_found, IsWalkFound, IsLeastFound, IsExact, exact_here, least_here}
 use Rattle.ch_query.proofs.Results.{if_ok-both}
-use Rattle.ch_query.proofs.search.Search.between.Goals as goal
+use Rattle.ch_query.proofs.search.SearchOf.between.Goals as goal
 
 pub least_walk-requires-clause-bound : goal.least_walk-requires-clause-bound
-least_walk-requires-clause-bound c = longest_summable c.of_walk-limit.result c.of_walk-limit.ensures
+least_walk-requires-clause-bound g c = longest_summable c.of_walk-limit.result c.of_walk-limit.ensures
 
 pub returns-clause-exact : goal.returns-clause-exact
-returns-clause-exact c =
+returns-clause-exact g c =
     let h = c.args.self.now in
     let starts = c.args.starts.now in
     let ends = c.args.ends.now in
@@ -21,7 +21,7 @@ returns-clause-exact c =
     c.least_walk.ensures.value
 
 pub returns-clause-walk : goal.returns-clause-walk
-returns-clause-walk c =
+returns-clause-walk g c =
     let h = c.args.self.now in
     let starts = c.args.starts.now in
     let ends = c.args.ends.now in

@@ -1,6 +1,6 @@
 use Rattle.std.proofs.Common.{arith}
 use Rattle.std.proofs.lemmas.Grind.{common_steps}
-use Rattle.ch_query.proofs.search.Search.new.Goals as goal
+use Rattle.ch_query.proofs.search.SearchOf.new.Goals as goal
 
 pub invariant_of-result : goal.invariant_of-result
-invariant_of-result c = grind (arith, common_steps)
+invariant_of-result g c = grind (arith, common_steps)
