@@ -23,6 +23,7 @@ from typing import TYPE_CHECKING, Any
 
 from .errors import (
     DomethymeError,
+    FileError,
     GraphError,
     HierarchyError,
     HierarchyNotFound,
@@ -48,6 +49,7 @@ if TYPE_CHECKING:
 __all__ = [
     "DomethymeError",
     "Fault",
+    "FileError",
     "Graph",
     "GraphError",
     "Hierarchy",

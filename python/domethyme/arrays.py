@@ -18,7 +18,7 @@ def whole_numbers(name: str, values: "ArrayLike | list[Hashable]", low: int, hig
     array: NDArray[Any] = np.asarray(values)
     if array.size == 0:
         return array.astype(np.int64)
-    if array.dtype.kind not in "iu":
+    if array.dtype.kind not in "iu" and not (array.dtype == object and all(type(value) is int for value in array.flat)):
         raise ValueError(f"{name} have to be whole numbers, and are {array.dtype}")
     if array.min() < low or array.max() > high:
         raise ValueError(f"{name} have to be from {low} to {high}, and are from {array.min()} to {array.max()}")
@@ -95,15 +95,23 @@ def labels(values: Any) -> Any:
 
 
 def like_frame(lengths: Numbers, pairs: Any) -> Any:
-    """The lengths as a Series with the frame's index where the pairs came as a frame, else as they are."""
+    """The lengths as a Series of Int64 with the frame's index where the pairs came as a frame, else as they are."""
     if not is_pandas(pairs):
         return lengths
-    return sys.modules["pandas"].Series(lengths, index=pairs.index, name="length")
+    return sys.modules["pandas"].Series(with_missing(lengths), index=pairs.index, name="length")
 
 
 def like_axes(table: Numbers, sources: Any, targets: Any) -> Any:
-    """The table as a DataFrame where the places came as pandas' objects, else as it is."""
+    """The table as a DataFrame of Int64 where the places came as pandas' objects, else as it is."""
     if not (is_pandas(sources) or is_pandas(targets)):
         return table
     pandas = sys.modules["pandas"]
-    return pandas.DataFrame(table, index=pandas.Index(labels(sources)), columns=pandas.Index(labels(targets)))
+    columns = {place: with_missing(column) for place, column in enumerate(table.T)}
+    frame = pandas.DataFrame(columns, index=pandas.Index(labels(sources)))
+    frame.columns = pandas.Index(labels(targets))
+    return frame
+
+
+def with_missing(lengths: Numbers) -> Any:
+    """The lengths as pandas' Int64, missing where there is no way. Pandas is loaded."""
+    return sys.modules["pandas"].arrays.IntegerArray(lengths.copy(), lengths < 0)

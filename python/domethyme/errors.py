@@ -18,20 +18,23 @@ Arguments that can't be used at all, such as arrays of a wrong shape, raise a pl
 missing a plain ImportError.
 """
 import os
+from collections.abc import Sequence
 
 
 class DomethymeError(Exception):
-    """What went wrong, as one line.
+    """What went wrong, as one line; `str` adds the explanation, a line each.
 
-    status  the exit status: 3 to 8 as `routecli` ended, else 1
+    message      the line
+    status       the exit status: 3 to 8 as `routecli` ended, else 1
+    explanation  lines by which `routecli` explains a refusal: the file, its line, what was expected. Often there are none
     """
 
-    def __init__(self, message: str, status: int = 1) -> None:
+    def __init__(self, message: str, status: int = 1, explanation: Sequence[str] = ()) -> None:
         super().__init__(message)
-        self.message, self.status = message, status
+        self.message, self.status, self.explanation = message, status, list(explanation)
 
     def __str__(self) -> str:
-        return self.message
+        return "\n  ".join([self.message, *self.explanation])
 
 
 class ProgramError(DomethymeError):
@@ -95,6 +98,7 @@ class ReadWriteError(DomethymeError, OSError):
     """The program failed to read or write a file."""
 
 
+WARNING = "routecli: warning: "
 KINDS: dict[int, type[DomethymeError]] = {
     3: GraphError,
     4: HierarchyError,
@@ -104,14 +108,16 @@ KINDS: dict[int, type[DomethymeError]] = {
 
 
 def error_of(status: int, said: bytes, file: str = "") -> DomethymeError:
-    """The error for a run of the program that ended with a status other than 0 and wrote `said` to standard error; one of a
-    hierarchy's file begins with the name of the file, where it is given."""
+    """The error for a run of the program that ended with a status other than 0 and wrote `said` to standard error: a line, and
+    with --explain more. One of a hierarchy's file begins with the name of the file, where it is given."""
     if status < 0:
         return ProgramStopped(f"routecli was ended by signal {-status}")
-    line = " ".join(said.decode("utf-8", "replace").split())
-    if file and line and KINDS.get(status) is HierarchyError:
-        line = f"{file}: {line}"
-    return KINDS.get(status, ProgramError)(line or f"routecli ended with status {status}", status)
+    lines = [" ".join(line.split()) for line in said.decode("utf-8", "replace").splitlines()]
+    found = next((row for row, line in enumerate(lines) if not line.startswith(WARNING)), None)
+    message = f"routecli ended with status {status}" if found is None else lines.pop(found)
+    if file and found is not None and KINDS.get(status) is HierarchyError:
+        message = f"{file}: {message}"
+    return KINDS.get(status, ProgramError)(message, status, [line.removeprefix(WARNING) for line in lines])
 
 
 def os_reason(error: OSError) -> str:

@@ -2,6 +2,7 @@
 import math
 import os
 import tempfile
+import warnings
 from typing import TYPE_CHECKING, Any, Literal
 
 from . import texts
@@ -58,10 +59,11 @@ class Graph:
         numbered in the order in which the keys come first, sources before targets.
 
         scale   weights are numbers of any kind, which are multiplied by it and rounded: 1000 makes milliseconds of seconds.
-                Without it they have to be whole numbers. Lengths are in the scaled unit; `unscaled` divides them.
+                Without it they have to be whole numbers. Lengths are in the scaled unit; `unscaled` divides them. A warning
+                (UserWarning) says how many positive weights become 0.
 
-        Raises ValueError where an end has no key, the three aren't as long as one another, or a weight isn't from 0 to
-        4294967295.
+        Raises ValueError where an end has no key, the three aren't as long as one another, `scale` isn't above 0, or a weight
+        isn't from 0 to 4294967295.
         """
         import numpy as np
 
@@ -98,7 +100,8 @@ class Graph:
             texts.write_graph(file, self.nodes, arcs.tolist())
 
     def prepare(self, hierarchy: StrPath, **options: Any) -> Hierarchy:
-        """Prepares the graph as `prepare` does, and gives the Hierarchy with the graph's keys."""
+        """Prepares the graph as `prepare` does, and returns the Hierarchy with the graph's keys. Keys that are all str or int are
+        saved beside its file, as FILE.keys, where Keys.saved finds them."""
         return prepare(self, hierarchy, **options)
 
 
@@ -106,10 +109,17 @@ def scaled(weights: "ArrayLike", scale: float) -> "NDArray[np.int64]":
     """The weights times the scale, rounded."""
     import numpy as np
 
-    products = np.asarray(weights, float) * scale
+    if not 0 < scale < math.inf:
+        raise ValueError(f"the scale has to be above 0, and is {scale:g}")
+    try:
+        products = np.asarray(weights, float) * scale
+    except TypeError:
+        raise ValueError("weights have to be numbers, and one is missing") from None
     if products.size and not (np.isfinite(products).all() and products.min() >= 0 and products.max() <= HEAVIEST):
         raise ValueError(f"weights times {scale:g} have to be from 0 to {HEAVIEST}")
     rounded: "NDArray[np.int64]" = np.rint(products).astype(np.int64)
+    if lost := int(np.count_nonzero((products > 0) & (rounded == 0))):
+        warnings.warn(f"{lost} of {rounded.size} weights are above 0, and 0 once they are scaled by {scale:g}", stacklevel=3)
     return rounded
 
 
@@ -124,7 +134,8 @@ def unscaled(lengths: Any, scale: float = 1) -> Any:
     floats = lengths / scale
     if isinstance(floats, float):
         return floats if lengths >= 0 else math.inf
-    floats[lengths < 0] = math.inf
+    floats = floats.astype(float)
+    floats[~(floats >= 0)] = math.inf
     return floats
 
 
@@ -172,6 +183,8 @@ def prepare(
         text = os.path.join(folder, "graph.gr")
         graph.write(text)
         run_program(found, ["prepare", *words, text, os.fspath(hierarchy)])
+    if graph.keys is not None and graph.keys.can_be_saved():
+        graph.keys.save(hierarchy)
     return Hierarchy(hierarchy, program, keys=graph.keys)
 
 

@@ -7,7 +7,7 @@ from collections.abc import Hashable, Iterable, Mapping, Sequence
 from typing import TYPE_CHECKING, Any, Literal, NamedTuple, Union, overload
 
 from .errors import HierarchyError, HierarchyNotFound, NoSuchNode, ProgramError, os_reason
-from .keys import Keys
+from .keys import Keys, keys_path
 from .lines import Answer, answer_to
 from .process import Process
 from .program import StrPath, find_program
@@ -24,6 +24,9 @@ MOST_ENDS = 8
 MOST_ADDED = (1 << 32) - 1
 HEAD_BYTES = 24
 LINK_BYTES = {b"RCH1": 20, b"RCH2": 24}
+
+# How many metres away the nearest node may be.
+WITHIN = 1000.0
 
 # Up to so many lengths of a matrix are asked of the program one by one.
 FEW_LENGTHS = 2_000
@@ -89,7 +92,8 @@ class Hierarchy:
         """Opens the file and looks at its head; no process is started yet.
 
         program   the path of `routecli`, else it is looked for (find_program)
-        keys      a key for each node, in order, or a mapping from keys to nodes from 0
+        keys      a key for each node, in order, or a mapping from keys to nodes from 0; Keys.saved has those that Graph.prepare
+                  saved, and others that contradict them are refused
         network   the network of the nodes: a Network, or the beginning of its files' names
         timeout   the seconds that may pass without a part of a reply before NoAnswer is raised; None waits for ever
 
@@ -101,6 +105,8 @@ class Hierarchy:
         try:
             self.nodes, self.links = looked_at(self._file.fileno(), self._name)
             self.keys = None if keys is None else Keys(keys, self.nodes)
+            if self.keys is not None and os.path.exists(keys_path(path)):
+                self.keys.need_fitting(path)
             self.network = network_of(network)
         except BaseException:
             self._file.close()
@@ -167,8 +173,8 @@ class Hierarchy:
         """The least lengths of many pairs, an array of int64 of shape (n,), -1 where there is no way.
 
         `pairs` are rows (from, to): an array of shape (n, 2), a list, or a frame of pandas with two columns or with the
-        columns `from` and `to`; for a frame the lengths are a Series with its index. Some 30 microseconds each. Raises
-        NoSuchNode, with the row, and ValueError for what can't be pairs.
+        columns `from` and `to`; for a frame the lengths are a Series of Int64 with its index, missing where there is no way. Some 30
+        microseconds each. Raises NoSuchNode, with the row, and ValueError for what can't be pairs.
         """
         from . import arrays
 
@@ -193,7 +199,7 @@ class Hierarchy:
     def matrix(self, sources: Any, targets: Any = None, by: By | None = None) -> Any:
         """The least lengths from each source to each target, an array of int64 of shape (sources, targets), -1 where there
         is no way. Without targets they are the sources. Where one of the two is a Series or Index of pandas the table is a
-        DataFrame whose axes are the sources and the targets.
+        DataFrame of Int64, missing where there is no way, whose axes are the sources and the targets.
 
         by   "serve": `routecli serve` is asked for each length, some 30 microseconds each.
              "sweeps": all are computed here, by numpy, from the links of the file, which are read once. That is no part of
@@ -217,16 +223,20 @@ class Hierarchy:
         return arrays.like_axes(table, sources, targets)
 
     @overload
-    def nearest(self, lon: float, lat: float, end: bool = False) -> tuple[Any, float]: ...
+    def nearest(self, lon: float, lat: float, end: bool = False, *, within: float = WITHIN) -> tuple[Any, float]: ...
     @overload
-    def nearest(self, lon: Rows, lat: Rows, end: bool = False) -> "tuple[NDArray[Any], NDArray[np.float64]]": ...
-    def nearest(self, lon: Any, lat: Any, end: bool = False) -> tuple[Any, Any]:
+    def nearest(
+        self, lon: Rows, lat: Rows, end: bool = False, *, within: float = WITHIN
+    ) -> "tuple[NDArray[Any], NDArray[np.float64]]": ...
+    def nearest(self, lon: Any, lat: Any, end: bool = False, *, within: float = WITHIN) -> tuple[Any, Any]:
         """The node nearest to each place in degrees, or its key, and how many metres away it is along the great circle: one
         where routes begin, or with `end` one where they end, which differ at junctions with turn restrictions. Two numbers
-        give a node and a float, two arrays give two arrays. Needs the network, and scipy. Raises ValueError."""
+        give a node and a float, two arrays give two arrays. Needs the network, and scipy. Raises NoSuchNode where none is
+        `within` so many metres, and ValueError."""
         if self.network is None:
             raise ValueError("the hierarchy has no network: give Hierarchy the word network=")
         nodes, metres = self.network.nearest(lon, lat, end)
+        need_near(metres, within)
         if self.keys is None:
             return nodes, metres
         return (self.keys.key(nodes) if isinstance(nodes, int) else self.keys.of(nodes)), metres
@@ -325,6 +335,17 @@ def network_of(network: "Network | StrPath | None") -> "Network | None":
     from .network.network import Network
 
     return Network(network)
+
+
+def need_near(metres: Any, within: float) -> None:
+    """Raises NoSuchNode for the first place whose node is farther away."""
+    import numpy as np
+
+    far = np.flatnonzero(~(np.ravel(metres) <= within))
+    if len(far):
+        place, away = int(far[0]), float(np.ravel(metres)[far[0]])
+        said = f"place {place} has no node within {within:g} m: the nearest is {away:,.0f} m away; lon comes before lat"
+        raise NoSuchNode(said, place)
 
 
 def whole(name: str, added: Any) -> int:

@@ -1,14 +1,20 @@
-"""Keys of nodes: the names that a user has for them, of any hashable kind."""
+"""Keys of nodes: the names that a user has for them, of any hashable kind, and the file in which they are saved."""
+import hashlib
+import json
+import os
 from collections.abc import Hashable, Iterable, Mapping, Sequence
 from typing import TYPE_CHECKING, Any
 
-from .errors import NoSuchNode
+from .errors import FileError, NoSuchNode, os_reason
+from .files import writing
 from .program import StrPath
 from .texts import table
 
 if TYPE_CHECKING:
     import numpy as np
     from numpy.typing import NDArray
+
+FORMAT = "domethyme keys 1"
 
 
 class Keys:
@@ -50,6 +56,44 @@ class Keys:
         keys._nodes |= begins
         keys._shared -= begins.keys()
         return keys
+
+    @classmethod
+    def saved(cls, hierarchy: StrPath) -> "Keys":
+        """The keys that `save` or Graph.prepare has written beside the file of a hierarchy, FILE.keys. Raises FileError where
+        there is no such file, or where it is of another hierarchy."""
+        keys = saved_with(hierarchy, digest_of(hierarchy))
+        if keys is None:
+            raise FileError(f"has the keys of another file than {os.fspath(hierarchy)}", keys_path(hierarchy))
+        return keys
+
+    def save(self, hierarchy: StrPath) -> None:
+        """Saves the keys beside the file of their hierarchy, as FILE.keys, with its digest, so that nobody takes them for those of
+        another hierarchy. The file is JSON, and whole. Raises ValueError where a key is neither str nor int, and OSError."""
+        if not self.can_be_saved():
+            raise ValueError("keys that are saved have to be str or int")
+        plainly, _ = numbers_of(self._names)
+        chosen = [[key, node] for key, node in self._nodes.items() if key not in plainly]
+        saved = {"format": FORMAT, "hierarchy": digest_of(hierarchy), "keys": self._names, "chosen": chosen}
+        with writing(keys_path(hierarchy)) as file:
+            json.dump(saved, file, ensure_ascii=False, separators=(",", ":"))
+
+    def can_be_saved(self) -> bool:
+        """Whether all keys are str or int."""
+        return all(key is None or type(key) in (str, int) for key in self._names)
+
+    def need_fitting(self, hierarchy: StrPath) -> None:
+        """Raises ValueError where the keys saved beside the file of a hierarchy are its own, and have a key at another node."""
+        try:
+            saved = saved_with(hierarchy, digest_of(hierarchy))
+        except FileError:
+            return
+        if saved is None:
+            return
+        for key, node in self._nodes.items():
+            other = saved._nodes.get(key, node)
+            if other != node:
+                beside = f"node {other} in {keys_path(hierarchy)}: take Keys.saved, or delete that file"
+                raise ValueError(f"key {key!r} names node {node} here, and {beside}")
 
     def __len__(self) -> int:
         """The number of nodes, with and without a key."""
@@ -93,6 +137,45 @@ class Keys:
         keys = np.empty(len(found), dtype=object)
         keys[:] = found
         return keys
+
+
+def keys_path(hierarchy: StrPath) -> str:
+    """The name of the file of a hierarchy's keys."""
+    return f"{os.fspath(hierarchy)}.keys"
+
+
+def digest_of(hierarchy: StrPath) -> str:
+    """The SHA-256 of a file. Raises FileError."""
+    try:
+        with open(hierarchy, "rb") as file:
+            return hashlib.file_digest(file, "sha256").hexdigest()
+    except OSError as error:
+        raise FileError(os_reason(error), hierarchy) from error
+
+
+def saved_with(hierarchy: StrPath, digest: str) -> Keys | None:
+    """The keys saved beside a hierarchy's file if they are of the file with this digest, else None. Raises FileError."""
+    path = keys_path(hierarchy)
+    try:
+        with open(path, encoding="utf-8") as file:
+            saved = json.load(file)
+        if saved["format"] != FORMAT:
+            raise FileError(f"is of another format than {FORMAT!r}", path)
+        if saved["hierarchy"] != digest:
+            return None
+        keys = Keys(())
+        keys._names = list(saved["keys"])
+        keys._nodes, keys._shared = numbers_of(keys._names)
+        chosen = dict(saved["chosen"])
+        if any(keys._names[node] != key for key, node in chosen.items()):
+            raise ValueError("chosen")
+    except OSError as error:
+        raise FileError(os_reason(error), path) from error
+    except (ValueError, TypeError, LookupError) as error:
+        raise FileError("has no keys as Keys.save writes them", path) from error
+    keys._nodes |= chosen
+    keys._shared -= chosen.keys()
+    return keys
 
 
 def names_of(nodes: Mapping[Any, int]) -> list[Hashable]:

@@ -15,8 +15,8 @@ BUILT = HERE.parents[1] / "crates/routecli/out/routecli"
 
 
 def find_program(named: StrPath | None = None) -> str:
-    """The absolute path of `routecli`: the one that is named, else that of the environment variable ROUTECLI, else that on
-    PATH, else the one inside this package (of a wheel), else the one that was built in this repository.
+    """The absolute path of `routecli`: the one that is named, else that of the environment variable ROUTECLI, else the one inside
+    this package (of a wheel), else that on PATH, else the one that was built in this repository.
 
     Raises ProgramNotFound.
     """
@@ -26,17 +26,18 @@ def find_program(named: StrPath | None = None) -> str:
             if found is None:
                 raise ProgramNotFound(f"{os.fspath(choice)}: is no program that can be run")
             return os.path.abspath(found)
-    for place in ("routecli", str(INSIDE), str(BUILT)):
+    for place in (str(INSIDE), "routecli", str(BUILT)):
         if (found := shutil.which(place)) is not None:
             return os.path.abspath(found)
     raise ProgramNotFound("routecli isn't found: name it as `program`, set ROUTECLI, or build it as README.md says")
 
 
 def run_program(program: str, words: list[str]) -> None:
-    """Runs the program to its end, with empty standard input; raises the error of its exit status if that isn't 0."""
+    """Runs the program to its end, with empty standard input; raises the error of its exit status if that isn't 0, with the
+    program's explanation."""
     try:
         nothing = subprocess.DEVNULL
-        ended = subprocess.run([program, *words], stdin=nothing, stdout=nothing, stderr=subprocess.PIPE)
+        ended = subprocess.run([program, *words, "--explain"], stdin=nothing, stdout=nothing, stderr=subprocess.PIPE)
     except OSError as error:
         raise ProgramError(f"{program}: {os_reason(error)}") from error
     if ended.returncode != 0:

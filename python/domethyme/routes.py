@@ -76,12 +76,14 @@ class Routes:
         return np.diff(self.offsets) - 1
 
     def to_frame(self) -> Any:
-        """A DataFrame of pandas with a row for each pair: from, to (nodes or keys), length and arcs, -1 where there is no
-        way. It has the index of the frame that the pairs came as."""
+        """A DataFrame of pandas with a row for each pair: from, to (nodes or keys), length and arcs, which are Int64 and missing
+        where there is no way. It has the index of the frame that the pairs came as."""
         import pandas
 
+        from .arrays import with_missing
+
         ends = [column if self.keys is None else self.keys.of(column) for column in self.pairs.T]
-        columns = {"from": ends[0], "to": ends[1], "length": self.lengths, "arcs": self.arcs}
+        columns = {"from": ends[0], "to": ends[1], "length": with_missing(self.lengths), "arcs": with_missing(self.arcs)}
         return pandas.DataFrame(columns, index=self.index)
 
     def geojson(self, network: "Network") -> dict[str, Any]:

@@ -306,14 +306,81 @@ class DomethymeTests(ToolCase):
         frame = pd.DataFrame({"from": ["a", "b", "a"], "to": ["b", "c", "c"], "weight": [3, 4, 9]})
         with domethyme.Graph.of_frame(frame).prepare(self.folder / "f.rch", program=serving_program()) as hierarchy:
             asked = pd.DataFrame({"name": [1, 2], "from": ["a", "c"], "to": ["c", "a"]}, index=[7, 9])
-            self.assertEqual(hierarchy.lengths(asked).to_dict(), {7: 7, 9: -1})
+            self.assertEqual(hierarchy.lengths(asked).to_dict(), {7: 7, 9: pd.NA})
+            self.assertEqual(hierarchy.lengths(asked).mean(), 7)
             told = hierarchy.routes(asked).to_frame()
             self.assertEqual(told.to_dict("index"), {7: {"from": "a", "to": "c", "length": 7, "arcs": 2},
-                                                     9: {"from": "c", "to": "a", "length": -1, "arcs": -1}})
+                                                     9: {"from": "c", "to": "a", "length": pd.NA, "arcs": pd.NA}})
             table = hierarchy.matrix(asked["from"], ["b", "c"])
-            self.assertEqual(table.loc["a"].to_dict(), {"b": 3, "c": 7})
+            self.assertEqual((table.loc["a"].to_dict(), table["c"].sum()), ({"b": 3, "c": 7}, 7))
+            self.assertIs(table.loc["c", "b"], pd.NA)
             with self.assertRaisesRegex(ValueError, "columns from and to"):
                 hierarchy.lengths(asked[["name", "from", "to"]].rename(columns={"to": "there"}))
+
+    def test_columns_of_pandas_whole_numbers(self):
+        frame = pd.DataFrame({"from": [0, 1], "to": [1, 0], "weight": [3, 4]}, dtype="Int64")
+        self.assertEqual(domethyme.Graph.of_frame(frame).weights.tolist(), [3, 4])
+        with self.square() as hierarchy:
+            self.assertEqual(hierarchy.lengths(frame[["from", "to"]]).tolist(), [3, 9])
+            for missing in (pd.NA, None):
+                with self.assertRaisesRegex(ValueError, "whole numbers"):
+                    hierarchy.lengths(pd.DataFrame({"from": [0, missing], "to": [1, 1]}, dtype="Int64"))
+        frame.loc[1, "weight"] = pd.NA
+        for scale in (None, 10):
+            with self.assertRaisesRegex(ValueError, "weights have to be"):
+                domethyme.Graph.of_frame(frame, scale=scale)
+
+    def test_scales_that_lose_weights(self):
+        for scale in (0, -1, float("inf"), float("nan")):
+            with self.assertRaisesRegex(ValueError, "the scale has to be above 0"):
+                domethyme.Graph.of_keys(["a"], ["b"], [0.5], scale=scale)
+        with self.assertWarnsRegex(UserWarning, "2 of 4 weights are above 0, and 0 once they are scaled by 1") as told:
+            domethyme.Graph.of_keys("abcd", "bcda", [0.3, 0, 0.4, 2], scale=1)
+        self.assertEqual(told.filename, __file__)
+
+    def test_keys_that_are_saved(self):
+        frame = pd.DataFrame({"from": ["a", "b", 7], "to": ["b", 7, "a"], "weight": [3, 4, 5]})
+        path, program = self.folder / "firm.rch", serving_program()
+        domethyme.Graph.of_frame(frame).prepare(path, program=program).close()
+        with domethyme.Hierarchy(path, program, keys=domethyme.Keys.saved(path)) as hierarchy:
+            self.assertEqual((hierarchy.length("a", 7), hierarchy.route("b", "a").nodes), (7, ["b", 7, "a"]))
+        for keys in (["a", "b", 7], {"a": 0, 7: 2}, ["x", "y", "z"]):
+            domethyme.Hierarchy(path, program, keys=keys).close()
+        with self.assertRaisesRegex(ValueError, "key 'b' names node 0 here, and node 1 in .*firm.rch.keys"):
+            domethyme.Hierarchy(path, program, keys=["b", "a", 7])
+
+        saved = (self.folder / "firm.rch.keys").read_text(encoding="utf-8")
+        for text in ("", "[]", saved[:-1], saved.replace("keys 1", "keys 2"), saved.replace('"chosen":[]', '"chosen":[["a",2]]')):
+            (self.folder / "firm.rch.keys").write_text(text, encoding="utf-8")
+            with self.subTest(text=text), self.assertRaises(domethyme.FileError):
+                domethyme.Keys.saved(path)
+        (self.folder / "firm.rch.keys").write_text(saved, encoding="utf-8")
+        domethyme.Graph([0, 1], [1, 0], [1, 1]).prepare(path, program=program).close()
+        with self.assertRaisesRegex(domethyme.FileError, "has the keys of another file than .*firm.rch"):
+            domethyme.Keys.saved(path)
+        domethyme.Hierarchy(path, program, keys=["b", "a"]).close()
+        for missing in ("nowhere", "firm.rch.keys"):
+            with self.assertRaisesRegex(domethyme.FileError, "No such file"):
+                domethyme.Keys.saved(self.folder / missing)
+
+    def test_keys_of_other_kinds_are_not_saved(self):
+        domethyme.Graph.of_keys([("a", 1)], ["b"], [3]).prepare(self.folder / "t.rch", program=serving_program()).close()
+        self.assertFalse((self.folder / "t.rch.keys").exists())
+        with self.assertRaisesRegex(ValueError, "str or int"):
+            domethyme.Keys([True, "b"]).save(self.folder / "t.rch")
+
+    def test_a_refusal_with_its_explanation(self):
+        self.write("bad.gr", "p sp 2 1\na 1 2 x\n")
+        with self.assertRaises(domethyme.GraphError) as caught:
+            domethyme.prepare(self.folder / "bad.gr", self.folder / "bad.rch", program=serving_program())
+        self.assertEqual(caught.exception.message, "routecli: graph: NotANumber line 2")
+        self.assertIn("bad.gr:2: a 1 2 x", caught.exception.explanation[0])
+        self.assertEqual(str(caught.exception), "\n  ".join([caught.exception.message, *caught.exception.explanation]))
+        self.write("good.gr", "p sp 2 1\na 1 2 3\n")
+        with self.assertRaises(domethyme.ReadWriteError) as caught:
+            domethyme.prepare(self.folder / "good.gr", self.folder / "nowhere/g.rch", program=serving_program())
+        self.assertEqual(caught.exception.message, "routecli: write")
+        self.assertIn("nowhere", caught.exception.explanation[0])
 
     def test_a_hierarchy_that_was_pickled_or_replaced(self):
         hierarchy = self.square()

@@ -33,6 +33,10 @@ class NetworkTests(ToolCase):
         for wrong in [(181, 0), (0, 91), (float("nan"), 0)]:
             with self.assertRaises(ValueError):
                 hierarchy.nearest(*wrong)
+        for lon, lat in [(1, 0), ([0, 1], [0, 0])]:
+            with self.assertRaisesRegex(domethyme.NoSuchNode, "no node within 1000 m: the nearest is 108,861 m away; lon comes before lat"):
+                hierarchy.nearest(lon, lat)
+        self.assertAlmostEqual(hierarchy.nearest(1, 0, within=2e5)[1], 108861, delta=1)
         with self.assertRaisesRegex(ValueError, "has no network"):
             domethyme.Hierarchy(self.folder / "v.rch", serving_program()).nearest(0, 0)
 
