@@ -1,9 +1,8 @@
 //! The program `routecli`: prepares hierarchies of road graphs, and answers pairs of nodes with shortest paths.
 //!
 //! Uses `command_line`, which turns the program's arguments into a [`Job`], `performing`, which does it over readers
-//! and writers and returns the exit status, `whole_file`, by which the file of a hierarchy is whole or not there, `progress`,
-//! which shows how far a preparation has come, and `explaining`, which helps a user whose call was refused. `main` opens the
-//! files.
+//! and writers and returns the exit status, `whole_file`, by which the file of a hierarchy is whole or not there, and
+//! `terminal`, which shows how far a preparation has come and helps a user whose call was refused. `main` opens the files.
 #![tactic(auto)]
 
 ghost use Rattle.std.specs.Prelude.{◌≡◌, ◌⊎◌};
@@ -11,12 +10,10 @@ ghost use Rattle.performing.specs.Status.{IsAnsweringStatus, IsPreparingStatus, 
 
 use ch_workers::{Gate, OpenGate};
 use command_line::command;
-use explaining::{Heard, Kept, Trouble, explain, warn_of};
 use jobs::{Job, Preparation, Stop, end, show_stop};
 use performing::{
     perform_answer, perform_info, perform_joined, perform_route, perform_service, prepare_whole,
 };
-use progress::{Cleared, Meter, Watched, write_end};
 use std::env::Env;
 use std::io::{ErrorKind, IsTerminal};
 use std::process::ExitCode;
@@ -25,6 +22,7 @@ use std::sync::Wait;
 use std::thread::Threads;
 use std::time::Clock;
 use std::{env, fs, io};
+use terminal::{Cleared, Heard, Kept, Meter, Trouble, Watched, explain, warn_of, write_end};
 use whole_file::{OutFile, is_one_file};
 
 fn main(rt: HostRuntime) -> ExitCode {

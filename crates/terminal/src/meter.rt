@@ -1,4 +1,4 @@
-use crate::line::{Progress, write_line};
+use crate::progress::{Progress, write_line};
 use ch_workers::{Gate, Point};
 use std::io::{self, Write};
 use std::rt::Stderr;

@@ -1,5 +1,5 @@
 use ch_workers::{Gate, Point};
-use progress::{Meter, Progress, Watched, write_end, write_line};
+use terminal::{Meter, Progress, Watched, write_end, write_line};
 use std::alloc::Global;
 use std::io::Read;
 use std::test::Fail;

@@ -1,0 +1,48 @@
+//! What a user at a terminal sees beside results: how far a preparation has come, and lines that explain a refusal.
+//!
+//! Builds on `ch_workers`, whose workers pass a gate at each commit, and on `jobs` for what was asked. No contract speaks of what is
+//! shown, and nothing rests on it. What a [`Watched`] or [`Kept`] reader or writer passes on is what the one behind it does, so
+//! all that is promised of a text holds through it.
+//!
+//! **Progress.** A [`Meter`] is a gate that counts the commits: some times a second the worker that passes writes one line to
+//! standard error, in the place of the one before. A [`Watched`] reader passes on a graph's text, and reports to the meter how many
+//! nodes it announces.
+//!
+//! ```rust
+//! let meter = Meter::new(rt, rt.stderr())?;
+//! let mut graph = Watched::new(file, &meter);
+//! let ended = prepare(rt, alloc, &mut graph, &mut out, options, lists, &mut leases, &meter);
+//! meter.clear();
+//! ```
+//!
+//! **Explanations.** The program prints one line of its own at a refusal, and its status; that is fixed. At a terminal, or where it is
+//! asked for, [`explain`] says which file it was, which line of its text, what was expected, and what to do. [`Heard`] keeps the
+//! program's line while it is written, [`Kept`] the failure of a reader or a writer, and [`Trouble`] the file that it came of. A
+//! regular file is looked at once more by its name; a pipe has been read. [`warn_of`] says before the work that a file can't be made.
+//!
+//! ```rust
+//! explain(rt, &job, b"routecli: graph: NodeRange line 2\n", &trouble, &mut err);
+//! // net.gr:2: a 1 3 7
+//! //   node 3 isn't there: nodes are 1 to 2
+//! ```
+#![tactic(auto)]
+
+mod explaining;
+mod fields;
+mod files;
+mod heard;
+mod hints;
+mod kept;
+mod look;
+mod meter;
+mod progress;
+mod shown;
+mod watched;
+
+pub use explaining::{Trouble, explain};
+pub use files::warn_of;
+pub use heard::Heard;
+pub use kept::Kept;
+pub use meter::{Cleared, Meter};
+pub use progress::{Progress, write_end, write_line};
+pub use watched::Watched;
