@@ -39,7 +39,12 @@ impl Text<'_> {
 
 /// Writes what was expected where the text has this fault, and what may be done.
 pub(crate) fn hint<E: Write>(fault: &[u8], text: &Text<'_>, err: &mut E) {
-    if is(fault, "UnknownLine") {
+    if has_returns_alone(text.head) {
+        let _ = writeln!(
+            err,
+            "  lines end with a line feed, and here with a carriage return alone"
+        );
+    } else if is(fault, "UnknownLine") {
         hint_of_kind(text, err);
     } else if is(fault, "NoProblemLine") {
         hint_of_beginning(text, err);
@@ -54,10 +59,25 @@ pub(crate) fn hint<E: Write>(fault: &[u8], text: &Text<'_>, err: &mut E) {
     }
 }
 
+// Whether a text has the ends of lines that old systems had. Its last byte may be the first of two.
+fn has_returns_alone(head: &[u8]) -> bool {
+    let Some((_, before)) = head.split_last() else {
+        return false;
+    };
+    before.contains(&b'\r') && !head.contains(&b'\n')
+}
+
 // What a file may be that isn't one of texts at all.
 fn other_file(head: &[u8]) -> Option<&'static str> {
     if head.starts_with(b"\x1f\x8b") {
         Some("this is a gzip file: gunzip it, or name it as <(zcat FILE)")
+    } else if head.starts_with(b"PK\x03\x04") {
+        Some("this is a zip file: unzip it")
+    } else if head.starts_with(b"BZh")
+        || head.starts_with(b"\xfd7zXZ")
+        || head.starts_with(b"\x28\xb5\x2f\xfd")
+    {
+        Some("this is a file packed by bzip2, xz or zstd: unpack it")
     } else if head.starts_with(b"RCH") {
         Some("this is a hierarchy that prepare made: route and serve read it")
     } else if head.starts_with(b"\xef\xbb\xbf") {
@@ -108,11 +128,6 @@ fn hint_of_beginning<E: Write>(text: &Text<'_>, err: &mut E) {
         let _ = writeln!(
             err,
             "  the file is empty: its first line has to be \"{form}\""
-        );
-    } else if text.head.contains(&b'\r') && !text.head.contains(&b'\n') {
-        let _ = writeln!(
-            err,
-            "  lines end with a line feed, and here with a carriage return alone"
         );
     } else {
         let _ = writeln!(

@@ -20,8 +20,12 @@ const LINES: [([u64; 4], &[u8]); 7] = [
         b"\x1b[?7l\r25 %: 250 of 1000 nodes contracted, 9 s, some 15 s to go\x1b[K\x1b[?7h",
     ),
     (
-        [999, 1_000, 61_500, 61_500],
-        b"\x1b[?7l\r99 %: 999 of 1000 nodes contracted, 61 s, some 0 s to go\x1b[K\x1b[?7h",
+        [899, 1_000, 61_500, 61_500],
+        b"\x1b[?7l\r89 %: 899 of 1000 nodes contracted, 61 s, some 6 s to go\x1b[K\x1b[?7h",
+    ),
+    (
+        [900, 1_000, 61_500, 61_500],
+        b"\x1b[?7l\r90 %: 900 of 1000 nodes contracted, 61 s\x1b[K\x1b[?7h",
     ),
     (
         [0, 10, 6_000, 6_000],
