@@ -46,38 +46,41 @@ pub fn unpack(
     let mut nodes = Vec::new(alloc);
     nodes.push(source)?;
     let mut ahead = last_first(alloc, links)?;
-    'route: while let Some(next) = ahead.pop() {
-        match hierarchy.parts(next) {
+    let mut next = ahead.pop();
+    'route: while let Some(link) = next {
+        match hierarchy.parts(link) {
             Parts::Shortcut(first, second) => {
-                turn_off(&mut ahead, nodes.len(), room, first, second)?;
+                turn_off(&mut ahead, nodes.len(), room, second)?;
+                next = Some(first);
             }
-            Parts::Arc(to) => nodes.push(to)?,
+            Parts::Arc(to) => {
+                nodes.push(to)?;
+                next = ahead.pop();
+            }
         }
     }
     Ok(nodes)
 }
 
-// Puts the halves of a shortcut ahead, the first of them last, where that leaves the nodes that the route came to and
-// the links ahead together at most as many as there is room for. Else it goes no further: each link ahead represents one
-// arc or more, so the route has more than it may have.
+// Puts the second half of a shortcut ahead, where that and its first half leave the nodes that the route came to and the
+// links ahead together at most as many as there is room for. Else it goes no further: each link ahead represents one arc or
+// more, so the route has more than it may have.
 fn turn_off(
     ahead: &mut SmallVec<LinkId, 32>,
     nodes: usize,
     room: usize,
-    first: LinkId,
     second: LinkId,
 ) -> Result<(), UnpackError>
     requires so_far { nodes + length ahead.old.items < room }
     requires few { room < 2 ^ 32 }
-    ensures halves { OnOk result (ahead.new.items ≡ (ahead.old.items ++ second ∷ []) ++ first ∷ []) }
-    ensures in_room { OnOk result (nodes + length ahead.new.items ≤ room) }
+    ensures half { OnOk result (ahead.new.items ≡ ahead.old.items ++ second ∷ []) }
+    ensures in_room { OnOk result (nodes + length ahead.new.items + 1 ≤ room) }
     ensures too_long { result ≡ Err UnpackError.TooLong → room < nodes + length ahead.old.items + 2 }
 {
     if nodes + ahead.len() + 2 > room {
         return Err(UnpackError::TooLong);
     }
     ahead.push(second)?;
-    ahead.push(first)?;
     Ok(())
 }
 

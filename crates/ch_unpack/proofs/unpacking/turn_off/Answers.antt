@@ -7,5 +7,5 @@ returns-clause-in_room c = search rules
 pub returns-then-nodes-len-clause-too_long : goal.returns-then-nodes-len-clause-too_long
 returns-then-nodes-len-clause-too_long c = search rules
 
-pub returns-clause-halves : goal.returns-clause-halves
-returns-clause-halves c = search rules
+pub returns-clause-half : goal.returns-clause-half
+returns-clause-half c = search rules
