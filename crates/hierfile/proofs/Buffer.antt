@@ -53,15 +53,22 @@ kept front all None b h e = tt
 kept front all (Some xs) None h e = absurd h
 kept front all (Some xs) (Some ys) h e = ap (λ l. l ++ ys) e ∙ ap (λ l. front ++ l) h
 
--- the first waiting bytes are taken
-pub took : (waiting bytes rest : List ℕ) (n : ℕ) (old known : Option (List ℕ)) → Keeps old (coming waiting known) → bytes ≡ take n waiting → rest ≡ drop n waiting → Consumes old (coming rest known) bytes
-took waiting bytes rest n None known h e f = tt
-took waiting bytes rest n (Some xs) None h e f = absurd h
-took waiting bytes rest n (Some xs) (Some ys) h e f =
-    sym h ∙ ap (λ l. l ++ ys) (sym (take-append-drop n waiting)) ∙ append_assoc (take n waiting) (drop n waiting) ys ∙ cong2 (sym e) (sym f)
+-- the first bytes of those that wait, and the rest
+pub parted : (waiting old bytes rest : List ℕ) (n : ℕ) → waiting ≡ old → bytes ≡ take n waiting → rest ≡ drop n waiting → old ≡ bytes ++ rest
+parted waiting old bytes rest n is first behind = sym is ∙ sym (take-append-drop n waiting) ∙ cong2 (sym first) (sym behind)
   where
-    cong2 : {a b c d : List ℕ} → a ≡ b → c ≡ d → a ++ (c ++ ys) ≡ b ++ (d ++ ys)
+    cong2 : {a b c d : List ℕ} → a ≡ b → c ≡ d → a ++ c ≡ b ++ d
     cong2 p q = cc
+
+-- the first waiting bytes are taken
+pub took : (waiting bytes rest : List ℕ) (old known : Option (List ℕ)) → Keeps old (coming waiting known) → waiting ≡ bytes ++ rest → Consumes old (coming rest known) bytes
+took waiting bytes rest None known h is = tt
+took waiting bytes rest (Some xs) None h is = absurd h
+took waiting bytes rest (Some xs) (Some ys) h is = sym h ∙ ap (λ l. l ++ ys) is ∙ append_assoc bytes rest ys
+
+-- one part behind another
+pub parts_then : (whole first middle second rest : List ℕ) → whole ≡ first ++ middle → middle ≡ second ++ rest → whole ≡ (first ++ second) ++ rest
+parts_then whole first middle second rest is behind = is ∙ ap (λ l. first ++ l) behind ∙ sym (append_assoc first second rest)
 
 pub first_four : (w : List ℕ) → 4 ≤ length w → take 4 w ≡ get_or w 0 0 ∷ get_or w 1 0 ∷ get_or w 2 0 ∷ get_or w 3 0 ∷ []
 first_four [] h = absurd (omega arith)

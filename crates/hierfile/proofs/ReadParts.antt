@@ -1,7 +1,7 @@
 -- Parts of a file that are read one after the other.
-use Rattle.std.proofs.Common.{ℕ, ◌≡◌, ◌≢◌, ◌+◌, ◌^◌, ◌<◌, ◌≤◌, List, [], ◌++◌, length, Option, Some, Result, None, Ok, Err, sym, subst, ap, ◌∙◌, append-nil, inl, arith}
+use Rattle.std.proofs.Common.{ℕ, ◌≡◌, ◌≢◌, ◌+◌, ◌^◌, ◌<◌, ◌≤◌, List, [], ◌++◌, length, Option, Some, Result, None, Ok, Err, sym, subst, ap, ◌∙◌, append-nil, length-append, inl, arith}
 use Rattle.std.specs.Prelude.{IfSome, MatchResult, IsErrAnd}
-use Rattle.std.specs.Io.KnownBytes.{Consumes, IsAtEnd}
+use Rattle.std.specs.Io.KnownBytes.{Consumes, IsAtEnd, Keeps}
 use Rattle.std.proofs.KnownBytes.{Consumes-nil, Consumes-trans}
 use Rattle.std.specs.declared.io.Error.{Error}
 use Rattle.counted_io.specs.Limits.{IsRead}
@@ -10,6 +10,7 @@ use Rattle.hierfile.specs.declared.error.HierError.{HierError}
 use Rattle.hierfile.specs.declared.error.HierError.TheVariants.{OutOfMemory, Read, Truncated}
 use Rattle.hierfile.specs.Bytes.{Buffered, ButReadAhead, Fits, HasNoneButHalves, HasNoneSoFar, IsCut, OfBytes, IsFaultOf, StopsWhere, coming}
 use Rattle.hierfile.specs.Reading.{FailsBefore, HasRead, IsRefused, Refuses}
+use Rattle.hierfile.proofs.Buffer.{took}
 use Rattle.hierfile.proofs.Faults.{behind, found, memory_is_no_read, read_is_no_memory}
 use Rattle.hierfile.proofs.Came.{ahead_behind, stops_ahead, stops_behind, stops_where}
 
@@ -33,6 +34,14 @@ module _ {S : Type 0} (step : S → S → Result ℕ Error → Type 0) (remainin
 
   pub takes_none : (x : Buffered) (a : S) → Takes x x a a []
   takes_none x a = record { bytes = Consumes-nil _; calls = read_none step x.left a; fits = λ fits. fits }
+
+  -- these bytes waited, and were taken
+  pub takes_waiting : {x y z : Buffered} {a b : S} (bytes : List ℕ) → HasRead step remaining x y a b Keeps → y.waiting ≡ bytes ++ z.waiting → z.left ≡ y.left → Takes x z a b bytes
+  takes_waiting {x = x} {y = y} {z = z} {a = a} {b = b} bytes h is left = record {
+    bytes = took y.waiting bytes z.waiting _ _ h.bytes is;
+    calls = subst (λ n. IsRead step x.left n a b) (sym left) h.calls;
+    fits = λ fits. omega (arith, h.fits fits, ap (λ (l : List ℕ). length l) is, length-append bytes z.waiting);
+  }
 
   pub takes_then : {x y z : Buffered} {a b c : S} {front more : List ℕ} → Takes x y a b front → Takes y z b c more → Takes x z a c (front ++ more)
   takes_then h k = record { bytes = Consumes-trans _ _ _ _ _ h.bytes k.bytes; calls = read_then step h.calls k.calls; fits = λ fits. k.fits (h.fits fits) }

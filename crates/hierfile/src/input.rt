@@ -1,4 +1,4 @@
-ghost use Rattle.std.specs.Prelude.{◌≡◌, ◌+◌, ◌^◌, ◌<◌, ◌≤◌, [], ◌∷◌, length, min, take, IfOk, OnErr, OnOk, MatchBool, MatchOption};
+ghost use Rattle.std.specs.Prelude.{◌≡◌, ◌+◌, ◌++◌, ◌^◌, ◌<◌, ◌≤◌, [], ◌∷◌, length, min, take, IfOk, OnErr, OnOk, MatchBool, MatchOption};
 ghost use Rattle.std.specs.Io.KnownBytes.{Consumes, Keeps, IsAtEnd};
 ghost use Rattle.counted_io.specs.Limits.{GivesOut, IsRead};
 ghost use Rattle.counted_io.specs.declared.TheConstants.{MOST_CALLS};
@@ -70,9 +70,20 @@ impl Input {
         ensures room { OnOk result (length self.new.waiting + 4 ≤ 2 ^ 16) }
     {
         self.need(reader, 4)?;
+        Ok(self.waiting_word())
+    }
+
+    /// Takes a number of four bytes from those that wait.
+    #[inline]
+    pub fn waiting_word(&mut self) -> u32
+        requires { 4 ≤ length self.old.waiting }
+        ensures taken { self.old.waiting ≡ word result ++ self.new.waiting }
+        ensures left { self.new.left ≡ self.old.left }
+        ensures room { length self.new.waiting + 4 ≤ 2 ^ 16 }
+    {
         let number = first_word(&self.buffer[self.at..self.end]);
         self.at += 4;
-        Ok(number)
+        number
     }
 
     /// Returns the next number of eight bytes.
@@ -80,14 +91,25 @@ impl Input {
         ensures reads { ReadsValue R.step R.remaining self.old self.new reader.old reader.new long (cut 8) result }
     {
         self.need(reader, 8)?;
-        let number = first_long(&self.buffer[self.at..self.end]);
-        self.at += 8;
-        Ok(number)
+        Ok(self.waiting_long())
     }
 
-    // Makes sure that this many bytes wait.
-    fn need<R: StepRead>(&mut self, reader: &mut R, count: usize) -> Result<(), HierError>
-        requires { count ≤ 8 }
+    /// Takes a number of eight bytes from those that wait.
+    #[inline]
+    pub fn waiting_long(&mut self) -> u64
+        requires { 8 ≤ length self.old.waiting }
+        ensures taken { self.old.waiting ≡ long result ++ self.new.waiting }
+        ensures left { self.new.left ≡ self.old.left }
+    {
+        let number = first_long(&self.buffer[self.at..self.end]);
+        self.at += 8;
+        number
+    }
+
+    /// Makes sure that this many bytes wait.
+    #[inline]
+    pub fn need<R: StepRead>(&mut self, reader: &mut R, count: usize) -> Result<(), HierError>
+        requires { count ≤ 24 }
         ensures reads { Reads R.step R.remaining self.old self.new reader.old reader.new (λ _. Keeps) (Refuses (cut count) (IsCut (cut count)) (IsCut (cut count))) result }
         ensures enough { OnOk result (count ≤ length self.new.waiting) }
     {
@@ -100,7 +122,7 @@ impl Input {
     // Whether this many bytes are still to come. If so they wait.
     #[inline]
     fn has<R: StepRead>(&mut self, reader: &mut R, count: usize) -> Result<bool, HierError>
-        requires { count ≤ 8 }
+        requires { count ≤ 24 }
         ensures reads { Reads R.step R.remaining self.old self.new reader.old reader.new (λ _. Keeps) (FailsBefore count) result }
         ensures ok { IfOk result (λ enough. MatchBool enough (count ≤ length self.new.waiting) ((length self.new.waiting < count) × IsAtEnd (R.remaining reader.new))) }
     {
@@ -113,7 +135,7 @@ impl Input {
     // Reads on until this many bytes wait; false where the reader's bytes end before.
     #[cold]
     fn fill<R: StepRead>(&mut self, reader: &mut R, count: usize) -> Result<bool, HierError>
-        requires { count ≤ 8 }
+        requires { count ≤ 24 }
         ensures reads { Reads R.step R.remaining self.old self.new reader.old reader.new (λ _. Keeps) (FailsBefore count) result }
         ensures ok { IfOk result (λ enough. MatchBool enough (count ≤ length self.new.waiting) ((length self.new.waiting < count) × IsAtEnd (R.remaining reader.new))) }
     {

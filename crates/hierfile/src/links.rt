@@ -1,4 +1,4 @@
-ghost use Rattle.std.specs.Prelude.{◌≡◌, ◌≢◌, ◌-◌, ◌*◌, ◌^◌, ◌<◌, length, None, Some, All, AllPairs, IfSome, IfOk, IfErr, OnOk};
+ghost use Rattle.std.specs.Prelude.{◌≡◌, ◌≢◌, ◌-◌, ◌*◌, ◌^◌, ◌<◌, ◌≤◌, ◌++◌, length, None, Some, All, AllPairs, IfSome, IfOk, IfErr, OnOk};
 ghost use Rattle.std.specs.List.{flat_map};
 ghost use Rattle.std.specs.Io.KnownBytes.{Consumes};
 ghost use Rattle.ch_cost.specs.Cost.{◌⊕◌, same};
@@ -47,7 +47,7 @@ pub fn read_links<R: StepRead>(
     Ok(links)
 }
 
-// Reads one link.
+// Reads one link, all of its bytes at a time.
 fn read_link<R: StepRead>(
     input: &mut Input,
     reader: &mut R,
@@ -56,31 +56,50 @@ fn read_link<R: StepRead>(
     ensures reads { ReadsValue R.step R.remaining input.old input.new reader.old reader.new (link_bytes version) (cut (link_size version)) result }
     ensures writable { IfOk result (IsWritable version) }
 {
-    let from = input.word(reader)?;
-    let to = input.word(reader)?;
-    let weight = input.long(reader)?;
-    let arcs = read_arcs(input, reader, version)?;
-    let middle = input.word(reader)?;
-    Ok(Link {
+    input.need(reader, link_size(version))?;
+    Ok(waiting_link(input, version))
+}
+
+// How many bytes a link has.
+fn link_size(version: Version) -> usize
+    ensures { result ≡ link_size version }
+{
+    match version {
+        Version::One => 20,
+        Version::Two => 24,
+    }
+}
+
+// Takes a link from the bytes that wait.
+fn waiting_link(input: &mut Input, version: Version) -> Link
+    requires { link_size version ≤ length input.old.waiting }
+    ensures taken { input.old.waiting ≡ link_bytes version result ++ input.new.waiting }
+    ensures left { input.new.left ≡ input.old.left }
+    ensures writable { IsWritable version result }
+{
+    let from = input.waiting_word();
+    let to = input.waiting_word();
+    let weight = input.waiting_long();
+    let arcs = waiting_arcs(input, version);
+    let middle = input.waiting_word();
+    Link {
         from,
         to,
         cost: Cost::of_walk(weight, u64::from(arcs)),
         middle: middle_of(middle),
-    })
+    }
 }
 
-// Reads the arcs of a link, which are in files of version 2 alone.
-fn read_arcs<R: StepRead>(
-    input: &mut Input,
-    reader: &mut R,
-    version: Version,
-) -> Result<u32, HierError>
-    ensures reads { ReadsValue R.step R.remaining input.old input.new reader.old reader.new (arcs_bytes version) (cut (arcs_size version)) result }
-    ensures told { IfOk result (AreTold version) }
+// Takes the arcs of a link, which are in files of version 2 alone.
+fn waiting_arcs(input: &mut Input, version: Version) -> u32
+    requires { arcs_size version ≤ length input.old.waiting }
+    ensures taken { input.old.waiting ≡ arcs_bytes version result ++ input.new.waiting }
+    ensures left { input.new.left ≡ input.old.left }
+    ensures told { AreTold version result }
 {
     match version {
-        Version::One => Ok(0),
-        Version::Two => input.word(reader),
+        Version::One => 0,
+        Version::Two => input.waiting_word(),
     }
 }
 
