@@ -1,23 +1,30 @@
 -- What a line says: its nodes, one by one, and what comes before them.
-use Rattle.std.proofs.Common.{ℕ, ◌≡◌, ◌+◌, ◌<◌, List, [], ◌∷◌, ◌++◌, length, map, take, get_or, refl, sym, ◌∙◌, ap, append_assoc, append-nil}
+use Rattle.std.proofs.Common.{ℕ, ◌≡◌, ◌+◌, ◌<◌, List, ◌∷◌, ◌++◌, length, map, take, drop, get_or, refl, sym, ◌∙◌, ap, append_assoc, arith, ◌≤◌, drop-cons, add-one}
 use Rattle.std.specs.Prelude.{◌-◌, ⊤, Result, Ok, Err, OnOk, codes, decimal}
 use Rattle.std.specs.List.{concat}
-use Rattle.std.proofs.lemmas.List.{map-append, take_more}
+use Rattle.std.proofs.lemmas.List.{map-append}
+use Rattle.std.proofs.Math.Seq.{take-add}
 use Rattle.std.proofs.lemmas.List.Folds.{concat-append}
 use Rattle.ch_answer.specs.Line.{named, told_along}
 
 abbrev pub node_text : ℕ → List ℕ
 node_text n = codes " " ++ decimal (n + 1)
 
-named-push : (nodes : List ℕ) (n : ℕ) → named (nodes ++ n ∷ []) ≡ named nodes ++ node_text n
-named-push nodes n =
-    ap concat (map-append node_text nodes (n ∷ [])) ∙ concat-append (map node_text nodes) (node_text n ∷ []) ∙ ap (λ (l : List ℕ). named nodes ++ l) (append-nil (node_text n))
+named-append : (nodes more : List ℕ) → named (nodes ++ more) ≡ named nodes ++ named more
+named-append nodes more = ap concat (map-append node_text nodes more) ∙ concat-append (map node_text nodes) (map node_text more)
 
--- one node more
-pub named-more : (old lines more : List ℕ) (nodes : List ℕ) (k n : ℕ) → k < length nodes → lines ≡ old ++ named (take k nodes) → n ≡ get_or nodes k 0 → more ≡ (lines ++ codes " ") ++ decimal (n + 1) → more ≡ old ++ named (take (k + 1) nodes)
-named-more old lines more nodes k n within so_far same pushed =
-    pushed ∙ append_assoc lines (codes " ") (decimal (n + 1)) ∙ ap (λ m. lines ++ node_text m) same ∙ ap (λ (l : List ℕ). l ++ node_text (get_or nodes k 0)) so_far
-    ∙ append_assoc old (named (take k nodes)) (node_text (get_or nodes k 0)) ∙ ap (λ (l : List ℕ). old ++ l) (sym (named-push (take k nodes) (get_or nodes k 0)) ∙ ap named (sym (take_more nodes k 0 within)))
+-- the nodes between two places more
+pub named-more : (old lines more : List ℕ) (nodes piece : List ℕ) (at end : ℕ) → at ≤ end → piece ≡ take (end - at) (drop at nodes) → lines ≡ old ++ named (take at nodes) → more ≡ lines ++ named piece → more ≡ old ++ named (take end nodes)
+named-more old lines more nodes piece at end within is so_far pushed =
+    let parts : at + (end - at) ≡ end = omega arith in
+    let first : List ℕ = take at nodes in
+    let whole : take end nodes ≡ first ++ piece = ap (λ n. take n nodes) (sym parts) ∙ take-add at (end - at) nodes ∙ ap (λ (l : List ℕ). first ++ l) (sym is) in
+    pushed ∙ ap (λ (l : List ℕ). l ++ named piece) so_far ∙ append_assoc old (named first) (named piece) ∙ ap (λ (l : List ℕ). old ++ l) (sym (named-append first piece) ∙ ap named (sym whole))
+
+-- one node before others
+pub named-before : (nodes text : List ℕ) (k n : ℕ) → k < length nodes → n ≡ get_or nodes k 0 → text ≡ decimal (n + 1) ++ named (drop (k + 1) nodes) → 32 ∷ text ≡ named (drop k nodes)
+named-before nodes text k n within same is =
+    ap (λ (t : List ℕ). 32 ∷ t) (is ∙ ap (λ m. decimal (m + 1) ++ named (drop (k + 1) nodes)) same) ∙ ap named (sym (drop-cons nodes k 0 within ∙ ap (λ m. get_or nodes k 0 ∷ drop m nodes) (sym (add-one k))))
 
 -- what is behind a text that begins with the old one
 onto : (text old more last : List ℕ) → text ≡ old ++ more → text ++ last ≡ old ++ (more ++ last)

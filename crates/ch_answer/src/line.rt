@@ -1,10 +1,16 @@
-ghost use Rattle.std.specs.Prelude.{◌≡◌, ◌+◌, ◌++◌, [], ◌∷◌, OnOk, OnErr, codes, decimal};
+ghost use Rattle.std.specs.Prelude.{◌≡◌, ◌+◌, ◌≤◌, ◌++◌, [], ◌∷◌, OnOk, OnErr, codes, decimal, drop, length};
 ghost use Rattle.std.specs.Io.{StartsWith};
 ghost use Rattle.ch_answer.specs.Line.{named, told_along, line_of};
 
 use ch_route::Route;
-use itoa::Buffer;
+use itoa::{Buffer, write_digits};
 use std::alloc::AllocError;
+
+/// How many nodes are written at a time.
+const FEW: usize = 32;
+
+/// How many bytes these take at most, at a space and ten digits for each.
+const ROOM: usize = 352;
 
 /// Appends the line that answers the pair by the route. Where memory runs out the lines stay as they were. Takes
 /// memory for the line.
@@ -65,10 +71,32 @@ pub fn push_nodes(nodes: &[u32], lines: &mut Vec<u8>) -> Result<(), AllocError>
     ensures ok { OnOk result (lines.new.items ≡ lines.old.items ++ named nodes.now) }
     ensures err { StartsWith lines.new.items lines.old.items }
 {
-    'nodes: for node in nodes {
-        push_number(u64::from(*node) + 1, lines)?;
+    let mut text = [0; ROOM];
+    let mut at = 0;
+    'pieces: while at < nodes.len() {
+        let end = nodes.len().min(at + FEW);
+        let start = write_nodes(&nodes[at..end], &mut text);
+        lines.extend_from_slice(&text[start..])?;
+        at = end;
     }
     Ok(())
+}
+
+// Writes a few nodes as a line names them so that they end where the text ends, the last one first. Returns where they
+// start.
+fn write_nodes(nodes: &[u32], text: &mut [u8; ROOM]) -> usize
+    requires { length nodes.now ≤ 32 }
+    ensures within { result ≤ 352 }
+    ensures written { drop result text.new ≡ named nodes.now }
+{
+    let mut left = nodes.len();
+    let mut at = ROOM;
+    'nodes: while left > 0 {
+        left -= 1;
+        at = write_digits(u64::from(nodes[left]) + 1, text, at) - 1;
+        text[at] = b' ';
+    }
+    at
 }
 
 /// Appends a space and the number in decimals. Where memory runs out a part of that text may be there.

@@ -1,19 +1,20 @@
-use Rattle.std.proofs.Transfers.{starts_with_trans, starts_with_of_append}
-use Rattle.std.proofs.Common.{arith}
-use Rattle.std.proofs.lemmas.Grind.{common_steps}
+use Rattle.std.proofs.Common.{ℕ, ◌≡◌, ◌-◌, ◌≤◌, ◌++◌, List, length, take, drop, arith, rules, refl, ◌∙◌, ap}
+use Rattle.std.proofs.lemmas.List.{length-drop, take_all}
 use Rattle.ch_answer.proofs.Naming.{named-more}
 use Rattle.ch_answer.proofs.line.push_nodes.Goals as goal
 
-pub returns-in_err-push_number-clause-err : goal.returns-in_err-push_number-clause-err
-returns-in_err-push_number-clause-err c =
-    starts_with_trans _ _ c.args.lines.now.items c.in_err-push_number.ensures.err (starts_with_of_append _ c.args.lines.now.items _ c.nodes.invariant)
-
-pub nodes-preserved : goal.nodes-preserved
-nodes-preserved c =
-    named-more c.args.lines.now.items _ _ c.args.nodes.now c.nodes.node-index c.from.result c.nodes-test.true c.nodes.invariant c.from.ensures c.in_ok-push_number.ensures.ok
-
-pub returns-clause-err : goal.returns-clause-err
-returns-clause-err c = grind (arith, common_steps) steps 200000
-
-pub returns-clause-ok : goal.returns-clause-ok
-returns-clause-ok c = grind (arith, common_steps) steps 200000
+pub pieces-preserved : goal.pieces-preserved
+pieces-preserved c =
+    let at = c.pieces.at in
+    let end = c.min-end.result in
+    let nodes = c.args.nodes.now in
+    let piece : List ℕ = take (end - at) (drop at nodes) in
+    let order : at ≤ end = omega (arith, c.min-end.ensures, c.pieces-test.true) in
+    let start = c.write_nodes-start.result in
+    let text : List ℕ = c.write_nodes-start.new.text in
+    let size : length text ≡ 352 = search rules in
+    let rest : take (352 - start) (drop start text) ≡ drop start text = take_all (352 - start) (drop start text) (omega (arith, size, length-drop start text)) in
+    record {
+      within = omega (arith, c.min-end.ensures);
+      pushed = named-more c.args.lines.now.items c.pieces.lines.items _ nodes piece at end order refl c.pieces.invariant.pushed (c.in_ok-extend_from_slice.ensures.items ∙ ap (λ (l : List ℕ). c.pieces.lines.items ++ l) (rest ∙ c.write_nodes-start.ensures.written));
+    }
