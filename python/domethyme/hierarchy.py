@@ -307,7 +307,7 @@ class Hierarchy:
 def opened(name: str) -> Any:
     """The open file of a hierarchy, which has to be a regular one: it is read again for each process."""
     try:
-        file = open(name, "rb", buffering=0)
+        file = open(name, "rb", buffering=0, opener=at_once)
     except FileNotFoundError as error:
         raise HierarchyNotFound(f"{name}: {os_reason(error)}", 7) from error
     except OSError as error:
@@ -316,6 +316,11 @@ def opened(name: str) -> Any:
         file.close()
         raise HierarchyError(f"{name}: is no regular file", 7)
     return file
+
+
+def at_once(name: str, flags: int) -> int:
+    """Opens a file without a wait: a pipe that nobody writes to is none that is waited for."""
+    return os.open(name, flags | os.O_NONBLOCK)
 
 
 def looked_at(file: int, name: str) -> tuple[int, int]:

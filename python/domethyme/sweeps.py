@@ -11,6 +11,7 @@ lengths that `routecli serve` gives.
 """
 import itertools
 import os
+from collections.abc import Callable
 from typing import NamedTuple
 
 import numpy as np
@@ -130,9 +131,10 @@ class Sweeps:
         some 100 MB."""
         return self.between(Seeds.at(sources), Seeds.at(targets))
 
-    def between(self, starts: Seeds, ends: Seeds) -> Numbers:
-        """The same from places to places, each by the node of it from which, or to which, the whole length is least."""
-        space = self._space(starts.nodes, ends.nodes)
+    def between(self, starts: Seeds, ends: Seeds, step: Callable[[], object] = lambda: None) -> Numbers:
+        """The same from places to places, each by the node of it from which, or to which, the whole length is least. `step` is
+        called between parts of the work, each of some milliseconds; what it raises ends the work."""
+        space = self._space(starts.nodes, ends.nodes, step)
         first, last = space.rows[starts.nodes], space.rows[ends.nodes]
         order = np.argsort(ends.places, kind="stable")
         places, groups = np.unique(ends.places[order], return_index=True)
@@ -144,18 +146,18 @@ class Sweeps:
             least = np.full((space.size, end - begin), FAR)
             np.minimum.at(least, (first[some], starts.places[some] - begin), starts.added[some])
             for part in (space.up, space.down):
-                sweep(part, least)
+                sweep(part, least, step)
             lengths = least[last[order]] + ends.added[order, None]
             table[begin:end, places] = np.minimum.reduceat(lengths, groups, axis=0).T
         table[table >= FAR] = NO_WAY
         return table
 
-    def _space(self, sources: Numbers, targets: Numbers) -> "Space":
-        climbed, fallen = self._above(self.up, sources), self._above(self.down, targets)
+    def _space(self, sources: Numbers, targets: Numbers, step: Callable[[], object]) -> "Space":
+        climbed, fallen = self._above(self.up, sources, step), self._above(self.down, targets, step)
         used = np.union1d(climbed, fallen)
         rows = np.empty(self.nodes, np.int64)  # (where no node is used it isn't touched, and takes no memory)
         rows[used] = np.arange(len(used))
-        levels = levels_of(len(used), self.up.between(climbed, rows), self.down.between(fallen, rows))
+        levels = levels_of(len(used), step, self.up.between(climbed, rows), self.down.between(fallen, rows))
         by_level = np.argsort(levels, kind="stable")
         rows[used[by_level]] = np.arange(len(used))
         up, down = self.up.between(climbed, rows), self.down.between(fallen, rows)
@@ -163,11 +165,12 @@ class Sweeps:
         ways = part(levels, up.low, up.high, up.weights, 1), part(levels, down.high, down.low, down.weights, -1)
         return Space(len(used), rows, *ways)
 
-    def _above(self, side: Side, nodes: Numbers) -> Numbers:
+    def _above(self, side: Side, nodes: Numbers, step: Callable[[], object]) -> Numbers:
         """The nodes, and those of higher rank that links join them to, and so on."""
         is_reached = np.zeros(self.nodes, bool)
         found, front = [], np.unique(nodes)
         while len(front):
+            step()
             is_reached[front] = True
             found.append(front)
             ends = side.ends[side.of(front)]
@@ -197,7 +200,7 @@ def ranges(begins: Nodes | Numbers, ends: Nodes | Numbers) -> Numbers:
     return offsets + np.arange(len(offsets))
 
 
-def levels_of(nodes: int, *links: "Between") -> Numbers:
+def levels_of(nodes: int, step: Callable[[], object], *links: "Between") -> Numbers:
     """A level for each row, from 0, the least that is above those of all rows of lower rank that a link joins it to."""
     low, high = (np.concatenate([getattr(each, end) for each in links]) for end in ("low", "high"))
     order = np.argsort(low, kind="stable")
@@ -206,6 +209,7 @@ def levels_of(nodes: int, *links: "Between") -> Numbers:
     waits_for, levels = np.bincount(high, minlength=nodes), np.zeros(nodes, np.int64)
     ready, level = np.flatnonzero(waits_for == 0), 0
     while len(ready):
+        step()
         levels[ready] = level
         nexts, times = np.unique(high[ranges(first[ready], first[ready + 1])], return_counts=True)
         waits_for[nexts] -= times
@@ -222,9 +226,10 @@ def part(levels: Numbers, tails: Numbers, heads: Numbers, weights: Numbers, step
     return Part(tails, heads, weights, np.unique([0, *changes, len(heads)]))
 
 
-def sweep(links: Part, least: Numbers) -> None:
+def sweep(links: Part, least: Numbers, step: Callable[[], object]) -> None:
     """Lowers the row of each node to the least by its links from nodes that come before, level by level."""
     for begin, end in itertools.pairwise(links.cuts.tolist()):
+        step()
         heads = links.heads[begin:end]
         lengths = least[links.tails[begin:end]]
         lengths += links.weights[begin:end, None]

@@ -3,7 +3,7 @@ end. All is in arrays, since a leg may have thousands of arcs."""
 import functools
 import itertools
 import math
-from collections.abc import Sequence
+from collections.abc import Iterable, Sequence
 
 import numpy as np
 from numpy.typing import NDArray
@@ -16,6 +16,7 @@ from .legs import Leg
 from .lines import bearing, encoded, simplified
 from .osrm_answer import Figures, Geometry
 from .roads import Roads
+from .work import Budget
 
 SHOWN = 1_000_000
 
@@ -23,6 +24,8 @@ SHOWN = 1_000_000
 UNITS_OF_ANSWERS = {"duration": 1000, "distance": 100}
 
 Ints = NDArray[np.int64]
+# Points (lon, lat), as lists.
+Line = list[list[float]]
 
 
 class Course:
@@ -39,9 +42,6 @@ class Course:
         self.points: Ints = arrays.points[rows].astype(np.int64)
         self.begins: Ints = np.concatenate(([0], np.cumsum(count)))
         self._cut()
-        self.shares: Floats = np.ones(len(self.arcs))
-        self.shares[-1] = leg.end
-        self.shares[0] -= leg.begin
 
     def _cut(self) -> None:
         """Puts the points of the first and the last arc where the leg has a part of them alone."""
@@ -93,10 +93,8 @@ class Course:
     @functools.cached_property
     def sums(self) -> tuple[list[int], list[float], list[float]]:
         """The weight, seconds and metres before each arc, and of all."""
-        arrays = self.roads.arrays
-        seconds, metres = (values[self.arcs] * self.shares for values in (arrays.arc_seconds, arrays.arc_metres))
         weights = list(itertools.accumulate(self.leg.weights, initial=0))
-        sums = [np.concatenate(([0.0], np.cumsum(values))).tolist() for values in (seconds, metres)]
+        sums = [np.concatenate(([0.0], np.cumsum(values))).tolist() for values in parts_of(self.roads, self.leg)]
         return weights, sums[0], sums[1]
 
     def figures(self, first: int, last: int) -> Figures:
@@ -115,33 +113,94 @@ def figures_of(roads: Roads, weight: int, seconds: float, metres: float) -> Figu
     }
 
 
-def course_of(roads: Roads, leg: Leg) -> Course | None:
-    """The course of a leg; None where it stays at a node."""
-    return Course(roads, leg) if leg.arcs else None
+def course_of(roads: Roads, leg: Leg, budget: Budget | None = None) -> Course | None:
+    """The course of a leg; None where it stays at a node. Its points are spent of a budget."""
+    if not leg.arcs:
+        return None
+    course = Course(roads, leg)
+    if budget is not None:
+        budget.spend(len(course.points))
+    return course
 
 
-def leg_figures(roads: Roads, leg: Leg, course: Course | None) -> Figures:
-    return figures_of(roads, leg.weight, 0.0, 0.0) if course is None else course.figures(0, len(leg.arcs))
+def leg_figures(roads: Roads, leg: Leg) -> Figures:
+    """The weight, seconds and metres of a leg."""
+    if not leg.arcs:
+        return figures_of(roads, leg.weight, 0.0, 0.0)
+    seconds, metres = (float(np.cumsum(values)[-1]) for values in parts_of(roads, leg))
+    return figures_of(roads, leg.weight, seconds, metres)
 
 
-def line_of(courses: "Sequence[Course | None]", ends: list[Point]) -> list[list[float]]:
-    """The line along the courses, by way of the places that they join."""
-    points: list[list[float]] = [list(ends[0])]
-    for course, end in zip(courses, ends[1:]):
-        points += [*([] if course is None else course.line(0, len(course.arcs))), list(end)]
-    line = [point for point, _ in itertools.groupby(points)]
+def parts_of(roads: Roads, leg: Leg) -> tuple[Floats, Floats]:
+    """The seconds and metres of each arc of a leg, as far as it is driven."""
+    shares: Floats = np.ones(len(leg.arcs))
+    shares[-1] = leg.end
+    shares[0] -= leg.begin
+    arrays = roads.arrays
+    return arrays.arc_seconds[leg.arcs] * shares, arrays.arc_metres[leg.arcs] * shares
+
+
+def lines_of(courses: "Sequence[Course | None]", ends: list[Point]) -> list[Line]:
+    """The line along each course, from a place to the next."""
+    inner = ([] if course is None else course.line(0, len(course.arcs)) for course in courses)
+    return [[list(begin), *some, list(end)] for begin, some, end in zip(ends, inner, ends[1:])]
+
+
+def joined(lines: Iterable[Line]) -> Line:
+    """One line of several, without a point that follows itself; two points at least."""
+    line = [point for point, _ in itertools.groupby(itertools.chain.from_iterable(lines))]
     return line if len(line) > 1 else line * 2
 
 
-def shaped(line: list[list[float]], shape: str) -> Geometry:
+def simpler(lines: Sequence[Line], budget: Budget) -> list[Line]:
+    """The lines with fewer points, none of the others further off than a thousandth of the extent of all."""
+    arrays = [np.array(line) for line in budget.over(lines)]
+    shrink = np.array([math.cos(math.radians(arrays[0][0, 1])), 1.0])
+    low, high = (side([side(array, axis=0) for array in arrays], axis=0) for side in (np.min, np.max))
+    far = float(((high - low) * shrink).max()) / 1000
+    return [simplified(array, far, budget).tolist() for array in arrays]
+
+
+def shaped(line: Line, shape: str) -> Geometry:
     """A line as a polyline, or as GeoJSON."""
     if shape == "geojson":
         return {"type": "LineString", "coordinates": line}
-    return encoded([(lon, lat) for lon, lat in line], 6 if shape == "polyline6" else 5)
+    return encoded(np.array(line), 6 if shape == "polyline6" else 5)
 
 
-def simpler(line: list[list[float]]) -> list[list[float]]:
-    return [list(point) for point in simplified([(lon, lat) for lon, lat in line])]
+def annotation(course: Course, names: list[str]) -> dict[str, list[float]]:
+    """For each step of the leg's line the metres, seconds, weight and speed, an arc's shared out by metres; and for each point of it
+    the id of OpenStreetMap of its node, 0 where that isn't known, as between junctions."""
+    found: dict[str, list[float]] = {name: [] for name in names}
+    figured = [name for name in names if name != "nodes"]
+    for place, steps in steps_of_arcs(course):
+        whole, figures = sum(steps), course.figures(place, place + 1)
+        speed = figures["distance"] / figures["duration"] if figures["duration"] else 0.0
+        for way in steps:
+            share = way / whole
+            values = {
+                "weight": figures["weight"] * share, "duration": figures["duration"] * share,
+                "distance": figures["distance"] * share, "datasources": 0, "speed": speed,
+            }
+            for name in figured:
+                found[name].append(round(values[name], 3))
+    if "nodes" in found:
+        found["nodes"] = nodes_of(course)
+    return found
+
+
+def nodes_of(course: Course) -> list[float]:
+    """The id of each point, one more than there are steps."""
+    roads, arrays = course.roads, course.roads.arrays
+    counts = [len(steps) for _, steps in steps_of_arcs(course)]
+    starts, last = arrays.arc_from[course.arcs].tolist(), int(arrays.arc_to[course.arcs[-1]])
+    found = [id_ for node, count in zip(starts, counts) for id_ in [roads.osm(node), *[0] * (count - 1)]]
+    found.append(roads.osm(last))
+    if course.leg.begin > 0.0:
+        found[0] = 0
+    if course.leg.end < 1.0:
+        found[-1] = 0
+    return list(found)
 
 
 def steps_of_arcs(course: Course) -> list[tuple[int, list[float]]]:

@@ -7,16 +7,19 @@ from typing import Any, NamedTuple
 from .errors import Refused
 from .page import FILES
 from .parameters import (
-    Absent, Alternatives, Annotations, Chosen, Context, Flag, Node, Number, Parameter, Radiuses, Straight, Unused, Values, Word, values_of
+    Above, Absent, Alternatives, Annotations, Bearings, Chosen, Context, Flag, Node, Number, Parameter, Radiuses, Straight, Unused,
+    Values, Word, values_of
 )
 
 NOT_SAID = "snapping=any and flatbuffers aren't there"
-RADIUSES = Radiuses("radiuses")
+RADIUSES, BEARINGS = Radiuses("radiuses"), Bearings("bearings")
+FALLBACK_SPEED, SCALE_FACTOR = Above("fallback_speed"), Above("scale_factor")
+FALLBACK_COORDINATE = Word("fallback_coordinate", "input", "snapped")
 GENERATE_HINTS, SKIP_WAYPOINTS = Flag("generate_hints", True), Flag("skip_waypoints", False)
 OVERVIEW = Word("overview", "simplified", "full", "false")
 GEOMETRIES = Word("geometries", "polyline", "polyline6", "geojson")
 STEPS = Flag("steps", False)
-ANNOTATIONS = Annotations("annotations", ("duration", "weight", "distance", "datasources", "speed"), "false", absent=("nodes",))
+ANNOTATIONS = Annotations("annotations", ("duration", "weight", "distance", "datasources", "speed", "nodes"), "false")
 FIGURES = Annotations("annotations", ("duration", "distance"), "duration", is_plain=True)
 NUMBER = Number("number", 1, 100)
 SOURCES, DESTINATIONS = Chosen("sources"), Chosen("destinations")
@@ -24,7 +27,7 @@ FROM, TO = Node("from"), Node("to")
 
 # Of all of OSRM's services.
 COMMON: tuple[Parameter[Any], ...] = (
-    RADIUSES, Unused("hints"), GENERATE_HINTS, SKIP_WAYPOINTS, Absent("bearings", ""), Absent("approaches", "unrestricted"),
+    RADIUSES, Unused("hints"), GENERATE_HINTS, SKIP_WAYPOINTS, BEARINGS, Absent("approaches", "unrestricted"),
     Absent("exclude"), Word("snapping", "default", absent=["any"], says=NOT_SAID),
     Word("format", "json", absent=["flatbuffers"], says=NOT_SAID),
 )
@@ -60,8 +63,8 @@ ENDPOINTS = (
     osrm("route", "/route/v1/PROFILE/PLACES", "a route by two places or more, to 500, a leg for each two",
          Alternatives("alternatives"), Straight("continue_straight"), Absent("waypoints"), ANNOTATIONS, OVERVIEW, GEOMETRIES, STEPS),
     osrm("nearest", "/nearest/v1/PROFILE/PLACE", "the nearest points of roads", NUMBER),
-    osrm("table", "/table/v1/PROFILE/PLACES", "durations and distances, to 10,000 cells",
-         Absent("fallback_speed"), Absent("fallback_coordinate"), Absent("scale_factor"), FIGURES, SOURCES, DESTINATIONS),
+    osrm("table", "/table/v1/PROFILE/PLACES", "durations and distances, by up to 2,000 places",
+         FALLBACK_SPEED, FALLBACK_COORDINATE, SCALE_FACTOR, FIGURES, SOURCES, DESTINATIONS),
     *(osrm(service, "", "") for service in ("match", "trip", "tile")),
     Endpoint("/nodes/route", "/nodes/route", "a route between nodes by their numbers, from 1", (FROM, TO)),
     Endpoint("/nodes/length", "/nodes/length", "its length alone; null if there is no path", (FROM, TO)),

@@ -15,7 +15,11 @@ class Refused(Exception):
         self.is_last = is_last or status in (408, 413, 504, 505)
 
 
-class WorkerFault(Exception):
+class Unable(Exception):
+    """The service can't begin, or not by new files: what is wrong, in a line."""
+
+
+class WorkerFault(Unable):
     """A worker can't be started: the file of the hierarchy is refused, or there is no such program."""
 
 

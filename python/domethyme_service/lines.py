@@ -2,28 +2,29 @@
 import itertools
 import math
 
+import numpy as np
+
+from domethyme.network.network import Floats
 from domethyme.network.tables import Point
 
+from .work import Budget
 
-def encoded(points: list[Point], digits: int) -> str:
-    """The polyline of points (lon, lat), with so many digits behind the point."""
-    found: list[str] = []
-    last = 0, 0
-    for lon, lat in points:
-        place = round(lat * 10**digits), round(lon * 10**digits)
-        found += [signs(place[0] - last[0]), signs(place[1] - last[1])]
-        last = place
-    return "".join(found)
+# The bits of a number in a polyline, five in a sign: the steps of 360 degrees to seven digits have 33.
+SHIFTS = np.arange(0, 40, 5)
 
 
-def signs(number: int) -> str:
-    """The signs of a number in a polyline."""
-    rest = ~(number << 1) if number < 0 else number << 1
-    found = []
-    while rest >= 0x20:
-        found.append(chr((0x20 | rest & 0x1F) + 63))
-        rest >>= 5
-    return "".join([*found, chr(rest + 63)])
+def encoded(points: Floats, digits: int) -> str:
+    """The polyline of points (lon, lat), of shape (count, 2), with so many digits behind the point."""
+    whole = np.rint(points[:, ::-1] * 10**digits).astype(np.int64)
+    steps = np.diff(whole, axis=0, prepend=np.zeros((1, 2), dtype=np.int64)).ravel()
+    rest = np.where(steps < 0, ~(steps << 1), steps << 1)[:, None] >> SHIFTS
+    is_sign = rest > 0
+    is_sign[:, 0] = True
+    has_more = np.zeros_like(is_sign)
+    has_more[:, :-1] = rest[:, 1:] > 0
+    signs = (rest & 0x1F) + 63 + 0x20 * has_more
+    text: bytes = signs[is_sign].astype(np.uint8).tobytes()
+    return text.decode("ascii")
 
 
 def decoded(text: str, digits: int) -> list[Point]:
@@ -45,32 +46,36 @@ def decoded(text: str, digits: int) -> list[Point]:
     return [(lon / 10**digits, lat / 10**digits) for lat, lon in zip(lats, lons)]
 
 
-def simplified(points: list[Point]) -> list[Point]:
-    """The line with fewer points, none of the others further off than a thousandth of its extent (Douglas, Peucker 1973)."""
-    shrink = math.cos(math.radians(points[0][1]))
-    flat = [(lon * shrink, lat) for lon, lat in points]
-    extent = max(max(each) - min(each) for each in zip(*flat))
-    keep, open_ = {0, len(points) - 1}, [(0, len(points) - 1)]
+def simplified(points: Floats, far: float, budget: Budget) -> Floats:
+    """The line of points, of shape (count, 2), with fewer of them, none of the others further off than `far` (Douglas, Peucker 1973),
+    in degrees of latitude."""
+    flat = points * (math.cos(math.radians(points[0, 1])), 1.0)
+    is_kept = np.zeros(len(points), dtype=bool)
+    is_kept[[0, -1]] = True
+    open_ = [(0, len(points) - 1)]
     while open_:
         low, high = open_.pop()
-        far, place = furthest(flat, low, high)
-        if far > extent / 1000:
-            keep.add(place)
+        if high - low < 2:
+            continue
+        budget.look_at(high - low)
+        place = furthest(flat, low, high, far)
+        if place > low:
+            is_kept[place] = True
             open_ += [(low, place), (place, high)]
-    return [points[place] for place in sorted(keep)]
+    found: Floats = points[is_kept]
+    return found
 
 
-def furthest(points: list[Point], low: int, high: int) -> tuple[float, int]:
-    """How far the furthest point between two others is from the line between them, and which one it is."""
-    (x, y), (to_x, to_y) = points[low], points[high]
-    step_x, step_y = to_x - x, to_y - y
-    square = step_x * step_x + step_y * step_y
-    best = 0.0, low
-    for place in range(low + 1, high):
-        east, north = points[place][0] - x, points[place][1] - y
-        part = min(1.0, max(0.0, (east * step_x + north * step_y) / square)) if square else 0.0
-        best = max(best, (math.hypot(east - part * step_x, north - part * step_y), place))
-    return best
+def furthest(flat: Floats, low: int, high: int, far: float) -> int:
+    """Which point between two others is furthest from the line between them; `low` where none is further off than `far`."""
+    begin, way = flat[low], flat[high] - flat[low]
+    others = flat[low + 1 : high] - begin
+    square = float(way @ way)
+    if square:
+        others -= np.clip(others @ way / square, 0.0, 1.0)[:, None] * way
+    metres = np.einsum("ij,ij->i", others, others)
+    best = int(metres.argmax())
+    return low + 1 + best if metres[best] > far * far else low
 
 
 def bearing(begin: Point, end: Point) -> int:

@@ -1,40 +1,68 @@
 """OSRM's API, version 1: route, nearest and table. Answers have its members; `weight` and what follows from it are proved least
-between the points of roads that are nearest to the places."""
+between the points of roads that are nearest to the places. An answer is JSON; what takes longer than a few milliseconds of it is done
+at the Desk."""
 import asyncio
 import base64
-import collections
-import contextlib
 import functools
-from collections.abc import AsyncIterator, Iterable, Iterator
+from collections.abc import Sequence
+from typing import NamedTuple
 
-from .courses import UNITS_OF_ANSWERS, Course, course_of, figures_of, leg_figures, line_of, shaped, simpler, steps_of_arcs
+from domethyme.network.tables import Point
+from domethyme.sweeps import Sweeps
+
+from .bearings import Towards, nearest_towards
+from .courses import Course, annotation, course_of, joined, leg_figures, lines_of, shaped, simpler
 from .endpoints import (
-    ANNOTATIONS, DESTINATIONS, FIGURES, GENERATE_HINTS, GEOMETRIES, NUMBER, OVERVIEW, RADIUSES, SKIP_WAYPOINTS, SOURCES, STEPS
+    ANNOTATIONS, BEARINGS, DESTINATIONS, GENERATE_HINTS, GEOMETRIES, NUMBER, OVERVIEW, RADIUSES, SKIP_WAYPOINTS, SOURCES, STEPS
 )
 from .errors import Refused
-from .legs import Leg, is_at, least_weight, leg_of, requests, requests_by, sides_of
-from .osrm_answer import Answer, Figures, Geometry, NearestAnswer, RouteAnswer, RouteLeg, TableAnswer, Waypoint, WholeRoute
-from .osrm_request import MOST_CELLS, Request
+from .legs import Leg, leg_of, requests
+from .osrm_answer import RouteLeg, Waypoint
+from .osrm_request import Request
 from .osrm_steps import steps_of_leg
 from .roads import Roads, Spot
-from .tables import FEW_CELLS, Tables, rows_of
+from .tables import Wanted, table_by_cells, table_by_sweeps
+from .texts import list_of, object_of, text_of
+from .work import Budget, Desk
 from .workers import Pool
 
+# So many places, and bytes of the program's replies, are no work for the Desk. A place so many degrees off the roads' box is.
+FEW_PLACES, FEW_BYTES, NEAR = 3, 20_000, 0.2
+# A route of more legs is asked behind single requests.
+FEW_LEGS = 8
 
-async def answer(pool: Pool, roads: Roads, tables: Tables | None, request: Request) -> Answer:
-    """The answer to a request. Without Tables the program is asked for all cells of tables. Raises Refused."""
+
+class Means(NamedTuple):
+    """What a front answers by. Without `sweeps` the program is asked for all cells of tables; `cells` are those that a table may
+    have."""
+
+    pool: Pool
+    roads: Roads
+    sweeps: Sweeps | None
+    desk: Desk
+    cells: int
+
+
+async def answer(means: Means, request: Request) -> str:
+    """The answer to a request. Raises Refused."""
     if request.service == "table":
-        return await table(pool, roads, tables, request)
-    return await route(pool, roads, request) if request.service == "route" else nearest(roads, request)
+        return await table(means, request)
+    return await route(means, request) if request.service == "route" else await nearest(means, request)
 
 
-def nearest(roads: Roads, request: Request) -> NearestAnswer:
+async def nearest(means: Means, request: Request) -> str:
     """The nearest points of roads, with the ids of the nodes of OpenStreetMap at the ends of their pieces; 0 is none."""
-    count, within = request.values[NUMBER], request.values[RADIUSES][0]
-    spots = [spot for spot in roads.nearest(request.places[0], count) if spot.metres <= within]
+    count, roads = request.values[NUMBER], means.roads
+    if is_near(roads, request.places) and count <= FEW_PLACES and is_plain(request):
+        return nearest_told(roads, request, Budget())
+    return await means.desk.do(functools.partial(nearest_told, roads, request))
+
+
+def nearest_told(roads: Roads, request: Request, budget: Budget) -> str:
+    spots = found_spots(roads, request, 0, request.values[NUMBER], budget)
     if not spots:
-        raise Refused(400, "NoSegment", "there is no road near the place")
-    return {"code": "Ok", "waypoints": [waypoint(request, spot, ends(roads, spot)) for spot in spots]}
+        raise no_segment(roads, request, 0)
+    return text_of({"code": "Ok", "waypoints": [waypoint(request, spot, ends(roads, spot)) for spot in spots]})
 
 
 def ends(roads: Roads, spot: Spot) -> list[int]:
@@ -42,17 +70,53 @@ def ends(roads: Roads, spot: Spot) -> list[int]:
     return [roads.osm(node) for node in (arc.start, arc.end)]
 
 
-async def spots_of(roads: Roads, request: Request) -> list[Spot]:
-    """The nearest point of a road to each place; others are let in between."""
+def found_spots(roads: Roads, request: Request, number: int, count: int, budget: Budget) -> list[Spot]:
+    """The nearest points of roads to a place, as near as they have to be."""
+    place, within, towards = request.places[number], request.values[RADIUSES][number], request.values[BEARINGS][number]
+    spots = roads.nearest(place, count) if towards is None else nearest_towards(roads, place, count, Towards(*towards), within, budget)
+    return [spot for spot in spots if spot.metres <= within]
+
+
+async def spots_of(means: Means, request: Request) -> list[Spot]:
+    """The nearest point of a road to each place. Raises Refused."""
+    if len(request.places) <= FEW_PLACES and is_near(means.roads, request.places) and is_plain(request):
+        return spots_found(means.roads, request, Budget())
+    return await means.desk.do(functools.partial(spots_found, means.roads, request))
+
+
+def spots_found(roads: Roads, request: Request, budget: Budget) -> list[Spot]:
     found = []
-    radiuses = request.values[RADIUSES]
-    for number, (place, within) in enumerate(zip(request.places, radiuses)):
-        spot = roads.nearest(place)[0]
-        if spot.metres > within:
-            raise Refused(400, "NoSegment", f"there is no road near place {number}")
-        found.append(spot)
-        await asyncio.sleep(0)
+    for number in budget.over(range(len(request.places))):
+        spots = found_spots(roads, request, number, 1, budget)
+        if not spots:
+            raise no_segment(roads, request, number)
+        found.append(spots[0])
     return found
+
+
+def is_plain(request: Request) -> bool:
+    """Whether any road will do, whichever way it leads."""
+    return all(each is None for each in request.values[BEARINGS])
+
+
+def is_near(roads: Roads, places: Sequence[Point]) -> bool:
+    """Whether all places are in the box of the roads, or near it."""
+    west, south, east, north = roads.tiles.about["box"]
+    return all(west - NEAR <= lon <= east + NEAR and south - NEAR <= lat <= north + NEAR for lon, lat in places)
+
+
+def no_segment(roads: Roads, request: Request, number: int) -> Refused:
+    """A place without a road: which, how far, and where the roads are."""
+    (lon, lat), within = request.places[number], request.values[RADIUSES][number]
+    west, south, east, north = box = roads.tiles.about["box"]
+    is_turned = is_near(roads, [(lat, lon)]) and not is_near(roads, [(lon, lat)])
+    hint = "; is it LAT,LON?" if is_turned else ""
+    within_what = " of that bearing" if request.values[BEARINGS][number] else ""
+    return Refused(
+        400, "NoSegment",
+        f"there is no road{within_what} within {within:g} m of place {number}, {lon:g},{lat:g} (LON,LAT{hint}). "
+        f"The roads are from {box[0]:.4f},{box[1]:.4f} to {east:.4f},{north:.4f}. No segment for coordinate {number}",
+    )
 
 
 def waypoint(request: Request, spot: Spot, nodes: list[int] | None = None) -> Waypoint:
@@ -65,45 +129,52 @@ def waypoint(request: Request, spot: Spot, nodes: list[int] | None = None) -> Wa
     return found
 
 
-async def route(pool: Pool, roads: Roads, request: Request) -> RouteAnswer:
+async def route(means: Means, request: Request) -> str:
     """One route by all places in order, a leg for each two."""
-    names = request.values[ANNOTATIONS]
-    spots = await spots_of(roads, request)
-    pairs = list(zip(spots, spots[1:]))
-    legs = await asyncio.gather(*(one_leg(pool, roads, *pair) for pair in pairs))
-    found_legs = [leg for leg in legs if leg is not None]
-    if len(found_legs) < len(legs):
-        raise Refused(400, "NoRoute", "there is no route between two of the places")
-    courses = [course_of(roads, leg) for leg in found_legs]
-    told = [leg_told(roads, request, *each, names) for each in zip(spots, spots[1:], found_legs, courses)]
-    whole: WholeRoute = {
-        "legs": told, "weight_name": roads.unit,
-        "weight": total(leg["weight"] for leg in told),
-        "duration": total(leg["duration"] for leg in told),
-        "distance": total(leg["distance"] for leg in told),
+    spots = await spots_of(means, request)
+    lines = [requests(*pair) for pair in zip(spots, spots[1:])]
+    is_bulk = len(lines) > FEW_LEGS
+    replies = await asyncio.gather(*(asked(means.pool, some, is_bulk) for some in lines))
+    work = functools.partial(route_told, means.roads, request, spots, replies)
+    if len(spots) <= FEW_PLACES and sum(len(reply) for some in replies for reply in some) <= FEW_BYTES:
+        return work(Budget())
+    return await means.desk.do(work)
+
+
+async def asked(pool: Pool, lines: list[bytes], is_bulk: bool) -> list[bytes]:
+    return await pool.ask(lines, is_bulk) if lines else []
+
+
+def route_told(roads: Roads, request: Request, spots: list[Spot], replies: list[list[bytes]], budget: Budget) -> str:
+    """The answer by the program's replies."""
+    legs: list[Leg] = []
+    for number, some in budget.over(enumerate(replies)):
+        leg = leg_of(roads, spots[number], spots[number + 1], some)
+        if leg is None:
+            raise Refused(400, "NoRoute", f"there is no route from place {number} to place {number + 1}")
+        legs.append(leg)
+    courses = [course_of(roads, leg, budget) for leg in legs]
+    told, texts = [], []
+    for each in budget.over(zip(spots, spots[1:], legs, courses)):
+        leg_told = leg_as_told(roads, request, *each)
+        texts.append(text_of(leg_told))
+        told.append((leg_told["weight"], leg_told["duration"], leg_told["distance"]))
+    weight, duration, distance = (round(sum(values), 3) for values in zip(*told))
+    whole = {
+        "legs": list_of(texts), "weight_name": text_of(roads.unit),
+        "weight": text_of(weight), "duration": text_of(duration), "distance": text_of(distance),
     }
     if request.values[OVERVIEW] != "false":
-        whole["geometry"] = overview(request, spots, courses)
-    found: RouteAnswer = {"code": "Ok", "routes": [whole]}
+        whole["geometry"] = overview(request, spots, courses, budget)
+    found = {"code": '"Ok"', "routes": list_of([object_of(whole)])}
     if not request.values[SKIP_WAYPOINTS]:
-        found["waypoints"] = [waypoint(request, spot) for spot in spots]
-    return found
+        found["waypoints"] = text_of([waypoint(request, spot) for spot in spots])
+    return object_of(found)
 
 
-async def one_leg(pool: Pool, roads: Roads, start: Spot, end: Spot) -> Leg | None:
-    lines = requests(start, end)
-    return leg_of(roads, start, end, await pool.ask(lines) if lines else [])
-
-
-def total(values: Iterable[float]) -> float:
-    return round(sum(values), 3)
-
-
-def leg_told(
-    roads: Roads, request: Request, start: Spot, end: Spot, leg: Leg, course: Course | None, names: list[str]
-) -> RouteLeg:
+def leg_as_told(roads: Roads, request: Request, start: Spot, end: Spot, leg: Leg, course: Course | None) -> RouteLeg:
     """A leg as OSRM has it."""
-    figures = leg_figures(roads, leg, course)
+    figures, names = leg_figures(roads, leg), request.values[ANNOTATIONS]
     told: RouteLeg = {
         "summary": "", "steps": [], "weight": figures["weight"], "duration": figures["duration"], "distance": figures["distance"]
     }
@@ -116,93 +187,32 @@ def leg_told(
     return told
 
 
-def overview(request: Request, spots: list[Spot], courses: "list[Course | None]") -> Geometry:
+def overview(request: Request, spots: list[Spot], courses: "list[Course | None]", budget: Budget) -> str:
     """The line of the whole route, simplified unless all of it is asked for."""
-    line = line_of(courses, [(spot.lon, spot.lat) for spot in spots])
-    return shaped(simpler(line) if request.values[OVERVIEW] == "simplified" else line, request.values[GEOMETRIES])
+    lines = lines_of(courses, [(spot.lon, spot.lat) for spot in spots])
+    if request.values[OVERVIEW] == "simplified":
+        lines = simpler(lines, budget)
+    line = joined(budget.over(lines))
+    if request.values[GEOMETRIES] != "geojson":
+        return text_of(shaped(line, request.values[GEOMETRIES]))
+    parts = (text_of(line[begin : begin + 1000])[1:-1] for begin in budget.over(range(0, len(line), 1000)))
+    return object_of({"type": '"LineString"', "coordinates": list_of(parts)})
 
 
-def annotation(course: Course, names: list[str]) -> dict[str, list[float]]:
-    """For each step of the leg's line the metres, seconds, weight and speed; an arc's are shared out by metres."""
-    found: dict[str, list[float]] = {name: [] for name in names}
-    for place, steps in steps_of_arcs(course):
-        whole, figures = sum(steps), course.figures(place, place + 1)
-        speed = figures["distance"] / figures["duration"] if figures["duration"] else 0.0
-        for way in steps:
-            share = way / whole
-            values = {
-                "weight": figures["weight"] * share, "duration": figures["duration"] * share,
-                "distance": figures["distance"] * share, "datasources": 0, "speed": speed,
-            }
-            for name in names:
-                found[name].append(round(values[name], 3))
-    return found
-
-
-async def table(pool: Pool, roads: Roads, tables: Tables | None, request: Request) -> TableAnswer:
+async def table(means: Means, request: Request) -> str:
     """A table of durations, of distances, or both; null where there is no way."""
-    names, sources, destinations = request.values[FIGURES], request.values[SOURCES], request.values[DESTINATIONS]
-    if len(sources) * len(destinations) > MOST_CELLS:
-        raise Refused(400, "TooBig", f"a table may have {MOST_CELLS} cells")
-    spots = await spots_of(roads, request)
-    starts, ends = [spots[place] for place in sources], [spots[place] for place in destinations]
-    only_weights = set(names) == {roads.unit}
-    found: TableAnswer = {"code": "Ok"}
-    if tables is not None and only_weights and len(starts) * len(ends) > FEW_CELLS:
-        rows = rows_of(await tables.weights(roads, starts, ends), UNITS_OF_ANSWERS[roads.unit])
-        durations, distances = rows, rows
+    sources, destinations = request.values[SOURCES], request.values[DESTINATIONS]
+    if len(sources) * len(destinations) > means.cells:
+        raise Refused(400, "TooBig", f"a table may have {means.cells} cells (--table-cells), and this one would have more")
+    wanted = Wanted.by(request.values, means.roads.unit, request.places)
+    is_swept = wanted.refuse_if_too_many(len(sources) * len(destinations), means.sweeps is not None)
+    spots = await spots_of(means, request)
+    starts, stops = [spots[place] for place in sources], [spots[place] for place in destinations]
+    if is_swept and means.sweeps is not None:
+        found = await means.desk.do(functools.partial(table_by_sweeps, means.sweeps, means.roads, wanted, starts, stops))
     else:
-        pairs = [(start, end) for start in starts for end in ends]
-        figures = [each async for each in cells(pool, roads, pairs, only_weights)]
-        durations = in_rows([None if each is None else each["duration"] for each in figures], len(ends))
-        distances = in_rows([None if each is None else each["distance"] for each in figures], len(ends))
-    if "duration" in names:
-        found["durations"] = durations
-    if "distance" in names:
-        found["distances"] = distances
+        found = await table_by_cells(means.pool, means.roads, means.desk, wanted, starts, stops)
     if not request.values[SKIP_WAYPOINTS]:
-        found["sources"] = [waypoint(request, spot) for spot in starts]
-        found["destinations"] = [waypoint(request, spot) for spot in ends]
-    return found
-
-
-def in_rows(values: list[float | None], columns: int) -> list[list[float | None]]:
-    return [values[begin : begin + columns] for begin in range(0, len(values), columns)]
-
-
-async def cells(
-    pool: Pool, roads: Roads, pairs: list[tuple[Spot, Spot]], only_weights: bool
-) -> AsyncIterator[Figures | None]:
-    """The figures of the cells of a table, in order, asked behind single requests. Where weights are all that is wanted, routes
-    aren't looked at."""
-    asked_for: collections.deque[tuple[tuple[Spot, Spot], int]] = collections.deque()
-    replies: collections.deque[bytes] = collections.deque()
-
-    exits = {id(start): sides_of(start.exits) for start, _ in pairs}
-    entries = {id(end): sides_of(end.entries) for _, end in pairs}
-
-    def lines() -> Iterator[bytes]:
-        for start, end in pairs:
-            some = [] if is_at(start, end) else requests_by(exits[id(start)], entries[id(end)])
-            asked_for.append(((start, end), len(some)))
-            yield from some
-
-    async with contextlib.aclosing(pool.ask_many(lines())) as parts:
-        async for part in parts:
-            replies += part
-            while asked_for and asked_for[0][1] <= len(replies):
-                pair, count = asked_for.popleft()
-                yield cell(roads, pair, [replies.popleft() for _ in range(count)], only_weights)
-    for pair, _ in asked_for:
-        yield cell(roads, pair, [], only_weights)
-
-
-def cell(
-    roads: Roads, pair: tuple[Spot, Spot], replies: list[bytes], only_weights: bool
-) -> Figures | None:
-    """The figures of one cell, None where there is no way."""
-    if only_weights:
-        weight = least_weight(roads, *pair, replies)
-        return None if weight is None else figures_of(roads, weight, 0.0, 0.0)
-    leg = leg_of(roads, *pair, replies)
-    return None if leg is None else leg_figures(roads, leg, course_of(roads, leg))
+        found["sources"] = text_of([waypoint(request, spot) for spot in starts])
+        found["destinations"] = text_of([waypoint(request, spot) for spot in stops])
+    return object_of({"code": '"Ok"', **found})

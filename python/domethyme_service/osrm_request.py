@@ -16,7 +16,8 @@ NUMBER = re.compile(r"[-+]?(?:[0-9]{1,3}(?:\.[0-9]{0,20})?|\.[0-9]{1,20})(?:[eE]
 PROFILE = re.compile("[A-Za-z0-9_.-]{1,64}")
 LINE = re.compile(r"polyline(6?)\((.*)\)", re.DOTALL)
 SERVICES = ("route", "nearest", "table")
-MOST_PLACES, MOST_CELLS = 500, 10_000
+# How many places a request of each service may have.
+MOST_PLACES = {"route": 500, "nearest": 1, "table": 2000}
 
 
 class Request(NamedTuple):
@@ -48,13 +49,15 @@ def places_of(text: str, service: str) -> list[Point]:
         if found := LINE.fullmatch(plain):
             places = decoded(found[2], 6 if found[1] else 5)
         else:
-            places = [place_of(word) for word in plain.split(";")[: MOST_PLACES + 1]]
+            places = [place_of(word) for word in plain.split(";")[: MOST_PLACES["table"] + 1]]
     except ValueError:
         raise invalid_query("places are LON,LAT;LON,LAT;.. or polyline(..)") from None
-    if any(abs(lon) > 180 or abs(lat) > 90 for lon, lat in places):
-        raise invalid_value("a place has to be from -180 to 180 and from -90 to 90 degrees, longitude first")
-    if len(places) > MOST_PLACES:
-        raise Refused(400, "TooBig", f"there may be {MOST_PLACES} places")
+    for number, (lon, lat) in enumerate(places):
+        if abs(lon) > 180 or abs(lat) > 90:
+            hint = "; is it LAT,LON?" if abs(lon) <= 90 and abs(lat) <= 180 else ""
+            raise invalid_value(f"place {number} is {lon:g},{lat:g}: longitude first, from -180 to 180, then latitude, from -90 to 90{hint}")
+    if service != "nearest" and len(places) > MOST_PLACES[service]:
+        raise Refused(400, "TooBig", f"there may be {MOST_PLACES[service]} places")
     if service == "nearest" and len(places) != 1 or service == "route" and len(places) < 2 or not places:
         raise invalid_query("nearest has one place, route two or more, table one or more")
     return places

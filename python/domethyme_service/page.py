@@ -1,12 +1,12 @@
 """The page at `/`: its files, and what it asks of the network. The files are read once, when the service begins, and are named
 in a list, so no path leads elsewhere. Their policy lets the page load nothing but them and ask nothing but this service."""
-import asyncio
 import json
 import pathlib
 
 from .errors import Refused, invalid_value
 from .roads import Roads
 from .tiles import DEEPEST
+from .work import Desk
 
 FOLDER = pathlib.Path(__file__).resolve().parent / "page"
 TYPES = {
@@ -34,18 +34,17 @@ def page_files() -> dict[str, tuple[str, bytes]]:
 FILES = page_files()
 
 
-async def about(roads: Roads) -> bytes:
-    """What the page asks first, as JSON. It is made in a thread, so others are answered."""
-    found = await asyncio.to_thread(lambda: roads.tiles.about)
-    return json.dumps({**found, "unit": roads.unit}, ensure_ascii=False).encode("utf-8", "replace")
+def about(roads: Roads) -> bytes:
+    """What the page asks first, as JSON."""
+    return json.dumps({**roads.tiles.about, "unit": roads.unit}, ensure_ascii=False).encode("utf-8", "replace")
 
 
-async def tile(roads: Roads, path: str) -> bytes:
+async def tile(roads: Roads, desk: Desk, path: str) -> bytes:
     """The roads of the tile `/map/roads/ZOOM/X/Y`, as JSON. Raises Refused."""
     zoom, x, y = map(int, path.split("/")[3:])
     if zoom > DEEPEST or max(x, y) >= 1 << zoom:
         raise invalid_value(f"a tile is ZOOM/X/Y, with a zoom from 0 to {DEEPEST}")
-    return await asyncio.to_thread(roads.tiles.tile, zoom, x, y)
+    return await desk.do(lambda _: roads.tiles.tile(zoom, x, y))
 
 
 def without_network() -> Refused:

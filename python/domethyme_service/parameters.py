@@ -7,6 +7,7 @@ from .errors import invalid_query, invalid_value, not_implemented
 
 T = TypeVar("T")
 METRES = re.compile(r"[0-9]{1,9}(?:\.[0-9]{0,20})?")
+DIRECTION = re.compile(r"([0-9]{1,3}),([0-9]{1,3})")
 INDEX = re.compile("[0-9]{1,4}")
 NODE = re.compile("[0-9]{1,10}")
 COUNT = re.compile("[0-9]{1,3}")
@@ -117,24 +118,52 @@ class Radiuses(Parameter[list[float]]):
         return found
 
 
+class Bearings(Parameter[list[tuple[int, int] | None]]):
+    """For each place the directions in which the road has to lead there: one, and how far from it, in degrees."""
+
+    taken = "for each place `DEGREES,RANGE`, from north, clockwise, to 360 and 180, or nothing"
+
+    def read(self, text: str | None, context: Context) -> list[tuple[int, int] | None]:
+        if not text:
+            return [None] * context.places
+        found: list[tuple[int, int] | None] = []
+        for word in text.split(";"):
+            both = DIRECTION.fullmatch(word)
+            if word and (both is None or int(both[1]) > 360 or int(both[2]) > 180):
+                raise invalid_value(f"{self.name} are DEGREES,RANGE, from 0 to 360 and from 0 to 180")
+            found.append(None if both is None else (int(both[1]), int(both[2])))
+        if len(found) != context.places:
+            raise invalid_query("there has to be a bearing for each place, or nothing between semicolons")
+        return found
+
+
+class Above(Parameter[float | None]):
+    """A number above 0, None without the parameter."""
+
+    taken = "a number above 0"
+
+    def read(self, text: str | None, context: Context) -> float | None:
+        if text is None:
+            return None
+        if not METRES.fullmatch(text) or not float(text) > 0:
+            raise invalid_value(f"{self.name} is a number above 0")
+        return float(text)
+
+
 class Annotations(Parameter[list[str]]):
     """Some of the figures that are known, `default` without the parameter. `true` is all, and `false` none, unless `is_plain`."""
 
-    def __init__(self, name: str, known: Sequence[str], default: str, is_plain: bool = False, absent: Sequence[str] = ()) -> None:
+    def __init__(self, name: str, known: Sequence[str], default: str, is_plain: bool = False) -> None:
         super().__init__(name)
-        self.known, self.default, self.is_plain, self.absent = known, default, is_plain, absent
+        self.known, self.default, self.is_plain = known, default, is_plain
         others = "" if is_plain else "`false`, `true`, or "
         self.taken = f"{others}some of {', '.join(f'`{word}`' for word in known)}" + (f"; `{default}` without it" if is_plain else "")
-        self.refused = ", ".join(f"`{word}`" for word in absent)
 
     def read(self, text: str | None, context: Context) -> list[str]:
         text = self.default if text is None else text
         if text in ("true", "false") and not self.is_plain:
             return list(self.known) if text == "true" else []
         words = text.split(",")
-        for word in self.absent:
-            if word in words:
-                raise not_implemented(f"{self.name}={word} isn't there")
         if not set(words) <= set(self.known):
             both = "duration, distance, or both"
             raise invalid_value(f"{self.name} are " + (both if self.is_plain else f"true, false, or some of {', '.join(self.known)}"))

@@ -3,7 +3,6 @@ import asyncio
 import contextlib
 import json
 import logging
-import re
 import time
 import urllib.parse
 from collections.abc import AsyncGenerator, Awaitable, Callable, Mapping
@@ -12,43 +11,45 @@ from typing import NamedTuple
 from aiohttp import HttpVersion10, HttpVersion11, web
 
 from . import connection, nodes, osrm
-from .osrm_request import request_of
+from .asking import Allowed, refuse_type
+from .connection import Connection
 from .endpoints import FROM, OSRM, TO, Endpoint, endpoint_of
 from .errors import Refused, invalid_query
-from .snapshot import Generation
-from .connection import Connection
-from .metrics import Metrics
+from .metrics import Board, Row
+from .osrm_request import request_of
 from .page import ALWAYS_ANEW, FILES, FOR_A_DAY, HEADERS, about, tile, without_network
 from .parameters import Context, Values
 from .roads import Roads
-from .workers import Counts
+from .snapshot import Generation
+from .texts import text_of
+from .work import Desk
 
 MOST_BODY = 4 << 20
 BATCHES = 16
 MOST_FIELDS = 50
-FIELD = re.compile(rb"[0-9A-Za-z!#$%&'*+.^_`|~-]+")
 JSON = "application/json; charset=utf-8"
 LINES = "application/x-ndjson; charset=utf-8"
 METRICS = "text/plain; version=0.0.4; charset=utf-8"
 # What the program is asked for: routes, or lengths alone.
 KINDS = {"/nodes/route": b"q", "/nodes/length": b"d", "/nodes/routes": b"q", "/nodes/lengths": b"d"}
-ENCODER = json.JSONEncoder(separators=(",", ":"), allow_nan=False, ensure_ascii=False)
 access_log = logging.getLogger("domethyme_service.access")
 
 
 class Ways(NamedTuple):
-    """How a service answers: the origin that other pages are allowed (`*` or none), whether the log has places, and the
-    metres within which a place has to have a road."""
+    """How a service answers: who may ask, whether the log has places, the metres within which a place has to have a road, and the cells
+    that a table may have."""
 
-    cors: str = "*"
+    allowed: Allowed
     log_places: bool = False
     within: float = 1000.0
+    cells: int = 1_000_000
 
 
 class Asked(NamedTuple):
-    """A request's method, its path as it came, still percent-encoded, and its parameters."""
+    """A request's method, the host that it is for, its path as it came, still percent-encoded, and its parameters."""
 
     method: str
+    host: str | None
     path: str
     query: Mapping[str, str]
 
@@ -67,15 +68,18 @@ class Call(NamedTuple):
 
 
 class Service:
-    """Answers requests by its generation, which a reload replaces: a request keeps the one that it began with."""
+    """Answers requests by a generation, and counts them on the board that all fronts share."""
 
-    def __init__(self, generation: Generation, counts: Counts, ways: Ways) -> None:
-        self.generation, self.counts, self.ways = generation, counts, ways
-        self.metrics = Metrics()
+    def __init__(self, generation: Generation, board: Board, row: Row, ways: Ways) -> None:
+        self.generation, self.board, self.row, self.ways = generation, board, row, ways
+        self.desk = Desk(self._stopped)
         self.is_draining = False
-        self.reloads = self.batches = 0
+        self.batches = self.held = 0
         self.connections: Callable[[], int] = lambda: 0
         self.is_logging = access_log.isEnabledFor(logging.INFO)
+
+    def _stopped(self) -> None:
+        self.row.stopped += 1
 
     async def handle(self, request: web.BaseRequest) -> web.StreamResponse:
         """Answers one request: the handler of the server."""
@@ -85,16 +89,18 @@ class Service:
                 asked = asked_by(request)
                 endpoint = endpoint_of(asked.path)
                 name = endpoint.name
-                answer = await self._answer(endpoint, asked, request)
+                self.ways.allowed.refuse_others(asked.host, local_of(request), request.headers, endpoint.name == "/")
+                preflight = self._preflight(request)
+                answer = await self._answer(endpoint, asked, request) if preflight is None else preflight
             except Refused as refused:
                 answer = self._refusal(refused)
             except TimeoutError:
-                answer = self._refusal(Refused(504, "Timeout", "the answer took too long"))
+                answer = self._refusal(Refused(504, "Timeout", f"the answer took more than {connection.SECONDS:g} s"))
             status = answer.status
             return answer
         finally:
             seconds = time.monotonic() - begun
-            self.metrics.count(name, status, seconds)
+            self.row.count(name, status, seconds)
             self._log(request, name, status, seconds)
 
     async def _answer(self, endpoint: Endpoint, asked: Asked, request: web.BaseRequest) -> web.StreamResponse:
@@ -103,9 +109,19 @@ class Service:
             raise Refused(405, "MethodNotAllowed", f"the method of this path is {method}")
         if method == "GET" and (request.body_exists or "Content-Encoding" in request.headers):
             raise invalid_query("a GET has no body")
-        with self.generation.used() as generation:
-            async with asyncio.timeout(connection.SECONDS if method == "GET" else None):
-                return await ANSWERS[endpoint.name](self, Call(endpoint, asked, generation, request))
+        async with asyncio.timeout(connection.SECONDS if method == "GET" else None):
+            return await ANSWERS[endpoint.name](self, Call(endpoint, asked, self.generation, request))
+
+    def _preflight(self, request: web.BaseRequest) -> web.Response | None:
+        """What a browser asks before a page whose origin is allowed sends a batch."""
+        if request.method != "OPTIONS" or "Access-Control-Request-Method" not in request.headers or not self.ways.allowed.fields:
+            return None
+        answer = self._whole(204, b"", JSON)
+        del answer.headers["Content-Type"]
+        answer.headers.update({
+            "Access-Control-Allow-Methods": "GET, POST", "Access-Control-Allow-Headers": "Content-Type", "Access-Control-Max-Age": "7200"
+        })
+        return answer
 
     async def file(self, call: Call) -> web.StreamResponse:
         """A file of the page."""
@@ -115,17 +131,18 @@ class Service:
     async def map_about(self, call: Call) -> web.StreamResponse:
         roads = roads_of(call.generation)
         call.values()
-        return self._whole(200, await about(roads), JSON, ALWAYS_ANEW)
+        return self._whole(200, about(roads), JSON, ALWAYS_ANEW)
 
     async def map_roads(self, call: Call) -> web.StreamResponse:
         roads = roads_of(call.generation)
         call.values()
-        return self._whole(200, await tile(roads, call.asked.path), JSON, FOR_A_DAY)
+        return self._whole(200, await tile(roads, self.desk, call.asked.path), JSON, FOR_A_DAY)
 
     async def osrm(self, call: Call) -> web.StreamResponse:
         """An answer of OSRM's API."""
-        wanted, generation = request_of(call.asked.path, call.asked.query, self.ways.within), call.generation
-        return self._json(200, await osrm.answer(generation.pool, roads_of(generation), generation.tables, wanted))
+        wanted, (pool, _, sweeps) = request_of(call.asked.path, call.asked.query, self.ways.within), call.generation
+        means = osrm.Means(pool, roads_of(call.generation), sweeps, self.desk, self.ways.cells)
+        return self._whole(200, await osrm.answer(means, wanted), JSON)
 
     async def pair(self, call: Call) -> web.StreamResponse:
         """The answer for a pair of nodes."""
@@ -134,22 +151,28 @@ class Service:
         return self._whole(200, await nodes.pair(pool, KINDS[call.endpoint.name], values[FROM], values[TO]), JSON)
 
     async def batch(self, call: Call) -> web.StreamResponse:
-        """Reads the body whole, and then streams the answer: a client may write all before it reads."""
+        """Reads the body whole, and then streams the answer: a client may write all before it reads. Batches whose bodies are on
+        their way are no batches yet, but what has come of them is counted."""
         call.values()
         request = call.request
-        if self.batches >= BATCHES:
-            raise Refused(503, "Overloaded", "too many batches at once")
-        self.batches += 1
+        refuse_type(request.headers.get("Content-Type"))
+        body = Body(self)
         try:
             async with asyncio.timeout(connection.SECONDS):
-                body = await body_of(request)
-            answer = web.StreamResponse(headers=self._headers(LINES))
-            self._end_if_draining(answer)
-            await answer.prepare(request)
-            await streamed(answer, request, nodes.batch(call.generation.pool, KINDS[call.endpoint.name], body))
-            return answer
+                lines = await body.read(request)
+            if self.batches >= BATCHES:
+                raise Refused(503, "Overloaded", "too many batches at once")
+            self.batches += 1
+            try:
+                answer = web.StreamResponse(headers=self._headers(LINES))
+                self._end_if_draining(answer)
+                await answer.prepare(request)
+                await streamed(answer, request, nodes.batch(call.generation.pool, KINDS[call.endpoint.name], lines))
+                return answer
+            finally:
+                self.batches -= 1
         finally:
-            self.batches -= 1
+            body.release()
 
     async def health(self, _call: Call) -> web.StreamResponse:
         """Whether requests are answered."""
@@ -158,36 +181,27 @@ class Service:
         says = {"status": "ok" if is_well else "draining" if self.is_draining else "no workers"}
         return self._json(200 if is_well else 503, {**says, "nodes": pool.nodes, "links": pool.links, "workers": pool.ready})
 
+    def publish(self) -> None:
+        """Puts what is under way on the board."""
+        pool, row = self.generation.pool, self.row
+        row.workers_ready, row.lines_open, row.lines_waiting, row.bulk_waiting = pool.ready, pool.lines_open, *pool.waiting
+        row.connections, row.fronts = self.connections(), 0 if self.is_draining else 1
+
     async def counts_and_times(self, _call: Call) -> web.StreamResponse:
-        """The page of metrics."""
-        pool, counts = self.generation.pool, self.counts
-        gauges = {
-            "workers_ready": pool.ready,
-            "lines_open": pool.lines_open,
-            "lines_waiting": pool.waiting[0],
-            "bulk_lines_waiting": pool.waiting[1],
-            "connections": self.connections(),
-            "nodes": pool.nodes,
-        }
-        counters = {
-            "lines_total": counts.lines,
-            "worker_restarts_total": counts.restarts,
-            "worker_wrong_replies_total": counts.wrong,
-            "worker_silences_total": counts.silent,
-            "reloads_total": self.reloads,
-        }
-        return self._whole(200, self.metrics.text(dict(gauges), dict(counters)), METRICS)
+        """The page of metrics, of the whole service."""
+        self.publish()
+        return self._whole(200, self.board.text(self.generation.pool.nodes), METRICS)
 
     def _refusal(self, refused: Refused) -> web.Response:
         answer = self._json(refused.status, {"code": refused.code, "message": refused.message})
-        if refused.status == 503:
+        if refused.status in (429, 503):
             answer.headers["Retry-After"] = "1"
         if refused.is_last:
             answer.force_close()
         return answer
 
     def _json(self, status: int, found: Mapping[str, object]) -> web.Response:
-        return self._whole(status, ENCODER.encode(found), JSON)
+        return self._whole(status, text_of(found), JSON)
 
     def _whole(self, status: int, text: str | bytes, kind: str, more: Mapping[str, str] | None = None) -> web.Response:
         body = text if isinstance(text, bytes) else text.encode("utf-8", "replace")
@@ -197,9 +211,7 @@ class Service:
 
     def _headers(self, kind: str) -> dict[str, str]:
         headers = {"Content-Type": kind, "X-Content-Type-Options": "nosniff", "Server": "domethyme"}
-        if self.ways.cors != "none":
-            headers["Access-Control-Allow-Origin"] = self.ways.cors
-        return headers
+        return {**headers, **self.ways.allowed.fields}
 
     def _end_if_draining(self, answer: web.StreamResponse) -> None:
         if self.is_draining:
@@ -217,15 +229,13 @@ class Service:
 
 
 def asked_by(request: web.BaseRequest) -> Asked:
-    """What a request asks. Raises Refused for what isn't HTTP/1.0 or 1.1, for names of fields that are none, which the parser lets
-    pass as `Content-Length : 5`, and for parameters that come twice."""
+    """What a request asks. Raises Refused for what isn't HTTP/1.0 or 1.1, and for parameters that come twice."""
     if request.version not in (HttpVersion10, HttpVersion11):
         raise Refused(505, "HttpVersion", "the service speaks HTTP/1.0 and HTTP/1.1")
-    if not all(FIELD.fullmatch(name) for name, _ in request.raw_headers):
-        raise Refused(400, "InvalidUrl", "the request cannot be read", True)
-    whole = request.raw_path
+    whole, host = request.raw_path, request.headers.get("Host")
     if not whole.startswith("/"):
-        whole = "/" + whole.partition("://")[2].partition("/")[2]
+        host, _, whole = whole.partition("://")[2].partition("/")
+        whole = f"/{whole}"
     path, _, query = whole.partition("?")
     try:
         pairs = pairs_of(query)
@@ -234,7 +244,13 @@ def asked_by(request: web.BaseRequest) -> Asked:
     fields = dict(pairs)
     if len(fields) != len(pairs):
         raise invalid_query("a parameter comes twice")
-    return Asked(request.method, path, fields)
+    return Asked(request.method, host, path, fields)
+
+
+def local_of(request: web.BaseRequest) -> str:
+    """The address that a request came to."""
+    found = None if request.transport is None else request.transport.get_extra_info("sockname")
+    return str(found[0]) if isinstance(found, tuple) else ""
 
 
 def pairs_of(query: str) -> list[tuple[str, str]]:
@@ -251,24 +267,38 @@ def roads_of(generation: Generation) -> Roads:
     return generation.roads
 
 
-async def body_of(request: web.BaseRequest) -> bytes:
-    """The whole body. Raises Refused where it is longer than MOST_BODY, compressed, or ends before it is whole."""
-    if request.headers.get("Content-Encoding", "identity").lower() != "identity":
-        raise Refused(415, "InvalidQuery", "the body may not be compressed")
-    if (request.content_length or 0) > MOST_BODY:
-        raise Refused(413, "TooBig", f"the body may have {MOST_BODY} bytes")
-    if request.headers.get("Expect", "").lower() == "100-continue" and request.transport is not None:
-        request.transport.write(b"HTTP/1.1 100 Continue\r\n\r\n")
-    parts: list[bytes] = []
-    size = 0
-    while part := await request.content.readany():
-        parts.append(part)
-        size += len(part)
-        if size > MOST_BODY:
+class Body:
+    """The body of a batch, whose bytes are counted as long as it is held: those of all batches may be as many as of BATCHES."""
+
+    def __init__(self, service: Service) -> None:
+        self._service, self._size = service, 0
+
+    async def read(self, request: web.BaseRequest) -> bytes:
+        """The whole body. Raises Refused where it is longer than MOST_BODY, compressed, or ends before it is whole."""
+        if request.headers.get("Content-Encoding", "identity").lower() != "identity":
+            raise Refused(415, "InvalidQuery", "the body may not be compressed")
+        if (request.content_length or 0) > MOST_BODY:
             raise Refused(413, "TooBig", f"the body may have {MOST_BODY} bytes")
-    if isinstance(request.protocol, Connection) and request.protocol.cut is request.content:
-        raise Refused(400, "InvalidQuery", "the body has not come whole", True)
-    return b"".join(parts)
+        if request.headers.get("Expect", "").lower() == "100-continue" and request.transport is not None:
+            request.transport.write(b"HTTP/1.1 100 Continue\r\n\r\n")
+        parts: list[bytes] = []
+        while part := await request.content.readany():
+            parts.append(part)
+            self._hold(len(part))
+        if isinstance(request.protocol, Connection) and request.protocol.cut is request.content:
+            raise Refused(400, "InvalidQuery", "the body has not come whole", True)
+        return b"".join(parts)
+
+    def _hold(self, size: int) -> None:
+        self._size += size
+        self._service.held += size
+        if self._size > MOST_BODY:
+            raise Refused(413, "TooBig", f"the body may have {MOST_BODY} bytes")
+        if self._service.held > BATCHES * MOST_BODY:
+            raise Refused(503, "Overloaded", "too many batches at once", True)
+
+    def release(self) -> None:
+        self._service.held -= self._size
 
 
 async def streamed(answer: web.StreamResponse, request: web.BaseRequest, blocks: AsyncGenerator[bytes, None]) -> None:

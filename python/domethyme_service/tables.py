@@ -1,51 +1,75 @@
-"""Tables of weights between points on roads, computed from the links of the hierarchy's file by sweeps (domethyme.sweeps), many
-times as fast as by a request of the program for each cell. It is no part of what is proved, and is tested against the program."""
-import asyncio
+"""Tables of durations and distances between points on roads. Where only weights are wanted, and there are many cells, they are computed
+from the links of the hierarchy's file by sweeps (domethyme.sweeps), many times as fast as by a request of the program for each cell.
+That is no part of what is proved, and is tested against the program. Else the program is asked for each cell."""
 import collections
-import concurrent.futures
-from collections.abc import Sequence
-from typing import IO
+import contextlib
+import math
+from collections.abc import AsyncIterator, Iterator, Sequence
+from typing import NamedTuple
 
 import numpy as np
 
-from domethyme.hierarchy import looked_at
+from domethyme.network.tables import EARTH_RADIUS, Point
 from domethyme.sweeps import NO_WAY, Numbers, Seeds, Sweeps
 
+from .courses import UNITS_OF_ANSWERS, figures_of, leg_figures
+from .endpoints import DESTINATIONS, FALLBACK_COORDINATE, FALLBACK_SPEED, FIGURES, SCALE_FACTOR, SOURCES
 from .errors import Refused
-from .legs import along_one_arc, is_at
+from .legs import along_one_arc, is_at, least_weight, leg_of, requests_by, sides_of
+from .osrm_answer import Figures
+from .parameters import Values
 from .roads import Roads, Spot
+from .texts import list_of, text_of
+from .work import Budget, Desk
+from .workers import Pool
 
-# Tables of so many cells take no longer by the program, and it is asked for them.
-FEW_CELLS = 100
-MOST_WAITING = 16
+# Tables of so many cells take no longer by the program, and it is asked for them; and so many it is asked for in any case.
+FEW_CELLS, MOST_ASKED = 100, 10_000
+Row = list[float | None]
 
 
-class Tables:
-    """The links of one hierarchy, and the thread that computes by them, one table at a time."""
+class Wanted(NamedTuple):
+    """What a table has: the names of its figures, what weights are, the places as they were asked for by row and by column, and what
+    becomes of durations."""
 
-    def __init__(self, file: IO[bytes], name: str) -> None:
-        """Reads the open file. Raises HierarchyError."""
-        looked_at(file.fileno(), name)
-        self.sweeps = Sweeps.read(file.fileno(), name)
-        self._thread = concurrent.futures.ThreadPoolExecutor(1, "tables")
-        self._waiting = 0
+    names: list[str]
+    unit: str
+    sources: list[Point]
+    destinations: list[Point]
+    scale: float | None
+    fallback: float | None
+    is_snapped: bool
 
-    async def weights(self, roads: Roads, starts: Sequence[Spot], ends: Sequence[Spot]) -> Numbers:
-        """The weights of the least ways, of shape (starts, ends), NO_WAY (-1) where there is none. Raises Refused."""
-        if self._waiting >= MOST_WAITING:
-            raise Refused(503, "Overloaded", "too many tables at once")
-        self._waiting += 1
-        try:
-            loop = asyncio.get_running_loop()
-            return await loop.run_in_executor(self._thread, self._weights, roads, starts, ends)
-        finally:
-            self._waiting -= 1
+    @classmethod
+    def by(cls, values: Values, unit: str, places: Sequence[Point]) -> "Wanted":
+        """What the values of the parameters say."""
+        sources, destinations = ([places[number] for number in values[side]] for side in (SOURCES, DESTINATIONS))
+        is_snapped = values[FALLBACK_COORDINATE] == "snapped"
+        return cls(values[FIGURES], unit, sources, destinations, values[SCALE_FACTOR], values[FALLBACK_SPEED], is_snapped)
 
-    def _weights(self, roads: Roads, starts: Sequence[Spot], ends: Sequence[Spot]) -> Numbers:
-        exits, entries = seeds([spot.exits for spot in starts]), seeds([spot.entries for spot in ends])
-        table = self.sweeps.between(exits, entries)
-        lower_where_near(table, roads, starts, ends)
-        return table
+    @property
+    def is_of_weights(self) -> bool:
+        """Whether no figure but the weight is wanted."""
+        return set(self.names) == {self.unit}
+
+    def refuse_if_too_many(self, cells: int, has_sweeps: bool) -> bool:
+        """Whether the table is computed by sweeps. Raises Refused where the program would be asked for too many cells."""
+        is_swept = has_sweeps and self.is_of_weights and cells > FEW_CELLS
+        if not is_swept and cells > MOST_ASKED:
+            why = f"of annotations={self.unit} alone" if has_sweeps else "under --tables fast"
+            raise Refused(400, "TooBig", f"a table may have {MOST_ASKED} cells, unless it is {why}")
+        return is_swept
+
+
+def table_by_sweeps(
+    sweeps: Sweeps, roads: Roads, wanted: Wanted, starts: Sequence[Spot], ends: Sequence[Spot], budget: Budget
+) -> dict[str, str]:
+    """The members of the answer, by sweeps."""
+    exits, entries = seeds([spot.exits for spot in starts]), seeds([spot.entries for spot in ends])
+    weights = sweeps.between(exits, entries, budget.step)
+    lower_where_near(weights, roads, starts, ends, budget)
+    rows = (row_of(weights[row], UNITS_OF_ANSWERS[wanted.unit]) for row in budget.over(range(len(starts))))
+    return told(wanted, starts, ends, ((row, row) for row in rows))
 
 
 def seeds(sides: Sequence[dict[int, tuple[int, int]]]) -> Seeds:
@@ -55,12 +79,12 @@ def seeds(sides: Sequence[dict[int, tuple[int, int]]]) -> Seeds:
     return Seeds(len(sides), places, nodes, added)
 
 
-def lower_where_near(table: Numbers, roads: Roads, starts: Sequence[Spot], ends: Sequence[Spot]) -> None:
+def lower_where_near(table: Numbers, roads: Roads, starts: Sequence[Spot], ends: Sequence[Spot], budget: Budget) -> None:
     """Lowers the cells of points that are at one node, or one behind the other on an arc."""
     columns = collections.defaultdict(list)
     for column, end in enumerate(ends):
         columns[end.copies or end.edge].append(column)
-    for row, start in enumerate(starts):
+    for row, start in budget.over(enumerate(starts)):
         for column in columns.get(start.copies or start.edge, ()):
             weight = least_between(roads, start, ends[column])
             if weight is not None and not 0 <= table[row, column] <= weight:
@@ -75,9 +99,104 @@ def least_between(roads: Roads, start: Spot, end: Spot) -> int | None:
     return None if straight is None else straight.weight
 
 
-def rows_of(table: Numbers, unit: int) -> list[list[float | None]]:
-    """The table in a larger unit, with None where there is no way."""
-    found = (table / unit).astype(object)
-    found[table == NO_WAY] = None
-    rows: list[list[float | None]] = found.tolist()
-    return rows
+def row_of(weights: Numbers, unit: int) -> Row:
+    """A row in a larger unit, with None where there is no way."""
+    found = (weights / unit).astype(object)
+    found[weights == NO_WAY] = None
+    row: Row = found.tolist()
+    return row
+
+
+def told(wanted: Wanted, starts: Sequence[Spot], ends: Sequence[Spot], rows: Iterator[tuple[Row, Row]]) -> dict[str, str]:
+    """The members of the answer, by rows of durations and of distances."""
+    durations, distances = [], []
+    guessed: list[list[int]] = []
+    for number, (seconds, metres) in enumerate(rows):
+        if wanted.fallback is not None and (None in seconds or None in metres):
+            seconds, metres = list(seconds), list(metres)
+            guessed += fallen_back(wanted, starts, ends, number, seconds, metres, wanted.fallback)
+        if wanted.scale is not None:
+            seconds = [None if value is None else round(value * wanted.scale, 3) for value in seconds]
+        durations.append(text_of(seconds))
+        distances.append(text_of(metres))
+    found = {}
+    if "duration" in wanted.names:
+        found["durations"] = list_of(durations)
+    if "distance" in wanted.names:
+        found["distances"] = list_of(distances)
+    if wanted.fallback is not None:
+        found["fallback_speed_cells"] = text_of(guessed)
+    return found
+
+
+def fallen_back(
+    wanted: Wanted, starts: Sequence[Spot], ends: Sequence[Spot], number: int, seconds: Row, metres: Row, speed: float
+) -> list[list[int]]:
+    """Puts the way of a bird at this speed, in metres a second, into the cells without a way; returns which they are."""
+    found = []
+    for column in range(len(seconds)):
+        if seconds[column] is None or metres[column] is None:
+            start, end = starts[number], ends[column]
+            snapped, asked = ((start.lon, start.lat), (end.lon, end.lat)), (wanted.sources[number], wanted.destinations[column])
+            way = metres_apart(*(snapped if wanted.is_snapped else asked))
+            seconds[column], metres[column] = round(way / speed, 3), round(way, 2)
+            found.append([number, column])
+    return found
+
+
+def metres_apart(one: Point, other: Point) -> float:
+    """The metres along a great circle."""
+    (lon_1, lat_1), (lon_2, lat_2) = (map(math.radians, place) for place in (one, other))
+    half = math.sin((lat_2 - lat_1) / 2) ** 2 + math.cos(lat_1) * math.cos(lat_2) * math.sin((lon_2 - lon_1) / 2) ** 2
+    return 2 * EARTH_RADIUS * math.asin(math.sqrt(min(1.0, half)))
+
+
+async def table_by_cells(
+    pool: Pool, roads: Roads, desk: Desk, wanted: Wanted, starts: Sequence[Spot], ends: Sequence[Spot]
+) -> dict[str, str]:
+    """The members of the answer, by a request of the program for each cell."""
+    async with desk.turn():
+        pairs = [(start, end) for start in starts for end in ends]
+        figures = [each async for each in cells(pool, roads, pairs, wanted.is_of_weights)]
+    seconds = [None if each is None else each["duration"] for each in figures]
+    metres = [None if each is None else each["distance"] for each in figures]
+    cuts = [slice(begin, begin + len(ends)) for begin in range(0, len(pairs), len(ends))]
+    return told(wanted, starts, ends, ((seconds[cut], metres[cut]) for cut in cuts))
+
+
+async def cells(
+    pool: Pool, roads: Roads, pairs: list[tuple[Spot, Spot]], only_weights: bool
+) -> AsyncIterator[Figures | None]:
+    """The figures of the cells of a table, in order, asked behind single requests. Where weights are all that is wanted, routes
+    aren't looked at."""
+    asked_for: collections.deque[tuple[tuple[Spot, Spot], int]] = collections.deque()
+    replies: collections.deque[bytes] = collections.deque()
+
+    exits = {id(start): sides_of(start.exits) for start, _ in pairs}
+    entries = {id(end): sides_of(end.entries) for _, end in pairs}
+
+    def lines() -> Iterator[bytes]:
+        for start, end in pairs:
+            some = [] if is_at(start, end) else requests_by(exits[id(start)], entries[id(end)])
+            asked_for.append(((start, end), len(some)))
+            yield from some
+
+    async with contextlib.aclosing(pool.ask_many(lines())) as parts:
+        async for part in parts:
+            replies += part
+            while asked_for and asked_for[0][1] <= len(replies):
+                pair, count = asked_for.popleft()
+                yield cell(roads, pair, [replies.popleft() for _ in range(count)], only_weights)
+    for pair, _ in asked_for:
+        yield cell(roads, pair, [], only_weights)
+
+
+def cell(
+    roads: Roads, pair: tuple[Spot, Spot], replies: list[bytes], only_weights: bool
+) -> Figures | None:
+    """The figures of one cell, None where there is no way."""
+    if only_weights:
+        weight = least_weight(roads, *pair, replies)
+        return None if weight is None else figures_of(roads, weight, 0.0, 0.0)
+    leg = leg_of(roads, *pair, replies)
+    return None if leg is None else leg_figures(roads, leg)

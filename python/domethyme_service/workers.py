@@ -2,18 +2,22 @@
 
 A Job is some request lines with one future: up to 16 of a table, 64 of a batch. It goes whole to the worker with the fewest open
 lines; a worker holds up to a window of them, of which jobs of tables and batches take half at most, and the others wait in two
-queues. Each reply is compared with its request. A worker that ends, is silent, or replies to something else is killed and started anew, and its
-jobs go to others: asking twice is safe, since requests change nothing.
+queues. Each reply is compared with its request. A worker that ends, is silent, or replies to something else is killed and started
+anew, and its jobs go to others: asking twice is safe, since requests change nothing. All read one open file; where that has been
+written to meanwhile no further one is started.
 """
 import asyncio
 import collections
 import contextlib
+import logging
+import os
 from collections.abc import AsyncGenerator, Iterable, Sequence
 from typing import IO, NamedTuple, cast
 
 from domethyme.lines import is_reply_to, ready_of
 
 from .errors import Refused, WorkerFault
+from .metrics import Row
 
 LINES_OF_JOB, LINES_OF_BATCH = 16, 64
 JOBS_AT_ONCE = 4
@@ -22,15 +26,40 @@ SHORTEST_PAUSE, LONGEST_PAUSE = 0.1, 5.0
 SAID = 4096
 DIGITS = 12
 SECONDS_TO_END = 5.0
+log = logging.getLogger("domethyme_service")
 
 
 class Limits(NamedTuple):
     """window: lines that a worker holds; waiting: lines in the queue of single requests; silence: seconds without a byte
-    after which a worker with open lines is killed."""
+    after which a worker with open lines is killed, so that all attempts come before a request's time is over."""
 
     window: int = 256
     waiting: int = 20_000
-    silence: float = 30.0
+    silence: float = 8.0
+
+
+class Source(NamedTuple):
+    """What workers are started with: the program, the open file, its name, and its stamp, nodes and links."""
+
+    program: str
+    file: IO[bytes]
+    name: str
+    stamp: tuple[int, int]
+    sizes: tuple[int, int]
+
+    def fault_of(self, sizes: tuple[int, int] | None) -> str:
+        """Why a worker that has read these sizes isn't taken, or ""."""
+        if sizes is None:
+            return "routecli serve has begun with another line than its first one"
+        if stamp_of(self.file) != self.stamp or sizes != self.sizes:
+            return f"{self.name}: has been written to since it was opened: put a new file in its place, and reload"
+        return ""
+
+
+def stamp_of(file: IO[bytes]) -> tuple[int, int]:
+    """What changes where an open file is written to: its size and the time of the last write."""
+    found = os.fstat(file.fileno())
+    return found.st_size, found.st_mtime_ns
 
 
 class Job:
@@ -44,19 +73,12 @@ class Job:
         self.attempts = 0
 
 
-class Counts:
-    """What the workers of all generations have done."""
-
-    def __init__(self) -> None:
-        self.lines = self.restarts = self.wrong = self.silent = 0
-
-
 class Worker(asyncio.SubprocessProtocol):
-    """One process. `ready` gets the numbers of nodes and links, or a WorkerFault where the process ends before."""
+    """One process. `ready` is done once it has read the file, and gets a WorkerFault where it ends before, or has read another."""
 
     def __init__(self, pool: "Pool") -> None:
         self.pool = pool
-        self.ready: asyncio.Future[tuple[int, int]] = asyncio.get_running_loop().create_future()
+        self.ready: asyncio.Future[None] = asyncio.get_running_loop().create_future()
         self.open: collections.deque[Job] = collections.deque()
         self.lines_open = self.bulk_open = 0
         self.ended: asyncio.Future[None] = asyncio.get_running_loop().create_future()
@@ -113,9 +135,11 @@ class Worker(asyncio.SubprocessProtocol):
         """Takes whole lines, as many at once as the open job wants; False where one isn't what was asked for."""
         place = 0
         if lines and not self.ready.done():
-            if (sizes := ready_of(lines[0])) is None:
-                return False
-            self.ready.set_result(sizes)
+            if fault := self.pool.source.fault_of(ready_of(lines[0])):
+                self.refuse(fault)
+                self.kill()
+                return True
+            self.ready.set_result(None)
             place = 1
         while place < len(lines):
             if not self.open:
@@ -166,37 +190,40 @@ class Worker(asyncio.SubprocessProtocol):
         if not self.ready.done():
             status = self.transport.get_returncode()
             said = " ".join(self._said.decode("utf-8", "replace").split())
-            self.ready.set_exception(WorkerFault(said or f"routecli serve ended with status {status}"))
-            self.ready.exception()
+            self.refuse(f"{self.pool.source.name}: {said}" if said else f"routecli serve ended with status {status}")
         self.pool.lost(self)
+
+    def refuse(self, fault: str) -> None:
+        """Has who waits for the process get a WorkerFault."""
+        self.ready.set_exception(WorkerFault(fault))
+        self.ready.exception()
 
 
 class Pool:
-    """Workers over one open file. `nodes` and `links` are those of the hierarchy, once `start` has returned."""
+    """Workers over one open file. `nodes` and `links` are those of the hierarchy."""
 
-    def __init__(self, program: str, file: IO[bytes], count: int, limits: Limits, counts: Counts) -> None:
-        self.program, self.file, self.count, self.limits, self.counts = program, file, count, limits, counts
+    def __init__(self, source: Source, count: int, limits: Limits, counts: Row) -> None:
+        self.source, self.count, self.limits, self.counts = source, count, limits, counts
         self.workers: list[Worker] = []
         self.alive: set[Worker] = set()
-        self.nodes = self.links = 0
-        self.longest_reply = 1 << 12
+        self.nodes, self.links = source.sizes
+        self.longest_reply = 64 + DIGITS * (self.nodes + 4)
         self._queues: tuple[collections.deque[Job], collections.deque[Job]] = collections.deque(), collections.deque()
         self.waiting = [0, 0]
         self._is_started = self._is_closed = self._will_pump = False
-        self._pause = SHORTEST_PAUSE
+        self._pause, self._said = SHORTEST_PAUSE, ""
         self._tasks: set[asyncio.Task[None]] = set()
 
     async def start(self) -> None:
         """Starts the workers; returns when all have read the file. Raises WorkerFault, and none is left then."""
         try:
             workers = [await self._started() for _ in range(self.count)]
-            sizes = [await worker.ready for worker in workers]
+            for worker in workers:
+                await worker.ready
         except BaseException:
             await self.close()
             raise
-        self.nodes, self.links = sizes[0]
         self._is_started = True
-        self.longest_reply = 64 + DIGITS * (self.nodes + 4)
         self._keep(self._watch())
 
     async def ask(self, lines: Sequence[bytes], is_bulk: bool = False) -> list[bytes]:
@@ -289,27 +316,35 @@ class Pool:
         self._pause = min(2 * self._pause, LONGEST_PAUSE)
         try:
             worker = await self._started()
-        except WorkerFault:
+        except WorkerFault as fault:
+            self._say(fault)
             if not self._is_closed:
                 self._keep(self._restart())
             return
-        with contextlib.suppress(WorkerFault):
-            if await worker.ready == (self.nodes, self.links):
-                self._pause = SHORTEST_PAUSE
-                self.pump_soon()
-            else:
-                worker.kill()
+        try:
+            await worker.ready
+        except WorkerFault as fault:  # (`lost` has begun another attempt)
+            self._say(fault)
+            return
+        self._pause, self._said = SHORTEST_PAUSE, ""
+        self.pump_soon()
+
+    def _say(self, fault: WorkerFault) -> None:
+        """Logs why a worker can't be started, once for the same reason."""
+        if str(fault) != self._said and not self._is_closed:
+            log.error("a worker can't be started: %s", fault)
+        self._said = str(fault)
 
     async def _started(self) -> Worker:
         """A process that has begun. It reads the file that is open here, whatever has taken its name since."""
-        loop, handle, pipe = asyncio.get_running_loop(), self.file.fileno(), asyncio.subprocess.PIPE
-        words = [self.program, "serve", f"/proc/self/fd/{handle}"]
+        loop, handle, pipe = asyncio.get_running_loop(), self.source.file.fileno(), asyncio.subprocess.PIPE
+        words = [self.source.program, "serve", f"/proc/self/fd/{handle}"]
         try:
             _, worker = await loop.subprocess_exec(
                 lambda: Worker(self), *words, stdin=pipe, stdout=pipe, stderr=pipe, pass_fds=[handle], process_group=0
             )
         except OSError as error:
-            raise WorkerFault(f"{self.program}: {error.strerror}") from error
+            raise WorkerFault(f"{self.source.program}: {error.strerror}") from error
         if not worker.ended.done():
             self.alive.add(worker)
         if self._is_closed:
@@ -328,12 +363,6 @@ class Pool:
                     self.counts.silent += 1
                     worker.kill()
 
-    def close_soon(self) -> None:
-        """Closes without waiting for it."""
-        if not self._is_closed:
-            self._is_closed = True
-            self._closing = asyncio.ensure_future(self.close())
-
     async def close(self) -> None:
         """Ends the workers; what waits is refused."""
         self._is_closed = True
@@ -348,7 +377,6 @@ class Pool:
         for job in (*self._queues[0], *self._queues[1]):
             if not job.done.done():
                 job.done.set_exception(Refused(503, "Overloaded", "the service ends"))
-        self.file.close()
 
     def _keep(self, work: "collections.abc.Coroutine[object, object, None]") -> None:
         task = asyncio.ensure_future(work)

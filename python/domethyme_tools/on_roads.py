@@ -106,7 +106,7 @@ def route_of(roads: Roads, trip: Trip, reply: bytes, path: str, replies: str, ro
     if leg is None:
         return RoadRoute(trip[0], None, None, None, None, None, None)
     course = course_of(roads, leg)
-    figures = leg_figures(roads, leg, course)
+    figures = leg_figures(roads, leg)
     if course is None:
         return RoadRoute(trip[0], 0, 0, 0.0, 0.0, [], [[start.lon, start.lat], [end.lon, end.lat]])
     names = [roads.arc(arc).name for arc in leg.arcs]

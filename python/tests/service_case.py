@@ -16,6 +16,8 @@ import domethyme
 from domethyme.texts import read_graph
 
 SECONDS = 20
+# The type of the body of a batch.
+NDJSON = {"Content-Type": "application/x-ndjson"}
 
 
 class Answer(NamedTuple):
@@ -41,12 +43,13 @@ class ServiceCase(ToolCase):
         self.graph = read_graph(self.folder / "v.gr")
 
     def serve(self, *words, faults=(), program=None):
-        """Starts the service, and returns its process once it listens at `self.port`."""
+        """Starts the service, and returns its process, the master's, once it listens at `self.port`. The faults are those of workers:
+        the process by which the files are compared has none."""
         program = program or serving_program()
         environment = {**os.environ, "ROUTECLI": str(program)}
         if faults:
-            environment["SERVE_FAULTS"] = str(self.write("faults", "".join(f"{fault}\n" for fault in faults)))
-        given = [*self.command, self.folder / "v.rch", "--port", "0", *words]
+            environment["SERVE_FAULTS"] = str(self.write("faults", "".join(f"{fault}\n" for fault in ("well", *faults))))
+        given = [*self.command, self.folder / "v.rch", "--port", "0", "--allowed-host", "x", *words]
         process = subprocess.Popen(list(map(str, given)), stderr=subprocess.PIPE, text=True, env=environment)
         self.addCleanup(end, process)
         self.said = []
@@ -63,7 +66,7 @@ class ServiceCase(ToolCase):
         """The status and the body of an answer, as JSON where it is JSON."""
         connection = http.client.HTTPConnection("127.0.0.1", self.port, timeout=SECONDS)
         try:
-            connection.request(method, path, body, headers or {})
+            connection.request(method, path, body, {**(NDJSON if method == "POST" else {}), **(headers or {})})
             answer = connection.getresponse()
             text = answer.read().decode()
             self.headers = dict(answer.getheaders())
@@ -126,6 +129,28 @@ def whole(file: BinaryIO, count: int) -> bytes:
     if len(found) != count:
         raise EOFError("a body isn't whole")
     return found
+
+
+def children_of(number: int) -> list[int]:
+    """The processes that a process has started."""
+    found = []
+    for path in pathlib.Path("/proc").glob("[0-9]*/stat"):
+        try:
+            text = path.read_text()
+        except OSError:
+            continue
+        if int(text.rpartition(")")[2].split()[1]) == number:
+            found.append(int(path.parent.name))
+    return sorted(found)
+
+
+def fronts_of(process: "subprocess.Popen[str]") -> list[int]:
+    """The fronts of a service: its master has started keepers, and these have started them."""
+    return [front for keeper in children_of(process.pid) for front in children_of(keeper)]
+
+
+def workers_of(process: "subprocess.Popen[str]") -> list[int]:
+    return [worker for front in fronts_of(process) for worker in children_of(front)]
 
 
 def resident(number: int) -> int:

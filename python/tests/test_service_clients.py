@@ -63,6 +63,8 @@ def java(number: float) -> str:
 
 
 class EightClientsTests(OsrmCase):
+    words = ("--cors", "*", "--allowed-host", "router.project-osrm.org")
+
     def asked(self, path: str, headers: dict[str, str] | None = None) -> Any:
         status, found = self.ask(path, headers=headers)
         self.assertEqual((status, found["code"]), (200, "Ok"), found)

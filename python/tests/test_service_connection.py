@@ -39,7 +39,7 @@ class ConnectionTests(ServiceCase):
     def test_a_head_of_many_fields(self):
         """Sixty fields of one form are read at once: the time of a pattern may not double with each."""
         self.serve()
-        head = b"GET /nodes/route?from=1&to=2 HTTP/1.1\r\nHost: a\r\n" + b"x-a: b\r\n" * 60
+        head = b"GET /nodes/route?from=1&to=2 HTTP/1.1\r\nHost: x\r\n" + b"x-a: b\r\n" * 60
         for more in (b"z: 1\r\n\r\n", b"Connection: close\r\n\r\n"):
             begun = time.monotonic()
             (line, _, body), = self.answers(head + more)
@@ -51,8 +51,7 @@ class ConnectionTests(ServiceCase):
         (line, fields, _), = self.answers(PAIR)
         date = email.utils.parsedate_to_datetime(fields.pop("Date")).timestamp()
         self.assertLess(abs(date - time.time()), 5)
-        self.assertEqual((line, len(fields)), ("HTTP/1.1 200 OK", 4))
-        self.assertIn("Access-Control-Allow-Origin", fields)
+        self.assertEqual((line, fields.keys()), ("HTTP/1.1 200 OK", {"Content-Type", "X-Content-Type-Options", "Server"}))
 
     def test_what_comes_in_parts_and_ahead(self):
         self.serve()
@@ -83,7 +82,7 @@ class ConnectionTests(ServiceCase):
                 self.assertEqual(first[0], "HTTP/1.1 200 OK")
                 self.assertRegex(last[0], line)
                 self.assertIn(body, last[2])
-        last = self.answers(PAIR, PAIR.replace(b"Host: x", b"Connection: close"), PAIR)
+        last = self.answers(PAIR, PAIR.replace(b"Host: x", b"Host: x\r\nConnection: close"), PAIR)
         self.assertEqual([each[1].get("Connection") for each in last], [None, "close"])
 
     def test_a_client_that_leaves(self):

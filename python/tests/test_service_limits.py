@@ -14,11 +14,13 @@ from tool_case import STAND_IN, ToolCase, serving_program
 
 import domethyme
 
+from domethyme.hierarchy import looked_at
 from domethyme.lines import is_reply_to
 from domethyme_service.errors import Refused
 from domethyme_service.legs import requests
+from domethyme_service.metrics import Row
 from domethyme_service.roads import Spot
-from domethyme_service.workers import Counts, Limits, Pool
+from domethyme_service.workers import Limits, Pool, Source, stamp_of
 
 GOOD = b"GET /nodes/length?from=1&to=2 HTTP/1.1\r\nHost: x\r\nAccept: */*\r\n\r\n"
 
@@ -41,8 +43,8 @@ class PoolTests(ToolCase):
         path = self.write("faults", "".join(f"{fault}\n" for fault in faults))
 
         async def all_of_it():
-            counts = Counts()
-            pool = Pool(str(program), open(self.folder / "g.rch", "rb"), 1, limits, counts)
+            counts, file = Row(), open(self.folder / "g.rch", "rb")
+            pool = Pool(Source(str(program), file, "g.rch", stamp_of(file), looked_at(file.fileno(), "g.rch")), 1, limits, counts)
             await pool.start()
             try:
                 return await work(pool), counts
@@ -159,7 +161,7 @@ class LimitTests(ServiceCase):
         """A batch whose reader is gone ends, and others are served meanwhile."""
         self.serve()
         body = b'{"from": 1, "to": 7}\n' * 100_000
-        head = f"POST /nodes/routes HTTP/1.1\r\nHost: x\r\nContent-Length: {len(body)}\r\n\r\n".encode()
+        head = f"POST /nodes/routes HTTP/1.1\r\nHost: x\r\nContent-Type: application/json\r\nContent-Length: {len(body)}\r\n\r\n".encode()
         with socket.create_connection(("127.0.0.1", self.port), 20) as stream:
             stream.sendall(head + body)
             for _ in range(5):
@@ -173,7 +175,7 @@ class LimitTests(ServiceCase):
     def test_a_client_that_waits_to_be_asked_for_its_body(self):
         self.serve()
         body = b'{"from": 1, "to": 1}'
-        head = f"POST /nodes/lengths HTTP/1.1\r\nExpect: 100-continue\r\nContent-Length: {len(body)}\r\n\r\n".encode()
+        head = f"POST /nodes/lengths HTTP/1.1\r\nHost: x\r\nContent-Type: application/json\r\nExpect: 100-continue\r\nContent-Length: {len(body)}\r\n\r\n".encode()
         with socket.create_connection(("127.0.0.1", self.port), 20) as stream:
             stream.sendall(head)
             self.assertEqual(read_to(stream, b"\r\n\r\n"), b"HTTP/1.1 100 Continue\r\n\r\n")

@@ -5,29 +5,15 @@ import contextlib
 import http.client
 import json
 import os
-import pathlib
 import signal
 import socket
 import threading
 import time
 
-from service_case import ServiceCase, lengths_from
+from service_case import ServiceCase, lengths_from, workers_of
 from tool_case import STAND_IN, TOOLS
 
 from domethyme_service import nodes
-
-
-def children_of(number):
-    """The processes that a process has started."""
-    found = []
-    for path in pathlib.Path("/proc").glob("[0-9]*/stat"):
-        try:
-            text = path.read_text()
-        except OSError:
-            continue
-        if int(text.rpartition(")")[2].split()[1]) == number:
-            found.append(int(path.parent.name))
-    return found
 
 
 class QuickPool:
@@ -145,7 +131,7 @@ class NodesTests(ServiceCase):
         """Others are answered meanwhile. Under load the time isn't that of the service, so a turn's processor time is limited."""
         self.serve()
         with socket.create_connection(("127.0.0.1", self.port), 20) as stream:
-            stream.sendall(b"POST /nodes/routes HTTP/1.1\r\nHost: x\r\nContent-Length: 4194304\r\n\r\n" + b"\n" * 4194304)
+            stream.sendall(b"POST /nodes/routes HTTP/1.1\r\nHost: x\r\nContent-Type: application/x-ndjson\r\nContent-Length: 4194304\r\n\r\n" + b"\n" * 4194304)
             for _ in range(5):
                 self.assertEqual(self.ask("/health")[0], 200)
         for body in (b"\n" * 4194304, b'{"from":1,"to":2}\n' * 100_000, b"x" * 4194304, b'{"from":1,"to":9}\n' * 100_000):
@@ -227,7 +213,7 @@ class WorkerTests(ServiceCase):
             each.start()
         for _ in range(4):
             time.sleep(0.3)
-            for number in children_of(process.pid)[:1]:
+            for number in workers_of(process)[:1]:
                 os.kill(number, signal.SIGKILL)
         for each in clients:
             each.join()
@@ -238,7 +224,7 @@ class WorkerTests(ServiceCase):
     def test_what_can_not_start(self):
         self.write("v.rch", "no hierarchy")
         words = [TOOLS / "domethyme-serve", self.folder / "v.rch", "--port", "0"]
-        self.assertIn("hierarchy: BadMagic", self.run_program(words, status=1).stderr)
+        self.assertIn(f"{self.folder}/v.rch: is no file that `routecli prepare` wrote", self.run_program(words, status=1).stderr)
         words[1] = self.folder / "none"
         self.assertIn("none: No such file", self.run_program(words, status=1).stderr)
         self.run_program([*words, "--workers", "0"], status=2)

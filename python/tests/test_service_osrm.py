@@ -72,9 +72,11 @@ class CutGraph:
 
 
 class OsrmCase(ServiceCase):
+    words = ()
+
     def setUp(self):
         super().setUp()
-        self.serve("--network", self.folder / "v", "--workers", "2", "--within", "5000")
+        self.serve("--network", self.folder / "v", "--workers", "2", "--within", "5000", *self.words)
 
     def good(self, path):
         status, found = self.ask(path)
@@ -234,7 +236,7 @@ class RequestTests(OsrmCase):
                 self.good(path)
         self.assertEqual(self.ask(f"/table/v1/car/{HIGH}", headers={"Connection": "Close"})[0], 200)
         self.assertIn("Content-Length", self.headers)
-        self.assertEqual(self.headers["Access-Control-Allow-Origin"], "*")
+        self.assertNotIn("Access-Control-Allow-Origin", self.headers)
 
     def test_by_vias_and_the_table(self):
         words = f"{HIGH};0.0041,0.0001"
@@ -268,16 +270,20 @@ class RequestTests(OsrmCase):
             (f"/route/v1/car/{HIGH}?radiuses=5", "InvalidQuery"),
             (f"/route/v1/car/{HIGH};0.020,0.005", "NoRoute"),
             (f"/route/v1/car/{HIGH}?overview=some", "InvalidValue"),
-            (f"/route/v1/car/{HIGH}?annotations=nodes", "NotImplemented"),
-            (f"/route/v1/car/{HIGH}?bearings=10,20;", "NotImplemented"),
+            (f"/route/v1/car/{HIGH}?bearings=10,20", "InvalidQuery"),
+            (f"/route/v1/car/{HIGH}?bearings=361,20;", "InvalidValue"),
+            (f"/route/v1/car/{HIGH}?bearings=0,5;0,5&radiuses=9;9", "NoSegment"),
             (f"/route/v1/car/{HIGH}?approaches=curb;curb", "NotImplemented"),
             (f"/route/v1/car/{HIGH}?exclude=motorway", "NotImplemented"),
             (f"/route/v1/car/{HIGH};0,0?continue_straight=true", "NotImplemented"),
             (f"/route/v1/car/{HIGH}?speed=3", "InvalidQuery"),
-            (f"/table/v1/car/{HIGH}?fallback_speed=3", "NotImplemented"),
+            (f"/table/v1/car/{HIGH}?fallback_speed=0", "InvalidValue"),
+            (f"/table/v1/car/{HIGH}?scale_factor=-1", "InvalidValue"),
             (f"/table/v1/car/{HIGH}?sources=2", "InvalidValue"),
             (f"/table/v1/car/{HIGH}?steps=true", "InvalidQuery"),
-            ("/table/v1/car/" + ";".join(["0,0"] * 101), "TooBig"),
+            ("/table/v1/car/" + ";".join(["0,0"] * 1001), "TooBig"),
+            ("/table/v1/car/" + ";".join(["0,0"] * 101) + "?annotations=duration,distance", "TooBig"),
+            ("/table/v1/car/" + ";".join(["0,0"] * 2001), "TooBig"),
             ("/route/v1/car/" + ";".join(["0,0"] * 501), "TooBig"),
             ("/nearest/v1/car/0,0?number=0", "InvalidValue"),
             (f"/match/v1/car/{HIGH}", "InvalidService"),

@@ -9,8 +9,7 @@ import signal
 import threading
 import time
 
-from service_case import ServiceCase
-from test_service_nodes import children_of
+from service_case import ServiceCase, children_of, fronts_of, workers_of
 
 import domethyme
 
@@ -84,19 +83,20 @@ class SignalTests(ServiceCase):
             self.assertEqual(lengths, sorted(lengths))
             self.assertLessEqual(set(lengths), {old, 2 * old, 3 * old})
         self.assertEqual(self.value("reloads_total"), 2)
-        self.wait_for(lambda: len(children_of(process.pid)) == 2)
+        self.wait_for(lambda: len(workers_of(process)) == 2)
 
     def test_a_file_that_is_refused_leaves_the_old_one(self):
         process = self.serve("--network", self.folder / "v")
         old = self.ask(PATH)
-        for text, says in ((b"none", "hierarchy: BadMagic"), (None, "isn't of the hierarchy's graph")):
+        for text, says in ((b"none", "v.rch: is no file that `routecli prepare` wrote"), (None, "isn't of the hierarchy's graph")):
             path = self.folder / "v.rch"
             path.unlink()
             path.write_bytes(text) if text else self.prepare(2)
+            self.said.clear()
             process.send_signal(signal.SIGHUP)
             self.wait_for(lambda: any("reload refused: " in line and says in line for line in self.said))
         self.assertEqual(self.ask(PATH), old)
-        for number in children_of(process.pid):
+        for number in workers_of(process):
             os.kill(number, signal.SIGKILL)
         self.assertEqual(self.ask(PATH), old, "a worker that is started anew reads the file that was there")
 
@@ -121,19 +121,25 @@ class SignalTests(ServiceCase):
         self.assertEqual(process.wait(10), 0)
 
     def test_fronts(self):
-        """Two fronts answer; one that is killed is started anew; SIGHUP and SIGTERM reach both."""
+        """Two fronts answer; one that is killed is replaced; SIGHUP and SIGTERM reach all."""
         process = self.serve("--fronts", "2")
-        fronts = children_of(process.pid)
+        fronts = fronts_of(process)
         self.assertEqual(len(fronts), 2)
-        self.wait_for(lambda: sum("listens" in line for line in self.said) == 2)
         old = self.ask(PATH)[1]["length"]
+        clients = self.clients(1)
         os.kill(fronts[0], signal.SIGKILL)
-        self.wait_for(lambda: sum("listens" in line for line in self.said) == 3)
+        self.wait_for(lambda: any(f"front {fronts[0]} ended by signal 9: another one is started" in line for line in self.said))
+        self.wait_for(lambda: self.value("fronts") == 2)
+        self.assertEqual(self.value("front_restarts_total"), 1)
+        for client in clients:
+            client.stop.set()
+            client.join()
         self.prepare(2)
         process.send_signal(signal.SIGHUP)
-        self.wait_for(lambda: sum("reloaded" in line for line in self.said) == 2)
+        self.wait_for(lambda: any("reloaded" in line for line in self.said))
         self.assertEqual({self.ask(PATH)[1]["length"] for _ in range(20)}, {2 * old})
-        fronts = children_of(process.pid)
+        self.wait_for(lambda: len(children_of(process.pid)) == 1)
+        fronts = fronts_of(process)
         process.send_signal(signal.SIGTERM)
         self.assertEqual(process.wait(20), 0)
         self.assertFalse(any(pathlib.Path(f"/proc/{front}").exists() for front in fronts))

@@ -70,7 +70,7 @@ class TableTests(ServiceCase):
     def test_a_program_whose_lengths_are_others(self):
         """A reply that isn't least fits the network, whose weights sum to its length, and differs from the tables. Then the service
         doesn't start, which one whose tables are the program's does; and at a reload it keeps what it has."""
-        says, network = "tables differ from the program's lengths: start with --tables proved", self.folder / "v"
+        says, network = f"{self.folder}/v.rch: tables differ from the program's lengths: start with --tables proved", self.folder / "v"
         serving_program()
         environment = {"ROUTECLI": str(STAND_IN), "SERVE_FAULTS": str(self.write("faults", f"detour {SAMPLES}\n"))}
         words = [TOOLS / "domethyme-serve", self.folder / "v.rch", "--network", network, "--port", "0"]
@@ -78,7 +78,7 @@ class TableTests(ServiceCase):
         self.assertEqual((ended.stdout, ended.stderr), ("", f"domethyme-serve: {says}\n"))
         self.serve("--network", network, "--tables", "proved", faults=["detour 1"], program=STAND_IN)
         self.assertEqual(self.ask("/health")[0], 200)
-        process = self.serve("--network", network, faults=["well", "detour 1", "well"], program=STAND_IN)
+        process = self.serve("--network", network, faults=["well", "detour 1", "well", "well"], program=STAND_IN)
         table = "/table/v1/car/" + ";".join(f"{0.0005 * number},0.00005" for number in range(12))
         before = self.ask(table)
         self.assertEqual(before[0], 200)

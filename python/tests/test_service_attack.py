@@ -1,0 +1,505 @@
+"""Tests of the service under attack: each is an attack that an earlier form of it didn't withstand."""
+import asyncio
+import contextlib
+import http.client
+import os
+import pathlib
+import re
+import resource
+import signal
+import socket
+import struct
+import threading
+import time
+import unittest
+
+import numpy as np
+from service_case import NDJSON, ServiceCase, children_of, fronts_of, resident, workers_of
+from tool_case import STAND_IN
+
+import domethyme
+from domethyme_service import asking, endpoints, osrm_request, parameters
+from domethyme_service.errors import Refused
+from domethyme_service.lines import encoded, simplified
+from domethyme_service.work import MOST_WAITING, Budget, Desk, Stopped
+
+PATH = "/nodes/length?from=1&to=2"
+HIGH = "0.0003,0.00001;0.0077,-0.00002"
+# How long a request may be held up by others, in seconds; on a machine that has much to do a test allows more.
+HELD_UP, BUSY = 0.25, 20
+
+
+class RestartTests(ServiceCase):
+    """What happens to connections and requests where processes end, hang, or are replaced."""
+
+    def wait_for(self, what, seconds=30):
+        end = time.monotonic() + seconds
+        while not what():
+            self.assertLess(time.monotonic(), end, self.said)
+            time.sleep(0.05)
+
+    def says(self, text):
+        return any(text in line for line in self.said)
+
+    def test_a_front_that_is_silent_is_replaced(self):
+        """A front that hangs for good, as by a pattern that never ends, is killed after ten seconds, and the service goes on."""
+        process = self.serve("--fronts", "2")
+        hung = fronts_of(process)[0]
+        os.kill(hung, signal.SIGSTOP)
+        begun = time.monotonic()
+        self.wait_for(lambda: self.says(f"front {hung} has been silent for"), 60)
+        self.assertGreater(time.monotonic() - begun, 8)
+        self.wait_for(lambda: len(fronts_of(process)) == 2 and hung not in fronts_of(process))
+        self.wait_for(lambda: self.value("fronts") == 2)
+        self.assertEqual((self.value("front_silences_total"), self.value("front_restarts_total")), (1, 1))
+        self.assertEqual(self.ask(PATH)[0], 200)
+
+    def test_no_connection_is_lost_as_fronts_end(self):
+        """Each request comes by a connection of its own, while fronts are killed between requests and generations replaced: the socket
+        stays, so none is refused or reset but those that a front had that was killed."""
+        process = self.serve("--fronts", "2")
+        wanted, lost, count, is_over = self.ask(PATH), [], [0], threading.Event()
+
+        def client():
+            while not is_over.is_set():
+                try:
+                    found = self.ask(PATH)
+                    count[0] += 1
+                    if found != wanted:
+                        lost.append(found)
+                except (OSError, http.client.HTTPException) as error:
+                    lost.append(repr(error))
+
+        clients = [threading.Thread(target=client) for _ in range(4)]
+        for each in clients:
+            each.start()
+        for reload in range(1, 4):
+            process.send_signal(signal.SIGHUP)
+            self.wait_for(lambda: sum("reloaded" in line for line in self.said) == reload)
+        is_over.set()
+        for each in clients:
+            each.join()
+        self.assertEqual(lost, [])
+        self.assertGreater(count[0], 20)
+        # (a connection that waits while no front is there is answered by the next one)
+        keeper = children_of(process.pid)[-1]
+        for front in children_of(keeper):
+            os.kill(front, signal.SIGKILL)
+        self.assertEqual(self.ask(PATH), wanted)
+
+    def test_a_keeper_that_is_killed(self):
+        process = self.serve()
+        wanted, keeper = self.ask(PATH), children_of(process.pid)[0]
+        os.kill(keeper, signal.SIGKILL)
+        self.wait_for(lambda: self.says("the keeper of the fronts ended by signal 9"))
+        self.wait_for(lambda: keeper not in children_of(process.pid) and len(fronts_of(process)) == 1)
+        self.assertEqual(self.ask(PATH), wanted)
+
+    def test_a_master_that_is_killed_leaves_nothing(self):
+        process = self.serve("--fronts", "2")
+        left = [*children_of(process.pid), *fronts_of(process), *workers_of(process)]
+        self.assertEqual(len(left), 5)
+        process.kill()
+        self.wait_for(lambda: not any(pathlib.Path(f"/proc/{number}").exists() for number in left))
+
+    def test_fronts_are_forked_without_threads(self):
+        process = self.serve("--network", self.folder / "v", "--fronts", "2")
+        for number in (process.pid, *children_of(process.pid)):
+            self.assertEqual(os.listdir(f"/proc/{number}/task"), [str(number)])
+
+    def test_reloads_that_fail_say_why(self):
+        """Whatever is wrong with the files, and however the process that opens them ends."""
+        process = self.serve("--network", self.folder / "v")
+        wanted = self.ask(PATH)
+        hierarchy, network = self.folder / "v.rch", self.folder / "v.npz"
+        good = {path: path.read_bytes() for path in (hierarchy, network)}
+        text = good[network]
+        cases = [
+            (hierarchy, None, "v.rch: No such file"), (hierarchy, b"", "v.rch: is no file that `routecli prepare` wrote"),
+            (hierarchy, good[hierarchy][:-1], "v.rch: has"), (network, text[: len(text) // 2], "v.npz: is damaged"),
+            (network, b"no archive", "v.npz: is damaged"),
+        ]
+        for path, bytes_, says in cases:
+            with self.subTest(path=path.name, says=says):
+                self.said.clear()
+                path.unlink()
+                if bytes_ is not None:
+                    path.write_bytes(bytes_)
+                process.send_signal(signal.SIGHUP)
+                self.wait_for(lambda: self.says("reload refused: ") and self.says(says))
+                path.unlink(missing_ok=True)
+                path.write_bytes(good[path])
+        with self.subTest("a pipe that nobody writes to"):
+            self.said.clear()
+            hierarchy.unlink()
+            os.mkfifo(hierarchy)
+            process.send_signal(signal.SIGHUP)
+            self.wait_for(lambda: self.says("v.rch: is no regular file"))
+            hierarchy.unlink()
+            hierarchy.write_bytes(good[hierarchy])
+        self.assertEqual(self.ask(PATH), wanted)
+        self.assertEqual(self.value("reloads_refused_total"), len(cases) + 1)
+        self.assertEqual(self.value("reloads_total"), 0)
+
+    def test_a_hierarchy_that_is_overwritten(self):
+        """In place, by one of as many nodes and links: a worker that is started anew would answer by it. It isn't taken."""
+        process = self.serve()
+        wanted = self.ask(PATH)
+        path, graph = self.folder / "v.rch", self.graph
+        ends = ([node - 1 for node in nodes] for nodes in (graph.starts, graph.ends))
+        domethyme.write_graph(self.folder / "n.gr", *ends, [2 * weight for weight in graph.weights], nodes=graph.nodes)
+        domethyme.prepare(self.folder / "n.gr", self.folder / "n.rch", workers=1).close()
+        with open(path, "r+b") as file:
+            file.write((self.folder / "n.rch").read_bytes())
+        self.assertEqual(self.ask(PATH), wanted)
+        for worker in workers_of(process):
+            os.kill(worker, signal.SIGKILL)
+        self.wait_for(lambda: self.says("v.rch: has been written to since it was opened"))
+        self.assertEqual(self.ask("/health")[0], 503)
+        process.send_signal(signal.SIGHUP)
+        self.wait_for(lambda: self.says("reloaded"))
+        self.assertEqual(self.ask(PATH)[1]["length"], 2 * wanted[1]["length"])
+
+    def test_metrics_are_of_the_whole_service(self):
+        process = self.serve("--fronts", "3")
+        for _ in range(30):
+            self.ask(PATH)
+        name = 'requests_total{endpoint="/nodes/length",status="200"}'
+        self.assertEqual({self.value(name) for _ in range(12)}, {30})
+        os.kill(fronts_of(process)[0], signal.SIGKILL)
+        self.wait_for(lambda: self.value("front_restarts_total") == 1)
+        process.send_signal(signal.SIGHUP)
+        self.wait_for(lambda: self.value("reloads_total") == 1)
+        self.assertEqual(self.value(name), 30)
+
+    def test_a_module_in_the_working_folder(self):
+        """The service is started in a folder with modules of its own names, which don't run."""
+        for name in ("numpy", "aiohttp", "json", "domethyme_service"):
+            self.write(f"{name}.py", f"open({str(self.folder / 'ran')!r}, 'w').close()\n")
+        before = os.getcwd()
+        os.chdir(self.folder)
+        try:
+            self.serve("--fronts", "2", "--network", self.folder / "v")
+        finally:
+            os.chdir(before)
+        self.assertEqual(self.ask("/health")[0], 200)
+        self.assertFalse((self.folder / "ran").exists())
+
+
+class DescriptorTests(ServiceCase):
+    def test_more_connections_than_descriptors(self):
+        """Under a limit of 200 descriptors: connections beyond are answered 503, workers are started anew, and that is logged."""
+        self.command = ("prlimit", "--nofile=200:200", *self.command)
+        process = self.serve()
+        self.assertTrue(any("a front has at most 132 connections" in line for line in self.said), self.said)
+        with contextlib.ExitStack() as stack:
+            streams = [stack.enter_context(socket.create_connection(("127.0.0.1", self.port), 20)) for _ in range(132)]
+            for stream in streams[:3]:
+                stream.sendall(b"GET /health HTTP/1.1\r\nHost: x\r\n\r\n")
+                self.assertIn(b"200 OK", stream.recv(4096))
+            self.assertIn(b" 503 ", self.raw(b""))
+            worker = workers_of(process)[0]
+            os.kill(worker, signal.SIGKILL)
+            streams[0].sendall(f"GET {PATH} HTTP/1.1\r\nHost: x\r\n\r\n".encode())
+            self.assertIn(b"200 OK", streams[0].recv(4096))
+        self.assertNotIn(worker, workers_of(process))
+
+    def test_the_soft_limit_is_raised(self):
+        hard = resource.getrlimit(resource.RLIMIT_NOFILE)[1]
+        self.command = ("prlimit", "--nofile=128:", *self.command)
+        process = self.serve("--connections", "300")
+        text = pathlib.Path(f"/proc/{fronts_of(process)[0]}/limits").read_text()
+        self.assertGreaterEqual(int(re.search(r"Max open files +(\d+)", text)[1]), min(300, hard))
+
+
+class BrowserTests(ServiceCase):
+    """A page of another origin, in a browser on the same machine."""
+
+    def test_hosts(self):
+        self.serve()
+        for host, status in (("127.0.0.1", 200), (f"127.0.0.1:{self.port}", 200), ("localhost", 200), ("LOCALHOST:80", 200), ("x", 200),
+                             ("evil.example", 421), ("127.0.0.1.evil.example", 421), ("127.0.0.2", 421), ("[::1]", 421)):
+            with self.subTest(host=host):
+                self.assertEqual(self.ask(PATH, headers={"Host": host})[0], status)
+        self.assertIn(b" 421 ", self.raw(f"GET http://evil.example{PATH} HTTP/1.1\r\nHost: x\r\n\r\n".encode()))
+        self.assertIn(b" 200 ", self.raw(f"GET {PATH} HTTP/1.0\r\n\r\n".encode()))
+
+    def test_pages_of_other_origins(self):
+        self.serve()
+        cross = {"Sec-Fetch-Site": "cross-site", "Sec-Fetch-Mode": "no-cors", "Sec-Fetch-Dest": "image"}
+        for headers, path, status in (
+            (cross, PATH, 403), ({**cross, "Sec-Fetch-Mode": "navigate"}, PATH, 403), ({**cross, "Sec-Fetch-Mode": "navigate"}, "/", 200),
+            (cross, "/", 403), ({"Sec-Fetch-Site": "same-site"}, PATH, 403), ({"Sec-Fetch-Site": "same-origin"}, PATH, 200),
+            ({"Sec-Fetch-Site": "none"}, PATH, 200), ({"Origin": "http://evil.example"}, PATH, 403),
+            ({"Origin": f"http://127.0.0.1:{self.port}"}, PATH, 200), ({}, PATH, 200),
+        ):
+            with self.subTest(headers=headers, path=path):
+                self.assertEqual(self.ask(path, headers=headers)[0], status)
+                self.assertNotIn("Access-Control-Allow-Origin", self.headers)
+
+    def test_bodies_that_a_page_can_send_unasked(self):
+        self.serve()
+        line = '{"from": 1, "to": 1}'
+        for kind in ("text/plain", "application/x-www-form-urlencoded", "multipart/form-data", ""):
+            self.assertEqual(self.ask("/nodes/lengths", "POST", line, {"Content-Type": kind})[0], 415)
+        for kind in ("application/json", "application/x-ndjson; charset=utf-8"):
+            self.assertEqual(self.ask("/nodes/lengths", "POST", line, {"Content-Type": kind})[0], 200)
+        self.assertEqual(self.ask("/nodes/lengths", "OPTIONS")[0], 405)
+
+    def test_an_origin_that_may_ask(self):
+        self.serve("--cors", "https://map.example")
+        mine = {"Origin": "https://map.example", "Sec-Fetch-Site": "cross-site", "Sec-Fetch-Mode": "cors"}
+        self.assertEqual(self.ask(PATH, headers=mine)[0], 200)
+        self.assertEqual((self.headers["Access-Control-Allow-Origin"], self.headers["Vary"]), ("https://map.example", "Origin"))
+        self.assertEqual(self.ask(PATH, headers={**mine, "Origin": "https://evil.example"})[0], 403)
+        self.assertEqual(self.ask(PATH, headers={"Sec-Fetch-Site": "cross-site"})[0], 403)
+        status = self.raw(b"OPTIONS /nodes/lengths HTTP/1.1\r\nHost: x\r\nOrigin: https://map.example\r\nConnection: close\r\n"
+                          b"Access-Control-Request-Method: POST\r\nAccess-Control-Request-Headers: content-type\r\n\r\n")
+        self.assertRegex(status, rb"(?s)^HTTP/1.1 204 .*Access-Control-Allow-Headers: Content-Type")
+
+    def test_addresses(self):
+        self.assertTrue(asking.is_address("[::1]", "::1") and asking.is_address("10.0.0.7", "::ffff:10.0.0.7"))
+        self.assertFalse(asking.is_address("10.0.0.8", "10.0.0.7") or asking.is_address("localhost", "10.0.0.7"))
+        allowed = asking.Allowed.of(["Routes.Example"], "none")
+        self.assertTrue(allowed.is_host("routes.example:443", "10.0.0.7"))
+
+
+class FramingTests(ServiceCase):
+    def test_upgrades_and_tunnels(self):
+        """Garbage behind them is no request, is answered so, and leaves nothing in the log."""
+        self.serve()
+        for head in (f"GET {PATH} HTTP/1.1\r\nHost: x\r\nConnection: Upgrade\r\nUpgrade: websocket\r\n\r\n",
+                     "CONNECT x:443 HTTP/1.1\r\nHost: x\r\n\r\n"):
+            answer = self.raw(head.encode() + b"\x16\x03\x01garbage\r\n\r\n")
+            self.assertRegex(answer, rb"HTTP/1\.[01] 400 ")
+        self.assertFalse([line for line in self.said if "Traceback" in line], self.said)
+
+    def test_a_line_feed_alone_is_refused_at_once(self):
+        self.serve("--head-seconds", "60")
+        begun = time.monotonic()
+        self.assertIn(b" 400 ", self.raw(f"GET {PATH} HTTP/1.1\nHost: x\n\n".encode()))
+        self.assertLess(time.monotonic() - begun, BUSY)
+
+    def test_many_requests_ahead(self):
+        """Two hundred connections that send all they can ahead: less than 256 KiB for each is held."""
+        process = self.serve("--network", self.folder / "v", faults=["sleep 1"], program=STAND_IN)
+        many = f"GET {PATH} HTTP/1.1\r\nHost: x\r\n\r\n".encode() * 6000
+        before = resident(fronts_of(process)[0])
+        with contextlib.ExitStack() as stack:
+            for _ in range(200):
+                stream = stack.enter_context(socket.create_connection(("127.0.0.1", self.port), 20))
+                stream.setblocking(False)
+                with contextlib.suppress(BlockingIOError):
+                    while True:
+                        stream.send(many)
+            time.sleep(1)
+            self.assertLess(resident(fronts_of(process)[0]) - before, 200 * 512)
+
+
+class WorkTests(ServiceCase):
+    """Work that takes long, and what is held up by it."""
+
+    def longest_health(self, work):
+        """The longest that `/health` took while the work was done."""
+        found, is_over = [0.0], threading.Event()
+
+        def look():
+            while not is_over.is_set():
+                begun = time.monotonic()
+                self.assertEqual(self.ask("/health")[0], 200)
+                found.append(time.monotonic() - begun)
+
+        looking = threading.Thread(target=look)
+        looking.start()
+        try:
+            work()
+        finally:
+            is_over.set()
+            looking.join()
+        return max(found)
+
+    def test_five_hundred_places(self):
+        """That alternate between two corners, with all that a route can have: others are answered meanwhile."""
+        self.serve("--network", self.folder / "v")
+        words = ";".join(HIGH.split(";") * 250)
+        query = "steps=true&annotations=true&geometries=geojson"
+        found = []
+        held_up = self.longest_health(lambda: found.append(self.ask(f"/route/v1/car/{words}?{query}")))
+        self.assertEqual((found[0][0], len(found[0][1]["routes"][0]["legs"])), (200, 499))
+        self.assertLess(held_up, HELD_UP * BUSY)
+
+    def test_a_client_that_has_gone_stops_its_work(self):
+        self.serve("--network", self.folder / "v")
+        places = [f"{0.00001 * number:.5f},0.00001" for number in range(1000)]
+        for how in ("reset", "closed"):
+            with self.subTest(how=how):
+                before = self.value("work_stopped_total")
+                with socket.create_connection(("127.0.0.1", self.port), 20) as stream:
+                    stream.sendall(f"GET /table/v1/car/{';'.join(places)} HTTP/1.1\r\nHost: x\r\n\r\n".encode())
+                    time.sleep(0.2)
+                    if how == "reset":
+                        stream.setsockopt(socket.SOL_SOCKET, socket.SO_LINGER, struct.pack("ii", 1, 0))
+                end = time.monotonic() + 30
+                while self.value("connections") > 1:
+                    self.assertLess(time.monotonic(), end)
+                    time.sleep(0.05)
+                self.assertLessEqual(self.value("work_stopped_total") - before, 1)
+
+    def test_bodies_that_do_not_come_leave_room_for_batches(self):
+        """A hundred POSTs without their bodies: batches of others are answered."""
+        self.serve()
+        with contextlib.ExitStack() as stack:
+            for _ in range(100):
+                stream = stack.enter_context(socket.create_connection(("127.0.0.1", self.port), 20))
+                stream.sendall(b"POST /nodes/lengths HTTP/1.1\r\nHost: x\r\nContent-Type: application/json\r\nContent-Length: 99\r\n\r\n{")
+            time.sleep(0.3)
+            self.assertEqual(self.ask("/nodes/lengths", "POST", '{"from": 1, "to": 1}', NDJSON), (200, '{"from":1,"to":1,"length":0}\n'))
+
+    def test_a_worker_that_is_silent_is_replaced_in_time(self):
+        """Before the time of the request is over, so that the next one answers it."""
+        self.serve(faults=["sleep 1", "well"], program=STAND_IN)
+        begun = time.monotonic()
+        connection = http.client.HTTPConnection("127.0.0.1", self.port, timeout=60)
+        self.addCleanup(connection.close)
+        connection.request("GET", PATH)
+        self.assertEqual(connection.getresponse().status, 200)
+        self.assertLess(time.monotonic() - begun, 29)
+
+    def test_places_far_away(self):
+        """Five hundred at the antipodes, with unlimited radiuses."""
+        self.serve("--network", self.folder / "v")
+        words = ";".join(["-179.99,0.01"] * 500)
+        held_up = self.longest_health(lambda: self.ask(f"/route/v1/car/{words}?radiuses={';'.join(['unlimited'] * 500)}&overview=false"))
+        self.assertLess(held_up, HELD_UP * BUSY)
+
+
+class DeskTests(unittest.TestCase):
+    def test_a_turn_of_the_loop_is_short_while_lines_are_simplified(self):
+        """A line of 80,000 points that alternates between two corners: by processor time of the loop, and the wall beside it."""
+        ways = [np.column_stack((np.linspace(0, 1, 800), np.random.default_rng(number).normal(0, 0.01, 800))) for number in range(100)]
+
+        def work(budget):
+            return [len(encoded(simplified(way, 0.001, budget), 5)) for way in ways]
+
+        async def run():
+            desk, turns = Desk(), []
+            doing = asyncio.ensure_future(desk.do(work))
+            while not doing.done():
+                begun = time.thread_time()
+                await asyncio.sleep(0.001)
+                turns.append(time.thread_time() - begun)
+            desk.close()
+            return max(turns), len(doing.result())
+
+        longest, count = asyncio.run(run())
+        self.assertLess(longest, HELD_UP)
+        self.assertEqual(count, 100)
+
+    def test_simplified(self):
+        """By the plain rule, point by point: no point is further off than it may be, and the ends stay."""
+        rng = np.random.default_rng(5)
+        for count in (2, 3, 50, 400):
+            line = np.cumsum(rng.normal(0, 0.001, (count, 2)), axis=0)
+            found = simplified(line, 0.002, Budget())
+            self.assertEqual((found[0].tolist(), found[-1].tolist()), (line[0].tolist(), line[-1].tolist()))
+            kept = [line.tolist().index(point) for point in found.tolist()]
+            self.assertEqual(kept, sorted(kept))
+            for low, high in zip(kept, kept[1:]):
+                for point in line[low + 1 : high]:
+                    self.assertLessEqual(off(point, line[low], line[high], np.cos(np.radians(line[0, 1]))), 0.002 + 1e-12)
+        self.assertEqual(len(simplified(np.array([[0, 0], [0.5, 0.0001], [1.0, 0]]), 0.001, Budget())), 2)
+        self.assertEqual(len(simplified(np.zeros((9, 2)), 0.0, Budget())), 2)
+
+    def test_budgets(self):
+        budget = Budget()
+        with self.assertRaises(Refused):
+            budget.spend(10**9)
+        with self.assertRaises(Refused):
+            simplified(np.zeros((1000, 2)), -1.0, small())
+        budget.stop()
+        for attempt in (budget.step, lambda: budget.spend(1), lambda: list(budget.over([1]))):
+            with self.assertRaises(Stopped):
+                attempt()
+
+    def test_work_is_stopped_and_limited(self):
+        stopped, steps = [], []
+
+        def endless(budget):
+            while True:
+                budget.step()
+                steps.append(1)
+                time.sleep(0.001)
+
+        async def run():
+            desk = Desk(lambda: stopped.append(1))
+            tasks = [asyncio.ensure_future(desk.do(endless)) for _ in range(MOST_WAITING)]
+            await asyncio.sleep(0.05)
+            with self.assertRaises(Refused):
+                await desk.do(endless)
+            with self.assertRaises(TimeoutError):
+                async with asyncio.timeout(0.05):
+                    await tasks[0]
+            for task in tasks:
+                task.cancel()
+            await asyncio.gather(*tasks, return_exceptions=True)
+            while desk.waiting:
+                await asyncio.sleep(0.01)
+            count = len(steps)
+            await asyncio.sleep(0.05)
+            self.assertEqual(len(steps), count)
+            desk.close()
+
+        asyncio.run(run())
+        self.assertEqual(len(stopped), MOST_WAITING)
+
+
+class PatternTests(unittest.TestCase):
+    # By the name of each pattern that sees what a client sends the texts that are worst for it, of n signs.
+    WORST = {
+        "METRES": ("9", "9.9", "0."), "DIRECTION": ("9", "9,", ","), "INDEX": ("9",), "NODE": ("9",), "COUNT": ("9",),
+        "NUMBER": ("9", "9.", "+9", "9e", ".9"), "PROFILE": ("a", "a.", "."), "LINE": ("polyline(", "(", "polyline6("),
+        "TILE": ("/map/roads/9/", "9/", "/"), "HOST": ("a", "a.", "[:", "a:9", "["), "FIRST_LINE": ("GET ", "! ", "G", " HTTP/1.1"),
+        "LENGTH": ("9",),
+    }
+
+    def test_each_is_linear(self):
+        """Each pattern of the package that may see the network takes no more than in proportion to the text."""
+        from domethyme_service import connection
+
+        found = {}
+        for module in (asking, connection, endpoints, osrm_request, parameters):
+            found |= {name: value for name, value in vars(module).items() if isinstance(value, re.Pattern)}
+        self.assertEqual(found.keys(), self.WORST.keys(), "a pattern without its worst texts, or texts without a pattern")
+        for name, pattern in found.items():
+            for part in self.WORST[name]:
+                for begin, end in (("", ""), ("", "\0"), ("polyline(", "\n"), ("GET ", "\0")):
+                    times = [self.least(pattern, begin + part * (size // len(part)) + end) for size in (20_000, 80_000)]
+                    self.assertLess(times[1], 0.05 + 20 * times[0], (name, part, times))
+
+    def least(self, pattern, text):
+        given = text.encode() if isinstance(pattern.pattern, bytes) else text
+        times = []
+        for _ in range(3):
+            begun = time.thread_time()
+            pattern.fullmatch(given)
+            times.append(time.thread_time() - begun)
+        return min(times)
+
+
+def small():
+    budget = Budget()
+    budget.looked_at = 100
+    return budget
+
+
+def off(point, begin, end, shrink):
+    """The distance of a point from the line between two others."""
+    point, begin, end = (np.array(each) * (shrink, 1.0) for each in (point, begin, end))
+    way = end - begin
+    square = way @ way
+    part = min(1.0, max(0.0, (point - begin) @ way / square)) if square else 0.0
+    return float(np.hypot(*(point - begin - part * way)))
+
+
+if __name__ == "__main__":
+    unittest.main()
