@@ -164,8 +164,8 @@ class PointerTests(BrowserCase):
         self.browser.until("document.getElementById('total').textContent === '1 min720 m'")
         self.browser.drag(self.pixel(0.0045, 0), self.pixel(0.006, 0.0006))
         self.browser.until("document.querySelectorAll('#steps .text').length === 6")
-        self.steps("Start on High Street", "Turn left into Mill Road", "Arrive at the place between", "Go on on Mill Road",
-                   "Turn left into High Street", "Arrive at the destination")
+        self.steps("Start on High Street", "Turn left onto Mill Road", "Arrive at the place between", "Continue on Mill Road",
+                   "Turn left onto High Street", "Arrive at the destination")
         self.assertEqual(self.browser.value("[...document.querySelectorAll('.mark')].map(each => each.textContent).join()"), "A,1,B")
         self.assertEqual(self.browser.value("location.hash.split(';').length"), 3)
         self.assertGreater(self.browser.value("document.querySelectorAll('#route .arrow').length"), 2)
@@ -229,8 +229,8 @@ class KeyboardTests(BrowserCase):
             self.browser.press("ArrowLeft")
         self.browser.press("Enter")
         # (the second place is beside Down Street, which is open to the south alone)
-        self.steps("Start on High Street", "Turn right into Up Street", "Turn right into Top Street",
-                   "Turn right into Down Street", "Arrive at the destination")
+        self.steps("Start on High Street", "Turn right onto Up Street", "Turn right onto Top Street",
+                   "Turn right onto Down Street", "Arrive at the destination")
         before = self.browser.value("location.hash")
         self.keep("keys")
         self.browser.press("Tab")

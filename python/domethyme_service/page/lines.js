@@ -38,7 +38,8 @@ export function roomFor(points, width) {
 
 // Keeps boxes apart: whether one around a text has room, which it then takes.
 export class Room {
-  constructor() { this.boxes = []; }
+  // Beside boxes [left, top, right, bottom] that are taken.
+  constructor(boxes = []) { this.boxes = [...boxes]; }
 
   take(x, y, width, height, turn = 0) {
     const angle = turn * Math.PI / 180;

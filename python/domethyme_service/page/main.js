@@ -7,18 +7,20 @@ import { Roads } from "./roads.js";
 import { Route } from "./route.js";
 import { service } from "./service.js";
 import { View } from "./view.js";
-import { far, fault, hint } from "./words.js";
+import { far, fault, hint, placeOf } from "./words.js";
 
 export { places, route, view };
 
 const $ = (id) => document.getElementById(id);
 const SCALES = [1, 2, 5, 10, 20, 50, 100, 200, 500, 1000, 2000, 5000, 10_000, 20_000, 50_000, 100_000, 200_000, 500_000, 1_000_000];
 
-let network = null, asking = null, isWaiting = false;
+let network = null, asking = null, isWaiting = false, hasToFit = false;
 
 const view = new View($("map"), draw, (place) => {
-  if (places.count < 2) places.add(place);
-  else places.insert(legNear(place) + 1, place);
+  if (places.count < 2) {
+    hasToFit = places.count === 1;
+    places.add(place);
+  } else places.insert(legNear(place) + 1, place);
 });
 const roads = new Roads($("roads"), service, view);
 const route = new Route($("route"), view, (event, leg) => {
@@ -104,11 +106,17 @@ function show(found) {
     return;
   }
   panel.set(found, places.count);
+  if (hasToFit && !isShown(route.box)) fit();
+  hasToFit = false;
   places.name(found.waypoints);
   document.title = `${$("total").textContent} · Routes`;
 }
 
+// Whether all of a box is shown.
+const isShown = ([west, south, east, north]) => view.has([west, south], 10) && view.has([east, north], 10);
+
 function refuse(error) {
+  hasToFit = false;
   const { number, text } = fault(error);
   route.set(null, places.all);
   roads.without = new Set();
@@ -126,8 +134,22 @@ function fit() {
   if (box) view.fit(box, 64);
 }
 
-// Takes the places of the address.
+// Adds the place that was typed, and shows the route by it.
+function typed(event) {
+  event.preventDefault();
+  const place = placeOf($("at").value);
+  $("how").className = place ? "" : "wrong";
+  $("how").textContent = place ? "Latitude, longitude" : "That isn't a place. Type its latitude and longitude in degrees, as 47.1410, 9.5215.";
+  if (!place) return;
+  $("at").value = "";
+  hasToFit = true;
+  places.add(place);
+  if (!view.has(place)) view.centreAt(place);
+}
+
+// Takes the places of the address. The route may lead further than they lie: it is shown whole once it is there.
 function follow() {
+  hasToFit = true;
   places.set(read(location.hash));
   if (places.count) {
     const [lons, lats] = [places.all.map((place) => place[0]), places.all.map((place) => place[1])];
@@ -140,6 +162,7 @@ $("out").addEventListener("click", () => view.zoomTo(view.zoom - 1));
 $("all").addEventListener("click", fit);
 $("map").addEventListener("keydown", (event) => { if (event.key === "Home") fit(); });
 $("clear").addEventListener("click", () => { places.set([]); $("map").focus(); });
+$("typed").addEventListener("submit", typed);
 $("reverse").addEventListener("click", () => places.set(places.all.toReversed()));
 $("share").addEventListener("click", () => copy($("share"), $("link")));
 window.addEventListener("hashchange", follow);

@@ -115,7 +115,7 @@ export class Roads {
 
   // Writes the names of streets along them, each where it has room.
   write(drawn) {
-    const { pen, inks } = this, room = new Room(), last = new Map();
+    const { pen, inks } = this, room = new Room(this.view.covered()), last = new Map();
     pen.font = "12px system-ui, 'Segoe UI', Roboto, 'DejaVu Sans', sans-serif";
     pen.textAlign = "center";
     pen.textBaseline = "middle";

@@ -43,7 +43,7 @@ export class Route {
   }
 
   draw() {
-    const { view, layers } = this, room = new Room(), lines = [], signs = [], texts = [];
+    const { view, layers } = this, room = new Room(view.covered()), lines = [], signs = [], texts = [];
     for (const spot of this.places) {
       const [x, y] = view.pixel(spot);
       room.take(x, y - 20, 30, 40);

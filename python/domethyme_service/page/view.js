@@ -50,6 +50,11 @@ export class View {
     this.soon();
   }
 
+  centreAt(at) {
+    this.centre = plane(at);
+    this.soon();
+  }
+
   // Zooms so that the pixel keeps its place.
   zoomTo(zoom, [x, y] = [this.width / 2, this.height / 2]) {
     const east = x - this.width / 2, south = y - this.height / 2;
@@ -72,6 +77,13 @@ export class View {
   has(at, margin = 30) {
     const [x, y] = this.pixel(at);
     return x > margin && y > margin && x < this.width - margin && y < this.height - margin;
+  }
+
+  // The boxes of the map that lie under its scale, its credit and its buttons: no name is written there.
+  covered() {
+    const { left, top } = this.element.getBoundingClientRect();
+    return [...this.element.querySelectorAll("#scale, #credit, #zoom")].map((each) => each.getBoundingClientRect())
+      .filter((box) => box.width).map((box) => [box.left - left - 2, box.top - top - 2, box.right - left + 2, box.bottom - top + 2]);
   }
 
   at(event) {

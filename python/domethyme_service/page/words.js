@@ -28,13 +28,13 @@ const th = (number) => `${number}${["th", "st", "nd", "rd"][number % 100 > 10 &&
 // What to do at a step.
 export function told(step, role) {
   const { type, modifier, exit } = step.maneuver, name = street(step);
-  const into = name ? ` into ${name}` : "", toward = step.destinations ? ` towards ${step.destinations}` : "";
+  const into = name ? ` onto ${name}` : "", toward = step.destinations ? ` towards ${step.destinations}` : "";
   if (type === "arrive") return role === "end" ? "Arrive at the destination" : "Arrive at the place between";
-  if (type === "depart") return `${role === "start" ? "Start" : "Go on"}${name ? ` on ${name}` : ""}${toward}`;
+  if (type === "depart") return `${role === "start" ? "Start" : "Continue"}${name ? ` on ${name}` : ""}${toward}`;
   if (type === "roundabout" || type === "rotary") return `At the roundabout take the ${exit ? `${th(exit)} ` : ""}exit${into}${toward}`;
   if (modifier === "uturn") return `Turn round${into}`;
   const side = modifier === "straight" ? "Go straight on" : modifier.startsWith("slight") ? `Keep ${modifier.slice(7)}` : `Turn ${modifier}`;
-  if (type === "new name" && modifier === "straight") return `Go on${into}${toward}`;
+  if (type === "new name" && modifier === "straight") return `Continue${into}${toward}`;
   return type === "continue" ? `${side}${name ? ` and stay on ${name}` : ""}${toward}` : `${side}${into}${toward}`;
 }
 
@@ -51,6 +51,24 @@ export function fault(error) {
   return { text: () => error.message };
 }
 
+// What one does with a pointer to choose a place: there are phones without a mouse.
+const isTouched = matchMedia("(hover: none) and (pointer: coarse)");
+const point = () => isTouched.matches ? "Tap" : "Click";
+
 export function hint(count) {
-  return ["Click the map to set the start.", "Click the map to set the destination.", "Drag the route or a place to change it."][Math.min(count, 2)];
+  return [`${point()} the map to set the start.`, `${point()} the map to set the destination.`, "Drag the route or a place to change it."][Math.min(count, 2)];
+}
+
+// The place that a text names: latitude and longitude in degrees, as maps write them, or with N, S, E and W in any order; null for
+// what is none.
+export function placeOf(text) {
+  const found = /^\s*([+-]?\d{1,3}(?:\.\d{0,12})?)\s*°?\s*([NSEW]?)\s*[,;\s]\s*([+-]?\d{1,3}(?:\.\d{0,12})?)\s*°?\s*([NSEW]?)\s*$/i.exec(text);
+  if (!found) return null;
+  const [first, second] = [found[2].toUpperCase(), found[4].toUpperCase()];
+  const value = (digits, side) => Number(digits) * (side === "S" || side === "W" ? -1 : 1);
+  const isTurned = "EW".includes(first || "-") || "NS".includes(second || "-");
+  if (Boolean(first) !== Boolean(second) || first && "NS".includes(first) === "NS".includes(second)) return null;
+  const [one, other] = [value(found[1], first), value(found[3], second)];
+  const [lat, lon] = isTurned ? [other, one] : [one, other];
+  return Math.abs(lat) <= 90 && Math.abs(lon) <= 180 ? [lon, lat] : null;
 }
