@@ -32,13 +32,13 @@ class Service:
         words = [ROOT / "tools/domethyme-serve", given.hierarchy, "--port", "0", "--fronts", given.fronts]
         self.process = subprocess.Popen(list(map(str, words)), stderr=subprocess.PIPE, text=True)
         assert self.process.stderr is not None
-        listening = 0
-        while listening < given.fronts:
+        found = None
+        while found is None:
             line = self.process.stderr.readline()
             if not line:
                 raise SystemExit("the service didn't start")
-            if found := re.search(r"listens at http://127\.0\.0\.1:(\d+)/", line):
-                self.port, listening = int(found[1]), listening + 1
+            found = re.search(r"listens at http://127\.0\.0\.1:(\d+)/", line)
+        self.port = int(found[1])
 
     def times(self) -> tuple[float, float]:
         """The processor seconds of all fronts, and of all workers."""
@@ -76,7 +76,8 @@ class Load:
         count = 0
         while time.monotonic() < self.end:
             connection = http.client.HTTPConnection("127.0.0.1", self.port, timeout=60)
-            connection.request("POST", "/nodes/lengths", self.bodies[(count // LINES + number) % len(self.bodies)])
+            body = self.bodies[(count // LINES + number) % len(self.bodies)]
+            connection.request("POST", "/nodes/lengths", body, {"Content-Type": "application/x-ndjson"})
             if (found := connection.getresponse().read()).count(b',"length":') != LINES:
                 raise AssertionError(found[-200:])
             count += LINES

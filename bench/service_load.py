@@ -58,11 +58,9 @@ class Service:
         words = [ROOT / "tools/domethyme-serve", given.hierarchy, "--network", given.network, "--port", "0", "--fronts", given.fronts]
         begun = time.monotonic()
         self.process = subprocess.Popen(list(map(str, words)), stderr=subprocess.PIPE, text=True)
-        listening = 0
         for line in self.process.stderr:
             if found := re.search(r"listens at http://127\.0\.0\.1:(\d+)/", line):
-                self.port, listening = int(found[1]), listening + 1
-            if listening == given.fronts:
+                self.port = int(found[1])
                 break
         self.seconds_to_begin = time.monotonic() - begun
 
