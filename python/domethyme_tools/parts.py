@@ -25,6 +25,7 @@ import os
 import re
 import shutil
 import socket
+import stat
 import typing
 import uuid
 from collections.abc import Callable, Iterable, Iterator
@@ -252,7 +253,8 @@ def locked(folder: Folder, out: str) -> Iterator[None]:
         with contextlib.suppress(FileExistsError):
             os.mkdir(folder.path)
         try:
-            lock = open(folder.lock, "a+", encoding="utf-8")
+            refuse_if_foreign(folder.path)
+            lock = open(folder.lock, "a+", encoding="utf-8", opener=without_links)
         except FileNotFoundError:
             continue
         with lock:
@@ -262,6 +264,21 @@ def locked(folder: Folder, out: str) -> Iterator[None]:
                 print(f"process {os.getpid()} on {socket.gethostname()}", file=lock, flush=True)
                 yield
                 return
+
+
+def refuse_if_foreign(path: str) -> None:
+    """A Fault where another user may have put something into the folder, or it has a link: files would be written elsewhere."""
+    found = os.lstat(path)
+    if not stat.S_ISDIR(found.st_mode) or found.st_uid != os.geteuid() or found.st_mode & stat.S_IWOTH:
+        raise Fault("isn't a folder that you alone may write to: remove it, or give another OUT", path)
+    for entry in os.scandir(path):
+        if entry.is_symlink():
+            raise Fault("is a link, and nothing is written by way of one: remove it", entry.path)
+
+
+def without_links(path: str, flags: int) -> int:
+    """Opens a file, which may be no link."""
+    return os.open(path, flags | os.O_NOFOLLOW, 0o666)
 
 
 def take_lock(lock: IO[str], out: str) -> None:

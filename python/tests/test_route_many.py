@@ -299,6 +299,42 @@ class OneMachineTests(RouteManyCase):
         self.assertIn("route_many: no.json: no scheduler answers", ended.stderr)
 
 
+class PartsFolderTests(RouteManyCase):
+    """A folder OUT.parts that another user has made, where any may write: nothing is written by its links."""
+
+    def refused(self, says):
+        victim = self.write("victim", "as it was")
+        ended = self.run_tool("route_many", "network.rch", "pairs", "out", status=1)
+        self.assertRegex(ended.stderr, rf"^route_many: .*out\.parts.*{says}.*\n$")
+        self.assertEqual((victim.read_text(), (self.folder / "out").exists()), ("as it was", False))
+
+    def test_links(self):
+        parts_folder = self.folder / "out.parts"
+        parts_folder.symlink_to(self.folder)
+        self.refused("isn't a folder that you alone may write to")
+        parts_folder.unlink()
+        for name in ("lock", "plan.json", "whole.pairs", "000000.pairs", "drafts-" + "0" * 32):
+            with self.subTest(name=name):
+                parts_folder.mkdir()
+                (parts_folder / name).symlink_to(self.folder / "victim")
+                self.refused("is a link")
+                (parts_folder / name).unlink()
+                parts_folder.rmdir()
+
+    def test_a_folder_of_others(self):
+        parts_folder = self.folder / "out.parts"
+        parts_folder.mkdir()
+        parts_folder.chmod(0o777)
+        self.refused("isn't a folder that you alone may write to")
+        parts_folder.chmod(0o755)
+        if os.geteuid() == 0:
+            os.chown(parts_folder, 65534, 65534)
+            self.refused("isn't a folder that you alone may write to")
+            os.chown(parts_folder, 0, 0)
+        self.assertEqual(self.run_tool("route_many", "network.rch", "pairs", "out").stdout, "")
+        self.assertEqual((self.folder / "out").read_text(), self.wanted)
+
+
 class RefusalTests(RouteManyCase):
     """Bad input: the program's own line and status, and nothing is left."""
 
