@@ -21,9 +21,14 @@ HANDED_OVER = 3
 log = logging.getLogger("domethyme_service")
 
 
+def is_handed_over() -> bool:
+    """Whether systemd has the socket, and keeps it when the service ends."""
+    return os.environ.get("LISTEN_PID") == str(os.getpid()) and os.environ.get("LISTEN_FDS") == "1"
+
+
 def listener(host: str, port: int) -> socket.socket:
     """A socket that listens at the address, or the one that systemd has handed over. Raises Unable."""
-    if os.environ.get("LISTEN_PID") == str(os.getpid()) and os.environ.get("LISTEN_FDS") == "1":
+    if is_handed_over():
         listening = socket.socket(fileno=HANDED_OVER)
         os.set_inheritable(HANDED_OVER, False)
     else:

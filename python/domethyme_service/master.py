@@ -14,7 +14,7 @@ from .connection import plain
 from .errors import Unable
 from .front import SECONDS_TO_DRAIN, Setting
 from .keeper import LOOK, Pipe, forked, run_keeper, said_of
-from .listening import address_of, notify
+from .listening import address_of, is_handed_over, notify
 from .metrics import Row
 from .snapshot import Files
 
@@ -192,7 +192,7 @@ class Master:
             each.tell(signal.SIGTERM)
 
     def _end(self) -> None:
-        """Has all generations drain. A connection that comes later is answered that the service ends."""
+        """Has all generations drain. A connection that comes later is answered that the service ends, or waits for the next one."""
         now = time.monotonic()
         if not self._ended_at:
             self._ended_at = now
@@ -200,7 +200,7 @@ class Master:
         if now - self._ended_at > LAST:
             for each in self._all():
                 each.tell(signal.SIGKILL)
-        if now - self._ended_at < FIRST:
+        if now - self._ended_at < FIRST or is_handed_over():
             return
         while self._late and self._late[0][0] < now:
             self._late.pop(0)[1].close()

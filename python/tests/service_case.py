@@ -42,7 +42,7 @@ class ServiceCase(ToolCase):
         domethyme.prepare(self.folder / "v.gr", self.folder / "v.rch", workers=1).close()
         self.graph = read_graph(self.folder / "v.gr")
 
-    def serve(self, *words, faults=(), program=None):
+    def serve(self, *words, faults=(), program=None, descriptors=()):
         """Starts the service, and returns its process, the master's, once it listens at `self.port`. The faults are those of workers:
         the process by which the files are compared has none."""
         program = program or serving_program()
@@ -50,7 +50,7 @@ class ServiceCase(ToolCase):
         if faults:
             environment["SERVE_FAULTS"] = str(self.write("faults", "".join(f"{fault}\n" for fault in ("well", *faults))))
         given = [*self.command, self.folder / "v.rch", "--port", "0", "--allowed-host", "x", *words]
-        process = subprocess.Popen(list(map(str, given)), stderr=subprocess.PIPE, text=True, env=environment)
+        process = subprocess.Popen(list(map(str, given)), stderr=subprocess.PIPE, text=True, env=environment, pass_fds=descriptors)
         self.addCleanup(end, process)
         self.said = []
         for line in process.stderr:

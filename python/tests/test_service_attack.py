@@ -172,6 +172,36 @@ class RestartTests(ServiceCase):
         self.wait_for(lambda: self.value("reloads_total") == 1)
         self.assertEqual(self.value(name), 30)
 
+    def test_a_restart_of_the_whole_service(self):
+        """As by systemd, which hands over its socket: a connection that comes while no service is there is answered by the next."""
+        listening = socket.create_server(("127.0.0.1", 0))
+        self.addCleanup(listening.close)
+        os.dup2(listening.fileno(), 99)
+        self.addCleanup(os.close, 99)
+        hand_over = 'exec 3<&99 99<&-; LISTEN_FDS=1 LISTEN_PID=$$ exec "$@"'
+        self.command = ("bash", "-c", hand_over, "", *self.command)
+        first = self.serve(descriptors=[99])
+        self.assertEqual(self.port, listening.getsockname()[1])
+        wanted = self.ask(PATH)
+        first.send_signal(signal.SIGTERM)
+        self.assertEqual(first.wait(30), 0)
+        with socket.create_connection(("127.0.0.1", self.port), 30) as stream:
+            stream.sendall(f"GET {PATH} HTTP/1.1\r\nHost: x\r\nConnection: close\r\n\r\n".encode())
+            self.serve(descriptors=[99])
+            self.assertIn(f'"length":{wanted[1]["length"]}'.encode(), b"".join(iter(lambda: stream.recv(4096), b"")))
+
+    def test_what_comes_as_the_service_ends(self):
+        """Is answered, be it that the service ends, and not reset."""
+        process = self.serve(faults=["sleep 1"], program=STAND_IN)
+        with socket.create_connection(("127.0.0.1", self.port), 30) as held:
+            held.sendall(f"GET {PATH} HTTP/1.1\r\nHost: x\r\n\r\n".encode())
+            time.sleep(0.3)
+            process.send_signal(signal.SIGTERM)
+            time.sleep(1.5)
+            self.assertIn(b" 503 ", self.raw(b"GET /health HTTP/1.1\r\nHost: x\r\n\r\n", True))
+            self.assertIn(b" 200 OK", held.recv(4096))
+        self.assertEqual(process.wait(30), 0)
+
     def test_a_module_in_the_working_folder(self):
         """The service is started in a folder with modules of its own names, which don't run."""
         for name in ("numpy", "aiohttp", "json", "domethyme_service"):
