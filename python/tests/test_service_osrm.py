@@ -8,6 +8,7 @@ import time
 import urllib.parse
 
 from service_case import ServiceCase, lengths_from
+from tool_case import TOOLS
 from test_turns import STEP as CROSSING_STEP
 from test_turns import crossing
 
@@ -255,6 +256,86 @@ class RequestTests(OsrmCase):
         self.assertAlmostEqual(found[0]["distance"], 0.2 * 111.195, places=2)
         self.assertLessEqual(found[0]["distance"], found[1]["distance"])
         self.assertNotIn("hint", found[0])
+
+    def test_bearings(self):
+        """Along High Street to the east, and first or last to the west: then by the end of its piece, three tenths of a step, and back."""
+        step = 8.00604  # seconds for a thousandth of a degree at 50 km/h
+        for bearings, more in ((";", 0), ("90,20;90,20", 0), ("270,20;", 0.6), (";270,0", 0.6), ("250,20;290,20", 1.2), ("0,180;180,180", 0)):
+            with self.subTest(bearings=bearings):
+                route = self.good(f"/route/v1/car/{HIGH}?bearings={bearings}&steps=true&geometries=geojson&overview=full")["routes"][0]
+                self.assertAlmostEqual(route["duration"], (7.4 + more) * step, delta=0.01)
+                first = route["legs"][0]["steps"][0]["maneuver"]
+                self.assertEqual(first["bearing_after"], 270 if bearings[:1] == "2" else 90)
+        table = self.good(f"/table/v1/car/{HIGH}?bearings=270,20;270,20")["durations"]
+        self.assertAlmostEqual(table[0][1], (7.4 + 1.2) * step, delta=0.01)
+        self.assertEqual(table[0][0], 0)
+        for bearing, name in (("90,10", "High Street"), ("0,10", "Bend Lane"), ("180,10", "Bend Lane")):
+            found = self.good(f"/nearest/v1/car/0.0003,0.00001?bearings={bearing}")["waypoints"][0]
+            self.assertEqual(found["name"], name)
+        self.good("/route/v1/car/0.002,0;0.0077,0?bearings=270,20;")
+
+    def test_ids_of_nodes(self):
+        for path in (f"{HIGH}", "0.0003,0.00001;0.0007,0", "0.002,0;0.006,0", "0.002,0;0.002,0", "0.007,0.0005;0.007,0.0035"):
+            with self.subTest(path=path):
+                status, found = self.ask(f"/route/v1/car/{path}?annotations=nodes,distance&geometries=geojson&overview=full")
+                self.assertEqual(status, 200, found)
+                noted = found["routes"][0]["legs"][0]["annotation"]
+                if noted["distance"]:
+                    self.assertEqual(len(noted["nodes"]), len(noted["distance"]) + 1)
+                else:
+                    self.assertEqual(noted["nodes"], [])
+        noted = self.good(f"/route/v1/car/{HIGH}?annotations=nodes")["routes"][0]["legs"][0]["annotation"]
+        self.assertEqual(noted, {"nodes": [0, 2, 3, 4, 0]})
+        noted = self.good("/route/v1/car/0.002,0;0.006,0?annotations=nodes")["routes"][0]["legs"][0]["annotation"]
+        self.assertEqual(noted, {"nodes": [2, 3, 4]})
+
+    def test_cells_without_a_path(self):
+        """By the way of a bird at a speed; and durations times a factor. By the program for few cells, and by sweeps for many."""
+        lonely = "0.0200,0.0050"
+        for copies in (1, 8):
+            places = ";".join([HIGH, lonely] * copies)
+            with self.subTest(copies=copies):
+                plain = self.good(f"/table/v1/car/{places}")["durations"]
+                self.assertIsNone(plain[0][2])
+                found = self.good(f"/table/v1/car/{places}?fallback_speed=10&scale_factor=2")
+                metres = math.hypot(0.0200 - 0.0003, 0.0050 - 0.00001) * METRES
+                self.assertAlmostEqual(found["durations"][0][2], 2 * metres / 10, delta=0.01)
+                self.assertAlmostEqual(found["durations"][0][1], 2 * plain[0][1], delta=0.002)
+                cells = [[row, column] for row, some in enumerate(plain) for column, value in enumerate(some) if value is None]
+                self.assertEqual(found["fallback_speed_cells"], cells)
+        both = self.good(f"/table/v1/car/{HIGH};{lonely}?fallback_speed=10&annotations=duration,distance&fallback_coordinate=snapped")
+        self.assertAlmostEqual(both["distances"][0][2], 10 * both["durations"][0][2], delta=0.1)
+        self.assertEqual(self.good(f"/table/v1/car/{HIGH}?fallback_speed=10")["fallback_speed_cells"], [])
+
+    def test_a_million_cells(self):
+        places = [f"{0.00001 * number:.5f},0.00001" for number in range(1000)]
+        found = self.good(f"/table/v1/car/{';'.join(places)}?skip_waypoints=true")["durations"]
+        self.assertEqual({len(row) for row in found}, {1000})
+        some = self.good(f"/table/v1/car/{';'.join(places[::100])}")["durations"]
+        self.assertEqual([row[::100] for row in found[::100]], some)
+
+    def test_budgets_of_cells(self):
+        self.serve("--network", self.folder / "v", "--table-cells", "5")
+        self.good(f"/table/v1/car/{HIGH}")
+        status, found = self.ask(f"/table/v1/car/{HIGH};0.001,0")
+        self.assertEqual((status, found["code"]), (400, "TooBig"))
+        self.assertIn("5 cells (--table-cells)", found["message"])
+
+    def test_messages(self):
+        """They name the place, where the roads are, and that longitudes come first."""
+        for path, says in (
+            ("/route/v1/car/0,0;0.5,0.5", ("place 1, 0.5,0.5 (LON,LAT)", "The roads are from -0.0055,-0.0010 to ", "within 5000 m")),
+            ("/route/v1/car/0,0;47.1,120", ("place 1 is 47.1,120: longitude first", "is it LAT,LON?")),
+            (f"/route/v1/car/{HIGH};0.020,0.005", ("no route from place 1 to place 2",)),
+        ):
+            message = self.ask(path)[1]["message"]
+            for text in says:
+                self.assertIn(text, message)
+        words = [TOOLS / "domethyme-serve", self.folder / "v.rch", "--port", self.port]
+        said = self.run_program(words, status=1).stderr
+        self.assertIn(f"can't listen at 127.0.0.1, port {self.port}: Address already in use", said)
+        said = self.run_program([*words[:-1], "0", "--network", self.folder / "none"], status=1).stderr
+        self.assertIn(f"{self.folder}/none", said)
 
     def test_requests_that_are_refused(self):
         for path, code in [

@@ -199,6 +199,49 @@ class PointerTests(BrowserCase):
         self.assertEqual(self.browser.value("document.querySelectorAll('.mark').length"), 0)
         self.quiet("/route/v1/car/")
 
+    def test_coordinates_that_are_typed(self):
+        self.open()
+        cases = {"0.00001, 0.0003": [0.0003, 0.00001], "47.1 9.5": [9.5, 47.1], " -1.5;+2 ": [2, -1.5], "9.5E 47.1N": [9.5, 47.1],
+                 "47.1° N, 9.5° W": [-9.5, 47.1], "1S,2E": [2, -1], "91,0": None, "0,181": None, "1": None, "": None, "1,2,3": None,
+                 "1N,2N": None, "1N,2": None, "a,b": None, "1e5,2": None}
+        script = "import('/map/words.js').then(({placeOf}) => %s.map(placeOf))" % json.dumps([*cases])
+        self.assertEqual(self.browser.value(script), [*cases.values()])
+        for text in ("nonsense", "0.00001, 0.0003", "-0.00002, 0.0077"):
+            self.browser.value(f"document.getElementById('at').value = {json.dumps(text)}")
+            self.browser.value("document.querySelector('#typed button').click()")
+            self.assertEqual("isn't a place" in self.text_of("how"), text == "nonsense")
+        self.steps(*STRAIGHT)
+        self.assertEqual(self.browser.value("location.hash"), "#0.00030,0.00001;0.00770,-0.00002")
+        self.keep("typed")
+        self.quiet()
+
+    def test_the_route_is_shown_whole(self):
+        """Though it leads far beyond its places, which alone were shown before."""
+        self.open("#0.0042,0.0021;0.0048,0.0019")
+        self.browser.until("document.querySelectorAll('#steps .text').length > 1")
+        corners = "import('/map/main.js').then(({route, view}) => [[0, 1], [2, 3], [0, 3], [2, 1]].every((at) => view.has(at.map((side) => route.box[side]), 5)))"
+        self.browser.until(corners)
+
+    def test_names_stay_clear_of_the_scale(self):
+        self.open(HIGH)
+        self.steps(*STRAIGHT)
+        self.browser.until("document.querySelectorAll('#route text').length > 0")
+        onto = """import('/map/main.js').then(({view}) => {
+            const name = document.querySelector('#route text').getBoundingClientRect(), scale = document.getElementById('scale').getBoundingClientRect();
+            view.pan(name.left + name.width / 2 - scale.left - scale.width / 2, name.top + name.height / 2 - scale.top - scale.height / 2);
+        })"""
+        self.browser.value(onto)
+        self.browser.value("new Promise((done) => requestAnimationFrame(() => requestAnimationFrame(done)))")
+        overlaps = """[...document.querySelectorAll('#route text')].filter((each) => {
+            const one = each.getBoundingClientRect(), other = document.getElementById('scale').getBoundingClientRect();
+            return one.left < other.right && one.right > other.left && one.top < other.bottom && one.bottom > other.top; }).length"""
+        self.assertEqual(self.browser.value(overlaps), 0)
+        self.keep("scale")
+
+    def test_a_phone(self):
+        self.open(width=390, height=844)
+        self.assertEqual(self.text_of("hint"), "Tap the map to set the start.")
+
     def test_a_narrow_window_and_a_dark_one(self):
         self.open(HIGH, width=390, height=844)
         self.steps(*STRAIGHT)
