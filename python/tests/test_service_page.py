@@ -217,7 +217,7 @@ class PointerTests(BrowserCase):
 
     def test_the_route_is_shown_whole(self):
         """Though it leads far beyond its places, which alone were shown before."""
-        self.open("#0.0042,0.0021;0.0048,0.0019")
+        self.open("#0.008,0.0015;0.008,0.0005", height=150)
         self.browser.until("document.querySelectorAll('#steps .text').length > 1")
         corners = "import('/map/main.js').then(({route, view}) => [[0, 1], [2, 3], [0, 3], [2, 1]].every((at) => view.has(at.map((side) => route.box[side]), 5)))"
         self.browser.until(corners)
@@ -226,9 +226,11 @@ class PointerTests(BrowserCase):
         self.open(HIGH)
         self.steps(*STRAIGHT)
         self.browser.until("document.querySelectorAll('#route text').length > 0")
+        # (the end of High Street is a little to the right of the scale, and its line below it, above which its name is written)
         onto = """import('/map/main.js').then(({view}) => {
-            const name = document.querySelector('#route text').getBoundingClientRect(), scale = document.getElementById('scale').getBoundingClientRect();
-            view.pan(name.left + name.width / 2 - scale.left - scale.width / 2, name.top + name.height / 2 - scale.top - scale.height / 2);
+            const scale = document.getElementById('scale').getBoundingClientRect(), map = view.element.getBoundingClientRect();
+            const [x, y] = view.pixel([0.0077, 0]);
+            view.pan(x - (scale.right - map.left) - 82, y - view.height + 3);
         })"""
         self.browser.value(onto)
         self.browser.value("new Promise((done) => requestAnimationFrame(() => requestAnimationFrame(done)))")
