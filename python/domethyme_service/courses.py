@@ -136,8 +136,8 @@ def parts_of(roads: Roads, leg: Leg) -> tuple[Floats, Floats]:
     shares: Floats = np.ones(len(leg.arcs))
     shares[-1] = leg.end
     shares[0] -= leg.begin
-    arrays = roads.arrays
-    return arrays.arc_seconds[leg.arcs] * shares, arrays.arc_metres[leg.arcs] * shares
+    arrays, arcs = roads.arrays, np.array(leg.arcs, dtype=np.int64)
+    return arrays.arc_seconds[arcs] * shares, arrays.arc_metres[arcs] * shares
 
 
 def lines_of(courses: "Sequence[Course | None]", ends: list[Point]) -> list[Line]:

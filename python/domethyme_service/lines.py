@@ -72,10 +72,10 @@ def furthest(flat: Floats, low: int, high: int, far: float) -> int:
     others = flat[low + 1 : high] - begin
     square = float(way @ way)
     if square:
-        others -= np.clip(others @ way / square, 0.0, 1.0)[:, None] * way
-    metres = np.einsum("ij,ij->i", others, others)
-    best = int(metres.argmax())
-    return low + 1 + best if metres[best] > far * far else low
+        others -= np.minimum(np.maximum(others @ (way / square), 0.0), 1.0)[:, None] * way
+    apart = (others * others).sum(axis=1)
+    best = int(apart.argmax())
+    return low + 1 + best if apart[best] > far * far else low
 
 
 def bearing(begin: Point, end: Point) -> int:

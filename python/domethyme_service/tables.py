@@ -1,6 +1,7 @@
 """Tables of durations and distances between points on roads. Where only weights are wanted, and there are many cells, they are computed
 from the links of the hierarchy's file by sweeps (domethyme.sweeps), many times as fast as by a request of the program for each cell.
 That is no part of what is proved, and is tested against the program. Else the program is asked for each cell."""
+import asyncio
 import collections
 import contextlib
 import math
@@ -167,8 +168,8 @@ async def table_by_cells(
 async def cells(
     pool: Pool, roads: Roads, pairs: list[tuple[Spot, Spot]], only_weights: bool
 ) -> AsyncIterator[Figures | None]:
-    """The figures of the cells of a table, in order, asked behind single requests. Where weights are all that is wanted, routes
-    aren't looked at."""
+    """The figures of the cells of a table, in order, asked behind single requests; others are let in after each. Where weights are all
+    that is wanted, routes aren't looked at."""
     asked_for: collections.deque[tuple[tuple[Spot, Spot], int]] = collections.deque()
     replies: collections.deque[bytes] = collections.deque()
 
@@ -187,6 +188,7 @@ async def cells(
             while asked_for and asked_for[0][1] <= len(replies):
                 pair, count = asked_for.popleft()
                 yield cell(roads, pair, [replies.popleft() for _ in range(count)], only_weights)
+                await asyncio.sleep(0)
     for pair, _ in asked_for:
         yield cell(roads, pair, [], only_weights)
 
