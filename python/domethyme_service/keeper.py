@@ -99,7 +99,7 @@ class Keeper:
 
     def _look_after(self, child: Child) -> None:
         """Kills a front that is silent, and replaces one that has ended."""
-        if child.silent > (SILENCE if child.is_ready else SECONDS_TO_BEGIN) and not self.is_ending:
+        if child.silent > (SILENCE if child.is_ready else SECONDS_TO_BEGIN):
             log.error("front %d has been silent for %.0f s: it is killed", child.number, child.silent)
             self.own.front_silences += 1
             os.kill(child.number, signal.SIGKILL)

@@ -2,20 +2,24 @@
 import asyncio
 import contextlib
 import http.client
+import io
 import os
 import pathlib
 import re
 import resource
+import shutil
 import signal
 import socket
 import struct
+import subprocess
 import threading
 import time
 import unittest
+import zipfile
 
 import numpy as np
 from service_case import NDJSON, ServiceCase, children_of, fronts_of, resident, workers_of
-from tool_case import STAND_IN
+from tool_case import ROOT, STAND_IN
 
 import domethyme
 from domethyme_service import asking, endpoints, osrm_request, parameters
@@ -117,7 +121,9 @@ class RestartTests(ServiceCase):
         cases = [
             (hierarchy, None, "v.rch: No such file"), (hierarchy, b"", "v.rch: is no file that `routecli prepare` wrote"),
             (hierarchy, good[hierarchy][:-1], "v.rch: has"), (network, text[: len(text) // 2], "v.npz: is damaged"),
-            (network, b"no archive", "v.npz: is damaged"),
+            (network, b"no archive", "v.npz: is damaged"), (network, hostile(text, b"{'descr': (((("), "reload refused: "),
+            (network, hostile(text, b"{'descr': '<i4', 'fortran_order': False, 'shape': (9999999999999, 2), }"), "reload refused: "),
+            (network, hostile(text, b"{'descr': '<i4', 'fortran_order': False, 'shape': (1e999, 2), }"), "reload refused: "),
         ]
         for path, bytes_, says in cases:
             with self.subTest(path=path.name, says=says):
@@ -514,6 +520,32 @@ class PatternTests(unittest.TestCase):
             pattern.fullmatch(given)
             times.append(time.thread_time() - begun)
         return min(times)
+
+
+class UnitTests(unittest.TestCase):
+    def test_exposure(self):
+        """What systemd says of the unit: 2.0 at most, of 10."""
+        words = ["systemd-analyze", "security", "--offline=true", "--threshold=20", ROOT / "packaging/domethyme-serve.service"]
+        ended = subprocess.run(words, capture_output=True, text=True)
+        self.assertEqual(ended.returncode, 0, ended.stdout[-300:] + ended.stderr)
+        self.assertIn("Overall exposure level", ended.stdout)
+
+
+# (a part of the gate counts a test that is skipped as one that has failed)
+if shutil.which("systemd-analyze") is None:
+    del UnitTests
+
+
+def hostile(archive, head):
+    """A network's archive whose points have another head."""
+    found = io.BytesIO()
+    with zipfile.ZipFile(io.BytesIO(archive)) as old, zipfile.ZipFile(found, "w") as new:
+        for name in old.namelist():
+            text = old.read(name)
+            if name == "points.npy":
+                text = b"\x93NUMPY\x01\x00" + struct.pack("<H", len(head) + 1) + head + b"\n" + text[128:]
+            new.writestr(name, text)
+    return found.getvalue()
 
 
 def small():
