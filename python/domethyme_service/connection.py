@@ -370,6 +370,7 @@ def client_of(stream: asyncio.Transport) -> str:
         address = ipaddress.ip_address(peer[0].partition("%")[0]) if isinstance(peer, tuple) else None
     except ValueError:
         return ""
-    if address is None or address.is_loopback:
+    if address is None:
         return ""
-    return str(address) if address.version == 4 else address.exploded[:19]
+    address = getattr(address, "ipv4_mapped", None) or address
+    return "" if address.is_loopback else str(address) if address.version == 4 else address.exploded[:19]

@@ -117,6 +117,38 @@ class ConnectionTests(ServiceCase):
         self.assertRegex(b"".join(written), rb"(?s)^HTTP/1.1 200 OK.*one$")
         connection.connection_lost(None)
 
+    def test_connections_of_one_client(self):
+        """One address of another machine may have so many; this machine, which may be a proxy, has no such limit."""
+        asyncio.run(self.connections_of_one())
+
+    async def connections_of_one(self):
+        async def handler(request):
+            return web.Response(text="one")
+
+        server, made = Server(handler, Bounds(client=2)), []
+
+        def connect(address):
+            stream, written = mock.Mock(asyncio.Transport), []
+            stream.write, stream.get_extra_info.side_effect = written.append, {"peername": (address, 1), "sockname": ("10.0.0.9", 2)}.get
+            stream.is_closing.return_value, stream.get_write_buffer_size.return_value = False, 0
+            connection = server()
+            connection.connection_made(stream)
+            made.append(connection)
+            return written
+
+        for address, count in (("10.0.0.1", 2), ("10.0.0.2", 2), ("2001:db8::1", 1), ("2001:db8::2", 1), ("127.0.0.1", 5)):
+            for _ in range(count):
+                self.assertEqual(connect(address), [])
+        await asyncio.sleep(0)
+        for address in ("10.0.0.1", "2001:db8::3", "::ffff:10.0.0.2"):
+            self.assertRegex(b"".join(connect(address)), rb"^HTTP/1.1 429 ")
+        made[0].connection_lost(None)
+        self.assertEqual(connect("10.0.0.1"), [])
+        await asyncio.sleep(0)
+        for connection in made[1:]:
+            connection.connection_lost(None)
+        self.assertEqual((len(server.connections), dict(server.clients)), (0, {}))
+
     def test_a_connection_that_is_idle(self):
         """After a pair it is closed by `idle`, and before one by `head`, with an answer."""
         found = asyncio.run(self.idle())
