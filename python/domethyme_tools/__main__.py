@@ -12,8 +12,8 @@ if HERE not in sys.path:
 from domethyme_tools.tool import packages, run  # found by the path above
 
 COMMANDS = (
-    "check_page", "compare_converters", "compare_turns", "draw", "fetch_extract", "nearest", "osm_to_gr", "route_many", "serve",
-    "to_geojson",
+    "build_converter", "check_page", "compare_converters", "compare_turns", "draw", "fetch_extract", "nearest", "osm_to_gr",
+    "route_many", "serve", "to_geojson",
 )
 
 

@@ -33,6 +33,8 @@ from domethyme.texts import read_graph, reading
 from .tool import Fault, words
 
 PROFILES = pathlib.Path(__file__).resolve().parent / "profiles"
+# The members of a profile that are known here
+KNOWN = {"about", "speeds", "maxspeed_words", "access", "closed", "barriers", "oneway_highways", "oneway_junctions"}
 TINY = 1e-9
 NOTHING = -9999
 
@@ -252,6 +254,8 @@ def main() -> None:
     profile_path = options.profile if options.profile.endswith(".json") else PROFILES / f"{options.profile}.json"
     with reading(profile_path) as stream:
         profile = json.load(stream)
+    if unknown := sorted(set(profile) - KNOWN):
+        raise Fault(f"has members that the second conversion doesn't know: {', '.join(unknown)}", profile_path)
     plain = plain_graph(options.map, profile, options.weight == "time")
     comparison = Comparison(Files(options.network), plain, options.longest_arc)
     if not comparison.shared:

@@ -147,7 +147,7 @@ def may_turn(bound: list[tuple[int, str]], way: int, ways: set[int]) -> bool:
 
 
 def converted(path: pathlib.Path, out: pathlib.Path, *options: Any) -> Files:
-    done = subprocess.run([*tool("osm_to_gr"), path, out, "--islands", *options], capture_output=True, text=True)
+    done = subprocess.run([*tool("osm_to_gr"), path, out, "--islands", "--tables", *options], capture_output=True, text=True)
     if done.returncode != 0:
         raise Fault(f"osm_to_gr failed: {done.stderr}")
     return Files(out)

@@ -3,13 +3,18 @@
 MAP is a .osm, .osm.bz2 or .osm.pbf file; it is read twice, so it can't be standard input. Its objects may come in any
 order. What is written, all files or none:
 
-  OUT.gr          the graph, for `routecli prepare`
+  OUT.gr    the graph, for `routecli prepare`
+  OUT.npz   the places of its nodes and the pieces of road of its arcs, which the tools and the service read
+
+With --tables there are these too, for other programs:
+
   OUT.nodes.csv   node, osm, lon, lat, ends: where each node is; `osm` is empty for a point where a long piece is cut
   OUT.arcs.csv    from, to, weight, seconds, metres, osm, highway, name, ref, junction, destination, structure, WKT: the
                   piece of road of each arc of OUT.gr, in the same order; `osm` is the way, `name` its name or else its
                   ref, `structure` tunnel or bridge, WKT its line, longitude first
-  OUT.npz         both tables once more in binary, which tools and the service read quicker
   OUT.nodes.csvt, OUT.nodes.prj, OUT.arcs.csvt, OUT.arcs.prj    what GDAL and QGIS want to know of these tables
+
+Without it tables of an earlier run are removed, since they are of another network.
 
 A weight is milliseconds by the profile's speeds, or centimetres with --weight length. It is rounded, and raised to 1
 where it would be 0. Nodes are the ends, junctions and barriers of roads, and points between that keep each arc within
@@ -24,8 +29,9 @@ and -1, roundabouts and motorways. Reversible ways are left out. A barrier such 
 are closed, parts the roads at its node. A way is cut where the map lacks a node of it. Only the largest set of nodes that
 can all reach one another is kept, unless --islands is given.
 
-Not looked at: turn restrictions by a way or for some times, opening hours and other conditions, `destination` and other
-limits of who may pass, tolls, ferries, heights and weights.
+These are the rules of a car; those of a lorry, a bicycle and pedestrians, and what else a profile may say, are in
+tools/README.md. Not looked at: turn restrictions by a way or for some times, opening hours and other conditions, `destination`
+and other limits of who may pass, tolls, ferries.
 
 On standard error: what was left out, and the size of the network. Status 0: done. 1: bad input, reported in one line,
 and nothing is written. 2: the arguments were refused.
@@ -35,301 +41,117 @@ import collections
 import contextlib
 import io
 import itertools
-import json
-import math
 import os
-import pathlib
-import re
 import sys
-import typing
-from collections.abc import Callable, Collection, Iterable, Iterator, Sequence
-from typing import IO, Any
+from collections.abc import Callable, Iterator, Sequence
+from typing import IO, Any, NamedTuple, cast
 
-import numpy
-import osmium
-from scipy.sparse import coo_matrix
-from scipy.sparse.csgraph import connected_components
-from tqdm import tqdm
+import numpy as np
+from numpy.typing import NDArray
 
 from domethyme.files import whole_files
 from domethyme.network import binary
-from domethyme.network.tables import OSM_ATTRIBUTION, Arc, Files, Nodes, Point, metres_between, wkt_of, write_arcs, write_nodes
+from domethyme.network.tables import ENDS, OSM_ATTRIBUTION, Arc, Files, Nodes, write_arcs, write_nodes, wkt_of
 from domethyme.program import StrPath
-from domethyme.texts import reading, write_graph
+from domethyme.texts import MOST_LINES, MOST_NODES, reading
 
 from . import turns
+from .map_arrays import Folder, Places, Ways, cut, folder_beside, read_places, read_ways, step
+from .road_network import (
+    WEIGHTS, RoadNetwork, Roads, RowsOf, arrays_of, keep_largest, metres_of_roads, network_of, split,
+)
+from .rules import Profile, barrier_keys, conditional_keys, doubts, judged, parts_a_way, read_profile, structure_of, way_keys
 from .tool import Fault, words
 
-Tags = dict[str, str]
-Report = collections.Counter[str]
-Unit = Callable[[float, float], float]
+Report = turns.Report
 
-PROFILES = pathlib.Path(__file__).resolve().parent / "profiles"
-# km/h that are believed, and metres: the most of --longest-arc, and how near two points count as one
-SLOWEST, FASTEST = 1, 1000
+# metres: the most of --longest-arc
 MOST_METRES = 1_000_000
-SAME_PLACE = 0.001
 MOST_VALUES = 10
-SPEED_KEYS = ("maxspeed", "maxspeed:forward", "maxspeed:backward")
-COUNTRY, ZONE = re.compile("[A-Z]{2}:(.+)"), re.compile("[A-Z]{2}:zone:?([0-9]+)")
-SPEED = re.compile(r"([0-9]+(?:\.[0-9]+)?) *(km/h|kmh|kph|mph|knots)?")
-UNITS = {None: 1, "km/h": 1, "kmh": 1, "kph": 1, "mph": 1.609344, "knots": 1.852}
-ONEWAY = {"yes": "forward", "true": "forward", "1": "forward", "-1": "backward", "reverse": "backward"}
-
-
-# The profile: which ways a vehicle may take, in which directions, and how fast
-
-
-class Profile(typing.NamedTuple):
-    """The rules of a vehicle; tools/README.md says what each member means."""
-
-    speeds: dict[str, float]
-    maxspeed_words: dict[str, float]
-    access: list[str]
-    closed: list[str]
-    barriers: list[str]
-    oneway_highways: list[str]
-    oneway_junctions: list[str]
-
-
-def read_profile(word: str) -> Profile:
-    """The profile of a file *.json, or of the folder profiles by its name."""
-    path = pathlib.Path(word) if word.endswith(".json") else PROFILES / f"{word}.json"
-    if not word.endswith(".json") and not os.path.exists(path):
-        known = ", ".join(sorted(each.stem for each in PROFILES.glob("*.json")))
-        raise Fault(f"there is no profile {word}: there is {known}; for another vehicle copy its file and name the copy")
-    with reading(path) as stream:
-        try:
-            members = json.load(stream)
-        except json.JSONDecodeError as error:
-            raise Fault(f"isn't JSON: {error.msg}", path, error.lineno) from error
-        except UnicodeDecodeError as error:
-            raise Fault("isn't UTF-8", path) from error
-    return checked_profile(members, path)
-
-
-def checked_profile(members: Any, path: StrPath) -> Profile:
-    """The profile with these members, or the first that is missing, unknown or of the wrong kind."""
-    if not isinstance(members, dict):
-        raise Fault("is no object with the members of a profile", path)
-    members.pop("about", None)
-    for name in Profile._fields:
-        if name not in members:
-            raise Fault(f"has no member {name}", path)
-        if typing.get_origin(Profile.__annotations__[name]) is dict and (wrong := wrong_speed(members[name])):
-            raise Fault(f"{name} isn't speeds from {SLOWEST} to {FASTEST} by names{wrong}", path)
-        if typing.get_origin(Profile.__annotations__[name]) is list and not is_words(members[name]):
-            raise Fault(f"{name} isn't a list of words", path)
-    for name in members:
-        if name not in Profile._fields:
-            raise Fault(f"has the unknown member {name}", path)
-    return Profile(**members)
-
-
-def wrong_speed(value: Any) -> str:
-    """What of a value isn't speeds by names: `: it is no object`, the first wrong one, or the empty text."""
-    if not isinstance(value, dict):
-        return ": it is no object"
-    for name, speed in value.items():
-        if type(speed) not in (int, float) or not SLOWEST <= speed <= FASTEST:
-            return f": {name} is {json.dumps(speed)}"
-    return ""
-
-
-def is_words(value: Any) -> bool:
-    return isinstance(value, list) and all(isinstance(word, str) for word in value)
-
-
-def is_open(tags: Tags, profile: Profile) -> bool:
-    """Whether the most particular access tag lets the vehicle in; of several values one that isn't closed is enough."""
-    for key in reversed(profile.access):
-        if key in tags:
-            return any(value.strip() not in profile.closed for value in tags[key].split(";"))
-    return True
-
-
-def parts_a_way(tags: Tags, profile: Profile) -> bool:
-    """Whether a node with these tags is a barrier to the vehicle: by its access tags if it has some, else by its kind."""
-    if "barrier" not in tags:
-        return False
-    if any(key in tags for key in profile.access):
-        return not is_open(tags, profile)
-    return tags["barrier"] in profile.barriers
-
-
-def refusal(tags: Tags, profile: Profile) -> str | None:
-    """Why a way with these tags is left out, in the words of the report, or None."""
-    if tags["highway"] not in profile.speeds:
-        return "ways left out by their class"
-    if tags.get("area") == "yes":
-        return "ways left out as areas"
-    if not is_open(tags, profile):
-        return "ways left out as closed to the vehicle"
-    if tags.get("oneway") == "reversible":
-        return "ways left out as their direction changes"
-    return None
-
-
-def directions(tags: Tags, profile: Profile) -> tuple[bool, bool]:
-    """Whether a way may be taken forward, and whether backward."""
-    one_way = tags["highway"] in profile.oneway_highways or tags.get("junction") in profile.oneway_junctions
-    only = ONEWAY.get(tags["oneway"]) if "oneway" in tags else "forward" if one_way else None
-    return only != "backward", only != "forward"
-
-
-def speed_of(tags: Tags, direction: str, profile: Profile) -> tuple[float, bool]:
-    """The speed in a direction in km/h, and whether a maxspeed that is set was understood."""
-    text = tags.get(f"maxspeed:{direction}", tags.get("maxspeed"))
-    if text is None:
-        return profile.speeds[tags["highway"]], True
-    speed = maxspeed_of(text, profile)
-    return (profile.speeds[tags["highway"]], False) if speed is None else (speed, True)
-
-
-def maxspeed_of(text: str, profile: Profile) -> float | None:
-    """The km/h that a value of maxspeed means, or None where it isn't understood. For a country's kind of road, as
-    RO:urban, it is that of the country where the profile has it, else that of all countries, *:urban; a zone has its own number."""
-    words, place = profile.maxspeed_words, COUNTRY.fullmatch(text)
-    for word in (text, f"*:{place[1]}") if place else (text,):
-        if word in words:
-            return words[word]
-    zone = ZONE.fullmatch(text)
-    found = SPEED.fullmatch(zone[1] if zone else text.strip())
-    if found is None:
-        return None
-    speed = float(found[1]) * UNITS[found[2]]
-    return speed if SLOWEST <= speed <= FASTEST else None
-
-
-def doubts(tags: Tags, profile: Profile) -> dict[str, bool]:
-    """What of a way's rules isn't looked at, in the words of the report, and whether it is so."""
-    said = [tags[key] for key in profile.access if key in tags]
-    return {
-        "ways for destinations alone that are taken as open": bool(said) and "destination" in said[-1].split(";"),
-        "ways with rules for some times or conditions, which aren't looked at": any(
-            key.endswith(":conditional") and key.startswith((*profile.access, "oneway", "maxspeed")) for key in tags
-        ),
-    }
-
-
-def structure_of(tags: Tags) -> str:
-    """Whether a way is a tunnel or a bridge: that word, or the empty text."""
-    return next((word for word in ("tunnel", "bridge") if tags.get(word, "no") != "no"), "")
+ROWS_AT_ONCE = 1 << 16
 
 
 # The map: its roads, and then the places of their nodes
 
 
-class Road(typing.NamedTuple):
-    """A way that the vehicle may take: km/h in each direction, None where it may not, and the ids of its nodes."""
+class Map(NamedTuple):
+    """The roads that the vehicle may take, in the map's order, their counts of nodes, these nodes and which are barriers, and the
+    turn restrictions. `rows_of` gives the rows of texts of roads by their numbers."""
 
-    osm: int
-    highway: str
-    name: str
-    forward: float | None
-    backward: float | None
-    nodes: list[int]
-    ref: str = ""
-    junction: str = ""
-    destination: str = ""
-    structure: str = ""
-
-
-class RoadReader(osmium.SimpleHandler):
-    """Gathers the roads of a map in its order, and counts what is left out."""
-
-    def __init__(self, profile: Profile, report: Report, progress: Any) -> None:
-        super().__init__()
-        self.profile, self.report, self.progress = profile, report, progress
-        self.roads: list[Road] = []
-        self.restrictions: list[turns.Restriction] = []
-        self.unknown_speeds: collections.Counter[str] = collections.Counter()
-
-    def way(self, way: Any) -> None:
-        self.progress.update()
-        if "highway" not in way.tags:
-            return
-        tags = {tag.k: tag.v for tag in way.tags}
-        reason = refusal(tags, self.profile)
-        if reason is None:
-            self.roads.append(self.road(way, tags))
-        else:
-            self.report[reason] += 1
-
-    def relation(self, relation: Any) -> None:
-        tags = {tag.k: tag.v for tag in relation.tags}
-        members = [turns.Member(member.type, member.ref, member.role) for member in relation.members]
-        found, reason = turns.restrictions_of(tags, members, self.profile.access)
-        self.restrictions += found
-        if reason is not None:
-            self.report[reason] += 1
-
-    def road(self, way: Any, tags: Tags) -> Road:
-        forward, backward = directions(tags, self.profile)
-        forward_speed, forward_known = speed_of(tags, "forward", self.profile)
-        backward_speed, backward_known = speed_of(tags, "backward", self.profile)
-        if (forward and not forward_known) or (backward and not backward_known):
-            self.unknown_speeds[" and ".join(sorted({tags[key] for key in SPEED_KEYS if key in tags}))] += 1
-        for what, is_so in doubts(tags, self.profile).items():
-            self.report[what] += is_so
-        return Road(
-            way.id,
-            sys.intern(tags["highway"]),
-            sys.intern(" ".join((tags.get("name") or tags.get("ref") or "").split())),
-            forward_speed if forward else None,
-            backward_speed if backward else None,
-            [node for node, _ in itertools.groupby(node.ref for node in way.nodes)],
-            **{key: sys.intern(" ".join(tags.get(key, "").split())) for key in ("ref", "junction", "destination")},
-            structure=structure_of(tags),
-        )
-
-
-class PlaceReader(osmium.SimpleHandler):
-    """Gathers the places of the nodes that are wanted, and which of them are barriers."""
-
-    def __init__(self, wanted: Collection[int], profile: Profile, progress: Any) -> None:
-        super().__init__()
-        self.wanted, self.profile, self.progress = wanted, profile, progress
-        self.places: dict[int, Point] = {}
-        self.barriers: set[int] = set()
-
-    def node(self, node: Any) -> None:
-        self.progress.update()
-        if node.id in self.wanted and node.location.valid():
-            self.places[node.id] = node.location.lon, node.location.lat
-            if "barrier" in node.tags and parts_a_way({tag.k: tag.v for tag in node.tags}, self.profile):
-                self.barriers.add(node.id)
-
-
-def read_map(path: StrPath, profile: Profile, report: Report) -> "Map":
-    """The roads of the map, and the nodes that they name: which are junctions, where they lie, which are barriers."""
-    with reading(path):
-        if not os.path.isfile(path):
-            raise Fault("is no regular file; a map is read twice", path)
-    with tqdm(desc="ways", unit="", unit_scale=True, disable=None) as progress:
-        ways = RoadReader(profile, report, progress)
-        apply(ways, path)
-    uses = collections.Counter(itertools.chain.from_iterable(road.nodes for road in ways.roads))
-    with tqdm(desc="nodes", unit="", unit_scale=True, disable=None) as progress:
-        nodes = PlaceReader(uses, profile, progress)
-        apply(nodes, path)
-    if ways.unknown_speeds:
-        report[f"maxspeeds that weren't understood ({most_common(ways.unknown_speeds)})"] = ways.unknown_speeds.total()
-    report["nodes that the map lacks"] = len(uses) - len(nodes.places)
-    report["barriers that part roads"] = len(nodes.barriers)
-    junctions = {node for node, count in uses.items() if count > 1}
-    return Map(ways.roads, junctions, nodes.places, nodes.barriers, ways.restrictions)
-
-
-class Map(typing.NamedTuple):
-    """What a network is made of: the roads, which of their nodes are junctions, where these lie, which are barriers, and
-    the turn restrictions."""
-
-    roads: list[Road]
-    junctions: set[int]
-    places: dict[int, Point]
-    barriers: set[int]
+    roads: Roads
+    counts: NDArray[np.uint32]
+    places: Places
+    is_barrier: NDArray[np.bool_]
     restrictions: list[turns.Restriction]
+    rows_of: RowsOf
+
+
+def read_map(path: StrPath, profile: Profile, folder: Folder, report: Report) -> Map:
+    """The roads of the map, and the nodes that they name: which are junctions, where they lie, which are barriers."""
+    ways = read_ways(folder, path, way_keys(profile), conditional_keys(profile))
+    is_taken, speeds, unknown = judged_tags(ways, profile, report)
+    restrictions = read_restrictions(ways, profile, report)
+    for what, values in unknown.items():
+        if values:
+            report[f"{what} that weren't understood ({most_common(values)})"] = values.total()
+    taken = is_taken[ways.labels[:, 0]][ways.label]
+    label = ways.label[taken]
+    forward, backward = speeds[:, ways.labels[:, 0][label]]
+    roads = Roads(ways.osm[taken], forward, backward, label)
+    places = read_places(folder, path, taken, barrier_keys(profile))
+    is_barrier = np.zeros(len(places.osm), np.bool_)
+    parts = np.array([parts_a_way(tags, profile) for tags in places.barrier_tags], np.bool_)
+    is_barrier[places.barriers[:, 0][parts[places.barriers[:, 1]]]] = True
+    report["nodes that the map lacks"] = len(places.osm) - int(places.is_there.sum())
+    report["barriers that part roads"] = int(is_barrier.sum())
+    return Map(roads, ways.nodes[taken], places, is_barrier, restrictions, Rows(ways))
+
+
+def judged_tags(ways: Ways, profile: Profile, report: Report) -> tuple[NDArray[np.bool_], NDArray[np.float64], dict[str, Report]]:
+    """For each combination of tags whether such ways are taken, and their km/h in both directions, NaN for none, of shape (2,
+    combinations); and the values that weren't understood, by what they are of. The rules are asked once for each combination."""
+    counts = np.bincount(ways.labels[:, 0][ways.label], minlength=len(ways.tags)).tolist()
+    is_taken, speeds = np.zeros(len(ways.tags), np.bool_), np.full((2, len(ways.tags)), np.nan)
+    unknown: dict[str, Report] = {"maxspeeds": collections.Counter(), "limits": collections.Counter()}
+    for number, (tags, count) in enumerate(zip(ways.tags, counts)):
+        found = judged(tags, profile)
+        if found.refusal is not None:
+            report[found.refusal] += count
+            continue
+        is_taken[number] = True
+        speeds[:, number] = [np.nan if speed is None else speed for speed in (found.forward, found.backward)]
+        for what, value in zip(unknown, (found.unknown_speed, found.unknown_limit)):
+            if value is not None:
+                unknown[what][value] += count
+        for what, is_so in doubts(tags, profile):
+            report[what] += is_so * count
+    return is_taken, speeds, unknown
+
+
+def read_restrictions(ways: Ways, profile: Profile, report: Report) -> list[turns.Restriction]:
+    """The turn restrictions of the map for the vehicle."""
+    restrictions = []
+    for tags, members in ways.relations:
+        found, reason = turns.restrictions_of(tags, members, profile.access, profile.restrictions)
+        restrictions += found
+        if reason is not None:
+            report[reason] += 1
+    return restrictions
+
+
+class Rows:
+    """The rows of texts of labels of ways, in the order of binary.TEXTS."""
+
+    def __init__(self, ways: Ways) -> None:
+        self._labels, self._tags, self._raw = ways.labels, ways.tags, ways.texts
+        self._texts = [" ".join(text.split()) for text in ways.texts]
+
+    def __call__(self, labels: NDArray[np.int64]) -> Iterator[Sequence[str]]:
+        of_tags = [(tags["highway"], " ".join(tags.get("junction", "").split()), structure_of(tags)) for tags in self._tags]
+        for number, name, ref, destination in self._labels[labels].tolist():
+            highway, junction, structure = of_tags[number]
+            shown = self._texts[name if self._raw[name] else ref]
+            yield highway, shown, self._texts[ref], junction, self._texts[destination], structure
 
 
 def most_common(counted: Report) -> str:
@@ -338,260 +160,101 @@ def most_common(counted: Report) -> str:
     return ", ".join(values + ["..."] * (len(counted) > MOST_VALUES))
 
 
-def apply(handler: osmium.SimpleHandler, path: StrPath) -> None:
-    """Reads the map with the handler; what osmium finds wrong is a fault of the file."""
-    try:
-        handler.apply_file(str(path))
-    except (RuntimeError, ValueError, osmium.InvalidLocationError) as error:
-        with open(path, "rb") as file:
-            is_gzip = file.read(2) == b"\x1f\x8b"
-        raise Fault(f"{error}{': it is compressed by gzip, so gunzip it first' if is_gzip else ''}", path) from error
+# The network
 
 
-# The network: pieces of road between nodes
+def convert(options: argparse.Namespace, profile: Profile, folder: Folder, report: Report) -> tuple[RoadNetwork, RowsOf]:
+    """The network of the map that the arguments name, and the rows of texts of its roads."""
+    read = read_map(options.map, profile, folder, report)
+    with step("roads"):
+        runs = cut(folder, read.counts, read.places.is_junction, read.is_barrier, options.longest_arc)
+    report["ways left out with fewer than two nodes in the map"] = len(read.counts) - len(np.unique(runs.road))
+    if not len(runs.road):
+        raise Fault("has no road that the profile takes", options.map)
+    with step("junctions"):
+        network, node_at = network_of(runs, read.roads, read.places, read.is_barrier)
+    if not options.free_turns:
+        with step("turns"):
+            network = split(network, rules_at(read, folder, node_at, report), profile.turns, report)
+    del node_at
+    if not options.islands:
+        with step("islands"):
+            network = keep_largest(network, report)
+    need_room(len(network.node_osm), len(network.start), options.map)
+    return network, read.rows_of
 
 
-class Piece(typing.NamedTuple):
-    """A piece of road from a node to another, which count from 0: its metres, and the places along it; and of a piece that
-    turn restrictions have taken apart, which one it was."""
-
-    road: Road
-    start: int
-    end: int
-    metres: float
-    line: list[Point]
-    whole: int | None = None
+def need_room(nodes: int, arcs: int, path: StrPath) -> None:
+    """Raises a Fault where a graph can't have as many nodes or arcs."""
+    for count, most, what in ((nodes, MOST_NODES, "nodes"), (arcs, MOST_LINES, "arcs")):
+        if count > most:
+            raise Fault(f"makes a network of {count} {what}, and there may be {most}: take a part of it, or longer arcs", path)
 
 
-class RoadNetwork:
-    """The nodes and pieces of roads, which are cut to arcs of at most `longest` metres."""
-
-    def __init__(self, junctions: set[int], places: dict[int, Point], barriers: set[int], longest: float) -> None:
-        self.junctions, self.places, self.barriers, self.longest = junctions, places, barriers, longest
-        self.nodes = Nodes([], [], [], [])
-        self.pieces: list[Piece] = []
-        self.node_of: dict[int, int] = {}
-
-    def add(self, road: Road) -> bool:
-        """Adds the road's pieces, and returns whether it has any."""
-        runs = list(runs_of(road, self.junctions, self.places, self.barriers))
-        for nodes in runs:
-            self.add_run(road, nodes)
-        return bool(runs)
-
-    def add_run(self, road: Road, run: list[int]) -> None:
-        """Adds a run of nodes as pieces of equal length. A run that comes back to its node is cut at least once."""
-        line = [self.places[node] for node in run]
-        start, end = self.end_node(run[0]), self.end_node(run[-1])
-        metres, lines = cut(line, self.longest, 2 if start == end else 1)
-        ends = [start, *(self.new_node(None, piece[-1]) for piece in lines[:-1]), end]
-        for (before, after), piece in zip(itertools.pairwise(ends), lines):
-            self.pieces.append(Piece(road, before, after, metres, piece))
-
-    def end_node(self, osm: int) -> int:
-        """The network's node for a node of the map; at a barrier each end of a run has a node of its own."""
-        if osm in self.barriers:
-            return self.new_node(osm, self.places[osm])
-        if osm not in self.node_of:
-            self.node_of[osm] = self.new_node(osm, self.places[osm])
-        return self.node_of[osm]
-
-    def new_node(self, osm: int | None, place: Point) -> int:
-        self.nodes.osm.append(osm)
-        self.nodes.lon.append(place[0])
-        self.nodes.lat.append(place[1])
-        self.nodes.ends.append("")
-        return len(self.nodes.osm) - 1
-
-    def split(self, restrictions: list[turns.Restriction], roads: list[Road], report: Report) -> None:
-        """Splits the junctions where there are turn restrictions (turns.py)."""
-        ends = {road.osm: (road.nodes[0], road.nodes[-1]) for road in roads if len(road.nodes) > 1}
-        by_osm = turns.fitting(restrictions, ends.get, report)
-        rules = {self.node_of[osm]: rule for osm, rule in by_osm.items() if osm in self.node_of}
-        steps = [step for piece in self.pieces for step in steps_of(piece)]
-        found = turns.split([turns.Turn(step.road.osm, step.start, step.end) for step in steps], len(self.nodes.osm), rules)
-        for node, ends_there in found.new:
-            self.new_node(self.nodes.osm[node], (self.nodes.lon[node], self.nodes.lat[node]))
-            self.nodes.ends[-1] = ends_there
-        for node in found.begin:
-            self.nodes.ends[node] = turns.START
-        pieces, number = [], 0
-        for whole, piece in enumerate(self.pieces):
-            of_piece = steps_of(piece)
-            numbers, number = range(number, number + len(of_piece)), number + len(of_piece)
-            if not any(each in found.starts or each in found.ends for each in numbers):
-                pieces.append(piece)
-                continue
-            for each, step in zip(numbers, of_piece):
-                for start in found.starts.get(each, [step.start]):
-                    ends_of_step = found.ends.get(each, [step.end])
-                    pieces += [step._replace(start=start, end=end, whole=whole) for end in ends_of_step]
-        self.pieces = pieces
-        report["junctions split by turn restrictions"] = len(found.begin)
-
-
-def steps_of(piece: Piece) -> list[Piece]:
-    """A piece for each direction that it is open in, all of them forward."""
-    road, steps = piece.road, []
-    if road.forward:
-        steps.append(piece._replace(road=road._replace(backward=None)))
-    if road.backward:
-        turned = road._replace(forward=road.backward, backward=None)
-        steps.append(piece._replace(road=turned, start=piece.end, end=piece.start, line=piece.line[::-1]))
-    return steps
-
-
-def runs_of(road: Road, junctions: set[int], places: dict[int, Point], barriers: set[int]) -> Iterator[list[int]]:
-    """The runs of two or more nodes of the road, from one end, junction, barrier or gap in the map to the next."""
-    run: list[int] = []
-    for node in road.nodes:
-        if node not in places:
-            if len(run) > 1:
-                yield run
-            run = []
-            continue
-        run.append(node)
-        if len(run) > 1 and (node in junctions or node in barriers):
-            yield run
-            run = [node]
-    if len(run) > 1:
-        yield run
-
-
-def cut(line: list[Point], longest: float, least: int) -> tuple[float, list[list[Point]]]:
-    """Cuts a line into equal parts: as few as keep each within `longest` metres, and `least` or more.
-
-    Returns the metres of a part, and the parts' lines. A cut within a millimetre of a point of the line is made there.
-    """
-    steps = [metres_between(*here, *there) for here, there in itertools.pairwise(line)]
-    count = max(least, math.ceil(sum(steps) / longest))
-    part_metres = sum(steps) / count
-    parts: list[list[Point]] = []
-    part, gone = [line[0]], 0.0
-    for (here, there), step in zip(itertools.pairwise(line), steps):
-        while len(parts) + 1 < count and (wanted := part_metres * (len(parts) + 1) - gone) < step - SAME_PLACE:
-            if wanted > SAME_PLACE:
-                part.append(between(here, there, wanted / step))
-            parts.append(part)
-            part = [part[-1]]
-        part.append(there)
-        gone += step
-    parts.append(part)
-    return sum(steps) / len(parts), parts
-
-
-def between(here: Point, there: Point, share: float) -> Point:
-    return here[0] + (there[0] - here[0]) * share, here[1] + (there[1] - here[1]) * share
-
-
-def make_network(read: Map, longest: float, report: Report) -> RoadNetwork:
-    """The network of a Map's roads."""
-    network = RoadNetwork(read.junctions, read.places, read.barriers, longest)
-    for road in tqdm(read.roads, desc="roads", unit="", unit_scale=True, disable=None):
-        if not network.add(road):
-            report["ways left out with fewer than two nodes in the map"] += 1
-    return network
-
-
-def keep_largest(network: RoadNetwork, report: Report) -> None:
-    """Drops all nodes but those of the largest set that can all reach one another, and the pieces that touch others."""
-    count = len(network.nodes.osm)
-    starts = [piece.start if piece.road.forward else piece.end for piece in network.pieces]
-    ends = [piece.end if piece.road.forward else piece.start for piece in network.pieces]
-    for piece in network.pieces:
-        if piece.road.forward and piece.road.backward:
-            starts.append(piece.end)
-            ends.append(piece.start)
-    arcs = coo_matrix((numpy.ones(len(starts)), (starts, ends)), shape=(count, count))
-    _, labels = connected_components(arcs, directed=True, connection="strong")
-    kept = labels == numpy.bincount(labels).argmax()
-    # a route may begin or end at a node that it can't pass
-    ends_there = numpy.array(network.nodes.ends)
-    from_kept, to_kept = numpy.zeros(count, bool), numpy.zeros(count, bool)
-    from_kept[numpy.array(ends)[kept[starts]]] = True
-    to_kept[numpy.array(starts)[kept[ends]]] = True
-    kept |= (ends_there == turns.END) & from_kept | (ends_there == turns.START) & to_kept
-    number = (numpy.cumsum(kept) - 1).tolist()
-    kept = kept.tolist()
-    pieces = [piece for piece in network.pieces if kept[piece.start] and kept[piece.end]]
-    report["nodes left out on islands"] = count - sum(kept)
-    report["pieces of road left out on islands"] = len(network.pieces) - len(pieces)
-    osm, lon, lat, ends_of_routes = network.nodes
-    network.nodes = Nodes(
-        list(itertools.compress(osm, kept)),
-        list(itertools.compress(lon, kept)),
-        list(itertools.compress(lat, kept)),
-        list(itertools.compress(ends_of_routes, kept)),
-    )
-    network.pieces = [piece._replace(start=number[piece.start], end=number[piece.end]) for piece in pieces]
+def rules_at(
+    read: Map, folder: Folder, node_at: Callable[[int], int], report: Report
+) -> dict[int, turns.Rules]:
+    """What is forbidden at nodes of the network."""
+    named = {way for restriction in read.restrictions for way in (restriction.start, restriction.end)}
+    nodes, begin = folder.array("road_node", "u4"), turns.begins(read.counts)
+    chosen = np.flatnonzero(np.isin(read.roads.osm, list(named)) & (read.counts > 1))
+    firsts, lasts = (read.places.osm[nodes[place]].tolist() for place in (begin[chosen], begin[chosen + 1] - 1))
+    ends = dict(zip(read.roads.osm[chosen].tolist(), zip(firsts, lasts)))
+    by_osm = turns.fitting(read.restrictions, ends.get, report)
+    at = ((node_at(int(place)), rule) for place, rule in zip(np.searchsorted(read.places.osm, list(by_osm)), by_osm.values()))
+    return {node: rule for node, rule in at if node >= 0}
 
 
 # The files
 
 
-def milliseconds(metres: float, speed: float) -> float:
-    return metres * 3600 / speed
+def write_network(
+    files: Sequence[IO[Any]], tables: Sequence[IO[Any]], arrays: binary.Arrays, folder: Folder, attribution: str
+) -> None:
+    """Writes the graph, the network in arrays, and the tables that are asked for."""
+    graph, both = files
+    write_graph(graph, arrays, folder, attribution)
+    if tables:
+        nodes, rows = tables
+        write_nodes(nodes, nodes_in(arrays))
+        write_arcs(rows, arcs_in(arrays))
+        for file in tables:
+            file.flush()
+        arrays = arrays._replace(sizes=np.array([os.fstat(file.fileno()).st_size for file in tables], np.int64))
+    binary.write(cast(io.TextIOWrapper, both).buffer, arrays)
 
 
-def centimetres(metres: float, _speed: float) -> float:
-    return metres * 100
+def nodes_in(arrays: binary.Arrays) -> Nodes:
+    """The nodes, as those of the table."""
+    osm = [None if number == binary.NO_OSM else number for number in arrays.node_osm.tolist()]
+    lon, lat = ((places / binary.UNITS).tolist() for places in (arrays.node_lon, arrays.node_lat))
+    return Nodes(osm, lon, lat, [ENDS[number] for number in arrays.node_ends.tolist()])
 
 
-WEIGHTS = {"time": milliseconds, "length": centimetres}
+def arcs_in(arrays: binary.Arrays) -> Iterator[Arc]:
+    """The arcs, as those of the table."""
+    whole, text_begin, edge_begin = arrays.text_bytes.tobytes(), arrays.text_begin.tolist(), arrays.edge_begin.tolist()
+    texts = [whole[begin:end].decode() for begin, end in itertools.pairwise(text_begin)]
+    columns: tuple[NDArray[Any], ...] = (
+        arrays.arc_from, arrays.arc_to, arrays.arc_weight, arrays.arc_seconds, arrays.arc_metres, arrays.arc_osm,
+        arrays.arc_texts, arrays.arc_edge, arrays.arc_along,
+    )
+    for low in range(0, len(arrays.arc_from), ROWS_AT_ONCE):
+        parts: list[list[Any]] = [column[low : low + ROWS_AT_ONCE].tolist() for column in columns]
+        for start, end, weight, seconds, metres, osm, row, edge, along in zip(*parts):
+            highway, name, *others = (texts[number] for number in row)
+            line = (arrays.points[edge_begin[edge] : edge_begin[edge + 1]] / binary.UNITS).tolist()
+            yield Arc(start, end, weight, seconds, metres, osm, highway, name, wkt_of(line if along else line[::-1]), *others)
 
 
-def weight_of(metres: float, speed: float, unit: Unit) -> int:
-    """The weight of an arc: whole units of its kind, at least 1."""
-    return max(1, round(unit(metres, speed)))
-
-
-def arcs_of(pieces: list[Piece], unit: Unit) -> Iterator[tuple[Piece, float, int, int, int]]:
-    """The arcs of the pieces as (piece, speed, start, end, weight): nodes from 1, forward before backward."""
-    for piece in pieces:
-        start, end, road = piece.start + 1, piece.end + 1, piece.road
-        if road.forward:
-            yield piece, road.forward, start, end, weight_of(piece.metres, road.forward, unit)
-        if road.backward:
-            yield piece, road.backward, end, start, weight_of(piece.metres, road.backward, unit)
-
-
-def arc_rows(pieces: list[Piece], unit: Unit) -> Iterator[Arc]:
-    """The rows of OUT.arcs.csv."""
-    for piece, speed, start, end, weight in arcs_of(pieces, unit):
-        line = piece.line if start == piece.start + 1 else piece.line[::-1]
-        seconds, road = milliseconds(piece.metres, speed) / 1000, piece.road
-        known = start, end, weight, seconds, piece.metres, road.osm, road.highway, road.name, wkt_of(line)
-        yield Arc(*known, road.ref, road.junction, road.destination, road.structure)
-
-
-def write_network(files: Sequence[IO[Any]], network: RoadNetwork, unit: Unit, attribution: str) -> int:
-    """Writes the graph, the two tables and these in binary, and returns the number of arcs."""
-    graph, nodes, rows, both = files
-    arcs = [(start, end, weight) for _, _, start, end, weight in arcs_of(network.pieces, unit)]
-    comments = [f"attribution: {attribution}"] if attribution else []
-    write_graph(graph, len(network.nodes.osm), arcs, comments)
-    write_nodes(nodes, network.nodes)
-    builder = binary.Builder(attribution)
-    for osm, lon, lat, ends in zip(*network.nodes):
-        builder.add_node(osm, round(lon, 7), round(lat, 7), ends)
-    shown = tqdm(arc_rows(network.pieces, unit), "arcs", len(arcs), unit_scale=True, disable=None)
-    write_arcs(rows, added(builder, shown))
-    for file in files:
-        file.flush()
-    binary.write(typing.cast(io.TextIOWrapper, both).buffer, builder.done([os.fstat(file.fileno()).st_size for file in (nodes, rows)]))
-    return len(arcs)
-
-
-def added(builder: binary.Builder, arcs: Iterable[Arc]) -> Iterator[Arc]:
-    """The arcs, which are added to what is written in binary, to the digits of the table."""
-    for arc in arcs:
-        builder.add_arc(arc._replace(seconds=round(arc.seconds, 3), metres=round(arc.metres, 2)))
-        yield arc
-
-
-def raised_weights(pieces: list[Piece], unit: Unit) -> int:
-    """How many weights would be 0 by rounding."""
-    return sum(round(unit(piece.metres, speed)) == 0 for piece, speed, *_ in arcs_of(pieces, unit))
+def write_graph(file: IO[Any], arrays: binary.Arrays, folder: Folder, attribution: str) -> None:
+    """Writes the graph, as domethyme.texts.write_graph does."""
+    for name in ("arc_from", "arc_to", "arc_weight"):
+        folder.write(name, getattr(arrays, name))
+    if attribution:
+        file.write(f"c attribution: {attribution}\n")
+    file.flush()
+    folder.run("graph", len(arrays.node_osm), out=file)
 
 
 # The arguments
@@ -609,11 +272,17 @@ def read_words() -> argparse.Namespace:
     parser = words(__doc__)
     parser.add_argument("map", metavar="MAP", help="a .osm, .osm.bz2 or .osm.pbf file")
     parser.add_argument("out", metavar="OUT", help="the beginning of the names of the files")
-    parser.add_argument("--profile", default="car", metavar="car|FILE.json", help="the rules of the vehicle (car)")
+    parser.add_argument(
+        "--profile",
+        default="car",
+        metavar="NAME|FILE.json",
+        help="the rules of the vehicle: car, lorry, bicycle, foot, or a file (car)",
+    )
     parser.add_argument("--weight", choices=sorted(WEIGHTS), default="time", help="what a weight counts (time)")
     parser.add_argument(
         "--longest-arc", type=longest_arc, default=250, metavar="METRES", help="from 1 to 1000000 (250)"
     )
+    parser.add_argument("--tables", action="store_true", help="write tables in CSV too")
     parser.add_argument("--free-turns", action="store_true", help="don't look at turn restrictions")
     parser.add_argument("--islands", action="store_true", help="keep all nodes, whether they reach the others or not")
     parser.add_argument(
@@ -632,41 +301,29 @@ def read_words() -> argparse.Namespace:
 
 def main() -> None:
     options = read_words()
-    profile, unit = read_profile(options.profile), WEIGHTS[options.weight]
+    profile = read_profile(options.profile)
     names = Files(options.out)
-    report: collections.Counter[str] = collections.Counter()
-    with whole_files(names.graph, names.nodes, names.arcs, names.binary, *names.forms) as files:
-        network = convert(options, profile, report)
-        arcs = write_network(files[:4], network, unit, " ".join(options.attribution.split()))
-        for file, text in zip(files[4:], names.forms.values(), strict=True):
+    for_tables = [names.nodes, names.arcs, *names.forms]
+    report: Report = collections.Counter()
+    with reading(options.map):
+        if not os.path.isfile(options.map):
+            raise Fault("is no regular file; a map is read twice", options.map)
+    with whole_files(names.graph, names.binary, *(for_tables if options.tables else ())) as files:
+        with folder_beside(options.out) as folder:
+            network, rows_of = convert(options, profile, folder, report)
+            attribution = " ".join(options.attribution.split())
+            with step("arcs"):
+                arrays = arrays_of(network, options.weight, rows_of, attribution, report)
+                kilometres = metres_of_roads(network) / 1000
+            with step("files"):
+                write_network(files[:2], files[2:4], arrays, folder, attribution)
+        for file, text in zip(files[4:], names.forms.values()):
             print(text, file=file)
-    report["weights raised to 1"] = raised_weights(network.pieces, unit)
-    print_report(options.out, network, arcs, report)
-
-
-def convert(options: argparse.Namespace, profile: Profile, report: Report) -> RoadNetwork:
-    """The network of the map that the arguments name."""
-    read = read_map(options.map, profile, report)
-    network = make_network(read, options.longest_arc, report)
-    if not network.pieces:
-        raise Fault("has no road that the profile takes", options.map)
-    if not options.free_turns:
-        network.split(read.restrictions, read.roads, report)
-    if not options.islands:
-        keep_largest(network, report)
-    return network
-
-
-def metres_of_roads(pieces: list[Piece]) -> float:
-    """The metres of the road that the pieces are of; what turn restrictions have taken apart counts once."""
-    apart = {piece.whole: piece.metres for piece in pieces if piece.whole is not None}
-    return sum(piece.metres for piece in pieces if piece.whole is None) + sum(apart.values())
-
-
-def print_report(out: str, network: RoadNetwork, arcs: int, report: Report) -> None:
-    """Tells on standard error what was left out or changed, and the size of the network."""
+    if not options.tables:
+        for path in filter(os.path.isfile, for_tables):
+            os.unlink(path)
     for what, count in report.items():
         if count:
             print(f"osm_to_gr: {what}: {count}", file=sys.stderr)
-    kilometres = metres_of_roads(network.pieces) / 1000
-    print(f"osm_to_gr: {out}: {len(network.nodes.osm)} nodes, {arcs} arcs, {kilometres:.1f} km of road", file=sys.stderr)
+    size = f"{len(arrays.node_osm)} nodes, {len(arrays.arc_from)} arcs, {kilometres:.1f} km of road"
+    print(f"osm_to_gr: {options.out}: {size}", file=sys.stderr)

@@ -10,17 +10,29 @@ the graph has
 in the columns `ends` of NETWORK.nodes.csv: `from`, `no` and `to`; other nodes have the empty text. So the graph is one of
 plain nodes, arcs and weights, and its routes keep the restrictions.
 
-    Restriction(start, via, end, only)      from way `start` by the node `via` into way `end`
-    restrictions_of(tags, members, access)  those of a relation, or why it has none
-    fitting(restrictions, roads)            those whose ways end at their node, by node
-    split(arcs, nodes, rules)               the arcs with split junctions
+A turn that has a penalty is kept by the same nodes: arcs that lead from them weigh more by it.
+
+    Restriction(start, via, end, only)            from way `start` by the node `via` into way `end`
+    restrictions_of(tags, members, access, keys)  those of a relation, or why it has none
+    fitting(restrictions, roads)                  those whose ways end at their node, by node
+    pairs_at(nodes, ..)                           the turns at nodes
+    split(nodes, pairs, cost, ..)                 the arcs with split junctions
 """
 import collections
 from collections.abc import Callable, Iterable, Sequence
-from typing import NamedTuple
+from typing import Any, NamedTuple
 
+import numpy as np
+from numpy.typing import NDArray
+
+from domethyme.network.tables import ENDS
+
+Ints = NDArray[np.int64]
+Report = collections.Counter[str]
 NOT_LOOKED_AT = "turn restrictions not looked at: "
 START, PASSED, END = "from", "no", "to"
+# The cost of a turn that may not be taken
+FORBIDDEN = -1
 
 
 class Restriction(NamedTuple):
@@ -41,15 +53,17 @@ class Member(NamedTuple):
 
 
 def restrictions_of(
-    tags: dict[str, str], members: Sequence[Member], access: Sequence[str]
+    tags: dict[str, str], members: Sequence[Member], access: Sequence[str], keys: Sequence[str] | None = None
 ) -> tuple[list[Restriction], str | None]:
     """The restrictions of a relation for a vehicle with these access tags, the most general first; or none, and why, in the
-    words of the report, None where it isn't a turn restriction or is for other vehicles."""
+    words of the report, None where it isn't a turn restriction or is for other vehicles. `keys` are those that have them, the
+    most general first; without them `restriction` and those of the access tags."""
     if tags.get("type") != "restriction":
         return [], None
     if set(access) & {word.strip() for word in tags.get("except", "").split(";")}:
         return [], None
-    keys = ["restriction", *(f"restriction:{vehicle}" for vehicle in access)]
+    if keys is None:
+        keys = ["restriction", *(f"restriction:{vehicle}" for vehicle in access)]
     value = next((tags[key] for key in reversed(keys) if key in tags), None)
     if value is None:
         is_conditional = any(f"{key}:conditional" in tags for key in keys)
@@ -77,7 +91,7 @@ class Rules:
 
 
 def fitting(
-    restrictions: Iterable[Restriction], ends_of: Callable[[int], Iterable[int] | None], report: "collections.Counter[str]"
+    restrictions: Iterable[Restriction], ends_of: Callable[[int], Iterable[int] | None], report: Report
 ) -> dict[int, Rules]:
     """The rules at each node, by the restrictions whose ways end at their node. `ends_of` gives the nodes at the ends of a
     way, None for one that the vehicle doesn't take. The others are counted in the report."""
@@ -95,51 +109,146 @@ def fitting(
     return rules
 
 
-class Turn(NamedTuple):
-    """An arc as turns need it: the ids of its way and its ends."""
+class Pairs(NamedTuple):
+    """The turns at some nodes, by arcs that lead to a node and those that lead from it.
 
-    way: int
-    start: int
-    end: int
+    into, out              the arcs that lead to the nodes, and from them, node by node and in the order of arcs
+    into_begin, out_begin  where those of each node begin, and at last where they end
+    turn_into, turn_out    for each turn the places of its arcs in `into` and `out`, by `into`
+    """
 
-
-class Split(NamedTuple):
-    """Junctions that are split: for each arc the nodes in place of its start, and of its end; for each new node the one
-    that it is beside and which ends of routes it has; and the nodes where routes only begin now."""
-
-    starts: dict[int, list[int]]
-    ends: dict[int, list[int]]
-    new: list[tuple[int, str]]
-    begin: set[int]
+    into: Ints
+    out: Ints
+    into_begin: Ints
+    out_begin: Ints
+    turn_into: Ints
+    turn_out: Ints
 
 
-def split(arcs: Sequence[Turn], nodes: int, rules: dict[int, Rules]) -> Split:
-    """Splits the nodes that have rules, of a graph with `nodes` nodes, which count from 0; new ones follow."""
-    into, out = collections.defaultdict(list), collections.defaultdict(list)
-    for number, arc in enumerate(arcs):
-        if arc.end in rules:
-            into[arc.end].append(number)
-        if arc.start in rules:
-            out[arc.start].append(number)
-    found = Split({}, {}, [], set())
-    for node, rule in rules.items():
-        allowed = {arc: tuple(nxt for nxt in out[node] if rule.allows(arcs[arc].way, arcs[nxt].way)) for arc in into[node]}
-        if any(len(after) < len(out[node]) for after in allowed.values()):
-            split_node(node, allowed, out[node], nodes, found)
+def begins(counts: NDArray[Any]) -> Ints:
+    """Where the items of each begin, by their counts; and at last where they end."""
+    return np.concatenate((np.zeros(1, np.int64), np.cumsum(counts, dtype=np.int64)))
+
+
+def within(counts: NDArray[Any]) -> Ints:
+    """For the items of each, by their counts, their numbers from 0."""
+    found: Ints = np.arange(int(counts.sum())) - np.repeat(begins(counts)[:-1], counts)
     return found
 
 
-def split_node(node: int, allowed: dict[int, tuple[int, ...]], out: list[int], nodes: int, found: Split) -> None:
-    """Splits one node, where each arc that leads to it may go on into those that are allowed."""
-    found.begin.add(node)
-    found.new.append((node, END))
-    last = nodes + len(found.new) - 1
-    copies: dict[tuple[int, ...], int] = {tuple(out): node}
-    for after in allowed.values():
-        if after not in copies:
-            found.new.append((node, PASSED))
-            copies[after] = nodes + len(found.new) - 1
-    for arc, after in allowed.items():
-        found.ends[arc] = [copies[after], last]
-    for arc in out:
-        found.starts[arc] = [copy for after, copy in copies.items() if arc in after]
+def pairs_at(nodes: Ints, start: NDArray[np.int32], end: NDArray[np.int32], count: int) -> Pairs:
+    """The turns at these nodes, of a graph with `count` nodes and arcs with these ends."""
+    rank = np.full(count, -1, np.int32)
+    rank[nodes] = np.arange(len(nodes), dtype=np.int32)
+    (into, into_begin), (out, out_begin) = (arcs_at(rank[side], len(nodes)) for side in (end, start))
+    out_count = np.diff(out_begin)[rank[end[into]]]
+    turn_into = np.repeat(np.arange(len(into)), out_count)
+    turn_out = np.repeat(out_begin[rank[end[into]]], out_count) + within(out_count)
+    return Pairs(into, out, into_begin, out_begin, turn_into, turn_out)
+
+
+def arcs_at(rank: NDArray[np.int32], count: int) -> tuple[Ints, Ints]:
+    """The arcs that have a rank from 0, by it, and where those of each rank begin."""
+    arcs = np.flatnonzero(rank >= 0)
+    return arcs[np.argsort(rank[arcs], kind="stable")], begins(np.bincount(rank[arcs], minlength=count))
+
+
+class Split(NamedTuple):
+    """A graph whose junctions are split: for each arc the one that it was, its ends and its penalty; for each new node the one
+    that it is beside and its number in ENDS; the nodes where routes only begin now; and the arcs that were at such nodes."""
+
+    arc: Ints
+    start: NDArray[np.int32]
+    end: NDArray[np.int32]
+    penalty: NDArray[np.int32]
+    beside: Ints
+    ends: NDArray[np.uint8]
+    begin: Ints
+    touched: Ints
+
+
+class Copies(NamedTuple):
+    """The new nodes of junctions that are split. For each place of Pairs.into whether a node is made for it and its like, and the
+    number of that node; the node to which its arc leads where a route goes on, and where it ends. For each node that may be
+    split whether it is. For each new node the one that it is beside, and its number in ENDS."""
+
+    is_made: NDArray[np.bool_]
+    made: Ints
+    goes_to: Ints
+    ends_at: Ints
+    is_split: NDArray[np.bool_]
+    beside: Ints
+    ends: NDArray[np.uint8]
+
+
+def split(
+    nodes: Ints, pairs: Pairs, cost: NDArray[np.int32], start: NDArray[np.int32], end: NDArray[np.int32], count: int
+) -> Split:
+    """Splits those of the nodes where a turn is FORBIDDEN or has a penalty, by the cost of each turn. New nodes follow the others:
+    of each node that is split the one where routes end, and one for each set of arcs that differ in what they may go on into, or
+    at which penalty, in the order of the first of them."""
+    copies = copies_of(nodes, pairs, cost, count)
+    # each arc that leads to a split node ends twice, and each that leads from one starts once for each node made that may take it
+    ends_of, first_end, last_end = np.ones(len(start), np.int32), end.copy(), end.copy()
+    there = np.repeat(copies.is_split, np.diff(pairs.into_begin))
+    arcs = pairs.into[there]
+    ends_of[arcs], first_end[arcs], last_end[arcs] = 2, copies.goes_to[there], copies.ends_at[there]
+    leaves = np.flatnonzero(copies.is_made[pairs.turn_into] & (cost != FORBIDDEN))
+    arc_out = pairs.out[pairs.turn_out[leaves]]
+    leaves, arc_out = (values[np.lexsort((pairs.turn_into[leaves], arc_out))] for values in (leaves, arc_out))
+    starts_of = 1 + np.bincount(arc_out, minlength=len(start)).astype(np.int32)
+    start_begin = begins(starts_of)
+    starts, penalties = np.repeat(start, starts_of), np.zeros(int(start_begin[-1]), np.int32)
+    is_more = np.ones(len(starts), np.bool_)
+    is_more[start_begin[:-1]] = False
+    starts[is_more], penalties[is_more] = copies.made[pairs.turn_into[leaves]], cost[leaves]
+    # each start with each end
+    total = starts_of * ends_of
+    arc, number = np.repeat(np.arange(len(start)), total), within(total)
+    at = start_begin[arc] + number // ends_of[arc]
+    found_end = np.where(number % ends_of[arc] == 0, first_end[arc], last_end[arc])
+    touched = np.concatenate((arcs, pairs.out[np.repeat(copies.is_split, np.diff(pairs.out_begin))]))
+    return Split(arc, starts[at], found_end, penalties[at], copies.beside, copies.ends, nodes[copies.is_split], touched)
+
+
+def copies_of(nodes: Ints, pairs: Pairs, cost: NDArray[np.int32], count: int) -> Copies:
+    """The new nodes. Arcs of one class may go on into the same arcs at the same costs; those that may go on anywhere for nothing
+    lead to the node itself."""
+    node = np.repeat(np.arange(len(nodes)), np.diff(pairs.into_begin))
+    is_free = np.ones(len(pairs.into), np.bool_)
+    is_free[pairs.turn_into[cost != 0]] = False
+    is_split = np.zeros(len(nodes), np.bool_)
+    is_split[node[~is_free]] = True
+    first = first_of_class(pairs, cost, node)
+    is_made = ~is_free & (first == np.arange(len(first)))
+    made_at = np.bincount(node[is_made], minlength=len(nodes))
+    begin = count + begins(np.where(is_split, 1 + made_at, 0))
+    made = np.zeros(len(pairs.into), np.int64)
+    made[is_made] = begin[:-1][node[is_made]] + 1 + within(made_at)
+    ends = np.full(int(begin[-1]) - count, ENDS.index(PASSED), np.uint8)
+    ends[begin[:-1][is_split] - count] = ENDS.index(END)
+    beside = np.repeat(nodes[is_split], 1 + made_at[is_split])
+    return Copies(is_made, made, np.where(is_free, nodes[node], made[first]), begin[:-1][node], is_split, beside, ends)
+
+
+def first_of_class(pairs: Pairs, cost: NDArray[np.int32], node: Ints) -> Ints:
+    """For each arc that leads to a node the first of those that lead there and have the same costs, by a mix of 64 bits."""
+    key = np.zeros(len(pairs.into), np.uint64)
+    place = (pairs.turn_out - pairs.out_begin[node[pairs.turn_into]]).astype(np.uint64)
+    begin = begins(np.bincount(pairs.turn_into, minlength=len(key)))
+    has_turns = np.diff(begin) > 0
+    codes = mixed(place * np.uint64(1 << 32) + (cost + 2).astype(np.uint64))
+    key[has_turns] = np.add.reduceat(codes, begin[:-1][has_turns]) if len(codes) else 0
+    order = np.lexsort((key, node))
+    is_first = np.ones(len(order), np.bool_)
+    is_first[1:] = (key[order[1:]] != key[order[:-1]]) | (node[order[1:]] != node[order[:-1]])
+    found = np.empty(len(order), np.int64)
+    found[order] = order[is_first][np.cumsum(is_first) - 1]
+    return found
+
+
+def mixed(values: NDArray[np.uint64]) -> NDArray[np.uint64]:
+    """Numbers of 64 bits for numbers (the end of splitmix64)."""
+    values = (values ^ values >> np.uint64(30)) * np.uint64(0xBF58476D1CE4E5B9)
+    values = (values ^ values >> np.uint64(27)) * np.uint64(0x94D049BB133111EB)
+    return values ^ values >> np.uint64(31)

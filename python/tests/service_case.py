@@ -38,7 +38,7 @@ class ServiceCase(ToolCase):
 
     def setUp(self):
         super().setUp()
-        self.run_tool("osm_to_gr", self.map_file(), "v", "--islands")
+        self.run_tool("osm_to_gr", self.map_file(), "v", "--islands", "--tables")
         domethyme.prepare(self.folder / "v.gr", self.folder / "v.rch", workers=1).close()
         self.graph = read_graph(self.folder / "v.gr")
 

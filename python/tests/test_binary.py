@@ -16,7 +16,7 @@ from domethyme.network.tables import arcs_of, lightest, read_arcs, read_node_tab
 class BinaryCase(ToolCase):
     def setUp(self):
         super().setUp()
-        self.run_tool("osm_to_gr", VILLAGE, "v", "--islands")
+        self.run_tool("osm_to_gr", VILLAGE, "v", "--islands", "--tables")
         self.prefix = str(self.folder / "v")
         self.path = self.folder / "v.npz"
 
@@ -38,7 +38,7 @@ class SameTests(BinaryCase):
     def turns(self):
         """A network with a junction that a turn restriction splits."""
         self.write("map.osm", crossing((2, 3, {"restriction": "no_left_turn"})))
-        self.run_tool("osm_to_gr", "map.osm", "t", "--islands")
+        self.run_tool("osm_to_gr", "map.osm", "t", "--islands", "--tables")
         return str(self.folder / "t")
 
     def test_the_package_reads_it(self):
@@ -129,6 +129,6 @@ class OtherTests(BinaryCase):
         self.path.write_bytes(file.getvalue())
 
     def test_it_is_the_same_each_time(self):
-        self.run_tool("osm_to_gr", VILLAGE, "other", "--islands")
+        self.run_tool("osm_to_gr", VILLAGE, "other", "--islands", "--tables")
         self.assertEqual((self.folder / "other.npz").read_bytes(), self.path.read_bytes())
         self.assertEqual(len(zipfile.ZipFile(self.path).namelist()), len(binary.Arrays._fields))

@@ -13,7 +13,7 @@ STEP = 0.001
 class NetworkTests(ToolCase):
     def setUp(self):
         super().setUp()
-        self.run_tool("osm_to_gr", VILLAGE, "v", "--islands")
+        self.run_tool("osm_to_gr", VILLAGE, "v", "--islands", "--tables")
         self.network = domethyme.Network(self.folder / "v")
         domethyme.prepare(self.folder / "v.gr", self.folder / "v.rch", workers=1).close()
 

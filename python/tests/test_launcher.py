@@ -24,7 +24,7 @@ class LauncherTests(ToolCase):
         self.assertIn("usage: draw ", self.run_program([LAUNCHER, "draw", "--help"]).stdout)
         for words in ([LAUNCHER], [LAUNCHER, "drew"]):
             ended = self.run_program(words, status=2)
-            self.assertIn("there are check_page, compare_converters", ended.stderr)
+            self.assertIn("there are build_converter, check_page", ended.stderr)
 
     def test_a_package_that_is_missing(self):
         (self.folder / "elsewhere").mkdir()

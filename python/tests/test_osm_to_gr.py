@@ -100,7 +100,7 @@ class NetworkCase(ToolCase):
     """Tests that read the network that they have made in their folder."""
 
     def convert(self, *words, source=VILLAGE, out="village"):
-        return self.run_tool("osm_to_gr", source, out, *words)
+        return self.run_tool("osm_to_gr", source, out, "--tables", *words)
 
     def nodes(self, out="village"):
         return read_nodes(self.folder / f"{out}.nodes.csv")
@@ -576,7 +576,7 @@ class BadInput(NetworkCase):
         self.refused("bare.osm", says="bare.osm: has no road that the profile takes")
 
     def test_an_unknown_profile(self):
-        self.refused(VILLAGE, "--profile", "boat", says="there is no profile boat: there is car; for another vehicle")
+        self.refused(VILLAGE, "--profile", "boat", says="there is no profile boat: there is car; for another")
 
     def test_a_folder_in_place_of_out(self):
         before = self.contents()
@@ -617,7 +617,8 @@ class BadInput(NetworkCase):
 
     def test_a_folder_in_the_place_of_a_file(self):
         (self.folder / "out.arcs.csv").mkdir()
-        self.assert_refused("osm_to_gr", VILLAGE, "out", says="out.arcs.csv: is a folder")
+        self.assert_refused("osm_to_gr", VILLAGE, "out", "--tables", says="out.arcs.csv: is a folder")
+        self.run_tool("osm_to_gr", VILLAGE, "out")
 
     def test_words(self):
         for words in ([], [VILLAGE], [VILLAGE, "out", "--longest-arc", "0"], [VILLAGE, "out", "--weight", "days"]):

@@ -217,7 +217,7 @@ class Village(ToolCase):
     def setUp(self):
         super().setUp()
         self.program = find_program()
-        self.run_tool("osm_to_gr", VILLAGE, "village", "--islands")
+        self.run_tool("osm_to_gr", VILLAGE, "village", "--islands", "--tables")
         self.run_program([self.program, "prepare", "village.gr", "village.rch"])
         nodes = read_nodes(self.folder / "village.nodes.csv")
         self.places = [list(place) for place in zip(nodes.lon, nodes.lat)]

@@ -28,11 +28,13 @@ def crossing(*restrictions):
     return "\n".join([*text, "</osm>\n"])
 
 
-class CrossingTests(ToolCase):
+class CrossingCase(ToolCase):
+    """Tests that route over the crossing."""
+
     def lengths(self, *restrictions, options=()):
         """The steps from each of the places to each, by nearest and the program; None where there is no route."""
         self.write("map.osm", crossing(*restrictions))
-        self.said = self.run_tool("osm_to_gr", "map.osm", "map", *options).stderr
+        self.said = self.run_tool("osm_to_gr", "map.osm", "map", "--tables", *options).stderr
         rows = [f"{x / 1000},{y / 1000}" for x, y in PLACES.values()]
         self.write("places.csv", "\n".join(["lon,lat", *rows]) + "\n")
         self.run_tool("nearest", "map", "places.csv", "--matrix", "--within", "1", "-o", "pairs")
@@ -46,6 +48,8 @@ class CrossingTests(ToolCase):
         away = {node: 0 if node == 1 else 1 for node in PLACES}
         return {(start, end): 0 if start == end else away[start] + away[end] for start in PLACES for end in PLACES}
 
+
+class CrossingTests(CrossingCase):
     def test_no_turn(self):
         # from the west not north: on to the east or south, back, and then north; all else is as it was
         wanted = self.free() | {(2, 3): 4}

@@ -1,0 +1,14 @@
+"""Builds the program by which osm_to_gr reads maps, and prints its path.
+
+It is in C++ over libosmium, and is built once, in half a minute: osm_to_gr does it at its first use. As root,
+`apt-get install g++ libosmium2-dev` gets what that needs. In Debian's package the program is there.
+
+Status 0: it is there. 1: it can't be built, and one line says why. 2: the arguments were refused.
+"""
+from .map_arrays import built
+from .tool import words
+
+
+def main() -> None:
+    words(__doc__).parse_args()
+    print(built())

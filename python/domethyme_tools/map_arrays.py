@@ -1,0 +1,294 @@
+"""Reads a map into arrays, by a program in C++ over libosmium (converter/map_arrays.cpp), which knows no vehicle.
+
+    built()                    the path of the program, which is built where it is missing
+    Folder(path)               a folder of arrays, and the program's commands over it
+    read_ways(folder, ..)      Ways: the ways with a key, their tags, and the turn restrictions
+    read_places(folder, ..)    Places: the nodes of those that are taken
+    cut(folder, ..)            Runs: their lines from stop to stop, cut to pieces
+
+In Debian's package the program is there. Elsewhere it is built at the first use, in half a minute, by g++ and Debian's
+libosmium2-dev; tools/build_converter does that alone. It is kept by the checksum of its source, in converter/built, or if that
+can't be written in the user's cache.
+"""
+import contextlib
+import fcntl
+import hashlib
+import itertools
+import os
+import pathlib
+import shutil
+import subprocess
+import tempfile
+from collections.abc import Iterator, Sequence
+from typing import IO, Any, NamedTuple
+
+import numpy as np
+from numpy.typing import NDArray
+from tqdm import tqdm
+
+from domethyme.program import StrPath
+
+from . import turns
+from .rules import Tags
+from .tool import Fault
+
+SOURCE = pathlib.Path(__file__).resolve().parent / "converter" / "map_arrays.cpp"
+PACKAGES, PACKAGED = "/usr/lib/python3/dist-packages/", "/usr/libexec/domethyme/map_arrays"
+# -ffp-contract=off: a product and a sum are rounded one by one, as in Python
+OPTIONS = ["-std=c++17", "-O2", "-ffp-contract=off"]
+LIBRARIES = ["-lz", "-lbz2", "-lexpat", "-lpthread"]
+TO_INSTALL = "as root, apt-get install g++ libosmium2-dev"
+TEXTS = ("name", "ref", "destination")
+ROLES = ("from", "via", "to")
+GZIP = b"\x1f\x8b"
+
+
+# The program
+
+
+def built() -> str:
+    """The path of the program. Where it is missing it is built, and a Fault says why that can't be done."""
+    if str(SOURCE).startswith(PACKAGES) and os.path.exists(PACKAGED):
+        return PACKAGED
+    folder, name = build_folder(), f"map_arrays-{hashlib.sha256(SOURCE.read_bytes()).hexdigest()[:16]}"
+    path = folder / name
+    if not path.exists():
+        with open(folder / "lock", "w", encoding="utf-8") as lock:
+            fcntl.flock(lock, fcntl.LOCK_EX)
+            if not path.exists():
+                build(path)
+    return str(path)
+
+
+def build_folder() -> pathlib.Path:
+    """The folder of what is built: beside the source, or in the user's cache."""
+    cache = pathlib.Path(os.environ.get("XDG_CACHE_HOME") or pathlib.Path.home() / ".cache") / "domethyme"
+    for folder in (SOURCE.parent / "built", cache):
+        with contextlib.suppress(OSError):
+            folder.mkdir(parents=True, exist_ok=True)
+            if os.access(folder, os.W_OK):
+                return folder
+    raise Fault("can't be written, and the converter has to be built there", cache)
+
+
+def build(path: StrPath) -> None:
+    """Builds the program at the path."""
+    compiler = shutil.which("g++")
+    if compiler is None:
+        raise Fault(f"the converter has to be built, and g++ is missing: {TO_INSTALL}")
+    beside = f"{os.fspath(path)}.{os.getpid()}"
+    try:
+        with step("building the converter, once"):
+            ended = subprocess.run(
+                [compiler, *OPTIONS, "-o", beside, str(SOURCE), *LIBRARIES],
+                stdin=subprocess.DEVNULL, capture_output=True, encoding="utf-8", errors="replace",
+            )
+        if ended.returncode != 0:
+            wrong = next((line for line in ended.stderr.splitlines() if "error" in line), "g++ failed")
+            raise Fault(f"the converter can't be built: {wrong}: {TO_INSTALL}")
+        os.replace(beside, path)
+    finally:
+        with contextlib.suppress(FileNotFoundError):
+            os.unlink(beside)
+
+
+def step(what: str) -> Any:
+    """A with-block that a terminal shows by these words, and how long it took."""
+    return tqdm(desc=what, bar_format="{desc} [{elapsed}]", disable=None)
+
+
+class Folder:
+    """A folder of arrays, and the program's commands over it. `array` maps one, and `table` reads a list of tags."""
+
+    def __init__(self, path: str) -> None:
+        self.path, self.program = path, built()
+
+    def array(self, name: str, kind: str, width: int = 1) -> NDArray[Any]:
+        """An array of a kind, of shape (n,), or (n, width) for a greater width."""
+        path = os.path.join(self.path, name)
+        if os.path.getsize(path) == 0:
+            found: NDArray[Any] = np.empty(0, kind)
+        else:
+            found = np.memmap(path, kind, "r")
+        return found if width == 1 else found.reshape(-1, width)
+
+    def write(self, name: str, values: NDArray[Any]) -> None:
+        with open(os.path.join(self.path, name), "wb") as file:
+            values.tofile(file)
+
+    def fields(self, name: str) -> list[str]:
+        """The texts of a file, behind each of which is a zero. Raises UnicodeDecodeError."""
+        whole = pathlib.Path(self.path, name).read_bytes().decode()
+        return whole.split("\0")[:-1]
+
+    def tags(self, name: str) -> list[Tags]:
+        """The combinations of tags of a file: of each its keys and values, and then an empty text."""
+        found: list[Tags] = []
+        fields = iter(self.fields(name))
+        for key in fields:
+            tags = {}
+            while key:
+                tags[key] = next(fields)
+                key = next(fields)
+            found.append(tags)
+        return found
+
+    def drop(self, *names: str) -> None:
+        """Removes arrays that aren't needed any more."""
+        for name in names:
+            os.unlink(os.path.join(self.path, name))
+
+    def read_map(self, command: str, path: StrPath, words: Sequence[str]) -> None:
+        """Runs a command over a map, with a bar of its bytes. What libosmium finds wrong is a Fault of the map."""
+        with tqdm(desc=command, total=os.path.getsize(path), unit="B", unit_scale=True, disable=None) as bar:
+            with self.running([command, self.path, os.fspath(path), *words], path, subprocess.PIPE) as process:
+                for line in process.stdout or ():
+                    bar.update(int(line) - bar.n)
+
+    def run(self, *words: Any, out: "IO[Any] | int" = subprocess.DEVNULL) -> None:
+        """Runs a command, whose standard output is the file `out`."""
+        with self.running([words[0], self.path, *map(str, words[1:])], self.path, out):
+            pass
+
+    @contextlib.contextmanager
+    def running(self, words: list[str], path: StrPath, out: "IO[Any] | int") -> "Iterator[subprocess.Popen[bytes]]":
+        """A command that runs in the block, and has to end well after it; it is killed where the block ends by an exception."""
+        command = [self.program, *words]
+        with subprocess.Popen(command, stdin=subprocess.DEVNULL, stdout=out, stderr=subprocess.PIPE) as process:
+            try:
+                yield process
+                said = process.stderr.read().decode("utf-8", "replace") if process.stderr else ""
+                status = process.wait()
+            except BaseException:
+                process.kill()
+                raise
+        if status == 1:
+            raise Fault(f"{said.strip()}{gzip_hint(path)}", path)
+        if status == 3:
+            raise MemoryError
+        if status != 0:
+            raise Fault(said.strip() or f"the converter's {words[0]} ended with status {status}")
+
+
+def gzip_hint(path: StrPath) -> str:
+    with contextlib.suppress(IsADirectoryError), open(path, "rb") as file:
+        return ": it is compressed by gzip, so gunzip it first" if file.read(2) == GZIP else ""
+    return ""
+
+
+# The ways
+
+
+class Ways(NamedTuple):
+    """The ways with the first key, in the map's order: their ids, labels, and counts of `nodes`. A label is a row of `labels`:
+    the number of its tags, and of each of TEXTS the number of its text, from 1, or 0. And the tags and members of the relations
+    of turn restrictions."""
+
+    osm: NDArray[np.int64]
+    label: NDArray[np.uint32]
+    nodes: NDArray[np.uint32]
+    labels: NDArray[np.uint32]
+    tags: list[Tags]
+    texts: list[str]
+    relations: list[tuple[Tags, list[turns.Member]]]
+
+
+def read_ways(folder: Folder, path: StrPath, keys: Sequence[str], conditional: Sequence[str]) -> Ways:
+    """The ways of a map that have the first of the keys. Tags are those with one of the keys, or whose key begins with one of
+    `conditional` and ends with `:conditional`."""
+    words = ["s::conditional"]
+    for letter, some in (("k", keys), ("p", conditional), ("t", TEXTS)):
+        words += [f"{letter}:{key}" for key in some]
+    folder.read_map("ways", path, words)
+    try:
+        tags, texts = folder.tags("way_tags"), ["", *folder.fields("texts")]
+        relations = list(relations_of(folder))
+    except UnicodeDecodeError as error:
+        raise Fault(str(error), path) from error
+    labels = folder.array("labels", "u4", 1 + len(TEXTS))
+    osm, label, nodes = folder.array("way_osm", "i8"), folder.array("way_label", "u4"), folder.array("way_count", "u4")
+    return Ways(osm, label, nodes, labels, tags, texts, relations)
+
+
+def relations_of(folder: Folder) -> Iterator[tuple[Tags, list[turns.Member]]]:
+    """The tags and members of each relation of a turn restriction."""
+    tags = folder.tags("relation_tags")
+    members = (
+        turns.Member(chr(kind), osm, ROLES[role]) for kind, role, osm in folder.array("member", "i8", 3).tolist()
+    )
+    for number, count in zip(folder.array("relation_of", "u4").tolist(), folder.array("relation_count", "u4").tolist()):
+        yield tags[number], list(itertools.islice(members, count))
+
+
+# The places
+
+
+class Places(NamedTuple):
+    """The nodes of the roads by their ids, in order: their ids, whether the map has them, whether a road passes once more, and
+    whether they are barriers, by tags."""
+
+    osm: NDArray[np.int64]
+    place: NDArray[np.int32]
+    is_there: NDArray[np.bool_]
+    is_junction: NDArray[np.bool_]
+    barriers: NDArray[np.uint32]
+    barrier_tags: list[Tags]
+
+
+UNDEFINED = (1 << 31) - 1
+
+
+def read_places(folder: Folder, path: StrPath, taken: NDArray[np.bool_], keys: Sequence[str]) -> Places:
+    """The nodes of the ways that are taken, and the tags of those that have the first of the keys."""
+    folder.write("way_taken", taken.astype(np.uint8))
+    folder.read_map("places", path, [f"k:{key}" for key in keys])
+    folder.drop("way_node")
+    try:
+        tags = folder.tags("barrier_tags")
+    except UnicodeDecodeError as error:
+        raise Fault(str(error), path) from error
+    place = folder.array("node_place", "i4", 2).reshape(-1, 2)
+    uses = folder.array("node_uses", "u1")
+    return Places(
+        folder.array("node_osm", "i8"), place, place[:, 0] != UNDEFINED, uses > 1, folder.array("barrier", "u4", 2), tags
+    )
+
+
+# The pieces
+
+
+class Runs(NamedTuple):
+    """Runs of nodes of a road, from stop to stop, in order: their roads, the nodes at their ends, into how many parts they are
+    cut, and the metres of a part. Points of the map and of cuts, in units of a degree; the parts of all runs are in order the
+    points from `begin` up to `end`, the last of one being the first of the next."""
+
+    road: NDArray[np.uint32]
+    ends: NDArray[np.uint32]
+    parts: NDArray[np.uint32]
+    metres: NDArray[np.float64]
+    points: NDArray[np.int32]
+    begin: NDArray[np.uint64]
+    end: NDArray[np.uint64]
+
+
+def cut(
+    folder: Folder, counts: NDArray[np.uint32], is_junction: NDArray[np.bool_], is_barrier: NDArray[np.bool_], longest: float
+) -> Runs:
+    """The runs of roads, which have these counts of nodes, cut to parts of at most `longest` metres, as few as can be. A run that
+    comes back to its node, if that is no barrier, is cut at least once."""
+    folder.write("road_count", counts)
+    folder.write("node_stop", is_junction + is_barrier.astype(np.uint8) * np.uint8(2))
+    folder.run("pieces", repr(float(longest)))
+    return Runs(
+        folder.array("run_road", "u4"), folder.array("run_ends", "u4", 2), folder.array("run_parts", "u4"),
+        folder.array("run_metres", "f8"), folder.array("points", "i4", 2), folder.array("piece_begin", "u8"),
+        folder.array("piece_end", "u8"),
+    )
+
+
+@contextlib.contextmanager
+def folder_beside(path: str) -> Iterator[Folder]:
+    """A Folder of arrays beside the files that begin with this path, which is removed after the block."""
+    head, name = os.path.split(path)
+    with tempfile.TemporaryDirectory(prefix=f"{name}.", suffix=".arrays", dir=head or ".") as folder:
+        yield Folder(folder)

@@ -1,0 +1,295 @@
+"""The rules of a vehicle: which ways it may take, in which directions, and how fast; and its profile, the file that has them.
+
+    read_profile(word)         the Profile of a file *.json, or of the folder profiles by its name
+    way_keys(profile)          the keys of a way that the rules look at
+    judged(tags, profile)      what the rules say of a way with these tags
+    parts_a_way(tags, profile) whether a node with these tags is a barrier to the vehicle
+"""
+import json
+import math
+import os
+import pathlib
+import re
+import typing
+from collections.abc import Iterator
+from typing import Any
+
+from domethyme.program import StrPath
+from domethyme.texts import reading
+
+from .tool import Fault
+
+Tags = dict[str, str]
+
+PROFILES = pathlib.Path(__file__).resolve().parent / "profiles"
+# km/h that are believed
+SLOWEST, FASTEST = 1, 1000
+DIRECTIONS = ("forward", "backward")
+COUNTRY, ZONE = re.compile("[A-Z]{2}:(.+)"), re.compile("[A-Z]{2}:zone:?([0-9]+)")
+SPEED = re.compile(r"([0-9]+(?:\.[0-9]+)?) *(km/h|kmh|kph|mph|knots)?")
+UNITS = {None: 1, "km/h": 1, "kmh": 1, "kph": 1, "mph": 1.609344, "knots": 1.852}
+# metres and tonnes
+LENGTH, WEIGHT = re.compile(r"([0-9]+(?:\.[0-9]+)?) *(m|cm|ft)?"), re.compile(r"([0-9]+(?:\.[0-9]+)?) *(t|kg|st|lt|lbs|cwt)?")
+FEET = re.compile(r"([0-9]+)' *(?:([0-9]+(?:\.[0-9]+)?)\")?")
+MEASURES = {None: 1, "m": 1, "cm": 0.01, "ft": 0.3048, "t": 1, "kg": 0.001, "st": 0.90718474, "lt": 1.0160469088,
+            "lbs": 0.00045359237, "cwt": 0.05080234544}
+NO_LIMIT = ("none", "no", "default", "unsigned", "no_sign", "unspecified")
+# hundredths of a second
+TURNS, MOST_PENALTY = ("left", "right", "back"), 360_000
+ONEWAY = {"yes": "forward", "true": "forward", "1": "forward", "-1": "backward", "reverse": "backward"}
+
+
+class Profile(typing.NamedTuple):
+    """The rules of a vehicle; tools/README.md says what each member means."""
+
+    speeds: dict[str, float]
+    maxspeed_words: dict[str, float]
+    access: list[str]
+    closed: list[str]
+    barriers: list[str]
+    oneway_highways: list[str]
+    oneway_junctions: list[str]
+    oneway: list[str] = ["oneway"]
+    both_ways: list[str] = []
+    maxspeed: list[str] = ["maxspeed"]
+    fastest: float = FASTEST
+    surfaces: dict[str, float] = {}
+    measures: dict[str, float] = {}
+    closed_by: list[str] = []
+    only_where_allowed: list[str] = []
+    restrictions: list[str] | None = None
+    turns: dict[str, int] = {}
+
+
+class Judgement(typing.NamedTuple):
+    """What the rules say of a way: why it is left out, in the words of the report, or None; the km/h in each direction, None
+    where it may not be taken; and the values of maxspeed and of limits that weren't understood, or None."""
+
+    refusal: str | None
+    forward: float | None = None
+    backward: float | None = None
+    unknown_speed: str | None = None
+    unknown_limit: str | None = None
+
+
+# The profile's file
+
+
+def read_profile(word: str) -> Profile:
+    """The profile of a file *.json, or of the folder profiles by its name."""
+    path = pathlib.Path(word) if word.endswith(".json") else PROFILES / f"{word}.json"
+    if not word.endswith(".json") and not os.path.exists(path):
+        known = ", ".join(sorted(each.stem for each in PROFILES.glob("*.json")))
+        raise Fault(f"there is no profile {word}: there is {known}; for another vehicle copy its file and name the copy")
+    with reading(path) as stream:
+        try:
+            members = json.load(stream)
+        except json.JSONDecodeError as error:
+            raise Fault(f"isn't JSON: {error.msg}", path, error.lineno) from error
+        except UnicodeDecodeError as error:
+            raise Fault("isn't UTF-8", path) from error
+    return checked_profile(members, path)
+
+
+def checked_profile(members: Any, path: StrPath) -> Profile:
+    """The profile with these members, or the first that is missing, unknown or of the wrong kind."""
+    if not isinstance(members, dict):
+        raise Fault("is no object with the members of a profile", path)
+    members.pop("about", None)
+    for name in Profile._fields:
+        if name in members:
+            if wrong := wrong_member(name, members[name]):
+                raise Fault(f"{name} isn't {wrong}", path)
+        elif name not in Profile._field_defaults:
+            raise Fault(f"has no member {name}", path)
+    for name in members:
+        if name not in Profile._fields:
+            raise Fault(f"has the unknown member {name}", path)
+    return Profile(**members)
+
+
+def wrong_member(name: str, value: Any) -> str:
+    """What a member isn't and has to be, or the empty text."""
+    if name == "turns":
+        kinds = isinstance(value, dict) and all(kind in TURNS and type(value[kind]) is int for kind in value)
+        fits = kinds and all(0 <= penalty <= MOST_PENALTY for penalty in value.values())
+        return "" if fits else f"hundredths of a second from 0 to {MOST_PENALTY} by the words {', '.join(TURNS)}"
+    if name == "fastest":
+        return wrong_speed({"fastest": value}) and f"a speed from {SLOWEST} to {FASTEST}"
+    if name in ("both_ways", "closed_by"):
+        return "" if is_words(value) and all(word.count("=") == 1 for word in value) else "a list of words KEY=VALUE"
+    if name in ("speeds", "maxspeed_words", "surfaces"):
+        wrong = wrong_speed(value)
+        return f"speeds from {SLOWEST} to {FASTEST} by names{wrong}" if wrong else ""
+    if name == "measures":
+        wrong = wrong_speed(value, 0)
+        return f"measures in metres or tonnes by names{wrong}" if wrong else ""
+    return "" if is_words(value) else "a list of words"
+
+
+def wrong_speed(value: Any, least: float = SLOWEST) -> str:
+    """What of a value isn't numbers from `least` to FASTEST by names: that it is no object, the first wrong one, or nothing."""
+    if not isinstance(value, dict):
+        return ": it is no object"
+    for name, speed in value.items():
+        if type(speed) not in (int, float) or not least <= speed <= FASTEST:
+            return f": {name} is {json.dumps(speed)}"
+    return ""
+
+
+def is_words(value: Any) -> bool:
+    return isinstance(value, list) and all(isinstance(word, str) for word in value)
+
+
+# The rules
+
+
+def way_keys(profile: Profile) -> list[str]:
+    """The keys of a way that the rules look at, but those of conditions; the first is the one that a road has."""
+    tags = [word.partition("=")[0] for word in (*profile.both_ways, *profile.closed_by)]
+    kinds = ["highway", "area", "junction", "tunnel", "bridge", *["surface"] * bool(profile.surfaces)]
+    return list(dict.fromkeys([*kinds, *profile.access, *profile.oneway, *speed_keys(profile), *profile.measures, *tags]))
+
+
+def speed_keys(profile: Profile) -> list[str]:
+    """The keys of speeds, the most general first."""
+    return [key for base in profile.maxspeed for key in (base, *(f"{base}:{direction}" for direction in DIRECTIONS))]
+
+
+def conditional_keys(profile: Profile) -> tuple[str, ...]:
+    """What the keys of conditions that concern the vehicle begin with; they end with `:conditional`."""
+    return *profile.access, *profile.oneway[:1], *profile.maxspeed[:1]
+
+
+def barrier_keys(profile: Profile) -> list[str]:
+    """The keys of a node that the rules look at; the first is the one that a barrier has."""
+    return ["barrier", *profile.access]
+
+
+def judged(tags: Tags, profile: Profile) -> Judgement:
+    """What the rules say of a way with these tags, one of which is `highway`."""
+    reason = refusal(tags, profile)
+    if reason is not None:
+        return Judgement(reason)
+    forward, backward = directions(tags, profile)
+    forward_speed, forward_known = speed_of(tags, "forward", profile)
+    backward_speed, backward_known = speed_of(tags, "backward", profile)
+    unknown = None
+    if (forward and not forward_known) or (backward and not backward_known):
+        unknown = " and ".join(sorted({tags[key] for key in speed_keys(profile) if key in tags}))
+    limits = [tags[key] for key in profile.measures if key in tags and limit_of(key, tags[key]) is None]
+    speeds = forward_speed if forward else None, backward_speed if backward else None
+    return Judgement(None, *speeds, unknown, " and ".join(sorted(set(limits))) or None)
+
+
+def is_open(tags: Tags, profile: Profile) -> bool:
+    """Whether the most particular access tag lets the vehicle in; of several values one that isn't closed is enough."""
+    for key in reversed(profile.access):
+        if key in tags:
+            return any(value.strip() not in profile.closed for value in tags[key].split(";"))
+    return True
+
+
+def allows(tags: Tags, profile: Profile) -> bool:
+    """Whether the most particular access tag of all, the vehicle's own, is set and lets it in."""
+    return profile.access[-1:] != [] and profile.access[-1] in tags and is_open(tags, profile)
+
+
+def has_one(tags: Tags, words: list[str]) -> bool:
+    """Whether one of these tags KEY=VALUE is set."""
+    return any(tags.get(key) == value for key, _, value in (word.partition("=") for word in words))
+
+
+def is_too_large(tags: Tags, profile: Profile) -> bool:
+    """Whether a limit of the way is below a measure of the vehicle."""
+    limits = ((limit_of(key, tags[key]), measure) for key, measure in profile.measures.items() if key in tags)
+    return any(limit is not None and limit < measure for limit, measure in limits)
+
+
+def limit_of(key: str, text: str) -> float | None:
+    """The metres or tonnes of a limit, infinite where there is none, or None where it isn't understood."""
+    text = text.strip()
+    if text in NO_LIMIT:
+        return math.inf
+    is_weight = key.startswith(("maxweight", "maxaxleload"))
+    if not is_weight and (feet := FEET.fullmatch(text)):
+        return (float(feet[1]) + float(feet[2] or 0) / 12) * MEASURES["ft"]
+    found = (WEIGHT if is_weight else LENGTH).fullmatch(text)
+    return float(found[1]) * MEASURES[found[2]] if found else None
+
+
+def parts_a_way(tags: Tags, profile: Profile) -> bool:
+    """Whether a node with these tags is a barrier to the vehicle: by its access tags if it has some, else by its kind."""
+    if "barrier" not in tags:
+        return False
+    if any(key in tags for key in profile.access):
+        return not is_open(tags, profile)
+    return tags["barrier"] in profile.barriers
+
+
+def refusal(tags: Tags, profile: Profile) -> str | None:
+    """Why a way with these tags is left out, in the words of the report, or None."""
+    if tags["highway"] not in profile.speeds:
+        return "ways left out by their class"
+    if tags.get("area") == "yes":
+        return "ways left out as areas"
+    needs_leave = tags["highway"] in profile.only_where_allowed or has_one(tags, profile.closed_by)
+    if not is_open(tags, profile) or needs_leave and not allows(tags, profile):
+        return "ways left out as closed to the vehicle"
+    if is_too_large(tags, profile):
+        return "ways left out as too low, narrow, short or weak for the vehicle"
+    if oneway_of(tags, profile) == "reversible":
+        return "ways left out as their direction changes"
+    return None
+
+
+def directions(tags: Tags, profile: Profile) -> tuple[bool, bool]:
+    """Whether a way may be taken forward, and whether backward."""
+    one_way = tags["highway"] in profile.oneway_highways or tags.get("junction") in profile.oneway_junctions
+    value = oneway_of(tags, profile)
+    only = ONEWAY.get(value) if value is not None else "forward" if one_way else None
+    if has_one(tags, profile.both_ways):
+        only = None
+    return only != "backward", only != "forward"
+
+
+def oneway_of(tags: Tags, profile: Profile) -> str | None:
+    """The value of the most particular key of one-way streets that is set."""
+    return next((tags[key] for key in reversed(profile.oneway) if key in tags), None)
+
+
+def speed_of(tags: Tags, direction: str, profile: Profile) -> tuple[float, bool]:
+    """The speed in a direction in km/h, and whether a maxspeed that is set was understood."""
+    keys = (key for base in reversed(profile.maxspeed) for key in (f"{base}:{direction}", base))
+    text = next((tags[key] for key in keys if key in tags), None)
+    said = None if text is None else maxspeed_of(text, profile)
+    speed = profile.speeds[tags["highway"]] if said is None else said
+    return min(speed, profile.fastest, profile.surfaces.get(tags.get("surface", ""), FASTEST)), text is None or said is not None
+
+
+def maxspeed_of(text: str, profile: Profile) -> float | None:
+    """The km/h that a value of maxspeed means, or None where it isn't understood. For a country's kind of road, as RO:urban, it
+    is that of the country where the profile has it, else that of all countries, *:urban; a zone has its own number."""
+    words, place = profile.maxspeed_words, COUNTRY.fullmatch(text)
+    for word in (text, f"*:{place[1]}") if place else (text,):
+        if word in words:
+            return words[word]
+    zone = ZONE.fullmatch(text)
+    found = SPEED.fullmatch(zone[1] if zone else text.strip())
+    if found is None:
+        return None
+    speed = float(found[1]) * UNITS[found[2]]
+    return speed if SLOWEST <= speed <= FASTEST else None
+
+
+def doubts(tags: Tags, profile: Profile) -> Iterator[tuple[str, bool]]:
+    """What of a way's rules isn't looked at, in the words of the report, and whether it is so."""
+    said = [tags[key] for key in profile.access if key in tags]
+    yield "ways for destinations alone that are taken as open", bool(said) and "destination" in said[-1].split(";")
+    conditional = any(key.endswith(":conditional") and key.startswith(conditional_keys(profile)) for key in tags)
+    yield "ways with rules for some times or conditions, which aren't looked at", conditional
+
+
+def structure_of(tags: Tags) -> str:
+    """Whether a way is a tunnel or a bridge: that word, or the empty text."""
+    return next((word for word in ("tunnel", "bridge") if tags.get(word, "no") != "no"), "")

@@ -1,0 +1,233 @@
+"""Tests of the program by which osm_to_gr reads maps: how it is built, interrupted and fails; and of what comes of it."""
+import os
+import random
+import shutil
+import signal
+import subprocess
+import time
+import unittest
+
+import numpy as np
+from tool_case import PYTHON, TAKES_SIGNALS, VILLAGE, ToolCase
+
+from domethyme.network import binary
+from domethyme.network.tables import read_arcs, read_nodes
+from domethyme.texts import read_graph
+from domethyme_tools import map_arrays, osm_to_gr, road_network
+from domethyme_tools.rules import read_profile
+from domethyme_tools.tool import Fault
+
+# A compiler that writes the program to the path behind -o
+BUILT = '#!/bin/sh\nwhile [ "$1" != -o ]; do shift; done\ncp program "$2"\nchmod +x "$2"\n'
+
+
+class ProgramCase(ToolCase):
+    """Tests with a copy of the packages in which no converter is built, and with programs of their own in PATH."""
+
+    def setUp(self):
+        super().setUp()
+        self.copy, self.programs = self.folder / "python", self.folder / "programs"
+        for name in ("domethyme", "domethyme_tools"):
+            shutil.copytree(PYTHON / name, self.copy / name, ignore=shutil.ignore_patterns("built", "__pycache__"))
+        self.programs.mkdir()
+        self.command = ["/usr/bin/python3", "-P", "-B", self.copy / "domethyme_tools/__main__.py"]
+        self.environment = {**os.environ, "PATH": str(self.programs), "HOME": str(self.folder / "home")}
+        self.run_tool("osm_to_gr", VILLAGE, "old")
+
+    def put(self, name, text):
+        path = self.programs / name
+        path.write_text(text, encoding="utf-8")
+        path.chmod(0o755)
+
+    def put_compiler(self, program):
+        """Has g++ build this script."""
+        self.write("program", program)
+        for name in ("sh", "cp", "chmod", "sleep", "cat"):
+            (self.programs / name).symlink_to(shutil.which(name))
+        self.put("g++", BUILT)
+
+    def outputs(self):
+        return {path.name: path.read_bytes() for path in self.folder.iterdir() if path.name.startswith(("out", "old"))}
+
+    def refused(self, *says, status=1):
+        """Wants that the map is refused in one line, and the files are as they were."""
+        self.write("out.gr", "old")
+        before = self.outputs()
+        ended = self.run_program([*self.command, "osm_to_gr", VILLAGE, "out"], status, environment=self.environment)
+        self.assertEqual(ended.stderr.count("\n"), 1, ended.stderr)
+        for text in says:
+            self.assertIn(text, ended.stderr)
+        self.assertEqual(self.outputs(), before)
+
+
+class BuildTests(ProgramCase):
+    INSTALL = "as root, apt-get install g++ libosmium2-dev\n"
+
+    def test_no_compiler(self):
+        self.refused("the converter has to be built, and g++ is missing: ", self.INSTALL)
+
+    def test_no_library(self):
+        wrong = "x.cpp:9:10: fatal error: osmium/io/any_input.hpp: No such file"
+        self.put("g++", f"#!{shutil.which('sh')}\necho '{wrong}' >&2\nexit 1\n")
+        self.refused(f"the converter can't be built: {wrong}: {self.INSTALL}")
+        self.assertEqual([path.name for path in (self.copy / "domethyme_tools/converter/built").iterdir()], ["lock"])
+
+    def test_it_is_built_once_for_its_source(self):
+        self.put_compiler("#!/bin/sh\nexit 3\n")
+        built = self.run_program([*self.command, "build_converter"], environment=self.environment).stdout.strip()
+        (self.programs / "g++").unlink()
+        self.assertEqual(self.run_program([*self.command, "build_converter"], environment=self.environment).stdout.strip(), built)
+        source = self.copy / "domethyme_tools/converter/map_arrays.cpp"
+        source.write_text(source.read_text(encoding="utf-8") + "// changed\n", encoding="utf-8")
+        self.refused("g++ is missing")
+
+    def test_a_folder_that_can_not_be_written(self):
+        self.put_compiler("#!/bin/sh\nexit 3\n")
+        (self.copy / "domethyme_tools/converter/built").write_text("no folder", encoding="utf-8")
+        built = self.run_program([*self.command, "build_converter"], environment=self.environment).stdout.strip()
+        self.assertEqual(os.path.dirname(built), str(self.folder / "home/.cache/domethyme"))
+
+
+class FailureTests(ProgramCase):
+    def test_what_the_program_reports(self):
+        self.put_compiler("#!/bin/sh\necho 'ways: No space left on device' >&2\nexit 2\n")
+        self.refused("osm_to_gr: ways: No space left on device\n")
+
+    def test_no_memory(self):
+        self.put_compiler("#!/bin/sh\nexit 3\n")
+        self.refused("osm_to_gr: there isn't enough memory\n")
+
+    def test_one_that_is_killed(self):
+        self.put_compiler("#!/bin/sh\nkill -9 $$\n")
+        self.refused("osm_to_gr: the converter's ways ended with status -9\n")
+
+    def test_signals_leave_nothing(self):
+        self.put_compiler("#!/bin/sh\necho 1\necho $$ >pid\nexec sleep 100\n")
+        self.write("out.npz", "old")
+        before = self.outputs()
+        for number, status in ((signal.SIGINT, 130), (signal.SIGTERM, 143)):
+            words = [*TAKES_SIGNALS, *map(str, self.command), "osm_to_gr", str(VILLAGE), "out"]
+            process = subprocess.Popen(words, cwd=self.folder, env=self.environment, stderr=subprocess.PIPE, text=True)
+            until = time.monotonic() + 60
+            while not (self.folder / "pid").exists() and time.monotonic() < until:
+                time.sleep(0.05)
+            time.sleep(0.1)
+            program = int((self.folder / "pid").read_text())
+            process.send_signal(number)
+            said = process.communicate(timeout=60)[1]
+            self.assertEqual((process.returncode, said), (status, ""))
+            self.assertEqual(self.outputs(), before)
+            with self.assertRaises(ProcessLookupError):
+                os.kill(program, 0)
+            (self.folder / "pid").unlink()
+
+
+class FileTests(ToolCase):
+    def test_without_tables(self):
+        self.run_tool("osm_to_gr", VILLAGE, "v", "--tables")
+        tables = {path.name for path in self.folder.iterdir()}
+        nodes, arcs = read_nodes(self.folder / "v.nodes.csv"), list(read_arcs(self.folder / "v.arcs.csv"))
+        self.run_tool("osm_to_gr", VILLAGE, "w")
+        whole = {path.name for path in self.folder.iterdir()} - tables
+        self.assertEqual(len(whole), 2)
+        self.assertEqual(read_graph(self.folder / "v.gr"), read_graph(self.folder / "w.gr"))
+        self.assertEqual(read_nodes(self.folder / "w.nodes.csv"), nodes)
+        self.assertEqual(len(arcs), len(read_graph(self.folder / "w.gr").starts))
+
+    def test_tables_of_another_network_are_removed(self):
+        self.run_tool("osm_to_gr", VILLAGE, "v", "--tables")
+        self.run_tool("osm_to_gr", VILLAGE, "v", "--islands")
+        self.assertEqual(len(list(self.folder.iterdir())), 2)
+        self.assertEqual(len(read_nodes(self.folder / "v.nodes.csv").osm), read_graph(self.folder / "v.gr").nodes)
+
+
+class RoomTests(unittest.TestCase):
+    def test_a_network_that_is_too_large(self):
+        osm_to_gr.need_room(1 << 25, 1 << 27, "map.osm")
+        cases = [((1 << 25) + 1, 0, "33554433 nodes, and there may be 33554432"), (0, (1 << 27) + 1, "134217729 arcs")]
+        for nodes, arcs, says in cases:
+            with self.assertRaisesRegex(Fault, f"map.osm: makes a network of {says}"):
+                osm_to_gr.need_room(nodes, arcs, "map.osm")
+
+
+class ArraysTests(ToolCase):
+    """The arrays of drawn maps are those that the tables' reader makes of the same arcs one by one."""
+
+    def test_drawn_maps(self):
+        for seed in range(8):
+            with self.subTest(seed=seed):
+                self.write("map.osm", drawn_map(seed))
+                arrays = self.arrays()
+                builder = binary.Builder("said")
+                for node in zip(*osm_to_gr.nodes_in(arrays)):
+                    builder.add_node(*node)
+                for arc in osm_to_gr.arcs_in(arrays):
+                    builder.add_arc(arc)
+                wanted = builder.done()
+                for name in binary.Arrays._fields:
+                    np.testing.assert_array_equal(getattr(arrays, name), getattr(wanted, name), name)
+                    self.assertEqual(getattr(arrays, name).dtype, getattr(wanted, name).dtype, name)
+                self.assertGreater(len(arrays.arc_from), 20)
+                self.assertLess(len(arrays.edge_begin) - 1, len(arrays.arc_from))
+
+    def arrays(self):
+        options = osm_to_gr.argparse.Namespace(map=self.folder / "map.osm", longest_arc=120.0, free_turns=False, islands=True)
+        with map_arrays.folder_beside(str(self.folder / "out")) as folder:
+            report = osm_to_gr.collections.Counter()
+            network, rows_of = osm_to_gr.convert(options, read_profile("car"), folder, report)
+            return road_network.arrays_of(network, "time", rows_of, "said", report)
+
+
+def drawn_map(seed):
+    """A map of a few nodes that ways pass often, there and back, with names of all kinds and turn restrictions."""
+    draw = random.Random(seed)
+    lines = ["<osm version='0.6'>"]
+    lines += [f"<node id='{node}' lon='{draw.randrange(9) / 1000}' lat='{draw.randrange(9) / 1000}'/>" for node in range(1, 13)]
+    for way in range(1, 25):
+        nodes = [draw.randrange(1, 14) for _ in range(draw.randrange(2, 6))]
+        nodes += nodes[::-1] * (draw.random() < 0.2)
+        tags = {"highway": draw.choice(("residential", "primary")), "name": draw.choice(("A", " A\u2003 B\u00a0", "", "C"))}
+        tags.update({"ref": "1\t2"} if draw.random() < 0.5 else {}, **({"oneway": "yes"} if draw.random() < 0.2 else {}))
+        lines.append(f"<way id='{way}'>" + "".join(f"<nd ref='{node}'/>" for node in nodes))
+        lines.append("".join(f"<tag k='{key}' v='{value}'/>" for key, value in tags.items()) + "</way>")
+    for number in range(1, 30):
+        start, end = draw.randrange(1, 25), draw.randrange(1, 25)
+        members = f"<member type='way' ref='{start}' role='from'/><member type='way' ref='{end}' role='to'/>"
+        via = f"<member type='node' ref='{draw.randrange(1, 13)}' role='via'/>"
+        value = draw.choice(("no_left_turn", "only_right_turn"))
+        tags = f"<tag k='type' v='restriction'/><tag k='restriction' v='{value}'/>"
+        lines.append(f"<relation id='{number}'>{members}{via}{tags}</relation>")
+    return "\n".join([*lines, "</osm>"])
+
+
+class RoundingTests(unittest.TestCase):
+    def test_as_python_rounds(self):
+        draw = random.Random(1)
+        values = [number / 16 for number in range(200)] + [number / 2000 for number in range(2000)]
+        values += [draw.uniform(0, 10.0 ** draw.randrange(7)) for _ in range(2000)]
+        for digits in (2, 3):
+            found = road_network.rounded(np.array(values), digits).tolist()
+            self.assertEqual(found, [round(value, digits) for value in values])
+
+
+class PlaceTests(ToolCase):
+    def arcs(self, places, *words):
+        """The arcs of a way through these places."""
+        nodes = "".join(f"<node id='{node}' lon='{lon}' lat='{lat}'/>" for node, (lon, lat) in enumerate(places, 1))
+        way = "".join(f"<nd ref='{node}'/>" for node in range(1, len(places) + 1)) + "<tag k='highway' v='road'/>"
+        self.write("map.osm", f"<osm version='0.6'>{nodes}<way id='1'>{way}</way></osm>")
+        self.run_tool("osm_to_gr", "map.osm", "map", "--tables", "--weight", "length", *words)
+        return list(read_arcs(self.folder / "map.arcs.csv"))
+
+    def test_a_road_across_the_180th_meridian(self):
+        arcs = self.arcs([(179.998, 0), (-179.998, 0)])
+        self.assertEqual([arc.metres for arc in arcs], [222.39] * 4)
+        self.assertEqual({abs(lon) for lon in read_nodes(self.folder / "map.nodes.csv").lon}, {179.998, 180})
+        arcs = self.arcs([(-179.999, 0), (179.996, 0)], "--longest-arc", "120")
+        self.assertEqual(len(arcs), 10)
+        wanted = [-180.0, -179.999, 179.996, 179.997, 179.998, 179.999]
+        self.assertEqual(sorted(read_nodes(self.folder / "map.nodes.csv").lon), wanted)
+
+    def test_a_cut_beside_zero_has_no_sign(self):
+        self.arcs([(-0.001, 0), (0.001, -0.0000001)], "--longest-arc", "200")
+        self.assertNotIn("-0.0000000", (self.folder / "map.nodes.csv").read_text())
