@@ -4,13 +4,16 @@ MAP is converted twice by osm_to_gr, once with its restrictions and once with --
 second network a search goes from arc to arc, and never by a turn that a restriction of the map forbids, which is read here
 by itself; in the first one a plain search goes from node to node. From nodes drawn at random (--sources) the lengths to all
 nodes have to be the same. --draw N adds N restrictions between ways that end at one node to a copy of the map, of which
-some are of each kind, since real maps may have few.
+some are of each kind, since real maps may have few. --penalties gives the first network's turns penalties, and the search over
+turns has the same, by angles that are computed here.
 
 Status 0: all is so. 1: something differs, or bad input, reported in one line. 2: the arguments were refused.
 """
 import argparse
 import collections
 import itertools
+import json
+import math
 import pathlib
 import random
 import subprocess
@@ -23,12 +26,15 @@ from osmium.osm.mutable import Relation
 from scipy.sparse import csr_matrix
 from scipy.sparse.csgraph import dijkstra
 
-from domethyme.network.tables import Files, read_arcs, read_nodes
+from domethyme.network.tables import Arc, Files, Point, points_of, read_arcs, read_nodes
 from domethyme.texts import reading
 
 from .tool import Fault, tool, words
 
 Place = tuple[int | None, float, float]
+PROFILE = pathlib.Path(__file__).resolve().parent / "profiles/car.json"
+# Hundredths of a second
+PENALTIES = {"left": 500, "right": 200, "back": 2000}
 KINDS = ("no_left_turn", "no_straight_on", "no_u_turn", "only_right_turn", "only_straight_on", "no_entry", "no_exit")
 
 
@@ -100,9 +106,10 @@ def with_more(path: pathlib.Path, count: int, seed: int, out: pathlib.Path) -> N
 
 
 class TurnGraph:
-    """States are arcs of a network: to have come over one. A turn that is forbidden is no link between two of them."""
+    """States are arcs of a network: to have come over one. A turn that is forbidden is no link between two of them, and one that
+    has a penalty is a longer one."""
 
-    def __init__(self, network: Files, read: Map) -> None:
+    def __init__(self, network: Files, read: Map, penalties: dict[str, int]) -> None:
         arcs = list(read_arcs(network.arcs))
         osm = read_nodes(network.nodes).osm
         once = collections.Counter(osm)
@@ -118,7 +125,8 @@ class TurnGraph:
             if sound and start in read.ends:
                 rules[start, via].append((end, value))
         ways = {arc.osm for arc in arcs}
-        rows, columns = [], []
+        rows, columns, costs = [], [], []
+        lines = [points_of(arc.wkt) for arc in arcs]
         for number, arc in enumerate(arcs):
             here = osm[arc.end - 1]
             bound = rules.get((arc.osm, here), []) if once[here] == 1 else []
@@ -126,7 +134,9 @@ class TurnGraph:
                 if may_turn(bound, arcs[after].osm, ways):
                     rows.append(number)
                     columns.append(after)
-        self.links = csr_matrix((self.weights[columns], (rows, columns)), shape=(self.count, self.count))
+                    kind = kind_of_turn((arc, lines[number]), (arcs[after], lines[after]))
+                    costs.append(arcs[after].weight + 10.0 * penalties.get(kind, 0))
+        self.links = csr_matrix((costs, (rows, columns)), shape=(self.count, self.count))
 
     def lengths(self, source: int, nodes: int) -> Any:
         """The lengths from a node to all, infinite where there is no route."""
@@ -144,6 +154,25 @@ def may_turn(bound: list[tuple[int, str]], way: int, ways: set[int]) -> bool:
     only = [end for end, value in bound if value.startswith("only_")]
     forbidden = [end for end, value in bound if value.startswith("no_") and end in ways]
     return way not in forbidden and (not only or way in only)
+
+
+def kind_of_turn(before: tuple[Arc, list[Point]], after: tuple[Arc, list[Point]]) -> str:
+    """Whether one turns left, right or back from an arc with its line into another, or the empty text. A step without a length
+    leads nowhere, so it makes no turn."""
+    (arc, line), (arc_after, line_after) = before, after
+    if arc.osm == arc_after.osm and (arc.start, arc.end) == (arc_after.end, arc_after.start) and line == line_after[::-1]:
+        return "back"
+    if line[-2] == line[-1] or line_after[0] == line_after[1]:
+        return ""
+    turn = (bearing(*line_after[:2]) - bearing(*line[-2:]) + 180) % 360 - 180
+    if abs(turn) > 165:
+        return "back"
+    return "right" if turn > 45 else "left" if turn < -45 else ""
+
+
+def bearing(here: Point, there: Point) -> float:
+    """Degrees from north to east."""
+    return math.degrees(math.atan2((there[0] - here[0]) * math.cos(math.radians(here[1])), there[1] - here[1]))
 
 
 def converted(path: pathlib.Path, out: pathlib.Path, *options: Any) -> Files:
@@ -174,11 +203,12 @@ class SplitGraph:
         self.links = csr_matrix((list(map(float, least.values())), (rows, columns)), shape=(self.count, self.count))
 
 
-def compare(path: pathlib.Path, folder: pathlib.Path, sources: int, seed: int) -> str:
+def compare(path: pathlib.Path, folder: pathlib.Path, sources: int, seed: int, penalties: dict[str, int]) -> str:
     """Compares the two conversions of a map; what was compared."""
-    read = read_map(path)
-    free, kept = converted(path, folder / "free", "--free-turns"), converted(path, folder / "kept")
-    turns, split = TurnGraph(free, read), SplitGraph(kept)
+    read, profile = read_map(path), folder / "profile.json"
+    profile.write_text(json.dumps({**json.loads(PROFILE.read_text(encoding="utf-8")), "turns": penalties}), encoding="utf-8")
+    free, kept = converted(path, folder / "free", "--free-turns"), converted(path, folder / "kept", "--profile", profile)
+    turns, split = TurnGraph(free, read, penalties), SplitGraph(kept)
     nodes = read_nodes(free.nodes)
     places = list(zip(nodes.osm, nodes.lon, nodes.lat))
     count = collections.Counter(places)
@@ -204,6 +234,7 @@ def read_words() -> argparse.Namespace:
     parser = words(__doc__)
     parser.add_argument("map", metavar="MAP", help="a .osm, .osm.bz2 or .osm.pbf file")
     parser.add_argument("--draw", type=int, default=0, metavar="N", help="add N restrictions (0)")
+    parser.add_argument("--penalties", action="store_true", help="give turns penalties")
     parser.add_argument("--sources", type=int, default=100, metavar="N", help="how many nodes to search from (100)")
     parser.add_argument("--seed", type=int, default=1, metavar="N", help="of the draws (1)")
     return parser.parse_args()
@@ -216,4 +247,5 @@ def main() -> None:
         if options.draw:
             path = pathlib.Path(folder) / "more.osm"
             with_more(options.map, options.draw, options.seed, path)
-        print(compare(path, pathlib.Path(folder), options.sources, options.seed))
+        penalties = PENALTIES if options.penalties else {}
+        print(compare(path, pathlib.Path(folder), options.sources, options.seed, penalties))

@@ -576,7 +576,7 @@ class BadInput(NetworkCase):
         self.refused("bare.osm", says="bare.osm: has no road that the profile takes")
 
     def test_an_unknown_profile(self):
-        self.refused(VILLAGE, "--profile", "boat", says="there is no profile boat: there is car; for another")
+        self.refused(VILLAGE, "--profile", "boat", says="there is no profile boat: there is bicycle, car, foot, lorry; for another")
 
     def test_a_folder_in_place_of_out(self):
         before = self.contents()
