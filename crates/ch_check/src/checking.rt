@@ -1,12 +1,12 @@
 ghost use Rattle.std.specs.Prelude.{◌≡◌, Err, OnOk, [], length};
 ghost use Rattle.ch_graph.specs.Hierarchy.{IsRight};
 ghost use Rattle.ch_graph.specs.Limits.{bound_of};
-ghost use Rattle.ch_graph.specs.declared.version.Version.TheVariants.{Two};
+ghost use Rattle.ch_graph.specs.declared.version.Version.TheVariants.{One, Two};
 ghost use Rattle.ch_laws.specs.Contraction.{IsAlive};
 ghost use Rattle.ch_overlay.specs.Overlay.{state_of};
 ghost use Rattle.ch_check.specs.Ranks.{AreInOrder};
 ghost use Rattle.ch_check.specs.Replay.{IsContracted};
-ghost use Rattle.ch_check.specs.declared.error.CheckError.TheVariants.{Nodes};
+ghost use Rattle.ch_check.specs.declared.error.CheckError.TheVariants.{Nodes, Version};
 
 use crate::comparing::{compare, compare_row};
 use crate::desk::Desk;
@@ -37,6 +37,7 @@ pub fn check(alloc: Global, graph: &Graph, hierarchy: &Hierarchy) -> Result<(), 
     ensures right { OnOk result (IsRight graph.now hierarchy.now) }
     ensures version { OnOk result (hierarchy.now.version ≡ Two) }
     ensures wrong { result ≡ Err Nodes → IsRight graph.now hierarchy.now → ⊥ }
+    ensures old { result ≡ Err Version → hierarchy.now.version ≡ One }
 {
     check_watched(alloc, graph, hierarchy, &Unwatched)
 }
@@ -51,6 +52,7 @@ pub fn check_watched<W: Watch>(
     ensures right { OnOk result (IsRight graph.now hierarchy.now) }
     ensures version { OnOk result (hierarchy.now.version ≡ Two) }
     ensures wrong { result ≡ Err Nodes → IsRight graph.now hierarchy.now → ⊥ }
+    ensures old { result ≡ Err Version → hierarchy.now.version ≡ One }
 {
     if hierarchy.nodes() != graph.nodes() {
         return Err(CheckError::Nodes);

@@ -1,5 +1,5 @@
 ghost use Rattle.std.specs.Prelude.{◌≢◌};
-ghost use Rattle.ch_check.specs.declared.error.CheckError.TheVariants.{Nodes};
+ghost use Rattle.ch_check.specs.declared.error.CheckError.TheVariants.{Nodes, Version};
 
 use crate::fault::Fault;
 use std::error::Error;
@@ -63,7 +63,7 @@ impl fmt::Display for CheckError {
 impl Error for CheckError {}
 
 impl From<Fault> for CheckError {
-    ghost from_gives = { λ _ e. e ≢ Nodes };
+    ghost from_gives = { λ _ e. (e ≢ Nodes) × (e ≢ Version) };
 
     fn from(fault: Fault) -> CheckError {
         match fault {
