@@ -1,0 +1,63 @@
+-- What a check of a hierarchy's file against the text of a graph says, and how that is shown.
+use Rattle.std.specs.Prelude.{ℕ, ◌≡◌, ◌+◌, ⊤, List, ◌++◌, codes, decimal, Ok}
+use Rattle.ch_graph.specs.Graph.{Graph}
+use Rattle.ch_graph.specs.Hierarchy.{Hierarchy, IsRight}
+use Rattle.ch_graph.specs.declared.version.Version.{Version}
+use Rattle.ch_graph.specs.declared.version.Version.TheVariants.{Two}
+use Rattle.grfile.specs.Reading.{graph_of}
+use Rattle.ch_answer.specs.File.{Spells, PreparesIn}
+use Rattle.ch_verify.specs.declared.verdict.Verdict.{Verdict}
+use Rattle.ch_verify.specs.declared.verdict.Verdict.TheVariants.{Right, Wrong, NotShown}
+use Rattle.ch_verify.specs.declared.verdict.Refutation.{Refutation}
+use Rattle.ch_verify.specs.declared.verdict.Refutation.TheVariants.{Nodes, Pair}
+use Rattle.ch_verify.specs.declared.verdict.Doubt.{Doubt}
+use Rattle.ch_verify.specs.declared.verdict.Doubt.TheVariants.{Bound, Way, Link}
+
+-- what a verdict says of a graph and a hierarchy: it is right for the graph, or it isn't, or nothing
+abbrev pub Judges : Verdict → Graph → Hierarchy → Type 0
+Judges Right g h = IsRight g h
+Judges (Wrong refutation) g h = IsRight g h → ⊥
+Judges (NotShown doubt) g h = ⊤
+
+-- the text spells a graph and the bytes are the file of a hierarchy of this version, and this is so of the two
+pub record AreOf (v : Version) (P : Graph → Hierarchy → Type 0) (graph_text bytes : List ℕ) : Type 0 where
+  pub graph : Graph
+  pub hierarchy : Hierarchy
+  pub graph_reads : graph_of graph_text ≡ Ok graph
+  pub version : hierarchy.version ≡ v
+  pub fact : P graph hierarchy
+  pub spells : Spells bytes hierarchy
+
+-- the bytes are the file of a hierarchy that isn't right for the graph of the text
+abbrev pub IsWrong : List ℕ → List ℕ → Type 0
+IsWrong = AreOf Two (λ g h. IsRight g h → ⊥)
+
+-- What a verdict says of the text of a graph and of bytes. They are the file of a hierarchy that is right for the graph, as
+-- those that are prepared from the text; or the file of one that isn't; or both were read.
+abbrev pub Says : Verdict → List ℕ → List ℕ → Type 0
+Says Right = PreparesIn Two
+Says (Wrong refutation) = IsWrong
+Says (NotShown doubt) = AreOf Two (λ g h. ⊤)
+
+-- how a verdict is shown, with nodes numbered from 1
+
+abbrev pub refutation_text : Refutation → List ℕ
+refutation_text Nodes = codes "nodes"
+refutation_text (Pair from to) = codes "pair " ++ decimal (from + 1) ++ codes " " ++ decimal (to + 1)
+
+abbrev pub doubt_text : Doubt → List ℕ
+doubt_text Bound = codes "bound"
+doubt_text (Way via from to) = codes "way " ++ decimal (from + 1) ++ codes " " ++ decimal (to + 1) ++ codes " by " ++ decimal (via + 1)
+doubt_text (Link from to) = codes "link " ++ decimal (from + 1) ++ codes " " ++ decimal (to + 1)
+
+abbrev pub verdict_text : Verdict → List ℕ
+verdict_text Right = codes "right"
+verdict_text (Wrong refutation) = codes "wrong: " ++ refutation_text refutation
+verdict_text (NotShown doubt) = codes "not shown: " ++ doubt_text doubt
+
+abbrev pub verdict_line : Verdict → List ℕ
+verdict_line v = verdict_text v ++ codes "\n"
+
+-- the line is that of a verdict that holds
+abbrev pub IsVerdictLine : List ℕ → List ℕ → List ℕ → Type 0
+IsVerdictLine graph_text bytes line = (v : Verdict) × Says v graph_text bytes × (line ≡ verdict_line v)

@@ -1,0 +1,127 @@
+ghost use Rattle.std.specs.Prelude.{◌≡◌, OnOk, IfOk, IfErr};
+ghost use Rattle.std.specs.Io.KnownBytes.{Appends};
+ghost use Rattle.ch_graph.specs.declared.version.Version.TheVariants.{One, Two};
+ghost use Rattle.ch_answer.specs.Written.{IfTold};
+ghost use Rattle.ch_verify.specs.Refusal.{BreaksOff, RefusesCheck};
+ghost use Rattle.ch_verify.specs.declared.error.VerifyError.TheVariants.{OldVersion};
+ghost use Rattle.ch_verify.specs.Verdict.{Judges, Says, verdict_line};
+
+use crate::error::VerifyError;
+use crate::verdict::{Doubt, Refutation, Verdict};
+use ch_check::{CheckError, Watch, check_watched, is_refuted_by};
+use ch_graph::{Graph, Hierarchy};
+use counted_io::{MOST_CALLS, WriteCalls};
+use grfile::read_graph;
+use std::alloc::{AllocError, Global};
+use std::io::{Read, Write};
+
+/// Checks that the file of a hierarchy is right for the graph of a text, whoever made it.
+///
+/// `gr` gives the text of the graph and `hier` the file, which are read in this order, and `out` gets one line with what
+/// was found. The watch sees how many nodes are checked. Nothing of the file is believed: if the verdict is
+/// [`Verdict::Right`], it is one as `prepare` writes them of this text, and routes by it are shortest paths of the graph.
+/// Where the check ends at a pair of nodes, their distance in the graph is compared with that in the hierarchy, and if these
+/// differ the verdict is [`Verdict::Wrong`].
+///
+/// A file of version 1, whose costs count no arcs, is refused ([`VerifyError::OldVersion`]). Nothing is written at a refusal,
+/// unless it is the write that failed. Takes memory for the graph, the hierarchy and the rows of
+/// [`check`](ch_check::check), whose time it takes too.
+pub fn verify<G: Read, H: Read, W: Write, V: Watch>(
+    alloc: Global,
+    gr: &mut G,
+    hier: &mut H,
+    out: &mut W,
+    watch: &V,
+) -> Result<Verdict, VerifyError>
+    ensures says { IfOk result (λ verdict. IfTold (G.remaining gr.old) (H.remaining hier.old) (Says verdict)) }
+    ensures written { IfOk result (λ verdict. Appends (W.contents out.old) (W.contents out.new) (verdict_line verdict)) }
+    ensures refused { IfErr result (RefusesCheck (G.remaining gr.old) (H.remaining hier.old) (W.contents out.old) (W.contents out.new)) }
+{
+    let graph = read_graph(alloc, gr)?;
+    let hierarchy = hierfile::read(alloc, hier)?;
+    let _well_made = hierarchy.nodes();
+    refuse_old(&hierarchy)?;
+    let verdict = judge(alloc, &graph, &hierarchy, watch)?;
+    match write_line(alloc, verdict, out) {
+        Ok(()) => Ok(verdict),
+        Err(error) => Err(error),
+    }
+}
+
+// Refuses a hierarchy of version 1.
+fn refuse_old(hierarchy: &Hierarchy) -> Result<(), VerifyError>
+    ensures new { OnOk result (hierarchy.now.version ≡ Two) }
+    ensures old { IfErr result (λ e. (e ≡ OldVersion) × (hierarchy.now.version ≡ One)) }
+{
+    if hierarchy.version() == 2 {
+        Ok(())
+    } else {
+        Err(VerifyError::OldVersion)
+    }
+}
+
+// Writes the line of a verdict.
+fn write_line<W: Write>(alloc: Global, verdict: Verdict, out: &mut W) -> Result<(), VerifyError>
+    ensures ok { OnOk result (Appends (W.contents out.old) (W.contents out.new) (verdict_line verdict)) }
+    ensures err { IfErr result (BreaksOff verdict (W.contents out.old) (W.contents out.new)) }
+{
+    let line = format!(in alloc; "{verdict}\n")?;
+    WriteCalls::new(MOST_CALLS).write(out, line.as_bytes())?;
+    Ok(())
+}
+
+// What a check finds, and where it ends at a pair of nodes, whether their distance shows that the hierarchy is wrong.
+fn judge<V: Watch>(
+    alloc: Global,
+    graph: &Graph,
+    hierarchy: &Hierarchy,
+    watch: &V,
+) -> Result<Verdict, AllocError>
+    requires { hierarchy.now.version ≡ Two }
+    ensures { IfOk result (λ verdict. Judges verdict graph.now hierarchy.now) }
+{
+    let Err(error) = check_watched(alloc, graph, hierarchy, watch) else {
+        return Ok(Verdict::Right);
+    };
+    match error {
+        CheckError::OutOfMemory => Err(AllocError),
+        CheckError::Nodes => Ok(Verdict::Wrong(Refutation::Nodes)),
+        CheckError::Version => unreachable!(),
+        CheckError::Bound => Ok(Verdict::NotShown(Doubt::Bound)),
+        CheckError::Way { via, from, to } => {
+            refute(
+                alloc,
+                graph,
+                hierarchy,
+                (from, to),
+                Doubt::Way { via, from, to },
+            )
+        }
+        CheckError::Link { from, to } => {
+            refute(
+                alloc,
+                graph,
+                hierarchy,
+                (from, to),
+                Doubt::Link { from, to },
+            )
+        }
+    }
+}
+
+// That the hierarchy is wrong, if the distance of the pair shows it, or else this doubt.
+fn refute(
+    alloc: Global,
+    graph: &Graph,
+    hierarchy: &Hierarchy,
+    pair: (u32, u32),
+    doubt: Doubt,
+) -> Result<Verdict, AllocError>
+    ensures { IfOk result (λ verdict. Judges verdict graph.now hierarchy.now) }
+{
+    let (from, to) = pair;
+    if is_refuted_by(alloc, graph, hierarchy, from, to)? {
+        return Ok(Verdict::Wrong(Refutation::Pair { from, to }));
+    }
+    Ok(Verdict::NotShown(doubt))
+}
