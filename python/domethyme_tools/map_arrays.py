@@ -11,6 +11,7 @@ libosmium2-dev; tools/build_converter does that alone. It is kept by the checksu
 can't be written in the user's cache.
 """
 import contextlib
+import errno
 import fcntl
 import hashlib
 import itertools
@@ -41,6 +42,7 @@ TO_INSTALL = "as root, apt-get install g++ libosmium2-dev"
 TEXTS = ("name", "ref", "destination")
 ROLES = ("from", "via", "to")
 GZIP = b"\x1f\x8b"
+DISK_IS_FULL = os.strerror(errno.ENOSPC)
 
 
 # The program
@@ -98,7 +100,7 @@ def step(what: str) -> Any:
 
 
 class Folder:
-    """A folder of arrays, and the program's commands over it. `array` maps one, and `table` reads a list of tags."""
+    """A folder of arrays, and the program's commands over it. `array` maps one, and `tags` reads combinations of tags."""
 
     def __init__(self, path: str) -> None:
         self.path, self.program = path, built()
@@ -114,7 +116,7 @@ class Folder:
 
     def write(self, name: str, values: NDArray[Any]) -> None:
         with open(os.path.join(self.path, name), "wb") as file:
-            values.tofile(file)
+            file.write(np.ascontiguousarray(values).data)
 
     def fields(self, name: str) -> list[str]:
         """The texts of a file, behind each of which is a zero. Raises UnicodeDecodeError."""
@@ -166,6 +168,8 @@ class Folder:
             raise Fault(f"{said.strip()}{gzip_hint(path)}", path)
         if status == 3:
             raise MemoryError
+        if said.strip().endswith(DISK_IS_FULL):
+            raise OSError(errno.ENOSPC, DISK_IS_FULL)
         if status != 0:
             raise Fault(said.strip() or f"the converter's {words[0]} ended with status {status}")
 

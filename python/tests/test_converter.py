@@ -90,8 +90,12 @@ class BuildTests(ProgramCase):
 
 class FailureTests(ProgramCase):
     def test_what_the_program_reports(self):
-        self.put_compiler("#!/bin/sh\necho 'ways: No space left on device' >&2\nexit 2\n")
-        self.refused("osm_to_gr: ways: No space left on device\n")
+        self.put_compiler("#!/bin/sh\necho 'way_osm: Permission denied' >&2\nexit 2\n")
+        self.refused("osm_to_gr: way_osm: Permission denied\n")
+
+    def test_a_full_disk_names_the_files(self):
+        self.put_compiler("#!/bin/sh\necho 'way_osm: No space left on device' >&2\nexit 2\n")
+        self.refused("osm_to_gr: out.gr, out.", ": No space left on device\n")
 
     def test_no_memory(self):
         self.put_compiler("#!/bin/sh\nexit 3\n")
