@@ -1,7 +1,7 @@
-"""Who may ask. A page in a browser on this machine can send requests to a service that listens here alone, and a name of its own may
-lead here too (DNS rebinding). So a request has to be for a host that is allowed, and one that a browser marks as another page's is
-refused, unless that page's origin is allowed. What changes nothing but costs work, a batch, has a type that such a page can't send
-without asking first."""
+"""Who may ask. A page in a browser on this machine can send requests to a service that listens here alone, and a name of its own
+may lead here too (DNS rebinding). So a request has to be for a host that is allowed, and one that a browser marks as another
+page's is refused, unless that page's origin is allowed. What changes nothing but costs work, a batch, has a type that such a page
+can't send without asking first."""
 import ipaddress
 import re
 from collections.abc import Iterable, Mapping
@@ -18,8 +18,8 @@ SAYS_SITE = "a page of another origin asks: --cors names one that may"
 
 
 class Allowed(NamedTuple):
-    """The names that requests may be for besides the address that they come to, `*` for any; and the origin whose pages may ask, `*` for
-    any, or none."""
+    """The names that requests may be for besides the address that they come to, `*` for any; and the origin whose pages may ask,
+    `*` for any, or none."""
 
     hosts: frozenset[str]
     origin: str
@@ -29,8 +29,8 @@ class Allowed(NamedTuple):
         return cls(frozenset(host.lower() for host in hosts), origin)
 
     def refuse_others(self, host: str | None, local: str, fields: Mapping[str, str], is_page: bool) -> None:
-        """Raises Refused for a request that isn't allowed: `host` is the one that it is for, None for one of HTTP/1.0 that names none,
-        and `local` the address that it came to. The page itself may be led to from elsewhere."""
+        """Raises Refused for a request that isn't allowed: `host` is the one that it is for, None for one of HTTP/1.0 that names
+        none, and `local` the address that it came to. The page itself may be led to from elsewhere."""
         if host is not None and not self.is_host(host, local):
             raise Refused(421, "InvalidHost", SAYS_HOST.format(host[:100]), True)
         site = fields.get("Sec-Fetch-Site", "none")

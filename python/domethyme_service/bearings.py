@@ -22,8 +22,8 @@ class Towards(NamedTuple):
 
 
 def nearest_towards(roads: Roads, place: Point, count: int, towards: Towards, within: float, budget: Budget) -> list[Spot]:
-    """The `count` nearest points of roads that lead that way there, no further off than `within` metres. Routes begin there, and end
-    there, in that direction alone."""
+    """The `count` nearest points of roads that lead that way there, no further off than `within` metres. Routes begin there, and
+    end there, in that direction alone."""
     looked_at = FEW
     while True:
         budget.step()

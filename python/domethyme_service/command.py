@@ -42,7 +42,8 @@ def parser() -> argparse.ArgumentParser:
     words.add_argument("--connections", type=number(1, 100_000), default=2000, help="how many at once, for each front (2000)")
     words.add_argument("--client-connections", type=number(1, 100_000), help="those from one address elsewhere (half of them)")
     words.add_argument("--head-seconds", type=number(1, 3600), default=10, help="in which a head has to come whole (10)")
-    words.add_argument("--allowed-host", metavar="NAME", action="append", default=[], help="a host that requests may be for, * for any")
+    host = "a host that requests may be for, * for any; several times"
+    words.add_argument("--allowed-host", metavar="NAME", action="append", default=[], help=host)
     words.add_argument("--cors", metavar="ORIGIN", default="none", help="the origin whose pages may ask, * for any (none)")
     words.add_argument("--access-log", action="store_true", help="a line of JSON on standard error for each request")
     words.add_argument("--log-places", action="store_true", help="with the path and the caller's address in it")

@@ -1,6 +1,6 @@
 """Limits that aiohttp's server lacks: the number of connections, the seconds for a head and for a client to take its answer, the
-requests sent ahead, errors as JSON, an end without a lost request, and of work for a client that has gone. aiohttp reads all of HTTP,
-by its parser in Python, which is stricter than the one in C, and refuses here what RFC 9112 lets it take."""
+requests sent ahead, errors as JSON, an end without a lost request, and of work for a client that has gone. aiohttp reads all of
+HTTP, by its parser in Python, which is stricter than the one in C, and refuses here what RFC 9112 lets it take."""
 import asyncio
 import collections
 import ipaddress
@@ -30,8 +30,9 @@ Handler = Callable[[web.BaseRequest], Awaitable[web.StreamResponse]]
 
 
 class Bounds(NamedTuple):
-    """connections: of one process; client: those of them from one address of another machine; head: seconds in which a head has to
-    come whole; idle: seconds that a connection is kept without a request; url: the greatest number of bytes of the first line."""
+    """connections: of one process; client: those of them from one address of another machine; head: seconds in which a head has
+    to come whole; idle: seconds that a connection is kept without a request; url: the greatest number of bytes of the first line.
+    """
 
     connections: int = 2000
     client: int = 1000
@@ -148,7 +149,9 @@ class Connection(web.RequestHandler):
     """One connection. `finished` counts its requests that were answered; aiohttp counts those whose heads have come. `cut` is
     the body that isn't whole when the client sends no more."""
 
-    __slots__ = ("bounds", "client", "finished", "cut", "_timer", "_has_begun", "_has_ended", "_body", "_answering", "_ending", "_held")
+    __slots__ = (
+        "bounds", "client", "finished", "cut", "_timer", "_has_begun", "_has_ended", "_body", "_answering", "_ending", "_held",
+    )
 
     def __init__(self, server: "Server", bounds: Bounds, **more: Any) -> None:
         super().__init__(server, **more)
@@ -283,8 +286,8 @@ class Connection(web.RequestHandler):
             self._answering = None
 
     async def finish_response(self, request: web.BaseRequest, resp: web.StreamResponse, start_time: float) -> bool:
-        """Writes the answer; then reading goes on where it was paused, a client that sends no more is let go, and the head that has
-        begun meanwhile has to come whole."""
+        """Writes the answer; then reading goes on where it was paused, a client that sends no more is let go, and the head that
+        has begun meanwhile has to come whole."""
         try:
             return await super().finish_response(request, resp, start_time)
         finally:
@@ -363,8 +366,8 @@ class Server(web.Server):
 
 
 def client_of(stream: asyncio.Transport) -> str:
-    """By what a client's connections are counted: its address, of which IPv6 gives a client the last half; "" for this machine, which
-    may be a proxy for many."""
+    """By what a client's connections are counted: its address, of which IPv6 gives a client the last half; "" for this machine,
+    which may be a proxy for many."""
     peer = stream.get_extra_info("peername")
     try:
         address = ipaddress.ip_address(peer[0].partition("%")[0]) if isinstance(peer, tuple) else None

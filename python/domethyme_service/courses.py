@@ -56,7 +56,8 @@ class Course:
 
     @functools.cached_property
     def _shown(self) -> tuple[list[list[float]], list[int], list[int]]:
-        """The points to six places, without those that follow themselves, and the places there of the first and last of each arc."""
+        """The points to six places, without those that follow themselves, and the places there of the first and last of each arc.
+        """
         shown = (self.points + UNITS // SHOWN // 2) // (UNITS // SHOWN)
         is_other = np.ones(len(shown), dtype=bool)
         is_other[1:] = (shown[1:] != shown[:-1]).any(axis=1)
@@ -169,8 +170,8 @@ def shaped(line: Line, shape: str) -> Geometry:
 
 
 def annotation(course: Course, names: list[str]) -> dict[str, list[float]]:
-    """For each step of the leg's line the metres, seconds, weight and speed, an arc's shared out by metres; and for each point of it
-    the id of OpenStreetMap of its node, 0 where that isn't known, as between junctions."""
+    """For each step of the leg's line the metres, seconds, weight and speed, an arc's shared out by metres; and for each point of
+    it the id of OpenStreetMap of its node, 0 where that isn't known, as between junctions."""
     found: dict[str, list[float]] = {name: [] for name in names}
     figured = [name for name in names if name != "nodes"]
     for place, steps in steps_of_arcs(course):

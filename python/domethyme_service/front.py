@@ -1,4 +1,5 @@
-"""A front: a process that accepts connections and answers them, with workers of its own. It was forked with the network opened."""
+"""A front: a process that accepts connections and answers them, with workers of its own. It was forked with the network opened.
+"""
 import asyncio
 import logging
 import os
@@ -25,8 +26,8 @@ log = logging.getLogger("domethyme_service")
 
 
 class Setting(NamedTuple):
-    """What all fronts of a service have in common: the socket that they accept from, the memory of their figures, their number, their
-    workers, limits and ways."""
+    """What all fronts of a service have in common: the socket that they accept from, the memory of their figures, their number,
+    their workers, limits and ways."""
 
     listening: socket.socket
     board: Board

@@ -1,5 +1,5 @@
-"""A keeper: the process of one generation. It opens the files, forks the fronts, none of which has them again, and looks after them: one
-that ends is replaced, and so is one that is silent, which is killed. It runs no thread, so that it may fork."""
+"""A keeper: the process of one generation. It opens the files, forks the fronts, none of which has them again, and looks after
+them: one that ends is replaced, and so is one that is silent, which is killed. It runs no thread, so that it may fork."""
 import gc
 import logging
 import os
@@ -20,8 +20,8 @@ from .metrics import Row
 from .snapshot import Files, Snapshot, opened
 
 LOOK = 0.05
-# Seconds without a beat of a front after which it is killed, and those that one look may add: where all of the machine stood still, or
-# this process did, it isn't the front's fault.
+# Seconds without a beat of a front after which it is killed, and those that one look may add: where all of the machine stood
+# still, or this process did, it isn't the front's fault.
 SILENCE, MOST_OF_A_LOOK = 10.0, 0.5
 SECONDS_TO_BEGIN = 120.0
 PAUSE = 1.0
@@ -55,8 +55,8 @@ class Child:
 
 
 class Keeper:
-    """The fronts of one generation. `own` is the row of this process, and `rows` are theirs; `parent` is at its end where the master
-    is gone, and `report` takes `ready NODES` or `fault WHY`."""
+    """The fronts of one generation. `own` is the row of this process, and `rows` are theirs; `parent` is at its end where the
+    master is gone, and `report` takes `ready NODES` or `fault WHY`."""
 
     def __init__(self, setting: Setting, snapshot: Snapshot, own: Row, rows: list[Row], parent: int, report: int) -> None:
         self.setting, self.snapshot, self.own, self.rows = setting, snapshot, own, rows
@@ -150,8 +150,8 @@ def run_keeper(setting: Setting, files: Files, rows: list[Row], parent: int, rep
 
 
 def forked(work: Callable[[], int]) -> int:
-    """The number of a new process, which does the work and ends with the status that it returns. Interrupts of a terminal aren't for
-    it: its parent tells it."""
+    """The number of a new process, which does the work and ends with the status that it returns. Interrupts of a terminal aren't
+    for it: its parent tells it."""
     for stream in (sys.stdout, sys.stderr):
         stream.flush()
     number = os.fork()

@@ -47,8 +47,8 @@ def decoded(text: str, digits: int) -> list[Point]:
 
 
 def simplified(points: Floats, far: float, budget: Budget) -> Floats:
-    """The line of points, of shape (count, 2), with fewer of them, none of the others further off than `far` (Douglas, Peucker 1973),
-    in degrees of latitude."""
+    """The line of points, of shape (count, 2), with fewer of them, none of the others further off than `far` (Douglas, Peucker
+    1973), in degrees of latitude."""
     flat = points * (math.cos(math.radians(points[0, 1])), 1.0)
     is_kept = np.zeros(len(points), dtype=bool)
     is_kept[[0, -1]] = True

@@ -58,7 +58,8 @@ def address_of(listening: socket.socket) -> str:
 
 
 def most_connections(wanted: int, workers: int) -> int:
-    """Raises the limit of descriptors as far as it may be; returns how many of the connections that are wanted it leaves room for."""
+    """Raises the limit of descriptors as far as it may be; returns how many of the connections that are wanted it leaves room
+    for."""
     soft, hard = resource.getrlimit(resource.RLIMIT_NOFILE)
     needed = wanted + KEPT_BACK + OF_A_WORKER * workers
     if needed > soft:

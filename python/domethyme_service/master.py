@@ -1,6 +1,6 @@
-"""The master: it has the socket that all fronts accept from, and starts a keeper for each generation of files. SIGHUP starts one beside the
-one that is there, which ends once the new one's fronts answer; so no connection is lost, and files that are refused leave the old ones.
-The master reads no file and answers no request."""
+"""The master: it has the socket that all fronts accept from, and starts a keeper for each generation of files. SIGHUP starts one
+beside the one that is there, which ends once the new one's fronts answer; so no connection is lost, and files that are refused
+leave the old ones. The master reads no file and answers no request."""
 import contextlib
 import logging
 import os
@@ -192,7 +192,8 @@ class Master:
             each.tell(signal.SIGTERM)
 
     def _end(self) -> None:
-        """Has all generations drain. A connection that comes later is answered that the service ends, or waits for the next one."""
+        """Has all generations drain. A connection that comes later is answered that the service ends, or waits for the next one.
+        """
         now = time.monotonic()
         if not self._ended_at:
             self._ended_at = now

@@ -1,4 +1,5 @@
-"""Counters and times of the whole service, in the text format 0.0.4 of Prometheus. Names of endpoints are labels, and never paths.
+"""Counters and times of the whole service, in the text format 0.0.4 of Prometheus. Names of endpoints are labels, and never
+paths.
 
 All processes share one piece of memory, a Board, in which each has a row of its own and no other writes. So whichever front is
 asked sums the rows of all, and what a process has counted is there after its end.
@@ -12,7 +13,7 @@ from typing import overload
 from .endpoints import ENDPOINTS
 
 BOUNDS = (0.001, 0.0025, 0.005, 0.01, 0.025, 0.05, 0.1, 0.25, 0.5, 1.0, 2.5, 5.0, 10.0, 30.0)
-STATUSES = (200, 204, 400, 403, 404, 405, 408, 413, 415, 421, 429, 500, 503, 504, 505)
+STATUSES = (200, 204, 400, 403, 404, 405, 408, 413, 415, 421, 429, 499, 500, 503, 504, 505)
 NAMES = (*(endpoint.name for endpoint in ENDPOINTS), "other")
 # Names without `domethyme_`. The first is no figure of the page, but changes while the process does its work.
 GAUGES = ("beat", "workers_ready", "lines_open", "lines_waiting", "bulk_lines_waiting", "connections", "fronts")

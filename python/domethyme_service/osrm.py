@@ -1,6 +1,6 @@
 """OSRM's API, version 1: route, nearest and table. Answers have its members; `weight` and what follows from it are proved least
-between the points of roads that are nearest to the places. An answer is JSON; what takes longer than a few milliseconds of it is done
-at the Desk."""
+between the points of roads that are nearest to the places. An answer is JSON; what takes longer than a few milliseconds of it is
+done at the Desk."""
 import asyncio
 import base64
 import functools
@@ -73,7 +73,10 @@ def ends(roads: Roads, spot: Spot) -> list[int]:
 def found_spots(roads: Roads, request: Request, number: int, count: int, budget: Budget) -> list[Spot]:
     """The nearest points of roads to a place, as near as they have to be."""
     place, within, towards = request.places[number], request.values[RADIUSES][number], request.values[BEARINGS][number]
-    spots = roads.nearest(place, count) if towards is None else nearest_towards(roads, place, count, Towards(*towards), within, budget)
+    if towards is None:
+        spots = roads.nearest(place, count)
+    else:
+        spots = nearest_towards(roads, place, count, Towards(*towards), within, budget)
     return [spot for spot in spots if spot.metres <= within]
 
 

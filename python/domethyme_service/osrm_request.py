@@ -55,7 +55,8 @@ def places_of(text: str, service: str) -> list[Point]:
     for number, (lon, lat) in enumerate(places):
         if abs(lon) > 180 or abs(lat) > 90:
             hint = "; is it LAT,LON?" if abs(lon) <= 90 and abs(lat) <= 180 else ""
-            raise invalid_value(f"place {number} is {lon:g},{lat:g}: longitude first, from -180 to 180, then latitude, from -90 to 90{hint}")
+            order = "longitude first, from -180 to 180, then latitude, from -90 to 90"
+            raise invalid_value(f"place {number} is {lon:g},{lat:g}: {order}{hint}")
     if service != "nearest" and len(places) > MOST_PLACES[service]:
         raise Refused(400, "TooBig", f"there may be {MOST_PLACES[service]} places")
     if service == "nearest" and len(places) != 1 or service == "route" and len(places) < 2 or not places:

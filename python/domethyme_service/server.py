@@ -26,6 +26,8 @@ from .work import Desk
 
 MOST_BODY = 4 << 20
 BATCHES = 16
+# How a request is counted whose client has gone.
+GONE = 499
 MOST_FIELDS = 50
 JSON = "application/json; charset=utf-8"
 LINES = "application/x-ndjson; charset=utf-8"
@@ -36,8 +38,8 @@ access_log = logging.getLogger("domethyme_service.access")
 
 
 class Ways(NamedTuple):
-    """How a service answers: who may ask, whether the log has places, the metres within which a place has to have a road, and the cells
-    that a table may have."""
+    """How a service answers: who may ask, whether the log has places, the metres within which a place has to have a road, and the
+    cells that a table may have."""
 
     allowed: Allowed
     log_places: bool = False
@@ -98,6 +100,9 @@ class Service:
                 answer = self._refusal(Refused(504, "Timeout", f"the answer took more than {connection.SECONDS:g} s"))
             status = answer.status
             return answer
+        except asyncio.CancelledError:
+            status = GONE
+            raise
         finally:
             seconds = time.monotonic() - begun
             self.row.count(name, status, seconds)
@@ -119,7 +124,9 @@ class Service:
         answer = self._whole(204, b"", JSON)
         del answer.headers["Content-Type"]
         answer.headers.update({
-            "Access-Control-Allow-Methods": "GET, POST", "Access-Control-Allow-Headers": "Content-Type", "Access-Control-Max-Age": "7200"
+            "Access-Control-Allow-Methods": "GET, POST",
+            "Access-Control-Allow-Headers": "Content-Type",
+            "Access-Control-Max-Age": "7200",
         })
         return answer
 

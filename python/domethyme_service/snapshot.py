@@ -1,5 +1,5 @@
-"""What a generation of fronts answers by: a hierarchy, its network, and its links for tables. They are opened and compared with one
-another before the fronts are forked, which then have them in common."""
+"""What a generation of fronts answers by: a hierarchy, its network, and its links for tables. They are opened and compared with
+one another before the fronts are forked, which then have them in common."""
 from typing import NamedTuple
 
 import numpy as np
@@ -21,8 +21,8 @@ PATIENCE = 60.0
 
 
 class Files(NamedTuple):
-    """What a generation is read from: the program, the file of the hierarchy, and the beginning of the names of its network's files,
-    or None; and whether tables are computed by the links of the former."""
+    """What a generation is read from: the program, the file of the hierarchy, and the beginning of the names of its network's
+    files, or None; and whether tables are computed by the links of the former."""
 
     program: str
     hierarchy: str

@@ -1,6 +1,6 @@
-"""Tables of durations and distances between points on roads. Where only weights are wanted, and there are many cells, they are computed
-from the links of the hierarchy's file by sweeps (domethyme.sweeps), many times as fast as by a request of the program for each cell.
-That is no part of what is proved, and is tested against the program. Else the program is asked for each cell."""
+"""Tables of durations and distances between points on roads. Where only weights are wanted, and there are many cells, they are
+computed from the links of the hierarchy's file by sweeps (domethyme.sweeps), many times as fast as by a request of the program
+for each cell. That is no part of what is proved, and is tested against the program. Else the program is asked for each cell."""
 import asyncio
 import collections
 import contextlib
@@ -30,8 +30,8 @@ Row = list[float | None]
 
 
 class Wanted(NamedTuple):
-    """What a table has: the names of its figures, what weights are, the places as they were asked for by row and by column, and what
-    becomes of durations."""
+    """What a table has: the names of its figures, what weights are, the places as they were asked for by row and by column, and
+    what becomes of durations."""
 
     names: list[str]
     unit: str
@@ -168,8 +168,8 @@ async def table_by_cells(
 async def cells(
     pool: Pool, roads: Roads, pairs: list[tuple[Spot, Spot]], only_weights: bool
 ) -> AsyncIterator[Figures | None]:
-    """The figures of the cells of a table, in order, asked behind single requests; others are let in after each. Where weights are all
-    that is wanted, routes aren't looked at."""
+    """The figures of the cells of a table, in order, asked behind single requests; others are let in after each. Where weights
+    are all that is wanted, routes aren't looked at."""
     asked_for: collections.deque[tuple[tuple[Spot, Spot], int]] = collections.deque()
     replies: collections.deque[bytes] = collections.deque()
 

@@ -1,5 +1,5 @@
-"""Work that takes longer than a few milliseconds: it is done in threads, a few at a time, and asks between its steps whether it may
-go on. So the event loop answers others meanwhile, and the work of a client that has gone, or whose time is over, ends."""
+"""Work that takes longer than a few milliseconds: it is done in threads, a few at a time, and asks between its steps whether it
+may go on. So the event loop answers others meanwhile, and the work of a client that has gone, or whose time is over, ends."""
 import asyncio
 import concurrent.futures
 import contextlib
@@ -64,8 +64,8 @@ class Desk:
         self._turns, self._asking, self.waiting = asyncio.Semaphore(TURNS), 0, 0
 
     async def do(self, work: Callable[[Budget], T]) -> T:
-        """What the work returns. Where the task that waits for it is cancelled, the work is stopped. Raises Refused where too much
-        waits already."""
+        """What the work returns. Where the task that waits for it is cancelled, the work is stopped. Raises Refused where too
+        much waits already."""
         if self.waiting >= MOST_WAITING:
             raise Refused(503, "Overloaded", "too much work at once")
         budget, loop = Budget(), asyncio.get_running_loop()
@@ -84,8 +84,8 @@ class Desk:
 
     @contextlib.asynccontextmanager
     async def turn(self) -> AsyncIterator[None]:
-        """With-block of work that is many short steps in the event loop: few at once, so that the steps of all are short too. Raises
-        Refused where too many wait."""
+        """With-block of work that is many short steps in the event loop: few at once, so that the steps of all are short too.
+        Raises Refused where too many wait."""
         if self._asking >= MOST_WAITING:
             raise Refused(503, "Overloaded", "too much work at once")
         self._asking += 1

@@ -74,7 +74,8 @@ class Job:
 
 
 class Worker(asyncio.SubprocessProtocol):
-    """One process. `ready` is done once it has read the file, and gets a WorkerFault where it ends before, or has read another."""
+    """One process. `ready` is done once it has read the file, and gets a WorkerFault where it ends before, or has read another.
+    """
 
     def __init__(self, pool: "Pool") -> None:
         self.pool = pool

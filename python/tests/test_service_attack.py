@@ -59,8 +59,8 @@ class RestartTests(ServiceCase):
         self.assertEqual(self.ask(PATH)[0], 200)
 
     def test_no_connection_is_lost_as_fronts_end(self):
-        """Each request comes by a connection of its own, while fronts are killed between requests and generations replaced: the socket
-        stays, so none is refused or reset but those that a front had that was killed."""
+        """Each request comes by a connection of its own, while fronts are killed between requests and generations replaced: the
+        socket stays, so none is refused or reset but those that a front had that was killed."""
         process = self.serve("--fronts", "2")
         wanted, lost, count, is_over = self.ask(PATH), [], [0], threading.Event()
 
@@ -179,7 +179,8 @@ class RestartTests(ServiceCase):
         self.assertEqual(self.value(name), 30)
 
     def test_a_restart_of_the_whole_service(self):
-        """As by systemd, which hands over its socket: a connection that comes while no service is there is answered by the next."""
+        """As by systemd, which hands over its socket: a connection that comes while no service is there is answered by the next.
+        """
         listening = socket.create_server(("127.0.0.1", 0))
         self.addCleanup(listening.close)
         os.dup2(listening.fileno(), 99)

@@ -1,4 +1,5 @@
 """Tests of the table of endpoints: docs/SERVICE.md has it, each endpoint is answered, and its parameters are those that are read."""
+import re
 import subprocess
 import sys
 import unittest
@@ -6,7 +7,7 @@ import unittest
 from service_case import ServiceCase
 from tool_case import TOOLS
 
-from domethyme_service import endpoints, server
+from domethyme_service import endpoints, metrics, server
 
 PAGE = TOOLS.parent / "docs/SERVICE.md"
 
@@ -22,6 +23,13 @@ class TableTests(unittest.TestCase):
         words = [sys.executable, "-m", "domethyme_service.endpoints"]
         printed = subprocess.run(words, cwd=TOOLS.parent / "python", capture_output=True, text=True, check=True).stdout
         self.assertEqual(printed.splitlines(), [*endpoints.table_of_endpoints(), "", *endpoints.table_of_parameters()])
+
+    def test_statuses_are_counted(self):
+        """Each status that the package answers has a place among the counters."""
+        text = "".join(path.read_text() for path in (TOOLS.parent / "python/domethyme_service").glob("*.py"))
+        found = {int(number) for number in re.findall(r"(?:Refused|_whole|_json)\(\s*([1-5]\d\d),", text)}
+        self.assertGreater(len(found), 9)
+        self.assertLessEqual(found, {*metrics.STATUSES})
 
     def test_each_is_answered(self):
         self.assertEqual(server.ANSWERS.keys(), {endpoint.name for endpoint in endpoints.ENDPOINTS})

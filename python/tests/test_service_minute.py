@@ -1,5 +1,5 @@
-"""A minute of mixed load, while workers and fronts are killed and stopped, keepers end, and good and damaged files are reloaded: each
-answer is compared with what it was before. SECONDS_OF_LOAD gives other seconds, such as 3600 by hand."""
+"""A minute of mixed load, while workers and fronts are killed and stopped, keepers end, and good and damaged files are reloaded:
+each answer is compared with what it was before. SECONDS_OF_LOAD gives other seconds, such as 3600 by hand."""
 import http.client
 import itertools
 import os
@@ -15,8 +15,8 @@ CLIENTS = 6
 
 
 class Client(threading.Thread):
-    """Asks for what has these answers, by connections that it keeps for a while, until it is told to stop. A request whose connection
-    broke is asked again, and has to be answered then."""
+    """Asks for what has these answers, by connections that it keeps for a while, until it is told to stop. A request whose
+    connection broke is asked again, and has to be answered then."""
 
     def __init__(self, port, answers, seed):
         super().__init__(daemon=True)
