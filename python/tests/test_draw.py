@@ -1,5 +1,7 @@
 """Tests of draw and of geometry.py: three streets on the equator by hand, where a thousandth of a degree is 111.195 m both
 ways and the map's plane is even."""
+import base64
+import hashlib
 import html.parser
 import json
 import re
@@ -272,8 +274,13 @@ class Page(DrawCase):
         text, data = self.page_of(EAST)
         page = Tags()
         page.feed(text)
-        policy = "default-src 'none'; script-src 'unsafe-inline'; style-src 'unsafe-inline'; img-src data:"
-        self.assertEqual(page.policies, [policy])
+        # (what may run is named by its digest, and the data aren't run)
+        scripts, styles = (
+            " ".join(f"'sha256-{base64.b64encode(hashlib.sha256(part.encode()).digest()).decode()}'" for part in page.parts[tag])
+            for tag in ("script", "style")
+        )
+        self.assertEqual([len(page.parts[tag]) for tag in ("script", "style")], [2, 1])
+        self.assertEqual(page.policies, [f"default-src 'none'; script-src {scripts}; style-src {styles}; img-src data:"])
         self.assertEqual(page.addresses, ["data:,"])
         self.assertNotIn("sourceMappingURL", text)
         self.assertIsNone(data["tiles"])
@@ -301,13 +308,23 @@ class Page(DrawCase):
 
 
 class Tags(html.parser.HTMLParser):
-    """What a page loads, by its tags: addresses and policies."""
+    """What a page loads, by its tags: addresses and policies; and what it runs, its scripts and styles."""
 
     def __init__(self):
         super().__init__()
-        self.addresses, self.policies = [], []
+        self.addresses, self.policies, self.parts, self.open = [], [], {"script": [], "style": []}, None
+
+    def handle_endtag(self, tag):
+        self.open = None
+
+    def handle_data(self, data):
+        if self.open is not None:
+            self.open[-1] += data
 
     def handle_starttag(self, tag, attrs):
+        if tag in self.parts and not attrs:
+            self.open = self.parts[tag]
+            self.open.append("")
         self.addresses += [value for name, value in attrs if name in ("src", "href")]
         if dict(attrs).get("http-equiv") == "Content-Security-Policy":
             self.policies.append(dict(attrs)["content"])

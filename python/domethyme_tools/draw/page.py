@@ -1,4 +1,6 @@
 """The page: HTML with its script and Leaflet, of page.html and page.js."""
+import base64
+import hashlib
 import itertools
 import json
 import pathlib
@@ -14,15 +16,16 @@ from .routes import COLOURS, Drawn
 
 LEAFLET = pathlib.Path("/usr/share/javascript/leaflet")
 LEAFLET_COPYRIGHT = pathlib.Path("/usr/share/doc/libjs-leaflet/copyright")
+# Stands in the page until its parts are known.
+POLICY = "-- policy --"
 # The colours of routes where the page is dark.
 LIGHT_COLOURS = ["#3aa0e0", "#f08a3c", "#2bc297", "#e38abb", "#dfae3a", "#7cc4ec", "#c08ad6", "#9dbf4e"]
 
 
 def page_of(routes: list[Drawn], roads: Lines, attribution: str, tiles: str | None) -> str:
     """The text of the HTML file."""
-    images = "data: file: http: https:" if tiles else "data:"
-    return string.Template(file_here("page.html")).substitute(
-        policy=f"default-src 'none'; script-src 'unsafe-inline'; style-src 'unsafe-inline'; img-src {images}",
+    page = string.Template(file_here("page.html")).substitute(
+        policy=POLICY,
         title=escaped(", ".join(route.label for route in routes[:3]) or "Roads"),
         leaflet_style=of_leaflet("leaflet.css"),
         leaflet=f"/*!\n{leaflet_notice()}\n*/\n{of_leaflet('leaflet.min.js')}",
@@ -36,6 +39,16 @@ def page_of(routes: list[Drawn], roads: Lines, attribution: str, tiles: str | No
         ink=INK,
         faint=FAINT,
     )
+    images = "data: file: http: https:" if tiles else "data:"
+    scripts, styles = (digests_of(page, tag) for tag in ("script", "style"))
+    return page.replace(POLICY, f"default-src 'none'; script-src {scripts}; style-src {styles}; img-src {images}", 1)
+
+
+def digests_of(page: str, tag: str) -> str:
+    """The texts of a page between these tags, as its policy names those that may run: by their digests, so that no other does."""
+    texts = re.findall(rf"<{tag}>(.*?)</{tag}>", page, re.S)
+    digests = (hashlib.sha256(text.encode()).digest() for text in texts)
+    return " ".join(f"'sha256-{base64.b64encode(digest).decode()}'" for digest in digests)
 
 
 def file_here(name: str) -> str:
