@@ -60,7 +60,7 @@ class Front:
         beating = loop.create_task(self._beat(service))
         await self.end.wait()
         service.is_draining = True
-        acceptor.end()
+        await acceptor.end()
         service.publish()
         await self._drain()
         beating.cancel()

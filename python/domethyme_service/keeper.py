@@ -100,8 +100,8 @@ class Keeper:
     def _look_after(self, child: Child) -> None:
         """Kills a front that is silent, and replaces one that has ended."""
         if child.silent > (SILENCE if child.is_ready else SECONDS_TO_BEGIN):
-            log.error("front %d has been silent for %.0f s: it is killed", child.number, child.silent)
             self.own.front_silences += 1
+            log.error("front %d has been silent for %.0f s: it is killed", child.number, child.silent)
             os.kill(child.number, signal.SIGKILL)
             child.silent = 0.0
         number, status = os.waitpid(child.number, os.WNOHANG)
@@ -115,8 +115,8 @@ class Keeper:
             self._tell(f"fault a front {said_of(status)} before it was ready")
             self.is_ending = True
             return
-        log.error("front %d %s: another one is started", child.number, said_of(status))
         self.own.front_restarts += 1
+        log.error("front %d %s: another one is started", child.number, said_of(status))
         if not child.is_ready:
             time.sleep(PAUSE)
         self.children.append(self._forked(child.row))

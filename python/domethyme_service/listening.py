@@ -97,12 +97,13 @@ class Acceptor:
         if not self._is_ended:
             self._loop.add_reader(self._listening, self._accept)
 
-    def end(self) -> None:
-        """Accepts what waits already, and no more."""
+    async def end(self) -> None:
+        """Accepts what waits already, and no more; returns once all connections are made."""
         while self._one():
             pass
         self._is_ended = True
         self._loop.remove_reader(self._listening)
+        await asyncio.gather(*self._making, return_exceptions=True)
 
     def _accept(self) -> None:
         for _ in range(ACCEPTS):

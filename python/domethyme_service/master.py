@@ -111,8 +111,8 @@ class Master:
 
     def _start(self) -> None:
         if not self._free:
-            log.error("reload refused: %d generations are still draining", GENERATIONS - 1)
             self.row.refused += 1
+            log.error("reload refused: %d generations are still draining", GENERATIONS - 1)
             return
         self.coming = Held(self.setting, self.files, self._free.pop(), self._life)
 
@@ -147,8 +147,8 @@ class Master:
     def _tell_news(self) -> None:
         """A reload is done once no front of the old generation accepts connections."""
         while self._news and (self._news[0][0] is None or not any(row.fronts for row in self._news[0][0].rows)):
-            log.info("reloaded, %s nodes", self._news.pop(0)[1])
             self.row.reloads += 1
+            log.info("reloaded, %s nodes", self._news.pop(0)[1])
 
     def _take_fault(self, held: Held, why: str) -> None:
         """A generation that can't begin, of which the first fault counts, or a front of one that can't be replaced."""
@@ -162,8 +162,8 @@ class Master:
         if not self._has_listened:
             self._stop_all()
             raise Unable(why)
-        log.error("reload refused: %s", why)
         self.row.refused += 1
+        log.error("reload refused: %s", why)
         self._not_before = time.monotonic() + PAUSE
 
     def _reap(self, held: Held) -> None:

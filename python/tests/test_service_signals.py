@@ -82,7 +82,7 @@ class SignalTests(ServiceCase):
         for lengths in self.finish(clients):
             self.assertEqual(lengths, sorted(lengths))
             self.assertLessEqual(set(lengths), {old, 2 * old, 3 * old})
-        self.assertEqual(self.value("reloads_total"), 2)
+        self.wait_for(lambda: self.value("reloads_total") == 2)
         self.wait_for(lambda: len(workers_of(process)) == 2)
 
     def test_a_file_that_is_refused_leaves_the_old_one(self):
