@@ -4,7 +4,7 @@ Ninth DIMACS Implementation Challenge, some 2.4 arcs a node, most nodes on chain
 
     make_roads.py NODES SEED NETWORK [--tables]
 
-It writes NETWORK.gr and NETWORK.npz, and with --tables NETWORK.nodes.csv and NETWORK.arcs.csv too. Junctions lie on a jittered
+It writes NETWORK.gr and NETWORK.net, and with --tables NETWORK.nodes.csv and NETWORK.arcs.csv too. Junctions lie on a jittered
 square of 400 metres a step around 47 N, 9 E, each joined to the next in its row and column but for one plain road in seven.
 Every 8th line is a tertiary road, every 32nd a primary one and every 128th a motorway. A road has 0 to 3 nodes on it. One in
 forty is a one-way street. Dead ends make up the rest. A line has a name for 16 of its steps. Weights are milliseconds.
@@ -108,10 +108,10 @@ def spread(values):
 
 def write_tables(prefix, arrays):
     """The tables of osm_to_gr; returns their sizes."""
-    files = tables.Files(prefix)
+    files, network = tables.Files(prefix), binary.in_memory(arrays, prefix)
     with open(files.nodes, "w") as nodes, open(files.arcs, "w") as arcs:
-        tables.write_nodes(nodes, tables.nodes_of(arrays))
-        tables.write_arcs(arcs, tables.arcs_in(arrays))
+        tables.write_nodes(nodes, tables.nodes_of(network))
+        tables.write_arcs(arcs, tables.arcs_in(network))
     return [pathlib.Path(each).stat().st_size for each in (files.nodes, files.arcs)]
 
 
@@ -132,7 +132,7 @@ def main():
         texts.write_graph(file, len(arrays.node_osm), arcs)
     if given.tables:
         arrays = arrays._replace(sizes=np.array(write_tables(given.network, arrays)))
-    with open(f"{given.network}.npz", "wb") as file:
+    with open(tables.Files(given.network).binary, "wb") as file:
         binary.write(file, arrays)
     print(f"{given.network}: {len(arrays.node_osm)} nodes, {len(arrays.arc_from)} arcs, {len(arrays.edge_begin) - 1} edges")
 

@@ -107,7 +107,7 @@ class Places:
 
     def __init__(self, network):
         arrays = binary.arrays_of(network)
-        self.lon, self.lat = arrays.node_lon / binary.UNITS, arrays.node_lat / binary.UNITS
+        self.lon, self.lat = arrays.node_lon[:] / binary.UNITS, arrays.node_lat[:] / binary.UNITS
         self.count = len(self.lon)
 
     def pair(self, draw, is_near):

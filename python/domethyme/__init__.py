@@ -14,7 +14,7 @@ Nodes are numbered from 0, as rows are; node n is node n + 1 of a file. Who has 
 then asks and is answered by them. Weights are whole numbers from 0 to 4,294,967,295 in a unit of the user's own, such as
 milliseconds or centimetres, and lengths are sums of them.
 
-One question at a time (`length`, `route`, `between`) needs Python alone. Arrays need numpy, `nearest` scipy too, and frames
+One question at a time (`length`, `route`, `between`) needs Python alone. Arrays and `nearest` need numpy, and frames
 pandas: where one is missing, the call that needs it raises ImportError.
 
 Errors are DomethymeErrors, listed in `domethyme.errors`; arguments that can't be used raise ValueError.

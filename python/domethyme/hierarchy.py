@@ -231,7 +231,7 @@ class Hierarchy:
     def nearest(self, lon: Any, lat: Any, end: bool = False, *, within: float = WITHIN) -> tuple[Any, Any]:
         """The node nearest to each place in degrees, or its key, and how many metres away it is along the great circle: one
         where routes begin, or with `end` one where they end, which differ at junctions with turn restrictions. Two numbers
-        give a node and a float, two arrays give two arrays. Needs the network, and scipy. Raises NoSuchNode where none is
+        give a node and a float, two arrays give two arrays. Needs the network. Raises NoSuchNode where none is
         `within` so many metres, and ValueError."""
         if self.network is None:
             raise ValueError("the hierarchy has no network: give Hierarchy the word network=")

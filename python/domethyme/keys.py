@@ -47,12 +47,17 @@ class Keys:
         """The keys in a column of a CSV file with a row for each node, in order, as NETWORK.nodes.csv: whole numbers as
         int, other texts as str, an empty one for no key. A key of several nodes can't be asked for, but that of a junction with
         turn restrictions, which is the node where routes begin (the column ends is `from`). Raises NetworkError."""
-        keys = cls(())
         with table(path, [column]) as rows:
-            listed = [(key_of(fields[column]), fields.get("ends")) for _, fields in rows]
-        keys._names = [key for key, _ in listed]
+            listed = [(key_of(fields[column]), fields.get("ends", "")) for _, fields in rows]
+        return cls.of_rows([key for key, _ in listed], [ends for _, ends in listed])
+
+    @classmethod
+    def of_rows(cls, names: "Iterable[Hashable]", ends: Iterable[str]) -> "Keys":
+        """The key of each node, or None, and its place at a junction with turn restrictions, as `read` has them."""
+        keys = cls(())
+        keys._names = list(names)
         keys._nodes, keys._shared = numbers_of(keys._names)
-        begins = {key: node for node, (key, ends) in enumerate(listed) if ends == "from" and key in keys._shared}
+        begins = {key: node for node, (key, end) in enumerate(zip(keys._names, ends)) if end == "from" and key in keys._shared}
         keys._nodes |= begins
         keys._shared -= begins.keys()
         return keys

@@ -10,6 +10,7 @@
     reading(path)                with-block: a stream of bytes
     whole_number(text, what, path, row, low, high)  the int
     number(text, what, path, row, low, high)        the float
+    safe(text), plain(text)      a text as a field of CSV that no program takes for a formula, and back
 
 Nodes are numbered from 1, as in the texts. The word `-` is standard input. What is wrong is a NetworkError with file and row.
 Needs nothing but Python's own library.
@@ -30,6 +31,8 @@ MOST_NODES = 1 << 25
 MOST_LINES = 1 << 27
 HEAVIEST = (1 << 32) - 1
 MOST_COLUMNS = 12
+# How a formula begins for programs that show tables, and what is a number to them.
+FORMULA, NUMBER = re.compile("'*[-=+@\t\r]"), re.compile(r"[-+]?[0-9]*\.?[0-9]+(?:[eE][-+]?[0-9]+)?")
 DIGITS, BYTES_OF_DIGITS = re.compile("[-+]?[0-9]{1,4000}"), re.compile(b"[-+]?[0-9]{1,4000}")
 
 
@@ -73,9 +76,10 @@ class Table:
     def next_record(self) -> list[str] | None:
         """The fields of the next record, or None at the end."""
         try:
-            return next(self.reader, None)
+            record = next(self.reader, None)
         except csv.Error as error:
             raise NetworkError(f"isn't CSV: {error}", self.path, self.reader.line_num) from error
+        return record and [plain(field) for field in record]
 
 
 def wrong_column(name: str, columns: list[str]) -> str:
@@ -133,6 +137,17 @@ def number(
     if not low <= value <= high:
         raise NetworkError(f"{what} {shown(text)} isn't from {low:g} to {high:g}", path, row)
     return value
+
+
+def safe(text: str) -> str:
+    """A text for a field of CSV that a program for sheets takes for no formula: with a quote before it where it begins as one and is no
+    number, or has one already. `plain` undoes it."""
+    return f"'{text}" if FORMULA.match(text) and not NUMBER.fullmatch(text) else text
+
+
+def plain(text: str) -> str:
+    """The text of which `safe` made this one."""
+    return text[1:] if text[:1] == "'" and FORMULA.match(text[1:]) and not NUMBER.fullmatch(text[1:]) else text
 
 
 def shown(text: str | bytes) -> str:

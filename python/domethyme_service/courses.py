@@ -9,13 +9,14 @@ import numpy as np
 from numpy.typing import NDArray
 
 from domethyme.network.binary import UNITS
+from domethyme.network.index import wrapped
 from domethyme.network.network import Floats
 from domethyme.network.tables import Point
 
 from .legs import Leg
 from .lines import bearing, encoded, simplified
 from .osrm_answer import Figures, Geometry
-from .roads import Roads
+from .roads import Roads, steps_of
 from .work import Budget
 
 SHOWN = 1_000_000
@@ -78,6 +79,7 @@ class Course:
 
     def _directions(self, begins: Ints, ends: Ints, step: int) -> list[int]:
         ways = (self.points[ends] - self.points[begins]).astype(np.float64)
+        ways[:, 0] = wrapped(ways[:, 0])
         lats = np.radians(self.points[begins, 1] / UNITS)
         found = (np.round(np.degrees(np.arctan2(ways[:, 0] * np.cos(lats), ways[:, 1]))) % 360).astype(np.int64).tolist()
         for place in np.flatnonzero((ways == 0).all(axis=1)).tolist():
@@ -209,9 +211,6 @@ def steps_of_arcs(course: Course) -> list[tuple[int, list[float]]]:
     found = []
     for place, (low, high) in enumerate(itertools.pairwise(course.begins.tolist())):
         line = [(lon / UNITS, lat / UNITS) for lon, lat in course.points[low:high].tolist()]
-        ways = [
-            math.hypot((end[0] - begin[0]) * math.cos(math.radians((begin[1] + end[1]) / 2)), end[1] - begin[1])
-            for begin, end in itertools.pairwise(line)
-        ]
+        ways = steps_of(line)
         found.append((place, ways if sum(ways) else [1.0] * len(ways)))
     return found

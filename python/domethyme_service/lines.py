@@ -80,5 +80,5 @@ def furthest(flat: Floats, low: int, high: int, far: float) -> int:
 
 def bearing(begin: Point, end: Point) -> int:
     """The direction from a point to a near one, in degrees from north, clockwise."""
-    east = (end[0] - begin[0]) * math.cos(math.radians(begin[1]))
+    east = math.remainder(end[0] - begin[0], 360) * math.cos(math.radians(begin[1]))
     return round(math.degrees(math.atan2(east, end[1] - begin[1]))) % 360

@@ -1,30 +1,35 @@
 """A network's roads: where its arcs lie, and the point of a road that is nearest to a place.
 
 An edge is one line of a way, with arcs along it, against it, or both; copies of a node that turn restrictions made give several
-arcs of one direction. The nearest point of all lines is looked for, in the plane that touches the earth at the place. It cuts
-each arc of its edge: one of weight w at the fraction f is cut at round(f w), so parts are whole weights and sum to w.
+arcs of one direction. The nearest point of all lines is looked for, along great circles. It cuts each arc of its edge: one of weight
+w at the fraction f is cut at round(f w), so parts are whole weights and sum to w.
+
+The network's file is mapped: of it a process has what it uses, in pages that all processes share.
 """
 import bisect
 import functools
 import itertools
-import math
-from typing import Any, NamedTuple
+from collections.abc import Iterator
+from typing import NamedTuple
 
 import numpy as np
 from numpy.typing import NDArray
 
 from domethyme import NetworkError
-from domethyme.network.binary import NO_OSM, TEXTS, UNITS, Arrays, arrays_of, ordered
-from domethyme.network.network import Floats, on_sphere
-from domethyme.network.tables import EARTH_RADIUS, ENDS, Point
+from domethyme.network.binary import NO_OSM, TEXTS, UNITS, Mapped, arrays_of
+from domethyme.network.grid import Ints, ranges
+from domethyme.network.network import NodePlaces
+from domethyme.network.mapped import Column
+from domethyme.network.sphere import Floats, between, frame_of, nearest_on, on_sphere
+from domethyme.network.tables import ENDS, Point, metres_between
 
 from .tiles import Tiles
 
-PIECE = 150.0
-METRES_OF_DEGREE = EARTH_RADIUS * math.pi / 180
 AT_END = 0.005
 NONE = -1
-KEPT = 1 << 15
+KEPT = 1 << 12
+# Steps that are looked at together for the nearest point.
+STEPS = 1 << 15
 NAME, JUNCTION = TEXTS.index("name"), TEXTS.index("junction")
 ROUND = ("roundabout", "circular")
 
@@ -70,35 +75,31 @@ class Spot(NamedTuple):
 
 
 class Roads:
-    """The files of a network, NETWORK.npz, or NETWORK.nodes.csv and NETWORK.arcs.csv. Nodes are numbered from 1. Raises
-    NetworkError.
+    """The files of a network, NETWORK.net, or NETWORK.nodes.csv and NETWORK.arcs.csv. Nodes are numbered from 1. Raises
+    NetworkError, and where the file is damaged, in all that reads it.
 
     unit  what weights are, `duration` (milliseconds), `distance` (centimetres), or `weight` for anything else
     """
 
     def __init__(self, prefix: str) -> None:
         self.prefix = prefix
-        self.arrays = arrays_of(prefix)
+        self.arrays: Mapped = arrays_of(prefix)
         self.nodes, self.count = len(self.arrays.node_osm), len(self.arrays.arc_from)
         if not self.count:
-            raise NetworkError(f"{prefix}.arcs.csv: has no arcs")
-        self.texts = self.arrays.texts()
-        self.unit = unit_of(self.arrays)
-        self.copies = copies_of(self.arrays)
-        self._is_round = np.array([text in ROUND for text in self.texts])
-        self._order, self._keys = ordered(self.arrays)
-        self._arcs_by_edge = np.argsort(self.arrays.arc_edge, kind="stable")
-        self._first_of_edge = np.searchsorted(self.arrays.arc_edge[self._arcs_by_edge], np.arange(self.edges + 1))
-        self.degree = degrees_of(self.arrays)
+            raise NetworkError(f"{prefix}: has no arcs")
+        self.texts, self.unit, self.degree = self.arrays.texts, self.arrays.unit, self.arrays.degrees
         self.arc = functools.lru_cache(KEPT)(self._arc)
         self.edge = functools.lru_cache(KEPT)(self._edge)
-        self.tiles = Tiles(self.arrays, self.texts)
-        self._pieces = Pieces(self.arrays)
+        self.tiles, self._places = Tiles(self.arrays), NodePlaces.of(self.arrays)
 
     @property
     def edges(self) -> int:
         """How many edges there are."""
         return len(self.arrays.edge_begin) - 1
+
+    def copies(self, node: int) -> tuple[int, ...]:
+        """All nodes that turn restrictions made of the junction of one."""
+        return tuple(each + 1 for each in self._places.copies(node - 1))
 
     def osm(self, node: int) -> int:
         """The id of OpenStreetMap of a node; 0 where it has none."""
@@ -111,22 +112,21 @@ class Roads:
 
     def lightest(self, nodes: tuple[int, ...]) -> list[int]:
         """The arc that a route takes from each of the nodes to the next, the lightest; NONE where there is none."""
+        self.arrays.file.unchanged()
         line = np.array(nodes, dtype=np.int64)
-        wanted = line[:-1] * (self.nodes + 1) + line[1:]
-        places = np.minimum(np.searchsorted(self._keys, wanted), self.count - 1)
-        found: list[int] = np.where(self._keys[places] == wanted, self._order[places], NONE).tolist()
+        found: list[int] = self.arrays.lightest(line[:-1], line[1:]).tolist()
         return found
 
     def is_round(self, arcs: NDArray[np.int64]) -> NDArray[np.bool_]:
         """Which of the arcs go round a roundabout."""
-        found: NDArray[np.bool_] = self._is_round[self.arrays.arc_texts[arcs, JUNCTION]]
-        return found
+        junctions = self.arrays.arc_texts[arcs, JUNCTION]
+        texts = [text for text in np.unique(junctions).tolist() if self.texts[text] in ROUND]
+        return np.isin(junctions, texts)
 
     def exits(self, node: int) -> int:
         """How many roads lead away from a node of a roundabout."""
-        span = self.nodes + 1
-        begin, end = np.searchsorted(self._keys, [node * span, (node + 1) * span]).tolist()
-        arcs = self._order[begin:end]
+        begin, end = self.arrays.out_begin[node - 1 : node + 1].tolist()
+        arcs = self.arrays.out_arcs[begin:end]
         return len(np.unique(self.arrays.arc_edge[arcs[~self.is_round(arcs)]]))
 
     def _arc(self, number: int) -> Arc:
@@ -138,14 +138,52 @@ class Roads:
         )
 
     def _edge(self, number: int) -> Edge:
-        begin, end = self.arrays.edge_begin[number : number + 2].tolist()
-        points = tuple((lon / UNITS, lat / UNITS) for lon, lat in self.arrays.points[begin:end].tolist())
-        first, last = self._first_of_edge[number : number + 2].tolist()
-        return Edge(points, metres_along(points), self._arcs_by_edge[first:last].tolist())
+        points = tuple(self.arrays.edge_line(number))
+        first, last = self.arrays.edge_first[number : number + 2].tolist()
+        return Edge(points, metres_along(points), self.arrays.edge_arcs[first:last].tolist())
 
     def nearest(self, place: Point, count: int = 1) -> list[Spot]:
-        """The nearest points of the `count` nearest edges, the nearest first."""
-        return [self._spot(*found) for found in self._pieces.nearest(place, count)]
+        """The nearest points of the `count` nearest edges, the nearest first, and of equally near ones the first of the file."""
+        self.arrays.file.unchanged()
+        frame = frame_of(*place)
+
+        def metres(edges: Ints) -> Floats:
+            return np.round(np.concatenate([self._metres(frame, part) for part in parted(edges, self.arrays.edge_begin)]), 6)
+
+        near = self.arrays.edge_grid.nearest(place, min(count, self.edges), metres)
+        return [self._spot(edge, *self._point(frame, edge), away) for away, edge in near]
+
+    def _metres(self, frame: Floats, edges: Ints) -> Floats:
+        """The metres from a place, by its frame, to each edge."""
+        begins, ends = self.arrays.edge_begin[np.concatenate((edges, edges + 1))].reshape(2, -1)
+        counts = ends - begins
+        _, rows = ranges(begins, counts)
+        points = self.arrays.points[rows] / UNITS
+        sphere = on_sphere(points[:, 0], points[:, 1])
+        is_step = np.ones(len(rows), dtype=bool)
+        is_step[np.cumsum(counts) - 1] = False
+        steps = np.flatnonzero(is_step)
+        away, _ = nearest_on(frame, sphere[steps], sphere[steps + 1])
+        found: Floats = np.minimum.reduceat(away, np.cumsum(counts - 1) - counts + 1)
+        return found
+
+    def _point(self, frame: Floats, edge: int) -> tuple[float, Point]:
+        """The nearest point of an edge: the fraction along it, and the place."""
+        line = self.edge(edge)
+        lon, lat = np.array(line.points).T
+        sphere = on_sphere(lon, lat)
+        away, shares = nearest_on(frame, sphere[:-1], sphere[1:])
+        step = int(np.round(away, 6).argmin())
+        share = float(shares[step])
+        return self._fraction(line, step, share), between(line.points[step], line.points[step + 1], share)
+
+    @staticmethod
+    def _fraction(line: Edge, step: int, part: float) -> float:
+        """How far along its edge a point is that is so far along a step; 0 or 1 within AT_END metres of its ends."""
+        along = line.along[step] + part * (line.along[step + 1] - line.along[step])
+        if along <= AT_END or line.metres <= 2 * AT_END:
+            return 0.0
+        return 1.0 if along >= line.metres - AT_END else along / line.metres
 
     def _spot(self, edge: int, fraction: float, point: Point, metres: float) -> Spot:
         arcs = self.edge(edge).arcs
@@ -154,7 +192,7 @@ class Roads:
         if fraction in (0.0, 1.0):
             first = self.arc(arcs[0])
             node = first.start if first.is_along == (fraction == 0.0) else first.end
-            copies = self.copies.get(node, (node,))
+            copies = self.copies(node)
             exits = {each: (0, NONE) for each in copies if self.ends(each) in ("", "from")}
             entries = {each: (0, NONE) for each in copies if self.ends(each) in ("", "to")}
             return Spot(*place, metres, edge, fraction, exits, entries, copies, name)
@@ -186,37 +224,13 @@ class Roads:
         return cut(edge, begin, end)
 
 
-def unit_of(arrays: Arrays) -> str:
-    for name, factor, values in (("duration", 1000.0, arrays.arc_seconds), ("distance", 100.0, arrays.arc_metres)):
-        if (np.abs(arrays.arc_weight - factor * values) <= 1.01).all():
-            return name
-    return "weight"
-
-
-def copies_of(arrays: Arrays) -> dict[int, tuple[int, ...]]:
-    """By node all nodes that turn restrictions made of its junction."""
-    places: dict[tuple[int, int, int], list[int]] = {}
-    for row in np.flatnonzero(arrays.node_ends).tolist():
-        key = int(arrays.node_osm[row]), int(arrays.node_lon[row]), int(arrays.node_lat[row])
-        places.setdefault(key, []).append(row + 1)
-    return {node: tuple(nodes) for nodes in places.values() for node in nodes}
-
-
-def degrees_of(arrays: Arrays) -> NDArray[np.int64]:
-    """How many edges meet at each node; the first figure is of none."""
-    low, high = np.minimum(arrays.arc_from, arrays.arc_to), np.maximum(arrays.arc_from, arrays.arc_to)
-    of_edge = np.zeros(len(arrays.edge_begin) - 1, dtype=np.int64)
-    of_edge[arrays.arc_edge] = np.arange(len(low))
-    one = of_edge[arrays.arc_edge]
-    # (most edges have two ends; copies of nodes, which turn restrictions make, give some more, and rings one)
-    is_odd = (low != low[one]) | (high != high[one]) | (low == high)
-    odd = np.zeros(len(of_edge), dtype=bool)
-    odd[arrays.arc_edge[is_odd]] = True
-    plain = of_edge[~odd & (np.bincount(arrays.arc_edge, minlength=len(of_edge)) > 0)]
-    rows = np.flatnonzero(odd[arrays.arc_edge])
-    ends = np.concatenate((low[rows], high[rows])).astype(np.int64)
-    more = np.unique(np.column_stack((ends, np.tile(arrays.arc_edge[rows], 2))), axis=0)[:, 0]
-    return np.bincount(np.concatenate((low[plain], high[plain], more)), minlength=len(arrays.node_osm) + 1)
+def parted(edges: Ints, begins: Column) -> Iterator[Ints]:
+    """The edges in parts of about STEPS points each."""
+    if len(edges) < 64:
+        yield edges
+        return
+    sums = np.cumsum(begins[edges + 1] - begins[edges])
+    yield from np.split(edges, np.unique(np.searchsorted(sums, np.arange(STEPS, int(sums[-1]), STEPS), side="right")))
 
 
 def keep_least(found: dict[int, tuple[int, int]], node: int, weight: int, arc: int) -> None:
@@ -238,8 +252,8 @@ def point_at(edge: Edge, metres: float) -> Point:
     place = min(max(bisect.bisect_right(edge.along, metres), 1), len(edge.along) - 1)
     begin, length = edge.along[place - 1], edge.along[place] - edge.along[place - 1]
     part = (metres - begin) / length if length else 0.0
-    (lon_1, lat_1), (lon_2, lat_2) = edge.points[place - 1], edge.points[place]
-    return round(lon_1 + part * (lon_2 - lon_1), 7), round(lat_1 + part * (lat_2 - lat_1), 7)
+    lon, lat = between(edge.points[place - 1], edge.points[place], part)
+    return round(lon, 7), round(lat, 7)
 
 
 def metres_along(points: tuple[Point, ...]) -> list[float]:
@@ -249,104 +263,4 @@ def metres_along(points: tuple[Point, ...]) -> list[float]:
 
 def steps_of(points: "tuple[Point, ...] | list[Point]") -> list[float]:
     """The metres of each step of a line."""
-    found = []
-    for (lon_1, lat_1), (lon_2, lat_2) in itertools.pairwise(points):
-        east = (lon_2 - lon_1) * math.cos(math.radians((lat_1 + lat_2) / 2))
-        found.append(METRES_OF_DEGREE * math.hypot(east, lat_2 - lat_1))
-    return found
-
-
-class Pieces:
-    """All lines in pieces of at most PIECE metres, and a tree of their middles. A piece is a part of the step between two points."""
-
-    def __init__(self, arrays: Arrays) -> None:
-        from scipy.spatial import cKDTree
-
-        self.points, self.edge_begin = arrays.points, arrays.edge_begin
-        is_step = np.ones(len(self.points), dtype=bool)
-        is_step[self.edge_begin[1:] - 1] = False
-        steps = np.flatnonzero(is_step)
-        count = self._counts(*self._lines(steps))
-        self.step: NDArray[np.int32] = np.repeat(steps, count).astype(np.int32)
-        part = np.arange(len(self.step)) - np.repeat(np.cumsum(count) - count, count)
-        self.part: NDArray[np.int32] = part.astype(np.int32)
-        begin, line, share = self._parts(slice(None))
-        middles = begin + line * (share / 2)[:, None]
-        self._tree: Any = cKDTree(on_sphere(middles[:, 0], middles[:, 1]), balanced_tree=False, compact_nodes=False)
-        self._count, self._edges = len(self.step), len(self.edge_begin) - 1
-
-    def _lines(self, steps: Any) -> tuple[Floats, Floats]:
-        """The first points of steps, and the ways to their second ones, in degrees."""
-        begin = self.points[steps] / UNITS
-        return begin, self.points[steps + 1] / UNITS - begin
-
-    @staticmethod
-    def _counts(begin: Floats, line: Floats) -> NDArray[np.int64]:
-        """How many pieces steps are cut into."""
-        metres = METRES_OF_DEGREE * np.hypot(line[:, 0] * np.cos(np.radians(begin[:, 1] + line[:, 1] / 2)), line[:, 1])
-        found: NDArray[np.int64] = np.maximum(1, np.ceil(metres / PIECE)).astype(np.int64)
-        return found
-
-    def _parts(self, rows: Any) -> tuple[Floats, Floats, Floats]:
-        """The first points of pieces, the ways of their steps, and their shares in those."""
-        begin, line = self._lines(self.step[rows])
-        share: Floats = 1.0 / self._counts(begin, line)
-        return begin + line * (self.part[rows] * share)[:, None], line, share
-
-    def nearest(self, place: Point, count: int) -> list[tuple[int, float, Point, float]]:
-        """The `count` nearest edges: edge, fraction along it, the point there, and the metres to it."""
-        centre = centre_of(place)
-        reach = self._reach(centre, min(count, self._edges))
-        near = self._tree.query_ball_point(centre, reach + (PIECE / 2 + 1) / EARTH_RADIUS)
-        steps = np.unique(self.step[near])
-        edges = (np.searchsorted(self.edge_begin, steps, side="right") - 1).tolist()
-        begins, ends = self.points[steps].tolist(), self.points[steps + 1].tolist()
-        shrink = math.cos(math.radians(place[1]))
-        rows = []
-        for step, edge, begin, end in zip(steps.tolist(), edges, begins, ends):
-            metres, part = from_step(place, begin, end, shrink)
-            rows.append((round(metres, 6), edge, step, part, metres, begin, end))
-        rows.sort()
-        found: dict[int, tuple[int, float, Point, float]] = {}
-        for _, edge, step, part, metres, begin, end in rows:
-            if edge not in found and len(found) < count:
-                point = tuple((low + part * (high - low)) / UNITS for low, high in zip(begin, end))
-                found[edge] = edge, self._fraction(edge, step, part), (point[0], point[1]), metres
-        return list(found.values())
-
-    def _reach(self, centre: tuple[float, float, float], count: int) -> float:
-        """The chord to the middle of a piece within which there are middles of so many edges."""
-        if count == 1:
-            return float(self._tree.query(centre)[0])
-        pieces = min(self._count, 4 * count)
-        while True:
-            chords, rows = self._tree.query(centre, k=np.arange(1, pieces + 1))
-            _, first = np.unique(np.searchsorted(self.edge_begin, self.step[rows], side="right"), return_index=True)
-            if len(first) >= count or pieces == self._count:
-                return float(chords[np.sort(first)[:count][-1]])
-            pieces = min(self._count, 4 * pieces)
-
-    def _fraction(self, edge: int, step: int, part: float) -> float:
-        """How far along its edge a point is that is so far along a step; 0 or 1 within AT_END metres of its ends."""
-        begin, end = int(self.edge_begin[edge]), int(self.edge_begin[edge + 1])
-        metres = steps_of([(lon / UNITS, lat / UNITS) for lon, lat in self.points[begin:end].tolist()])
-        whole, along = sum(metres), sum(metres[: step - begin]) + part * metres[step - begin]
-        if along <= AT_END or whole <= 2 * AT_END:
-            return 0.0
-        return 1.0 if along >= whole - AT_END else along / whole
-
-
-def centre_of(place: Point) -> tuple[float, float, float]:
-    """The point of a place on a sphere of radius 1."""
-    east, north = math.radians(place[0]), math.radians(place[1])
-    return math.cos(north) * math.cos(east), math.cos(north) * math.sin(east), math.sin(north)
-
-
-def from_step(place: Point, begin: list[int], end: list[int], shrink: float) -> tuple[float, float]:
-    """The metres from a place to a step between two points, in the plane at the place, and how far along the step that is."""
-    east, north = begin[0] / UNITS - place[0], begin[1] / UNITS - place[1]
-    x, y = (east - 360 * round(east / 360)) * shrink, north
-    step_x, step_y = (end[0] - begin[0]) / UNITS * shrink, (end[1] - begin[1]) / UNITS
-    square = step_x * step_x + step_y * step_y
-    part = min(1.0, max(0.0, -(x * step_x + y * step_y) / square)) if square else 0.0
-    return METRES_OF_DEGREE * math.hypot(x + part * step_x, y + part * step_y), part
+    return [metres_between(*begin, *end) for begin, end in itertools.pairwise(points)]

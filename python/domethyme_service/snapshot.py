@@ -18,6 +18,9 @@ from .workers import Pool, Source, stamp_of
 SAMPLES = 50
 # Seconds for a reply of the program while files are compared.
 PATIENCE = 60.0
+# The bytes up to which a network's file is verified as a whole before it is used, in a quarter of a second. Of a larger one blocks are
+# verified when they are first read.
+VERIFIED = 1 << 28
 
 
 class Files(NamedTuple):
@@ -57,6 +60,7 @@ def opened(files: Files) -> Snapshot:
         roads = sweeps = None
         if files.network is not None:
             roads = Roads(files.network)
+            roads.arrays.file.verify(VERIFIED)
             sweeps = Sweeps.read(file.fileno(), files.hierarchy) if files.has_tables else None
             if roads.nodes != running.nodes:
                 problem = f"has {roads.nodes} nodes, and the hierarchy {files.hierarchy} has {running.nodes}"

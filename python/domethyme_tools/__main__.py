@@ -13,7 +13,7 @@ from domethyme_tools.tool import packages, run  # found by the path above
 
 COMMANDS = (
     "build_converter", "check_page", "compare_converters", "compare_turns", "draw", "fetch_extract", "nearest", "osm_to_gr",
-    "route_many", "serve", "to_geojson",
+    "route_many", "serve", "to_geojson", "to_network",
 )
 
 

@@ -3,7 +3,8 @@
 A place is (longitude, latitude) in degrees. Its point on the plane is (x, y) by the projection of web maps, Mercator's
 on a sphere: x goes from 0 at 180 degrees west to 1 at 180 degrees east, and y from 0 in the north to 1 in the south.
 
-    plane_of(places)             their points
+    plane_of(places)             their points; place_at(point) is the place of one
+    unwrapped(line, near)        a line with longitudes beyond 180 degrees where it crosses that meridian
     joined(lines)                lines of places, each from where the one before ends, as one line
     nested(lines, most)          each line in pieces, by how many of the later lines share them
     box_of(points)               the Box around points; `.grown(margin)`, `.shaped(least, most)`, `.meets(box)`
@@ -42,6 +43,21 @@ def height_of(latitude: float) -> float:
     """How far north of the equator a latitude lies on the plane, in the width of the world."""
     phi = math.radians(max(-GREATEST_LATITUDE, min(GREATEST_LATITUDE, latitude)))
     return math.asinh(math.tan(phi)) / (2 * math.pi)
+
+
+def place_at(point: Point) -> Point:
+    """The place of a point of the plane."""
+    return (point[0] - 0.5) * 360, math.degrees(math.atan(math.sinh((0.5 - point[1]) * 2 * math.pi)))
+
+
+def unwrapped(line: Iterable[Point], near: float = 0.0) -> list[Point]:
+    """A line whose longitudes go on beyond 180 degrees where it crosses the 180th meridian, without one that is the place before
+    again; it begins within 180 degrees of the longitude `near`."""
+    found: list[Point] = []
+    for lon, lat in line:
+        before = found[-1][0] if found else near
+        found.append((lon + 360 * round((before - lon) / 360), lat))
+    return without_repeats(found)
 
 
 def joined(lines: Iterable[Iterable[Point]]) -> list[Point]:
@@ -121,6 +137,10 @@ class Box(NamedTuple):
     @property
     def height(self) -> float:
         return self.bottom - self.top
+
+    @property
+    def middle(self) -> Point:
+        return (self.left + self.right) / 2, (self.top + self.bottom) / 2
 
     def grown(self, margin: float) -> "Box":
         """The box with a margin on each side."""

@@ -1,7 +1,7 @@
 """Finds the node of a network nearest to each place of a table, and writes the pairs that `routecli route` answers.
 
-NETWORK is the beginning of the names of a network's files, of which NETWORK.nodes.csv is read, or a file of coordinates
-of the DIMACS challenge, whose name ends in `.co`.
+NETWORK is the beginning of the names of a network's files, of which NETWORK.net is read, or without it NETWORK.nodes.csv,
+or a file of coordinates of the DIMACS challenge, whose name ends in `.co`.
 
 TRIPS is a CSV file with a row for each trip and the columns from_lon, from_lat, to_lon and to_lat, in degrees; they
 are in any order, and other columns are the user's own. With --matrix it has a row for each place and the columns lon
@@ -26,6 +26,7 @@ arguments that are refused.
 """
 import argparse
 import csv
+import functools
 import itertools
 import math
 import sys
@@ -36,9 +37,9 @@ from typing import Any
 import numpy
 
 from domethyme.files import writing
-from domethyme.network.network import Nearest
-from domethyme.network.tables import Point, Side, nodes_file, read_nodes
-from domethyme.texts import MOST_LINES, number, shown, table, write_pairs
+from domethyme.network.network import places_of_nodes
+from domethyme.network.tables import ENDS, Point, Side, read_nodes
+from domethyme.texts import MOST_LINES, number, safe, shown, table, write_pairs
 
 from .tool import Fault, words
 
@@ -126,23 +127,28 @@ def places_of_coordinates(path: str) -> Trips:
 class Places:
     """The nodes of a network, for look-ups by place."""
 
-    def __init__(self, path: str) -> None:
-        nodes = read_nodes(path)
-        self.sides = {side: Nearest(nodes, side, path) for side in SIDES}
-        ends = numpy.array(nodes.ends)
-        begins = {nodes.osm[node]: node for node in numpy.flatnonzero(ends == "from").tolist()}
-        twins = {node + 1: begins.get(nodes.osm[node], node) + 1 for node in numpy.flatnonzero(ends == "to").tolist()}
-        self.twins = numpy.arange(len(ends) + 1)
-        self.twins[list(twins)] = list(twins.values())
+    def __init__(self, network: str) -> None:
+        self.nodes = places_of_nodes(network)
 
     def nodes_at(self, places: list[Point], side: Side = "from") -> tuple[Any, Any]:
         """The nearest node of each (lon, lat) where routes begin (from) or end (to), and the metres to it, as arrays."""
-        nodes, metres = self.sides[side].at(*numpy.array(places, dtype=float).reshape(-1, 2).T)
+        lon, lat = numpy.array(places, dtype=float).reshape(-1, 2).T
+        nodes, metres = self.nodes.at(lon, lat, side)
         return nodes + 1, metres
 
-    def met(self, starts: Any, ends: Any) -> Any:
-        """The nodes at the ends of routes, where one that ends at the junction where it begins stays there."""
-        return numpy.where(self.twins[ends] == starts, starts, ends)
+    def begins_of(self, ends: Any) -> Any:
+        """The nodes where routes begin at the junctions of nodes where they end: the same, but for junctions with turn restrictions."""
+        different, places = numpy.unique(ends, return_inverse=True)
+        return numpy.array([self._begin_of(node - 1) + 1 for node in different.tolist()], dtype=numpy.int64)[places]
+
+    @functools.lru_cache(1 << 16)
+    def _begin_of(self, node: int) -> int:
+        return next((each for each in self.nodes.copies(node) if self.nodes.ends[each] == ENDS.index("from")), node)
+
+
+def met(starts: Any, ends: Any, begins: Any) -> Any:
+    """The nodes at the ends of routes, where one that ends at the junction where it begins stays there."""
+    return numpy.where(begins == starts, starts, ends)
 
 
 class Snapped(typing.NamedTuple):
@@ -185,7 +191,8 @@ class Matrix(Collection[tuple[int, int]]):
     """The pairs from each place to each, in order, without room for all of them at once."""
 
     def __init__(self, snapped: Snapped, nearest: Places) -> None:
-        self.starts, self.ends, self.nearest = snapped.nodes["from"], snapped.nodes["to"], nearest
+        self.starts, self.ends = snapped.nodes["from"], snapped.nodes["to"]
+        self.begins = nearest.begins_of(self.ends)
 
     def __len__(self) -> int:
         return len(self.starts) ** 2
@@ -195,7 +202,7 @@ class Matrix(Collection[tuple[int, int]]):
 
     def __iter__(self) -> Iterator[tuple[int, int]]:
         for start in self.starts.tolist():
-            yield from zip(itertools.repeat(start), self.nearest.met(start, self.ends).tolist())
+            yield from zip(itertools.repeat(start), met(start, self.ends, self.begins).tolist())
 
 
 def pairs_of(snapped: Snapped, nearest: Places, is_matrix: bool) -> Collection[tuple[int, int]]:
@@ -203,7 +210,7 @@ def pairs_of(snapped: Snapped, nearest: Places, is_matrix: bool) -> Collection[t
     if is_matrix:
         return Matrix(snapped, nearest)
     starts, ends = snapped.nodes["from"], snapped.nodes["to"]
-    return list(zip(starts.tolist(), nearest.met(starts, ends).tolist()))
+    return list(zip(starts.tolist(), met(starts, ends, nearest.begins_of(ends)).tolist()))
 
 
 def snapped_columns(trips: Trips, is_matrix: bool) -> list[str]:
@@ -224,16 +231,21 @@ def snapped_rows(snapped: Snapped, pairs: Iterable[tuple[int, int]], is_matrix: 
     if is_matrix:
         rows = itertools.product(range(len(fields)), repeat=2)
         for (source, target), (start, end) in zip(rows, pairs):
-            yield [*fields[source], *fields[target], start, ways[0][source], end, ways[1][target]]
+            yield [*safe_fields(fields[source]), *safe_fields(fields[target]), start, ways[0][source], end, ways[1][target]]
     else:
         for own, (start, end), there, back in zip(fields, pairs, *ways):
-            yield [*own, start, there, end, back]
+            yield [*safe_fields(own), start, there, end, back]
+
+
+def safe_fields(fields: list[Any]) -> list[Any]:
+    """A user's fields as they are safe in CSV."""
+    return [safe(field) if isinstance(field, str) else field for field in fields]
 
 
 def write_snapped(path: str, columns: list[str], rows: Iterable[list[Any]]) -> None:
     with writing(path) as file:
         table_writer = csv.writer(file, lineterminator="\n")
-        table_writer.writerow(columns)
+        table_writer.writerow(safe_fields(columns))
         table_writer.writerows(rows)
 
 
@@ -252,7 +264,7 @@ def main() -> None:
     if options.on_roads:
         write_requests(options)
         return
-    nearest = Places(nodes_file(options.network))
+    nearest = Places(options.network)
     if options.trips.endswith(".co"):
         trips = places_of_coordinates(options.trips)
     else:

@@ -4,7 +4,7 @@ MAP is a .osm, .osm.bz2 or .osm.pbf file; it is read twice, so it can't be stand
 order. What is written, all files or none:
 
   OUT.gr    the graph, for `routecli prepare`
-  OUT.npz   the places of its nodes and the pieces of road of its arcs, which the tools and the service read
+  OUT.net   the places of its nodes and the pieces of road of its arcs, which the tools and the service read
 
 With --tables there are these too, for other programs:
 

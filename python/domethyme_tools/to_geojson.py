@@ -1,11 +1,12 @@
 """Turns the answers of `routecli route` into routes along the real road, as GeoJSON or CSV.
 
-NETWORK is the beginning of the names of the network's files, of which NETWORK.nodes.csv and NETWORK.arcs.csv are read; or
-a DIMACS file X.co, whose graph is X.gr: then routes are straight from node to node, and take 0 seconds.
+NETWORK is the beginning of the names of the network's files, of which NETWORK.net is read, or without it the tables; or a
+DIMACS file X.co, whose graph is X.gr: then routes are straight from node to node, and take 0 seconds.
 ANSWERS is what `routecli route` or `routecli answer` printed (`-` is standard input).
 
 ROUTES has a feature for each answer, in order. Its geometry is the line of the road from the first node to the last,
-longitude first; a route of no arc is a line from its node to itself, and where there is no route there is no geometry.
+longitude first, in two parts or more where it crosses the 180th meridian; a route of no arc is a line from its node to
+itself, and where there is no route there is no geometry.
 Its properties are
 
     from_node, to_node   the pair
@@ -43,13 +44,14 @@ import typing
 from collections.abc import Iterable, Iterator
 from typing import IO, Any, Union
 
-from domethyme.errors import NetworkError
+import numpy
+
 from domethyme.files import writing
 from domethyme.lines import NO_WAY, Answer
-from domethyme.network.tables import (
-    Arc, Point, arcs_file, arcs_of, attribution_of, lightest, nodes_file, points_of, read_nodes, wkt_of
-)
-from domethyme.texts import Table, number, read_answers, shown, table
+from domethyme.network.binary import TEXTS, UNITS
+from domethyme.network.own import network_of
+from domethyme.network.tables import Point, attribution_of, geometry_of, parted_wkt
+from domethyme.texts import Table, number, read_answers, safe, shown, table
 
 from .geometry import joined
 from .tool import Fault, words
@@ -59,6 +61,7 @@ PAIR = ("from_node", "to_node")
 FIGURES = ("length", "arcs", "seconds", "metres")
 STEPS = "steps"
 LINE = "WKT"
+NAME = TEXTS.index("name")
 FORMS = ("collection", "lines", "csv")
 
 
@@ -77,50 +80,59 @@ def read_words() -> argparse.Namespace:
     return options
 
 
+class Driving(typing.NamedTuple):
+    """What is said of an arc."""
+
+    seconds: float
+    metres: float
+    name: str
+
+
+class Driven(typing.NamedTuple):
+    """An answer on the road: the user's fields, the arcs, and the places along them, None where there is no route."""
+
+    fields: dict[str, str]
+    answer: Answer
+    arcs: list[Driving]
+    line: list[Point] | None
+
+
 class Roads:
-    """The arcs that routes take, and where they lie. The line of an arc is read when a route first takes it."""
+    """The arcs that routes take, and where they lie."""
 
     def __init__(self, network: str) -> None:
-        self.path, self.network = arcs_file(network), network
-        self.arcs = lightest(arcs_of(network))
-        nodes = read_nodes(nodes_file(network))
-        self.places = list(zip(nodes.lon, nodes.lat))
-        self.lines: dict[tuple[int, int], list[Point]] = {}
+        self.arrays = network_of(network)
+        self.nodes = len(self.arrays.node_osm)
 
-    def arcs_along(self, answer: Answer, path: str, row: int) -> list[Arc]:
+    def arcs_along(self, answer: Answer, path: str, row: int) -> list[int]:
         """The arcs of an answer's route, whose weights sum to its length."""
         for node in answer.nodes or (answer.source, answer.target):
-            if not 1 <= node <= len(self.places):
-                raise Fault(f"has node {node}, and the network has {len(self.places)} nodes", path, row)
-        try:
-            arcs = [self.arcs[ends] for ends in itertools.pairwise(answer.nodes)]
-        except KeyError as error:
-            start, end = error.args[0]
-            raise Fault(f"leads from node {start} to node {end}, where the network has no arc", path, row) from None
-        weight = sum(arc.weight for arc in arcs)
+            if not 1 <= node <= self.nodes:
+                raise Fault(f"has node {node}, and the network has {self.nodes} nodes", path, row)
+        nodes = numpy.array(answer.nodes, dtype=numpy.int64)
+        arcs: list[int] = self.arrays.lightest(nodes[:-1], nodes[1:]).tolist() if len(nodes) > 1 else []
+        if -1 in arcs:
+            start, end = answer.nodes[arcs.index(-1) :][:2]
+            raise Fault(f"leads from node {start} to node {end}, where the network has no arc", path, row)
+        weight = int(self.arrays.arc_weight[arcs].sum()) if arcs else 0
         if answer.length not in (NO_WAY, weight):
             fault = f"has the length {answer.length}, and its arcs' weights sum to {weight}"
             raise Fault(f"{fault}: is it of another network?", path, row)
         return arcs
 
-    def line_along(self, node: int, arcs: list[Arc]) -> list[Point]:
+    def driven(self, arcs: list[int]) -> list[Driving]:
+        """What is said of arcs."""
+        if not arcs:
+            return []
+        seconds, metres = (values[arcs].tolist() for values in (self.arrays.arc_seconds, self.arrays.arc_metres))
+        names = [self.arrays.texts[text] for text in self.arrays.arc_texts[arcs, NAME].tolist()]
+        return list(map(Driving, seconds, metres, names))
+
+    def line_along(self, node: int, arcs: list[int]) -> list[Point]:
         """The places along arcs that follow one another from a node, two or more."""
-        line = joined([[self.places[node - 1]], *map(self.line_of, arcs)])
+        begin = self.arrays.node_lon[node - 1] / UNITS, self.arrays.node_lat[node - 1] / UNITS
+        line = joined([[begin], *map(self.arrays.line, arcs)])
         return line if len(line) > 1 else line * 2
-
-    def line_of(self, arc: Arc) -> list[Point]:
-        """The places along an arc."""
-        ends = (arc.start, arc.end)
-        if ends not in self.lines:
-            try:
-                self.lines[ends] = points_of(arc.wkt)
-            except NetworkError:
-                points_of(arc.wkt, self.path, self.row_of(arc))
-        return self.lines[ends]
-
-    def row_of(self, arc: Arc) -> int:
-        """The row of an arc in its file, which is looked for anew, since only a fault asks for it."""
-        return next(row for row, other in enumerate(arcs_of(self.network), 2) if other == arc)
 
 
 class NoTrips:
@@ -151,15 +163,6 @@ def trips_at(path: str | None) -> Iterator[Trips]:
         yield trips
 
 
-class Driven(typing.NamedTuple):
-    """An answer on the road: the user's fields, the arcs, and the places along them, None where there is no route."""
-
-    fields: dict[str, str]
-    answer: Answer
-    arcs: list[Arc]
-    line: list[Point] | None
-
-
 def routes_of(answers: Iterable[tuple[int, Answer]], answers_path: str, trips: Trips, roads: Roads) -> Iterator[Driven]:
     """The routes of the answers, which come with their row numbers, in order."""
     rows = iter(trips)
@@ -169,7 +172,7 @@ def routes_of(answers: Iterable[tuple[int, Answer]], answers_path: str, trips: T
             raise Fault(f"is an answer more than {trips.path} has rows", answers_path, row)
         arcs = roads.arcs_along(answer, answers_path, row)
         line = None if answer.length == NO_WAY else roads.line_along(answer.source, arcs)
-        yield Driven(own_fields(trip, answer, trips, trip_row), answer, arcs, line)
+        yield Driven(own_fields(trip, answer, trips, trip_row), answer, roads.driven(arcs), line)
     if trips.columns:
         for more, _ in rows:
             raise Fault("is a row more than there are answers", trips.path, more)
@@ -191,7 +194,7 @@ def figures_of(route: Driven) -> dict[str, Any]:
     return dict(zip(PAIR + FIGURES, (route.answer.source, route.answer.target, *figures)))
 
 
-def time_and_way(arcs: list[Arc]) -> tuple[float, float]:
+def time_and_way(arcs: list[Driving]) -> tuple[float, float]:
     """Seconds to the thousandth and metres to the hundredth, as the table of arcs has them."""
     return round(sum(arc.seconds for arc in arcs), 3), round(sum(arc.metres for arc in arcs), 2)
 
@@ -204,7 +207,7 @@ def steps_of(route: Driven) -> list[dict[str, Any]] | None:
     return [step_of(name, list(arcs)) for name, arcs in streets]
 
 
-def step_of(name: str, arcs: list[Arc]) -> dict[str, Any]:
+def step_of(name: str, arcs: list[Driving]) -> dict[str, Any]:
     """The step along arcs of one street."""
     seconds, metres = time_and_way(arcs)
     return {"name": name, "metres": metres, "seconds": seconds}
@@ -215,7 +218,7 @@ def feature_of(route: Driven, with_steps: bool) -> str:
     properties = route.fields | figures_of(route)
     if with_steps:
         properties[STEPS] = steps_of(route)
-    geometry = None if route.line is None else {"type": "LineString", "coordinates": route.line}
+    geometry = None if route.line is None else geometry_of(route.line)
     feature = {"type": "Feature", "properties": properties, "geometry": geometry}
     return json.dumps(feature, ensure_ascii=False, separators=(",", ":"))
 
@@ -232,10 +235,10 @@ def write_collection(file: IO[str], features: Iterable[str], attribution: str) -
 def write_table(file: IO[str], routes: Iterable[Driven], columns: Iterable[str]) -> None:
     """Writes the routes as CSV, the user's columns first."""
     rows = csv.writer(file, lineterminator="\n")
-    rows.writerow([*(name for name in columns if name not in PAIR), *PAIR, *FIGURES, LINE])
+    rows.writerow([*(safe(name) for name in columns if name not in PAIR), *PAIR, *FIGURES, LINE])
     for route in routes:
-        line = None if route.line is None else wkt_of(route.line)
-        rows.writerow([*route.fields.values(), *figures_of(route).values(), line])
+        line = None if route.line is None else parted_wkt(route.line)
+        rows.writerow([*map(safe, route.fields.values()), *figures_of(route).values(), line])
 
 
 def features_on_roads(options: argparse.Namespace) -> Iterator[str]:
@@ -254,7 +257,7 @@ def features_on_roads(options: argparse.Namespace) -> Iterator[str]:
             properties: dict[str, Any] = {**fields, **{name: getattr(route, name) for name in FIGURES}}
             if not options.no_steps:
                 properties[STEPS] = route.steps
-            geometry = None if route.line is None else {"type": "LineString", "coordinates": route.line}
+            geometry = None if route.line is None else geometry_of([(lon, lat) for lon, lat in route.line])
             feature = {"type": "Feature", "properties": properties, "geometry": geometry}
             yield json.dumps(feature, ensure_ascii=False, separators=(",", ":"))
 

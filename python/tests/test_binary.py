@@ -1,36 +1,64 @@
-"""Tests of the binary form of networks: the same as the tables, and what becomes of one that is older or damaged."""
-import io
+"""Tests of the mapped files of networks: the same as the tables, and what becomes of one that is older, damaged or hostile."""
 import os
+import re
 import shutil
-import zipfile
+import subprocess
+import sys
+import tracemalloc
+import zlib
 
 import numpy as np
 from test_turns import crossing
-from tool_case import VILLAGE, ToolCase
+from tool_case import PYTHON, ROOT, VILLAGE, ToolCase
 
 import domethyme
-from domethyme.network import binary
+from domethyme.network import binary, mapped
 from domethyme.network.tables import arcs_of, lightest, read_arcs, read_node_table, read_nodes
+from domethyme_service.roads import Roads
+
+# Two nodes, a road both ways and one that is straight on.
+NODES = "node,osm,lon,lat,ends\n1,7,0,0,\n2,,0.001,0,\n3,9,0.001,0.001,\n"
+ARCS = """\
+from,to,weight,seconds,metres,osm,highway,name,WKT
+1,2,10,1,111.2,5,primary,High Street,"LINESTRING (0 0, 0.001 0)"
+2,1,10,1,111.2,5,primary,High Street,"LINESTRING (0.001 0, 0 0)"
+2,3,9,1,111.2,6,residential,,"LINESTRING (0.001 0, 0.001 0.001)"
+"""
 
 
 class BinaryCase(ToolCase):
     def setUp(self):
         super().setUp()
-        self.run_tool("osm_to_gr", VILLAGE, "v", "--islands", "--tables")
+        self.make()
         self.prefix = str(self.folder / "v")
-        self.path = self.folder / "v.npz"
+        self.path = self.folder / "v.net"
+
+    def make(self):
+        self.run_tool("osm_to_gr", VILLAGE, "v", "--islands", "--tables")
 
     def assert_same(self, one, other):
-        for name in one._fields:
-            np.testing.assert_array_equal(getattr(one, name), getattr(other, name), name)
-            self.assertEqual(getattr(one, name).dtype, getattr(other, name).dtype, name)
+        for name in binary.Arrays._fields:
+            values = [np.asarray(getattr(each, name)) for each in (one, other)]
+            np.testing.assert_array_equal(*values, name)
+            self.assertEqual(values[0].dtype, values[1].dtype, name)
+
+    def refused(self, says):
+        with self.assertRaisesRegex(domethyme.NetworkError, rf"v\.net: {says}"):
+            answers(self.prefix)
+
+
+def answers(prefix):
+    """All that is in a network's file, and some of what is answered by it."""
+    roads = Roads(prefix)
+    columns = [column[:].tolist() for column in roads.arrays.file.columns.values()]
+    return str((columns, roads.nearest((0.0004, 0.0001), 2), roads.lightest((1, 2, 1)), roads.unit, roads.tiles.about))
 
 
 class SameTests(BinaryCase):
     def test_it_says_what_the_tables_say(self):
         for prefix in self.prefix, self.turns():
             self.assertTrue(binary.is_current(prefix))
-            self.assert_same(binary.read(f"{prefix}.npz"), binary.of_tables(prefix))
+            self.assert_same(binary.read(f"{prefix}.net"), binary.of_tables(prefix))
             self.assertEqual(read_nodes(f"{prefix}.nodes.csv"), read_node_table(f"{prefix}.nodes.csv"))
             self.assertEqual(list(arcs_of(prefix)), list(read_arcs(f"{prefix}.arcs.csv")))
         self.assertIn("no", read_nodes(f"{prefix}.nodes.csv").ends)
@@ -40,6 +68,30 @@ class SameTests(BinaryCase):
         self.write("map.osm", crossing((2, 3, {"restriction": "no_left_turn"})))
         self.run_tool("osm_to_gr", "map.osm", "t", "--islands", "--tables")
         return str(self.folder / "t")
+
+    def test_the_lightest_arcs_are_found(self):
+        for prefix in self.prefix, self.turns():
+            wanted = lightest(read_arcs(f"{prefix}.arcs.csv"))
+            arrays = binary.arrays_of(prefix)
+            count = len(arrays.node_osm)
+            pairs = np.array([(start, end) for start in range(1, count + 1) for end in range(1, count + 1)]).T
+            found = arrays.lightest(*pairs)
+            self.assertEqual({pair for pair, arc in zip(zip(*pairs.tolist()), found.tolist()) if arc >= 0}, set(wanted))
+            arcs = list(read_arcs(f"{prefix}.arcs.csv"))
+            for pair, arc in zip(zip(*pairs.tolist()), found.tolist()):
+                if arc >= 0:
+                    self.assertEqual(arcs[arc], wanted[pair])
+
+    def test_copies_of_a_junction(self):
+        """The nodes that the turn restriction made of node 1 of the map are those with its id."""
+        roads = Roads(self.turns())
+        osm = np.asarray(roads.arrays.node_osm).tolist()
+        ends = np.asarray(roads.arrays.node_ends).tolist()
+        split = {node + 1 for node, side in enumerate(ends) if side}
+        self.assertGreater(len(split), 2)
+        for node in range(1, roads.nodes + 1):
+            wanted = {each for each in split if osm[each - 1] == osm[node - 1]} if node in split else {node}
+            self.assertEqual(set(roads.copies(node)), wanted)
 
     def test_the_package_reads_it(self):
         network, tables = domethyme.Network(self.prefix), domethyme.Network(self.folder / "copy")
@@ -56,10 +108,20 @@ class SameTests(BinaryCase):
         self.assertEqual((network.lon.tolist(), network.lat.tolist()), (tables.lon.tolist(), tables.lat.tolist()))
 
     def test_without_tables(self):
-        before = binary.of_tables(self.prefix)
+        before, network = binary.of_tables(self.prefix), domethyme.Network(self.prefix)
+        keys, nodes, arcs = network.keys(), network.nodes_frame(), network.arcs_frame()
         for name in ("nodes.csv", "arcs.csv"):
             (self.folder / f"v.{name}").unlink()
         self.assert_same(binary.arrays_of(self.prefix), before)
+        network = domethyme.Network(self.prefix)
+        self.assertEqual((network.keys().node(1), len(network.keys())), (keys.node(1), len(keys)))
+        frame = network.nodes_frame()
+        self.assertEqual((frame["osm"].fillna(0).tolist(), frame["lon"].tolist()), (nodes["osm"].fillna(0).tolist(), nodes["lon"].tolist()))
+        self.assertEqual(network.arcs_frame().astype(str).values.tolist(), arcs.astype(str).values.tolist())
+
+    def test_it_is_the_same_each_time(self):
+        self.run_tool("osm_to_gr", VILLAGE, "other", "--islands", "--tables")
+        self.assertEqual((self.folder / "other.net").read_bytes(), self.path.read_bytes())
 
 
 class OtherTests(BinaryCase):
@@ -79,56 +141,151 @@ class OtherTests(BinaryCase):
         with self.assertRaisesRegex(domethyme.NetworkError, "v.arcs.csv: No such file"):
             binary.arrays_of(self.prefix)
 
-    def refused(self, says):
-        with self.assertRaisesRegex(domethyme.NetworkError, rf"v\.npz: {says}"):
+    def test_an_archive_of_an_earlier_version(self):
+        self.path.rename(self.folder / "v.npz")
+        with self.assertRaisesRegex(domethyme.NetworkError, r"v\.npz: is an archive of an earlier version.*`to_network .*v\.nodes\.csv"):
             binary.arrays_of(self.prefix)
+        self.run_tool("to_network", "v.nodes.csv", "v.arcs.csv", "v")
+        self.assertEqual(len(binary.arrays_of(self.prefix).node_osm), 38)
 
-    def test_damaged_bytes(self):
-        """One cut short, and with a changed byte each 97 places: it is refused, or says what it said before."""
-        whole, before = self.path.read_bytes(), binary.read(str(self.path))
-        for length in (0, 1, 100, len(whole) // 2, len(whole) - 1):
-            self.path.write_bytes(whole[:length])
-            self.refused("is damaged: .*; remove it, and the tables are read")
+    def test_what_is_no_file(self):
+        self.path.unlink()
+        for name in ("nodes.csv", "arcs.csv"):
+            (self.folder / f"v.{name}").unlink()
+        os.mkfifo(self.path)
+        self.refused("is no regular file")
+
+    def test_written_in_place(self):
+        """A file that is written while it is mapped: what was verified isn't used, and nothing new is."""
+        roads = Roads(self.prefix)
+        arrays = roads.arrays
+        self.assertEqual(arrays.node_lon[:].tolist()[0], 0)
+        with open(self.path, "r+b") as file:
+            file.seek(4000)
+            file.write(b"\x77")
+        with self.assertRaisesRegex(domethyme.NetworkError, "was written to while it was in use"):
+            arrays.file.unchanged()
+        with self.assertRaisesRegex(domethyme.NetworkError, "was written to while it was in use"):
+            arrays.node_lat[0]
+
+    def test_replaced_by_a_rename(self):
+        roads = Roads(self.prefix)
+        shutil.copy(self.path, self.folder / "new")
+        os.replace(self.folder / "new", self.path)
+        roads.arrays.file.unchanged()
+        self.assertEqual(len(roads.arrays.node_lat[:]), 38)
+
+
+class SmallTests(BinaryCase):
+    """A network of three nodes, so that each byte of its file can be changed."""
+
+    def make(self):
+        self.write("n.csv", NODES)
+        self.write("a.csv", ARCS)
+        self.run_tool("to_network", "n.csv", "a.csv", "v")
+
+    def test_each_byte_changed(self):
+        """A named fault, or the same answers: those of the bytes between arrays, which nobody reads."""
+        whole, before = self.path.read_bytes(), answers(self.prefix)
         refused = 0
-        for place in range(5, len(whole), 97):
-            self.path.write_bytes(whole[:place] + bytes([whole[place] ^ 0x55]) + whole[place + 1 :])
+        for place in range(len(whole)):
+            change = 0x01 if place % 2 else 0xA5
+            self.path.write_bytes(whole[:place] + bytes([whole[place] ^ change]) + whole[place + 1 :])
             try:
-                found = binary.read(str(self.path))
-            except domethyme.NetworkError:
+                found = answers(self.prefix)
+            except domethyme.NetworkError as error:
+                self.assertRegex(str(error), r"v\.net: (is damaged: |isn't a network's file|has version )")
                 refused += 1
             else:
-                self.assert_same(found, before)
-        self.assertGreater(refused, 50)
+                self.assertEqual(found, before, place)
+        self.path.write_bytes(whole)
+        padding = sum(-column[:].nbytes % mapped.ALIGNED for column in binary.read(str(self.path)).file.columns.values())
+        self.assertEqual(refused, len(whole) - padding)
+
+    def test_each_length(self):
+        whole = self.path.read_bytes()
+        for length in [*range(0, len(whole), 13), len(whole) - 1]:
+            self.path.write_bytes(whole[:length])
+            self.refused("is damaged: ")
+        self.path.write_bytes(whole + b"\0")
+        self.refused("is damaged: its size isn't the one")
+
+    def test_hostile_sizes_take_no_memory(self):
+        """Sizes that are as great as can be, with the right checksum."""
+        whole = self.path.read_bytes()
+        tail = int(np.frombuffer(whole[: mapped.HEAD.itemsize], mapped.HEAD)["tail"][0])
+        for array in range(len(binary.FORM)):
+            for rows in (1 << 62, (1 << 64) - 1, 1 << 33, 10**9):
+                place = tail + 8 * array
+                self.keep(whole[:place] + rows.to_bytes(8, "little") + whole[place + 8 :])
+                tracemalloc.start()
+                self.refused("is damaged: ")
+                most = tracemalloc.get_traced_memory()[1]
+                tracemalloc.stop()
+                self.assertLess(most, 1 << 20)
+
+    def keep(self, whole):
+        """Writes the file with the checksum of its head and tail."""
+        head = np.frombuffer(whole[: mapped.HEAD.itemsize], mapped.HEAD).copy()
+        head["sum"] = 0
+        head["sum"] = zlib.crc32(whole[int(head["tail"][0]) :], zlib.crc32(head.tobytes()))
+        self.path.write_bytes(head.tobytes() + whole[mapped.HEAD.itemsize :])
 
     def test_arrays_that_do_not_fit(self):
-        arrays = binary.read(str(self.path))
+        """Right checksums, and values that can't be: they are refused where they are read."""
+        before = {name: column[:].copy() for name, column in binary.read(str(self.path)).file.columns.items()}
         for name, change in [
-            ("arc_from", arrays.arc_from + 100), ("arc_to", arrays.arc_to * 0), ("node_ends", arrays.node_ends + 4),
-            ("edge_begin", arrays.edge_begin[::-1].copy()), ("edge_begin", arrays.edge_begin[:-1]), ("points", arrays.points[:-1]),
-            ("arc_texts", arrays.arc_texts - 2), ("arc_texts", arrays.arc_texts[:, :2]), ("arc_weight", arrays.arc_weight - 10**9),
-            ("arc_metres", arrays.arc_metres * np.nan), ("text_begin", arrays.text_begin[:0]), ("node_lon", arrays.node_lon[:-1]),
-            ("node_lat", arrays.node_lat.astype(np.float64)), ("arc_edge", arrays.arc_edge + 1), ("sizes", arrays.sizes[:1]),
+            ("arc_from", lambda old: old + 100), ("arc_to", lambda old: old * 0), ("node_ends", lambda old: old + 4),
+            ("edge_begin", lambda old: old[::-1]), ("edge_begin", lambda old: old[:-1]), ("points", lambda old: old[:-1]),
+            ("points", lambda old: old + 2_000_000_000), ("arc_row", lambda old: old + 7), ("row_texts", lambda old: old - 2),
+            ("arc_weight", lambda old: old - 10**9), ("arc_metres", lambda old: old * np.nan), ("text_begin", lambda old: old[:0]),
+            ("node_lon", lambda old: old[:-1]), ("arc_edge", lambda old: old + 9), ("about", lambda old: old[:-1]),
+            ("about", lambda old: old * 0), ("out_arcs", lambda old: old + 3), ("out_begin", lambda old: old[::-1]),
+            ("edge_things", lambda old: old + 9), ("node_cells", lambda old: old[::-1]), ("step_edges", lambda old: old - 5),
+            ("step_points", lambda old: old + 9), ("degrees", lambda old: old[:-1]), ("edge_keys", lambda old: old[:-1]),
         ]:
-            self.keep(**{**arrays._asdict(), name: change})
-            with self.subTest(name=name), self.assertRaisesRegex(domethyme.NetworkError, "is damaged"):
-                binary.read(str(self.path))
-        self.keep(**{**arrays._asdict(), "version": np.array([2])})
-        self.refused("is of another version: remove it, or convert the map anew")
-        self.keep(version=arrays.version, sizes=arrays.sizes)
-        self.refused("is damaged")
+            with open(self.path, "wb") as file:
+                mapped.write(file, binary.FORM, binary.VERSION, {**before, name: change(before[name])}.items())
+            with self.subTest(name=name):
+                self.refused("is damaged: ")
 
-    def test_objects_are_not_taken(self):
-        """An archive with a pickle, which could run anything, is refused before it is looked at."""
+    def test_another_version(self):
+        with open(self.path, "r+b") as file:
+            file.seek(8)
+            file.write(bytes([99]))
+        self.refused("has version 99 and not 2; convert the map anew, or make it of its tables, as `to_network")
+
+    def test_a_route_that_meets_a_damaged_block(self):
+        """The file opens, and what isn't damaged is answered; what is read of the damaged block is refused, each time."""
         arrays = binary.read(str(self.path))
-        self.keep(**{**arrays._asdict(), "arc_from": np.array([os.getcwd] * len(arrays.arc_from), dtype=object)})
-        self.refused("is damaged: .*allow_pickle")
+        begin = self.path.read_bytes().index(arrays.arc_weight[:].tobytes())
+        with open(self.path, "r+b") as file:
+            file.seek(begin)
+            file.write(b"\x0b")
+        roads = Roads(self.prefix)
+        self.assertEqual(roads.lightest((1, 2, 3)), [0, 2])
+        for _ in range(2):
+            with self.assertRaisesRegex(domethyme.NetworkError, r"v\.net: is damaged: arc_weight has another checksum"):
+                roads.arc(0)
 
-    def keep(self, **arrays):
-        file = io.BytesIO()
-        np.savez(file, **arrays)
-        self.path.write_bytes(file.getvalue())
 
-    def test_it_is_the_same_each_time(self):
-        self.run_tool("osm_to_gr", VILLAGE, "other", "--islands", "--tables")
-        self.assertEqual((self.folder / "other.npz").read_bytes(), self.path.read_bytes())
-        self.assertEqual(len(zipfile.ZipFile(self.path).namelist()), len(binary.Arrays._fields))
+class MemoryTests(ToolCase):
+    def test_a_process_has_what_it_uses(self):
+        """A network whose arrays have 25 MB: opening it and looking for places takes a few."""
+        self.run_program([ROOT / "bench/make_roads.py", 100_000, 1, self.folder / "large"])
+        self.assertGreater(os.path.getsize(self.folder / "large.net"), 20_000_000)
+        program = f"""
+import re, sys
+sys.path.insert(0, {str(PYTHON)!r})
+from domethyme_service.roads import Roads
+own = lambda: int(re.search(r"RssAnon:\\s+(\\d+)", open("/proc/self/status").read())[1])
+before = own()
+roads = Roads({str(self.folder / "large")!r})
+for place in range(200):
+    roads.nearest((9 + place / 3000, 47 + place / 4000), 3)
+roads.tiles.tile(10, 537, 358)
+print(own() - before)
+"""
+        ended = subprocess.run([sys.executable, "-P", "-c", program], capture_output=True, text=True)
+        self.assertEqual(ended.returncode, 0, ended.stderr)
+        self.assertLess(int(re.fullmatch(r"(-?\d+)\n", ended.stdout)[1]), 10_000, "KiB")

@@ -107,7 +107,7 @@ class FailureTests(ProgramCase):
 
     def test_signals_leave_nothing(self):
         self.put_compiler("#!/bin/sh\necho 1\necho $$ >pid\nexec sleep 100\n")
-        self.write("out.npz", "old")
+        self.write("out.net", "old")
         before = self.outputs()
         for number, status in ((signal.SIGINT, 130), (signal.SIGTERM, 143)):
             words = [*TAKES_SIGNALS, *map(str, self.command), "osm_to_gr", str(VILLAGE), "out"]

@@ -19,6 +19,7 @@ from,to,weight,seconds,metres,osm,highway,name,WKT
 2,3,1,1,222.39,102,primary_link,Slip,"LINESTRING (0.002 0, 0.004 0)"
 4,5,1,1,444.78,103,residential,Far Road,"LINESTRING (0 0.02, 0.004 0.02)"
 """
+NODES = "node,osm,lon,lat\n1,,0,0\n2,,0.002,0\n3,,0.004,0\n4,,0,0.02\n5,,0.004,0.02\n"
 LABEL = '</script> <b>"A" & \'B\'</b>'
 
 
@@ -51,6 +52,7 @@ def told(legend_or_title):
 class DrawCase(ToolCase):
     def setUp(self):
         super().setUp()
+        self.write("net.nodes.csv", NODES)
         self.write("net.arcs.csv", ARCS)
 
     def routes(self, *features):
@@ -376,7 +378,7 @@ class BadInput(DrawCase):
 
     def test_network(self):
         routes = self.routes(EAST)
-        self.assert_refused("draw", "nowhere", routes, "out.svg", says="nowhere.arcs.csv: No such file")
+        self.assert_refused("draw", "nowhere", routes, "out.svg", says="nowhere.nodes.csv: No such file")
         self.write("net.arcs.csv", ARCS.replace("LINESTRING (0.002 0, 0.004 0)", "POINT (0 0)"))
         self.assert_refused("draw", "net", routes, "out.svg", says="net.arcs.csv, row 4: WKT 'POINT (0 0)' is no line")
         self.write("net.arcs.csv", ARCS.splitlines()[0])

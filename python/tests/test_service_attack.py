@@ -2,7 +2,6 @@
 import asyncio
 import contextlib
 import http.client
-import io
 import os
 import pathlib
 import re
@@ -15,7 +14,7 @@ import subprocess
 import threading
 import time
 import unittest
-import zipfile
+import zlib
 
 import numpy as np
 from service_case import NDJSON, ServiceCase, children_of, fronts_of, resident, workers_of
@@ -23,6 +22,7 @@ from tool_case import ROOT, STAND_IN
 
 import domethyme
 from domethyme.network.binary import UNITS, arrays_of
+from domethyme.network.mapped import HEAD
 from domethyme_service import asking, endpoints, osrm_request, parameters
 from domethyme_service.errors import Refused
 from domethyme_service.lines import encoded, simplified
@@ -116,15 +116,14 @@ class RestartTests(ServiceCase):
         """Whatever is wrong with the files, and however the process that opens them ends."""
         process = self.serve("--network", self.folder / "v")
         wanted = self.ask(PATH)
-        hierarchy, network = self.folder / "v.rch", self.folder / "v.npz"
+        hierarchy, network = self.folder / "v.rch", self.folder / "v.net"
         good = {path: path.read_bytes() for path in (hierarchy, network)}
         text = good[network]
         cases = [
             (hierarchy, None, "v.rch: No such file"), (hierarchy, b"", "v.rch: is no file that `routecli prepare` wrote"),
-            (hierarchy, good[hierarchy][:-1], "v.rch: has"), (network, text[: len(text) // 2], "v.npz: is damaged"),
-            (network, b"no archive", "v.npz: is damaged"), (network, hostile(text, b"{'descr': (((("), "reload refused: "),
-            (network, hostile(text, b"{'descr': '<i4', 'fortran_order': False, 'shape': (9999999999999, 2), }"), "reload refused: "),
-            (network, hostile(text, b"{'descr': '<i4', 'fortran_order': False, 'shape': (1e999, 2), }"), "reload refused: "),
+            (hierarchy, good[hierarchy][:-1], "v.rch: has"), (network, text[: len(text) // 2], "v.net: is damaged"),
+            (network, b"no network", "v.net: is damaged"), (network, b"no network" * 10, "v.net: isn't a network's file"),
+            *((network, hostile(text, rows), "v.net: is damaged") for rows in (1 << 62, (1 << 64) - 1, 10**9)),
         ]
         for path, bytes_, says in cases:
             with self.subTest(path=path.name, says=says):
@@ -362,8 +361,8 @@ class WorkTests(ServiceCase):
         self.run_program([ROOT / "bench/make_roads.py", 1500, 3, self.folder / "drawn"])
         domethyme.prepare(self.folder / "drawn.gr", self.folder / "v.rch", workers=1).close()
         arrays = arrays_of(str(self.folder / "drawn"))
-        sums = arrays.node_lon.astype(np.int64) + arrays.node_lat
-        corners = [f"{arrays.node_lon[node] / UNITS:.6f},{arrays.node_lat[node] / UNITS:.6f}" for node in (sums.argmin(), sums.argmax())]
+        lon, lat = arrays.node_lon[:].astype(np.int64), arrays.node_lat[:]
+        corners = [f"{lon[node] / UNITS:.6f},{lat[node] / UNITS:.6f}" for node in ((lon + lat).argmin(), (lon + lat).argmax())]
         self.serve("--network", self.folder / "drawn", "--within", "5000")
         for query in ("", "?steps=true&annotations=true&geometries=geojson"):
             with self.subTest(query=query):
@@ -554,16 +553,13 @@ if shutil.which("systemd-analyze") is None:
     del UnitTests
 
 
-def hostile(archive, head):
-    """A network's archive whose points have another head."""
-    found = io.BytesIO()
-    with zipfile.ZipFile(io.BytesIO(archive)) as old, zipfile.ZipFile(found, "w") as new:
-        for name in old.namelist():
-            text = old.read(name)
-            if name == "points.npy":
-                text = b"\x93NUMPY\x01\x00" + struct.pack("<H", len(head) + 1) + head + b"\n" + text[128:]
-            new.writestr(name, text)
-    return found.getvalue()
+def hostile(whole, rows):
+    """A network's file whose first array has so many rows, with the right checksum."""
+    head = np.frombuffer(whole[: HEAD.itemsize], HEAD).copy()
+    tail = rows.to_bytes(8, "little") + whole[int(head["tail"][0]) + 8 :]
+    head["sum"] = 0
+    head["sum"] = zlib.crc32(tail, zlib.crc32(head.tobytes()))
+    return head.tobytes() + whole[HEAD.itemsize : int(head["tail"][0])] + tail
 
 
 def small():

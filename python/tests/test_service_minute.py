@@ -52,7 +52,7 @@ class MinuteTests(ServiceCase):
     def setUp(self):
         super().setUp()
         self.process = self.serve("--network", self.folder / "v", "--fronts", "3", "--workers", "2", "--within", "5000")
-        self.good = {name: (self.folder / name).read_bytes() for name in ("v.rch", "v.npz")}
+        self.good = {name: (self.folder / name).read_bytes() for name in ("v.rch", "v.net")}
         self.draw, self.reloads, self.refusals = random.Random(4), 0, 0
 
     def answers(self):

@@ -35,7 +35,7 @@ class TableTests(ServiceCase):
                 arrays, draw = arrays_of(str(self.folder / "drawn")), random.Random(seed)
                 nodes = [draw.randrange(len(arrays.node_lon)) for _ in range(30)]
                 nodes += [nodes[0], *(node for node in nodes[:9])]
-                lons, lats = arrays.node_lon / UNITS, arrays.node_lat / UNITS
+                lons, lats = arrays.node_lon[:] / UNITS, arrays.node_lat[:] / UNITS
                 places = [(lons[node] + draw.gauss(0, 0.001), lats[node] + draw.gauss(0, 0.001)) for node in nodes]
                 words = ";".join(f"{lon:.7f},{lat:.7f}" for lon, lat in places)
                 some = ";".join(map(str, range(5, 30)))

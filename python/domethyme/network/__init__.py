@@ -1,6 +1,12 @@
 """A network: the files of its nodes and arcs, and where they lie on the earth.
 
     tables      the files of a network, and nodes and arcs one by one; needs nothing but Python's own library
-    binary      a network in arrays, and its binary form; needs numpy
-    network     domethyme.Network; needs numpy
+    network     domethyme.Network, and nodes by their places; needs numpy, as all that follow
+    binary      a network in arrays, and its file, which is mapped
+    own         networks of tables of one's own, and of DIMACS files
+    mapped      arrays in a file, verified where they are read
+    index       what the file has besides: arcs by nodes and edges, and what lies near a place
+    grid        an index of the earth by cells, and the search for the nearest things
+    levels      what maps show, by kind of road
+    sphere      lengths, lines and nearest points on a sphere
 """

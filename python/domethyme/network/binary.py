@@ -1,29 +1,36 @@
-"""A network in arrays, and its binary form NETWORK.npz, which `osm_to_gr` writes beside its tables. Needs numpy.
+"""A network in arrays, and the file NETWORK.net, which has them and what is derived from them. Needs numpy.
 
-The file is numpy's archive, without pickled objects. It has what NETWORK.nodes.csv and NETWORK.arcs.csv have, and their sizes:
-it is taken where it is no older than they are and these are their sizes, or where they aren't there. Places are in tenths of a
-millionth of a degree, as the tables have them. Texts are numbers of rows in one list of texts, which is an array of bytes and
-the offsets at which they begin. An edge is a line of a way, in the direction that sorts first, with arcs along it and against.
+A tool that makes a network writes the file; whoever reads one maps it (mapped.py), so nothing is read before it is used, and
+processes share it. Where NETWORK.nodes.csv and NETWORK.arcs.csv are there too, it has their sizes: it is taken where it is no older
+than they are and these are their sizes. Places are in tenths of a millionth of a degree, as the tables have them. Texts are
+numbers of rows in one list of texts, which is an array of bytes and the offsets at which they begin. An edge is a line of a way, in
+the direction that sorts first, with arcs along it and against.
 """
-import itertools
+import functools
 import os
 import re
-import zipfile
-from collections.abc import Iterable, Sequence
+import stat
+import tempfile
+from collections.abc import Iterable, Iterator, Sequence
 from typing import IO, Any, NamedTuple
 
 import numpy as np
 from numpy.typing import NDArray
 
+from . import index, mapped
 from ..errors import NetworkError, os_reason
 from ..program import StrPath
 from ..texts import HEAVIEST
+from .grid import Grid, ranges
+from .levels import KINDS
+from .mapped import Column, Kind, MappedFile
 from .tables import ENDS, Arc, Files, Point, attribution_of, points_of, read_node_table, rows_of_arcs
 
-VERSION = 1
-UNITS = 10_000_000
+VERSION = 2
+UNITS = index.UNITS
 NO_OSM = -(1 << 63)
 TEXTS = ("highway", "name", "ref", "junction", "destination", "structure")
+UNITS_OF_WEIGHTS = ("weight", "duration", "distance")
 NUMBER = r"-?[0-9]+(?:\.[0-9]+)?"
 LINE = re.compile(rf"LINESTRING \(({NUMBER} {NUMBER}(?:, {NUMBER} {NUMBER})+)\)")
 
@@ -61,16 +68,6 @@ class Arrays(NamedTuple):
     points: NDArray[np.int32]
     text_begin: NDArray[np.int64]
     text_bytes: NDArray[np.uint8]
-
-    def texts(self) -> list[str]:
-        """The list of texts."""
-        whole = self.text_bytes.tobytes()
-        return [whole[begin:end].decode() for begin, end in itertools.pairwise(self.text_begin.tolist())]
-
-
-KINDS = {name: kind for name, kind in zip(Arrays._fields, (
-    "i8", "i8", "i8", "i4", "i4", "u1", "i4", "i4", "i8", "f8", "f8", "i8", "i4", "i4", "?", "i8", "i4", "i8", "u1"
-))}
 
 
 class Builder:
@@ -175,77 +172,286 @@ def wrong(arrays: Arrays) -> str | None:
     for name, begin, end in (("edge", arrays.edge_begin, len(arrays.points)), ("text", arrays.text_begin, len(arrays.text_bytes))):
         if begin.ndim != 1 or len(begin) < 1 or begin[0] != 0 or begin[-1] != end or (np.diff(begin) < (name == "edge") * 2).any():
             return f"{name}_begin has wrong offsets"
-    limits = {
-        "node_lon": (-180 * UNITS, 180 * UNITS), "node_lat": (-90 * UNITS, 90 * UNITS), "node_ends": (0, len(ENDS) - 1),
-        "arc_from": (1, nodes), "arc_to": (1, nodes), "arc_weight": (0, HEAVIEST), "arc_edge": (0, edges - 1),
-        "arc_texts": (0, len(arrays.text_begin) - 2), "arc_seconds": (0, 1e12), "arc_metres": (0, 1e12),
-        "points": (-180 * UNITS, 180 * UNITS),
-    }
-    for name, (low, high) in limits.items():
+    for name, (low, high) in limits_of(nodes, edges, len(arrays.text_begin) - 1).items():
         values = getattr(arrays, name)
         if values.size and not (values.min() >= low and values.max() <= high):
             return f"{name} isn't from {low:g} to {high:g}"
     return None
 
 
+def limits_of(nodes: int, edges: int, texts: int) -> dict[str, tuple[float, float]]:
+    """The least and greatest value of arrays of a network with so many nodes, edges and texts."""
+    return {
+        "node_lon": (-180 * UNITS, 180 * UNITS), "node_lat": (-90 * UNITS, 90 * UNITS), "node_ends": (0, len(ENDS) - 1),
+        "arc_from": (1, nodes), "arc_to": (1, nodes), "arc_weight": (0, HEAVIEST), "arc_edge": (0, edges - 1),
+        "arc_texts": (0, texts - 1), "arc_seconds": (0, 1e12), "arc_metres": (0, 1e12), "points": (-180 * UNITS, 180 * UNITS),
+    }
+
+
+# The arrays of the file. `about` has the numbers of ABOUT; rows of texts have two more columns, which are 0. The others are those of
+# Arrays, and of index.py. A text's bytes and offsets come as they are.
+ABOUT = (
+    "nodes_size", "arcs_size", "unit", "begins", "ends", "node_height", "edge_height", "west", "south", "east", "north",
+    *(f"shown_{kind}" for kind in range(len(KINDS))),
+)
+FORM = {
+    "about": Kind("<i8"),
+    "node_osm": Kind("<i8"), "node_lon": Kind("<i4"), "node_lat": Kind("<i4"), "node_ends": Kind("|u1"),
+    "arc_from": Kind("<i4"), "arc_to": Kind("<i4"), "arc_weight": Kind("<i8"), "arc_seconds": Kind("<f8"),
+    "arc_metres": Kind("<f8"), "arc_osm": Kind("<i8"), "arc_row": Kind("<i4"), "arc_edge": Kind("<i4"), "arc_along": Kind("|b1"),
+    "row_texts": Kind("<i4", 8), "edge_begin": Kind("<i8"), "points": Kind("<i4", 2),
+    "text_begin": Kind("<i8"), "text_bytes": Kind("|u1"),
+    "out_begin": Kind("<i8"), "out_arcs": Kind("<i4"), "edge_first": Kind("<i8"), "edge_arcs": Kind("<i4"), "degrees": Kind("|u1"),
+    "node_keys": Kind("<i8"), "node_cells": Kind("<i8"), "node_things": Kind("<i4"),
+    "edge_keys": Kind("<i8"), "edge_cells": Kind("<i8"), "edge_things": Kind("<i4"),
+    "step_begin": Kind("<i8"), "step_codes": Kind("<u4"), "step_points": Kind("<i4"), "step_edges": Kind("<i4"),
+}
+
+
 def write(file: IO[bytes], arrays: Arrays) -> None:
-    """Writes the binary form."""
-    np.savez(file, **arrays._asdict())
+    """Writes the file of a network, with all that is derived from the arrays, to an empty file that can seek. Raises ValueError for
+    arrays that don't fit together."""
+    if problem := wrong(arrays):
+        raise ValueError(problem)
+    mapped.write(file, FORM, VERSION, written(arrays))
 
 
-def read(path: str) -> Arrays:
-    """Reads the binary form. Raises NetworkError for a file that can't be read, is damaged, or is of another version."""
+def written(arrays: Arrays) -> Iterator[tuple[str, NDArray[Any]]]:
+    """The arrays of the file in their order."""
+    texts = texts_of(arrays.text_begin, arrays.text_bytes)
+    steps, edges = index.steps_in(arrays.edge_begin)
+    levels = index.levels(arrays, steps, edges, texts)
+    edge_grid = index.edge_grid(arrays.points, steps, edges)
+    del steps, edges
+    node_grid = index.node_grid(arrays.node_lon, arrays.node_lat)
+    side = np.bincount(arrays.node_ends, minlength=len(ENDS)).tolist()
+    numbers = [
+        *arrays.sizes.tolist(), UNITS_OF_WEIGHTS.index(unit_of(arrays)), side[0] + side[1], side[0] + side[2],
+        round(node_grid.height * UNITS), round(edge_grid.height * UNITS), *index.box_of(arrays.points), *levels.shown_from,
+    ]
+    yield "about", np.array(numbers, dtype=np.int64)
+    rows, row = index.rows_of_texts(arrays.arc_texts, len(texts))
+    known = {"arc_row": row, "row_texts": np.pad(rows, ((0, 0), (0, 8 - len(TEXTS))))}
+    for name in list(FORM)[1 : list(FORM).index("out_begin")]:
+        yield name, known[name] if name in known else getattr(arrays, name)
+    del known, rows, row
+    yield from zip(("out_begin", "out_arcs"), index.arcs_from(arrays))
+    yield from zip(("edge_first", "edge_arcs"), index.arcs_on(arrays))
+    yield "degrees", index.degrees_of(arrays)
+    yield from zip(("node_keys", "node_cells", "node_things"), node_grid[2:])
+    yield from zip(("edge_keys", "edge_cells", "edge_things"), edge_grid[2:])
+    yield from zip(("step_begin", "step_codes", "step_points", "step_edges"), levels[:4])
+
+
+def texts_of(begins: NDArray[np.int64], whole: NDArray[np.uint8]) -> list[str]:
+    """A list of texts by its offsets and bytes."""
+    joined, places = whole.tobytes(), begins.tolist()
+    return [joined[begin:end].decode() for begin, end in zip(places, places[1:])]
+
+
+def unit_of(arrays: Arrays) -> str:
+    """What the weights of arcs are: `duration` in milliseconds, `distance` in centimetres, or `weight` for anything else."""
+    for name, factor, values in (("duration", 1000.0, arrays.arc_seconds), ("distance", 100.0, arrays.arc_metres)):
+        if (np.abs(arrays.arc_weight - factor * values) <= 1.01).all():
+            return name
+    return "weight"
+
+
+class Texts:
+    """The list of texts of a file; each is decoded where it is asked for."""
+
+    def __init__(self, begins: Column, whole: Column) -> None:
+        self._begins, self._bytes = begins, whole
+        self._text = functools.lru_cache(1 << 12)(self._decoded)
+
+    def __len__(self) -> int:
+        return len(self._begins) - 1
+
+    def __getitem__(self, number: int) -> str:
+        if not 0 <= number < len(self):
+            raise IndexError(number)
+        return self._text(number)
+
+    def _decoded(self, number: int) -> str:
+        begin, end = self._begins[number : number + 2].tolist()
+        return str(self._bytes[begin:end].tobytes(), "utf-8", "replace")
+
+
+class TextsOfArcs:
+    """The numbers of texts of each arc, in the order of TEXTS; an index is one of arcs, or of arcs and a column."""
+
+    def __init__(self, row: Column, rows: Column) -> None:
+        self._row, self._rows = row, rows
+
+    def __getitem__(self, at: Any) -> Any:
+        if isinstance(at, tuple):
+            return self._rows[self._row[at[0]], at[1]]
+        return self._rows[self._row[at]][..., : len(TEXTS)]
+
+    def __array__(self, dtype: Any = None) -> NDArray[Any]:
+        return np.asarray(self[:], dtype)
+
+
+class Mapped:
+    """The file of a network, mapped: what Arrays has, by the same names, in columns that are verified where they are read. Raises
+    NetworkError for a file that is refused, and where it is damaged, in all that reads it.
+
+    about           the numbers of ABOUT, by their names
+    texts           the list of texts, of which the first is what the data asks to be said
+    out_begin, ..   as in index.py
+    node_grid, edge_grid    nodes, counted from 0, and edges, by their places
+    """
+
+    def __init__(self, file: IO[bytes], path: str) -> None:
+        self.path = path
+        self.file = MappedFile(file, path, FORM, VERSION, REMEDY)
+        found = self.file.columns
+        self.node_osm, self.node_lon, self.node_lat, self.node_ends = (found[f"node_{each}"] for each in ("osm", "lon", "lat", "ends"))
+        self.arc_from, self.arc_to, self.arc_weight = found["arc_from"], found["arc_to"], found["arc_weight"]
+        self.arc_seconds, self.arc_metres, self.arc_osm = found["arc_seconds"], found["arc_metres"], found["arc_osm"]
+        self.arc_edge, self.arc_along = found["arc_edge"], found["arc_along"]
+        self.arc_texts = TextsOfArcs(found["arc_row"], found["row_texts"])
+        self.edge_begin, self.points = found["edge_begin"], found["points"]
+        self.text_begin, self.text_bytes = found["text_begin"], found["text_bytes"]
+        self.texts = Texts(self.text_begin, self.text_bytes)
+        self.out_begin, self.out_arcs, self.degrees = found["out_begin"], found["out_arcs"], found["degrees"]
+        self.edge_first, self.edge_arcs = found["edge_first"], found["edge_arcs"]
+        self.step_begin, self.step_codes = found["step_begin"], found["step_codes"]
+        self.step_points, self.step_edges = found["step_points"], found["step_edges"]
+        self._look_at_sizes()
+        self._set_limits()
+        self.about = dict(zip(ABOUT, found["about"][:].tolist()))
+        self.node_grid, self.edge_grid = self._grid("node"), self._grid("edge")
+        self.version, self.sizes = np.array([VERSION]), np.array([self.about["nodes_size"], self.about["arcs_size"]])
+
+    def _grid(self, name: str) -> Grid:
+        found, height = self.file.columns, self.about[f"{name}_height"] / UNITS
+        if not index.HEIGHT <= height <= 2 * index.HIGHEST or not 0 <= self.about["unit"] < len(UNITS_OF_WEIGHTS):
+            raise self.file.damaged("about has wrong numbers")
+        margin = 0.001 if name == "node" else index.margin_of(height)
+        return Grid(height, margin, found[f"{name}_keys"], found[f"{name}_cells"], found[f"{name}_things"])
+
+    def _look_at_sizes(self) -> None:
+        """Raises NetworkError where arrays that belong together differ in their sizes."""
+        found = {name: len(column) for name, column in self.file.columns.items()}
+        nodes, arcs, edges = found["node_osm"], found["arc_from"], found["edge_begin"] - 1
+        wanted = {name: nodes for name in FORM if name.startswith("node_") and name not in ("node_keys", "node_cells")}
+        wanted |= {name: arcs for name in FORM if name.startswith("arc_")}
+        wanted |= {
+            "about": len(ABOUT), "out_begin": nodes + 1, "out_arcs": arcs, "edge_first": edges + 1, "edge_arcs": arcs,
+            "degrees": nodes + 1, "node_cells": found["node_keys"] + 1, "edge_cells": found["edge_keys"] + 1,
+            "step_begin": len(KINDS) + 1, "step_points": found["step_codes"], "step_edges": found["step_codes"],
+        }
+        for name, size in wanted.items():
+            if found[name] != size:
+                raise self.file.damaged(f"{name} has another size")
+        if not found["text_begin"] > 1 or not found["edge_begin"]:
+            raise self.file.damaged("it has no texts or edges")
+
+    def _set_limits(self) -> None:
+        """Says what each column may have, which is verified with its checksums."""
+        found = self.file.columns
+        size = {name: len(column) for name, column in found.items()}
+        nodes, arcs, edges = size["node_osm"], size["arc_from"], size["edge_begin"] - 1
+        limits: dict[str, tuple[float, float]] = {
+            **{name: limit for name, limit in limits_of(nodes, edges, size["text_begin"] - 1).items() if name in found},
+            "arc_row": (0, size["row_texts"] - 1), "row_texts": (0, size["text_begin"] - 2),
+            "out_arcs": (0, arcs - 1), "edge_arcs": (0, arcs - 1), "node_things": (0, nodes - 1), "edge_things": (0, edges - 1),
+            "step_points": (0, size["points"] - 2), "step_edges": (0, edges - 1),
+        }
+        offsets = {
+            "edge_begin": "points", "text_begin": "text_bytes", "out_begin": "out_arcs", "edge_first": "edge_arcs",
+            "node_cells": "node_things", "edge_cells": "edge_things", "step_begin": "step_codes",
+        }
+        limits |= {name: (0, size[other]) for name, other in offsets.items()}
+        for name, (low, high) in limits.items():
+            found[name].low, found[name].high = low, high
+        for name in offsets:
+            found[name].rise = 2 if name == "edge_begin" else 0
+
+    @property
+    def unit(self) -> str:
+        """What weights are, as `unit_of` has it."""
+        return UNITS_OF_WEIGHTS[self.about["unit"]]
+
+    def lightest(self, starts: NDArray[np.int64], ends: NDArray[np.int64]) -> NDArray[np.int64]:
+        """The lightest arc from each node to another, counted from 1; -1 where there is none."""
+        begins = self.out_begin[starts - 1]
+        counts = self.out_begin[starts] - begins
+        pair, rows = ranges(begins, counts)
+        arcs = self.out_arcs[rows]
+        hits = np.flatnonzero(self.arc_to[arcs] == ends[pair])
+        found = np.full(len(starts), -1, dtype=np.int64)
+        found[pair[hits][::-1]] = arcs[hits][::-1]  # (the first of several is written last)
+        return found
+
+    def line(self, arc: int) -> list[Point]:
+        """The points of an arc."""
+        line = self.edge_line(int(self.arc_edge[arc]))
+        return line if self.arc_along[arc] else line[::-1]
+
+    def edge_line(self, edge: int) -> list[Point]:
+        """The points of an edge."""
+        begin, end = self.edge_begin[edge : edge + 2].tolist()
+        return [(lon / UNITS, lat / UNITS) for lon, lat in self.points[begin:end].tolist()]
+
+
+REMEDY = "convert the map anew, or make it of its tables, as `to_network NODES ARCS OUT`"
+
+
+def read(path: StrPath) -> Mapped:
+    """The file of a network. Raises NetworkError for one that can't be read, is damaged where that is looked at when it is opened,
+    or is of another version."""
     try:
-        with open(path, "rb") as file, np.load(file, allow_pickle=False) as archive:
-            version = archive["version"]
-            if version.shape != (1,) or version[0] != VERSION:
-                raise NetworkError(f"{path}: is of another version: remove it, or convert the map anew")
-            arrays = Arrays(**{name: archive[name] for name in Arrays._fields})
-    except (zipfile.BadZipFile, KeyError, ValueError, EOFError, AttributeError, NotImplementedError) as error:
-        raise damaged(path, str(error)) from error
+        with open(path, "rb", opener=without_waiting) as file:
+            if not stat.S_ISREG(os.fstat(file.fileno()).st_mode):
+                raise NetworkError("is no regular file, so it can't be mapped", path)
+            return Mapped(file, os.fspath(path))
     except OSError as error:
         raise NetworkError(os_reason(error), path) from error
-    for name, kind in KINDS.items():
-        if getattr(arrays, name).dtype != np.dtype(kind):
-            raise damaged(path, f"{name} isn't of kind {kind}")
-    if problem := wrong(arrays):
-        raise damaged(path, problem)
-    return arrays
 
 
-def damaged(path: str, problem: str) -> NetworkError:
-    return NetworkError(f"{path}: is damaged: {' '.join(problem.split())}; remove it, and the tables are read")
+def without_waiting(path: str, flags: int) -> int:
+    """A descriptor, without waiting for a writer where the path is a pipe."""
+    return os.open(path, flags | os.O_NONBLOCK)
+
+
+def in_memory(arrays: Arrays, path: str) -> Mapped:
+    """Arrays as if they were read from a file of this name. They are in a temporary file, which goes with them. Raises ValueError as
+    `write`."""
+    with tempfile.TemporaryFile() as file:
+        write(file, arrays)
+        file.flush()
+        return Mapped(file, path)
 
 
 def is_current(prefix: str) -> bool:
-    """Whether there is a binary form that goes before the tables: no older than they are, and of their sizes. Where there are no
-    tables it does. Raises NetworkError as `read` does."""
-    path = f"{prefix}.npz"
-    tables = [f"{prefix}.nodes.csv", f"{prefix}.arcs.csv"]
-    if not os.path.exists(path):
+    """Whether there is a file NETWORK.net that goes before the tables: no older than they are, and of their sizes. Where there are no
+    tables it does. Raises NetworkError as `read` does, and where there is an archive of an earlier version alone."""
+    files = Files(prefix)
+    tables = [files.nodes, files.arcs]
+    if not os.path.exists(files.binary):
+        if os.path.exists(files.old):
+            made = f"`to_network {files.nodes} {files.arcs} {prefix}` makes {files.binary} of the tables"
+            raise NetworkError(f"is an archive of an earlier version, which isn't read: {made}, or convert the map anew", files.old)
         return False
     found = [os.stat(table) for table in tables if os.path.exists(table)]
     if not found:
         return True
-    if len(found) < len(tables) or any(each.st_mtime_ns > os.stat(path).st_mtime_ns for each in found):
+    if len(found) < len(tables) or any(each.st_mtime_ns > os.stat(files.binary).st_mtime_ns for each in found):
         return False
-    return [each.st_size for each in found] == sizes_in(path)
+    return bool([each.st_size for each in found] == read(files.binary).sizes.tolist())
 
 
-def sizes_in(path: str) -> list[int]:
-    """The sizes of the tables that a binary form was written with."""
+def arrays_of(prefix: str) -> Mapped:
+    """The network of these files: by NETWORK.net where that is current, else by its tables. Raises NetworkError."""
+    if is_current(prefix):
+        return read(Files(prefix).binary)
+    arrays = of_tables(prefix)
     try:
-        with open(path, "rb") as file, np.load(file, allow_pickle=False) as archive:
-            return [int(size) for size in archive["sizes"].ravel()]
-    except (zipfile.BadZipFile, KeyError, ValueError, EOFError, AttributeError, NotImplementedError) as error:
-        raise damaged(path, str(error)) from error
-    except OSError as error:
-        raise NetworkError(os_reason(error), path) from error
-
-
-def arrays_of(prefix: str) -> Arrays:
-    """The network of these files: by its binary form where that is current, else by its tables. Raises NetworkError."""
-    return read(f"{prefix}.npz") if is_current(prefix) else of_tables(prefix)
+        return in_memory(arrays, prefix)
+    except ValueError as error:
+        raise NetworkError(str(error), prefix) from error
 
 
 def of_tables(prefix: str) -> Arrays:
@@ -260,37 +466,3 @@ def of_tables(prefix: str) -> Arrays:
         return builder.done([os.stat(table).st_size for table in (files.nodes, files.arcs)])
     except ValueError as error:
         raise NetworkError(str(error), prefix) from error
-
-
-def ordered(arrays: Arrays) -> tuple[NDArray[np.int64], NDArray[np.int64]]:
-    """The arcs in the order of numbers of their pairs of nodes, the lightest of a pair first, and those numbers."""
-    keys = arrays.arc_from.astype(np.int64) * (len(arrays.node_osm) + 1) + arrays.arc_to
-    order = np.argsort(keys, kind="stable")
-    keys = keys[order]
-    is_same = np.concatenate(([False], keys[1:] == keys[:-1]))
-    several = np.flatnonzero(is_same | np.append(is_same[1:], False))
-    chosen = order[several]
-    order[several] = chosen[np.lexsort((arrays.arc_weight[chosen], keys[several]))]
-    return order, keys
-
-
-class Lightest:
-    """By a pair of nodes from 0 the number of the arc that a route takes between them."""
-
-    def __init__(self, arrays: Arrays) -> None:
-        self._nodes = len(arrays.node_osm)
-        self._order, self._keys = ordered(arrays)
-
-    def __getitem__(self, ends: tuple[int, int]) -> int:
-        key = (ends[0] + 1) * (self._nodes + 1) + ends[1] + 1
-        place = int(np.searchsorted(self._keys, key))
-        if place == len(self._keys) or self._keys[place] != key:
-            raise KeyError(ends)
-        return int(self._order[place])
-
-
-def line_of(arrays: Arrays, arc: int) -> list[Point]:
-    """The points of an arc."""
-    edge = arrays.arc_edge[arc]
-    line = arrays.points[arrays.edge_begin[edge] : arrays.edge_begin[edge + 1]]
-    return [(lon / UNITS, lat / UNITS) for lon, lat in (line if arrays.arc_along[arc] else line[::-1]).tolist()]

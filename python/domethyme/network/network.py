@@ -13,10 +13,12 @@ from ..hierarchy import Route, Rows
 from ..keys import Keys
 from ..program import StrPath
 from ..routes import Routes
-from . import binary
-from .tables import EARTH_RADIUS, Files, Nodes, Point, Side, read_nodes
-
-Floats = NDArray[np.float64]
+from ..texts import plain
+from . import binary, index
+from .binary import NO_OSM, UNITS
+from .grid import Grid
+from .sphere import Floats as Floats, metres, on_sphere
+from .tables import ALL_ARC_COLUMNS, ENDS, Files, Point, Side, arcs_in, arrays_at, geometry_of, nodes_file, read_nodes
 
 
 class Network:
@@ -37,29 +39,45 @@ class Network:
     @functools.cached_property
     def lon(self) -> Floats:
         """The longitudes of the nodes in degrees, of shape (nodes,). Raises NetworkError, as all that reads files."""
-        return np.array(self._nodes.lon)
+        return np.asarray(self._places.lon[:] / UNITS)
 
     @functools.cached_property
     def lat(self) -> Floats:
         """The latitudes of the nodes in degrees, of shape (nodes,)."""
-        return np.array(self._nodes.lat)
+        return np.asarray(self._places.lat[:] / UNITS)
 
     def keys(self, column: str = "osm") -> Keys:
-        """The Keys by a column of NETWORK.nodes.csv: `osm` are the ids of OpenStreetMap, and points between have none."""
+        """The Keys by a column of NETWORK.nodes.csv: `osm` are the ids of OpenStreetMap, and points between have none. Without the
+        table there are those ids alone."""
+        if column == "osm" and not os.path.exists(self._files.nodes):
+            osm = [None if each == NO_OSM else each for each in self._arrays.node_osm[:].tolist()]
+            return Keys.of_rows(osm, [ENDS[each] for each in self._arrays.node_ends[:].tolist()])
         return Keys.read(self._files.nodes, column)
 
     def nodes_frame(self) -> Any:
-        """A DataFrame of pandas with the columns osm, lon and lat, whose index are the nodes from 0."""
+        """A DataFrame of pandas with the columns osm, lon, lat and ends, whose index are the nodes from 0; with others of
+        NETWORK.nodes.csv where that is there."""
         import pandas
 
-        frame = pandas.read_csv(self._files.nodes, dtype={"osm": "Int64"})
-        return frame.drop(columns="node").rename_axis("node")
+        if os.path.exists(self._files.nodes):
+            frame = pandas.read_csv(self._files.nodes, dtype={"osm": "Int64"})
+            return frame.drop(columns="node").rename_axis("node")
+        osm = pandas.array(self._arrays.node_osm[:], dtype="Int64")
+        osm[self._arrays.node_osm[:] == NO_OSM] = pandas.NA
+        ends = np.array(ENDS, dtype=object)[self._arrays.node_ends[:]]
+        return pandas.DataFrame({"osm": osm, "lon": self.lon, "lat": self.lat, "ends": ends}).rename_axis("node")
 
     def arcs_frame(self) -> Any:
         """A DataFrame of pandas with the columns of NETWORK.arcs.csv, whose `from` and `to` count from 0."""
         import pandas
 
-        frame = pandas.read_csv(self._files.arcs, keep_default_na=False)
+        if os.path.exists(self._files.arcs):
+            frame = pandas.read_csv(self._files.arcs, keep_default_na=False)
+            texts = [name for name in frame.columns if frame[name].dtype == object]
+            frame = frame.assign(**{name: frame[name].map(plain) for name in texts})
+        else:
+            rows = [(*arc[:8], *arc[9:], arc.wkt) for arc in arcs_in(self._arrays)]
+            frame = pandas.DataFrame(rows, columns=list(ALL_ARC_COLUMNS))
         return frame.assign(**{end: frame[end] - 1 for end in ("from", "to")})
 
     @overload
@@ -70,16 +88,16 @@ class Network:
         """The node nearest to each place, from 0, and how many metres away it is along the great circle, on a sphere of
         6,371,008.8 m: of those where routes may begin, or with `end` of those where they may end, which differ at junctions
         with turn restrictions. Two numbers give an int and a float, two arrays of one shape give two arrays of that shape.
-        Needs scipy. Raises ValueError for what are no degrees."""
+        Raises ValueError for what are no degrees."""
         east, north = np.broadcast_arrays(np.asarray(lon, float), np.asarray(lat, float))
         if not (np.isfinite(east).all() and np.isfinite(north).all()):
             raise ValueError("lon and lat have to be numbers of degrees")
         if (np.abs(east) > 180).any() or (np.abs(north) > 90).any():
             raise ValueError("lon has to be from -180 to 180 and lat from -90 to 90: are they in each other's place?")
-        nodes, metres = (self._ends if end else self._begins).at(east.ravel(), north.ravel())
+        nodes, away = self._places.at(east.ravel(), north.ravel(), "to" if end else "from")
         if east.ndim == 0:
-            return int(nodes[0]), float(metres[0])
-        return nodes.reshape(east.shape), metres.reshape(east.shape)
+            return int(nodes[0]), float(away[0])
+        return nodes.reshape(east.shape), away.reshape(east.shape)
 
     def geojson(self, routes: "Route | Routes") -> dict[str, Any]:
         """The routes along the real road, as a FeatureCollection with a Feature for each, longitude first.
@@ -92,9 +110,10 @@ class Network:
 
     def line(self, nodes: "list[int]") -> list[Point]:
         """The points (lon, lat) along the arcs from each of these nodes, from 0, to the next: two or more."""
-        points = [(float(self.lon[nodes[0]]), float(self.lat[nodes[0]]))]
-        for ends in itertools.pairwise(nodes):
-            points += binary.line_of(self._arrays, self._arc(ends))
+        arrays = self._arrays
+        points = [(float(arrays.node_lon[nodes[0]] / UNITS), float(arrays.node_lat[nodes[0]] / UNITS))]
+        for arc in self._arcs(nodes):
+            points += arrays.line(arc)
         points = [point for point, _ in itertools.groupby(points)]
         return points if len(points) > 1 else points * 2
 
@@ -102,61 +121,89 @@ class Network:
         properties = {"from": ends[0], "to": ends[1], "length": None, "arcs": None, "seconds": None, "metres": None}
         geometry = None
         if length is not None:
-            arcs, arrays = [self._arc(step) for step in itertools.pairwise(numbers)], self._arrays
-            weight = int(arrays.arc_weight[arcs].sum())
+            arcs, arrays = self._arcs(numbers), self._arrays
+            weight = int(arrays.arc_weight[arcs].sum()) if arcs else 0
             if weight > length or is_exact and weight != length:
                 sums = f"its arcs' weights in {self.prefix} sum to {weight}"
                 raise NetworkError(f"a route has the length {length}, and {sums}")
-            seconds, metres = round(sum(arrays.arc_seconds[arcs].tolist()), 3), round(sum(arrays.arc_metres[arcs].tolist()), 2)
-            properties.update(length=length, arcs=len(arcs), seconds=seconds, metres=metres)
-            geometry = {"type": "LineString", "coordinates": [list(point) for point in self.line(numbers)]}
+            ways = [sum(values[arcs].tolist()) if arcs else 0.0 for values in (arrays.arc_seconds, arrays.arc_metres)]
+            properties.update(length=length, arcs=len(arcs), seconds=round(ways[0], 3), metres=round(ways[1], 2))
+            geometry = geometry_of(self.line(numbers))
         return {"type": "Feature", "properties": properties, "geometry": geometry}
 
-    def _arc(self, ends: tuple[int, int]) -> int:
-        """The number of the lightest arc from a node to another."""
-        try:
-            return self._lightest[ends]
-        except KeyError:
-            raise NetworkError(f"has no arc from node {ends[0]} to node {ends[1]}, counted from 0", self._files.arcs) from None
+    def _arcs(self, nodes: "list[int]") -> list[int]:
+        """The lightest arc from each of the nodes, from 0, to the next."""
+        line = np.array(nodes, dtype=np.int64) + 1
+        if line.min() < 1 or line.max() > len(self._arrays.node_osm):
+            raise NetworkError(f"a route has a node that it hasn't: it has {len(self._arrays.node_osm)} nodes", self._files.arcs)
+        arcs: list[int] = self._arrays.lightest(line[:-1], line[1:]).tolist()
+        if -1 in arcs:
+            start, end = nodes[arcs.index(-1) :][:2]
+            raise NetworkError(f"has no arc from node {start} to node {end}, counted from 0", self._files.arcs)
+        return arcs
 
     @functools.cached_property
-    def _arrays(self) -> binary.Arrays:
+    def _arrays(self) -> binary.Mapped:
         return binary.arrays_of(self.prefix)
 
     @functools.cached_property
-    def _lightest(self) -> binary.Lightest:
-        return binary.Lightest(self._arrays)
-
-    @functools.cached_property
-    def _nodes(self) -> Nodes:
-        return read_nodes(self._files.nodes)
-
-    @functools.cached_property
-    def _begins(self) -> "Nearest":
-        return Nearest(self._nodes, "from", self._files.nodes)
-
-    @functools.cached_property
-    def _ends(self) -> "Nearest":
-        return Nearest(self._nodes, "to", self._files.nodes)
+    def _places(self) -> "NodePlaces":
+        return places_of_nodes(self.prefix)
 
 
-class Nearest:
-    """Nodes by their places: those where routes may begin (`from`), or end (`to`). Needs scipy."""
+class NodePlaces:
+    """Where the nodes of a network lie, for look-ups by place. Nodes are counted from 0.
 
-    def __init__(self, nodes: Nodes, side: Side, path: StrPath) -> None:
-        from scipy.spatial import KDTree
+    osm, lon, lat, ends   of each node, as binary.Arrays has them: arrays, or columns of a file
+    grid                  the nodes' grid
+    """
 
-        self._numbers = np.array([node for node, ends in enumerate(nodes.ends) if ends in ("", side)], dtype=np.int64)
-        if not len(self._numbers):
-            raise NetworkError("has no nodes", path)
-        points = on_sphere(np.array(nodes.lon), np.array(nodes.lat))
-        self._tree: Any = KDTree(points[self._numbers])
+    def __init__(self, osm: Any, lon: Any, lat: Any, ends: Any, grid: Grid, path: StrPath) -> None:
+        self.osm, self.lon, self.lat, self.ends, self._grid, self._path = osm, lon, lat, ends, grid, path
 
-    def at(self, lon: Floats, lat: Floats) -> tuple[NDArray[np.int64], Floats]:
-        """The nearest node of each place in degrees, from 0, and the metres to it."""
-        chords, found = self._tree.query(on_sphere(lon, lat))
-        metres: Floats = 2 * EARTH_RADIUS * np.arcsin(np.minimum(1, chords / 2))
-        return self._numbers[found], metres
+    @classmethod
+    def of(cls, arrays: binary.Mapped) -> "NodePlaces":
+        """Those of a mapped file."""
+        return cls(arrays.node_osm, arrays.node_lon, arrays.node_lat, arrays.node_ends, arrays.node_grid, arrays.path)
+
+    def at(self, lon: Floats, lat: Floats, side: Side) -> tuple[NDArray[np.int64], Floats]:
+        """The nearest node to each place in degrees, from 0, of those where routes may begin (`from`) or end (`to`), and the metres
+        to it. Raises NetworkError where there is none."""
+        places = on_sphere(lon, lat)
+
+        def away(rows: NDArray[np.int64], nodes: NDArray[np.int64]) -> Floats:
+            there = on_sphere(self.lon[nodes] / UNITS, self.lat[nodes] / UNITS)
+            ends = self.ends[nodes]
+            return np.where((ends == 0) | (ends == ENDS.index(side)), metres(places[rows], there), np.inf)
+
+        nodes, found = self._grid.nearest_of_each(lon, lat, away)
+        if (nodes < 0).any():
+            raise NetworkError("has no nodes", self._path)
+        return nodes, found
+
+    def copies(self, node: int) -> tuple[int, ...]:
+        """The nodes that turn restrictions made of the junction of a node: it alone where they made none."""
+        if not self.ends[node]:
+            return (node,)
+        place = int(self.lon[node]), int(self.lat[node])
+        found = {node}
+        for part in self._grid.near((place[0] / UNITS, place[1] / UNITS), 0.1):
+            here = part[(self.lon[part] == place[0]) & (self.lat[part] == place[1]) & (self.ends[part] != 0)]
+            found.update(here[self.osm[here] == self.osm[node]].tolist())
+        return tuple(sorted(found))
+
+
+def places_of_nodes(word: StrPath) -> NodePlaces:
+    """The nodes of a network, of its file or of its table alone, or of a DIMACS .co file."""
+    path = nodes_file(word)
+    arrays = None if path.endswith(".co") else arrays_at(os.fspath(word))
+    if arrays is not None:
+        return NodePlaces.of(arrays)
+    nodes = read_nodes(path)
+    lon, lat = binary.units(nodes.lon, 180), binary.units(nodes.lat, 90)
+    ends = np.array([ENDS.index(each) for each in nodes.ends], dtype=np.uint8)
+    osm = np.array([NO_OSM if each is None else each for each in nodes.osm], dtype=np.int64)
+    return NodePlaces(osm, lon, lat, ends, index.node_grid(lon, lat), path)
 
 
 def each_of(routes: "Route | Routes") -> Iterator[tuple[tuple[Any, Any], int | None, list[int], bool]]:
@@ -167,9 +214,3 @@ def each_of(routes: "Route | Routes") -> Iterator[tuple[tuple[Any, Any], int | N
     for row, (pair, length) in enumerate(zip(routes.pairs.tolist(), routes.lengths.tolist())):
         ends = pair if routes.keys is None else [routes.keys.key(node) for node in pair]
         yield (ends[0], ends[1]), None if length < 0 else length, routes.numbers(row).tolist(), True
-
-
-def on_sphere(lon: Floats, lat: Floats) -> Floats:
-    """The point of each place on a sphere of radius 1: the nearer the places, the nearer the points in space."""
-    east, north = np.radians(lon), np.radians(lat)
-    return np.column_stack((np.cos(north) * np.cos(east), np.cos(north) * np.sin(east), np.sin(north)))

@@ -10,7 +10,7 @@ A network is files with one beginning of their names, NETWORK:
                         a row for each arc of the graph, in the graph's order; structure is tunnel, bridge or empty, WKT
                         its line, longitude first
 
-    NETWORK.npz         both tables in binary, which is read in their place where it is no older
+    NETWORK.net         both tables and what is derived from them, to be mapped: read in their place where it is no older
 
 Beside each table lie NAME.csvt and NAME.prj, by which GDAL and QGIS know the kinds of its columns and that it has degrees of
 WGS 84; no tool here reads them. The columns ends, ref, junction, destination and structure may be missing, and are empty then.
@@ -24,19 +24,23 @@ WGS 84; no tool here reads them. The columns ends, ref, junction, destination an
     write_arcs(file, arcs)       the rows of .arcs.csv
     lightest(arcs)               {(start, end): the first arc of the least weight between them}
     points_of(wkt, path, row), wkt_of(points)       [(lon, lat), ..] and back
+    parted(line), geometry_of(line), parted_wkt(line)    a line that may cross the 180th meridian: its parts, as GeoJSON, as WKT
     attribution_of(network)      what the data asks to be said wherever it is shown, "" for nothing: the comment of the
                                  graph that `osm_to_gr --attribution` wrote. OSM_ATTRIBUTION is that of OpenStreetMap.
     metres_between(lon, lat, lon, lat)              along the great circle, on a sphere of EARTH_RADIUS metres
 """
 import csv
+import itertools
 import math
 import os
-from collections.abc import Iterable, Iterator
-from typing import IO, TYPE_CHECKING, Literal, NamedTuple
+from collections.abc import Iterable, Iterator, Sequence
+from typing import IO, TYPE_CHECKING, Any, Literal, NamedTuple
 
 from ..errors import NetworkError
 from ..program import StrPath
-from ..texts import MOST_NODES, dimacs_lines, number, problem_number, read_graph, reading, shown, table, whole_number
+from ..texts import (
+    MOST_NODES, dimacs_lines, number, problem_number, read_graph, reading, safe, shown, table, whole_number
+)
 
 if TYPE_CHECKING:
     from . import binary
@@ -63,6 +67,7 @@ WRONG_ENDINGS = {
     ".arcs.csv": "name the network by the beginning of its files' names, {0}",
 }
 ENDS = ("", "from", "to", "no")
+CHUNK = 1 << 14
 Side = Literal["from", "to"]
 Point = tuple[float, float]
 
@@ -73,7 +78,7 @@ class Files:
     def __init__(self, prefix: StrPath) -> None:
         name = os.fspath(prefix)
         self.graph, self.nodes, self.arcs = f"{name}.gr", f"{name}.nodes.csv", f"{name}.arcs.csv"
-        self.binary = f"{name}.npz"
+        self.binary, self.old = f"{name}.net", f"{name}.npz"
         self.forms = {
             f"{name}.{table}.{ending}": text
             for table, kinds in (("nodes", NODE_KINDS), ("arcs", ARC_KINDS))
@@ -130,34 +135,36 @@ def read_nodes(path: StrPath) -> Nodes:
     return read_node_table(path) if arrays is None else nodes_of(arrays)
 
 
-def arrays_at(prefix: str) -> "binary.Arrays | None":
-    """A network's binary form, where it is current and there is numpy."""
+def arrays_at(prefix: str) -> "binary.Mapped | None":
+    """A network's mapped file, where it is current and there is numpy."""
     try:
         from . import binary
     except ModuleNotFoundError:
         return None
-    return binary.read(f"{prefix}.npz") if binary.is_current(prefix) else None
+    return binary.read(Files(prefix).binary) if binary.is_current(prefix) else None
 
 
-def nodes_of(arrays: "binary.Arrays") -> Nodes:
+def nodes_of(arrays: "binary.Mapped") -> Nodes:
+    """The nodes of a mapped file, as those of the table."""
     from .binary import NO_OSM, UNITS
 
-    osm = [None if number == NO_OSM else number for number in arrays.node_osm.tolist()]
-    lon, lat = (arrays.node_lon / UNITS).tolist(), (arrays.node_lat / UNITS).tolist()
-    return Nodes(osm, lon, lat, [ENDS[place] for place in arrays.node_ends.tolist()])
+    osm = [None if number == NO_OSM else number for number in arrays.node_osm[:].tolist()]
+    lon, lat = (arrays.node_lon[:] / UNITS).tolist(), (arrays.node_lat[:] / UNITS).tolist()
+    return Nodes(osm, lon, lat, [ENDS[place] for place in arrays.node_ends[:].tolist()])
 
 
-def arcs_in(arrays: "binary.Arrays") -> Iterator[Arc]:
-    """The arcs of a binary form, as those of the table."""
-    from .binary import line_of
-
-    texts = arrays.texts()
-    ends = arrays.arc_from.tolist(), arrays.arc_to.tolist()
-    figures = arrays.arc_weight.tolist(), arrays.arc_seconds.tolist(), arrays.arc_metres.tolist(), arrays.arc_osm.tolist()
-    for place, ((start, end, weight, seconds, metres, osm), row) in enumerate(zip(zip(*ends, *figures), arrays.arc_texts)):
-        highway, name, ref, junction, destination, structure = (texts[text] for text in row)
-        line = wkt_of(line_of(arrays, place))
-        yield Arc(start, end, weight, seconds, metres, osm, highway, name, line, ref, junction, destination, structure)
+def arcs_in(arrays: "binary.Mapped") -> Iterator[Arc]:
+    """The arcs of a mapped file, as those of the table."""
+    for begin in range(0, len(arrays.arc_from), CHUNK):
+        part = slice(begin, begin + CHUNK)
+        figures: tuple[Any, ...] = (
+            arrays.arc_from, arrays.arc_to, arrays.arc_weight, arrays.arc_seconds, arrays.arc_metres, arrays.arc_osm, arrays.arc_texts
+        )
+        rows = zip(*(values[part].tolist() for values in figures))
+        for place, (start, end, weight, seconds, metres, osm, row) in enumerate(rows, begin):
+            highway, name, ref, junction, destination, structure = (arrays.texts[text] for text in row)
+            line = wkt_of(arrays.line(place))
+            yield Arc(start, end, weight, seconds, metres, osm, highway, name, line, ref, junction, destination, structure)
 
 
 def read_node_table(path: StrPath) -> Nodes:
@@ -263,7 +270,7 @@ def write_arcs(file: IO[str], arcs: Iterable[Arc]) -> None:
     rows.writerow(ALL_ARC_COLUMNS)
     for arc in arcs:
         figures = f"{arc.seconds:.3f}", f"{arc.metres:.2f}"
-        rows.writerow((*arc[:3], *figures, *arc[5:8], *arc[9:], arc.wkt))
+        rows.writerow((*arc[:3], *figures, arc.osm, *map(safe, (arc.highway, arc.name, *arc[9:])), arc.wkt))
 
 
 def lightest(arcs: Iterable[Arc]) -> dict[tuple[int, int], Arc]:
@@ -292,6 +299,34 @@ def points_of(wkt: str, path: StrPath | None = None, row: int | None = None) -> 
 def wkt_of(points: Iterable[Point]) -> str:
     """The text of a line through two or more points (lon, lat), to the seventh place."""
     return "LINESTRING (" + ", ".join(f"{lon:.7f} {lat:.7f}" for lon, lat in points) + ")"
+
+
+def parted(line: Sequence[Point]) -> list[list[Point]]:
+    """A line in parts none of which crosses the 180th meridian, as GeoJSON wants them (RFC 7946, 3.1.9): where it does, one part ends
+    there and the next begins on the other side. There is one of two points at least."""
+    parts = [[line[0]]]
+    for here, there in itertools.pairwise(line):
+        if abs(there[0] - here[0]) > 180:
+            side = math.copysign(180.0, here[0])
+            before, behind = abs(side - here[0]), abs(side + there[0])
+            lat = here[1] + (there[1] - here[1]) * (before / (before + behind) if before + behind else 0.0)
+            parts[-1].append((side, round(lat, 7)))
+            parts.append([(-side, round(lat, 7))])
+        parts[-1].append(there)
+    found = [part for part in parts if len(set(part)) > 1]
+    return found or [list(line)]
+
+
+def geometry_of(line: Sequence[Point]) -> dict[str, Any]:
+    """A line as GeoJSON: a LineString, or where it crosses the 180th meridian a MultiLineString."""
+    parts = [[list(point) for point in part] for part in parted(line)]
+    return {"type": "LineString", "coordinates": parts[0]} if len(parts) == 1 else {"type": "MultiLineString", "coordinates": parts}
+
+
+def parted_wkt(line: Sequence[Point]) -> str:
+    """A line as WKT: a LINESTRING, or where it crosses the 180th meridian a MULTILINESTRING."""
+    parts = [wkt_of(part) for part in parted(line)]
+    return parts[0] if len(parts) == 1 else f"MULTILINESTRING ({', '.join(part.removeprefix('LINESTRING ') for part in parts)})"
 
 
 def attribution_of(network: StrPath) -> str:

@@ -1,7 +1,7 @@
 """Draws routes over their network: a picture, or a page for a browser that needs no connection.
 
-NETWORK is the beginning of the names of the network's files, of which NETWORK.arcs.csv is read, and NETWORK.gr for what
-the data asks to be said wherever it is shown. ROUTES is what `to_geojson` wrote as a collection or as lines (`-` is
+NETWORK is the beginning of the names of the network's files, of which NETWORK.net is read, or without it the tables, and
+NETWORK.gr for what the data asks to be said wherever it is shown. ROUTES is what `to_geojson` wrote as a collection or as lines (`-` is
 standard input). OUT is a picture (SVG) where its name ends in .svg, and a page (HTML) where it ends in .html.
 
 Both show the roads in grey, around the routes or with --whole all of them; each route in a colour, from a ring to a

@@ -2,10 +2,15 @@
 import itertools
 import math
 import typing
+from collections.abc import Iterator
 
-from domethyme.network.tables import EARTH_RADIUS, Point, arcs_file, arcs_of, points_of
+import numpy
 
-from ..geometry import Box, box_of, plane_of
+from domethyme.network.binary import TEXTS, UNITS, Mapped
+from domethyme.network.own import network_of
+from domethyme.network.tables import EARTH_RADIUS, Point, arcs_file, metres_between
+
+from ..geometry import Box, box_of, place_at, plane_of, unwrapped
 from ..tool import Fault
 from .routes import Drawn
 
@@ -28,6 +33,8 @@ KINDS = [
 Lines = list[list[list[Point]]]
 TUNNEL = "tunnel"
 DASHES = "5 4"
+# Edges that are read together, and the share of the world from which on a box has all of them.
+PART, WIDE = 1 << 14, 0.25
 
 
 def kind_of(highway: str) -> int:
@@ -39,16 +46,42 @@ def kind_of(highway: str) -> int:
 def read_roads(network: str, box: Box | None) -> Lines:
     """For each of KINDS the lines of its roads, and then for each those of its tunnels; a road of two directions comes
     once, and with a box only those that meet it."""
+    arrays = network_of(network)
     roads: list[list[list[Point]]] = [[] for _ in (*KINDS, *KINDS)]
     seen = set()
-    path = arcs_file(network)
-    for row, arc in enumerate(arcs_of(network), 2):
-        line = points_of(arc.wkt, path, row)
-        line = min(line, line[::-1])
+    near = (arrays.about["west"] + arrays.about["east"]) / 2 / UNITS if box is None else place_at(box.middle)[0]
+    for edge, highway, structure in edges_in(arrays, box):
+        line = unwrapped(arrays.edge_line(edge), near)
         if tuple(line) not in seen and (box is None or box_of(plane_of(line)).meets(box)):
             seen.add(tuple(line))
-            roads[kind_of(arc.highway) + len(KINDS) * (arc.structure == TUNNEL)].append(line)
+            roads[kind_of(highway) + len(KINDS) * (structure == TUNNEL)].append(line if len(line) > 1 else line * 2)
     return roads
+
+
+def edges_in(arrays: Mapped, box: Box | None) -> Iterator[tuple[int, str, str]]:
+    """The edges in a box, and others, or all, in their order, with the classes and structures of their roads."""
+    for edges in ([*each] for each in parts_of(arrays, box)):
+        arcs = arrays.edge_arcs[numpy.minimum(arrays.edge_first[edges], len(arrays.edge_arcs) - 1)]
+        texts = zip(*(arrays.arc_texts[arcs, TEXTS.index(name)].tolist() for name in ("highway", "structure")))
+        for edge, (highway, structure) in zip(edges, texts):
+            yield edge, arrays.texts[highway], arrays.texts[structure]
+
+
+def parts_of(arrays: Mapped, box: Box | None) -> Iterator[list[int]]:
+    """The numbers of these edges, PART at a time."""
+    count = len(arrays.edge_begin) - 1
+    if box is None or box.width >= WIDE:
+        yield from (list(range(low, min(count, low + PART))) for low in range(0, count, PART))
+        return
+    middle = place_at(box.middle)
+    corners = [place_at((x, y)) for x in (box.left, box.right) for y in (box.top, box.bottom)]
+    reach = max(metres_between(*middle, *corner) for corner in corners)
+    found = numpy.unique(numpy.concatenate([[], *arrays.edge_grid.near((wrapped_lon(middle[0]), middle[1]), reach)])).astype(int)
+    yield from (found[low : low + PART].tolist() for low in range(0, len(found), PART))
+
+
+def wrapped_lon(lon: float) -> float:
+    return (lon + 180) % 360 - 180
 
 
 def box_around(routes: list[Drawn]) -> Box | None:

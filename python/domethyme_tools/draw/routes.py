@@ -9,7 +9,7 @@ from typing import Any
 from domethyme.network.tables import Point
 from domethyme.texts import reading
 
-from ..geometry import nested, share_of
+from ..geometry import nested, share_of, unwrapped
 from ..tool import Fault
 
 COLOURS = ["#0072b2", "#d55e00", "#009e73", "#cc5f9c", "#b8860b", "#2b8fc7", "#7b3294", "#5b7a1f"]
@@ -44,7 +44,18 @@ def read_routes(path: str, label: str | None) -> list[Drawn]:
         raise Fault("is empty: a step that was to write it has failed", path)
     coloured = enumerate(zip(features_in(text, path), itertools.cycle(COLOURS)), 1)
     routes = [route_of(feature, Place(path, number), label, colour) for number, (feature, colour) in coloured]
-    return with_pieces(routes)
+    return with_pieces(beside_one_another(routes))
+
+
+def beside_one_another(routes: list[Drawn]) -> list[Drawn]:
+    """The routes with longitudes beyond 180 degrees where they cross that meridian, all on one side of the first one's begin."""
+    near = next((route.line[0][0] for route in routes if route.line), 0.0)
+    found = []
+    for route in routes:
+        names = [(name, unwrapped([place], near)[0]) for name, place in route.names]
+        line = route.line and unwrapped(route.line, near)
+        found.append(route._replace(line=line * 2 if line and len(line) < 2 else line, names=names))
+    return found
 
 
 def with_pieces(routes: list[Drawn]) -> list[Drawn]:
@@ -108,7 +119,8 @@ def route_of(feature: Any, place: Place, label: str | None, colour: str) -> Draw
         return Drawn(name, NO_WAY, [], None, [], colour, [])
     metres, seconds = (amount(properties, name, place) for name in ("metres", "seconds"))
     figures = kilometres(metres) if metres and not seconds else f"{kilometres(metres)}, {minutes(seconds)}"
-    steps = steps_of(properties, place)
+    steps, line = steps_of(properties, place), unwrapped(line, line[0][0])
+    line = line if len(line) > 1 else line * 2
     shown = [(street or NO_NAME, way_of(way)) for street, way in steps]
     return Drawn(name, figures, shown, line, names_along(line, steps), colour, [])
 
@@ -117,10 +129,15 @@ def line_of(geometry: Any, place: Place) -> list[Point] | None:
     """The places of a geometry, or None where there is none."""
     if geometry is None:
         return None
-    is_line = isinstance(geometry, dict) and geometry.get("type") == "LineString"
-    places = geometry.get("coordinates") if is_line else None
-    place.need(isinstance(places, list) and len(places) > 1 and all(map(is_place, places)), "has no line of places")
-    return [(lon, lat) for lon, lat, *_ in places]
+    kind, whole = (geometry.get("type"), geometry.get("coordinates")) if isinstance(geometry, dict) else (None, None)
+    parts: list[Any] = [whole] if kind == "LineString" else whole if kind == "MultiLineString" and isinstance(whole, list) else []
+    place.need(parts and all(map(is_line, parts)), "has no line of places")
+    return [(lon, lat) for part in parts for lon, lat, *_ in part]
+
+
+def is_line(value: Any) -> bool:
+    """Whether a value of JSON is a line of places in degrees."""
+    return isinstance(value, list) and len(value) > 1 and all(map(is_place, value))
 
 
 def is_place(value: Any) -> bool:

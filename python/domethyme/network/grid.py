@@ -1,0 +1,256 @@
+"""An index of things on the earth by cells of a grid, and the search for the nearest of them. Needs numpy.
+
+The earth is parted into bands of one height from pole to pole, and each band into cells that are at least as wide as the band is
+high, where it is widest: fewer near the poles, and the last beside the first, so there is no seam. A thing is listed in one cell or
+several, by points of it. Cells that have none aren't there; those of a band follow one another, and so do their lists. So all things
+in a part of a band are one slice.
+
+    keys     the cells in order: the band, and 32 bits for the column in it
+    begins   things[begins[c]:begins[c + 1]] are those of cell c
+    things   whole numbers
+"""
+import functools
+import math
+from collections.abc import Callable, Iterator
+from typing import Any, NamedTuple
+
+import numpy as np
+from numpy.typing import NDArray
+
+from .sphere import Floats
+from .tables import EARTH_RADIUS
+
+SHIFT = 32
+# Things that are looked at together, and from how many on a lesser circle is tried before.
+MOST, CROWD = 1 << 14, 1 << 12
+# Places that are looked at together, and how often the circle around them is made wider before they are looked at alone.
+PLACES, ROUNDS = 1 << 10, 4
+# The degrees from which on circles are so wide that it is worth while to look how wide they are in each band.
+FAR = 0.5
+# How many times as wide as a band is high a circle may be for its cells to be found one by one.
+NEAR = 8
+HALF_WAY_ROUND = math.pi * EARTH_RADIUS
+
+Ints = NDArray[np.int64]
+# By an array of different things the metres to each, or infinity.
+Metres = Callable[[Ints], Floats]
+# The same by numbers of places, and for each a thing.
+MetresOfPairs = Callable[[Ints, Ints], Floats]
+
+
+class Grid(NamedTuple):
+    """The index; the arrays are numpy's or columns of a file. Things lie within `margin` metres of their points."""
+
+    height: float
+    margin: float
+    keys: Any
+    begins: Any
+    things: Any
+
+    def slices(self, lon: Floats, lat: Floats, reach: Floats) -> tuple[Ints, Ints, Ints]:
+        """The slices of `things` that have all things within some metres of places, and others: the number of the place, where the
+        slice begins, and where it ends."""
+        which, lows, highs = self._cells(lon, lat, (reach + self.margin) / EARTH_RADIUS)
+        keys = self.keys[:]
+        first, last = np.searchsorted(keys, lows), np.searchsorted(keys, highs)
+        is_some = first < last
+        return which[is_some], self.begins[first[is_some]], self.begins[last[is_some]]
+
+    def _cells(self, lon: Floats, lat: Floats, angle: Floats) -> tuple[Ints, Ints, Ints]:
+        """The keys between which the cells in circles are: the number of the circle, the first key, and the one behind the last."""
+        span = np.degrees(angle)
+        keys = self.keys
+        first, last = (int(keys[0]) >> SHIFT, int(keys[len(keys) - 1]) >> SHIFT) if len(keys) else (0, -1)
+        lowest = np.maximum(bands_of(lat - span, self.height), first)
+        highest = np.minimum(bands_of(lat + span, self.height), last)
+        which, bands = ranges(lowest, np.maximum(0, highest - lowest + 1))
+        counts, away = columns(bands, self.height), np.cos(np.radians(lat))
+        has_pole = (np.abs(lat) + span >= 90) | (np.sin(angle) >= away)
+        sine = np.where(has_pole, 0, np.sin(angle))
+        half = np.where(has_pole, 180.0, np.degrees(np.arcsin(sine / np.maximum(away, 1e-300))))[which]
+        if span.max(initial=0) > FAR:
+            half = np.minimum(half, half_widths(lat[which], angle[which], bands * self.height - 90, self.height))
+        west, east = (np.floor((side + 180) / 360 * counts).astype(np.int64) for side in (lon[which] - half, lon[which] + half))
+        is_all = east - west >= counts - 1
+        west, east = np.where(is_all, 0, west), np.where(is_all, counts - 1, east)
+        # what lies beyond a side of the band comes again at its other one
+        before, beyond = np.flatnonzero(west < 0), np.flatnonzero(east >= counts)
+        rows = np.concatenate((np.arange(len(bands)), before, beyond))
+        lows = np.concatenate((np.maximum(west, 0), (west + counts)[before], np.zeros(len(beyond), np.int64)))
+        highs = np.concatenate((np.minimum(east, counts - 1), (counts - 1)[before], (east - counts)[beyond])) + 1
+        band = bands[rows] << SHIFT
+        return which[rows], band + lows, band + highs
+
+    def nearest(self, place: tuple[float, float], count: int, metres: Metres) -> list[tuple[float, int]]:
+        """The metres to the `count` nearest things of those that `metres` gives less than infinity, and their numbers: the nearest
+        first, and of equally near ones the lesser number. There are fewer only where there are no more."""
+        known, reach, crowded = 0.0, self.height * EARTH_RADIUS * math.pi / 720, math.inf
+        found: list[tuple[float, int]] = []
+        while True:
+            slices = self._slices_of(place, reach)
+            if len(found) < count and sum(end - begin for begin, end in slices) > CROWD and reach - known > 1.0:
+                # so many at once that a lesser circle is tried first
+                crowded, reach = reach, (known + reach) / 2
+                continue
+            found = self._among(slices, count, metres)
+            is_full = len(found) == count
+            if is_full and found[-1][0] <= reach or reach >= HALF_WAY_ROUND:
+                return found
+            known = reach
+            wider = found[-1][0] if is_full else 4 * reach if crowded == math.inf else (reach + crowded) / 2
+            reach = min(wider, HALF_WAY_ROUND)
+
+    def _among(self, slices: list[tuple[int, int]], count: int, metres: Metres) -> list[tuple[float, int]]:
+        """The nearest of the things in slices."""
+        found: list[tuple[float, int]] = []
+        for part in self._parts(slices):
+            things = np.array(sorted(set(part.tolist())))
+            away = metres(things)
+            order = np.lexsort((things, away))[:count] if count > 1 else [int(away.argmin())]
+            new = [(far, thing) for far, thing in zip(away[order].tolist(), things[order].tolist()) if far < math.inf]
+            found = sorted({*found, *new})[:count]
+        return found
+
+    def _parts(self, slices: list[tuple[int, int]]) -> Iterator[NDArray[Any]]:
+        """The things in slices, about MOST at a time."""
+        waiting: list[NDArray[Any]] = []
+        for begin, end in slices:
+            for low in range(begin, end, MOST):
+                waiting.append(self.things[low : min(end, low + MOST)])
+                if sum(map(len, waiting)) >= MOST:
+                    yield np.concatenate(waiting)
+                    waiting = []
+        if waiting:
+            yield np.concatenate(waiting)
+
+    def near(self, place: tuple[float, float], reach: float) -> Iterator[NDArray[Any]]:
+        """The things within `reach` metres of a place, and others, about MOST at a time; one may come several times."""
+        return self._parts(self._slices_of(place, reach))
+
+    def _slices_of(self, place: tuple[float, float], reach: float) -> list[tuple[int, int]]:
+        """The slices of one place, as `slices` has them: by few cells without arrays, since these are what is asked for most."""
+        cells = self._near_cells(*place, (reach + self.margin) / EARTH_RADIUS)
+        if cells is None:
+            _, begins, ends = self.slices(np.array([place[0]]), np.array([place[1]]), np.array([reach]))
+            return list(zip(begins.tolist(), ends.tolist()))
+        rows = np.searchsorted(self.keys[:], cells)
+        bounds = self.begins[rows].tolist()
+        return [(begin, end) for begin, end in zip(bounds[::2], bounds[1::2]) if begin < end]
+
+    def _near_cells(self, lon: float, lat: float, angle: float) -> list[int] | None:
+        """The keys between which the cells in a circle are, two for each row of cells; None for one that is large or near a pole."""
+        span, away = math.degrees(angle), math.cos(math.radians(lat))
+        if span > NEAR * self.height or abs(lat) + span >= 89:
+            return None
+        half = math.degrees(math.asin(min(1.0, math.sin(angle) / away)))
+        counts = columns_of_bands(self.height)
+        found: list[int] = []
+        for band in range(max(0, int((lat - span + 90) / self.height)), int((lat + span + 90) / self.height) + 1):
+            count = int(counts[min(band, len(counts) - 1)])
+            west, east = (math.floor((side + 180) / 360 * count) for side in (lon - half, lon + half))
+            if east - west >= count - 1:
+                west, east = 0, count - 1
+            first = band << SHIFT
+            found += (first + max(west, 0), first + min(east, count - 1) + 1)
+            if west < 0:
+                found += (first + west + count, first + count)
+            if east >= count:
+                found += (first, first + east - count + 1)
+        return found
+
+    def nearest_of_each(self, lon: Floats, lat: Floats, metres: MetresOfPairs) -> tuple[Ints, Floats]:
+        """The thing nearest to each place, and the metres to it, as `nearest` has them; -1 and infinity where there is none."""
+        nodes, away = np.full(len(lon), -1, dtype=np.int64), np.full(len(lon), np.inf)
+        for begin in range(0, len(lon), PLACES):
+            part = slice(begin, begin + PLACES)
+            left = self._near_ones(lon[part], lat[part], metres, nodes[part], away[part])
+            for row in (left + begin).tolist():
+                place = np.array([row])
+                found = self.nearest((float(lon[row]), float(lat[row])), 1, lambda some: metres(np.repeat(place, len(some)), some))
+                if found:
+                    away[row], nodes[row] = found[0]
+        return nodes, away
+
+    def _near_ones(self, lon: Floats, lat: Floats, metres: MetresOfPairs, nodes: Ints, away: Floats) -> Ints:
+        """Sets the nearest things of the places that have some near by; returns the others."""
+        left, reach = np.arange(len(lon)), np.full(len(lon), self.height * EARTH_RADIUS * math.pi / 720)
+        for _ in range(ROUNDS):
+            which, begins, ends = self.slices(lon[left], lat[left], reach[left])
+            is_few = np.bincount(which, ends - begins, len(left)) <= CROWD // 4
+            chosen = is_few[which]
+            pairs, rows = ranges(begins[chosen], (ends - begins)[chosen])
+            places, things = left[which[chosen][pairs]], self.things[rows]
+            far = metres(places, things)
+            order = np.lexsort((things, far, places))
+            first = order[np.append(True, np.diff(places[order]) > 0)[: len(order)]]
+            nodes[places[first]], away[places[first]] = things[first], far[first]
+            is_left = ~is_few | (away[left] > reach[left])
+            reach[left] = np.where(np.isfinite(away[left]), away[left], 4 * reach[left])
+            left = left[is_left]
+        nodes[left], away[left] = -1, np.inf
+        return left
+
+
+def ranges(begins: NDArray[Any], counts: NDArray[Any]) -> tuple[Ints, Ints]:
+    """All numbers from begins[k], counts[k] of them, for each k in a row; and k for each of them, which comes first."""
+    which = np.repeat(np.arange(len(counts)), counts)
+    return which, np.arange(len(which)) - np.repeat(np.cumsum(counts) - counts - begins, counts)
+
+
+def half_widths(lat: Floats, angle: Floats, south: Floats, height: float) -> Floats:
+    """How many degrees circles reach to the east in bands, which begin in the south: most where meridians touch them, or else at a side
+    of the band. A little more, since cosines of small angles are rounded."""
+    sine, cosine = np.sin(np.radians(lat)), np.cos(np.radians(lat))
+    sides = np.radians(np.clip([south, south + height], -90, 90))
+    with np.errstate(divide="ignore", invalid="ignore"):
+        reached = (np.cos(angle) - sine * np.sin(sides)) / (cosine * np.cos(sides))
+        touched = np.arcsin(np.clip(sine / np.cos(angle), -1, 1))
+    found = np.degrees(np.arccos(np.clip(np.nan_to_num(reached, nan=-1.0), -1, 1)).max(axis=0)) + 1e-5
+    # (beyond a quarter of the earth a circle touches no meridian, and has the most at a side)
+    is_touched = (sides[0] <= touched) & (touched <= sides[1]) | ~np.isfinite(touched)
+    return np.where(is_touched, 180.0, np.minimum(found, 180.0))
+
+
+def bands_of(lat: Floats, height: float) -> Ints:
+    """The band of each latitude."""
+    last = math.ceil(180 / height) - 1
+    found: Ints = np.clip(np.floor((lat + 90) / height), 0, last).astype(np.int64)
+    return found
+
+
+def columns(bands: Ints, height: float) -> Ints:
+    """How many cells bands have."""
+    found: Ints = columns_of_bands(height)[bands]
+    return found
+
+
+@functools.lru_cache(4)
+def columns_of_bands(height: float) -> Ints:
+    """How many cells each band has."""
+    south = np.arange(math.ceil(180 / height)) * height - 90
+    widest = np.maximum(0, np.maximum(south, -(south + height)))  # (the latitude that is nearest to the equator)
+    # (a little less, so that machines that round a cosine differently agree)
+    counts = np.floor(360 * np.cos(np.radians(np.minimum(widest, 90))) / height - 1e-6)
+    found: Ints = np.maximum(1, counts).astype(np.int64)
+    return found
+
+
+def cells_of(lon: Floats, lat: Floats, height: float) -> Ints:
+    """The key of the cell of each place in degrees."""
+    bands = bands_of(lat, height)
+    counts = columns(bands, height)
+    found: Ints = (bands << SHIFT) + np.clip(np.floor((lon + 180) / 360 * counts).astype(np.int64), 0, counts - 1)
+    return found
+
+
+def gathered(cells: Ints, things: NDArray[Any], height: float, margin: float) -> Grid:
+    """The grid of things, which rise, that are listed in these cells; one that is in a cell several times is listed once."""
+    order = np.argsort(cells, kind="stable")
+    cells, things = cells[order], things[order]
+    is_other = np.ones(len(cells), dtype=bool)
+    is_other[1:] = (cells[1:] != cells[:-1]) | (things[1:] != things[:-1])
+    cells, things = cells[is_other], things[is_other]
+    is_first = np.ones(len(cells), dtype=bool)
+    is_first[1:] = cells[1:] != cells[:-1]
+    begins = np.append(np.flatnonzero(is_first), len(cells)).astype(np.int64)
+    return Grid(height, margin, cells[is_first], begins, things)

@@ -1,0 +1,98 @@
+"""The steps of a network's lines as maps want them: by kind of road, and within it along a Z-order curve of Mercator's plane, so that
+what a square of a map shows of a kind is one slice. Needs numpy.
+
+A step leads from one point of a line to the next, and is in the cell of its middle. At zoom z the world is 2**z cells wide.
+"""
+import itertools
+import math
+from typing import NamedTuple
+
+import numpy as np
+from numpy.typing import NDArray
+
+KINDS: tuple[tuple[str, ...], ...] = (
+    ("motorway", "trunk"), ("primary",), ("secondary",), ("tertiary",), ("unclassified", "residential", "living_street"), ()
+)
+# The zoom of the cells, and how many steps one may have on average in a picture.
+CODED = 15
+MANY = 10_000
+MOST_LAT = 85.0511
+
+Ints = NDArray[np.int64]
+Floats = NDArray[np.float64]
+# The cells that steps are in, and how many are in each.
+Crowd = tuple[NDArray[np.uint32], Ints]
+
+
+class Levels(NamedTuple):
+    """Kind k has codes[begins[k]:begins[k + 1]], which rise: the cells of its steps. `steps` are their first points, and `edges`
+    their edges. Kind k is shown from zoom shown_from[k] on."""
+
+    begins: Ints
+    codes: NDArray[np.uint32]
+    steps: NDArray[np.int32]
+    edges: NDArray[np.int32]
+    shown_from: list[int]
+
+
+def kind_of(highway: str) -> int:
+    """The number in KINDS of a class of road; a slip road is of the kind of the road that it leads to."""
+    plain = highway.removesuffix("_link")
+    return next((kind for kind, names in enumerate(KINDS) if plain in names), len(KINDS) - 1)
+
+
+def plane_of(places: Floats) -> Floats:
+    """Places (lon, lat) in Mercator's plane, whose sides are 1: x to the east, y to the south."""
+    lat = np.radians(np.clip(places[:, 1], -MOST_LAT, MOST_LAT))
+    return np.column_stack((places[:, 0] / 360 + 0.5, 0.5 - np.arcsinh(np.tan(lat)) / (2 * math.pi)))
+
+
+def spread(values: Ints) -> Ints:
+    """Each number's bits with a zero between any two: half of a place on a Z-order curve."""
+    found = values & 0xFFFF
+    for shift, mask in ((8, 0x00FF00FF), (4, 0x0F0F0F0F), (2, 0x33333333), (1, 0x55555555)):
+        found = (found | found << shift) & mask
+    return found
+
+
+def codes_of(plane: Floats) -> NDArray[np.uint32]:
+    """The cells of points of the plane."""
+    cells = np.clip((plane * (1 << CODED)).astype(np.int64), 0, (1 << CODED) - 1)
+    return (spread(cells[:, 0]) | spread(cells[:, 1]) << 1).astype(np.uint32)
+
+
+def levels_of(codes: NDArray[np.uint32], steps: NDArray[np.int32], edges: NDArray[np.int32], kinds: NDArray[np.uint8]) -> Levels:
+    """The levels of steps with these cells, edges and kinds."""
+    orders = []
+    for kind in range(len(KINDS)):
+        chosen = np.flatnonzero(kinds == kind)
+        orders.append(chosen[np.argsort(codes[chosen], kind="stable")])
+    begins = np.cumsum([0, *map(len, orders)], dtype=np.int64)
+    order = np.concatenate(orders)
+    sorted_codes = codes[order]
+    crowds: list[Crowd] = []
+    for low, high in itertools.pairwise(begins.tolist()):
+        cells, counts = np.unique(sorted_codes[low:high], return_counts=True)
+        crowds.append((cells, counts))
+    return Levels(begins, sorted_codes, steps[order], edges[order], shown_from(crowds))
+
+
+def shown_from(crowds: list[Crowd]) -> list[int]:
+    """The zoom from which each kind is shown, by its cells and how many steps are in each. The first that has any is always shown."""
+    found: list[int] = []
+    is_first = True
+    for kind, (cells, _) in enumerate(crowds):
+        least = 0 if is_first or not len(cells) else max(found)
+        while not is_first and least < CODED and crowd(crowds[: kind + 1], least) > MANY:
+            least += 1
+        is_first = is_first and not len(cells)
+        found.append(least)
+    return found
+
+
+def crowd(crowds: list[Crowd], zoom: int) -> float:
+    """The steps of some kinds in a cell of this zoom: the mean over the cells, weighted by what they have."""
+    cells = np.concatenate([codes >> np.uint32(2 * (CODED - zoom)) for codes, _ in crowds])
+    _, places = np.unique(cells, return_inverse=True)
+    counts = np.bincount(places, np.concatenate([counts for _, counts in crowds]))
+    return float((counts * counts).sum() / max(1, counts.sum()))

@@ -1,0 +1,223 @@
+"""Arrays in one file that several processes map: its form, and columns that are verified where they are read. Needs numpy.
+
+    head     64 bytes: MAGIC, the form's version, the number of arrays, the file's size, where the tail begins, and a CRC-32 of the
+             head (without this field) and the tail
+    arrays   in the order of a form that both sides know, little-endian, each at a multiple of 64 bytes
+    tail     the rows of each array, as 64 bits, and the CRC-32 of each block of BLOCK bytes of each array, as 32 bits
+
+Opening looks at the head, the tail and the sizes, whatever the arrays hold: it takes some milliseconds for a gigabyte. A block is
+verified when it is first read in a process, against its checksum and the least and greatest value that its array may have. So no
+byte of a damaged block comes to a caller, and no size in the file takes memory. CRC-32 finds each change of up to 32 bits in a
+row for sure, and others but for one in four milliards; it isn't made against forgery. A file is replaced by a rename: one that is
+written in place is found by its times, where a block is verified and where `unchanged` is called.
+"""
+import mmap
+import os
+import weakref
+import zlib
+from collections.abc import Iterable, Mapping
+from typing import IO, Any, NamedTuple
+
+import numpy as np
+from numpy.typing import NDArray
+
+from ..errors import NetworkError, os_reason
+
+MAGIC = b"\x89DMNET\r\n"
+BLOCK = 1 << 14
+ALIGNED = 64
+HEAD = np.dtype([
+    ("magic", "S8"), ("version", "<u4"), ("arrays", "<u4"), ("size", "<u8"), ("tail", "<u8"), ("sum", "<u4"), ("rest", "V28")
+])
+
+
+class Kind(NamedTuple):
+    """What an array of a form has: the kind of its values, and how many are in a row. A row's bytes divide BLOCK."""
+
+    values: str
+    columns: int = 1
+
+    @property
+    def row(self) -> int:
+        """The bytes of a row."""
+        return np.dtype(self.values).itemsize * self.columns
+
+
+Form = Mapping[str, Kind]
+
+
+def write(file: IO[bytes], form: Form, version: int, arrays: Iterable[tuple[str, NDArray[Any]]]) -> None:
+    """Writes arrays, which come in the form's order, to an empty file that can seek. Each may be dropped when the next is made."""
+    file.write(bytes(HEAD.itemsize))
+    rows, sums, place = [], [], HEAD.itemsize
+    for (wanted, kind), (name, array) in zip(form.items(), arrays, strict=True):
+        if name != wanted:
+            raise ValueError(f"array {name} comes where {wanted} is next")
+        values = np.ascontiguousarray(array, dtype=kind.values)
+        if values.shape[1:] != ((kind.columns,) if kind.columns > 1 else ()):
+            raise ValueError(f"array {name} has rows of another length")
+        rows.append(len(values))
+        whole = values.reshape(-1).view(np.uint8)
+        sums += [zlib.crc32(whole[begin : begin + BLOCK].data) for begin in range(0, len(whole), BLOCK)]
+        place += file.write(whole.data) + file.write(bytes(-len(whole) % ALIGNED))
+    tail = np.array(rows, "<u8").tobytes() + np.array(sums, "<u4").tobytes()
+    file.write(tail)
+    head = np.zeros(1, HEAD)
+    head[0] = MAGIC, version, len(rows), place + len(tail), place, 0, b""
+    head["sum"] = zlib.crc32(tail, zlib.crc32(head.tobytes()))
+    file.seek(0)
+    file.write(head.tobytes())
+    file.seek(0, os.SEEK_END)
+
+
+class MappedFile:
+    """A file of arrays that is mapped. `columns` are by the names of its form, and `sum` changes with what is in them. Raises
+    NetworkError for one that can't be read, has another form, or is damaged in its head or tail."""
+
+    def __init__(self, file: IO[bytes], path: str, form: Form, version: int, remedy: str) -> None:
+        self.path, self.remedy, self._form, self._version = path, remedy, form, version
+        # a descriptor of its own, by which `unchanged` looks at the file that is mapped, whatever has its name
+        self._file = os.dup(file.fileno())
+        weakref.finalize(self, os.close, self._file)
+        try:
+            self._state = self._now()
+            if self._state[0] < HEAD.itemsize:
+                raise self.damaged("it is too short")
+            self._bytes = np.frombuffer(mmap.mmap(self._file, 0, prot=mmap.PROT_READ), np.uint8)
+        except OSError as error:
+            raise NetworkError(os_reason(error), path) from error
+        self.columns = self._columns(self._tail())
+
+    def _now(self) -> tuple[int, int, int]:
+        found = os.fstat(self._file)
+        return found.st_size, found.st_mtime_ns, found.st_ino
+
+    def verify(self, most: int) -> None:
+        """Verifies all blocks now, where the file has no more than so many bytes. Raises NetworkError."""
+        if len(self._bytes) <= most:
+            for column in self.columns.values():
+                column.verify()
+
+    def unchanged(self) -> None:
+        """Raises NetworkError where the file was written to after it was opened."""
+        if self._now() != self._state:
+            raise NetworkError("was written to while it was in use; new files have to take their place by a rename", self.path)
+
+    def damaged(self, problem: str) -> NetworkError:
+        return NetworkError(f"is damaged: {problem}; {self.remedy}", self.path)
+
+    def _tail(self) -> int:
+        """Looks at the head and the tail's checksum. Returns where the tail begins."""
+        head = self._bytes[: HEAD.itemsize].copy().view(HEAD)
+        found, size = head[0], len(self._bytes)
+        if found["magic"] != MAGIC:
+            raise NetworkError(f"isn't a network's file; {self.remedy}", self.path)
+        if found["version"] != self._version:
+            raise NetworkError(f"has version {found['version']} and not {self._version}; {self.remedy}", self.path)
+        count, tail = len(self._form), int(found["tail"])
+        if found["size"] != size or found["arrays"] != count or not HEAD.itemsize <= tail <= size - 8 * count:
+            raise self.damaged("its size isn't the one that it was written with")
+        self.sum = int(found["sum"])
+        head["sum"] = 0
+        if zlib.crc32(self._bytes[tail:].data, zlib.crc32(head.tobytes())) != self.sum:
+            raise self.damaged("its head or tail has another checksum")
+        return tail
+
+    def _columns(self, tail: int) -> "dict[str, Column]":
+        """The columns, by the sizes in the tail."""
+        count = len(self._form)
+        rows = [int(number) for number in self._bytes[tail : tail + 8 * count].copy().view("<u8")]
+        place, begin, found = HEAD.itemsize, tail + 8 * count, {}
+        for (name, kind), length in zip(self._form.items(), rows):
+            size = length * kind.row
+            blocks = -(-size // BLOCK)
+            if place + size > tail or begin + 4 * blocks > len(self._bytes):
+                raise self.damaged(f"{name} is longer than the file")
+            values = self._bytes[place : place + size].view(kind.values)
+            sums = self._bytes[begin : begin + 4 * blocks].view("<u4")
+            found[name] = Column(self, name, values.reshape(-1, kind.columns) if kind.columns > 1 else values, sums)
+            place, begin = place + size + -size % ALIGNED, begin + 4 * blocks
+        if (place, begin) != (tail, len(self._bytes)):
+            raise self.damaged("its arrays don't fill it")
+        return found
+
+
+class Column:
+    """An array of the file. What an index takes is verified before: rows by a number, a slice or an array of numbers, and with a
+    second index their members. Numbers of rows aren't below 0. Memory is taken for what an array of numbers takes alone.
+
+    low, high   the least and greatest value that there may be, or None; set before anything is read
+    rise        how much more each value is at least than the one before, or None
+    """
+
+    def __init__(self, file: MappedFile, name: str, values: NDArray[Any], sums: NDArray[np.uint32]) -> None:
+        self.low: float | None = None
+        self.high: float | None = None
+        self.rise: int | None = None
+        self._file, self._name, self._values, self._sums = file, name, values, sums
+        self._good = np.zeros(len(sums), dtype=bool)
+        self._shift = (BLOCK // (values.itemsize * (values.shape[1] if values.ndim > 1 else 1))).bit_length() - 1
+        self._is_whole = not len(sums)
+
+    def __len__(self) -> int:
+        return len(self._values)
+
+    @property
+    def shape(self) -> tuple[int, ...]:
+        return self._values.shape
+
+    @property
+    def dtype(self) -> np.dtype[Any]:
+        return self._values.dtype
+
+    def __array__(self, dtype: Any = None) -> NDArray[Any]:
+        return np.asarray(self[:], dtype)
+
+    def verify(self) -> None:
+        """Verifies all blocks that aren't yet."""
+        self._verify_rows(slice(None))
+
+    def __getitem__(self, index: Any) -> Any:
+        if not self._is_whole:
+            self._verify_rows(index[0] if isinstance(index, tuple) else index)
+        return self._values[index]
+
+    def _verify_rows(self, rows: Any) -> None:
+        """Verifies the blocks of the rows that an index takes."""
+        if type(rows) is int and 0 <= rows < len(self._values):
+            if not self._good[rows >> self._shift]:
+                self._verify(np.array([rows >> self._shift]))
+            return
+        if isinstance(rows, slice):
+            begin, end, step = rows.indices(len(self))
+            low, high = (begin, end) if step > 0 else (end + 1, begin + 1)
+            if low < high:
+                first, last = low >> self._shift, (high - 1 >> self._shift) + 1
+                self._verify(np.flatnonzero(~self._good[first:last]) + first)
+                self._is_whole = (first, last) == (0, len(self._sums)) or self._is_whole
+            return
+        numbers = np.asarray(rows)
+        if numbers.dtype == bool:
+            self._verify_rows(slice(None))
+        elif numbers.size:
+            blocks = numbers >> self._shift
+            if blocks.min() < 0:
+                raise IndexError(f"{self._name} has no rows below 0")
+            new = blocks[~self._good[blocks]]
+            if new.size:
+                self._verify(np.unique(new))
+
+    def _verify(self, blocks: NDArray[Any]) -> None:
+        if len(blocks):
+            self._file.unchanged()
+        for block in blocks.tolist():
+            part = self._values[block << self._shift : block + 1 << self._shift]
+            if zlib.crc32(part.data) != self._sums[block]:
+                raise self._file.damaged(f"{self._name} has another checksum")
+            if self.low is not None and not (part.min() >= self.low and part.max() <= self.high):
+                raise self._file.damaged(f"{self._name} isn't from {self.low:g} to {self.high:g}")
+            if self.rise is not None:
+                more = self._values[block << self._shift : (block + 1 << self._shift) + 1]
+                if (np.diff(more) < self.rise).any():
+                    raise self._file.damaged(f"{self._name} has wrong offsets")
+            self._good[block] = True

@@ -1,0 +1,334 @@
+"""Networks that come of tables of nodes and arcs, or of files of the DIMACS challenge. Needs numpy.
+
+    NODES   a CSV table with the columns lon and lat, in degrees, a row for each node. It may have `node`, the node's name in the table
+            of arcs (any text; without it the numbers of the rows, from 1), and osm and ends, as NETWORK.nodes.csv. Or a file X.co.
+    ARCS    a CSV table with the columns from and to, the nodes' names, a row for each arc, and some of
+
+            weight    a whole number, which routes have the least sum of; without it it is the milliseconds or centimetres of
+                      the other columns
+            metres    without it the length of the line
+            seconds   without it those of the metres at kmh kilometres an hour, and without that column 0
+            WKT       the line, `LINESTRING (LON LAT, LON LAT, ..)`; without it the straight one from node to node
+            osm, highway, name, ref, junction, destination, structure     as NETWORK.arcs.csv
+
+            An empty field is as if the column weren't there. Or a file X.gr; its arcs are straight, and take 0 seconds.
+"""
+import array
+import os
+import warnings
+from collections.abc import Iterator
+from typing import Any, NamedTuple
+
+import numpy as np
+from numpy.typing import NDArray
+
+from ..errors import NetworkError
+from ..program import StrPath
+from ..texts import HEAVIEST, MOST_LINES, MOST_NODES, number, read_graph, reading, shown, table, whole_number
+from .binary import NO_OSM, TEXTS, UNITS, VERSION, Arrays, Mapped, arrays_of, in_memory, units, wrong
+from .sphere import metres, on_sphere
+from .tables import ENDS, Files, points_of, read_coordinates
+
+Ints = NDArray[np.int64]
+BLOCK = 1 << 24
+FARTHEST_END = 1000.0
+LEAST_ID, GREATEST_ID = -(1 << 63) + 1, (1 << 63) - 1
+
+
+class Nodes(NamedTuple):
+    """Where nodes are, in units, and their rows in the table by their names; None where the names are numbers from 1."""
+
+    osm: Ints
+    places: NDArray[np.int32]
+    ends: NDArray[np.uint8]
+    rows: dict[str, int] | None
+
+    def number(self, name: str, column: str, path: StrPath, row: int) -> int:
+        """The number of a node by its name, from 1."""
+        if self.rows is None:
+            return whole_number(name, column, path, row, 1, len(self.osm))
+        found = self.rows.get(name)
+        if found is None:
+            raise NetworkError(f"{column} {shown(name)} is no node of the other table", path, row)
+        return found
+
+
+class Arcs(NamedTuple):
+    """Arcs: their nodes, from 1, weights, seconds and metres, ways, rows of texts, and lines, in units: those of arc i are
+    points[begins[i]:begins[i + 1]]."""
+
+    starts: Ints
+    ends: Ints
+    weights: Ints
+    seconds: NDArray[np.float64]
+    metres: NDArray[np.float64]
+    osm: Ints
+    row: Ints
+    texts: list[tuple[str, ...]]
+    begins: Ints
+    points: NDArray[np.int32]
+
+
+def read_nodes(path: StrPath) -> Nodes:
+    """The nodes of a table, or of a .co file. Raises NetworkError."""
+    if str(path).endswith(".co"):
+        places = coordinates(path)
+        return Nodes(np.full(len(places), NO_OSM), places, np.zeros(len(places), np.uint8), None)
+    osm, ends, degrees = array.array("q"), array.array("B"), array.array("d")
+    rows: dict[str, int] = {}
+    with table(path, ("lon", "lat")) as lines:
+        is_named = "node" in lines.columns
+        for row, fields in lines:
+            for column, most in (("lon", 180), ("lat", 90)):
+                degrees.append(number(fields[column], column, path, row, -most, most))
+            osm.append(whole_number(fields["osm"], "osm", path, row, LEAST_ID, GREATEST_ID) if fields.get("osm") else NO_OSM)
+            if (end := fields.get("ends", "")) not in ENDS:
+                raise NetworkError(f"ends {shown(end)} is none of from, to, no", path, row)
+            ends.append(ENDS.index(end))
+            if is_named and rows.setdefault(fields["node"], len(osm)) != len(osm):
+                raise NetworkError(f"node {shown(fields['node'])} comes twice", path, row)
+    if not len(osm) or len(osm) > MOST_NODES:
+        raise NetworkError(f"has {len(osm)} nodes, and a network has from 1 to {MOST_NODES}", path)
+    lon, lat = np.array(degrees).reshape(-1, 2).T
+    places = np.column_stack((units(lon, 180), units(lat, 90)))
+    return Nodes(np.array(osm, dtype=np.int64), places, np.array(ends, dtype=np.uint8), rows if is_named else None)
+
+
+def read_arcs(path: StrPath, nodes: Nodes, weight: str = "time") -> Arcs:
+    """The arcs of a table, or of a .gr file. Those without a weight have milliseconds (`time`) or centimetres (`length`). Raises
+    NetworkError."""
+    if str(path).endswith(".gr"):
+        return straight(*graph(path, len(nodes.osm)), nodes)
+    numbers = array.array("q")  # (of an arc four: from, to, way, row of texts)
+    figures = array.array("d")  # (weight, seconds, metres, where NaN is none)
+    lines = Lines(nodes)
+    known: dict[tuple[str, ...], int] = {}
+    with table(path, ("from", "to")) as rows:
+        for row, fields in rows:
+            start, end = (nodes.number(fields[side], side, path, row) for side in ("from", "to"))
+            texts = tuple(fields.get(name, "") for name in TEXTS)
+            osm = whole_number(fields["osm"], "osm", path, row, LEAST_ID, GREATEST_ID) if fields.get("osm") else 0
+            numbers.extend((start, end, osm, known.setdefault(texts, len(known))))
+            figures.extend(figures_of(fields, weight, path, row))
+            lines.add(start, end, fields.get("WKT", ""), path, row)
+    starts, ends, osm_ids, of_texts = np.array(numbers, dtype=np.int64).reshape(-1, 4).T.copy()
+    if not len(starts) or len(starts) > MOST_LINES:
+        raise NetworkError(f"has {len(starts)} arcs, and a network has from 1 to {MOST_LINES}", path)
+    weights, seconds, ways, speeds = np.array(figures).reshape(-1, 4).T.copy()
+    begins, points = lines.done()
+    ways = np.where(np.isnan(ways), np.round(lengths_of(begins, points), 2), ways)
+    seconds = np.where(np.isnan(seconds), np.nan_to_num(np.round(ways * 3.6 / speeds, 3)), seconds)
+    own = np.maximum(1, np.round(1000 * seconds if weight == "time" else 100 * ways))
+    whole = np.where(np.isnan(weights), own, weights)
+    if whole.max() > HEAVIEST:
+        raise NetworkError(f"arc {int(whole.argmax()) + 1} would weigh more than {HEAVIEST}", path)
+    return Arcs(starts, ends, whole.astype(np.int64), seconds, ways, osm_ids, of_texts, list(known), begins, points)
+
+
+def figures_of(fields: dict[str, str], weight: str, path: StrPath, row: int) -> tuple[float, float, float, float]:
+    """The weight, seconds, metres and km/h of an arc; NaN where there are none."""
+    own = float(whole_number(fields["weight"], "weight", path, row)) if fields.get("weight") else np.nan
+    seconds, ways, speed = (
+        number(fields[name], name, path, row, 0, 1e12) if fields.get(name) else np.nan for name in ("seconds", "metres", "kmh")
+    )
+    if speed == 0:
+        raise NetworkError("kmh is 0", path, row)
+    if np.isnan(own) and weight == "time" and np.isnan(seconds) and np.isnan(speed):
+        raise NetworkError("has none of weight, seconds and kmh (with --weight length the metres are taken)", path, row)
+    return own, seconds, ways, speed
+
+
+class Lines:
+    """The lines of arcs, one after the other."""
+
+    def __init__(self, nodes: Nodes) -> None:
+        self._places = nodes.places
+        self._begins, self._points = array.array("q", [0]), array.array("i")
+
+    def add(self, start: int, end: int, wkt: str, path: StrPath, row: int) -> None:
+        """Adds the line of an arc between nodes from 1; "" is the straight one. Raises NetworkError where it doesn't lead from the one
+        to the other."""
+        ends = self._places[[start - 1, end - 1]]
+        if wkt:
+            places = np.array(points_of(wkt, path, row))
+            if not (np.isfinite(places).all() and (np.abs(places) <= (180, 90)).all()):
+                raise NetworkError(f"WKT {shown(wkt)} has what are no degrees", path, row)
+            away = metres(on_sphere(*places[[0, -1]].T), on_sphere(*(ends / UNITS).T))
+            if away.max() > FARTHEST_END:
+                raise NetworkError(f"its line ends {away.max():,.0f} m from its node: from and to in each other's place?", path, row)
+            line = np.round(places * UNITS).astype(np.int32)
+        else:
+            line = ends
+        self._points.frombytes(np.ascontiguousarray(line, dtype=np.int32).tobytes())
+        self._begins.append(len(self._points) // 2)
+
+    def done(self) -> tuple[Ints, NDArray[np.int32]]:
+        """Where each line begins, and the end; and the points."""
+        return np.array(self._begins, dtype=np.int64), np.array(self._points, dtype=np.int32).reshape(-1, 2)
+
+
+def lengths_of(begins: Ints, points: NDArray[np.int32]) -> NDArray[np.float64]:
+    """The metres of lines along great circles."""
+    sphere = on_sphere(points[:, 0] / UNITS, points[:, 1] / UNITS)
+    sums = np.append(0.0, np.cumsum(metres(sphere[:-1], sphere[1:])))
+    # (what leads from a line's end to the next line's beginning is in none of the differences)
+    found: NDArray[np.float64] = sums[begins[1:] - 1] - sums[begins[:-1]]
+    return found
+
+
+def straight(starts: Ints, ends: Ints, weights: Ints, nodes: Nodes) -> Arcs:
+    """Arcs that lead straight from node to node, without a way, a name and seconds."""
+    points = np.stack((nodes.places[starts - 1], nodes.places[ends - 1]), axis=1).reshape(-1, 2)
+    ways = np.empty(len(starts))
+    for low in range(0, len(starts), 1 << 20):
+        part = points[2 * low : 2 * (low + (1 << 20))] / UNITS
+        sphere = on_sphere(part[:, 0], part[:, 1])
+        ways[low : low + (1 << 20)] = np.round(metres(sphere[::2], sphere[1::2]), 2)
+    nothing = np.zeros(len(starts), np.int64)
+    begins = np.arange(0, 2 * len(starts) + 1, 2)
+    return Arcs(starts, ends, weights, np.zeros(len(starts)), ways, nothing, nothing, [("",) * len(TEXTS)], begins, points)
+
+
+def arrays_by(nodes: Nodes, arcs: Arcs, attribution: str = "", sizes: tuple[int, int] = (0, 0)) -> Arrays:
+    """The network of nodes and arcs. Raises ValueError where they don't fit together."""
+    edge, is_along, first, backward = edges_of(arcs)
+    counts = np.diff(arcs.begins)[first]
+    which = np.repeat(np.arange(len(first)), counts)
+    place = np.arange(len(which)) - np.repeat(np.cumsum(counts) - counts, counts)
+    rows = arcs.begins[first][which] + np.where(backward[which], counts[which] - 1 - place, place)
+    names: dict[str, int] = {}
+    texts = np.array([[names.setdefault(text, len(names) + 1) for text in row] for row in arcs.texts], dtype=np.int32)
+    encoded = [text.encode("utf-8", "replace") for text in (attribution, *names)]
+    found = Arrays(
+        np.array([VERSION]), np.array(sizes), nodes.osm, nodes.places[:, 0].copy(), nodes.places[:, 1].copy(), nodes.ends,
+        arcs.starts.astype(np.int32), arcs.ends.astype(np.int32), arcs.weights, arcs.seconds, arcs.metres, arcs.osm,
+        texts[arcs.row], edge, is_along, np.append(0, np.cumsum(counts)), arcs.points[rows],
+        np.cumsum([0, *map(len, encoded)], dtype=np.int64), np.frombuffer(b"".join(encoded), dtype=np.uint8),
+    )
+    if problem := wrong(found):
+        raise ValueError(problem)
+    return found
+
+
+def edges_of(arcs: Arcs) -> tuple[NDArray[np.int32], NDArray[np.bool_], Ints, NDArray[np.bool_]]:
+    """The edge of each arc and whether it leads along it; and for each edge its first arc and whether its line is that arc's
+    backward. Lines of a way that are equal, in either direction, are one edge."""
+    first, last = arcs.begins[:-1], arcs.begins[1:] - 1
+    ends = arcs.points[np.stack((first, last), axis=1)].astype(np.int64)
+    keys = (ends[:, :, 0] << 32) + ends[:, :, 1]
+    is_along = keys[:, 0] < keys[:, 1]
+    for arc in np.flatnonzero(keys[:, 0] == keys[:, 1]).tolist():
+        line = arcs.points[first[arc] : last[arc] + 1].tolist()
+        is_along[arc] = line <= line[::-1]
+    known: dict[bytes, int] = {}
+    # straight lines are told apart by their ends; of the others all points are compared
+    is_straight = last - first == 1
+    chosen = np.flatnonzero(is_straight)
+    rows = np.column_stack((np.sort(keys[chosen], axis=1), arcs.osm[chosen]))
+    order = np.lexsort((chosen, *rows.T))
+    is_other = np.append(True, (np.diff(rows[order], axis=0) != 0).any(axis=1))[: len(order)]
+    group = np.empty(len(order), dtype=np.int64)
+    group[order] = np.cumsum(is_other) - 1
+    leader = np.full(len(first), -1, dtype=np.int64)
+    leader[chosen] = chosen[order[np.flatnonzero(is_other)]][group] if len(chosen) else leader[chosen]
+    for arc in np.flatnonzero(~is_straight).tolist():
+        line = arcs.points[first[arc] : last[arc] + 1]
+        key = (line if is_along[arc] else line[::-1]).tobytes() + int(arcs.osm[arc]).to_bytes(8, "little", signed=True)
+        leader[arc] = known.setdefault(key, arc)
+    leaders, edge = np.unique(leader, return_inverse=True)
+    return edge.astype(np.int32), is_along, leaders, ~is_along[leaders]
+
+
+# Files of the DIMACS challenge
+
+
+def network_of(word: StrPath) -> Mapped:
+    """The network that a tool's word NETWORK names: its files, or X.gr and X.co where it is X.co. Raises NetworkError."""
+    if not os.fspath(word).endswith(".co"):
+        return arrays_of(os.fspath(word))
+    nodes = read_nodes(word)
+    arcs = read_arcs(Files(os.fspath(word).removesuffix(".co")).graph, nodes)
+    try:
+        return in_memory(arrays_by(nodes, arcs), os.fspath(word))
+    except ValueError as error:
+        raise NetworkError(str(error), word) from error
+
+
+def coordinates(path: StrPath) -> NDArray[np.int32]:
+    """The places of a .co file in units."""
+    found = quick_rows(path, b"p aux sp co ", b"v", 3)
+    if found is not None:
+        count, rows = found
+        is_each = len(rows) == count and (np.sort(rows[:, 0]) == np.arange(1, count + 1)).all()
+        if is_each and (np.abs(rows[:, 1:]) <= (180_000_000, 90_000_000)).all():
+            places = np.empty((count, 2), np.int32)
+            places[rows[:, 0] - 1] = rows[:, 1:] * (UNITS // 1_000_000)
+            return places
+    nodes = read_coordinates(path)
+    return np.column_stack((units(nodes.lon, 180), units(nodes.lat, 90)))
+
+
+def graph(path: StrPath, nodes: int) -> tuple[Ints, Ints, Ints]:
+    """The arcs of a .gr file with so many nodes: starts, ends and weights."""
+    found = quick_rows(path, b"p sp %d " % nodes, b"a", 3)
+    if found is not None:
+        count, rows = found
+        starts, ends, weights = rows.T.copy()
+        has_nodes = 1 <= rows[:, :2].min(initial=1) <= rows[:, :2].max(initial=1) <= nodes
+        if len(rows) == count and has_nodes and 0 <= weights.min(initial=0) <= weights.max(initial=0) <= HEAVIEST:
+            return starts, ends, weights
+    read = read_graph(path)
+    if read.nodes != nodes:
+        raise NetworkError(f"has {read.nodes} nodes, and there are places of {nodes}", path)
+    starts, ends, weights = (np.array(values, dtype=np.int64) for values in (read.starts, read.ends, read.weights))
+    return starts, ends, weights
+
+
+def quick_rows(path: StrPath, problem: bytes, letter: bytes, columns: int) -> tuple[int, Ints] | None:
+    """The number at the end of the problem line, and the numbers of the lines that begin with a letter; None for a file with anything
+    else behind its first comments, which is for the reader that knows what is wrong."""
+    parts: list[Ints] = []
+    with reading(path) as stream:
+        line = stream.readline()
+        while line.startswith(b"c") or line == b"\n":
+            line = stream.readline()
+        if not line.startswith(problem) or not line[len(problem) :].strip().isdigit():
+            return None
+        for block in blocks_of(stream):
+            lines = block.count(b"\n")
+            text = (b"\n" + block).replace(b"\n" + letter + b" ", b"\n")
+            if len(text) != len(block) + 1 - 2 * lines or not has_fields(text, columns):
+                return None
+            with warnings.catch_warnings():
+                warnings.simplefilter("error")
+                try:
+                    numbers = np.fromstring(text, dtype=np.int64, sep=" ")
+                except (DeprecationWarning, ValueError):
+                    return None
+            if len(numbers) != lines * columns:
+                return None
+            parts.append(numbers)
+    return int(line[len(problem) :]), np.concatenate([np.empty(0, np.int64), *parts]).reshape(-1, columns)
+
+
+def has_fields(text: bytes, count: int) -> bool:
+    """Whether the lines behind a first line feed are all so many numbers with a blank between any two, as far as their signs show."""
+    signs = text.count(b"-") - text.count(b" -") - text.count(b"\n-")
+    if signs or text.translate(None, b"-0123456789 \n"):
+        return False
+    marks = np.frombuffer(text, np.uint8)
+    marks = marks[marks <= ord(" ")][1:]
+    pattern = np.array([ord(" ")] * (count - 1) + [ord("\n")], np.uint8)
+    return len(marks) % count == 0 and bool((marks.reshape(-1, count) == pattern).all())
+
+
+def blocks_of(stream: Any) -> Iterator[bytes]:
+    """The rest of a stream in blocks of whole lines."""
+    rest = b""
+    while part := stream.read(BLOCK):
+        whole, feed, left = (rest + part).rpartition(b"\n")
+        if feed:
+            yield whole + feed
+        rest = left
+    if rest:
+        yield rest + b"\n"

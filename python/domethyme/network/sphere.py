@@ -1,0 +1,100 @@
+"""Places on the earth as points of a sphere of radius 1, where neither a meridian nor a pole is special. Needs numpy.
+
+Lines between places are arcs of great circles, the shorter way round.
+"""
+import math
+
+import numpy as np
+from numpy.typing import ArrayLike, NDArray
+
+from .tables import EARTH_RADIUS, Point
+
+Floats = NDArray[np.float64]
+# The cosine of the angle, of some 12 km, within which a plane stands for the earth.
+NEAR = math.cos(0.002)
+
+
+def on_sphere(lon: ArrayLike, lat: ArrayLike) -> Floats:
+    """The point of each place in degrees, of shape (places, 3)."""
+    east, north = np.radians(lon), np.radians(lat)
+    away = np.cos(north)
+    return np.stack((away * np.cos(east), away * np.sin(east), np.sin(north)), axis=-1)
+
+
+def place_of(point: ArrayLike) -> Point:
+    """The place (lon, lat) of a point that isn't the sphere's centre."""
+    x, y, z = (float(part) for part in np.asarray(point))
+    return math.degrees(math.atan2(y, x)), math.degrees(math.atan2(z, math.hypot(x, y)))
+
+
+def angles(begins: Floats, ends: Floats) -> Floats:
+    """The angles between points."""
+    chords = np.sqrt(np.square(ends - begins).sum(axis=-1))
+    found: Floats = 2 * np.arcsin(np.minimum(1, chords / 2))
+    return found
+
+
+def metres(begins: Floats, ends: Floats) -> Floats:
+    """The metres between points along the earth."""
+    return EARTH_RADIUS * angles(begins, ends)
+
+
+def points_along(begins: Floats, ends: Floats, shares: Floats) -> Floats:
+    """The points at shares, from 0 to 1, of the ways from points to others."""
+    whole = angles(begins, ends)
+    least = np.maximum(np.sin(whole), 1e-300)
+    before = np.where(whole > 0, np.sin((1 - shares) * whole) / least, 1 - shares)
+    behind = np.where(whole > 0, np.sin(shares * whole) / least, shares)
+    found: Floats = begins * before[:, None] + ends * behind[:, None]
+    return found
+
+
+def between(begin: Point, end: Point, share: float) -> Point:
+    """The place at a share of the way from a place to another."""
+    if share <= 0.0 or begin == end:
+        return begin
+    if share >= 1.0:
+        return end
+    ends = on_sphere([begin[0], end[0]], [begin[1], end[1]])
+    return place_of(points_along(ends[:1], ends[1:], np.array([share]))[0])
+
+
+def frame_of(lon: float, lat: float) -> Floats:
+    """The directions to the east, to the north and up at a place, in rows; the last one is its point."""
+    east, north = math.radians(lon), math.radians(lat)
+    sine, cosine, up, away = math.sin(east), math.cos(east), math.sin(north), math.cos(north)
+    return np.array([[-sine, cosine, 0.0], [-up * cosine, -up * sine, away], [away * cosine, away * sine, up]])
+
+
+def nearest_on(frame: Floats, begins: Floats, ends: Floats) -> tuple[Floats, Floats]:
+    """The nearest point on each way from a point to another: the metres to it from a place, by its frame, and the share of the way that
+    lies before it.
+
+    Near the place that is looked for in the plane that touches the earth there, to which points come along lines from its centre: ways
+    are straight there, and the nearest point is the nearest on the earth. A share is right to 4 millionths then.
+    """
+    one, other = begins @ frame.T, ends @ frame.T
+    if min(one[:, 2].min(), other[:, 2].min()) < NEAR:
+        return nearest_on_far(frame[2], begins, ends)
+    one, other = one[:, :2] / one[:, 2:], other[:, :2] / other[:, 2:]
+    steps = other - one
+    squares = np.einsum("ij,ij->i", steps, steps)
+    shares = np.clip(-np.einsum("ij,ij->i", one, steps) / np.maximum(squares, 1e-300), 0, 1)
+    feet = one + steps * shares[:, None]
+    return EARTH_RADIUS * np.arctan(np.sqrt(np.einsum("ij,ij->i", feet, feet))), shares
+
+
+def nearest_on_far(point: Floats, begins: Floats, ends: Floats) -> tuple[Floats, Floats]:
+    """The same for ways anywhere. All is reckoned from differences to the ways' beginnings, which are exact to nanometres."""
+    steps, aside = ends - begins, point - begins
+    # the direction at the beginning: the step without its part towards the centre
+    ahead = steps - begins * np.einsum("ij,ij->i", steps, begins)[:, None]
+    length = np.sqrt(np.einsum("ij,ij->i", ahead, ahead))
+    ahead /= np.maximum(length, 1e-300)[:, None]
+    whole = angles(begins, ends)
+    gone = np.arctan2(np.einsum("ij,ij->i", aside, ahead), 1 - np.einsum("ij,ij->i", aside, aside) / 2)
+    # (from the other side of the earth the end may be nearer than the beginning)
+    gone = np.clip(np.where(gone < whole / 2 - math.pi, whole, gone), 0, whole)
+    feet = begins * np.cos(gone)[:, None] + ahead * np.sin(gone)[:, None]
+    shares = np.where(whole > 0, gone / np.maximum(whole, 1e-300), 0.0)
+    return EARTH_RADIUS * angles(feet, np.broadcast_to(point, feet.shape)), shares

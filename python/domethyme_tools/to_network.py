@@ -1,0 +1,126 @@
+"""Makes the files of a network of one's own: of a table of nodes and a table of arcs, or of files of the DIMACS challenge.
+
+NODES is a CSV table with a row for each node and the columns lon and lat, in degrees. It may have the column node, by whose
+texts ARCS names the nodes; without it they are numbered from 1, by their rows. The columns osm, a whole number that answers
+show, and ends, as in NETWORK.nodes.csv of osm_to_gr, may be there too. Or it is a file X.co of the DIMACS challenge.
+
+ARCS is a CSV table with a row for each arc and the columns from and to. Other columns may be there or not:
+
+  weight    a whole number from 0 to 4294967295: routes have the least sum. Without it it is the milliseconds of seconds, or
+            with --weight length the centimetres of metres, at least 1
+  metres    without it the length of the line
+  seconds   without it those of the metres at kmh kilometres an hour, and without kmh 0
+  WKT       the line, LINESTRING (LON LAT, LON LAT, ..); without it the straight one
+  name, highway, ref, junction, destination, structure, osm    as in NETWORK.arcs.csv of osm_to_gr
+
+An empty field is as if its column weren't there. Or ARCS is a file X.gr of the DIMACS challenge: its arcs are straight, and
+take 0 seconds.
+
+What is written, both or none:
+
+  OUT.gr    the graph, for `routecli prepare`, a row of NODES for each node and a row of ARCS for each arc
+  OUT.net   the network, for nearest, to_geojson, draw and domethyme-serve
+
+With --tables there are OUT.nodes.csv and OUT.arcs.csv too, as osm_to_gr writes them. So the tables of osm_to_gr may be NODES
+and ARCS, after they were edited, or where OUT.net is damaged.
+
+Exit status: 0; 1 for bad input or a failed write, with one line on standard error that names file and row; 2 for arguments
+that are refused.
+"""
+import argparse
+import io
+import os
+import typing
+from typing import IO, Any
+
+import numpy
+
+from domethyme.files import whole_files
+from domethyme.network import binary, own
+from domethyme.network.tables import ATTRIBUTION_COMMENT, Files, arcs_in, attribution_of, nodes_of, write_arcs, write_nodes
+
+from .tool import Fault, warn, words
+
+ROWS = 1 << 16
+
+
+def read_words() -> argparse.Namespace:
+    parser = words(__doc__)
+    parser.add_argument("nodes", metavar="NODES", help="the table of nodes, or a .co file")
+    parser.add_argument("arcs", metavar="ARCS", help="the table of arcs, or a .gr file")
+    parser.add_argument("out", metavar="OUT", help="the beginning of the names of the files")
+    parser.add_argument("--weight", choices=("time", "length"), default="time", help="what a weight is without the column (time)")
+    parser.add_argument("--tables", action="store_true", help="write OUT.nodes.csv and OUT.arcs.csv too")
+    parser.add_argument("--attribution", metavar="TEXT", help="what maps have to say about the data (what OUT.gr says)")
+    options = parser.parse_args()
+    if not os.path.basename(options.out) or os.path.isdir(options.out):
+        parser.error("OUT is the beginning of the names of files, as out/firm, and no folder")
+    return options
+
+
+def write_graph(file: IO[bytes], arrays: binary.Arrays, attribution: str) -> None:
+    """Writes the graph's text."""
+    if attribution:
+        file.write(f"{ATTRIBUTION_COMMENT}{attribution}\n".encode())
+    file.write(b"p sp %d %d\n" % (len(arrays.node_osm), len(arrays.arc_from)))
+    for low in range(0, len(arrays.arc_from), ROWS):
+        part = slice(low, low + ROWS)
+        rows = numpy.column_stack((arrays.arc_from[part], arrays.arc_to[part], arrays.arc_weight[part]))
+        file.write((b"a %d %d %d\n" * len(rows)) % tuple(rows.ravel().tolist()))
+
+
+def sizes_of(paths: Files, options: argparse.Namespace) -> tuple[int, int]:
+    """The sizes of tables that are beside OUT.net already, which have to be NODES and ARCS; 0 where there are none."""
+    sizes = []
+    for own_table, given in ((paths.nodes, options.nodes), (paths.arcs, options.arcs)):
+        is_there = os.path.exists(own_table)
+        if is_there and not (os.path.exists(given) and os.path.samefile(own_table, given)):
+            raise Fault(f"is there, and isn't {given}: remove it, or give --tables to write it anew", own_table)
+        sizes.append(os.stat(own_table).st_size if is_there else 0)
+    return sizes[0], sizes[1]
+
+
+def write_tables(files: list[IO[Any]], arrays: binary.Arrays) -> tuple[int, int]:
+    """Writes both tables; returns their sizes."""
+    network = binary.in_memory(arrays, "the network")
+    write_nodes(files[0], nodes_of(network))
+    write_arcs(files[1], arcs_in(network))
+    for file in files:
+        file.flush()
+    return os.fstat(files[0].fileno()).st_size, os.fstat(files[1].fileno()).st_size
+
+
+def read_arrays(options: argparse.Namespace, attribution: str) -> binary.Arrays:
+    """The network of the tables."""
+    nodes = own.read_nodes(options.nodes)
+    arcs = own.read_arcs(options.arcs, nodes, options.weight)
+    try:
+        return own.arrays_by(nodes, arcs, attribution)
+    except ValueError as error:
+        raise Fault(str(error), options.arcs) from error
+
+
+def main() -> None:
+    options = read_words()
+    paths = Files(options.out)
+    attribution = attribution_of(options.out) if options.attribution is None else " ".join(options.attribution.split())
+    tables = [paths.nodes, paths.arcs, *paths.forms] if options.tables else []
+    sizes = (0, 0) if options.tables else sizes_of(paths, options)
+    arrays = read_arrays(options, attribution)
+    with whole_files(paths.graph, *tables, paths.binary) as files:
+        if options.tables:
+            sizes = write_tables(files[1:3], arrays)
+            for file, text in zip(files[3:-1], paths.forms.values(), strict=True):
+                print(text, file=file)
+        write_graph(buffer_of(files[0]), arrays, attribution)
+        try:
+            binary.write(buffer_of(files[-1]), arrays._replace(sizes=numpy.array(sizes)))
+        except ValueError as error:
+            raise Fault(str(error), options.arcs) from error
+    kilometres = arrays.arc_metres[numpy.unique(arrays.arc_edge, return_index=True)[1]].sum() / 1000
+    warn(f"{options.out}: {len(arrays.node_osm)} nodes, {len(arrays.arc_from)} arcs, {kilometres:.1f} km of road")
+
+
+def buffer_of(file: IO[str]) -> IO[bytes]:
+    """The bytes of a file that was opened as text."""
+    return typing.cast(io.TextIOWrapper, file).buffer

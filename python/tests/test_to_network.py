@@ -1,0 +1,224 @@
+"""Tests of networks of one's own: from tables and DIMACS files to the graph, the network and answers. A thousandth of a degree is
+111.195 m along the equator."""
+import json
+
+import numpy as np
+from service_case import ServiceCase
+from tool_case import VILLAGE, ToolCase
+
+import domethyme
+from domethyme.network import binary
+from domethyme.network.tables import read_arcs, read_nodes
+from domethyme.texts import plain, read_graph, safe
+
+NODES = "node,lon,lat\ndepot,0,0\nshop,0.001,0\nfarm,0.001,0.002\n"
+ARCS = """\
+from,to,kmh,name,highway
+depot,shop,50,High Street,primary
+shop,depot,50,High Street,primary
+shop,farm,30,=Lane,residential
+farm,shop,,=Lane,residential
+"""
+
+
+class TableTests(ToolCase):
+    def setUp(self):
+        super().setUp()
+        self.write("nodes.csv", NODES)
+        self.write("arcs.csv", ARCS.replace("farm,shop,,", "farm,shop,30,"))
+
+    def made(self, *words):
+        self.run_tool("to_network", "nodes.csv", "arcs.csv", "net", *words)
+        return binary.read(str(self.folder / "net.net"))
+
+    def test_figures_by_hand(self):
+        """111.195 m at 50 km/h are 8.006 s, and 222.39 m at 30 km/h 26.687 s."""
+        network = self.made()
+        self.assertEqual(network.arc_metres[:].tolist(), [111.2, 111.2, 222.39, 222.39])
+        self.assertEqual(network.arc_seconds[:].tolist(), [8.006, 8.006, 26.687, 26.687])
+        graph = read_graph(self.folder / "net.gr")
+        self.assertEqual(graph, (3, [1, 2, 2, 3], [2, 1, 3, 2], [8006, 8006, 26687, 26687]))
+        self.assertEqual((network.unit, len(network.edge_begin) - 1), ("duration", 2))
+        self.assertEqual(sorted(path.name for path in self.folder.iterdir()), ["arcs.csv", "net.gr", "net.net", "nodes.csv"])
+        lengths = self.made("--weight", "length")
+        self.assertEqual((lengths.unit, lengths.arc_weight[:].tolist()), ("distance", [11120, 11120, 22239, 22239]))
+
+    def test_own_weights_metres_and_lines(self):
+        self.write("arcs.csv", 'from,to,weight,metres,seconds,WKT,osm\ndepot,shop,7,150,,"LINESTRING (0 0, 0.0005 0.0001, 0.001 0)",12\n'
+                               'shop,depot,8,,2.5,"LINESTRING (0.001 0, 0.0005 0.0001, 0 0)",12\nshop,farm,0,,,,\n')
+        network = self.made("--weight", "length")
+        self.assertEqual(network.arc_weight[:].tolist(), [7, 8, 0])
+        self.assertEqual(network.arc_metres[:].tolist(), [150, 113.4, 222.39])
+        self.assertEqual(network.arc_seconds[:].tolist(), [0, 2.5, 0])
+        self.assertEqual(network.arc_osm[:].tolist(), [12, 12, 0])
+        # both directions of a line are one edge
+        self.assertEqual((network.arc_edge[:].tolist(), network.arc_along[:].tolist()), ([0, 0, 1], [True, False, True]))
+        self.assertEqual(network.line(1), [(0.001, 0), (0.0005, 0.0001), (0, 0)])
+
+    def test_nodes_without_names(self):
+        self.write("nodes.csv", "lat,lon,osm\n0,0,17\n0,0.001,\n0.002,0.001,-5\n")
+        self.write("arcs.csv", "from,to,weight\n1,2,3\n3,1,4\n")
+        network = self.made()
+        self.assertEqual(network.node_osm[:].tolist(), [17, binary.NO_OSM, -5])
+        self.assertEqual((network.arc_from[:].tolist(), network.arc_to[:].tolist()), ([1, 3], [2, 1]))
+        self.assertEqual(domethyme.Network(self.folder / "net").keys().node(17), 0)
+
+    def test_tables_that_it_writes(self):
+        self.made("--tables", "--attribution", "© Firm")
+        self.assertTrue(binary.is_current(str(self.folder / "net")))
+        text = (self.folder / "net.arcs.csv").read_text()
+        self.assertIn(",residential,'=Lane,", text)
+        self.assertEqual([arc.name for arc in read_arcs(self.folder / "net.arcs.csv")], ["High Street", "High Street", "=Lane", "=Lane"])
+        self.assertEqual(read_nodes(str(self.folder / "net.nodes.csv")).lon, [0, 0.001, 0.001])
+        self.assertEqual((self.folder / "net.nodes.prj").read_text()[:6], "GEOGCS")
+        self.assertTrue((self.folder / "net.gr").read_text().startswith("c attribution: © Firm\np sp 3 4\n"))
+        # other tables are beside the network then: they aren't taken for others' that are given
+        self.assert_refused("to_network", "nodes.csv", "arcs.csv", "net", says="net.nodes.csv: is there, and isn't nodes.csv")
+
+    def test_the_tables_of_a_map_give_its_network_again(self):
+        self.run_tool("osm_to_gr", VILLAGE, "v", "--islands", "--tables")
+        before = self.contents()
+        self.run_tool("to_network", "v.nodes.csv", "v.arcs.csv", "v")
+        after = self.contents()
+        for name in ("v.net", "v.gr"):
+            self.assertEqual(after[self.folder / name], before[self.folder / name], name)
+
+    def test_refusals(self):
+        for nodes, arcs, says in [
+            ("lon,lat\n0,x\n", None, "nodes.csv, row 2: lat 'x' is no number"),
+            ("lon,lat\n0,91\n", None, "nodes.csv, row 2: lat '91' isn't from -90 to 90"),
+            ("lon,lat\n", None, "nodes.csv: has 0 nodes"),
+            ("lon\n0\n", None, "nodes.csv, row 1: has no column lat"),
+            ("node,lon,lat\na,0,0\na,1,1\n", None, "nodes.csv, row 3: node 'a' comes twice"),
+            ("lon,lat,ends\n0,0,both\n", None, "nodes.csv, row 2: ends 'both' is none of from, to, no"),
+            ("lon,lat,osm\n0,0,a\n", None, "nodes.csv, row 2: osm 'a' is no whole number"),
+            (None, "from,to\n", "arcs.csv: has 0 arcs"),
+            (None, "from,to,weight\ndepot,office,1\n", "arcs.csv, row 2: to 'office' is no node of the other table"),
+            (None, "from,to,weight\ndepot,shop,1.5\n", "arcs.csv, row 2: weight '1.5' is no whole number"),
+            (None, "from,to,weight\ndepot,shop,4294967296\n", "arcs.csv, row 2: weight 4294967296 isn't from 0 to 4294967295"),
+            (None, "from,to,metres\ndepot,shop,10\n", "arcs.csv, row 2: has none of weight, seconds and kmh"),
+            (None, "from,to,kmh\ndepot,shop,0\n", "arcs.csv, row 2: kmh is 0"),
+            (None, "from,to,seconds\ndepot,shop,1e9\n", "arcs.csv: arc 1 would weigh more than 4294967295"),
+            (None, 'from,to,weight,WKT\ndepot,shop,1,"LINESTRING (0.5 0, 0.001 0)"\n', "arcs.csv, row 2: its line ends 55,598 m from its node"),
+            (None, 'from,to,weight,WKT\ndepot,shop,1,"LINESTRING (0 0, 0 inf)"\n', "arcs.csv, row 2: WKT 'LINESTRING (0 0, 0 inf)' has what"),
+            (None, "from,to,weight,WKT\ndepot,shop,1,POINT (0 0)\n", "arcs.csv, row 2: WKT 'POINT (0 0)' is no line"),
+        ]:
+            self.write("nodes.csv", nodes or NODES)
+            self.write("arcs.csv", arcs or ARCS)
+            with self.subTest(says=says):
+                self.assert_refused("to_network", "nodes.csv", "arcs.csv", "net", says=says)
+        self.assert_refused("to_network", "none.csv", "arcs.csv", "net", says="none.csv: No such file")
+        self.write("nodes.csv", "lon,lat\n0,0\n180,0\n")
+        self.write("arcs.csv", "from,to,weight\n1,2,1\n")
+        self.assert_refused("to_network", "nodes.csv", "arcs.csv", "net", says="arcs.csv: a line leads half round the earth")
+        self.run_tool("to_network", "nodes.csv", "arcs.csv", ".", status=2)
+
+
+class DimacsTests(ToolCase):
+    CO = "c places\np aux sp co 3\nv 1 0 0\nv 2 1000 0\nv 3 1000 2000\n"
+    GR = "c roads\np sp 3 3\na 1 2 7\na 2 1 7\na 2 3 9\n"
+
+    def made(self, co, gr, name="net"):
+        self.write("x.co", co)
+        self.write("x.gr", gr)
+        self.run_tool("to_network", "x.co", "x.gr", name)
+        return (self.folder / f"{name}.net").read_bytes()
+
+    def test_as_tables(self):
+        found = self.made(self.CO, self.GR)
+        self.write("n.csv", "lon,lat\n0,0\n0.001,0\n0.001,0.002\n")
+        self.write("a.csv", "from,to,weight\n1,2,7\n2,1,7\n2,3,9\n")
+        self.run_tool("to_network", "n.csv", "a.csv", "other")
+        self.assertEqual(found, (self.folder / "other.net").read_bytes())
+        self.assertEqual((self.folder / "net.gr").read_text(), self.GR.replace("c roads\n", ""))
+
+    def test_files_in_another_form_are_the_same(self):
+        """Comments between, blanks, and places in another order: what the quick reader leaves to the other one."""
+        found = self.made(self.CO, self.GR)
+        for number, (co, gr) in enumerate([
+            (self.CO.replace("v 2", "c more\nv 2"), self.GR), (self.CO.replace("v 2 1000", " v  2\t1000"), self.GR),
+            (self.CO, self.GR.replace("a 2 3 9\n", "a 2 3 9")), (self.CO, self.GR.replace("a 2 1 7\n", "a 2 1 7 \n\nc\n")),
+            ("p aux sp co 3\nv 3 1000 2000\nv 1 0 0\nv 2 1000 0\n", self.GR), (self.CO, self.GR.replace("1 2 7", "1 2 +7")),
+        ]):
+            with self.subTest(number=number):
+                self.assertEqual(self.made(co, gr, f"net{number}"), found)
+
+    def test_refusals(self):
+        for co, gr, says in [
+            (self.CO.replace("v 3 1000 2000\n", ""), self.GR, "x.co: has no coordinates of node 3"),
+            (self.CO.replace("1000 0", "200000000 0"), self.GR, "x.co, row 4: x 200000000 isn't from"),
+            (self.CO, self.GR.replace("a 2 3 9", "a 2 4 9"), "x.gr, row 5: node 4 isn't from 1 to 3"),
+            (self.CO, self.GR.replace("a 1 2 7\na 2 1 7", "a 1 2\na 7 2 1 7"), "x.gr, row 3: is no line of a graph"),
+            (self.CO, self.GR.replace("a 2 3 9", "a 2 3-9 9"), "x.gr, row 5"), (self.CO, self.GR.replace("3 3", "3 4"), "x.gr: has 3 arcs and announces 4"),
+            (self.CO, self.GR.replace("p sp 3", "p sp 4"), "x.gr: has 4 nodes, and there are places of 3"),
+        ]:
+            self.write("x.co", co)
+            self.write("x.gr", gr)
+            with self.subTest(says=says):
+                self.assert_refused("to_network", "x.co", "x.gr", "net", says=says)
+
+
+class SafeTests(ToolCase):
+    TEXTS = ["=1+1", "+x", "-x", "@x", "\tx", "\rx", "'=x", "''=x"]
+
+    def test_there_and_back(self):
+        for text in self.TEXTS:
+            self.assertEqual(safe(text), "'" + text)
+            self.assertEqual(plain(safe(text)), text)
+        for text in ("x", "", "-9.5", "+3", "1e5", "-1e-5", "'x", "x=1", "'-5"):
+            self.assertEqual(plain(safe(text)), text)
+        self.assertEqual([safe(text) for text in ("x", "-9.5", "+3.", "'x")], ["x", "-9.5", "'+3.", "'x"])
+
+    def test_columns_of_trips(self):
+        """A label that begins as a formula is quoted in both tables, and is itself again in a feature; degrees below 0 stay numbers."""
+        self.write("n.csv", "lon,lat\n-0.001,0\n0,0\n")
+        self.write("a.csv", "from,to,weight\n1,2,7\n")
+        self.run_tool("to_network", "n.csv", "a.csv", "net")
+        self.write("trips.csv", 'label,from_lon,from_lat,to_lon,to_lat\n"=cmd|x",-0.001,0,0,0\n')
+        self.run_tool("nearest", "net", "trips.csv", "--snapped", "snapped.csv", "-o", "pairs")
+        self.assertEqual((self.folder / "snapped.csv").read_text().splitlines()[1], "'=cmd|x,-0.001,0,0,0,1,0.0,2,0.0")
+        self.write("answers", "r 1 2 7 1 1 2\n")
+        table = self.run_tool("to_geojson", "net", "answers", "--trips", "snapped.csv", "--as", "csv").stdout
+        self.assertTrue(table.splitlines()[1].startswith("'=cmd|x,-0.001,"), table)
+        lines = self.run_tool("to_geojson", "net", "answers", "--trips", "snapped.csv", "--as", "lines").stdout
+        self.assertEqual(json.loads(lines)["properties"]["label"], "=cmd|x")
+
+
+class WholeTests(ServiceCase):
+    """From tables to answers, a picture and the service."""
+
+    def test_from_tables_to_the_service(self):
+        self.write("nodes.csv", NODES)
+        self.write("arcs.csv", ARCS.replace("farm,shop,,", "farm,shop,30,"))
+        self.run_tool("to_network", "nodes.csv", "arcs.csv", "net")
+        domethyme.prepare(self.folder / "net.gr", self.folder / "v.rch", workers=1).close()
+        self.write("trips.csv", "from_lon,from_lat,to_lon,to_lat\n0,0,0.001,0.002\n")
+        self.run_tool("nearest", "net", "trips.csv", "-o", "pairs")
+        self.write("answers", self.run_program([domethyme.find_program(), "route", "v.rch", "pairs"]).stdout)
+        self.run_tool("to_geojson", "net", "answers", "-o", "routes")
+        feature = json.loads((self.folder / "routes").read_text())["features"][0]
+        self.assertEqual((feature["properties"]["length"], feature["properties"]["metres"]), (34693, 333.59))
+        self.assertEqual([step["name"] for step in feature["properties"]["steps"]], ["High Street", "=Lane"])
+        for name in ("out.svg", "out.html"):
+            self.run_tool("draw", "net", "routes", name)
+        self.serve("--network", self.folder / "net")
+        status, found = self.ask("/route/v1/car/0,0;0.001,0.002?overview=full&geometries=geojson")
+        self.assertEqual((status, found["routes"][0]["distance"], found["routes"][0]["duration"]), (200, 333.59, 34.693))
+        self.assertEqual(self.ask("/nearest/v1/car/0.0005,0.0001")[1]["waypoints"][0]["nodes"], [0, 0])
+        status, about = self.ask("/map/about")
+        self.assertEqual((status, about["box"]), (200, [0, 0, 0.001, 0.002]))
+
+    def test_a_file_that_is_damaged_while_it_is_served(self):
+        """The block that is damaged is refused where a request needs it, and the service goes on."""
+        network = self.folder / "v.net"
+        arrays, whole = binary.read(str(network)), network.read_bytes()
+        self.serve("--network", self.folder / "v")
+        self.assertEqual(self.ask("/nearest/v1/car/0.0003,0.00001")[0], 200)
+        place = whole.index(np.asarray(arrays.step_codes).tobytes())
+        with open(network, "r+b") as file:
+            file.seek(place)
+            file.write(bytes([whole[place] ^ 1]))
+        status, found = self.ask("/map/roads/15/16384/16383")
+        self.assertEqual((status, found["code"]), (500, "InternalError"))
+        self.assertEqual(self.ask("/health")[0], 200)
+        self.assertTrue(any("was written to while it was in use" in line for line in self.said), self.said)
