@@ -42,7 +42,7 @@ pub struct FoundBetween {
     pub links: Vec<LinkId>,
 }
 
-/// Answers queries of one hierarchy.
+/// Answers queries of one hierarchy, which it borrows or owns a share of: `H` is `&Hierarchy` or `Arc<Hierarchy>`.
 ///
 /// It keeps for either side the steps over the links that it climbs, apart from them the places of those links, and
 /// a mark for each node, all by rank: about 56 bytes a node and 16 a link, or 64 and 20 where there are 2^32 links or

@@ -19,9 +19,10 @@ use ch_unpack::{UnpackError, unpack};
 use std::alloc::{AllocError, Global};
 use std::marker::Model;
 
-/// Answers pairs of nodes by one hierarchy, each with a shortest path or with its length alone.
+/// Answers pairs of nodes by one hierarchy, which it borrows or owns a share of, each with a shortest path or with its length
+/// alone.
 ///
-/// It holds what [`Search`] holds: about 56 bytes a node and 16 a link, or 64 and 20 where there are 2^32 links or more,
+/// It holds what [`SearchOf`] holds: about 56 bytes a node and 16 a link, or 64 and 20 where there are 2^32 links or more,
 /// and what the largest call so far needed beside it. After a call that failed it works as a new one.
 #[derive(Drop)]
 pub struct RouterOf<H: HierarchyRef> {
