@@ -63,7 +63,7 @@ complete -c routecli -f
 
 complete -c routecli -n __routecli_has_no_command -s h -l help -d 'Print help'
 complete -c routecli -n __routecli_has_no_command -s V -l version -d 'Print version'
-complete -c routecli -n '__routecli_is answer prepare route serve info' -s h -l help -d 'Print help'
+complete -c routecli -n '__routecli_is answer prepare route serve info check' -s h -l help -d 'Print help'
 
 set -l commands '__routecli_has_no_command; or __routecli_takes_word help'
 complete -c routecli -n $commands -a answer -d 'Finds shortest paths in a small graph'
@@ -71,9 +71,10 @@ complete -c routecli -n $commands -a prepare -d 'Prepares a hierarchy of a graph
 complete -c routecli -n $commands -a route -d 'Finds shortest paths, as answer does, using a prepared hierarchy'
 complete -c routecli -n $commands -a serve -d 'Replies to each line of standard input with a line, using a prepared hierarchy'
 complete -c routecli -n $commands -a info -d 'Prints the version, nodes, links, bound and bytes of a prepared hierarchy'
+complete -c routecli -n $commands -a check -d 'Checks that a hierarchy is right for a graph, whoever made it'
 complete -c routecli -n $commands -a help -d 'Print this message or the help of the given subcommand(s)'
 
-complete -c routecli -n '__routecli_takes_word answer prepare route serve info' -F
+complete -c routecli -n '__routecli_takes_word answer prepare route serve info check' -F
 complete -c routecli -n __routecli_takes_input -a - -d 'With - for both files, standard input has both texts'
 
 complete -c routecli -n '__routecli_lacks workers prepare' -l workers -x -d 'Number of threads that contract nodes, 0 to 64'
@@ -81,5 +82,5 @@ complete -c routecli -n '__routecli_lacks seed prepare' -l seed -x -d 'Seed of t
 complete -c routecli -n '__routecli_lacks order prepare' -l order -x -d 'Which nodes are contracted first' \
     -a 'edges\t"those that leave the fewest arcs" neighbours\t"also counts contracted neighbours" depth\t"the depth of a node"'
 complete -c routecli -n '__routecli_lacks stint prepare' -l stint -x -d 'Number of contractions after which a thread uses the next order'
-complete -c routecli -n '__routecli_lacks progress prepare' -l progress -d 'Show on standard error how many nodes are contracted'
-complete -c routecli -n '__routecli_lacks explain answer prepare route serve info' -l explain -d 'Explain a refusal in more lines on standard error'
+complete -c routecli -n '__routecli_lacks progress prepare check' -l progress -d 'Show on standard error how many nodes are contracted'
+complete -c routecli -n '__routecli_lacks explain answer prepare route serve info check' -l explain -d 'Explain a refusal in more lines on standard error'

@@ -5,7 +5,7 @@ ghost use Rattle.jobs.specs.Job.{names_one_file};
 use crate::version::VERSION;
 use clap::error::ErrorKind;
 use clap::{Arg, ArgAction, ArgMatches, Command, Error, value_parser};
-use jobs::{Call, Job, Order, Preparation, Stint, Stop, Workers};
+use jobs::{Call, Check, Job, Order, Preparation, Stint, Stop, Workers};
 use std::alloc::{AllocError, Global};
 
 /// Returns what the arguments of a command line ask for. The first one is the program's name.
@@ -64,6 +64,7 @@ fn job_of<'a>(name: &str, found: &ArgMatches<'a>) -> Option<Job<'a>> {
         "route" => routing(found),
         "serve" => serving(found),
         "info" => informing(found),
+        "check" => checking(found),
         _ => answering(found),
     }
 }
@@ -99,6 +100,16 @@ fn serving<'a>(found: &ArgMatches<'a>) -> Option<Job<'a>> {
 fn informing<'a>(found: &ArgMatches<'a>) -> Option<Job<'a>> {
     let hierarchy = found.get_str("HIER")?;
     Some(Job::Info { hierarchy })
+}
+
+fn checking<'a>(found: &ArgMatches<'a>) -> Option<Job<'a>> {
+    let (graph, hierarchy) = files_of(found, "GRAPH", "HIER")?;
+    let progress = found.get_flag("progress");
+    Some(Job::Check(Check {
+        graph,
+        hierarchy,
+        progress,
+    }))
 }
 
 fn answering<'a>(found: &ArgMatches<'a>) -> Option<Job<'a>> {
@@ -150,6 +161,7 @@ fn program<'a>(alloc: Global) -> Result<Command<'a>, AllocError>
     let program = with(program, route(alloc))?;
     let program = with(program, serve(alloc))?;
     let program = with(program, info(alloc))?;
+    let program = with(program, check(alloc))?;
     Ok(with_a_command(program))
 }
 
@@ -206,7 +218,7 @@ fn preparation<'a>(alloc: Global) -> Result<Command<'a>, AllocError>
         .arg(seed(alloc))?
         .arg(order(alloc))?
         .arg(stint(alloc))?
-        .arg(progress(alloc))
+        .arg(progress(alloc, PROGRESS))
 }
 
 fn route<'a>(alloc: Global) -> Result<Command<'a>, AllocError>
@@ -237,6 +249,20 @@ fn info<'a>(alloc: Global) -> Result<Command<'a>, AllocError>
         .after_help(INFORMING)
         .arg(explain(alloc))?
         .arg(file(alloc, "HIER", HIER))
+}
+
+fn check<'a>(alloc: Global) -> Result<Command<'a>, AllocError>
+    ensures { IfOk result (λ check. (out-Command check).has_globals ≡ false) }
+{
+    Command::new(alloc, "check")
+        .about(
+            "Checks that a hierarchy is right for a graph, whoever made it, with a proof if it says so",
+        )
+        .after_help(CHECKING)
+        .arg(progress(alloc, CHECK_PROGRESS))?
+        .arg(explain(alloc))?
+        .arg(file(alloc, "GRAPH", GRAPH))?
+        .arg(file(alloc, "HIER", CHECKED))
 }
 
 // A file that has to be named.
@@ -284,12 +310,12 @@ fn stint<'a>(alloc: Global) -> Arg<'a>
 }
 
 // Whether the user is shown how far they are.
-fn progress<'a>(alloc: Global) -> Arg<'a>
+fn progress<'a>(alloc: Global, help: &'a str) -> Arg<'a>
     ensures { result.global ≡ false }
 {
     Arg::new(alloc, "progress")
         .long("progress")
-        .help(PROGRESS)
+        .help(help)
         .action(ArgAction::SetTrue)
 }
 
@@ -340,7 +366,7 @@ const EXPLAIN: &str =
 const HIER: &str = "Hierarchy file that prepare wrote";
 
 const STATUSES: &str =
-    "Exit status: 0 success, 2 command line, 3 graph file, 4 hierarchy file, 5 query file, 6 out of memory, 7 read or write failed, 8 threads disagree";
+    "Exit status: 0 success, 2 command line, 3 graph file, 4 hierarchy file, 5 query file, 6 out of memory, 7 read or write failed, 8 threads disagree, 9 hierarchy is wrong, 10 not shown to be right";
 
 const PREPARING: &str =
     "Options never affect whether answers are right, only the time that preparing takes and the size of OUT.";
@@ -351,6 +377,15 @@ A comment line gets c; an invalid line gets e and the error's name.";
 
 const INFORMING: &str =
     "The file is read to its end, and refused if route refuses it; the bound is the greatest length that a path may have.";
+
+const CHECKED: &str = "Hierarchy file to check";
+
+const CHECK_PROGRESS: &str =
+    "Show on standard error how many nodes are contracted once more and how long the rest may take, if that is a terminal";
+
+const CHECKING: &str =
+    "It prints right, with status 0; wrong: and what shows that, with status 9; or not shown: and where, with status 10, which is no proof that the file is wrong.\n\n\
+From a file that is right, route and serve answer with shortest paths of GRAPH.";
 
 const ANSWERING: &str =
     "With - for both files, standard input has both texts, separated by a line that is %.\n\n\

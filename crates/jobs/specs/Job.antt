@@ -2,7 +2,7 @@
 use Rattle.std.specs.Prelude.{Bool, false, ◌&&◌, ⊤, codes}
 use Rattle.std.specs.Str.{bytes_eq}
 use Rattle.jobs.specs.declared.job.Job.{Job}
-use Rattle.jobs.specs.declared.job.Job.TheVariants.{Answer, Prepare, Route, Serve, Info}
+use Rattle.jobs.specs.declared.job.Job.TheVariants.{Answer, Prepare, Route, Serve, Info, Check}
 
 -- both texts are in one input
 abbrev pub is_joined : Job → Bool
@@ -11,6 +11,7 @@ is_joined (Prepare preparation) = false
 is_joined (Route hierarchy queries) = false
 is_joined (Serve hierarchy) = false
 is_joined (Info hierarchy) = false
+is_joined (Check check) = false
 
 -- the file of a hierarchy is to be made under the name of the graph
 abbrev pub names_one_file : Job → Bool
@@ -19,6 +20,7 @@ names_one_file (Prepare preparation) = bytes_eq preparation.graph.now preparatio
 names_one_file (Route hierarchy queries) = false
 names_one_file (Serve hierarchy) = false
 names_one_file (Info hierarchy) = false
+names_one_file (Check check) = false
 
 -- pairs are to be answered over a graph
 abbrev pub IsAnswering : Job → Type 0
@@ -44,3 +46,8 @@ IsServing job = ⊥
 abbrev pub IsInforming : Job → Type 0
 IsInforming (Info hierarchy) = ⊤
 IsInforming job = ⊥
+
+-- a hierarchy is to be checked against a graph
+abbrev pub IsChecking : Job → Type 0
+IsChecking (Check check) = ⊤
+IsChecking job = ⊥

@@ -31,6 +31,19 @@ pub enum Job<'a> {
         /// The file of the hierarchy.
         hierarchy: &'a str,
     },
+    /// To check that a hierarchy is right for a graph.
+    Check(Check<'a>),
+}
+
+/// Which hierarchy is to be checked against which graph.
+#[derive(Clone, Copy, Debug, PartialEq, Eq)]
+pub struct Check<'a> {
+    /// The file with the graph's text.
+    pub graph: &'a str,
+    /// The file of the hierarchy.
+    pub hierarchy: &'a str,
+    /// Whether the user is shown how far it has come, at a terminal.
+    pub progress: bool,
 }
 
 /// What a command line asks for.
@@ -66,7 +79,11 @@ impl Job<'_> {
     {
         match self {
             Job::Answer { graph, queries } => *graph == "-" && *queries == "-",
-            Job::Prepare(_) | Job::Route { .. } | Job::Serve { .. } | Job::Info { .. } => false,
+            Job::Prepare(_)
+            | Job::Route { .. }
+            | Job::Serve { .. }
+            | Job::Info { .. }
+            | Job::Check(_) => false,
         }
     }
 
@@ -76,7 +93,11 @@ impl Job<'_> {
     {
         match self {
             Job::Prepare(preparation) => preparation.graph == preparation.out,
-            Job::Answer { .. } | Job::Route { .. } | Job::Serve { .. } | Job::Info { .. } => false,
+            Job::Answer { .. }
+            | Job::Route { .. }
+            | Job::Serve { .. }
+            | Job::Info { .. }
+            | Job::Check(_) => false,
         }
     }
 

@@ -2,3 +2,4 @@ mod OneForEach
 mod Putting
 mod Statuses
 mod Stops
+mod Verdicts

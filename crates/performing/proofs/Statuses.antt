@@ -17,8 +17,8 @@ use Rattle.ch_service.specs.Joined.{graph_part, pairs_part}
 use Rattle.ch_service.specs.Outcome.{Writes}
 use Rattle.ch_service.specs.Refusals.{NotBad, RefusesAnswers, RefusesPreparing, RefusesRoutes}
 use Rattle.jobs.specs.declared.job.Job.{Job}
-use Rattle.jobs.specs.declared.job.Job.TheVariants.{Answer, Prepare, Route, Serve, Info}
-use Rattle.performing.specs.Status.{status_of, status_after, Ends, Tells, TellsPrepared, TellsRouted, IsAnsweringStatus, IsPreparingStatus, IsRoutingStatus, IsServingStatus, IsStatusOf}
+use Rattle.jobs.specs.declared.job.Job.TheVariants.{Answer, Prepare, Route, Serve, Info, Check}
+use Rattle.performing.specs.Status.{status_of, status_after, Ends, Tells, TellsPrepared, TellsRouted, IsAnsweringStatus, IsPreparingStatus, IsRoutingStatus, IsServingStatus, IsCheckingStatus, IsStatusOf}
 
 -- a refusal has a status of its own
 pub some_status : (c : Cause) → status_of c ≢ 0
@@ -134,6 +134,9 @@ of_service j n hierarchy is status = rw is status
 
 pub of_info : (j : Job) (n : ℕ) (hierarchy : _) → j ≡ Info hierarchy → IsServingStatus n → IsStatusOf j n
 of_info j n hierarchy is status = rw is status
+
+pub of_check : (j : Job) (n : ℕ) (check : _) → j ≡ Check check → IsCheckingStatus n → IsStatusOf j n
+of_check j n check is status = rw is status
 
 -- nor where requests are served, or what a hierarchy file has is printed
 pub no_worker : (n : ℕ) (P : Type 0) → IsServingStatus n → n ≡ 8 → P

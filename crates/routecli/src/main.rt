@@ -1,4 +1,4 @@
-//! The program `routecli`: prepares hierarchies of road graphs, and answers pairs of nodes with shortest paths.
+//! The program `routecli`: prepares hierarchies of road graphs, checks them, and answers pairs of nodes with shortest paths.
 //!
 //! Uses `command_line`, which turns the program's arguments into a [`Job`], `performing`, which does it over readers
 //! and writers and returns the exit status, `whole_file`, by which the file of a hierarchy is whole or not there, and
@@ -6,13 +6,15 @@
 #![tactic(auto)]
 
 ghost use Rattle.std.specs.Prelude.{◌≡◌, ◌⊎◌};
-ghost use Rattle.performing.specs.Status.{IsAnsweringStatus, IsPreparingStatus, IsRoutingStatus, IsServingStatus};
+ghost use Rattle.performing.specs.Status.{IsAnsweringStatus, IsCheckingStatus, IsPreparingStatus, IsRoutingStatus, IsServingStatus};
 
+use ch_check::Unwatched;
 use ch_workers::{Gate, OpenGate};
 use command_line::command;
-use jobs::{Job, Preparation, Stop, end, show_stop};
+use jobs::{Check, Job, Preparation, Stop, end, show_stop};
 use performing::{
-    perform_answer, perform_info, perform_joined, perform_route, perform_service, prepare_whole,
+    perform_answer, perform_check, perform_info, perform_joined, perform_route, perform_service,
+    prepare_whole,
 };
 use std::env::Env;
 use std::io::{ErrorKind, IsTerminal};
@@ -22,7 +24,9 @@ use std::sync::Wait;
 use std::thread::Threads;
 use std::time::Clock;
 use std::{env, fs, io};
-use terminal::{Cleared, Heard, Kept, Meter, Trouble, Watched, explain, warn_of, write_end};
+use terminal::{
+    Cleared, Heard, Kept, Meter, Trouble, Watched, explain, explain_verdict, warn_of, write_end,
+};
 use whole_file::{OutFile, is_one_file};
 
 fn main(rt: HostRuntime) -> ExitCode {
@@ -57,6 +61,7 @@ fn main(rt: HostRuntime) -> ExitCode {
     trouble.note("standard output", out.failure());
     if status != 0 && explains {
         explain(&rt, &call.job, heard.text(), &trouble, &mut err);
+        explain_verdict(&call.job, status, &mut err);
     }
     ExitCode::from(status)
 }
@@ -77,6 +82,7 @@ fn perform<'a, R: Files + AllocGlobal + Clock + Threads + Wait + Sync, Q: io::Re
         Job::Route { hierarchy, queries } => route(rt, hierarchy, queries, out, err, trouble),
         Job::Serve { hierarchy } => serve(rt, hierarchy, input, out, err, trouble),
         Job::Info { hierarchy } => info(rt, hierarchy, out, err, trouble),
+        Job::Check(check) => self::check(rt, &check, out, terminal, err, trouble),
         Job::Prepare(preparation) if is_one_file(rt, preparation.graph, preparation.out) => {
             show_stop(&Stop::OneFile, out, err)
         }
@@ -181,6 +187,64 @@ fn info<'a, R: Files + AllocGlobal, W: io::Write, E: io::Write>(
     }
 }
 
+// Checks the hierarchy of one file against the graph of another.
+fn check<'a, R: Files + AllocGlobal + Clock, W: io::Write>(
+    rt: &R,
+    check: &Check<'a>,
+    out: &mut W,
+    terminal: Stderr,
+    err: &mut Heard<Stderr>,
+    trouble: &mut Trouble<'a>,
+) -> u8
+    ensures { IsCheckingStatus result }
+{
+    match (fs::open(rt, check.graph), fs::open(rt, check.hierarchy)) {
+        (Ok(first), Ok(second)) => {
+            let mut files = (Kept::new(first), Kept::new(second));
+            let shows = check.progress && terminal.is_terminal();
+            let status = check_files(rt, shows, &mut files, out, terminal, err);
+            trouble.note(check.graph, files.0.failure());
+            trouble.note(check.hierarchy, files.1.failure());
+            status
+        }
+        (Err(error), _) => refuse_file(check.graph, error, err, trouble),
+        (_, Err(error)) => refuse_file(check.hierarchy, error, err, trouble),
+    }
+}
+
+// Checks a hierarchy's file against a graph's text, and shows how far it has come if it is to be shown.
+fn check_files<R: AllocGlobal + Clock, G: io::Read + Drop, H: io::Read, W: io::Write>(
+    rt: &R,
+    shows: bool,
+    files: &mut (G, H),
+    out: &mut W,
+    terminal: Stderr,
+    err: &mut Heard<Stderr>,
+) -> u8
+    ensures { IsCheckingStatus result }
+{
+    let (graph, hierarchy) = files;
+    if shows {
+        if let Ok(meter) = Meter::new(rt, terminal) {
+            let mut graph = Watched::new(graph, &meter);
+            let mut out = Cleared::new(&meter, out);
+            let mut shown = Heard::new(rt.alloc(), Cleared::new(&meter, terminal));
+            let status = perform_check(
+                rt.alloc(),
+                &mut graph,
+                hierarchy,
+                &mut out,
+                &mut shown,
+                &meter,
+            );
+            meter.clear();
+            err.hear(shown.text());
+            return status;
+        }
+    }
+    perform_check(rt.alloc(), graph, hierarchy, out, err, &Unwatched)
+}
+
 // Prepares a hierarchy, and shows how far it has come where that is asked for and standard error is a terminal.
 fn prepare<'a, R: Files + AllocGlobal + Clock + Threads + Wait + Sync>(
     rt: &R,
@@ -212,7 +276,7 @@ fn prepare_and_show<'a, R: Files + AllocGlobal + Clock + Threads + Wait + Sync>(
 ) -> u8
     ensures { IsPreparingStatus result }
 {
-    let mut shown = Heard::new(rt.alloc(), Cleared::new(meter));
+    let mut shown = Heard::new(rt.alloc(), Cleared::new(meter, meter.terminal()));
     let status = match fs::open(rt, preparation.graph) {
         Ok(graph) => {
             let graph = Watched::new(graph, meter);

@@ -57,6 +57,25 @@ pub fn explain<R: Files + AllocGlobal, E: Write>(
     }
 }
 
+/// Explains what a check found whose hierarchy wasn't shown to be right, by its status: 9 or 10.
+pub fn explain_verdict<E: Write>(job: &Job<'_>, status: u8, err: &mut E) {
+    let Job::Check(check) = job else {
+        return;
+    };
+    let (graph, hierarchy) = (check.graph, check.hierarchy);
+    if status == 9 {
+        let _ = writeln!(
+            err,
+            "  {hierarchy} gives wrong answers for {graph}: is it of another graph? prepare it again"
+        );
+    } else if status == 10 {
+        let _ = writeln!(
+            err,
+            "  {hierarchy} may be right or wrong for {graph}: prepare it again to be sure"
+        );
+    }
+}
+
 // Names the file, and why it couldn't be read or written.
 fn explain_trouble<E: Write>(trouble: &Trouble<'_>, err: &mut E) {
     let Some((name, error)) = trouble.failed else {
@@ -77,6 +96,7 @@ fn hierarchy_of<'a>(job: &Job<'a>) -> Option<&'a str> {
         Job::Route { hierarchy, .. } | Job::Serve { hierarchy } | Job::Info { hierarchy } => {
             Some(hierarchy)
         }
+        Job::Check(check) => Some(check.hierarchy),
         Job::Answer { .. } | Job::Prepare(_) => None,
     }
 }
@@ -86,6 +106,7 @@ fn graph_of<'a>(job: &Job<'a>) -> Option<&'a str> {
     match job {
         Job::Answer { graph, .. } if !job.is_joined() => Some(graph),
         Job::Prepare(preparation) => Some(preparation.graph),
+        Job::Check(check) => Some(check.graph),
         _ => None,
     }
 }
@@ -180,6 +201,11 @@ fn explain_hierarchy<R: Files + AllocGlobal, E: Write>(
         let _ = writeln!(
             err,
             "  {path} ends too early: copy it again, or prepare it again"
+        );
+    } else if is(name, "OldVersion") {
+        let _ = writeln!(
+            err,
+            "  {path} is of version 1, which can't be checked: prepare it again"
         );
     } else if is(name, "TooLong") {
         let _ = writeln!(

@@ -39,7 +39,7 @@ mod progress;
 mod shown;
 mod watched;
 
-pub use explaining::{Trouble, explain};
+pub use explaining::{Trouble, explain, explain_verdict};
 pub use files::warn_of;
 pub use heard::Heard;
 pub use kept::Kept;

@@ -1,4 +1,5 @@
 use crate::progress::{Progress, write_line};
+use ch_check::Watch;
 use ch_workers::{Gate, Point};
 use std::io::{self, Write};
 use std::rt::Stderr;
@@ -11,7 +12,7 @@ const PACE: u64 = 200;
 /// How many bytes a line has at most.
 const ROOM: usize = 192;
 
-/// A gate that counts commits, and shows on standard error how far they are.
+/// A gate that counts commits, or a watch of a check, which shows on standard error how far they are.
 #[derive(Drop)]
 pub struct Meter<'a, R> {
     clock: &'a R,
@@ -62,6 +63,11 @@ impl<'a, R: Clock> Meter<'a, R> {
             .as_secs()
             .saturating_mul(1_000)
             .saturating_add(u64::from(elapsed.subsec_millis()))
+    }
+
+    /// Returns the terminal that it shows lines at.
+    pub fn terminal(&self) -> Stderr {
+        self.err
     }
 
     /// Takes the line away.
@@ -121,37 +127,46 @@ impl<R: Clock + Sync> Gate for Meter<'_, R> {
     }
 }
 
-/// Standard error, where the line of a meter is taken away before the first bytes are written.
+impl<R: Clock> Watch for Meter<'_, R> {
+    fn contracted(&self, done: u32) {
+        let done = u64::from(done);
+        self.commits.store(done, Ordering::SeqCst);
+        self.show(done);
+    }
+}
+
+/// A writer to the terminal of a meter, whose line is taken away before the first bytes are written.
 ///
 /// What is written after that is kept, since a message comes in several writes. So it is for what is written once no
 /// worker passes the meter any more.
 #[derive(Drop)]
-pub struct Cleared<'a, R> {
+pub struct Cleared<'a, R, W> {
     meter: &'a Meter<'a, R>,
+    writer: W,
     is_cleared: bool,
 }
 
-impl<'a, R: Clock> Cleared<'a, R> {
-    /// Standard error with this meter.
-    pub fn new(meter: &'a Meter<'a, R>) -> Cleared<'a, R> {
+impl<'a, R: Clock, W: Write> Cleared<'a, R, W> {
+    /// This writer, at the terminal of this meter.
+    pub fn new(meter: &'a Meter<'a, R>, writer: W) -> Cleared<'a, R, W> {
         Cleared {
             meter,
+            writer,
             is_cleared: false,
         }
     }
 }
 
-impl<R: Clock> Write for Cleared<'_, R> {
+impl<R: Clock, W: Write> Write for Cleared<'_, R, W> {
     fn write(&mut self, buf: &[u8]) -> io::Result<usize> {
         if !self.is_cleared {
             self.meter.clear();
             self.is_cleared = true;
         }
-        let mut err = self.meter.err;
-        err.write(buf)
+        self.writer.write(buf)
     }
 
     fn flush(&mut self) -> io::Result<()> {
-        Ok(())
+        self.writer.flush()
     }
 }

@@ -1,5 +1,5 @@
 use command_line::command;
-use jobs::{Job, Order, Preparation, Stint, Stop, Workers, show_stop};
+use jobs::{Check, Job, Order, Preparation, Stint, Stop, Workers, show_stop};
 use std::alloc::{AllocError, Global};
 use std::io::{self, ErrorKind, Write};
 use std::test::Fail;
@@ -28,7 +28,7 @@ impl Write for Broken {
 }
 
 /// Arguments that name a job without options, and whether both texts of it come from standard input.
-const NAMED: [(&[&str], Job<'static>, bool); 7] = [
+const NAMED: [(&[&str], Job<'static>, bool); 9] = [
     (
         &["routecli", "answer", "a.gr", "b.p2p"],
         Job::Answer {
@@ -77,6 +77,24 @@ const NAMED: [(&[&str], Job<'static>, bool); 7] = [
     (
         &["routecli", "info", "a.rch"],
         Job::Info { hierarchy: "a.rch" },
+        false,
+    ),
+    (
+        &["routecli", "check", "a.gr", "a.rch"],
+        Job::Check(Check {
+            graph: "a.gr",
+            hierarchy: "a.rch",
+            progress: false,
+        }),
+        false,
+    ),
+    (
+        &["routecli", "check", "-", "--progress", "-"],
+        Job::Check(Check {
+            graph: "-",
+            hierarchy: "-",
+            progress: true,
+        }),
         false,
     ),
 ];
@@ -260,7 +278,7 @@ fn names(
 }
 
 /// Words of each command that ask for explanations.
-const EXPLAINED: [&[&str]; 6] = [
+const EXPLAINED: [&[&str]; 7] = [
     &["routecli", "answer", "--explain", "a.gr", "b.p2p"],
     &["routecli", "prepare", "a.gr", "--explain", "a.rch"],
     &[
@@ -274,6 +292,7 @@ const EXPLAINED: [&[&str]; 6] = [
     &["routecli", "route", "a.rch", "b.p2p", "--explain"],
     &["routecli", "serve", "--explain", "a.rch"],
     &["routecli", "info", "a.rch", "--explain"],
+    &["routecli", "check", "a.gr", "--explain", "a.rch"],
 ];
 
 /// Whether the arguments ask for explanations.
@@ -311,7 +330,7 @@ fn stop_of(alloc: Global, texts: &[&str]) -> Result<Stop, Fail> {
 }
 
 /// Words that are refused, and how the first line of the refusal goes on after `error: `.
-const REFUSED: [(&[&str], &[u8]); 38] = [
+const REFUSED: [(&[&str], &[u8]); 41] = [
     (&["routecli"], b""),
     (&["routecli", "answer"], b""),
     (&["routecli", "answer", "a.gr"], b""),
@@ -468,6 +487,18 @@ const REFUSED: [(&[&str], &[u8]); 38] = [
         b"unexpected argument 'b.rch' found\n",
     ),
     (
+        &["routecli", "check", "a.gr"],
+        b"the following required arguments were not provided:\n",
+    ),
+    (
+        &["routecli", "check", "a.gr", "a.rch", "b"],
+        b"unexpected argument 'b' found\n",
+    ),
+    (
+        &["routecli", "check", "--workers", "1", "a.gr", "a.rch"],
+        b"unexpected argument '--workers' found\n",
+    ),
+    (
         &["routecli", "route", "--explain=no", "a.rch", "a.p2p"],
         b"unexpected value 'no' for '--explain' found; no more were expected\n",
     ),
@@ -523,12 +554,16 @@ fn one_word_for_both_files(rt: HostRuntime) -> Result<(), Fail> {
 }
 
 /// Arguments that ask for help, and what the help says.
-const HELP: [(&[&str], &[&str]); 6] = [
+const HELP: [(&[&str], &[&str]); 7] = [
     (&["routecli", "--help"], &["--version"]),
     (&["routecli", "help"], &["--version"]),
     (&["routecli", "help", "answer"], &[]),
     (&["routecli", "answer", "-h"], &[]),
     (&["routecli", "route", "--help"], &[]),
+    (
+        &["routecli", "check", "--help"],
+        &["<GRAPH>", "<HIER>", "--progress", "--explain"],
+    ),
     (
         &["routecli", "prepare", "--help"],
         &[

@@ -1,6 +1,6 @@
 use crate::examples::{ONE_ARC, ONE_ARC_TEXT, ONE_ARC_V1, ROW, TWICE};
 use crate::kit::joined;
-use jobs::Job;
+use jobs::{Check, Job};
 use performing::perform;
 use std::alloc::Global;
 use std::io::{self, ErrorKind, Read, Write};
@@ -230,15 +230,70 @@ fn what_files_have(rt: HostRuntime) {
     }
 }
 
+const CHECK: Job<'static> = Job::Check(Check {
+    graph: "a.gr",
+    hierarchy: "a.rch",
+    progress: false,
+});
+
+/// What a check ends with: the text, the file, the status, the line of the verdict and that on standard error.
+const CHECKED: [Routed; 7] = [
+    (ONE_ARC_TEXT, ONE_ARC, 0, b"right\n", b""),
+    (b"p sp 3 1\na 1 2 7\n", ONE_ARC, 9, b"wrong: nodes\n", b""),
+    (
+        b"p sp 2 2\na 1 2 6\na 2 1 7\n",
+        ONE_ARC,
+        9,
+        b"wrong: pair 1 2\n",
+        b"",
+    ),
+    (
+        b"p sp 2 1\na 1 2 8\n",
+        ONE_ARC,
+        10,
+        b"not shown: bound\n",
+        b"",
+    ),
+    (
+        b"p sp 2 1\na 1 3 7\n",
+        b"RCH3",
+        3,
+        b"",
+        b"routecli: graph: NodeRange line 2\n",
+    ),
+    (
+        ONE_ARC_TEXT,
+        b"RCH3",
+        4,
+        b"",
+        b"routecli: hierarchy: BadMagic\n",
+    ),
+    (
+        ONE_ARC_TEXT,
+        ONE_ARC_V1,
+        4,
+        b"",
+        b"routecli: hierarchy: OldVersion\n",
+    ),
+];
+
+#[test]
+fn checks(rt: HostRuntime) {
+    let alloc = rt.alloc();
+    for (mut text, mut file, status, out, err) in CHECKED {
+        assert!(rt; is_ended(&rt, alloc, &CHECK, &mut text, &mut file, status, out, err));
+    }
+}
+
 #[test]
 fn failed_reads(rt: HostRuntime) {
     let alloc = rt.alloc();
     let line = b"routecli: read\n";
-    for job in [TWO, JOINED, ROUTE, INFO] {
+    for job in [TWO, JOINED, ROUTE, INFO, CHECK] {
         let mut pairs = PAIRS;
         assert!(rt; is_ended(&rt, alloc, &job, &mut Broken, &mut pairs, 7, b"", line));
     }
-    for (job, mut first) in [(TWO, ONE_ARC_TEXT), (ROUTE, ONE_ARC)] {
+    for (job, mut first) in [(TWO, ONE_ARC_TEXT), (ROUTE, ONE_ARC), (CHECK, ONE_ARC_TEXT)] {
         assert!(rt; is_ended(&rt, alloc, &job, &mut first, &mut Broken, 7, b"", line));
     }
 }

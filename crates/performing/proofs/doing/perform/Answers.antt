@@ -1,5 +1,6 @@
 use Rattle.std.proofs.Common.{refl}
-use Rattle.performing.proofs.Statuses.{of_answer, of_preparation, of_route, of_service, of_info, no_disagreement, no_worker}
+use Rattle.performing.proofs.Statuses.{of_answer, of_preparation, of_route, of_service, of_info, of_check, no_disagreement, no_worker}
+use Rattle.performing.proofs.Verdicts.{none_disagree}
 use Rattle.performing.proofs.doing.perform.Goals as goal
 
 -- both texts in one input
@@ -64,3 +65,14 @@ returns-in-Info-clause-mixed g c = no_worker _ _ c.perform_info.ensures.status
 
 pub returns-in-Info-clause-unread : goal.returns-in-Info-clause-unread
 returns-in-Info-clause-unread g c is = refl
+
+-- a check
+
+pub returns-in-Check-clause-checked : goal.returns-in-Check-clause-checked
+returns-in-Check-clause-checked g c checking = c.perform_check.ensures.told
+
+pub returns-in-Check-clause-status : goal.returns-in-Check-clause-status
+returns-in-Check-clause-status g c = of_check _ _ _ c.in-Check.is c.perform_check.ensures.status
+
+pub returns-in-Check-clause-mixed : goal.returns-in-Check-clause-mixed
+returns-in-Check-clause-mixed g c = none_disagree _ _ c.perform_check.ensures.status
