@@ -318,7 +318,7 @@ class FramingTests(ServiceCase):
         self.assertLess(time.monotonic() - begun, BUSY)
 
     def test_many_requests_ahead(self):
-        """Two hundred connections that send all they can ahead: less than 256 KiB for each is held."""
+        """Two hundred connections that send all they can ahead: less than 1 MiB for each is held."""
         process = self.serve("--network", self.folder / "v", faults=["sleep 1"], program=STAND_IN)
         many = f"GET {PATH} HTTP/1.1\r\nHost: x\r\n\r\n".encode() * 6000
         before = resident(fronts_of(process)[0])
@@ -330,7 +330,7 @@ class FramingTests(ServiceCase):
                     while True:
                         stream.send(many)
             time.sleep(1)
-            self.assertLess(resident(fronts_of(process)[0]) - before, 200 * 512)
+            self.assertLess(resident(fronts_of(process)[0]) - before, 200 * 1024)
 
 
 class WorkTests(ServiceCase):
