@@ -9,6 +9,7 @@
         hierarchy.lengths(pairs)                                         # an array, -1 where there is no way
         hierarchy.routes(pairs)[7]                                       # the nodes of the eighth route
         hierarchy.matrix(sources, targets)                               # a table of lengths
+    domethyme.check("town.gr", "town.rch")                               # the file is right for the graph, or an error
 
 Nodes are numbered from 0, as rows are; node n is node n + 1 of a file. Who has keys of their own gives them as `keys`, and
 then asks and is answered by them. Weights are whole numbers from 0 to 4,294,967,295 in a unit of the user's own, such as
@@ -21,6 +22,7 @@ Errors are DomethymeErrors, listed in `domethyme.errors`; arguments that can't b
 """
 from typing import TYPE_CHECKING, Any
 
+from .checking import check
 from .errors import (
     DomethymeError,
     FileError,
@@ -30,11 +32,13 @@ from .errors import (
     NetworkError,
     NoAnswer,
     NoSuchNode,
+    NotShown,
     OutOfMemory,
     ProgramError,
     ProgramNotFound,
     ProgramStopped,
     ReadWriteError,
+    WrongHierarchy,
 )
 from .graphs import Graph, prepare, unscaled, write_graph
 from .hierarchy import Hierarchy, Route
@@ -61,6 +65,7 @@ __all__ = [
     "NoAnswer",
     "NoSuchNode",
     "NO_WAY",
+    "NotShown",
     "OutOfMemory",
     "ProgramError",
     "ProgramNotFound",
@@ -68,6 +73,8 @@ __all__ = [
     "ReadWriteError",
     "Route",
     "Routes",
+    "WrongHierarchy",
+    "check",
     "find_program",
     "prepare",
     "unscaled",

@@ -7,7 +7,9 @@
     │   └── NoAnswer         it didn't answer within the timeout (also a TimeoutError)
     ├── GraphError           the text of a graph is refused
     ├── HierarchyError       a file of a hierarchy is refused
-    │   └── HierarchyNotFound  there is no such file (also a FileNotFoundError)
+    │   ├── HierarchyNotFound  there is no such file (also a FileNotFoundError)
+    │   ├── WrongHierarchy   it isn't right for the graph that it was checked against
+    │   └── NotShown         a check showed neither that it is right nor that it isn't
     ├── FileError            a file is refused by this package and not by the program
     │   └── NetworkError     a file of a network (nodes, arcs), or of places or pairs in one
     ├── NoSuchNode           a node or key that the hierarchy doesn't have (also a ValueError and a LookupError)
@@ -25,7 +27,7 @@ class DomethymeError(Exception):
     """What went wrong, as one line; `str` adds the explanation, a line each.
 
     message      the line
-    status       the exit status: 3 to 8 as `routecli` ended, else 1
+    status       the exit status: 3 to 10 as `routecli` ended, else 1
     explanation  lines by which `routecli` explains a refusal: the file, its line, what was expected. Often there are none
     """
 
@@ -63,6 +65,19 @@ class HierarchyError(DomethymeError):
 
 class HierarchyNotFound(HierarchyError, FileNotFoundError):
     """There is no file of a hierarchy at this path."""
+
+
+class WrongHierarchy(HierarchyError):
+    """The file of a hierarchy isn't right for the graph that it was checked against.
+
+    pair  two nodes from 0 between which it has another length than the graph, None where it has another number of nodes
+    """
+
+    pair: tuple[int, int] | None = None
+
+
+class NotShown(HierarchyError):
+    """A check showed neither that a hierarchy is right for a graph nor that it isn't; the message says where it ended."""
 
 
 class FileError(DomethymeError):

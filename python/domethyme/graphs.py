@@ -1,8 +1,10 @@
 """Graphs: written from arrays, tables of one's own keys, and prepared."""
+import contextlib
 import math
 import os
 import tempfile
 import warnings
+from collections.abc import Iterator
 from typing import TYPE_CHECKING, Any, Literal
 
 from . import texts
@@ -175,17 +177,26 @@ def prepare(
     found = find_program(program)
     options = {"--order": order, "--workers": workers, "--seed": seed, "--stint": stint}
     words = [str(word) for name, value in options.items() if value is not None for word in (name, value)]
+    with text_of(graph) as text:
+        run_program(found, ["prepare", *words, text, os.fspath(hierarchy)])
+    keys = graph.keys if isinstance(graph, Graph) else None
+    if keys is not None and keys.can_be_saved():
+        keys.save(hierarchy)
+    return Hierarchy(hierarchy, program, keys=keys)
+
+
+@contextlib.contextmanager
+def text_of(graph: "Graph | StrPath") -> Iterator[str]:
+    """The path of the text of a graph, which is written for the block where there is only a Graph. Raises ReadWriteError where a
+    file can't be opened."""
     if not isinstance(graph, Graph):
         need_readable(graph)
-        run_program(found, ["prepare", *words, os.fspath(graph), os.fspath(hierarchy)])
-        return Hierarchy(hierarchy, program)
+        yield os.fspath(graph)
+        return
     with tempfile.TemporaryDirectory(prefix="domethyme-") as folder:
         text = os.path.join(folder, "graph.gr")
         graph.write(text)
-        run_program(found, ["prepare", *words, text, os.fspath(hierarchy)])
-    if graph.keys is not None and graph.keys.can_be_saved():
-        graph.keys.save(hierarchy)
-    return Hierarchy(hierarchy, program, keys=graph.keys)
+        yield text
 
 
 def need_readable(path: StrPath) -> None:

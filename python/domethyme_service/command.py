@@ -30,6 +30,7 @@ def parser() -> argparse.ArgumentParser:
     shape = argparse.RawDescriptionHelpFormatter
     words = argparse.ArgumentParser(prog="domethyme-serve", description=__doc__, formatter_class=shape)
     words.add_argument("hierarchy", metavar="HIERARCHY", help="the file of a hierarchy")
+    words.add_argument("--checked", metavar="GRAPH", help="the graph for which the hierarchy has to be right, proved at each start")
     words.add_argument("--network", help="the beginning of the names of its network's files: places on roads, and OSRM's API")
     words.add_argument("--within", type=number(0, 10_000_000), default=1000, help="metres from a place to a road (1000)")
     words.add_argument("--host", default="127.0.0.1", help="the address to listen at (127.0.0.1)")
@@ -77,7 +78,7 @@ def set_logs(access: bool) -> None:
 
 def run(words: argparse.Namespace) -> int:
     """Runs the service; returns the exit status. Raises Unable or a DomethymeError where it can't begin."""
-    files = Files(find_program(words.program), words.hierarchy, words.network, words.tables == "fast")
+    files = Files(find_program(words.program), words.hierarchy, words.network, words.tables == "fast", words.checked)
     connections = most_connections(words.connections, words.workers)
     client = words.client_connections or max(1, words.connections // 2)
     bounds = Bounds(connections, min(client, connections), words.head_seconds)

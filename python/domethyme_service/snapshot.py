@@ -5,6 +5,7 @@ from typing import NamedTuple
 import numpy as np
 
 from domethyme import NetworkError
+from domethyme.checking import run_check
 from domethyme.hierarchy import looked_at
 from domethyme.hierarchy import opened as file_of
 from domethyme.lines import Answer, answer_to
@@ -25,12 +26,13 @@ VERIFIED = 1 << 28
 
 class Files(NamedTuple):
     """What a generation is read from: the program, the file of the hierarchy, and the beginning of the names of its network's
-    files, or None; and whether tables are computed by the links of the former."""
+    files, or None; whether tables are computed by the links of the former; and the graph that it is checked against, or None."""
 
     program: str
     hierarchy: str
     network: str | None
     has_tables: bool
+    graph: str | None = None
 
 
 class Snapshot(NamedTuple):
@@ -54,6 +56,8 @@ def opened(files: Files) -> Snapshot:
     file = file_of(files.hierarchy)
     stamp = stamp_of(file)
     looked_at(file.fileno(), files.hierarchy)
+    if files.graph is not None:
+        run_check(files.program, files.graph, f"/proc/self/fd/{file.fileno()}", files.hierarchy, [file.fileno()])
     process = Process(files.program, file, files.hierarchy, PATIENCE)
     try:
         running = process.start()

@@ -382,6 +382,31 @@ class DomethymeTests(ToolCase):
         self.assertEqual(caught.exception.message, "routecli: write")
         self.assertIn("nowhere", caught.exception.explanation[0])
 
+    def test_files_that_are_checked(self):
+        ring = ([0, 1, 2], [1, 2, 0])
+        right, lighter, heavier, more = (domethyme.Graph(*ring, weights, nodes) for weights, nodes in
+                                         [([3, 4, 5], 3), ([2, 4, 5], 3), ([3, 4, 6], 3), ([3, 4, 5], 4)])
+        path, program = self.folder / "ring.rch", serving_program()
+        right.prepare(path, program=program).close()
+        right.write(self.folder / "ring.gr")
+        for graph in (right, self.folder / "ring.gr"):
+            self.assertIsNone(domethyme.check(graph, path, program))
+        with self.assertRaisesRegex(domethyme.WrongHierarchy, "ring.rch: wrong: pair") as caught:
+            domethyme.check(lighter, path, program)
+        least = {(0, 1): 2, (0, 2): 6, (1, 2): 4, (1, 0): 9, (2, 0): 5, (2, 1): 7}
+        with domethyme.Hierarchy(path, program) as hierarchy:
+            self.assertNotEqual(hierarchy.length(*caught.exception.pair), least[caught.exception.pair])
+        self.assertEqual((caught.exception.status, len(caught.exception.explanation) > 0), (9, True))
+        with self.assertRaisesRegex(domethyme.WrongHierarchy, "wrong: nodes") as caught:
+            domethyme.check(more, path, program)
+        self.assertIsNone(caught.exception.pair)
+        with self.assertRaisesRegex(domethyme.NotShown, "not shown: bound"):
+            domethyme.check(heavier, path, program)
+        with self.assertRaisesRegex(domethyme.HierarchyError, "ring.gr: routecli: hierarchy: BadMagic"):
+            domethyme.check(right, self.folder / "ring.gr", program)
+        with self.assertRaisesRegex(domethyme.ReadWriteError, "nowhere.gr: No such file"):
+            domethyme.check(self.folder / "nowhere.gr", path, program)
+
     def test_a_hierarchy_that_was_pickled_or_replaced(self):
         hierarchy = self.square()
         with pickle.loads(pickle.dumps(hierarchy)) as other:

@@ -10,6 +10,7 @@ import threading
 import time
 
 from service_case import ServiceCase, children_of, fronts_of, workers_of
+from tool_case import serving_program
 
 import domethyme
 
@@ -99,6 +100,20 @@ class SignalTests(ServiceCase):
         for number in workers_of(process):
             os.kill(number, signal.SIGKILL)
         self.assertEqual(self.ask(PATH), old, "a worker that is started anew reads the file that was there")
+
+    def test_a_hierarchy_that_is_checked(self):
+        """A file that is right for its graph is served; one of other weights isn't, at a reload and at a start."""
+        right = self.folder / "right.gr"
+        right.write_bytes((self.folder / "v.gr").read_bytes())
+        process = self.serve("--checked", right)
+        old = self.ask(PATH)
+        self.prepare(2)
+        process.send_signal(signal.SIGHUP)
+        self.wait_for(lambda: any("reload refused: " in line and "v.rch: not shown: bound" in line for line in self.said))
+        self.assertEqual(self.ask(PATH), old)
+        words = ["domethyme-serve", self.folder / "v.rch", "--port", "0", "--checked", right]
+        ended = self.run_tool(*words, status=1, environment={"ROUTECLI": serving_program()})
+        self.assertIn("v.rch: not shown: bound", ended.stderr)
 
     def test_the_end(self):
         process = self.serve()

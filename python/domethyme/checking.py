@@ -1,0 +1,52 @@
+"""Whether the file of a hierarchy is right for a graph, whoever made it: by `routecli check`, which is proved."""
+import os
+import subprocess
+from collections.abc import Sequence
+from typing import TYPE_CHECKING
+
+from .errors import NotShown, ProgramError, WrongHierarchy, error_of, os_reason
+from .program import StrPath, find_program
+
+if TYPE_CHECKING:
+    from .graphs import Graph
+
+WRONG, NOT_SHOWN = 9, 10
+
+
+def check(graph: "Graph | StrPath", hierarchy: StrPath, program: StrPath | None = None) -> None:
+    """Returns if the file of a hierarchy is right for a Graph, or for a graph's file, whoever made it. Then each length that it
+    answers is the least one in that graph.
+
+    program   the path of `routecli`, else it is looked for (find_program)
+
+    Raises WrongHierarchy if it isn't right, NotShown if neither is shown, and GraphError, HierarchyError, OutOfMemory,
+    ReadWriteError, ProgramNotFound, ProgramError.
+    """
+    from .graphs import text_of
+
+    with text_of(graph) as text:
+        run_check(find_program(program), text, os.fspath(hierarchy), os.fspath(hierarchy))
+
+
+def run_check(program: str, graph: str, hierarchy: str, name: str, files: Sequence[int] = ()) -> None:
+    """Checks a hierarchy's file, which messages call by this name, against a graph's, as `check` does. The program has the open
+    `files`, too."""
+    nothing, pipe = subprocess.DEVNULL, subprocess.PIPE
+    words = [program, "check", "--explain", graph, hierarchy]
+    try:
+        ended = subprocess.run(words, stdin=nothing, stdout=pipe, stderr=pipe, pass_fds=files)
+    except OSError as error:
+        raise ProgramError(f"{program}: {os_reason(error)}") from error
+    if ended.returncode == 0:
+        return
+    if ended.returncode not in (WRONG, NOT_SHOWN):
+        raise error_of(ended.returncode, ended.stderr, name)
+    line = ended.stdout.decode("ascii", "replace").strip()
+    explanation = [" ".join(each.split()) for each in ended.stderr.decode("utf-8", "replace").splitlines()]
+    if ended.returncode == NOT_SHOWN:
+        raise NotShown(f"{name}: {line}", NOT_SHOWN, explanation)
+    fault = WrongHierarchy(f"{name}: {line}", WRONG, explanation)
+    words = line.split()
+    if words[1:2] == ["pair"]:
+        fault.pair = int(words[2]) - 1, int(words[3]) - 1
+    raise fault
