@@ -1,6 +1,6 @@
 -- What the status after a call says.
 use Rattle.std.proofs.Common.{ℕ, ◌≡◌, List, Option, refl, sym, subst, inl, inr, ⊎_elim}
-use Rattle.std.specs.Prelude.{⊤, ◌≢◌, ◌⊎◌, ◌↔◌, Some, None, option_map, Result, Ok, Err, OnOk, IfErr, IfSome, IsErrAnd}
+use Rattle.std.specs.Prelude.{⊤, ◌≢◌, ◌↔◌, Some, None, option_map, Result, Ok, Err, OnOk, IfErr, IfSome, IsErrAnd}
 use Rattle.std.specs.Io.KnownBytes.{Keeps}
 use Rattle.std.proofs.lemmas.Bool.{cases_eq}
 use Rattle.ch_workers.specs.Options.{AreGood, AreBad}

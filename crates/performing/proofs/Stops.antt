@@ -1,6 +1,5 @@
 -- What the status says of a service, and where what a hierarchy file has isn't printed.
 use Rattle.std.proofs.Common.{ℕ, ◌≡◌, ◌≢◌, inl, inr, arith, refl}
-use Rattle.std.specs.Prelude.{◌⊎◌}
 use Rattle.hierfile.specs.declared.error.HierError.TheVariants as faults
 use Rattle.ch_serve.specs.declared.error.ServeError.{ServeError}
 use Rattle.ch_serve.specs.declared.error.ServeError.TheVariants as stops

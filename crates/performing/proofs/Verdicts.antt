@@ -1,6 +1,6 @@
 -- What the status of a check says.
 use Rattle.std.proofs.Common.{ℕ, ◌≡◌, List, Option, inl, inr, refl, sym, ◌∙◌}
-use Rattle.std.specs.Prelude.{◌≢◌, ◌⊎◌}
+use Rattle.std.specs.Prelude.{◌≢◌}
 use Rattle.std.specs.Io.KnownBytes.{Appends}
 use Rattle.grfile.specs.declared.error.GrError.{GrError}
 use Rattle.grfile.specs.declared.error.GrErrorKind.{GrErrorKind}
@@ -9,7 +9,7 @@ use Rattle.hierfile.specs.declared.error.HierError.{HierError}
 use Rattle.hierfile.specs.declared.error.HierError.TheVariants as faults
 use Rattle.ch_service.specs.declared.cause.Cause.TheVariants as causes
 use Rattle.ch_service.specs.Cause.{of_text, of_file}
-use Rattle.ch_answer.specs.Written.{IfTold}
+use Rattle.ch_service.specs.Outcome.{IfTold}
 use Rattle.ch_verify.specs.Refusal.{RefusesCheck}
 use Rattle.ch_verify.specs.Verdict.{Says, verdict_line}
 use Rattle.ch_verify.specs.declared.error.VerifyError.{VerifyError}
