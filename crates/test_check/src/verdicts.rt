@@ -107,8 +107,9 @@ const CASES: [Case; 7] = [
 
 /// The file of the hierarchy.
 fn file_of(alloc: Global, case: &Case) -> Result<Vec<u8>, AllocError> {
+    let nodes = u32::try_from(case.ranks.len()).unwrap_or(u32::MAX);
     let mut file = Vec::from_slice(alloc, b"RCH2")?;
-    file.extend_from_slice(&(case.ranks.len() as u32).to_be_bytes())?;
+    file.extend_from_slice(&nodes.to_be_bytes())?;
     file.extend_from_slice(&(case.links.len() as u64).to_be_bytes())?;
     file.extend_from_slice(&case.bound.to_be_bytes())?;
     for rank in case.ranks {
