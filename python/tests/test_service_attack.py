@@ -358,7 +358,7 @@ class WorkTests(ServiceCase):
     def test_five_hundred_places(self):
         """That alternate between two corners of a drawn network, with all that a route can have: others are answered meanwhile. How
         long one is held up is compared with the whole time, which a busy machine makes longer too."""
-        self.run_program([ROOT / "bench/make_roads.py", 1500, 3, self.folder / "drawn"])
+        self.run_program([ROOT / "bench/make_roads.py", 1000, 3, self.folder / "drawn"])
         domethyme.prepare(self.folder / "drawn.gr", self.folder / "v.rch", workers=1).close()
         arrays = arrays_of(str(self.folder / "drawn"))
         lon, lat = arrays.node_lon[:].astype(np.int64), arrays.node_lat[:]
