@@ -1,12 +1,12 @@
 use ch_workers::{Gate, Point};
-use terminal::{Meter, Progress, Watched, write_end, write_line};
 use std::alloc::Global;
 use std::io::Read;
 use std::test::Fail;
 use std::time::Clock;
+use terminal::{Meter, Progress, Watched, write_end, write_line};
 
 /// Commits, nodes, milliseconds, and those of contraction, and the line that shows them.
-const LINES: [([u64; 4], &[u8]); 7] = [
+const LINES: [([u64; 4], &[u8]); 8] = [
     (
         [1, 0, 999, 999],
         b"\x1b[?7l\r1 nodes contracted, 0 s\x1b[K\x1b[?7h",
