@@ -1,12 +1,20 @@
--- A write of what a file has that broke off.
-use Rattle.std.proofs.Common.{ℕ, ◌≡◌, ◌<◌, List, ◌++◌, length, take, Option, Some, None, arith, sym, ap, subst, ◌∙◌, length-append}
+-- A file that was refused, and a write of what one has that broke off.
+use Rattle.std.proofs.Common.{ℕ, ◌≡◌, ◌<◌, List, ◌++◌, length, take, Option, Some, None, arith, refl, sym, ap, subst, ◌∙◌, length-append}
 use Rattle.std.specs.Prelude.{IfSome}
-use Rattle.std.specs.Io.KnownBytes.{Appends}
+use Rattle.std.specs.Io.KnownBytes.{Appends, Keeps}
 use Rattle.std.proofs.Math.Seq.{take-append_seam}
 use Rattle.counted_io.specs.Handing.{HandsOnPart}
 use Rattle.ch_graph.specs.Hierarchy.{Hierarchy, IsWellMade}
+use Rattle.hierfile.specs.Bytes.{IsFaultOf}
+use Rattle.hierfile.specs.Fault.{first_fault}
 use Rattle.hierfile.specs.Spelling.{bytes_of}
-use Rattle.hierinfo.specs.Info.{Informs, info}
+use Rattle.hierfile.specs.declared.error.HierError.{HierError}
+use Rattle.outcomes.specs.Cases.{file_case}
+use Rattle.outcomes.specs.Causes.{of_hierarchy}
+use Rattle.hierinfo.specs.Info.{Informs, RefusesInfo, info}
+
+pub refused : (e : HierError) (file old new : Option (List ℕ)) → IsFaultOf first_fault file e → Keeps old new → RefusesInfo file old new (of_hierarchy e)
+refused e file old new fault keeps = file_case e (RefusesInfo file old new) keeps (refl, keeps) (λ own. (own (IfSome file (λ bytes. first_fault bytes ≡ Some e)) fault, keeps))
 
 first_part : (old new : Option (List ℕ)) (text : List ℕ) (written : ℕ) → HandsOnPart old new text 0 written → (written < length text) × Appends old new (take written text)
 first_part old new text written h =

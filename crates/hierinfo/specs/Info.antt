@@ -4,12 +4,10 @@ use Rattle.std.specs.Io.KnownBytes.{Appends, Keeps}
 use Rattle.ch_cost.specs.Cost.{length_of}
 use Rattle.ch_graph.specs.Hierarchy.{Hierarchy, IsWellMade, version_number}
 use Rattle.hierfile.specs.Spelling.{bytes_of}
-use Rattle.hierfile.specs.Bytes.{OfBytes}
 use Rattle.hierfile.specs.Fault.{first_fault}
-use Rattle.hierfile.specs.Names.{error_name}
-use Rattle.hierfile.specs.declared.error.HierError.TheVariants as faults
-use Rattle.hierinfo.specs.declared.error.InfoError.{InfoError}
-use Rattle.hierinfo.specs.declared.error.InfoError.TheVariants.{Hierarchy as HierarchyFault, OutOfMemory, Write}
+use Rattle.outcomes.specs.declared.cause.Cause.{Cause}
+use Rattle.outcomes.specs.declared.cause.Cause.TheVariants.{Hierarchy as HierarchyFault, Memory, Read, Write}
+use Rattle.outcomes.specs.declared.cause.Input.TheVariants as inputs
 
 -- a line with a name and a number in decimals
 abbrev pub fact : List ℕ → List ℕ → List ℕ
@@ -27,16 +25,10 @@ pub record Informs (bytes text : List ℕ) : Type 0 where
   pub tells : text ≡ info hierarchy
 
 -- Where it isn't printed. A refused file has the first fault of its bytes, and nothing is written; nor is where memory
--- is refused. Where the write fails, the writer took the first `written` bytes of the text, but not all.
-abbrev pub RefusesInfo : Option (List ℕ) → Option (List ℕ) → Option (List ℕ) → InfoError → Type 0
-RefusesInfo file old new (HierarchyFault e) = IfSome file (λ bytes. OfBytes e (first_fault bytes ≡ Some e)) × Keeps old new
-RefusesInfo file old new OutOfMemory = Keeps old new
+-- is refused, or a read fails. Where the write fails, the writer took the first `written` bytes of the text, but not all.
+abbrev pub RefusesInfo : Option (List ℕ) → Option (List ℕ) → Option (List ℕ) → Cause → Type 0
+RefusesInfo file old new (HierarchyFault e) = IfSome file (λ bytes. first_fault bytes ≡ Some e) × Keeps old new
+RefusesInfo file old new Memory = Keeps old new
+RefusesInfo file old new (Read input) = (input ≡ inputs.Hierarchy) × Keeps old new
 RefusesInfo file old new (Write fault) = IfSome file (λ bytes. (text : List ℕ) × Informs bytes text × (fault.written < length text) × Appends old new (take fault.written text))
-
--- how a refusal is printed
-abbrev pub shown : InfoError → List ℕ
-shown (HierarchyFault faults.OutOfMemory) = codes "memory"
-shown (HierarchyFault faults.Read) = codes "read"
-shown (HierarchyFault e) = codes "hierarchy: " ++ error_name e
-shown OutOfMemory = codes "memory"
-shown (Write fault) = codes "write"
+RefusesInfo file old new cause = ⊥

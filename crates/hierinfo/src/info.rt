@@ -3,10 +3,10 @@ ghost use Rattle.std.specs.Io.KnownBytes.{Appends};
 ghost use Rattle.hierfile.specs.Spelling.{bytes_of};
 ghost use Rattle.hierinfo.specs.Info.{fact, info, Informs, RefusesInfo};
 
-use crate::error::InfoError;
 use ch_graph::Hierarchy;
 use counted_io::{MOST_CALLS, WriteCalls};
 use itoa::{Buffer, Integer};
+use outcomes::Cause;
 use std::alloc::{AllocError, Global};
 use std::io::{Read, Write};
 
@@ -21,11 +21,7 @@ const RANK: u128 = 4;
 ///
 /// `hier` gives the file. It is read to its end, and refused where [`hierfile::read`] refuses it. Takes the time and memory
 /// of that call, and memory for about a hundred bytes of text.
-pub fn write_info<H: Read, W: Write>(
-    alloc: Global,
-    hier: &mut H,
-    out: &mut W,
-) -> Result<(), InfoError>
+pub fn write_info<H: Read, W: Write>(alloc: Global, hier: &mut H, out: &mut W) -> Result<(), Cause>
     ensures informs { OnOk result (IfSome (H.remaining hier.old) (λ bytes. (text : List ℕ) × Informs bytes text × Appends (W.contents out.old) (W.contents out.new) text)) }
     ensures refused { IfErr result (RefusesInfo (H.remaining hier.old) (W.contents out.old) (W.contents out.new)) }
 {

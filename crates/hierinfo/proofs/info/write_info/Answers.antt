@@ -1,8 +1,13 @@
-use Rattle.std.proofs.Common.{List, ℕ, ◌++◌, ap, ◌∙◌}
+use Rattle.std.proofs.Common.{List, ℕ, ◌++◌, ap, ◌∙◌, rules}
 use Rattle.std.proofs.lemmas.Result.{err_from_is_err_and}
 use Rattle.hierinfo.specs.Info.{info}
-use Rattle.hierinfo.proofs.Breaks.{breaks}
+use Rattle.hierinfo.proofs.Breaks.{breaks, refused}
 use Rattle.hierinfo.proofs.info.write_info.Goals as goal
+
+pub returns-in_err-hierarchy-clause-refused : goal.returns-in_err-hierarchy-clause-refused
+returns-in_err-hierarchy-clause-refused g c =
+    let exit = err_from_is_err_and c.from_residual.result c.from_residual.ensures.1 in
+    rw (exit.1, exit.2) (refused c.in_err-hierarchy.field-0.0 _ _ _ c.in_err-hierarchy.ensures.err (search rules))
 
 pub returns-in_err-write-clause-refused : goal.returns-in_err-write-clause-refused
 returns-in_err-write-clause-refused g c =
