@@ -1,37 +1,16 @@
 -- One contraction of a ledger: the change that was planned makes a lawful step.
-use Rattle.std.proofs.Common.{ℕ, ◌≡◌, ◌<◌, List, [], ◌∷◌, ◌++◌, length, map, drop, ap, sym, subst, refl, ◌∙◌}
+use Rattle.std.proofs.Common.{ℕ, ◌≡◌, List, [], ◌∷◌, ◌++◌, length, map, drop, ap, sym, subst, refl, ◌∙◌}
 use Rattle.std.proofs.lemmas.List.{length-map}
-use Rattle.ch_contract.proofs.Ranges.{pairs-map}
 use Rattle.ch_graph.specs.Limits.{bound_of}
-use Rattle.ch_cost.specs.declared.cost.Cost.{Cost}
 use Rattle.ch_laws.specs.declared.shortcut.Shortcut.{Shortcut}
-use Rattle.ch_laws.specs.Contraction.{State, Contraction, Step, Puts, contracted}
+use Rattle.ch_laws.specs.Contraction.{Contraction, contracted}
 use Rattle.ch_laws.specs.Rows.{Row}
 use Rattle.ch_laws.specs.Theorems.{PlanIsLawful, ReachesOn}
 use Rattle.ch_overlay.specs.Overlay.{Overlay, IsOverlay, state_of}
 use Rattle.ch_overlay.specs.Change.{AreRenewed, Change, IsChange, changed_nodes}
+use Rattle.ch_overlay.specs.Steps.{lawful_step, log_entry}
 use Rattle.ch_contract.specs.Ledger.{Ledger, IsLedger, AreLawful, IsContracted, receipt_of}
 use Rattle.ch_contract.specs.Planned.{Planned, IsPlanned}
-
--- the entry of the contraction of a node by a change that puts these shortcuts in
-pub entry_of : Ledger → List Shortcut → Change → Contraction
-entry_of l put c = record { node = c.node; rank = length l.overlay.order; neighbours = map (λ (a : ℕ × Row). a.0) (drop 1 c.rows); shortcuts = length put }
-
--- a change that was planned is a lawful step to the state that it makes
-pub steps : PlanIsLawful → (l : Ledger) (put : List Shortcut) (c : Change) (new : State) → IsLedger l → AreLawful l c.node put → IsChange l.overlay put c → new ≡ contracted (state_of l.overlay) c.node put → Step (bound_of l.graph) (state_of l.overlay) (entry_of l put c) new
-unfolding entry_of
-steps plan_is_lawful l put c new is lawful planned made =
-    let others_is : drop 1 c.rows ≡ planned.others = ap (drop 1) planned.rows in
-    let puts_it : Puts l.overlay.bound (state_of l.overlay) c.node put (contracted (state_of l.overlay) c.node put) = plan_is_lawful l.overlay.bound (state_of l.overlay) c.node put lawful.plan lawful.witnessed in
-    let by_bound : Puts (bound_of l.graph) (state_of l.overlay) c.node put (contracted (state_of l.overlay) c.node put) = subst (λ (bound : Cost). Puts bound (state_of l.overlay) c.node put (contracted (state_of l.overlay) c.node put)) is.bound puts_it in
-    record {
-      put = put;
-      puts = subst (λ (s : State). Puts (bound_of l.graph) (state_of l.overlay) c.node put s) (sym made) by_bound;
-      rank = refl;
-      shortcuts = refl;
-      rising = rw others_is (pairs-map (λ x y. x < y) (λ (a : ℕ × Row). a.0) planned.others planned.rising);
-      neighbours = λ x. rw others_is (planned.neighbours x);
-    }
 
 -- the ledger with these rows and one more entry
 abbrev pub ledger_with : Ledger → Overlay → Contraction → Ledger
@@ -40,17 +19,17 @@ ledger_with l new e = record { graph = l.graph; overlay = new; log = l.log ++ e 
 -- the ledger after a contraction is one
 pub ledger_after : PlanIsLawful → ReachesOn → (l : Ledger) (put : List Shortcut) (c : Change) (new : Overlay) → IsLedger l → AreLawful l c.node put
     → IsChange l.overlay put c → IsOverlay new → new.bound ≡ l.overlay.bound → state_of new ≡ contracted (state_of l.overlay) c.node put
-    → IsLedger (ledger_with l new (entry_of l put c))
+    → IsLedger (ledger_with l new (log_entry l.overlay put c))
 ledger_after plan_is_lawful reaches_on l put c new is lawful planned overlay bound made = record {
   graph = is.graph;
   overlay = overlay;
   bound = bound ∙ is.bound;
-  reached = reaches_on l.graph l.log (state_of l.overlay) (entry_of l put c) (state_of new) is.reached (steps plan_is_lawful l put c (state_of new) is lawful planned made);
+  reached = reaches_on l.graph l.log (state_of l.overlay) (log_entry l.overlay put c) (state_of new) is.reached (lawful_step plan_is_lawful (bound_of l.graph) l.overlay put c (state_of new) is.bound lawful.witnessed planned made);
 }
 
 -- the nodes whose rows change are the contracted one and its neighbours
-changed_are : (l : Ledger) (put : List Shortcut) (c : Change) → IsChange l.overlay put c → changed_nodes c ≡ c.node ∷ (entry_of l put c).neighbours
-unfolding entry_of
+changed_are : (l : Ledger) (put : List Shortcut) (c : Change) → IsChange l.overlay put c → changed_nodes c ≡ c.node ∷ (log_entry l.overlay put c).neighbours
+unfolding log_entry
 changed_are l put c planned =
     ap (λ (rows : List (ℕ × Row)). map (λ (a : ℕ × Row). a.0) rows) planned.rows
     ∙ ap (λ (rows : List (ℕ × Row)). c.node ∷ map (λ (a : ℕ × Row). a.0) (drop 1 rows)) (sym planned.rows)
@@ -59,14 +38,14 @@ changed_are l put c planned =
 pub contracted_after : PlanIsLawful → (l : Ledger) (put : List Shortcut) (c : Change) (new : Overlay) → IsLedger l → AreLawful l c.node put
     → IsChange l.overlay put c → state_of new ≡ contracted (state_of l.overlay) c.node put
     → AreRenewed (changed_nodes c) l.overlay.versions new.versions
-    → IsContracted l c.node put (receipt_of (entry_of l put c)) (ledger_with l new (entry_of l put c))
-unfolding entry_of
+    → IsContracted l c.node put (receipt_of (log_entry l.overlay put c)) (ledger_with l new (log_entry l.overlay put c))
+unfolding log_entry
 contracted_after plan_is_lawful l put c new is lawful planned made renewed = record {
-  entry = entry_of l put c;
+  entry = log_entry l.overlay put c;
   of_node = refl;
   of_shortcuts = refl;
   handed = refl;
-  contracts = record { graph = refl; log = refl; step = steps plan_is_lawful l put c (state_of new) is lawful planned made };
+  contracts = record { graph = refl; log = refl; step = lawful_step plan_is_lawful (bound_of l.graph) l.overlay put c (state_of new) is.bound lawful.witnessed planned made };
   state = made;
   versions = subst (λ (nodes : List ℕ). AreRenewed nodes l.overlay.versions new.versions) (changed_are l put c planned) renewed;
 }
@@ -87,8 +66,8 @@ abbrev pub entry : ℕ → ℕ → List ℕ → ℕ → Contraction
 entry node rank neighbours shortcuts = record { node = node; rank = rank; neighbours = neighbours; shortcuts = shortcuts }
 
 -- the entry that was planned
-pub planned_entry : (l : Ledger) (node : ℕ) (put : List Shortcut) (p : Planned) → IsPlanned l node put p → p.entry ≡ entry_of l put p.change
-unfolding entry_of
+pub planned_entry : (l : Ledger) (node : ℕ) (put : List Shortcut) (p : Planned) → IsPlanned l node put p → p.entry ≡ log_entry l.overlay put p.change
+unfolding log_entry
 planned_entry l node put p is =
     ap (λ n. entry n p.entry.rank p.entry.neighbours p.entry.shortcuts) (is.entry_node ∙ sym is.of_node)
     ∙ ap (λ r. entry p.change.node r p.entry.neighbours p.entry.shortcuts) is.entry_rank

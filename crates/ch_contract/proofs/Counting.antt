@@ -13,9 +13,9 @@ use Rattle.ch_laws.specs.Members.{contains_first, contains_later, pairs_first, p
 use Rattle.ch_overlay.specs.Overlay.{IsEntry}
 use Rattle.ch_laws.specs.Verdicts.{ListsThrough}
 use Rattle.ch_overlay.specs.Source.{row_of}
+use Rattle.ch_overlay.specs.Ranges.{AllPairs-head, pairs-map, rising-short}
 use Rattle.ch_contract.specs.Proposal.{Proposal, IsProposal, ShortcutBefore}
 use Rattle.ch_contract.proofs.Judging.{same_row}
-use Rattle.ch_contract.proofs.Ranges.{AllPairs-head, pairs-map, rising-short}
 
 -- a rising list of numbers from a on and below n that leaves one of these out
 rising-missing : (xs : List ℕ) (a n x : ℕ) → a ≤ x → x < n → AllPairs (λ y z. y < z) xs → All (λ y. (a ≤ y) × (y < n) × (y ≢ x)) xs → length xs + a < n

@@ -16,11 +16,11 @@ use Rattle.ch_contract.specs.Listed.{AreNamed, IsInnerOf, IsNamedBy, NeedsWay, e
 use Rattle.ch_contract.proofs.PartByPart.{parts_map, parts_push}
 use Rattle.ch_contract.specs.Drafts.{AgreesWithKept, IsBegun, IsDrafted, IsDraftedFrom}
 use Rattle.ch_contract.specs.Proposal.{IsProposal, ShortcutBefore}
-use Rattle.ch_contract.proofs.Ranges.{AllPairs-append, AllPairs-take}
 use Rattle.ch_overlay.specs.Finding.{row_found}
+use Rattle.ch_overlay.specs.Entries.{last_is_past}
+use Rattle.ch_overlay.specs.Ranges.{AllPairs-append, AllPairs-take}
 use Rattle.ch_laws.specs.Members.{contains_cases, contains_first}
 use Rattle.std.proofs.lemmas.List.{take_more}
-use Rattle.ch_contract.proofs.Pairing.{last_is_past}
 
 none-in : (x : Shortcut) (xs : List Shortcut) → xs ≡ [] → Contains xs x → ⊥
 none-in x xs e among = let h = subst (λ (ys : List Shortcut). Contains ys x) e among in omega (arith, h.1)

@@ -1,9 +1,9 @@
 -- The pairs from one neighbour, by what a search found.
-use Rattle.std.proofs.Common.{ℕ, zero, suc, ◌≡◌, ◌≢◌, ◌<◌, ◌^◌, ◌⊎◌, List, [], ◌∷◌, ◌++◌, length, get_or, map, Option, Some, None, Contains, append_assoc, refl, ap, sym, subst, ◌∙◌, arith, inl, inr, slice_index}
+use Rattle.std.proofs.Common.{ℕ, ◌≡◌, ◌≢◌, ◌<◌, ◌^◌, ◌⊎◌, List, [], ◌∷◌, ◌++◌, length, get_or, map, Option, Some, None, Contains, append_assoc, refl, ap, sym, subst, ◌∙◌, arith, inl, inr, slice_index}
 use Rattle.std.specs.List.{All, slice_get}
 use Rattle.std.specs.Option.{IfSome, IsSomeAnd}
 use Rattle.std.proofs.lemmas.Bool.{cases_eq, cases_lt}
-use Rattle.std.proofs.lemmas.List.{append-nil, get_or_default, take_all}
+use Rattle.std.proofs.lemmas.List.{append-nil, take_all}
 use Rattle.std.proofs.lemmas.List.Elements.{All-contains, Contains-append_right, Contains-append_left, Contains-push}
 use Rattle.std.proofs.lemmas.Option.{slice_get_within, get_or_from_slice_get}
 use Rattle.ch_cost.specs.declared.cost.Cost.{Cost}
@@ -13,7 +13,7 @@ use Rattle.ch_graph.specs.Walk.{Along}
 use Rattle.ch_laws.specs.Contraction.{NoShortcut}
 use Rattle.ch_laws.specs.declared.entry.Entry.{Entry}
 use Rattle.ch_laws.specs.declared.shortcut.Shortcut.{Shortcut}
-use Rattle.ch_laws.specs.Members.{contains_cases, contains_first, contains_later}
+use Rattle.ch_laws.specs.Members.{contains_cases, contains_first, contains_later, contains_none}
 use Rattle.ch_overlay.specs.Overlay.{AreEntries, IsEntry}
 use Rattle.ch_laws.specs.Rows.{Row, Rises, Lists}
 use Rattle.ch_laws.specs.Verdicts.{ListsThrough, SeenArc}
@@ -24,31 +24,13 @@ use Rattle.ch_witness.specs.Kept.{HasAll, Kept, IsKept}
 use Rattle.ch_witness.specs.Ways.{AreWays, IsFound, IsStartRead, IsWay, way_at}
 use Rattle.ch_contract.specs.declared.draft.Draft.{Draft}
 use Rattle.ch_contract.specs.Listed.{HasInner, IsInnerOf, IsNamedBy, LeadsOn, NeedsWay, InParts, ends}
-use Rattle.ch_contract.specs.Drafts.{AgreesWithKept, AreJudged, ArePairs, IsDraftedFrom, IsInner, IsJoined, IsJudgedBy, IsPairOf, IsPairPart, Lengthens, over}
+use Rattle.ch_contract.specs.Drafts.{AgreesWithKept, AreJudged, ArePairs, IsDraftedFrom, IsInner, IsJoined, IsJudgedBy, IsPairPart, Lengthens}
 use Rattle.ch_contract.proofs.Options.{some-same}
 use Rattle.ch_contract.proofs.Drafting.{inner_leaves, inner_moved}
 use Rattle.ch_contract.proofs.PartByPart.{parts_at, parts_compose, parts_first, parts_from, parts_map, parts_none}
 use Rattle.ch_overlay.specs.Finding.{row_among}
-
-empty : (p : Shortcut) → Contains [] p → ⊥
-empty p among = omega (arith, among.1)
-
--- a list that rises has one entry for a node
-pub one_entry : (es : List Entry) → Rises es → (a b : Entry) → Contains es a → Contains es b → a.other ≡ b.other → a ≡ b
-one_entry es rises a b first second same =
-    let i = first.0 in
-    let j = second.0 in
-    let left : get_or es i a ≡ a = first.2 in
-    let right : get_or es j a ≡ b = get_or_default es j a b second.1 ∙ second.2 in
-    let here : (get_or es i a).other ≡ a.other = ap (λ (e : Entry). e.other) left in
-    let there : (get_or es j a).other ≡ b.other = ap (λ (e : Entry). e.other) right in
-    elim (cases_eq i j) [
-      | inl e ↦ sym left ∙ subst (λ (k : ℕ). get_or es i a ≡ get_or es k a) e refl ∙ right
-      | inr apart ↦ elim (cases_lt i j) [
-        | inl less ↦ absurd (omega (arith, rises i j a less second.1, here, there, same))
-        | inr past ↦ absurd (omega (arith, rises j i a (omega (arith, apart, past)) first.1, here, there, same))
-      ]
-    ]
+use Rattle.ch_overlay.specs.Entries.{one_entry}
+use Rattle.ch_overlay.specs.Pairs.{IsPairOf, over, target_at}
 
 module _ (bound : Cost) (row : Row) (into : Entry) (pairs : List Shortcut) (among : Contains row.inn into) (rises : Rises row.inn) (are : ArePairs bound into row.out pairs) where
   -- each pair that isn't heavy is one of them
@@ -150,9 +132,9 @@ drafted_idle bound v row into kept old new more none same longer named all = rec
   more = more;
   shortcuts = same ∙ sym (append-nil old.shortcuts.items);
   listed = longer;
-  from_it = λ p among. absurd (empty p among);
+  from_it = λ p among. absurd (contains_none p among);
   sorted = λ i j d low high. absurd (omega (arith, high));
-  joined = λ seen agrees. record { shortcuts = λ p among. absurd (empty p among); ways = λ w sum t within no_put. absurd (none w sum t within) };
+  joined = λ seen agrees. record { shortcuts = λ p among. absurd (contains_none p among); ways = λ w sum t within no_put. absurd (none w sum t within) };
   named = λ seen agrees. named seen;
   has_all = all;
 }
@@ -170,22 +152,13 @@ pub idle_read : (bound : Cost) (v : ℕ) (row : Row) (into : Entry) (kept : Kept
     → new.shortcuts.items ≡ old.shortcuts.items → Lengthens (into.other ∷ []) old new → IsDraftedFrom bound v row into kept old new
 idle_read bound v row into kept first is old new among inn out leads are same longer =
     drafted_idle bound v row into kept old new (into.other ∷ [])
-    (λ w sum t within. empty (record { from = into.other; to = w; cost = sum }) (through_pair bound row into [] among inn are w sum t within))
+    (λ w sum t within. contains_none (record { from = into.other; to = w; cost = sum }) (through_pair bound row into [] among inn are w sum t within))
     same longer
     (λ seen. inl (leads, ([], inner_by_arcs bound v row into among inn out seen [] [] [] are.parts ends, refl)))
     (λ x here. elim (contains_cases into.other [] x here) [
       | inl e ↦ (first, ap kept (sym e) ∙ is)
       | inr later ↦ absurd (omega (arith, later.1))
     ])
-
--- a target of the search, by its pair
-target_at : (pairs : List Shortcut) (k : ℕ) (p : Shortcut) → slice_get pairs k ≡ Some p → (k < length (map (λ (q : Shortcut). q.to) pairs)) × (slice_index (map (λ (q : Shortcut). q.to) pairs) k ≡ p.to)
-target_at [] k p is = absurd (cc)
-target_at (q ∷ pairs) zero p is = (omega arith, ap (λ (o : Option Shortcut). to_of o) is) where
-  to_of : Option Shortcut → ℕ
-  to_of None = 0
-  to_of (Some s) = s.to
-target_at (q ∷ pairs) (suc k) p is = let rest = target_at pairs k p is in (omega (arith, rest.0), rest.1)
 
 found_more : (o : Option Way) (c d : Cost) → IsSomeAnd o (λ w. w.cost ≼ c) → c ≼ d → IsSomeAnd o (λ w. w.cost ≼ d)
 found_more None c d h le = h

@@ -1,29 +1,22 @@
 -- What a proposal says of one pair.
-use Rattle.std.proofs.Common.{ℕ, ◌≡◌, ◌≢◌, List, Option, Some, None, true, SomeIff, Contains, ap, sym, subst, refl, ◌∙◌}
+use Rattle.std.proofs.Common.{ℕ, ◌≡◌, ◌≢◌, Option, Some, None, true, SomeIff, Contains, ap, sym, subst, refl, ◌∙◌}
 use Rattle.std.specs.Option.{is_some}
 use Rattle.ch_cost.specs.declared.cost.Cost.{Cost}
 use Rattle.ch_cost.specs.Cost.{◌⊕◌, IsWithin}
-use Rattle.ch_laws.specs.declared.entry.Entry.{Entry}
 use Rattle.ch_laws.specs.declared.shortcut.Shortcut.{Shortcut}
 use Rattle.ch_laws.specs.Contraction.{NoShortcut}
 use Rattle.ch_laws.specs.Rows.{Row, Rises, Lists}
 use Rattle.ch_laws.specs.Verdicts.{ListsThrough}
 use Rattle.ch_overlay.specs.Source.{row_of}
+use Rattle.ch_overlay.specs.Entries.{one_cost}
 use Rattle.ch_contract.specs.Proposal.{Proposal, IsProposal, IsVerdict, HasShortcut, Joins}
 use Rattle.ch_contract.specs.declared.verdict.Verdict.TheVariants as verdicts
 use Rattle.ch_contract.proofs.Options.{some-same}
-use Rattle.ch_contract.proofs.Joining.{one_entry}
 
 -- a sum that there is is within the bound
 pub sum_within : (sum : Option Cost) (P : Type 0) (c : Cost) → SomeIff sum P c → is_some sum ≡ true → P
 sum_within None P c iff some = absurd (cc)
 sum_within (Some d) P c iff some = iff.0
-
--- a list that rises has one cost for a node
-one_cost : (es : List Entry) → Rises es → (y : ℕ) (c d : Cost) → Lists es y c → Lists es y d → c ≡ d
-one_cost es rises y c d first second =
-    let same : first.entry ≡ second.entry = one_entry es rises first.entry second.entry first.among second.among (first.other ∙ sym second.other) in
-    sym first.costs ∙ ap (λ (e : Entry). e.cost) same ∙ second.costs
 
 -- so a row joins a pair at one sum
 one_sum : (row : Row) → Rises row.inn → Rises row.out → (u w : ℕ) (a b : Cost) → ListsThrough row u w a → ListsThrough row u w b → a ≡ b

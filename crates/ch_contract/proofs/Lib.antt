@@ -1,8 +1,5 @@
 pub mod PartByPart
-pub mod Ranges
 pub mod Finds
-pub mod Cutoffs
-pub mod Search
 pub mod Drafting
 pub mod Pairing
 pub mod Joining

@@ -2,7 +2,7 @@
 use Rattle.std.proofs.Common.{ℕ, ◌≡◌, ◌≢◌, ◌<◌, ◌≤◌, ◌⊎◌, ◌↔◌, Bool, true, false, nat_eq, ◌&&◌, List, [], ◌∷◌, Some, length, map, get_or, slice_index, AllPairs, Contains, arith, ap, sym, subst, refl, ◌∙◌, inl, inr}
 use Rattle.std.specs.List.{flat_map, range_with_len, IsDistinct}
 use Rattle.std.specs.List.Sorted.{IsPermutation}
-use Rattle.std.proofs.lemmas.Bool.{cases_Bool, cases_lt, cases_eq, false≢true}
+use Rattle.std.proofs.lemmas.Bool.{cases_Bool, cases_eq, false≢true}
 use Rattle.std.proofs.lemmas.Bool.Decides.{nat_tests}
 use Rattle.std.proofs.lemmas.Map.Keys.{IsDistinct-IsPermutation}
 use Rattle.std.proofs.lemmas.List.Elements.{All-contains, All-from_recursion, recursion_from_All, Contains-append_left, Contains-append_right, Contains-append_cases}
@@ -17,10 +17,11 @@ use Rattle.ch_graph.specs.Hierarchy.{ComesBefore}
 use Rattle.ch_laws.specs.declared.entry.Entry.{Entry}
 use Rattle.ch_laws.specs.Contraction.{Before, IsOver, IsMade}
 use Rattle.ch_laws.specs.Orders.{before_not_both}
-use Rattle.ch_laws.specs.Members.{contains_first, contains_later, contains_cases, place_of, contains-map, contains-mapped, pairs_later}
+use Rattle.ch_laws.specs.Members.{contains_first, contains_later, contains_cases, contains-map, contains-mapped, pairs_later}
 use Rattle.ch_overlay.specs.Overlay.{Overlay, IsOverlay, row_at, state_of}
+use Rattle.ch_overlay.specs.Order.{either_before}
+use Rattle.ch_overlay.specs.Ranges.{AllPairs-append, AllPairs-head, contains-range, pairs-map, range-contains, range_with_len-rises}
 use Rattle.ch_contract.specs.Finish.{AreRanks, AreLinks, link_out, link_in, row_links, links_below}
-use Rattle.ch_contract.proofs.Ranges.{AllPairs-append, AllPairs-head, contains-range, pairs-map, range-contains, range_with_len-rises}
 
 -- Lists
 
@@ -119,24 +120,6 @@ pub apart-permutation : (xs ys : List Link) → IsPermutation xs ys → AllPairs
 apart-permutation xs ys moved apart = pairs-from_distinct ys (IsDistinct-IsPermutation same same-flips xs ys moved (distinct-from_pairs xs apart))
 
 -- The arcs of a state that is over
-
--- of two nodes in an order without repeats the one of the earlier place comes before the other
-before_by_place : (order : List ℕ) (x y p q : ℕ) → AllPairs (λ x y. x ≢ y) order → p < q → q < length order → get_or order p 0 ≡ x → get_or order q 0 ≡ y → Before order x y
-before_by_place order x y p q once less inside here there = record {
-  place = p;
-  within = omega (arith, less, inside);
-  here = here;
-  not_yet = λ k low is. once k q 0 (omega (arith, low, less)) inside (is ∙ sym there);
-}
-
-either_before : (order : List ℕ) (x y : ℕ) → AllPairs (λ x y. x ≢ y) order → x ≢ y → Contains order x → Contains order y → Before order x y ⊎ Before order y x
-either_before order x y once apart first second = elim (cases_lt first.0 second.0) [
-  | inl less ↦ inl (before_by_place order x y first.0 second.0 once less second.1 (place_of order x first) (place_of order y second))
-  | inr at_most ↦ elim (cases_eq first.0 second.0) [
-    | inl here ↦ absurd (apart (sym (place_of order x first) ∙ ap (λ k. get_or order k 0) here ∙ place_of order y second))
-    | inr other ↦ inr (before_by_place order y x second.0 first.0 once (omega (arith, at_most, other)) first.1 (place_of order y second) (place_of order x first))
-  ]
-]
 
 -- a link of the row of x: the arc between its ends, one of which is x and doesn't come after the other
 record IsRowLink (o : Overlay) (x : ℕ) (l : Link) : Type 0 where

@@ -4,8 +4,8 @@ use Rattle.std.specs.List.{slice_get}
 use Rattle.std.proofs.lemmas.List.{length_push}
 use Rattle.ch_cost.specs.declared.cost.Cost.{Cost}
 use Rattle.ch_laws.specs.Contraction.{State, Contraction, Run}
+use Rattle.ch_overlay.specs.Ranges.{distinct_below-few}
 use Rattle.ch_contract.specs.Ledger.{Ledger, IsLedger, IsLog}
-use Rattle.ch_contract.proofs.NodesLeft.{distinct_below-few}
 
 -- what a run says of the entry of each place
 record IsEntryOf (old : State) (k : ℕ) (e : Contraction) : Type 0 where

@@ -12,7 +12,7 @@ use Rattle.ch_laws.specs.Rows.{Rises}
 use Rattle.ch_contract.specs.Chains.{comes_before, dropped_while, merged_by_other}
 use Rattle.ch_contract.proofs.Chaining.{taken-first, taken-none, dropped-first, dropped-none}
 use Rattle.ch_laws.specs.Members.{pairs_later}
-use Rattle.ch_contract.proofs.Ranges.{AllPairs-append, AllPairs-head, AllPairs-left}
+use Rattle.ch_overlay.specs.Ranges.{AllPairs-append, AllPairs-head, AllPairs-left}
 
 -- two parts change places in front of a third
 pub exchanged : {X : Type 0} (xs ys zs : List X) → IsPermutation (xs ++ (ys ++ zs)) (ys ++ (xs ++ zs))

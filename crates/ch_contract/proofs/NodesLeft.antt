@@ -2,16 +2,15 @@
 use Rattle.std.proofs.Common.{ℕ, zero, suc, ◌≡◌, ◌≢◌, ◌<◌, ◌≤◌, ◌⊎◌, true, eqb, List, [], ◌∷◌, is_none, length, All, AllPairs, Contains, arith, sym, subst, refl, ◌∙◌, inl, inr}
 use Rattle.std.specs.List.{list_any}
 use Rattle.std.proofs.lemmas.Bool.{cases_Bool, cases_lt}
-use Rattle.std.proofs.lemmas.Bool.Decides.{nat_tests, Decides-eqb}
+use Rattle.std.proofs.lemmas.Bool.Decides.{nat_tests}
 use Rattle.std.proofs.lemmas.List.{get_or_default}
-use Rattle.std.proofs.lemmas.List.Elements.{All-contains, All-cons}
-use Rattle.std.proofs.lemmas.List.Folds.{Any-from_list_any}
+use Rattle.std.proofs.lemmas.List.Elements.{All-cons}
 use Rattle.std.proofs.lemmas.List.Kept.{AllPairs-cons}
-use Rattle.std.proofs.lemmas.Map.Made.{IsDistinct-from_AllPairs}
-use Rattle.std.proofs.lemmas.Map.Steps.{length-le_from_distinct_below, le-length_from_below}
+use Rattle.std.proofs.lemmas.Map.Steps.{le-length_from_below}
 use Rattle.ch_laws.specs.Contraction.{IsAlive, IsOver}
 use Rattle.ch_laws.specs.Members.{contains_cases}
 use Rattle.ch_overlay.specs.Overlay.{Overlay, IsOverlay, row_at, state_of}
+use Rattle.ch_overlay.specs.Ranges.{distinct_below-few}
 use Rattle.ch_contract.proofs.Sweeping.{waits-from_none, gone-from_some, alive-from_none}
 
 -- an element is found
@@ -24,14 +23,6 @@ contains-any (x ∷ xs) q among = elim (contains_cases x xs q among) [
     | inr other ↦ rw other (contains-any xs q later)
   ]
 ]
-
--- numbers below n, each once, are at most n
-pub distinct_below-few : (xs : List ℕ) (n : ℕ) → AllPairs (λ x y. x ≢ y) xs → All (λ x. x < n) xs → length xs ≤ n
-distinct_below-few xs n once low = length-le_from_distinct_below xs n (IsDistinct-from_AllPairs Decides-eqb xs once) (λ q among.
-    let found = Any-from_list_any (λ x. eqb q x) xs among in
-    let same : q ≡ found.1 = grind (arith, nat_tests, found.4) in
-    let below : found.1 < n = All-contains (λ x. x < n) xs found.1 low (found.0, found.2, found.3) in
-    omega (arith, same, below))
 
 module _ (o : Overlay) (is : IsOverlay o) where
   -- where as many are contracted as there are nodes, each is
@@ -66,11 +57,3 @@ module _ (o : Overlay) (is : IsOverlay o) where
     | inl left ↦ left
     | inr gone ↦ absurd (omega (arith, few, le-length_from_below o.order (length o.rows) (λ q low. contains-any o.order q (gone q low))))
   ]
-
--- a node that isn't contracted leaves room for one more
-pub order-has_room : (o : Overlay) → IsOverlay o → (x : ℕ) → IsAlive (state_of o) x → length o.order < length o.rows
-order-has_room o is x alive =
-    let apart : All (λ y. x ≢ y) o.order = λ k d h same. alive.waits (k, h, get_or_default o.order k x d h ∙ sym same) in
-    let once : AllPairs (λ y z. y ≢ z) (x ∷ o.order) = AllPairs-cons (λ y z. y ≢ z) x o.order apart is.once in
-    let low : All (λ y. y < length o.rows) (x ∷ o.order) = All-cons (λ y. y < length o.rows) x o.order alive.in_range is.plain.in_range in
-    omega (arith, distinct_below-few (x ∷ o.order) (length o.rows) once low)

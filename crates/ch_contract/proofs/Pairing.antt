@@ -1,7 +1,7 @@
 -- Pairs and their verdicts, one by one.
 use Rattle.std.proofs.Common.{ℕ, ◌≡◌, ◌≢◌, ◌+◌, ◌<◌, List, [], ◌∷◌, ◌++◌, length, get_or, take, Option, Some, None, AllPairs, Contains, append_assoc, refl, ap, sym, subst, ◌∙◌, arith, inl, inr}
 use Rattle.std.specs.List.{slice_get}
-use Rattle.std.proofs.lemmas.List.{append-nil, get_or_append_left, get_or_default, get_or_push, length_push, take_more}
+use Rattle.std.proofs.lemmas.List.{append-nil, get_or_default, take_more}
 use Rattle.std.proofs.lemmas.List.Elements.{Contains-append_left, Contains-push, Contains-push_cases, Contains-get_or}
 use Rattle.std.proofs.lemmas.List.Quantifiers.{all_pairs_push}
 use Rattle.std.proofs.lemmas.Option.{slice_get-get_or, slice_get_within, get_or_from_slice_get}
@@ -9,35 +9,28 @@ use Rattle.ch_cost.specs.declared.cost.Cost.{Cost}
 use Rattle.ch_cost.specs.Cost.{◌⊕◌, IsWithin}
 use Rattle.ch_laws.specs.declared.entry.Entry.{Entry}
 use Rattle.ch_laws.specs.declared.shortcut.Shortcut.{Shortcut}
+use Rattle.ch_laws.specs.Members.{contains_none}
 use Rattle.ch_laws.specs.Rows.{Rises}
+use Rattle.ch_overlay.specs.Entries.{last_is_past}
+use Rattle.ch_overlay.specs.Pairs.{IsPairOf, no_pair, over}
+use Rattle.ch_overlay.specs.Ranges.{AllPairs-take}
 use Rattle.ch_witness.specs.declared.way.Way.{Way}
 use Rattle.ch_witness.specs.Ways.{IsFound, way_at}
 use Rattle.ch_contract.proofs.Options.{some-same}
-use Rattle.ch_contract.proofs.Ranges.{AllPairs-take}
 use Rattle.ch_contract.specs.declared.draft.Draft.{Draft}
 use Rattle.ch_contract.specs.Listed.{InParts, ends}
-use Rattle.ch_contract.specs.Drafts.{AreJudged, ArePairs, IsJudgedBy, IsPairAdded, IsPairJudged, IsPairOf, IsPairPart, over}
+use Rattle.ch_contract.specs.Drafts.{AreJudged, ArePairs, IsJudgedBy, IsPairAdded, IsPairJudged, IsPairPart}
 use Rattle.ch_contract.proofs.PartByPart.{parts_map, parts_push}
-
-empty : {A : Type 0} (x : A) → Contains [] x → ⊥
-empty x among = omega (arith, among.1)
 
 -- Pairs
 
 pub pairs_none : (bound : Cost) (into : Entry) → ArePairs bound into [] []
 pairs_none bound into = record {
-  each = λ p among. absurd (empty p among);
-  every = λ out among apart within. absurd (empty out among);
+  each = λ p among. absurd (contains_none p among);
+  every = λ out among apart within. absurd (contains_none out among);
   sorted = λ i j d low high. absurd (omega (arith, high));
   parts = ends;
 }
-
-pub last_is_past : (outs : List Entry) (out : Entry) → Rises (outs ++ out ∷ []) → (e : Entry) → Contains outs e → e.other < out.other
-last_is_past outs out rises e among =
-    let long : length (outs ++ out ∷ []) ≡ length outs + 1 = length_push outs out in
-    let first : get_or (outs ++ out ∷ []) among.0 e ≡ e = get_or_append_left outs (out ∷ []) e among.0 among.1 ∙ among.2 in
-    let last : get_or (outs ++ out ∷ []) (length outs) e ≡ out = get_or_push outs out e (length outs) refl in
-    subst (λ (a : Entry). a.other < out.other) first (subst (λ (b : Entry). (get_or (outs ++ out ∷ []) among.0 e).other < b.other) last (rises among.0 (length outs) e among.1 (omega arith)))
 
 module _ (bound : Cost) (into : Entry) (outs : List Entry) (out : Entry) (rises : Rises (outs ++ out ∷ [])) where
   pub pairs_more : (pairs new : List Shortcut) → IsPairAdded bound into out pairs new → ArePairs bound into outs pairs → ArePairs bound into (outs ++ out ∷ []) new
@@ -46,7 +39,7 @@ module _ (bound : Cost) (into : Entry) (outs : List Entry) (out : Entry) (rises 
       each = λ p among. let was = are.each p among in (was.0, Contains-append_left outs (out ∷ []) was.0 was.1, was.2);
       every = λ o among apart within. elim (Contains-push_cases outs out o among) [
         | inl old ↦ are.every o old apart within
-        | inr here ↦ absurd (not-both (subst (λ (e : Entry). into.other ≢ e.other) (sym here) apart) (subst (λ (e : Entry). IsWithin (into.cost ⊕ e.cost) bound) (sym here) within) h.0)
+        | inr here ↦ absurd (no_pair bound into out h.0 (subst (λ (e : Entry). into.other ≢ e.other) (sym here) apart) (subst (λ (e : Entry). IsWithin (into.cost ⊕ e.cost) bound) (sym here) within))
       ];
       sorted = are.sorted;
       parts = subst (InParts (IsPairPart bound into) (outs ++ out ∷ [])) (append-nil pairs) (parts_push (IsPairPart bound into) out [] are.parts (inl (h.0, refl)));
@@ -64,12 +57,6 @@ module _ (bound : Cost) (into : Entry) (outs : List Entry) (out : Entry) (rises 
       parts = parts_push (IsPairPart bound into) out (h.0 ∷ []) are.parts (inr (h.0, h.1, refl));
     })
   ] where
-    not-both : into.other ≢ out.other → IsWithin (into.cost ⊕ out.cost) bound → IsPairOf bound into out None → ⊥
-    not-both apart within none = elim none [
-      | inl same ↦ apart same
-      | inr heavy ↦ heavy within
-    ]
-
     below : (p : Shortcut) → (o : Entry) × Contains outs o × IsPairOf bound into o (Some p) → (q : Shortcut) → IsPairOf bound into out (Some q) → p.to < q.to
     below p has q is =
         let first : p.to ≡ has.0.other = ap (λ (s : Shortcut). s.to) has.2.2 in
@@ -84,7 +71,7 @@ judged_none pairs ways d = record {
   more = [];
   shortcuts = sym (append-nil d.shortcuts.items);
   listed = sym (append-nil d.listed.items);
-  only = λ p among. absurd (empty p among);
+  only = λ p among. absurd (contains_none p among);
   parts = ends;
   sorted = λ all i j d low high. absurd (omega (arith, high));
 }

@@ -13,11 +13,11 @@ use Rattle.ch_laws.specs.declared.entry.Entry.{Entry}
 use Rattle.ch_laws.specs.Rows.{Row}
 use Rattle.ch_laws.specs.Members.{contains_first, contains_later, contains_cases, contains_none, contains-mapped, pairs_later}
 use Rattle.ch_overlay.specs.Overlay.{Overlay, IsOverlay, row_at}
+use Rattle.ch_overlay.specs.Ranges.{AllPairs-head, contains-range, pairs-map, range-contains, range_with_len-more, range_with_len-rises}
 use Rattle.ch_contract.specs.Chains.{AreChainsOf, AreChainsOfRows, chain_links, links_in, merged_below, merged_by_other}
 use Rattle.ch_contract.specs.Finish.{AreLinks, link_out, link_in, links_below}
 use Rattle.ch_contract.proofs.Links.{pairs-flat_map}
 use Rattle.ch_contract.proofs.Merges.{behind, exchanged, merged-all, merged-rises}
-use Rattle.ch_contract.proofs.Ranges.{AllPairs-head, pairs-map, range-contains, contains-range, range_with_len-more, range_with_len-rises}
 
 -- Lists that are put together of parts
 

@@ -12,10 +12,10 @@ use Rattle.ch_laws.specs.Orders.{run_push}
 use Rattle.ch_laws.specs.Rows.{Row, IsRow}
 use Rattle.ch_laws.specs.Members.{contains_first, contains_later, contains_cases, contains_place, place_of}
 use Rattle.ch_overlay.specs.Overlay.{Overlay, IsOverlay, row_at, state_of}
+use Rattle.ch_overlay.specs.Ranges.{contains-range, range_with_len-append, range_with_len-more}
 use Rattle.ch_contract.specs.declared.contraction.Receipt.{Receipt}
 use Rattle.ch_contract.specs.Ledger.{Ledger, receipt_of, alive_nodes}
 use Rattle.ch_contract.specs.Sweep.{AreContracted, IsSwept, IsPartlySwept, IsTaken, IsVisited}
-use Rattle.ch_contract.proofs.Ranges.{contains-range, range_with_len-more, range_with_len-append}
 
 -- Ranks
 

@@ -10,6 +10,7 @@ use Rattle.ch_laws.specs.Rows.{Row}
 use Rattle.ch_laws.specs.Verdicts.{HasWay, IsForShortcut, ListsThrough}
 use Rattle.ch_overlay.specs.declared.source.Seen.{Seen}
 use Rattle.ch_overlay.specs.Source.{row_in}
+use Rattle.ch_overlay.specs.Pairs.{IsPairOf, over}
 use Rattle.ch_witness.specs.declared.way.Way.{Way}
 use Rattle.ch_witness.specs.Kept.{HasAll, IsKept, Kept}
 use Rattle.ch_witness.specs.Ways.{AreWays, IsFound, IsStartRead, way_at}
@@ -24,15 +25,6 @@ AgreesWithKept seen kept listed = (x : ℕ) (s : Seen) → Contains listed x →
 -- all of the nodes but the first and the last
 abbrev pub IsInner : List ℕ → List ℕ → Type 0
 IsInner nodes inner = ((length nodes ≤ 1) × (inner ≡ [])) ⊎ ((first last : ℕ) × (nodes ≡ first ∷ inner ++ last ∷ []))
-
--- the pair that the two arcs join, with what they cost together
-abbrev pub over : Entry → Entry → Shortcut
-over into out = record { from = into.other; to = out.other; cost = into.cost ⊕ out.cost }
-
--- the pair of the two arcs, or none where they are heavy together or join a node with itself
-abbrev pub IsPairOf : Cost → Entry → Entry → Option Shortcut → Type 0
-IsPairOf bound into out None = (into.other ≡ out.other) ⊎ (IsWithin (into.cost ⊕ out.cost) bound → ⊥)
-IsPairOf bound into out (Some p) = (into.other ≢ out.other) × IsWithin (into.cost ⊕ out.cost) bound × (p ≡ over into out)
 
 -- the pair of the two arcs was put at the end, or there is none
 abbrev pub IsPairAdded : Cost → Entry → Entry → List Shortcut → List Shortcut → Type 0

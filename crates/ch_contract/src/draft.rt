@@ -1,19 +1,18 @@
-ghost use Rattle.std.specs.Prelude.{◌≡◌, ◌≢◌, ◌↔◌, ◌≤◌, ◌^◌, ℕ, List, [], ◌∷◌, ◌++◌, IfOk, OnOk, Contains, IsTrue, SomeIff, length, map};
-ghost use Rattle.ch_cost.specs.declared.cost.Cost.{Cost};
-ghost use Rattle.ch_cost.specs.Cost.{◌⊕◌, ◌≼◌, IsWithin};
+ghost use Rattle.std.specs.Prelude.{◌≡◌, ◌≢◌, ◌↔◌, ◌≤◌, ◌^◌, ℕ, List, [], ◌∷◌, ◌++◌, IfOk, OnOk, Contains, IsTrue, length, map};
+ghost use Rattle.ch_cost.specs.Cost.{IsWithin};
 ghost use Rattle.ch_laws.specs.declared.shortcut.Shortcut.{Shortcut};
 ghost use Rattle.ch_laws.specs.Rows.{Rises};
 ghost use Rattle.ch_overlay.specs.Overlay.{AreEntries};
 ghost use Rattle.ch_overlay.specs.Source.{IsBound, NamesAlone};
 ghost use Rattle.ch_witness.specs.Kept.{kept_of, AllNamed, AreKept, FindsRows, IsReadOn};
 ghost use Rattle.ch_witness.specs.declared.error.SearchError.TheVariants.{Unseen};
-ghost use Rattle.ch_contract.specs.Drafts.{ArePairs, AreJudged, AreSearched, IsPairAdded, IsPairJudged, IsPairOf, IsDraftedFrom, IsInner, Lengthens};
+ghost use Rattle.ch_contract.specs.Drafts.{ArePairs, AreJudged, AreSearched, IsPairAdded, IsPairJudged, IsDraftedFrom, IsInner, Lengthens};
 ghost use Rattle.ch_contract.specs.Listed.{LeadsOn};
 
 use crate::scratch::{Desk, NeighbourPairs};
-use ch_cost::{Cost, NarrowCost};
+use ch_cost::Cost;
 use ch_laws::Entry;
-use ch_overlay::{Row, RowSource, Shortcut};
+use ch_overlay::{Row, RowSource, Shortcut, find_ends, greatest_cost, light_pair};
 use ch_witness::{Aim, Rows, Rule, SearchError, Traced, Way};
 use std::alloc::{AllocError, Global};
 use std::mem;
@@ -162,7 +161,7 @@ fn judge_by_search<S: RowSource>(
     let rule = Rule {
         from,
         avoid: task.node,
-        cutoff: greatest(&desk.pairs.light),
+        cutoff: greatest_cost(&desk.pairs.light),
     };
     let earlier = mem::replace(traced, Traced::new(alloc));
     let found = desk.searcher.search(
@@ -240,42 +239,6 @@ fn add_pair(
     Ok(())
 }
 
-/// The pair of two arcs, unless it is heavy or they join a node with itself.
-fn light_pair(bound: Cost, into: &Entry, out: &Entry) -> Option<Shortcut>
-    requires limit { IsBound bound }
-    ensures { IsPairOf bound into.now out.now result }
-{
-    if into.other == out.other {
-        return None;
-    }
-    let Some(cost) = light_cost(bound, into, out) else {
-        return None;
-    };
-    Some(Shortcut {
-        from: into.other,
-        to: out.other,
-        cost: NarrowCost::of(cost),
-    })
-}
-
-/// What two arcs cost together, unless that is heavy.
-fn light_cost(bound: Cost, into: &Entry, out: &Entry) -> Option<Cost>
-    ensures { SomeIff result (IsWithin (into.now.cost ⊕ out.now.cost) bound) (into.now.cost ⊕ out.now.cost) }
-{
-    into.cost.cost().plus_within(out.cost.cost(), bound)
-}
-
-/// The nodes to which the pairs lead. They take the place of what the list had.
-fn find_ends(pairs: &[Shortcut], ends: &mut Vec<u32>) -> Result<(), AllocError>
-    ensures { OnOk result (ends.new.items ≡ map (λ p. p.to) pairs.now) }
-{
-    ends.clear();
-    'pairs: for pair in pairs {
-        ends.push(pair.to)?;
-    }
-    Ok(())
-}
-
 /// What a search may know of the ends of these pairs, whose middle it avoids. It takes the place of what the list had.
 fn find_aims(
     pairs: &[Shortcut],
@@ -307,25 +270,4 @@ fn least_last_arc(rows: &Rows, pair: Shortcut, avoid: u32) -> Cost {
         }
     }
     least
-}
-
-/// What the most costly pair costs, or nothing where there is none.
-fn greatest(pairs: &[Shortcut]) -> Cost
-    ensures most { (p : Shortcut) → Contains pairs.now p → p.cost ≼ result }
-    ensures within { (bound : Cost) → ((p : Shortcut) → Contains pairs.now p → IsWithin p.cost bound) → IsWithin result bound }
-{
-    let mut most = Cost::ZERO;
-    'pairs: for pair in pairs {
-        most = greater(most, pair.cost.cost());
-    }
-    most
-}
-
-/// The greater of two costs.
-fn greater(a: Cost, b: Cost) -> Cost
-    ensures first { a ≼ result }
-    ensures second { b ≼ result }
-    ensures within { (bound : Cost) → IsWithin a bound → IsWithin b bound → IsWithin result bound }
-{
-    if a.is_at_most(b) { b } else { a }
 }

@@ -8,7 +8,7 @@ ghost use Rattle.ch_contract.specs.Proposal.{HasShortcut, IsCostOf, IsProposal, 
 use crate::facts::Facts;
 use crate::verdict::Verdict;
 use ch_cost::Cost;
-use ch_overlay::{Entry, Row, Seen, Shortcut};
+use ch_overlay::{Entry, Row, Seen, Shortcut, entry_for};
 use std::marker::Model;
 
 /// A contraction of a node that was worked out by rows, and the rows that it rests on.
@@ -121,10 +121,10 @@ fn cost_of(entries: &[Entry], other: u32) -> Option<Cost>
     requires { Rises entries.now }
     ensures { IsCostOf entries.now other result }
 {
-    let Ok(place) = entries.binary_search_by_key(&other, |entry| entry.other) else {
+    let Some(entry) = entry_for(entries, other) else {
         return None;
     };
-    Some(entries[place].cost.cost())
+    Some(entry.cost.cost())
 }
 
 /// Whether one of the shortcuts joins these nodes.

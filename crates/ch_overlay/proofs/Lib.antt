@@ -3,7 +3,6 @@ pub mod Renewed
 pub mod SameRows
 pub mod Arcs
 pub mod Applied
-pub mod Room
 pub mod Opened
 pub mod Sorting
 pub mod KeptArcs
@@ -13,3 +12,4 @@ pub mod Merged
 pub mod Placing
 pub mod Changed
 pub mod Neighbours
+pub mod Search

@@ -1,5 +1,5 @@
 -- The neighbours of a node, by its row, and the change that a plan makes.
-use Rattle.std.proofs.Common.{ℕ, ◌≡◌, ◌<◌, List, [], ◌∷◌, length, map, Some, None, Contains, AllPairs, refl, sym, ◌∙◌, subst, inl, inr}
+use Rattle.std.proofs.Common.{ℕ, ◌≡◌, ◌<◌, List, [], ◌∷◌, length, map, Some, Contains, AllPairs, refl, sym, ◌∙◌, subst, inl, inr}
 use Rattle.std.specs.List.Sorted.{IsPermutation}
 use Rattle.ch_laws.specs.declared.entry.Entry.{Entry}
 use Rattle.ch_laws.specs.declared.shortcut.Shortcut.{Shortcut}
@@ -13,7 +13,8 @@ use Rattle.ch_overlay.specs.Overlay.{Overlay, IsOverlay, row_at, state_of}
 use Rattle.ch_overlay.specs.Placing.{ArePlaced, AreChanged, RowsRise, out_place, in_place}
 use Rattle.ch_overlay.specs.Change.{Change, IsChange}
 use Rattle.ch_overlay.proofs.Merged.{IsMerged, merged_is}
-use Rattle.ch_overlay.proofs.Placing.{pairs-map, pairs-mapped}
+use Rattle.ch_overlay.proofs.Placing.{pairs-mapped}
+use Rattle.ch_overlay.specs.Ranges.{pairs-map}
 
 abbrev pub others_of : Row → List ℕ
 others_of r = map (λ e. e.other) (merged r.out r.inn)
@@ -57,7 +58,7 @@ module _ (row_of_alive : RowOfAlive) (o : Overlay) (holds : IsOverlay o) (v : �
   ]
 
   pub others_rise : AllPairs (λ x y. x < y) (others_of row)
-  others_rise = pairs-map (λ x y. x < y) (λ (e : Entry). e.other) (record { other = 0; cost = o.bound; middle = None }) (merged row.out row.inn) both.rises
+  others_rise = pairs-map (λ x y. x < y) (λ (e : Entry). e.other) (merged row.out row.inn) both.rises
 
   pub change_is : (put : List Shortcut) (out inn : List Placed) (c : Change) → IsPlan o.bound (state_of o) v put → c.node ≡ v
       → IsPermutation (map (out_place (Some v)) put) out → IsPermutation (map (in_place (Some v)) put) inn

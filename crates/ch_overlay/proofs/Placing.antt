@@ -15,6 +15,7 @@ use Rattle.ch_laws.specs.declared.entry.Entry.{Entry}
 use Rattle.ch_laws.specs.Rows.{Rises}
 use Rattle.ch_overlay.specs.declared.placed.Placed.{Placed}
 use Rattle.ch_overlay.specs.Placing.{IsInOrder}
+use Rattle.ch_overlay.specs.Ranges.{pairs-map}
 use Rattle.ch_laws.specs.Members.{contains_place}
 
 -- the ends of an entry
@@ -48,17 +49,7 @@ pair_flips a b = ap (λ (t : Bool). t && nat_eq a.1 b.1) (swapped a.0 b.0) ∙ a
 nothing_placed : Placed
 nothing_placed = record { at = 0; entry = record { other = 0; cost = zero_cost; middle = None } }
 
-no_shortcut : Shortcut
-no_shortcut = record { from = 0; to = 0; cost = zero_cost }
-
--- what differs, each two of a list, also does so in a list of images
-pub pairs-map : {A B : Type 0} (R : B → B → Type 0) (f : A → B) (d : A) (xs : List A) → AllPairs (λ a b. R (f a) (f b)) xs → AllPairs R (map f xs)
-pairs-map R f d xs pairs i j e less h =
-    let long = length-map xs f in
-    let first = get_or-map f xs i d e (omega (arith, less, h, long)) in
-    let second = get_or-map f xs j d e (omega (arith, h, long)) in
-    subst (λ y. R y (get_or (map f xs) j e)) (sym first) (subst (λ y. R (f (get_or xs i d)) y) (sym second) (pairs i j d less (omega (arith, h, long))))
-
+-- what differs, each two of a list of images, also does so in the list
 pub pairs-mapped : {A B : Type 0} (R : B → B → Type 0) (f : A → B) (e : B) (xs : List A) → AllPairs R (map f xs) → AllPairs (λ a b. R (f a) (f b)) xs
 pairs-mapped R f e xs pairs i j d less h =
     let long = length-map xs f in
@@ -70,7 +61,7 @@ pairs-mapped R f e xs pairs i j d less h =
 pub in_order : (xs ys : List Placed) → AllPairs (λ a b. ends a ≢ ends b) xs → IsPermutation xs ys
     → AllPairs (λ a b. (a.at ≤ b.at) × (a.at ≡ b.at → a.entry.other ≤ b.entry.other)) ys → IsInOrder ys
 in_order xs ys apart moved sorted i j d less h =
-    let first = IsDistinct-from_AllPairs pair_test (map ends xs) (pairs-map (λ a b. a ≢ b) ends nothing_placed xs apart) in
+    let first = IsDistinct-from_AllPairs pair_test (map ends xs) (pairs-map (λ a b. a ≢ b) ends xs apart) in
     let second = IsDistinct-IsPermutation same_pair pair_flips (map ends xs) (map ends ys) (IsPermutation-map ends xs ys moved) first in
     let differ = pairs-mapped (λ a b. a ≢ b) ends (0, 0) ys (AllPairs-from_IsDistinct pair_test (map ends ys) second) i j d less h in
     let both = sorted i j d less h in
@@ -90,7 +81,7 @@ in_order xs ys apart moved sorted i j d less h =
 pub places_differ : (place : Shortcut → Placed) → ((p q : Shortcut) → ends (place p) ≡ ends (place q) → IsFor p q.from q.to) → (put : List Shortcut)
     → AllPairs (λ p q. IsFor p q.from q.to → ⊥) put → AllPairs (λ a b. ends a ≢ ends b) (map place put)
 places_differ place same put once =
-    pairs-map (λ a b. ends a ≢ ends b) place no_shortcut put (λ i j d less h is. once i j d less h (same (get_or put i d) (get_or put j d) is))
+    pairs-map (λ a b. ends a ≢ ends b) place put (λ i j d less h is. once i j d less h (same (get_or put i d) (get_or put j d) is))
 
 -- nodes of entries in order don't fall
 pub nodes_rise : (es : List Placed) → IsInOrder es → IsNonDecreasingBy (λ p. p.at) es

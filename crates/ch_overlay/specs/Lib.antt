@@ -7,3 +7,9 @@ pub mod Source
 pub mod Finding
 pub mod Records
 pub mod Soundness
+pub mod Ranges
+pub mod Versions
+pub mod Entries
+pub mod Order
+pub mod Pairs
+pub mod Steps

@@ -6,6 +6,8 @@
 //! - [`Row`], what one node has. Rows are shared by `Arc` and never changed in place, so who has read a row keeps it.
 //! - [`Overlay`], the rows of all nodes with a version number each, and [`Change`], the new rows of one contraction.
 //! - [`RowSource`], which gives rows one by one.
+//! - [`light_pair`], the pair of an arc into a node and one out of it, and what a search for ways around the node is given
+//!   of several such pairs: [`find_ends`] and [`greatest_cost`].
 //! - [`Record`], what a book of rows keeps of one, and [`Token`], which shows where.
 //!
 //! The promise of the layer is in the contracts of [`Overlay::start`], [`Overlay::plan`] and [`Overlay::apply`]: the rows
@@ -26,6 +28,7 @@ mod least;
 mod merge;
 mod opening;
 mod overlay;
+mod pairs;
 mod placed;
 mod planned;
 mod record;
@@ -35,6 +38,7 @@ mod source;
 pub use ch_laws::{Entry, Middle, Shortcut};
 pub use change::{Change, changes_write_their_rows};
 pub use overlay::{Overlay, changes_are_sound};
+pub use pairs::{find_ends, greatest_cost, light_pair};
 pub use record::{Record, SoundRows, Token};
-pub use row::Row;
+pub use row::{Row, entry_for};
 pub use source::{RowSource, SeeError, Seen};

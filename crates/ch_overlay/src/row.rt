@@ -1,4 +1,6 @@
-ghost use Rattle.std.specs.Prelude.{◌≡◌, ◌↔◌, ◌<◌, ◌⊎◌, ℕ, IsTrue, IfOk, List, [], ◌∷◌, ◌++◌, Some, None, AllPairs, Contains, map, filter, not, nat_eq};
+ghost use Rattle.std.specs.Prelude.{◌≡◌, ◌≢◌, ◌↔◌, ◌<◌, ◌⊎◌, ℕ, IfNone, IfSome, IsTrue, IfOk, List, [], ◌∷◌, ◌++◌, Some, None, AllPairs, Contains, map, filter, not, nat_eq};
+ghost use Rattle.ch_laws.specs.declared.entry.Entry.{Entry};
+ghost use Rattle.ch_laws.specs.Rows.{Rises};
 ghost use Rattle.ch_overlay.specs.Merging.{merged};
 ghost use Rattle.ch_overlay.specs.Overlay.{no_arcs};
 
@@ -131,4 +133,17 @@ fn count(gone: u32, old: &[Entry], new: &[Entry]) -> usize {
         }
     }
     count
+}
+
+/// The entry for a node among those of a list of a row, or `None` where there is none. Takes time by the logarithm of their
+/// number.
+pub fn entry_for(entries: &[Entry], node: u32) -> Option<&Entry>
+    requires { Rises entries.now }
+    ensures found { IfSome result (λ entry. Contains entries.now entry.now × (entry.now.other ≡ node)) }
+    ensures none { IfNone result ((e : Entry) → Contains entries.now e → e.other ≢ node) }
+{
+    match entries.binary_search_by_key(&node, |entry| entry.other) {
+        Ok(place) => Some(&entries[place]),
+        Err(_) => None,
+    }
 }

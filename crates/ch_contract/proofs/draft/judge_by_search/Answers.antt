@@ -2,10 +2,10 @@ use Rattle.std.proofs.Common.{ℕ, ◌≡◌, List, length, Contains, map, ap, s
 use Rattle.std.proofs.lemmas.List.{length-map}
 use Rattle.std.proofs.lemmas.Result.{err_from_is_err_and}
 use Rattle.ch_laws.specs.declared.shortcut.Shortcut.{Shortcut}
+use Rattle.ch_overlay.specs.Pairs.{at_most-from_within}
 use Rattle.ch_witness.specs.Kept.{kept_of, finds_unless}
 use Rattle.ch_witness.specs.Tree.{seen_of}
 use Rattle.ch_witness.specs.Ways.{AreWays}
-use Rattle.ch_contract.proofs.Cutoffs.{at_most-from_within}
 use Rattle.ch_contract.proofs.Finds.{finds_short}
 use Rattle.ch_contract.proofs.Joining.{direct_for, judged_for}
 use Rattle.ch_contract.proofs.draft.judge_by_search.Goals as goal
@@ -17,7 +17,7 @@ pub search-requires-clause-targets : goal.search-requires-clause-targets
 search-requires-clause-targets g c = λ among. c.requires.avoided (subst (λ (ts : List ℕ). Contains ts c.args.task.node) (c.deref-2.ensures.value ∙ c.requires.ends) among)
 
 pub search-requires-clause-cutoff : goal.search-requires-clause-cutoff
-search-requires-clause-cutoff g c = at_most-from_within _ _ (c.greatest.ensures.within _ (λ p among. c.requires.within p (subst (λ (ps : List Shortcut). Contains ps p) c.deref.ensures.value among)))
+search-requires-clause-cutoff g c = at_most-from_within _ _ (c.greatest_cost.ensures.within _ (λ p among. c.requires.within p (subst (λ (ps : List Shortcut). Contains ps p) c.deref.ensures.value among)))
 
 pub search-requires-clause-kept : goal.search-requires-clause-kept
 search-requires-clause-kept g c = c.requires.kept
@@ -53,11 +53,11 @@ returns-clause-searched g c =
     let rows = seen_of c.in_ok-found.found.steps.items in
     record {
       rows = rows;
-      cutoff = c.greatest.result;
+      cutoff = c.greatest_cost.result;
       ways = ways;
-      found = subst (λ (ts : List ℕ). AreWays rows c.args.from c.args.task.node c.greatest.result ts ways) targets c.in_ok-found.ensures.ways;
-      most = λ p among. c.greatest.ensures.most p (subst (λ (ps : List Shortcut). Contains ps p) (sym c.deref.ensures.value) among);
-      direct = direct_for (kept_of c.search.new.self.rows) rows c.args.from c.greatest.result ways _ (map (λ (p : Shortcut). p.to) pairs) targets c.in_ok-found.ensures.direct;
+      found = subst (λ (ts : List ℕ). AreWays rows c.args.from c.args.task.node c.greatest_cost.result ts ways) targets c.in_ok-found.ensures.ways;
+      most = λ p among. c.greatest_cost.ensures.most p (subst (λ (ps : List Shortcut). Contains ps p) (sym c.deref.ensures.value) among);
+      direct = direct_for (kept_of c.search.new.self.rows) rows c.args.from c.greatest_cost.result ways _ (map (λ (p : Shortcut). p.to) pairs) targets c.in_ok-found.ensures.direct;
       rows_kept = c.in_ok-found.ensures.kept_rows;
       judged = judged_for _ pairs _ ways _ c.judge.new.self c.deref-4.ensures.value c.deref-5.ensures.value c.in_ok-judge.ensures;
     }

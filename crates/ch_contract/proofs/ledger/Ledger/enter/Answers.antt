@@ -2,11 +2,11 @@ use Rattle.std.proofs.Common.{◌≡◌, ℕ, List, length, arith, ap, sym, subs
 use Rattle.ch_laws.specs.declared.shortcut.Shortcut.{Shortcut}
 use Rattle.ch_laws.specs.Contraction.{State, Contraction, contracted}
 use Rattle.ch_overlay.specs.Overlay.{state_of}
+use Rattle.ch_overlay.specs.Order.{order_has_room}
 use Rattle.ch_contract.specs.Ledger.{Ledger, IsLedger, IsContracted, receipt_of}
 use Rattle.ch_contract.specs.Planned.{Planned, IsPlanned, AreNewVersions}
 use Rattle.ch_contract.proofs.Contracting.{ledger_with, ledger_entered, contracted_entered}
 use Rattle.ch_contract.proofs.Logs.{log_length}
-use Rattle.ch_contract.proofs.NodesLeft.{order-has_room}
 use Rattle.ch_contract.proofs.ledger.Ledger.enter.Goals as goal
 
 -- what was planned, by the fields of the ledger and of the plan
@@ -35,7 +35,7 @@ pub push_reserved-requires : goal.push_reserved-requires
 push_reserved-requires c =
     let is = c.self.invariant.0 in
     let plan = moved _ _ _ _ _ _ c.self.view_is c.planned.view_is c.requires.planned.2 in
-    let room = order-has_room c.self.inside.overlay is.overlay c.planned.inside.change.node plan.change.plan.alive in
+    let room = order_has_room c.self.inside.overlay c.planned.inside.change.node is.overlay plan.change.plan.alive in
     omega (arith, room, log_length _ is, c.self.inside.log.ok, c.self.invariant.1)
 
 abbrev ledger : goal.After-push_reserved → Ledger

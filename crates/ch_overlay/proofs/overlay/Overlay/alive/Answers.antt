@@ -2,7 +2,7 @@ use Rattle.std.proofs.Common.{length, arith, ap}
 use Rattle.std.specs.Arc.{arc_value}
 use Rattle.std.proofs.lemmas.List.{length-map}
 use Rattle.ch_overlay.specs.Overlay.{Overlay}
-use Rattle.ch_overlay.proofs.Room.{order_fits}
+use Rattle.ch_overlay.specs.Order.{order_fits}
 use Rattle.ch_overlay.proofs.overlay.Overlay.alive.Goals as goal
 
 pub overflow_sub-result : goal.overflow_sub-result

@@ -12,7 +12,7 @@ use Rattle.ch_overlay.proofs.Applied.{state-applied, overlay-applied, changes_wr
 use Rattle.ch_overlay.proofs.Puts.{length-puts, map-puts, all-mapped}
 use Rattle.ch_laws.specs.Members.{map-map}
 use Rattle.ch_overlay.proofs.Renewed.{renewed}
-use Rattle.ch_overlay.proofs.Room.{order_has_room}
+use Rattle.ch_overlay.specs.Order.{order_has_room}
 use Rattle.ch_overlay.proofs.overlay.Overlay.apply.Goals as goal
 
 holds_first : (c : goal.After-as_slice) → IsOverlay c.args.self.now

@@ -1,6 +1,6 @@
 use Rattle.std.proofs.Common.{length, arith, ap, subst}
 use Rattle.ch_overlay.specs.Overlay.{Overlay, IsOverlay}
-use Rattle.ch_overlay.proofs.Room.{order_fits}
+use Rattle.ch_overlay.specs.Order.{order_fits}
 use Rattle.ch_overlay.proofs.overlay.Overlay.contracted.Goals as goal
 
 pub overflow_cast-result : goal.overflow_cast-result

@@ -1,18 +1,16 @@
-use Rattle.std.proofs.Common.{List, [], take, Contains, arith, subst, sym, ◌∙◌, inl, inr}
+use Rattle.std.proofs.Common.{List, take, Contains, subst, sym, ◌∙◌, inl, inr}
 use Rattle.std.proofs.lemmas.List.{get_or_default, take_all, take_more}
 use Rattle.std.proofs.lemmas.List.Elements.{Contains-get_or, Contains-push_cases}
 use Rattle.ch_cost.specs.declared.cost.Cost.{Cost}
 use Rattle.ch_cost.specs.Cost.{◌≼◌, IsWithin}
 use Rattle.ch_cost.specs.Cost.Laws.{ZERO-is, at_most_trans, zero_cost_within}
 use Rattle.ch_laws.specs.declared.shortcut.Shortcut.{Shortcut}
-use Rattle.ch_contract.proofs.draft.greatest.Goals as goal
-
-empty : (p : Shortcut) → Contains [] p → ⊥
-empty p among = omega (arith, among.1)
+use Rattle.ch_laws.specs.Members.{contains_none}
+use Rattle.ch_overlay.proofs.pairs.greatest_cost.Goals as goal
 
 pub pairs-init : goal.pairs-init
 pairs-init c = record {
-  most = λ p among. absurd (empty p among);
+  most = λ p among. absurd (contains_none p among);
   within = λ bound all. subst (λ (d : Cost). IsWithin d bound) (sym ZERO-is) (zero_cost_within bound);
 }
 

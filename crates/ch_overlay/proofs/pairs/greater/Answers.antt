@@ -1,7 +1,7 @@
 use Rattle.std.proofs.Common.{sym, ◌∙◌, inl, inr}
 use Rattle.std.proofs.lemmas.Bool.{true≢false}
 use Rattle.ch_cost.specs.Cost.Laws.{at_most_refl, at_most-from_below, cases_cost}
-use Rattle.ch_contract.proofs.draft.greater.Goals as goal
+use Rattle.ch_overlay.proofs.pairs.greater.Goals as goal
 
 pub returns-then-is_at_most-clause-first : goal.returns-then-is_at_most-clause-first
 returns-then-is_at_most-clause-first c = c.is_at_most.ensures.0 c.if-is_at_most.true

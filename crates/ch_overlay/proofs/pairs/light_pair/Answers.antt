@@ -4,7 +4,7 @@ use Rattle.ch_cost.specs.Cost.{IsWithin}
 use Rattle.ch_cost.specs.Cost.Numbers.{arcs-from_within, arcs_of-cost_of_arcs}
 use Rattle.ch_laws.specs.declared.entry.Entry.{Entry}
 use Rattle.ch_laws.specs.declared.shortcut.Shortcut.{Shortcut}
-use Rattle.ch_contract.proofs.draft.light_pair.Goals as goal
+use Rattle.ch_overlay.proofs.pairs.light_pair.Goals as goal
 
 pub returns-in_default : goal.returns-in_default
 returns-in_default c = inr c.in_default.ensures

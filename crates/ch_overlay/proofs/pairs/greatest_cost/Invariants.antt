@@ -2,7 +2,7 @@ use Rattle.std.proofs.Common.{take, Contains}
 use Rattle.ch_cost.specs.declared.cost.Cost.{Cost}
 use Rattle.ch_cost.specs.Cost.{◌≼◌, IsWithin}
 use Rattle.ch_laws.specs.declared.shortcut.Shortcut.{Shortcut}
-use Rattle.ch_contract.proofs.draft.greatest.Given as goal
+use Rattle.ch_overlay.proofs.pairs.greatest_cost.Given as goal
 
 abbrev pub invariant-pairs : goal.invariant-pairs
 invariant-pairs l = record {

@@ -1,10 +1,14 @@
 -- Numbers in a row, and what holds of each two elements of a list.
-use Rattle.std.proofs.Common.{ℕ, zero, suc, ◌≡◌, ◌+◌, ◌<◌, List, [], ◌∷◌, ◌++◌, AllPairs, All, ◌≤◌, Contains, take, drop, map, length, get_or, length-append, arith, add-one, ap, sym, subst, refl, ◌∙◌}
+use Rattle.std.proofs.Common.{ℕ, zero, suc, ◌≡◌, ◌+◌, ◌<◌, List, [], ◌∷◌, ◌++◌, ◌≢◌, AllPairs, All, ◌≤◌, Contains, take, drop, map, length, get_or, length-append, arith, add-one, ap, sym, subst, refl, ◌∙◌}
 use Rattle.std.specs.List.{range_with_len}
 use Rattle.std.proofs.lemmas.List.{get_or_append_left, take-append-drop}
-use Rattle.std.proofs.lemmas.List.Elements.{All-append, All-head, All-map, All-tail, Contains-get_or}
+use Rattle.std.proofs.lemmas.List.Elements.{All-append, All-contains, All-head, All-map, All-tail, Contains-get_or}
 use Rattle.std.proofs.lemmas.List.Kept.{AllPairs-cons}
 use Rattle.std.proofs.lemmas.List.FromFn.{get_or-range_with_len, length-range_with_len}
+use Rattle.std.proofs.lemmas.Bool.Decides.{Decides-eqb}
+use Rattle.std.proofs.lemmas.Map.Made.{IsDistinct-from_AllPairs}
+use Rattle.std.proofs.lemmas.Map.Steps.{length-le_from_distinct_below}
+use Rattle.std.proofs.lemmas.Map.Views.{Contains-from_any}
 use Rattle.ch_laws.specs.Members.{pairs_later}
 
 pub range_with_len-suc : (a n : ℕ) → range_with_len a (suc n) ≡ range_with_len a n ++ (a + n) ∷ []
@@ -68,12 +72,25 @@ rising-short (x ∷ xs) a n few rises within =
     let rest : All (λ y. (a + 1 ≤ y) × (y < n)) xs = λ k d h. (omega (arith, above k d h, head.0), (All-tail (λ y. (a ≤ y) × (y < n)) x xs within k d h).1) in
     omega (arith, rising-short xs (a + 1) n (omega (arith, head)) (pairs_later (λ y z. y < z) x xs rises) rest)
 
+-- numbers below n, each once, are at most n
+pub distinct_below-few : (xs : List ℕ) (n : ℕ) → AllPairs (λ x y. x ≢ y) xs → All (λ x. x < n) xs → length xs ≤ n
+distinct_below-few xs n once low =
+    length-le_from_distinct_below xs n (IsDistinct-from_AllPairs Decides-eqb xs once)
+    (λ q found. All-contains (λ x. x < n) xs q low (Contains-from_any (λ x y same. (Decides-eqb x y).0 same) q xs found))
+
 -- of the images of elements it holds where it holds of the elements through the map
 pub pairs-map : {X Y : Type 0} (R : Y → Y → Type 0) (f : X → Y) (xs : List X) → AllPairs (λ a b. R (f a) (f b)) xs → AllPairs R (map f xs)
 pairs-map R f [] pairs = λ i j d low high. absurd (omega (arith, high))
 pairs-map R f (x ∷ xs) pairs = AllPairs-cons R (f x) (map f xs) (All-map (R (f x)) f xs (AllPairs-head (λ a b. R (f a) (f b)) x xs pairs)) (pairs-map R f xs (pairs_later (λ a b. R (f a) (f b)) x xs pairs))
 
--- the numbers of a range are those below its end
+-- the numbers of a range are from its first on and below its end
+pub range-within : (first count : ℕ) → All (λ v. (first ≤ v) × (v < first + count)) (range_with_len first count)
+range-within first count k d h =
+    let end : length (range_with_len first count) ≡ count = length-range_with_len first count in
+    let low : k < count = omega arith in
+    rw (get_or-range_with_len first count k d low) (omega arith, omega arith)
+
+-- those of one from 0 are the numbers below its end
 pub range-contains : (n x : ℕ) → Contains (range_with_len 0 n) x → x < n
 range-contains n x among =
     let long : length (range_with_len 0 n) ≡ n = length-range_with_len 0 n in

@@ -1,13 +1,12 @@
 -- A search by halves among entries that rise.
-use Rattle.std.proofs.Common.{ℕ, ◌≡◌, ◌<◌, List, get_or, Ok, Err, arith, ap, sym, subst, refl, ◌∙◌, inl, inr}
+use Rattle.std.proofs.Common.{ℕ, ◌≡◌, ◌≢◌, ◌<◌, List, Contains, get_or, Ok, Err, arith, ap, sym, subst, refl, ◌∙◌, inl, inr}
 use Rattle.std.specs.List.Sorted.{IsBinarySearchResult, IsNonDecreasingBy}
 use Rattle.std.specs.Ordering.{nat_cmp, ordering_index}
 use Rattle.std.proofs.lemmas.Cmp.{ranked}
 use Rattle.std.proofs.lemmas.Bool.{cases_lt}
 use Rattle.std.proofs.lemmas.Bool.Decides.{nat_tests}
-use Rattle.ch_cost.specs.declared.cost.Cost.{Cost}
 use Rattle.ch_laws.specs.declared.entry.Entry.{Entry}
-use Rattle.ch_laws.specs.Rows.{Rises, Lists}
+use Rattle.ch_laws.specs.Rows.{Rises}
 
 module _ (es : List Entry) (rises : Rises es) (to : ℕ) where
   -- the comparisons with a node rise along the list
@@ -22,11 +21,11 @@ module _ (es : List Entry) (rises : Rises es) (to : ℕ) where
   found_there place equal d = ranked _ to _ (sym (equal d))
 
   -- and where none was found no entry is for it
-  pub lists_none : (gap : ℕ) → IsBinarySearchResult (λ (e : Entry). nat_cmp e.other to) es (Err gap) → (c : Cost) → Lists es to c → ⊥
-  lists_none gap parted c listed =
-      let k = listed.among.0 in
-      let here : (get_or es k listed.entry).other ≡ to = ap (λ (e : Entry). e.other) listed.among.2 ∙ listed.other in
+  pub none_there : (gap : ℕ) → IsBinarySearchResult (λ (e : Entry). nat_cmp e.other to) es (Err gap) → (e : Entry) → Contains es e → e.other ≢ to
+  none_there gap parted e among same =
+      let k = among.0 in
+      let here : (get_or es k e).other ≡ to = ap (λ (f : Entry). f.other) among.2 ∙ same in
       elim (cases_lt k gap) [
-        | inl low ↦ let less : (get_or es k listed.entry).other < to = ranked _ to _ (sym ((parted comparisons_rise).0 k listed.entry (omega arith) low)) in absurd (omega (arith, less, here))
-        | inr high ↦ let more : to < (get_or es k listed.entry).other = ranked _ to _ (sym ((parted comparisons_rise).1 k listed.entry high listed.among.1)) in absurd (omega (arith, more, here))
+        | inl low ↦ let less : (get_or es k e).other < to = ranked _ to _ (sym ((parted comparisons_rise).0 k e (omega arith) low)) in absurd (omega (arith, less, here))
+        | inr high ↦ let more : to < (get_or es k e).other = ranked _ to _ (sym ((parted comparisons_rise).1 k e high among.1)) in absurd (omega (arith, more, here))
       ]
